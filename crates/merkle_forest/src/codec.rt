@@ -1,0 +1,13 @@
+//! How values are written as bytes and read back.
+
+pub mod cursor;
+pub mod error;
+pub mod fixed_bytes;
+pub mod numbers;
+pub mod option;
+pub mod traits;
+
+pub use cursor::Cursor;
+pub use error::Error;
+pub use fixed_bytes::FixedBytes;
+pub use traits::{Decode, Encode, EncodeSize, Faithful, FixedSize, Read, Write};

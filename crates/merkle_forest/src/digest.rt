@@ -1,0 +1,40 @@
+//! Digests.
+
+ghost use Rattle.std.specs.Prelude.{◌≡◌, ℕ, length, true};
+ghost use Rattle.std.proofs.Common.{rules, ap};
+
+use crate::codec::{FixedBytes, FixedSize, Read};
+use std::fmt::Debug;
+
+/// A digest of a fixed number of bytes, which are its spelling.
+pub trait Digest: Read<Cfg = ()> + FixedSize + Copy + Eq + Debug {
+    /// The digest of zero bytes alone.
+    fn empty() -> Self;
+
+    /// The digest's bytes.
+    fn as_bytes(&self) -> &[u8]
+        ensures bytes { result.now ≡ Self.spelling self.now }
+        ensures sized { Self.is_value self.now };
+
+    ghost same_bytes: { (d e : Self) → Self.spelling d ≡ Self.spelling e → d ≡ e };
+
+    ghost copied: { (d e : Self) → Self.is_clone d e → e ≡ d };
+
+    ghost equal: { (d e : Self) → Self.eq d e ≡ true → d ≡ e };
+}
+
+impl<const M: usize> Digest for FixedBytes<M> {
+    fn empty() -> FixedBytes<M> {
+        FixedBytes { bytes: [0; M] }
+    }
+
+    fn as_bytes(&self) -> &[u8] {
+        &self.bytes
+    }
+
+    ghost same_bytes = { λ d e same. ap (λ b. record { bytes = b }) same };
+
+    ghost copied = { λ d e same. Prim.cc };
+
+    ghost equal = { λ d e same. Prim.search rules };
+}
