@@ -1,2 +1,5 @@
 pub mod Codec
 pub mod CodecLaws
+pub mod Forest
+pub mod Shape
+pub mod ForestLaws

@@ -1,5 +1,8 @@
 //! Families of Merkle forests.
 
+ghost use Rattle.std.specs.Prelude.{◌≡◌, ℕ, List, Option, IfSome};
+ghost use Rattle.merkle_forest.specs.Forest.{IsPairOfEquals};
+
 use std::fmt::Debug;
 
 /// The greatest leaf count.
@@ -9,4 +12,15 @@ pub const MAX_LEAVES: u64 = 0x4000_0000_0000_0000;
 pub const MAX_NODES: u64 = 0x7fff_ffff_ffff_ffff;
 
 /// A family of forests, told by the rule by which appended leaves merge into trees.
-pub trait Family: Copy + Debug + Drop {}
+pub trait Family: Copy + Debug + Drop {
+    /// From the number of merges since the last leaf was appended, and the heights of the peaks from right to left:
+    /// the place of the two neighbours that merge next.
+    ghost merge_rule: { ℕ → List ℕ → Option ℕ };
+
+    /// The place of the two neighbours that merge next, after `merges` merges since the last leaf was appended (own).
+    /// It is the place of the right one, counted from the right; `heights` are those of the peaks from right to left.
+    fn merge_place(merges: usize, heights: &[u64]) -> Option<usize>
+        ensures { result ≡ merge_rule merges heights.now };
+
+    ghost merges_equals: { (merges : ℕ) (heights : List ℕ) → IfSome (merge_rule merges heights) (IsPairOfEquals heights) };
+}

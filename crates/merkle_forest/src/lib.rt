@@ -4,6 +4,8 @@
 pub mod codec;
 pub mod digest;
 pub mod family;
+pub mod forest;
+pub mod mmr;
 
 pub use digest::Digest;
 pub use family::{Family, MAX_LEAVES, MAX_NODES};
