@@ -3,3 +3,5 @@ pub mod CodecLaws
 pub mod Forest
 pub mod Shape
 pub mod ForestLaws
+pub mod Hashing
+pub mod Trees

@@ -1,11 +1,16 @@
 //! Positions, families, hashers and the codec of the Merkle forest.
 #![tactic(auto)]
 
+pub mod bagging;
 pub mod codec;
 pub mod digest;
 pub mod family;
 pub mod forest;
+pub mod hasher;
 pub mod mmr;
+pub mod root;
 
+pub use bagging::Bagging;
 pub use digest::Digest;
 pub use family::{Family, MAX_LEAVES, MAX_NODES};
+pub use hasher::{ByteHash, HashFunction};

@@ -1,0 +1,38 @@
+-- Digests of trees, by recursion over the forest.
+use Rattle.std.specs.Prelude.{ℕ, ◌+◌, List, [], ◌∷◌, ◌++◌, length, map, slice_index_or, nat_le, if◌then◌else◌, suc}
+use Rattle.merkle_forest.specs.declared.bagging.Bagging.{Bagging}
+use Rattle.merkle_forest.specs.Forest.{Tree, leaf, branch, leaf_count, leaves, Rule, forest_of}
+use Rattle.merkle_forest.specs.Hashing.{Hash, leaf_string, node_string, root_of}
+
+-- a tree and the location of its first leaf
+abbrev pub Placed : Type 0
+Placed = ℕ × Tree
+
+-- the location behind its last leaf
+abbrev pub end_of : Placed → ℕ
+end_of peak = peak.0 + leaf_count peak.1
+
+-- the peaks from left to right, each with the location of its first leaf
+abbrev pub placed : List Tree → List Placed
+placed [] = []
+placed (peak ∷ peaks) = placed peaks ++ (leaves peaks, peak) ∷ []
+
+-- the digest of a tree over the elements from `start` on: of each leaf's and each branch's string
+abbrev pub plain_digest : Hash → List (List ℕ) → ℕ → Tree → List ℕ
+plain_digest hash elements start (leaf p) = hash (leaf_string p (slice_index_or elements start []))
+plain_digest hash elements start (branch p left right) =
+    hash (node_string p (plain_digest hash elements start left) (plain_digest hash elements (start + leaf_count left) right))
+
+-- the digests of the peaks, from left to right
+abbrev pub peak_digests : (ℕ → Tree → List ℕ) → List Tree → List (List ℕ)
+peak_digests digest peaks = map (λ peak. digest peak.0 peak.1) (placed peaks)
+
+-- how many peaks come first whose leaves all stand before the floor
+abbrev pub inactive_peaks : ℕ → List Placed → ℕ
+inactive_peaks floor [] = 0
+inactive_peaks floor (peak ∷ peaks) = if nat_le (end_of peak) floor then suc (inactive_peaks floor peaks) else 0
+
+-- the root of the tree over these elements
+abbrev pub tree_root : Hash → Bagging → Rule → List (List ℕ) → ℕ → List ℕ
+tree_root hash bagging rule elements inactive =
+    root_of hash bagging (length elements) inactive (peak_digests (plain_digest hash elements) (forest_of rule (length elements)))

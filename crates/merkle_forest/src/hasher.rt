@@ -1,0 +1,144 @@
+//! Hashers: the strings that are hashed, and SHA-256 behind them.
+
+ghost use Rattle.std.specs.Prelude.{◌≡◌, ◌<◌, ◌≤◌, ◌^◌, ◌++◌, ◌∷◌, [], ℕ, List, map, length, IfOk, IfErr, OnOk, ◌↔◌, IsOk, MatchOption};
+ghost use Rattle.std.specs.List.{flat_map};
+ghost use Rattle.sha2.specs.Sha256.{sha256};
+ghost use Rattle.merkle_forest.specs.declared.bagging.Bagging.{Bagging};
+ghost use Rattle.merkle_forest.specs.Hashing.{leaf_string, node_string, fold_string, folded_onto, root_of, root_string, bagged, items};
+
+use crate::bagging::Bagging;
+use crate::codec::FixedBytes;
+use crate::digest::Digest;
+use crate::family::Family;
+use sha2::Sha256;
+use std::marker::PhantomData;
+
+/// A hash function from bytes to digests.
+pub trait HashFunction: Drop {
+    type Digest: Digest;
+
+    /// The bytes of the digest of these bytes.
+    ghost hash_of: { List ℕ → List ℕ };
+
+    /// The digest of the parts, one after the other.
+    fn hash(parts: &[&[u8]]) -> Self::Digest
+        ensures { Self.Digest.spelling result ≡ hash_of (flat_map (λ part. part.now) parts.now) };
+}
+
+/// SHA-256 (own).
+#[derive(Clone, Copy, Debug)]
+pub struct ByteHash;
+
+impl HashFunction for ByteHash {
+    type Digest = FixedBytes<32>;
+
+    ghost hash_of = { sha256 };
+
+    fn hash(parts: &[&[u8]]) -> FixedBytes<32> {
+        use sha2::Digest;
+        let mut hasher = Sha256::new();
+        for part in parts {
+            hasher.update(*part);
+        }
+        FixedBytes::new(hasher.finalize())
+    }
+}
+
+/// A hasher of a tree's leaves, branches and roots. It says how a leaf and a branch are hashed; all else is the same for
+/// every hasher.
+pub trait Hasher<F: Family>: Drop {
+    type Digest: Digest;
+
+    /// The bytes of the digest of these bytes.
+    ghost hash_of: { List ℕ → List ℕ };
+
+    /// The bytes of the digest of a leaf: position and element.
+    ghost leaf_of: { ℕ → List ℕ → List ℕ };
+
+    /// The bytes of the digest of a branch: position and the digests of its children.
+    ghost node_of: { ℕ → List ℕ → List ℕ → List ℕ };
+
+    /// The side from which a root's peaks are folded.
+    ghost bagging_of: { Self → Bagging };
+
+    /// The digest of the parts, one after the other.
+    fn hash(&self, parts: &[&[u8]]) -> Self::Digest
+        ensures { Self.Digest.spelling result ≡ hash_of (flat_map (λ part. part.now) parts.now) };
+
+    /// The side from which a root's peaks are folded.
+    fn root_bagging(&self) -> Bagging
+        ensures { result ≡ bagging_of self.now };
+
+    /// The digest of a leaf at its position.
+    fn leaf_digest(&self, position: u64, element: &[u8]) -> Self::Digest
+        ensures { Self.Digest.spelling result ≡ leaf_of position element.now };
+
+    /// The digest of a branch at its position over its children's digests.
+    fn node_digest(&self, position: u64, left: &Self::Digest, right: &Self::Digest) -> Self::Digest
+        ensures { Self.Digest.spelling result ≡ node_of position (Self.Digest.spelling left.now) (Self.Digest.spelling right.now) };
+
+    /// The digest of these bytes alone.
+    final fn digest(&self, bytes: &[u8]) -> Self::Digest
+    where
+        Self: Sized,
+        ensures { Self.Digest.spelling result ≡ hash_of bytes.now }
+    {
+        self.hash(&[bytes])
+    }
+
+    /// Two digests folded into one.
+    final fn fold(&self, left: &Self::Digest, right: &Self::Digest) -> Self::Digest
+    where
+        Self: Sized,
+        ensures { Self.Digest.spelling result ≡ hash_of (fold_string (Self.Digest.spelling left.now) (Self.Digest.spelling right.now)) }
+    {
+        self.hash(&[left.as_bytes(), right.as_bytes()])
+    }
+}
+
+/// The hasher of plain trees: a leaf and a branch are hashed with their positions.
+#[derive(Clone, Copy, Debug)]
+pub struct Standard<H> {
+    bagging: Bagging,
+    function: PhantomData<H>,
+}
+
+impl<H> Standard<H> {
+    /// A hasher that folds peaks from this side.
+    pub fn new(bagging: Bagging) -> Standard<H>
+        ensures { result.bagging ≡ bagging }
+    {
+        Standard {
+            bagging,
+            function: PhantomData,
+        }
+    }
+}
+
+impl<F: Family, H: HashFunction> Hasher<F> for Standard<H> {
+    type Digest = H::Digest;
+
+    ghost hash_of = { H.hash_of };
+
+    ghost leaf_of = { λ position element. H.hash_of (leaf_string position element) };
+
+    ghost node_of = { λ position left right. H.hash_of (node_string position left right) };
+
+    ghost bagging_of = { λ hasher. hasher.bagging };
+
+    fn hash(&self, parts: &[&[u8]]) -> H::Digest {
+        H::hash(parts)
+    }
+
+    fn root_bagging(&self) -> Bagging {
+        self.bagging
+    }
+
+    fn leaf_digest(&self, position: u64, element: &[u8]) -> H::Digest {
+        H::hash(&[&position.to_be_bytes(), element])
+    }
+
+    fn node_digest(&self, position: u64, left: &H::Digest, right: &H::Digest) -> H::Digest {
+        H::hash(&[&position.to_be_bytes(), left.as_bytes(), right.as_bytes()])
+    }
+}

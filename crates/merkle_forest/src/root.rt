@@ -1,0 +1,106 @@
+//! Roots: peaks folded into one digest, and the string that is hashed.
+
+ghost use Rattle.std.specs.Prelude.{◌≡◌, ◌<◌, ◌≤◌, ◌↔◌, ◌++◌, ◌∷◌, [], ℕ, List, map, take, drop, length, IfOk, IfErr, OnErr, IsErr, IfSome, IfNone, MatchOption};
+ghost use Rattle.std.specs.Option.{option_to_list};
+ghost use Rattle.merkle_forest.specs.Hashing.{folded_onto, folded_forward, folded_backward, root_of, root_string, bagged, items};
+
+use crate::bagging::Bagging;
+use crate::digest::Digest;
+use crate::family::Family;
+use crate::hasher::Hasher;
+
+// The digests folded from the left onto the first one.
+fn fold_onto<F: Family, H: Hasher<F>>(
+    hasher: &H,
+    first: H::Digest,
+    digests: &[H::Digest],
+) -> H::Digest
+    ensures { H.Digest.spelling result ≡ folded_onto H.hash_of (H.Digest.spelling first) (map H.Digest.spelling digests.now) }
+{
+    match digests {
+        [] => first,
+        [next, rest @ ..] => fold_onto(hasher, hasher.fold(&first, next), rest),
+    }
+}
+
+// The digests folded from the right.
+fn fold_backward<F: Family, H: Hasher<F>>(
+    hasher: &H,
+    first: &H::Digest,
+    digests: &[H::Digest],
+) -> H::Digest
+    ensures { H.Digest.spelling result ≡ folded_backward H.hash_of (H.Digest.spelling first.now ∷ map H.Digest.spelling digests.now) }
+{
+    match digests {
+        [] => *first,
+        [next, rest @ ..] => hasher.fold(first, &fold_backward(hasher, next, rest)),
+    }
+}
+
+// The digests folded as the bagging says.
+fn bag<F: Family, H: Hasher<F>>(hasher: &H, first: &H::Digest, digests: &[H::Digest]) -> H::Digest
+    ensures { H.Digest.spelling result ≡ bagged H.hash_of (H.bagging_of hasher.now) (H.Digest.spelling first.now ∷ map H.Digest.spelling digests.now) }
+{
+    match hasher.root_bagging() {
+        Bagging::ForwardFold => fold_onto(hasher, *first, digests),
+        Bagging::BackwardFold => fold_backward(hasher, first, digests),
+    }
+}
+
+// The digest of a root's string.
+fn seal<F: Family, H: Hasher<F>>(hasher: &H, leaves: u64, inactive: u64, peaks: &[u8]) -> H::Digest
+    ensures { H.Digest.spelling result ≡ H.hash_of (root_string (H.bagging_of hasher.now) leaves inactive peaks.now) }
+{
+    let leaves = leaves.to_be_bytes();
+    let domain = [hasher.root_bagging().domain()];
+    if inactive == 0 {
+        hasher.hash(&[&leaves, &domain, peaks])
+    } else {
+        hasher.hash(&[&leaves, &domain, &inactive.to_be_bytes(), peaks])
+    }
+}
+
+/// The root over items: the inactive peaks folded into the first one where there are some, and the other peaks.
+pub fn root_with_folded_peaks<F: Family, H: Hasher<F>>(
+    hasher: &H,
+    leaves: u64,
+    inactive: u64,
+    folded: &[H::Digest],
+) -> H::Digest
+    ensures { H.Digest.spelling result ≡ H.hash_of (root_string (H.bagging_of hasher.now) leaves inactive (bagged H.hash_of (H.bagging_of hasher.now) (map H.Digest.spelling folded.now))) }
+{
+    match folded {
+        [] => seal(hasher, leaves, inactive, &[]),
+        [first, rest @ ..] => seal(
+            hasher,
+            leaves,
+            inactive,
+            bag(hasher, first, rest).as_bytes(),
+        ),
+    }
+}
+
+/// The root over the peaks, of which the first `inactive` are inactive. None: there are fewer peaks.
+pub fn root<F: Family, H: Hasher<F>>(
+    hasher: &H,
+    leaves: u64,
+    inactive: usize,
+    peaks: &[H::Digest],
+) -> Option<H::Digest>
+    ensures refused { IfNone result (length peaks.now < inactive) }
+    ensures answered { IfSome result (λ _. inactive ≤ length peaks.now) }
+    ensures root { IfSome result (λ d. H.Digest.spelling d ≡ root_of H.hash_of (H.bagging_of hasher.now) leaves inactive (map H.Digest.spelling peaks.now)) }
+{
+    if peaks.len() < inactive {
+        return None;
+    }
+    let (front, rest) = peaks.split_at(inactive);
+    match front {
+        [] => Some(root_with_folded_peaks(hasher, leaves, 0, rest)),
+        [first, others @ ..] => {
+            let folded = fold_onto(hasher, *first, others);
+            let bagged = bag(hasher, &folded, rest);
+            Some(seal(hasher, leaves, inactive as u64, bagged.as_bytes()))
+        }
+    }
+}
