@@ -5,3 +5,4 @@ pub mod Shape
 pub mod ForestLaws
 pub mod Hashing
 pub mod Trees
+pub mod TreesCode

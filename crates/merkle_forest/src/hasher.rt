@@ -44,6 +44,20 @@ impl HashFunction for ByteHash {
     }
 }
 
+/// The digest of a leaf's string.
+pub fn hash_leaf<H: HashFunction>(position: u64, element: &[u8]) -> H::Digest
+    ensures { H.Digest.spelling result ≡ H.hash_of (leaf_string position element.now) }
+{
+    H::hash(&[&position.to_be_bytes(), element])
+}
+
+/// The digest of a branch's string.
+pub fn hash_node<H: HashFunction>(position: u64, left: &H::Digest, right: &H::Digest) -> H::Digest
+    ensures { H.Digest.spelling result ≡ H.hash_of (node_string position (H.Digest.spelling left.now) (H.Digest.spelling right.now)) }
+{
+    H::hash(&[&position.to_be_bytes(), left.as_bytes(), right.as_bytes()])
+}
+
 /// A hasher of a tree's leaves, branches and roots. It says how a leaf and a branch are hashed; all else is the same for
 /// every hasher.
 pub trait Hasher<F: Family>: Drop {
@@ -135,10 +149,10 @@ impl<F: Family, H: HashFunction> Hasher<F> for Standard<H> {
     }
 
     fn leaf_digest(&self, position: u64, element: &[u8]) -> H::Digest {
-        H::hash(&[&position.to_be_bytes(), element])
+        hash_leaf::<H>(position, element)
     }
 
     fn node_digest(&self, position: u64, left: &H::Digest, right: &H::Digest) -> H::Digest {
-        H::hash(&[&position.to_be_bytes(), left.as_bytes(), right.as_bytes()])
+        hash_node::<H>(position, left, right)
     }
 }

@@ -9,6 +9,7 @@ pub mod forest;
 pub mod hasher;
 pub mod mmr;
 pub mod root;
+pub mod trees;
 
 pub use bagging::Bagging;
 pub use digest::Digest;

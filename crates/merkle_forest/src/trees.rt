@@ -1,0 +1,161 @@
+//! Digests of trees by recursion over the forest: the plain programs of the definitions (own).
+
+ghost use Rattle.std.specs.Prelude.{◌≡◌, ◌<◌, ◌≤◌, ◌+◌, ◌^◌, ◌++◌, ◌∷◌, [], ℕ, List, map, length, IfOk, OnOk};
+ghost use Rattle.std.specs.List.{AllByRecursion};
+ghost use Rattle.merkle_forest.specs.Forest.{Tree, leaf_count, leaves, forest_of};
+ghost use Rattle.merkle_forest.specs.Shape.{shape};
+ghost use Rattle.merkle_forest.specs.Trees.{placed, plain_digest, peak_digests, inactive_peaks, tree_root, end_of};
+ghost use Rattle.merkle_forest.specs.TreesCode.{shapes};
+
+use crate::digest::Digest;
+use crate::family::Family;
+use crate::forest::{Tree, grow, leaf_count_of};
+use crate::hasher::{HashFunction, hash_leaf, hash_node};
+use crate::root;
+use std::alloc::{AllocError, Global};
+use std::marker::PhantomData;
+
+/// The digest of a tree over the elements from `start` on.
+pub fn digest_of<H: HashFunction>(elements: &[Vec<u8>], start: usize, tree: &Tree) -> H::Digest
+    requires { start + leaf_count (shape tree.now) ≤ length elements.now }
+    ensures { H.Digest.spelling result ≡ plain_digest H.hash_of (map (λ e. e.items) elements.now) start (shape tree.now) }
+{
+    match tree {
+        Tree::Leaf(position) => hash_leaf::<H>(*position, &elements[start]),
+        Tree::Branch(position, left, right) => {
+            let left_digest = digest_of::<H>(elements, start, left);
+            let right_digest = digest_of::<H>(elements, start + leaf_count_of(left), right);
+            hash_node::<H>(*position, &left_digest, &right_digest)
+        }
+    }
+}
+
+/// The digests of the trees over a list of elements (own).
+pub trait TreeDigests {
+    type Digest: Digest;
+
+    /// The digest of a tree whose first leaf stands at a location.
+    ghost digest_at: { Self → ℕ → Tree → List ℕ };
+
+    /// How many elements there are.
+    ghost element_count: { Self → ℕ };
+
+    /// The digest of a tree whose first leaf stands at `start`.
+    fn digest(&self, start: usize, tree: &Tree) -> Self::Digest
+        requires { start + leaf_count (shape tree.now) ≤ element_count self.now }
+        ensures { Self.Digest.spelling result ≡ digest_at self.now start (shape tree.now) };
+}
+
+/// The plain digests over these elements.
+#[derive(Drop)]
+pub struct Plain<'a, H> {
+    elements: &'a [Vec<u8>],
+    function: PhantomData<H>,
+}
+
+impl<'a, H> Plain<'a, H> {
+    /// The plain digests over these elements.
+    pub fn new(elements: &'a [Vec<u8>]) -> Plain<'a, H>
+        ensures { result.elements.now ≡ elements.now }
+    {
+        Plain {
+            elements,
+            function: PhantomData,
+        }
+    }
+}
+
+impl<H: HashFunction> TreeDigests for Plain<'_, H> {
+    type Digest = H::Digest;
+
+    ghost digest_at = { λ plain. plain_digest H.hash_of (map (λ e. e.items) plain.elements.now) };
+
+    ghost element_count = { λ plain. length plain.elements.now };
+
+    fn digest(&self, start: usize, tree: &Tree) -> H::Digest {
+        digest_of::<H>(self.elements, start, tree)
+    }
+}
+
+// Appends the digests of the peaks from left to right, and answers how many leaves they have.
+fn append_digests<T: TreeDigests>(
+    found: &mut Vec<T::Digest>,
+    digests: &T,
+    peaks: &[Tree],
+) -> Result<usize, AllocError>
+    requires small { leaves (map shape peaks.now) < 2 ^ 64 }
+    requires within { leaves (map shape peaks.now) ≤ T.element_count digests.now }
+    ensures digests { OnOk result (map T.Digest.spelling found.new.items ≡ map T.Digest.spelling found.old.items ++ peak_digests (T.digest_at digests.now) (map shape peaks.now)) }
+    ensures counted { IfOk result (λ count. count ≡ leaves (map shape peaks.now)) }
+{
+    match peaks {
+        [] => Ok(0),
+        [last, rest @ ..] => {
+            let before = append_digests(found, digests, rest)?;
+            found.push(digests.digest(before, last))?;
+            Ok(before + leaf_count_of(last))
+        }
+    }
+}
+
+/// The digests of the peaks, from left to right. It fails for want of memory alone.
+pub fn digests_of_peaks<T: TreeDigests>(
+    alloc: Global,
+    digests: &T,
+    peaks: &[Tree],
+) -> Result<Vec<T::Digest>, AllocError>
+    requires small { leaves (map shape peaks.now) < 2 ^ 64 }
+    requires within { leaves (map shape peaks.now) ≤ T.element_count digests.now }
+    ensures { IfOk result (λ found. map T.Digest.spelling found.items ≡ peak_digests (T.digest_at digests.now) (map shape peaks.now)) }
+{
+    let mut found = Vec::new(alloc);
+    append_digests(&mut found, digests, peaks)?;
+    Ok(found)
+}
+
+/// How many of these peaks come first whose leaves all stand before the floor.
+pub fn inactive_count_of(floor: u64, peaks: &[(usize, &Tree)]) -> usize
+    requires { AllByRecursion (λ peak. end_of peak < 2 ^ 64) (shapes peaks.now) }
+    ensures count { result ≡ inactive_peaks floor (shapes peaks.now) }
+    ensures within { result ≤ length peaks.now }
+{
+    match peaks {
+        [] => 0,
+        [(start, tree), rest @ ..] => {
+            if (*start + leaf_count_of(tree)) as u64 <= floor {
+                inactive_count_of(floor, rest) + 1
+            } else {
+                0
+            }
+        }
+    }
+}
+
+// Appends the peaks from left to right, each with the location of its first leaf, and answers how many leaves they have.
+fn append_placed<'a>(
+    found: &mut Vec<(usize, &'a Tree)>,
+    peaks: &'a [Tree],
+) -> Result<usize, AllocError>
+    requires { leaves (map shape peaks.now) < 2 ^ 64 }
+    ensures placed { OnOk result (shapes found.new.items ≡ shapes found.old.items ++ placed (map shape peaks.now)) }
+    ensures counted { IfOk result (λ count. count ≡ leaves (map shape peaks.now)) }
+{
+    match peaks {
+        [] => Ok(0),
+        [last, rest @ ..] => {
+            let before = append_placed(found, rest)?;
+            found.push((before, last))?;
+            Ok(before + leaf_count_of(last))
+        }
+    }
+}
+
+/// The peaks from left to right, each with the location of its first leaf. It fails for want of memory alone.
+pub fn place<'a>(alloc: Global, peaks: &'a [Tree]) -> Result<Vec<(usize, &'a Tree)>, AllocError>
+    requires { leaves (map shape peaks.now) < 2 ^ 64 }
+    ensures { IfOk result (λ found. shapes found.items ≡ placed (map shape peaks.now)) }
+{
+    let mut found = Vec::new(alloc);
+    append_placed(&mut found, peaks)?;
+    Ok(found)
+}
