@@ -1,2 +1,4 @@
 pub mod Codec
 pub mod CodecLaws
+pub mod Varint
+pub mod VarintLaws

@@ -6,8 +6,10 @@ pub mod fixed_bytes;
 pub mod numbers;
 pub mod option;
 pub mod traits;
+pub mod varint;
 
 pub use cursor::Cursor;
 pub use error::Error;
 pub use fixed_bytes::FixedBytes;
 pub use traits::{Decode, Encode, EncodeSize, Faithful, FixedSize, Read, Write};
+pub use varint::{UInt, number_size, read_number, write_number};
