@@ -1,2 +1,3 @@
 pub mod Varints
 pub mod VarintWriting
+pub mod Lists
