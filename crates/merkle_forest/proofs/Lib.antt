@@ -1,1 +1,4 @@
 pub mod ForestLemmas
+pub mod Lists
+pub mod VarintWriting
+pub mod Varints

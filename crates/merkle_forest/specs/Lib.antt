@@ -1,8 +1,12 @@
 pub mod Codec
 pub mod CodecLaws
 pub mod Forest
-pub mod Shape
 pub mod ForestLaws
 pub mod Hashing
+pub mod ListLaws
+pub mod Lists
+pub mod Shape
 pub mod Trees
 pub mod TreesCode
+pub mod Varint
+pub mod VarintLaws

@@ -3,11 +3,15 @@
 pub mod cursor;
 pub mod error;
 pub mod fixed_bytes;
+pub mod list;
 pub mod numbers;
 pub mod option;
 pub mod traits;
+pub mod varint;
 
 pub use cursor::Cursor;
 pub use error::Error;
 pub use fixed_bytes::FixedBytes;
+pub use list::{RangeCfg, read_count};
 pub use traits::{Decode, Encode, EncodeSize, Faithful, FixedSize, Read, Write};
+pub use varint::{UInt, number_size, read_number, write_number};
