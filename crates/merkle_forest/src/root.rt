@@ -9,8 +9,8 @@ use crate::digest::Digest;
 use crate::family::Family;
 use crate::hasher::Hasher;
 
-// The digests folded from the left onto the first one.
-fn fold_onto<F: Family, H: Hasher<F>>(
+/// The digests folded from the left onto the first one.
+pub fn fold_onto<F: Family, H: Hasher<F>>(
     hasher: &H,
     first: H::Digest,
     digests: &[H::Digest],
@@ -23,8 +23,8 @@ fn fold_onto<F: Family, H: Hasher<F>>(
     }
 }
 
-// The digests folded from the right.
-fn fold_backward<F: Family, H: Hasher<F>>(
+/// The digests folded from the right, with the first one at the left end.
+pub fn fold_backward<F: Family, H: Hasher<F>>(
     hasher: &H,
     first: &H::Digest,
     digests: &[H::Digest],

@@ -31,9 +31,7 @@ pub fn digest_of<H: HashFunction>(elements: &[Vec<u8>], start: usize, tree: &Tre
 }
 
 /// The digests of the trees over a list of elements (own).
-pub trait TreeDigests {
-    type Digest: Digest;
-
+pub trait TreeDigests<D: Digest> {
     /// The digest of a tree whose first leaf stands at a location.
     ghost digest_at: { Self → ℕ → Tree → List ℕ };
 
@@ -41,9 +39,9 @@ pub trait TreeDigests {
     ghost element_count: { Self → ℕ };
 
     /// The digest of a tree whose first leaf stands at `start`.
-    fn digest(&self, start: usize, tree: &Tree) -> Self::Digest
+    fn digest(&self, start: usize, tree: &Tree) -> D
         requires { start + leaf_count (shape tree.now) ≤ element_count self.now }
-        ensures { Self.Digest.spelling result ≡ digest_at self.now start (shape tree.now) };
+        ensures { D.spelling result ≡ digest_at self.now start (shape tree.now) };
 }
 
 /// The plain digests over these elements.
@@ -65,9 +63,7 @@ impl<'a, H> Plain<'a, H> {
     }
 }
 
-impl<H: HashFunction> TreeDigests for Plain<'_, H> {
-    type Digest = H::Digest;
-
+impl<H: HashFunction> TreeDigests<H::Digest> for Plain<'_, H> {
     ghost digest_at = { λ plain. plain_digest H.hash_of (map (λ e. e.items) plain.elements.now) };
 
     ghost element_count = { λ plain. length plain.elements.now };
@@ -78,14 +74,14 @@ impl<H: HashFunction> TreeDigests for Plain<'_, H> {
 }
 
 // Appends the digests of the peaks from left to right, and answers how many leaves they have.
-fn append_digests<T: TreeDigests>(
-    found: &mut Vec<T::Digest>,
+fn append_digests<D: Digest, T: TreeDigests<D>>(
+    found: &mut Vec<D>,
     digests: &T,
     peaks: &[Tree],
 ) -> Result<usize, AllocError>
     requires small { leaves (map shape peaks.now) < 2 ^ 64 }
     requires within { leaves (map shape peaks.now) ≤ T.element_count digests.now }
-    ensures digests { OnOk result (map T.Digest.spelling found.new.items ≡ map T.Digest.spelling found.old.items ++ peak_digests (T.digest_at digests.now) (map shape peaks.now)) }
+    ensures digests { OnOk result (map D.spelling found.new.items ≡ map D.spelling found.old.items ++ peak_digests (T.digest_at digests.now) (map shape peaks.now)) }
     ensures counted { IfOk result (λ count. count ≡ leaves (map shape peaks.now)) }
 {
     match peaks {
@@ -99,14 +95,14 @@ fn append_digests<T: TreeDigests>(
 }
 
 /// The digests of the peaks, from left to right. It fails for want of memory alone.
-pub fn digests_of_peaks<T: TreeDigests>(
+pub fn digests_of_peaks<D: Digest, T: TreeDigests<D>>(
     alloc: Global,
     digests: &T,
     peaks: &[Tree],
-) -> Result<Vec<T::Digest>, AllocError>
+) -> Result<Vec<D>, AllocError>
     requires small { leaves (map shape peaks.now) < 2 ^ 64 }
     requires within { leaves (map shape peaks.now) ≤ T.element_count digests.now }
-    ensures { IfOk result (λ found. map T.Digest.spelling found.items ≡ peak_digests (T.digest_at digests.now) (map shape peaks.now)) }
+    ensures { IfOk result (λ found. map D.spelling found.items ≡ peak_digests (T.digest_at digests.now) (map shape peaks.now)) }
 {
     let mut found = Vec::new(alloc);
     append_digests(&mut found, digests, peaks)?;

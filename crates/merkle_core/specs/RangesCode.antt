@@ -1,0 +1,10 @@
+-- The sides of a range, as the code names them.
+use Rattle.std.specs.Prelude.{ℕ, Bool}
+use Rattle.merkle_core.specs.declared.ranges.Side.{Side}
+use Rattle.merkle_core.specs.declared.ranges.Side.TheVariants.{Before, After}
+use Rattle.merkle_forest.specs.Trees.{Placed}
+use Rattle.merkle_core.specs.Ranges.{is_before, is_after}
+
+abbrev pub stands : Side → Placed → Bool
+stands (Before start) peak = is_before start peak
+stands (After stop) peak = is_after stop peak
