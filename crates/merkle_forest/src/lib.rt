@@ -4,6 +4,12 @@
 pub mod codec;
 pub mod digest;
 pub mod family;
+pub mod location;
+pub mod location_range;
+pub mod position;
 
 pub use digest::Digest;
 pub use family::{Family, MAX_LEAVES, MAX_NODES};
+pub use location::Location;
+pub use location_range::LocationRangeExt;
+pub use position::Position;
