@@ -1,10 +1,10 @@
 -- Writing and reading items one after the other, as a loop does.
-use Rattle.std.proofs.Common.{◌≡◌, ℕ, zero, suc, ◌+◌, ◌-◌, ◌^◌, ◌<◌, ◌≤◌, List, [], ◌∷◌, ◌++◌, length, take, get_or, Result, Ok, Err, refl, sym, ◌∙◌, ap, append_assoc, length-append, arith, rules, Fits, w64}
+use Rattle.std.proofs.Common.{◌≡◌, ℕ, suc, ◌+◌, ◌-◌, ◌^◌, ◌<◌, ◌≤◌, List, [], ◌∷◌, ◌++◌, length, take, get_or, Ok, Err, refl, sym, ◌∙◌, ap, append_assoc, length-append, arith, rules, Fits, w64}
 use Rattle.std.specs.List.{flat_map, All}
 use Rattle.std.proofs.lemmas.List.{flat_map_more, take_more}
 use Rattle.std.proofs.lemmas.List.Folds.{length-flat_map-take}
 use Rattle.std.proofs.lemmas.List.Elements.{All-more}
-use Rattle.merkle_forest.specs.Codec.{◌>>=◌, Outcome, Extends, Refuses}
+use Rattle.merkle_forest.specs.Codec.{Outcome, Extends, Refuses}
 use Rattle.merkle_forest.specs.Varint.{varint}
 use Rattle.merkle_forest.specs.Lists.{list_spelling, count_at, after_items, after_list}
 use Rattle.merkle_forest.specs.declared.codec.error.Error.{Error}

@@ -1,6 +1,6 @@
 -- What was spelled is read again.
-use Rattle.std.proofs.Common.{◌≡◌, ℕ, ◌+◌, ◌<◌, ◌≤◌, ltb, Bool, true, false, List, [], ◌∷◌, ◌++◌, length, drop, Option, None, Some, Result, Ok, Err, refl, sym, ◌∙◌, ap, arith}
-use Rattle.std.specs.Int.{Width, w64, byte_len, to_be_bytes}
+use Rattle.std.proofs.Common.{◌≡◌, ℕ, ltb, Bool, true, false, List, ◌++◌, length, Option, None, Some, Ok, refl, sym, ◌∙◌, ap, arith}
+use Rattle.std.specs.Int.{Width, byte_len, to_be_bytes}
 use Rattle.std.proofs.lemmas.Bool.{le-ltb}
 use Rattle.std.proofs.lemmas.List.{drop_at, length-append, append_cancel_right}
 use Rattle.merkle_forest.specs.Codec.{Outcome, after_fixed, after_bool, bool_byte, option_spelling, after_option}

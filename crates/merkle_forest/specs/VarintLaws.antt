@@ -1,11 +1,10 @@
 -- What a varint spells is read again, and what is read was spelled so.
-use Rattle.std.proofs.Common.{◌≡◌, ℕ, zero, suc, ◌+◌, ◌-◌, ◌*◌, ◌/◌, ◌%◌, ◌^◌, ◌<◌, ◌≤◌, max, add-one, ltb, eqb, Bool, true, false, List, [], ◌∷◌, ◌++◌, length, Result, Ok, Err, refl, sym, ◌∙◌, ap, arith, inl, inr, lit<}
+use Rattle.std.proofs.Common.{◌≡◌, ℕ, zero, suc, ◌+◌, ◌-◌, ◌*◌, ◌/◌, ◌%◌, ◌^◌, ◌<◌, ◌≤◌, max, add-one, ltb, eqb, true, false, List, [], ◌∷◌, ◌++◌, length, Ok, refl, sym, ◌∙◌, ap, arith, inl, inr, lit<}
 use Rattle.std.proofs.lemmas.Bool.{lt-ltb, le-ltb, ne_eqb, cases_lt}
 use Rattle.std.proofs.lemmas.Nat.{pow-add, leading_top}
 use Rattle.std.proofs.Math.Nat.{pow-suc, pow-le-pow_right}
 use Rattle.std.specs.Int.{w64, leading_zeros}
-use Rattle.merkle_forest.specs.Codec.{◌>>=◌, Outcome}
-use Rattle.merkle_forest.specs.Varint.{varint, varint_groups, over_group, groups_at, varint_at, after_varint, after_number}
+use Rattle.merkle_forest.specs.Varint.{varint, varint_groups, groups_at, varint_at, after_varint, after_number}
 
 -- a number's groups are the same however many might follow
 pub varint_enough : (k j n : ℕ) → n ≤ k → n ≤ j → varint_groups k n ≡ varint_groups j n

@@ -17,3 +17,6 @@ pub use list::{RangeCfg, read_count};
 pub use max_size::MaxEncodeSize;
 pub use traits::{Decode, Encode, EncodeSize, Faithful, FixedSize, Read, Write};
 pub use varint::{UInt, number_size, read_number, write_number};
+
+#[cfg(test)]
+mod tests;

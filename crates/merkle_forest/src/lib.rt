@@ -13,3 +13,6 @@ pub use family::{Family, MAX_LEAVES, MAX_NODES};
 pub use location::Location;
 pub use location_range::LocationRangeExt;
 pub use position::Position;
+
+#[cfg(test)]
+mod tests;
