@@ -1,10 +1,10 @@
 -- Writing and reading items one after the other, as a loop does.
-use Rattle.std.proofs.Common.{◌≡◌, ℕ, zero, suc, ◌+◌, ◌-◌, ◌^◌, ◌<◌, ◌≤◌, List, [], ◌∷◌, ◌++◌, length, take, get_or, Result, Ok, Err, refl, sym, ◌∙◌, ap, append_assoc, length-append, arith, rules, Fits, w64}
+use Rattle.std.proofs.Common.{◌≡◌, ℕ, suc, ◌+◌, ◌-◌, ◌^◌, ◌<◌, ◌≤◌, List, [], ◌∷◌, ◌++◌, length, take, get_or, Ok, Err, refl, sym, ◌∙◌, ap, append_assoc, length-append, arith, rules, Fits, w64}
 use Rattle.std.specs.List.{flat_map, All}
 use Rattle.std.proofs.lemmas.List.{flat_map_more, take_more}
 use Rattle.std.proofs.lemmas.List.Folds.{length-flat_map-take}
 use Rattle.std.proofs.lemmas.List.Elements.{All-more}
-use Rattle.merkle_forest.specs.Codec.{◌>>=◌, Outcome, Extends, Refuses}
+use Rattle.merkle_forest.specs.Codec.{Outcome, Extends, Refuses}
 use Rattle.merkle_forest.specs.Varint.{varint}
 use Rattle.merkle_forest.specs.Lists.{list_spelling, count_at, after_items, after_list}
 use Rattle.merkle_forest.specs.declared.codec.error.Error.{Error}
@@ -53,23 +53,24 @@ one_read after count i bytes rest total some read so_far =
     let one : after_items after (count - i) bytes ≡ after_items after (count - (i + 1)) rest = rw (k, read) refl in
     sym one ∙ so_far
 
-pub item_refused : (after : List ℕ → Outcome) (count i : ℕ) (bytes : List ℕ) (total : Outcome) (e : Error) → i < count → after_items after (count - i) bytes ≡ total
-    → Refuses e (after bytes) → Refuses e total
+-- behind the count stand the items
+counted : (after : List ℕ → Outcome) (least greatest count : ℕ) (bytes start : List ℕ) → count_at least greatest bytes ≡ Ok (count, start)
+    → after_list after least greatest bytes ≡ after_items after count start
+counted after least greatest count bytes start found = rw found refl
+
+pub item_refused : (after : List ℕ → Outcome) (least greatest count i : ℕ) (whole start bytes : List ℕ) (e : Error) → count_at least greatest whole ≡ Ok (count, start) → i < count
+    → after_items after (count - i) bytes ≡ after_items after count start → Refuses e (after bytes) → Refuses e (after_list after least greatest whole)
 unfolding after_items
-item_refused after count i bytes total e some so_far refused =
+item_refused after least greatest count i whole start bytes e found some so_far refused =
     let k : count - i ≡ suc (count - (i + 1)) = omega arith in
-    refuses_as e (after bytes) total (λ f failed. sym so_far ∙ rw (k, failed) refl) refused
+    refuses_as e (after bytes) (after_list after least greatest whole) (λ f failed. counted after least greatest count whole start found ∙ sym so_far ∙ rw (k, failed) refl) refused
 
 -- all were read
-pub all_read : (after : List ℕ → Outcome) (count i : ℕ) (bytes : List ℕ) (total : Outcome) → count ≤ i → after_items after (count - i) bytes ≡ total → total ≡ Ok bytes
+pub all_read : (after : List ℕ → Outcome) (least greatest count i : ℕ) (whole start bytes : List ℕ) → count_at least greatest whole ≡ Ok (count, start) → count ≤ i
+    → after_items after (count - i) bytes ≡ after_items after count start → after_list after least greatest whole ≡ Ok bytes
 unfolding after_items
-all_read after count i bytes total done so_far =
-    let k : count - i ≡ 0 = omega arith in sym so_far ∙ rw k refl
-
--- behind the count stand the items
-pub counted : (after : List ℕ → Outcome) (least greatest count : ℕ) (bytes start : List ℕ) → count_at least greatest bytes ≡ Ok (count, start)
-    → after_items after count start ≡ after_list after least greatest bytes
-counted after least greatest count bytes start found = rw found refl
+all_read after least greatest count i whole start bytes found done so_far =
+    let k : count - i ≡ 0 = omega arith in counted after least greatest count whole start found ∙ sym so_far ∙ rw k refl
 
 pub counts_more : {T : Type 0} (items new_items : List T) (item : T) (i : ℕ) → new_items ≡ items ++ item ∷ [] → length items ≡ i → length new_items ≡ i + 1
 counts_more items new_items item i pushed so_far = omega (arith, length-append items (item ∷ []), ap length pushed)

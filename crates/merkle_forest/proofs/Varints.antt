@@ -1,12 +1,12 @@
 -- Reading a varint group by group, as a loop does.
-use Rattle.std.proofs.Common.{◌≡◌, ℕ, zero, suc, ◌+◌, ◌-◌, ◌*◌, ◌/◌, ◌%◌, ◌^◌, ◌<◌, ◌≤◌, add-one, ltb, eqb, Bool, true, false, List, [], ◌∷◌, ◌++◌, Result, Ok, Err, refl, sym, ◌∙◌, ap, arith, inl, inr, lit<, rules, Fits, w64}
+use Rattle.std.proofs.Common.{◌≡◌, ℕ, zero, suc, ◌+◌, ◌-◌, ◌*◌, ◌%◌, ◌^◌, ◌<◌, ◌≤◌, add-one, ltb, eqb, true, false, List, [], ◌∷◌, ◌++◌, Result, Ok, Err, refl, sym, ◌∙◌, ap, arith, inl, inr, lit<, rules, Fits, w64}
 use Rattle.std.specs.Prelude.{if◌then◌else◌, ◌==◌}
 use Rattle.std.proofs.lemmas.Bool.{lt-ltb, le-ltb, eq-eqb, ne_eqb, cases_eq}
 use Rattle.std.proofs.Math.Nat.{pow-suc, pow-le-pow_right, mul-le-mul_right}
 use Rattle.merkle_forest.specs.declared.codec.error.Error.{Error}
 use Rattle.merkle_forest.specs.declared.codec.error.Error.TheVariants.{EndOfBuffer, InvalidVarint}
 use Rattle.merkle_forest.specs.Codec.{◌>>=◌}
-use Rattle.merkle_forest.specs.Varint.{varint, over_group, groups_at, varint_at}
+use Rattle.merkle_forest.specs.Varint.{varint, over_group, groups_at}
 use Rattle.merkle_forest.specs.VarintLaws.{varint_small, varint_over}
 
 -- the groups before, and the number behind them, which isn't 0 in the shortest spelling

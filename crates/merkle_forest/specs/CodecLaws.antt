@@ -1,8 +1,8 @@
 -- What was spelled is read again.
-use Rattle.std.proofs.Common.{◌≡◌, ℕ, ltb, Bool, true, false, List, ◌++◌, length, Option, None, Some, Ok, refl, arith}
+use Rattle.std.proofs.Common.{◌≡◌, ℕ, ltb, Bool, true, false, List, ◌++◌, length, Option, None, Some, Ok, refl, sym, ◌∙◌, ap, arith}
 use Rattle.std.specs.Int.{Width, byte_len, to_be_bytes}
 use Rattle.std.proofs.lemmas.Bool.{le-ltb}
-use Rattle.std.proofs.lemmas.List.{drop_at, length-append}
+use Rattle.std.proofs.lemmas.List.{drop_at, length-append, append_cancel_right}
 use Rattle.merkle_forest.specs.Codec.{Outcome, after_fixed, after_bool, bool_byte, option_spelling, after_option}
 use Rattle.std.specs.Prelude.{IfSome}
 
@@ -24,3 +24,14 @@ pub option_again : {T : Type 0} (spelling : T → List ℕ) (after : List ℕ �
     → (v : Option T) (rest : List ℕ) → IfSome v is_value → IfSome v is_within → after_option after (option_spelling spelling v ++ rest) ≡ Ok rest
 option_again spelling after is_value is_within again None rest value within = refl
 option_again spelling after is_value is_within again (Some v) rest value within = again v rest value within
+
+-- what is read again: no spelling begins another, so equal bytes have equal spellings at the front and equal rests
+pub one_spelling : {T : Type 0} (spelling : T → List ℕ) (after : List ℕ → Outcome) (is_read : T → Type 0)
+    → ((v : T) (rest : List ℕ) → is_read v → after (spelling v ++ rest) ≡ Ok rest)
+    → (v w : T) (x y : List ℕ) → is_read v → is_read w → spelling v ++ x ≡ spelling w ++ y → (spelling v ≡ spelling w) × (x ≡ y)
+one_spelling spelling after is_read again v w x y reads_v reads_w same =
+    let first = again v x reads_v in
+    let second = again w y reads_w in
+    let both : after (spelling v ++ x) ≡ after (spelling w ++ y) = ap after same in
+    let rests : x ≡ y = cc in
+    (append_cancel_right (spelling v) (spelling w) y (sym (ap (λ rest. spelling v ++ rest) rests) ∙ same), rests)

@@ -1,11 +1,11 @@
 -- Lists that were spelled are read again.
-use Rattle.std.proofs.Common.{◌≡◌, ℕ, zero, suc, ◌+◌, ◌^◌, ◌<◌, ◌≤◌, ltb, Bool, true, false, List, [], ◌∷◌, ◌++◌, length, Result, Ok, Err, refl, sym, ◌∙◌, ap, append_assoc, arith}
+use Rattle.std.proofs.Common.{◌≡◌, ℕ, ◌^◌, ◌<◌, ◌≤◌, ltb, false, List, [], ◌∷◌, ◌++◌, length, Ok, refl, append_assoc}
 use Rattle.std.specs.List.{flat_map, All}
 use Rattle.std.proofs.lemmas.Bool.{le-ltb}
 use Rattle.std.proofs.lemmas.List.Elements.{All-head, All-tail}
-use Rattle.merkle_forest.specs.Codec.{◌>>=◌, Outcome, after_fixed}
+use Rattle.merkle_forest.specs.Codec.{Outcome}
 use Rattle.merkle_forest.specs.CodecLaws.{fixed_again}
-use Rattle.merkle_forest.specs.Varint.{varint, varint_at}
+use Rattle.merkle_forest.specs.Varint.{varint}
 use Rattle.merkle_forest.specs.VarintLaws.{varint_again}
 use Rattle.merkle_forest.specs.Lists.{list_spelling, bytes_spelling, AreItems, count_at, after_items, after_list, after_bytes}
 

@@ -1,5 +1,5 @@
 -- The grammar of lists: a count, and that many items.
-use Rattle.std.specs.Prelude.{◌≡◌, ℕ, zero, suc, ◌<◌, ◌≤◌, ◌^◌, ◌||◌, if◌then◌else◌, nat_lt, List, [], ◌∷◌, ◌++◌, length, Result, Ok, Err}
+use Rattle.std.specs.Prelude.{ℕ, zero, suc, ◌<◌, ◌^◌, ◌||◌, if◌then◌else◌, nat_lt, List, ◌++◌, length, Result, Ok, Err}
 use Rattle.std.specs.List.{flat_map, All}
 use Rattle.merkle_forest.specs.Codec.{◌>>=◌, Outcome, after_fixed}
 use Rattle.merkle_forest.specs.Varint.{varint, varint_at}

@@ -2,7 +2,7 @@
 use Rattle.std.specs.Prelude.{◌≡◌, ℕ, zero, suc, ◌+◌, ◌-◌, ◌*◌, ◌/◌, ◌%◌, ◌==◌, if◌then◌else◌, nat_lt, List, [], ◌∷◌, Result, Ok, Err}
 use Rattle.merkle_forest.specs.Codec.{◌>>=◌, Outcome}
 use Rattle.merkle_forest.specs.declared.codec.error.Error.{Error}
-use Rattle.merkle_forest.specs.declared.codec.error.Error.TheVariants.{EndOfBuffer, InvalidVarint}
+use Rattle.merkle_forest.specs.declared.codec.error.Error.TheVariants.{EndOfBuffer, InvalidVarint, Invalid}
 
 -- a number's groups, of which at most `more` follow the first
 unfoldable pub varint_groups : ℕ → ℕ → List ℕ
@@ -35,3 +35,7 @@ after_varint bytes = varint_at bytes >>= λ x. Ok x.1
 abbrev pub Finds : List ℕ → Result (ℕ × List ℕ) Error → Result ℕ Error → Type 0
 Finds new expected (Ok n) = expected ≡ Ok (n, new)
 Finds new expected (Err e) = expected ≡ Err e
+
+-- the bytes behind a number up to a limit
+abbrev pub after_number : ℕ → List ℕ → Outcome
+after_number limit bytes = varint_at bytes >>= λ x. if nat_lt limit x.0 then Err Invalid else Ok x.1

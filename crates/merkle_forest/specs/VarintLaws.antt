@@ -1,11 +1,10 @@
 -- What a varint spells is read again, and what is read was spelled so.
-use Rattle.std.proofs.Common.{◌≡◌, ℕ, zero, suc, ◌+◌, ◌-◌, ◌*◌, ◌/◌, ◌%◌, ◌^◌, ◌<◌, ◌≤◌, max, add-one, ltb, eqb, Bool, true, false, List, [], ◌∷◌, ◌++◌, length, Result, Ok, Err, refl, sym, ◌∙◌, ap, arith, inl, inr, lit<}
+use Rattle.std.proofs.Common.{◌≡◌, ℕ, zero, suc, ◌+◌, ◌-◌, ◌*◌, ◌/◌, ◌%◌, ◌^◌, ◌<◌, ◌≤◌, max, add-one, ltb, eqb, true, false, List, [], ◌∷◌, ◌++◌, length, Ok, refl, sym, ◌∙◌, ap, arith, inl, inr, lit<}
 use Rattle.std.proofs.lemmas.Bool.{lt-ltb, le-ltb, ne_eqb, cases_lt}
 use Rattle.std.proofs.lemmas.Nat.{pow-add, leading_top}
 use Rattle.std.proofs.Math.Nat.{pow-suc, pow-le-pow_right}
 use Rattle.std.specs.Int.{w64, leading_zeros}
-use Rattle.merkle_forest.specs.Codec.{◌>>=◌, Outcome}
-use Rattle.merkle_forest.specs.Varint.{varint, varint_groups, over_group, groups_at, varint_at, after_varint}
+use Rattle.merkle_forest.specs.Varint.{varint, varint_groups, groups_at, varint_at, after_varint, after_number}
 
 -- a number's groups are the same however many might follow
 pub varint_enough : (k j n : ℕ) → n ≤ k → n ≤ j → varint_groups k n ≡ varint_groups j n
@@ -112,3 +111,21 @@ varint_length n small =
 
 pub after_varint_again : (n : ℕ) (rest : List ℕ) → n < 2 ^ 64 → after_varint (varint n ++ rest) ≡ Ok rest
 after_varint_again n rest small = rw (varint_again n rest small) refl
+
+pub after_number_again : (limit n : ℕ) (rest : List ℕ) → n < 2 ^ 64 → n ≤ limit → after_number limit (varint n ++ rest) ≡ Ok rest
+after_number_again limit n rest small within =
+    let fine : ltb limit n ≡ false = le-ltb limit n within in rw (varint_again n rest small, fine) refl
+
+-- ten bytes are enough for 64 bits
+pub varint_at_most : (n : ℕ) → n < 2 ^ 64 → length (varint n) ≤ 10
+varint_at_most n small = rw (varint_length n small) (omega arith)
+
+-- two numbers that have one spelling are one
+pub varint_same : (m n : ℕ) → m < 2 ^ 64 → n < 2 ^ 64 → varint m ≡ varint n → m ≡ n
+varint_same m n small_m small_n same =
+    let first = varint_again m [] small_m in
+    let second = varint_again n [] small_n in
+    let joined : varint m ++ [] ≡ varint n ++ [] = ap (λ bytes. bytes ++ []) same in
+    let both : varint_at (varint m ++ []) ≡ varint_at (varint n ++ []) = ap varint_at joined in
+    let pairs : ◌≡◌ {A = ℕ × List ℕ} (m, []) (n, []) = cc in
+    ap (λ (x : ℕ × List ℕ). x.0) pairs

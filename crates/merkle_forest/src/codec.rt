@@ -4,6 +4,7 @@ pub mod cursor;
 pub mod error;
 pub mod fixed_bytes;
 pub mod list;
+pub mod max_size;
 pub mod numbers;
 pub mod option;
 pub mod traits;
@@ -13,5 +14,9 @@ pub use cursor::Cursor;
 pub use error::Error;
 pub use fixed_bytes::FixedBytes;
 pub use list::{RangeCfg, read_count};
+pub use max_size::MaxEncodeSize;
 pub use traits::{Decode, Encode, EncodeSize, Faithful, FixedSize, Read, Write};
 pub use varint::{UInt, number_size, read_number, write_number};
+
+#[cfg(test)]
+mod tests;

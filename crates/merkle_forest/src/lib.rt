@@ -10,8 +10,17 @@ pub mod hasher;
 pub mod mmr;
 pub mod root;
 pub mod trees;
+pub mod location;
+pub mod location_range;
+pub mod position;
 
 pub use bagging::Bagging;
 pub use digest::Digest;
 pub use family::{Family, MAX_LEAVES, MAX_NODES};
 pub use hasher::{ByteHash, HashFunction};
+pub use location::Location;
+pub use location_range::LocationRangeExt;
+pub use position::Position;
+
+#[cfg(test)]
+mod tests;

@@ -1,0 +1,93 @@
+use super::*;
+use std::test::Fail;
+
+#[test]
+fn varints(rt: HostRuntime) -> Result<(), Fail> {
+    let spelled: [(u64, &[u8]); 5] = [
+        (0, &[0]),
+        (127, &[0x7f]),
+        (128, &[0x80, 0x01]),
+        (300, &[0xac, 0x02]),
+        (u64::MAX, &[255, 255, 255, 255, 255, 255, 255, 255, 255, 1]),
+    ];
+    for (number, bytes) in spelled {
+        let number = UInt(number);
+        assert_eq!(rt; number.encode(rt.alloc())?.as_slice(), bytes);
+        assert_eq!(rt; number.encode_size(), bytes.len());
+        assert_eq!(rt; UInt::decode_cfg(rt.alloc(), bytes, &())?, number);
+    }
+    Ok(())
+}
+
+#[test]
+fn bad_varints(rt: HostRuntime) {
+    let faults: [(&[u8], Error); 8] = [
+        (&[], Error::EndOfBuffer),
+        (&[0x80], Error::EndOfBuffer),
+        (&[0xac, 0x82, 0x00], Error::InvalidVarint),
+        (&[0x80, 0x00], Error::InvalidVarint),
+        (&[0x7f, 0x00], Error::ExtraData),
+        (
+            &[255, 255, 255, 255, 255, 255, 255, 255, 255, 2],
+            Error::InvalidVarint,
+        ),
+        (
+            &[255, 255, 255, 255, 255, 255, 255, 255, 255, 0x81],
+            Error::InvalidVarint,
+        ),
+        (
+            &[255, 255, 255, 255, 255, 255, 255, 255, 255, 0],
+            Error::InvalidVarint,
+        ),
+    ];
+    for (bytes, fault) in faults {
+        assert_eq!(rt; UInt::decode_cfg(rt.alloc(), bytes, &()), Err(fault));
+    }
+}
+
+#[test]
+fn lists_of_digests(rt: HostRuntime) -> Result<(), Fail> {
+    let range = RangeCfg::new(1, 2);
+    let digests = [FixedBytes::new([1, 2]), FixedBytes::new([3, 4])].to_vec(rt.alloc())?;
+    let bytes: &[u8] = &[2, 1, 2, 3, 4];
+    assert_eq!(rt; digests.encode(rt.alloc())?.as_slice(), bytes);
+    assert_eq!(rt; digests.encode_size(), 5);
+    let read: Vec<FixedBytes<2>> = Vec::decode_cfg(rt.alloc(), bytes, &range)?;
+    assert_eq!(rt; read, digests);
+    Ok(())
+}
+
+#[test]
+fn bad_lists(rt: HostRuntime) {
+    let range = RangeCfg::new(1, 2);
+    let most = RangeCfg::new(0, usize::MAX);
+    let faults: [(&[u8], RangeCfg, Error); 5] = [
+        (&[3, 1], range, Error::InvalidLength),
+        (&[0], range, Error::InvalidLength),
+        (&[2, 1, 2, 3], range, Error::EndOfBuffer),
+        (&[1, 1, 2, 3], range, Error::ExtraData),
+        (
+            &[255, 255, 255, 255, 255, 255, 255, 255, 255, 1, 7, 7],
+            most,
+            Error::EndOfBuffer,
+        ),
+    ];
+    for (bytes, range, fault) in faults {
+        let read: Result<Vec<FixedBytes<2>>, Error> = Vec::decode_cfg(rt.alloc(), bytes, &range);
+        assert_eq!(rt; read, Err(fault));
+    }
+}
+
+#[test]
+fn bytes(rt: HostRuntime) -> Result<(), Fail> {
+    let range = RangeCfg::new(0, 2);
+    let text = [104, 105].to_vec(rt.alloc())?;
+    let bytes: &[u8] = &[2, 104, 105];
+    assert_eq!(rt; text.encode(rt.alloc())?.as_slice(), bytes);
+    assert_eq!(rt; text.encode_size(), 3);
+    let read: Vec<u8> = Vec::decode_cfg(rt.alloc(), bytes, &range)?;
+    assert_eq!(rt; read, text);
+    let long: Result<Vec<u8>, Error> = Vec::decode_cfg(rt.alloc(), &[3], &range);
+    assert_eq!(rt; long, Err(Error::InvalidLength));
+    Ok(())
+}
