@@ -1,0 +1,22 @@
+-- Bits in chunks. Bit i stands in byte i / 8 of its chunk, as bit i mod 8 from the least.
+use Rattle.std.specs.Prelude.{ℕ, zero, suc, ◌+◌, ◌*◌, ◌==◌, Bool, if◌then◌else◌, List, [], ◌∷◌, take, drop}
+use Rattle.std.specs.List.{list_all}
+
+-- the byte of up to eight bits, the least first
+abbrev pub byte_of : List Bool → ℕ
+byte_of [] = 0
+byte_of (bit ∷ bits) = (if bit then 1 else 0) + 2 * byte_of bits
+
+-- a chunk of so many bytes, from the first bits: zeros where there are no more bits
+unfoldable pub chunk_of : ℕ → List Bool → List ℕ
+chunk_of zero bits = []
+chunk_of (suc width) bits = byte_of (take 8 bits) ∷ chunk_of width (drop 8 bits)
+
+-- so many chunks of so many bytes each
+unfoldable pub chunks_of : ℕ → ℕ → List Bool → List (List ℕ)
+chunks_of width zero bits = []
+chunks_of width (suc count) bits = chunk_of width bits ∷ chunks_of width count (drop (8 * width) bits)
+
+-- whether no bit of the chunk is set
+abbrev pub is_zero : List ℕ → Bool
+is_zero chunk = list_all (λ byte. byte == 0) chunk

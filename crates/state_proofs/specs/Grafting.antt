@@ -1,0 +1,39 @@
+-- Chunks grafted onto the tree of the operations. `bits` is how many bits a chunk has, 2 to the grafting height.
+use Rattle.std.specs.Prelude.{ℕ, zero, suc, ◌+◌, ◌/◌, ◌%◌, ◌==◌, nat_le, nat_lt, if◌then◌else◌, List, [], ◌∷◌, ◌++◌, slice_index_or}
+use Rattle.merkle_forest.specs.Forest.{Tree, leaf, branch, height, leaf_count}
+use Rattle.merkle_forest.specs.Hashing.{Hash, leaf_string, node_string}
+use Rattle.merkle_forest.specs.Trees.{Placed, end_of}
+use Rattle.state_proofs.specs.Bits.{is_zero}
+
+-- a chunk and the digest of the subtree over its operations: a chunk without a set bit leaves the digest as it is
+abbrev pub grafted : Hash → List ℕ → List ℕ → List ℕ
+grafted hash chunk digest = if is_zero chunk then digest else hash (chunk ++ digest)
+
+-- the digest of a tree of the grafted tree: at the grafting height the chunk is joined in
+abbrev pub grafted_digest : Hash → ℕ → ℕ → List (List ℕ) → List (List ℕ) → ℕ → Tree → List ℕ
+grafted_digest hash grafting_height bits chunks elements start (leaf p) = hash (leaf_string p (slice_index_or elements start []))
+grafted_digest hash grafting_height bits chunks elements start (branch p left right) =
+    let own = hash (node_string p (grafted_digest hash grafting_height bits chunks elements start left)
+        (grafted_digest hash grafting_height bits chunks elements (start + leaf_count left) right)) in
+    if height (branch p left right) == grafting_height then grafted hash (slice_index_or chunks (start / bits) []) own else own
+
+-- how many nodes of that height a tree has
+abbrev pub nodes_at : ℕ → Tree → ℕ
+nodes_at level (leaf p) = if level == 0 then 1 else 0
+nodes_at level (branch p left right) = if height (branch p left right) == level then 1 else nodes_at level left + nodes_at level right
+
+-- how many chunks are graftable: each node of the grafting height is over one
+abbrev pub graftable_chunks : ℕ → List Tree → ℕ
+graftable_chunks grafting_height [] = 0
+graftable_chunks grafting_height (peak ∷ peaks) = nodes_at grafting_height peak + graftable_chunks grafting_height peaks
+
+-- the count, where a later count is none: the peaks so far end at a chunk's border or not
+abbrev pub counted : ℕ → ℕ → Placed → ℕ
+counted bits zero peak = if end_of peak % bits == 0 then 1 else 0
+counted bits (suc later) peak = suc (suc later)
+
+-- how many peaks come first whose leaves all stand before the floor and end at a chunk's border
+abbrev pub chunk_aligned_inactive_peaks : ℕ → ℕ → List Placed → ℕ
+chunk_aligned_inactive_peaks bits floor [] = 0
+chunk_aligned_inactive_peaks bits floor (peak ∷ peaks) =
+    if nat_le (end_of peak) floor then counted bits (chunk_aligned_inactive_peaks bits floor peaks) peak else 0

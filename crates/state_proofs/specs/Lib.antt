@@ -1,0 +1,4 @@
+pub mod Bits
+pub mod Grafting
+pub mod Canonical
+pub mod Honest

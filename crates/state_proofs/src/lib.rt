@@ -1,0 +1,4 @@
+//! Activity bits grafted onto the tree of operations, canonical roots and their proofs.
+#![tactic(auto)]
+
+pub mod bits;
