@@ -1,9 +1,11 @@
 -- Lists that were spelled are read again.
-use Rattle.std.proofs.Common.{◌≡◌, ℕ, ◌^◌, ◌<◌, ◌≤◌, ltb, false, List, [], ◌∷◌, ◌++◌, length, Ok, refl, append_assoc}
+use Rattle.std.proofs.Common.{◌≡◌, ℕ, ◌^◌, ◌<◌, ◌≤◌, ltb, false, List, [], ◌∷◌, ◌++◌, length, true, Result, Ok, Err, refl, append_assoc, inl, inr}
 use Rattle.std.specs.List.{flat_map, All}
-use Rattle.std.proofs.lemmas.Bool.{le-ltb}
+use Rattle.std.proofs.lemmas.Bool.{lt-ltb, le-ltb, cases_lt}
+use Rattle.merkle_forest.specs.declared.codec.error.Error.{Error}
+use Rattle.merkle_forest.specs.declared.codec.error.Error.TheVariants.{InvalidLength}
 use Rattle.std.proofs.lemmas.List.Elements.{All-head, All-tail}
-use Rattle.merkle_forest.specs.Codec.{Outcome}
+use Rattle.merkle_forest.specs.Codec.{◌>>=◌, Outcome}
 use Rattle.merkle_forest.specs.CodecLaws.{fixed_again}
 use Rattle.merkle_forest.specs.Varint.{varint}
 use Rattle.merkle_forest.specs.VarintLaws.{varint_again}
@@ -36,3 +38,35 @@ pub bytes_again : (least greatest : ℕ) (bytes rest : List ℕ) → length byte
     → after_bytes least greatest (bytes_spelling bytes ++ rest) ≡ Ok rest
 bytes_again least greatest bytes rest small low high =
     rw (append_assoc, count_again least greatest (length bytes) (bytes ++ rest) small low high) (fixed_again (length bytes) bytes rest refl)
+
+-- a count that is read is in its range
+pub count_within : (least greatest n : ℕ) (rest : List ℕ) (found : ℕ × List ℕ) → n < 2 ^ 64 → count_at least greatest (varint n ++ rest) ≡ Ok found → (least ≤ n) × (n ≤ greatest)
+count_within least greatest n rest found small read =
+    let below : least ≤ n = elim (cases_lt n least) [
+      | inl less ↦
+          let under : ltb n least ≡ true = lt-ltb n least less in
+          let refused : count_at least greatest (varint n ++ rest) ≡ Err InvalidLength = rw (varint_again n rest small, under) refl in
+          absurd (cc)
+      | inr fine ↦ fine
+    ] in
+    let above : n ≤ greatest = elim (cases_lt greatest n) [
+      | inl more ↦
+          let over : ltb greatest n ≡ true = lt-ltb greatest n more in
+          let fine : ltb n least ≡ false = le-ltb n least below in
+          let refused : count_at least greatest (varint n ++ rest) ≡ Err InvalidLength = rw (varint_again n rest small, fine, over) refl in
+          absurd (cc)
+      | inr fine ↦ fine
+    ] in
+    (below, above)
+
+-- where two steps found no fault, the first found none
+pub bind_ok : {A : Type 0} (first : Result A Error) (second : A → Outcome) (new : List ℕ) → (first >>= second) ≡ Ok new → (x : A) × (first ≡ Ok x)
+bind_ok (Ok x) second new both = (x, refl)
+bind_ok (Err e) second new both = absurd (cc)
+
+-- a list that is read has a count in its range
+pub list_within : (then : ℕ × List ℕ → Outcome) (least greatest n : ℕ) (rest new : List ℕ) → n < 2 ^ 64 → (count_at least greatest (varint n ++ rest) >>= then) ≡ Ok new
+    → (least ≤ n) × (n ≤ greatest)
+list_within then least greatest n rest new small read =
+    let found = bind_ok (count_at least greatest (varint n ++ rest)) then new read in
+    count_within least greatest n rest found.0 small found.1

@@ -1,9 +1,10 @@
 -- What a varint spells is read again, and what is read was spelled so.
-use Rattle.std.proofs.Common.{◌≡◌, ℕ, zero, suc, ◌+◌, ◌-◌, ◌*◌, ◌/◌, ◌%◌, ◌^◌, ◌<◌, ◌≤◌, max, add-one, ltb, eqb, true, false, List, [], ◌∷◌, ◌++◌, length, Ok, refl, sym, ◌∙◌, ap, arith, inl, inr, lit<}
+use Rattle.std.proofs.Common.{◌≡◌, ℕ, zero, suc, ◌+◌, ◌-◌, ◌*◌, ◌/◌, ◌%◌, ◌^◌, ◌<◌, ◌≤◌, max, add-one, ltb, eqb, true, false, List, [], ◌∷◌, ◌++◌, length, Ok, Err, refl, sym, ◌∙◌, ap, arith, inl, inr, lit<}
 use Rattle.std.proofs.lemmas.Bool.{lt-ltb, le-ltb, ne_eqb, cases_lt}
 use Rattle.std.proofs.lemmas.Nat.{pow-add, leading_top}
 use Rattle.std.proofs.Math.Nat.{pow-suc, pow-le-pow_right}
 use Rattle.std.specs.Int.{w64, leading_zeros}
+use Rattle.merkle_forest.specs.declared.codec.error.Error.TheVariants.{Invalid}
 use Rattle.merkle_forest.specs.Varint.{varint, varint_groups, groups_at, varint_at, after_varint, after_number}
 
 -- a number's groups are the same however many might follow
@@ -129,3 +130,14 @@ varint_same m n small_m small_n same =
     let both : varint_at (varint m ++ []) ≡ varint_at (varint n ++ []) = ap varint_at joined in
     let pairs : ◌≡◌ {A = ℕ × List ℕ} (m, []) (n, []) = cc in
     ap (λ (x : ℕ × List ℕ). x.0) pairs
+
+-- a number that is read is within its limit
+pub number_within : (limit n : ℕ) (rest new : List ℕ) → n < 2 ^ 64 → after_number limit (varint n ++ rest) ≡ Ok new → n ≤ limit
+number_within limit n rest new small read =
+    elim (cases_lt limit n) [
+      | inl past ↦
+          let over : ltb limit n ≡ true = lt-ltb limit n past in
+          let refused : after_number limit (varint n ++ rest) ≡ Err Invalid = rw (varint_again n rest small, over) refl in
+          cc
+      | inr fine ↦ fine
+    ]

@@ -1,6 +1,6 @@
 //! Lists: a count as a varint, and that many items.
 
-ghost use Rattle.std.specs.Prelude.{◌≡◌, ◌<◌, ◌≤◌, ◌^◌, ◌++◌, ℕ, Ok, IfOk, length};
+ghost use Rattle.std.specs.Prelude.{◌≡◌, ◌<◌, ◌≤◌, ◌^◌, ◌++◌, IfOk, length};
 ghost use Rattle.std.specs.List.{All};
 ghost use Rattle.merkle_forest.specs.Varint.{varint, Finds};
 ghost use Rattle.merkle_forest.specs.Lists.{list_spelling, bytes_spelling, AreItems, count_at, after_list, after_bytes};
@@ -37,6 +37,7 @@ impl RangeCfg {
 pub fn read_count(cursor: &mut Cursor<'_>, range: &RangeCfg) -> Result<usize, Error>
     ensures exact { Finds cursor.new (count_at range.now.least range.now.greatest cursor.old) result }
     ensures spelled { IfOk result (λ count. cursor.old ≡ varint count ++ cursor.new) }
+    ensures within { IfOk result (λ count. (range.now.least ≤ count) × (count ≤ range.now.greatest)) }
 {
     let count = read_number(cursor)? as usize;
     if count < range.least || count > range.greatest {

@@ -1,7 +1,7 @@
 //! The greatest lengths of spellings.
 
-ghost use Rattle.std.specs.Prelude.{◌≡◌, ◌≤◌, ℕ, length};
-ghost use Rattle.std.proofs.Common.{rules, arith};
+ghost use Rattle.std.specs.Prelude.{◌≤◌, ℕ, length};
+ghost use Rattle.std.proofs.Common.{arith};
 ghost use Rattle.merkle_forest.specs.VarintLaws.{varint_at_most};
 
 use super::fixed_bytes::FixedBytes;

@@ -1,10 +1,9 @@
 //! Numbers in base 128, each in its shortest spelling.
 
-ghost use Rattle.std.specs.Prelude.{◌≡◌, ◌<◌, ◌^◌, ◌++◌, ◌∷◌, [], ℕ, ⊤, Ok, IfOk, IfErr, OnOk, OnErr, length};
+ghost use Rattle.std.specs.Prelude.{◌≡◌, ◌<◌, ◌^◌, ◌++◌, ◌∷◌, [], ⊤, IfOk, IfErr, OnOk, OnErr, length};
 ghost use Rattle.merkle_forest.specs.Codec.{Extends};
 ghost use Rattle.merkle_forest.specs.Varint.{varint, varint_at, after_varint, Finds};
 ghost use Rattle.merkle_forest.specs.VarintLaws.{after_varint_again};
-ghost use Rattle.std.proofs.Common.{ap};
 
 use super::cursor::Cursor;
 use super::error::Error;
