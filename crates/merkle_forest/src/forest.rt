@@ -16,7 +16,7 @@ pub enum Tree {
 
 /// The tree's height: 0 for a leaf.
 pub fn height_of(tree: &Tree) -> u64
-    requires { height (shape tree.now) < 2 ^ 64 }
+    requires { leaf_count (shape tree.now) < 2 ^ 64 }
     ensures { result ≡ height (shape tree.now) }
 {
     match tree {

@@ -8,12 +8,23 @@ use std::alloc::{AllocError, Global};
 // The byte of up to eight bits, the least first.
 fn byte_from(bits: &[bool]) -> u8
     requires { length bits.now ≤ 8 }
-    ensures byte { result ≡ byte_of bits.now }
-    ensures small { length bits.now ≤ 7 → result < 128 }
+    ensures { result ≡ byte_of bits.now }
 {
     match bits {
         [] => 0,
         [bit, rest @ ..] => (if *bit { 1 } else { 0 }) + 2 * byte_from(rest),
+    }
+}
+
+// The first `count` bits, or all where there are fewer, and the bits behind them.
+fn split_front(bits: &[bool], count: usize) -> (&[bool], &[bool])
+    ensures front { result.0.now ≡ take count bits.now }
+    ensures back { result.1.now ≡ drop count bits.now }
+{
+    if bits.len() < count {
+        bits.split_at(bits.len())
+    } else {
+        bits.split_at(count)
     }
 }
 
@@ -24,9 +35,36 @@ pub fn chunk_from(alloc: Global, width: usize, bits: &[bool]) -> Result<Vec<u8>,
     let mut chunk = Vec::new(alloc);
     let mut rest = bits;
     for _ in 0..width {
-        let (byte, later) = rest.split_at(rest.len().min(8));
+        let (byte, later) = split_front(rest, 8);
         chunk.push(byte_from(byte))?;
         rest = later;
     }
     Ok(chunk)
+}
+
+/// The first `count` chunks of `width` bytes each. It fails for want of memory alone.
+pub fn chunks_from(
+    alloc: Global,
+    width: usize,
+    count: usize,
+    bits: &[bool],
+) -> Result<Vec<Vec<u8>>, AllocError>
+    requires { 8 * width < 2 ^ 64 }
+    ensures { IfOk result (λ chunks. map (λ chunk. chunk.items) chunks.items ≡ chunks_of width count bits.now) }
+{
+    let mut chunks = Vec::new(alloc);
+    let mut rest = bits;
+    for _ in 0..count {
+        chunks.push(chunk_from(alloc, width, rest)?)?;
+        let (_, later) = split_front(rest, 8 * width);
+        rest = later;
+    }
+    Ok(chunks)
+}
+
+/// Whether no bit of the chunk is set.
+pub fn is_zero_chunk(chunk: &[u8]) -> bool
+    ensures { result ≡ is_zero chunk.now }
+{
+    chunk.iter().all(|byte| *byte == 0)
 }
