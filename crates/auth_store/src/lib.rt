@@ -1,0 +1,7 @@
+//! An authenticated store: the history of a state and the log that stands for it.
+#![tactic(auto)]
+
+pub mod batch;
+pub mod history;
+
+pub use batch::{Batch, Word};
