@@ -1,7 +1,13 @@
 //! Batches of changes to a state.
 
+ghost use Rattle.std.specs.Prelude.{◌≡◌, [], ◌∷◌, ◌++◌, OnOk, OnErr};
+ghost use Rattle.auth_store.specs.Batch.{meanings, meaning_of, put, delete, after_word, map_after};
+ghost use Rattle.auth_store.specs.Map.{state_of};
+
+use crate::state;
 use state_ops::{FixedValue, Key};
 use std::alloc::{AllocError, Global};
+use std::collections::BTreeMap;
 
 /// What a batch says of one key.
 #[derive(Debug, Drop)]
@@ -20,9 +26,6 @@ pub struct Batch<K, V> {
 }
 
 impl<K: Key, V: FixedValue> Batch<K, V> {
-    ghost use Rattle.std.specs.Prelude.{◌≡◌, [], ◌∷◌, ◌++◌, OnOk, OnErr};
-    ghost use Rattle.auth_store.specs.Batch.{meanings, put, delete};
-
     /// A batch that says nothing.
     pub fn new(alloc: Global) -> Batch<K, V>
         ensures { result.words.items ≡ [] }
@@ -47,4 +50,36 @@ impl<K: Key, V: FixedValue> Batch<K, V> {
     {
         Ok(self.words.push(Word::Delete(key))?)
     }
+}
+
+/// Applies one word to the state. It fails for want of memory alone, and the state then stays as it was.
+fn apply_word<K: Key, V: FixedValue>(
+    state: &mut BTreeMap<K, V>,
+    word: &Word<K, V>,
+) -> Result<(), AllocError>
+    ensures ok { OnOk result (state_of K.spelling V.spelling state.new.entries ≡ after_word (meaning_of K.spelling V.spelling word.now) (state_of K.spelling V.spelling state.old.entries)) }
+    ensures err { OnErr result (state.new.entries ≡ state.old.entries) }
+{
+    match word {
+        Word::Put(key, value) => state::put(state, key, value),
+        Word::Delete(key) => {
+            state::remove(state, key);
+            Ok(())
+        }
+    }
+}
+
+/// Applies the batch's words to the state, in the order in which they were said. It fails for want of memory alone, and some words may then have been applied.
+pub fn apply_batch<K: Key, V: FixedValue>(
+    state: &mut BTreeMap<K, V>,
+    batch: &Batch<K, V>,
+) -> Result<(), AllocError>
+    ensures { OnOk result (state_of K.spelling V.spelling state.new.entries ≡ map_after (meanings K.spelling V.spelling batch.now.words.items) (state_of K.spelling V.spelling state.old.entries)) }
+{
+    let mut rest = batch.words.as_slice();
+    while let [word, later @ ..] = rest {
+        apply_word(state, word)?;
+        rest = later;
+    }
+    Ok(())
 }

@@ -1,1 +1,9 @@
-//! Histories.
+//! Histories of a state, and the logs that stand for them.
+
+pub mod activity;
+pub mod changes;
+pub mod replay;
+
+pub use activity::{activity_bits, inactivity_floor};
+
+pub use replay::latest_map_of;

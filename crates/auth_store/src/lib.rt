@@ -3,5 +3,6 @@
 
 pub mod batch;
 pub mod history;
+pub mod state;
 
 pub use batch::{Batch, Word};
