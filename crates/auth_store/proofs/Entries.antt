@@ -7,6 +7,8 @@ use Rattle.std.specs.Ordering.{match_ordering, is_lt, is_eq}
 use Rattle.std.specs.BTreeMap.{insert_entry, is_at}
 use Rattle.std.specs.BTreeMap.Range.{range_contains}
 use Rattle.std.specs.declared.ops.Bound.TheVariants.{Excluded, Unbounded}
+use Rattle.std.specs.Str.{bytes_eq}
+use Rattle.std.proofs.lemmas.Map.Text.{is_eq-slice_cmp}
 use Rattle.std.specs.Map.{lookup, remove_entry}
 use Rattle.auth_store.specs.Map.{state_of, with_entry, without_key, value_at, above, first_key, next_key, key_order}
 
@@ -77,3 +79,9 @@ next_key-least {K = K} {V = V} key value cmp ordered es found k first is none st
 pub option_map-copied : {V : Type 0} (value : V → List ℕ) (found : Option (Bor V)) (there : Option V) → option_copied found ≡ there → option_map (λ v. value v.now) found ≡ option_map value there
 option_map-copied value None there is = ap (option_map value) is
 option_map-copied value (Some v) there is = ap (option_map value) is
+
+-- keys compare as their spellings do
+pub bytes_eq-cmp : {K : Type 0} (key : K → List ℕ) (cmp : K → K → Ordering) → ((a b : K) → cmp a b ≡ key_order (key a) (key b))
+    → (k l : K) (left right : List ℕ) (order : Ordering) (same : Bool) → key k ≡ left → key l ≡ right → order ≡ cmp k l → same ≡ is_eq order → same ≡ bytes_eq left right
+bytes_eq-cmp key cmp ordered k l left right order same is_left is_right compares tells =
+    tells ∙ (ap is_eq (compares ∙ ordered k l) ∙ (is_eq-slice_cmp (key k) (key l) ∙ (ap (λ x. bytes_eq x (key l)) is_left ∙ ap (bytes_eq left) is_right)))

@@ -30,17 +30,25 @@ abbrev pub is_value : Option (List ℕ) → List ℕ → Bool
 is_value None value = false
 is_value (Some other) value = bytes_eq other value
 
--- a delete for each of these keys that the new state lacks
+-- a delete of a key that the new state lacks
+abbrev pub delete_of : Map → List ℕ → List Operation
+delete_of new key = if is_some (value_at new key) then [] else (delete key ∷ [])
+
+-- a delete for each of these entries whose key the new state lacks
 abbrev pub deletes : Map → Map → List Operation
-deletes entries new = flat_map (λ e. if is_some (value_at new e.0) then [] else (delete e.0 ∷ [])) entries
+deletes entries new = flat_map (λ e. delete_of new e.0) entries
 
 -- whether the old state has the key with the same value and the same next key
 abbrev pub is_kept : Map → Map → List ℕ → List ℕ → Bool
 is_kept old new key value = is_value (value_at old key) value && bytes_eq (next_key old key) (next_key new key)
 
--- an update for each of these entries of the new state that is not kept
+-- an update of a key that isn't kept
+abbrev pub update_of : Map → Map → List ℕ → List ℕ → List Operation
+update_of old new key value = if is_kept old new key value then [] else (update key value (next_key new key) ∷ [])
+
+-- an update for each of these entries of the new state that isn't kept
 abbrev pub updates : Map → Map → Map → List Operation
-updates entries old new = flat_map (λ e. if is_kept old new e.0 e.1 then [] else (update e.0 e.1 (next_key new e.0) ∷ [])) entries
+updates entries old new = flat_map (λ e. update_of old new e.0 e.1) entries
 
 -- the operations that lead from the old state to the new one, without the commit
 abbrev pub batch_operations : Map → Map → List Operation
