@@ -1,5 +1,5 @@
 -- How the entries of a map of the code are seen as a state.
-use Rattle.std.proofs.Common.{◌≡◌, ℕ, Bor, Bool, true, false, cond, List, [], ◌∷◌, ◌++◌, Option, None, Some, option_map, map, refl, ap, sym, ◌∙◌, arith, rules}
+use Rattle.std.proofs.Common.{◌≡◌, ℕ, Bor, Bool, true, false, cond, List, [], ◌∷◌, ◌++◌, Option, None, Some, option_map, refl, ap, sym, ◌∙◌}
 use Rattle.std.specs.Prelude.{filter, slice_get, unwrap_or, option_copied, ◌&&◌}
 use Rattle.std.specs.declared.cmp.Ordering.{Ordering}
 use Rattle.std.specs.declared.cmp.Ordering.TheVariants.{Less, Equal, Greater}
@@ -17,7 +17,7 @@ pub state_of-insert_entry : {K V : Type 0} (key : K → List ℕ) (value : V →
 state_of-insert_entry key value cmp ordered [] k v = refl
 state_of-insert_entry key value cmp ordered (e ∷ es) k v =
     rw (← ordered k e.0) (elim (cmp k e.0) as (λ r. state_of key value (match_ordering r ((k, v) ∷ e ∷ es) ((e.0, v) ∷ es) (e ∷ insert_entry cmp es k v)) ≡ match_ordering r ((key k, value v) ∷ (key e.0, value e.1) ∷ state_of key value es) ((key e.0, value v) ∷ state_of key value es) ((key e.0, value e.1) ∷ with_entry (state_of key value es) (key k) (value v))) [
-        Less ↦ refl
+      | Less ↦ refl
       | Equal ↦ refl
       | Greater ↦ ap (λ s. (key e.0, value e.1) ∷ s) (state_of-insert_entry key value cmp ordered es k v)
     ])
@@ -33,7 +33,7 @@ pub state_of-remove_entry : {K V : Type 0} (key : K → List ℕ) (value : V →
 state_of-remove_entry key value cmp ordered [] k = refl
 state_of-remove_entry key value cmp ordered (e ∷ es) k =
     rw (← ordered k e.0) (elim (is_eq (cmp k e.0)) as (λ b. state_of key value (cond b es (e ∷ remove_entry (is_at (cmp k)) es)) ≡ cond b (state_of key value es) ((key e.0, value e.1) ∷ without_key (state_of key value es) (key k))) [
-        true ↦ refl
+      | true ↦ refl
       | false ↦ ap (λ s. (key e.0, value e.1) ∷ s) (state_of-remove_entry key value cmp ordered es k)
     ])
 
@@ -42,7 +42,7 @@ pub value_at-state_of : {K V : Type 0} (key : K → List ℕ) (value : V → Lis
 value_at-state_of key value cmp ordered [] k = refl
 value_at-state_of key value cmp ordered (e ∷ es) k =
     rw (← ordered k e.0) (elim (is_eq (cmp k e.0)) as (λ b. option_map value (cond b (Some e.1) (lookup (is_at (cmp k)) es)) ≡ cond b (Some (value e.1)) (value_at (state_of key value es) (key k))) [
-        true ↦ refl
+      | true ↦ refl
       | false ↦ value_at-state_of key value cmp ordered es k
     ])
 
@@ -51,7 +51,7 @@ pub state_of-above : {K V : Type 0} (key : K → List ℕ) (value : V → List �
 state_of-above key value cmp ordered [] k = refl
 state_of-above key value cmp ordered (e ∷ es) k =
     rw (← ordered k e.0) (elim (is_lt (cmp k e.0)) as (λ b. state_of key value (cond (b && true) (e ∷ filter (λ x. range_contains cmp (Excluded k) Unbounded x.0) es) (filter (λ x. range_contains cmp (Excluded k) Unbounded x.0) es)) ≡ cond b ((key e.0, value e.1) ∷ above (state_of key value es) (key k)) (above (state_of key value es) (key k))) [
-        true ↦ ap (λ s. (key e.0, value e.1) ∷ s) (state_of-above key value cmp ordered es k)
+      | true ↦ ap (λ s. (key e.0, value e.1) ∷ s) (state_of-above key value cmp ordered es k)
       | false ↦ state_of-above key value cmp ordered es k
     ])
 

@@ -7,3 +7,6 @@ pub mod replay;
 pub use activity::{activity_bits, inactivity_floor};
 pub use changes::batch_operations;
 pub use replay::latest_map_of;
+
+#[cfg(test)]
+mod tests;

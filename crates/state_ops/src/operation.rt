@@ -10,7 +10,7 @@ pub const UPDATE_CONTEXT: u8 = 0xD2;
 pub const COMMIT_CONTEXT: u8 = 0xD3;
 
 /// What an update says: the key has this value, and the next key of the state follows it, or the first where none does.
-#[derive(Debug, Drop)]
+#[derive(Debug, PartialEq, Eq, Drop)]
 pub struct Ordered<K, V> {
     /// The key.
     pub key: K,
@@ -21,7 +21,7 @@ pub struct Ordered<K, V> {
 }
 
 /// One entry of a log.
-#[derive(Debug, Drop)]
+#[derive(Debug, PartialEq, Eq, Drop)]
 pub enum Operation<K, V> {
     /// The key is no longer in the state.
     Delete(K),

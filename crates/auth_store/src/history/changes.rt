@@ -29,11 +29,7 @@ fn next_of<'a, K: Key, V: FixedValue>(state: &'a BTreeMap<K, V>, key: &K) -> &'a
 }
 
 /// Whether the key has the same next key in both states.
-fn is_same_next<K: Key, V: FixedValue>(
-    old: &BTreeMap<K, V>,
-    new: &BTreeMap<K, V>,
-    key: &K,
-) -> bool
+fn is_same_next<K: Key, V: FixedValue>(old: &BTreeMap<K, V>, new: &BTreeMap<K, V>, key: &K) -> bool
     requires in_old { 0 < length old.now.entries }
     requires in_new { 0 < length new.now.entries }
     ensures { result ≡ bytes_eq (next_key (state_of K.spelling V.spelling old.now.entries) (K.spelling key.now)) (next_key (state_of K.spelling V.spelling new.now.entries) (K.spelling key.now)) }

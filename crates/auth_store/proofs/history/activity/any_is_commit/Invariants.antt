@@ -1,4 +1,4 @@
-use Rattle.std.proofs.Common.{◌≡◌, ◌++◌, ◌+◌, ◌≤◌, length, []}
+use Rattle.std.proofs.Common.{◌≡◌, length}
 use Rattle.auth_store.specs.History as spec
 use Rattle.std.specs.List.{list_any}
 use Rattle.auth_store.proofs.history.activity.any_is_commit.Given as goal

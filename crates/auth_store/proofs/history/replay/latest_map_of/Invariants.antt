@@ -1,4 +1,4 @@
-use Rattle.std.proofs.Common.{◌≡◌, ◌++◌, ◌+◌, ◌≤◌, length, []}
+use Rattle.std.proofs.Common.{◌≡◌, length, []}
 use Rattle.auth_store.specs.History as spec
 use Rattle.auth_store.specs.Map.{state_of}
 use Rattle.auth_store.proofs.history.replay.latest_map_of.Given as goal
