@@ -4,9 +4,12 @@ ghost use Rattle.std.specs.Prelude.{◌≡◌, ℕ, ◌++◌, replicate, OnOk, O
 ghost use Rattle.merkle_forest.specs.Codec.{Extends};
 ghost use Rattle.state_ops.specs.Operation as spec;
 
+pub mod reading;
+
 use crate::key::{FixedValue, Key};
 use crate::operation::{COMMIT_CONTEXT, DELETE_CONTEXT, Operation, UPDATE_CONTEXT};
 use merkle_forest::codec::{FixedSize, Write};
+pub use reading::read_operation;
 use std::alloc::{AllocError, Global};
 
 /// The size in bytes of every operation with keys `K` and values `V`. It is wide enough for keys and values of any size.
@@ -98,7 +101,7 @@ pub fn encode<K: Key, V: FixedValue>(
 mod tests {
     use super::*;
     use crate::operation::Ordered;
-    use merkle_forest::codec::FixedBytes;
+    use merkle_forest::codec::{Cursor, Error, FixedBytes};
     use std::test::Fail;
 
     type Change = Operation<FixedBytes<8>, u64>;
@@ -139,5 +142,73 @@ mod tests {
             b"\xd1\0\0\0\0\0\0\0\x61\0\0\0\0\0\0\0\0\0\0\0\0\0\0\0\0".as_slice()
         );
         Ok(())
+    }
+
+    fn read(alloc: Global, bytes: &[u8]) -> Result<Change, Error> {
+        read_operation(alloc, &mut Cursor::new(bytes))
+    }
+
+    #[test]
+    fn reads_what_is_spelled(rt: HostRuntime) -> Result<(), Fail> {
+        let alloc = rt.alloc();
+        let noted: Change = Operation::CommitFloor(Some(258), 1);
+        let mut bytes = encode(alloc, &noted)?;
+        bytes.push(7)?;
+        let mut cursor = Cursor::new(&bytes);
+        let again: Change = read_operation(alloc, &mut cursor)?;
+        assert_eq!(rt; again, noted);
+        assert_eq!(rt; cursor.remaining(), 1);
+        Ok(())
+    }
+
+    #[test]
+    fn refuses_the_first_fault(rt: HostRuntime) {
+        let alloc = rt.alloc();
+        assert_eq!(rt;
+            read(alloc, b"\xd4\0\0\0\0\0\0\0\0\0\0\0\0\0\0\0\0\0\0\0\0\0\0\0"),
+            Err(Error::EndOfBuffer)
+        );
+        assert_eq!(rt;
+            read(
+                alloc,
+                b"\xd4\0\0\0\0\0\0\0\0\0\0\0\0\0\0\0\0\0\0\0\0\0\0\0\0"
+            ),
+            Err(Error::InvalidEnum(0xd4))
+        );
+        assert_eq!(rt;
+            read(
+                alloc,
+                b"\xd3\x02\0\0\0\0\0\0\0\x01\0\0\0\0\0\0\0\x01\0\0\0\0\0\0\0"
+            ),
+            Err(Error::InvalidBool)
+        );
+        assert_eq!(rt;
+            read(
+                alloc,
+                b"\xd3\0\0\0\0\0\0\0\0\x01\0\0\0\0\0\0\0\x01\0\0\0\0\0\0\0"
+            ),
+            Err(Error::Invalid)
+        );
+        assert_eq!(rt;
+            read(
+                alloc,
+                b"\xd3\0\0\0\0\0\0\0\0\0\x40\0\0\0\0\0\0\x01\0\0\0\0\0\0\0"
+            ),
+            Err(Error::Invalid)
+        );
+        assert_eq!(rt;
+            read(
+                alloc,
+                b"\xd3\0\0\0\0\0\0\0\0\0\x40\0\0\0\0\0\0\0\0\0\0\0\0\0\0"
+            ),
+            Ok(Operation::CommitFloor(None, 1 << 62))
+        );
+        assert_eq!(rt;
+            read(
+                alloc,
+                b"\xd1\0\0\0\0\0\0\0\x61\0\0\0\0\0\0\0\0\0\0\0\0\0\0\0\x01"
+            ),
+            Err(Error::Invalid)
+        );
     }
 }
