@@ -1,6 +1,7 @@
 -- Histories, the logs that stand for them, and which operations of a log are active.
-use Rattle.std.specs.Prelude.{ℕ, ◌+◌, Bool, true, false, not, ◌&&◌, if◌then◌else◌, List, [], ◌∷◌, ◌++◌, map, Option, None, Some, is_some}
+use Rattle.std.specs.Prelude.{ℕ, ◌+◌, Bool, true, false, T, not, ◌&&◌, if◌then◌else◌, List, [], ◌∷◌, ◌++◌, map, Option, None, Some, is_some}
 use Rattle.std.specs.Str.{bytes_eq}
+use Rattle.std.specs.FinMap.{is_sorted}
 use Rattle.std.specs.Ordering.{is_eq}
 use Rattle.std.specs.List.{flat_map, list_any}
 use Rattle.state_ops.specs.Operation.{Operation, delete, update, commit_floor, meaning_of}
@@ -117,3 +118,12 @@ history_from state history (commit_floor metadata floor ∷ operations) = histor
 abbrev pub history_of : List Operation → History
 history_of [] = []
 history_of (operation ∷ operations) = history_from [] [] operations
+
+-- the keys ascend strictly
+abbrev pub IsState : Map → Type 0
+IsState state = T (is_sorted key_order state)
+
+-- each commit has a state
+abbrev pub AreStates : History → Type 0
+AreStates [] = Unit {0}
+AreStates (commit ∷ history) = IsState commit.map × AreStates history

@@ -2,6 +2,7 @@
 
 pub mod activity;
 pub mod changes;
+pub mod laws;
 pub mod replay;
 
 pub use activity::{activity_bits, inactivity_floor};
