@@ -1,9 +1,9 @@
 -- The grammar of the fixed spelling: which bytes follow an operation, or the first fault from the left. `key` and `value` are the grammars of keys and of values.
-use Rattle.std.specs.Prelude.{ℕ, zero, suc, ◌^◌, nat_lt, ◌==◌, if◌then◌else◌, List, [], ◌∷◌, length, take, drop, Ok, Err}
+use Rattle.std.specs.Prelude.{◌≡◌, ◌≤◌, ◌++◌, IfSome, ℕ, zero, suc, ◌^◌, nat_lt, ◌==◌, if◌then◌else◌, List, [], ◌∷◌, length, take, drop, Ok, Err}
 use Rattle.std.specs.Int.{w64, from_be_bytes}
 use Rattle.merkle_forest.specs.Codec.{Outcome, ◌>>=◌}
 use Rattle.merkle_forest.specs.declared.codec.error.Error.TheVariants.{EndOfBuffer, InvalidBool, InvalidEnum, Invalid}
-use Rattle.state_ops.specs.Operation.{fixed_size}
+use Rattle.state_ops.specs.Operation.{Operation, delete, update, commit_floor, fixed_size}
 
 -- zeros alone, up to the end
 abbrev pub after_zeros : List ℕ → Outcome
@@ -52,3 +52,13 @@ abbrev pub after_operation : (List ℕ → Outcome) → (List ℕ → Outcome) �
 after_operation key value key_size value_size bytes =
     if nat_lt (length bytes) (fixed_size key_size value_size) then Err EndOfBuffer
     else (after_padded key value value_size (take (fixed_size key_size value_size) bytes) >>= λ _. Ok (drop (fixed_size key_size value_size) bytes))
+
+-- bytes of the size that the grammar reads, whatever follows
+abbrev pub IsField : (List ℕ → Outcome) → ℕ → List ℕ → Type 0
+IsField grammar size bytes = (length bytes ≡ size) × ((rest : List ℕ) → grammar (bytes ++ rest) ≡ Ok rest)
+
+-- what has a fixed spelling: fields of their sizes, and a floor that is at most the greatest number of operations
+abbrev pub HasSpelling : (List ℕ → Outcome) → (List ℕ → Outcome) → ℕ → ℕ → Operation → Type 0
+HasSpelling key value key_size value_size (delete k) = IsField key key_size k
+HasSpelling key value key_size value_size (update k v next) = IsField key key_size k × IsField value value_size v × IsField key key_size next
+HasSpelling key value key_size value_size (commit_floor metadata floor) = IfSome metadata (IsField value value_size) × (floor ≤ 2 ^ 62)

@@ -4,6 +4,7 @@ ghost use Rattle.std.specs.Prelude.{◌≡◌, ℕ, ◌++◌, replicate, OnOk, O
 ghost use Rattle.merkle_forest.specs.Codec.{Extends};
 ghost use Rattle.state_ops.specs.Operation as spec;
 
+pub mod laws;
 pub mod reading;
 
 use crate::key::{FixedValue, Key};
