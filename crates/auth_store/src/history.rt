@@ -1,0 +1,13 @@
+//! Histories of a state, and the logs that stand for them.
+
+pub mod activity;
+pub mod changes;
+pub mod laws;
+pub mod replay;
+
+pub use activity::{activity_bits, inactivity_floor};
+pub use changes::batch_operations;
+pub use replay::latest_map_of;
+
+#[cfg(test)]
+mod tests;

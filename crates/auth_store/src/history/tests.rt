@@ -1,0 +1,140 @@
+use super::*;
+use crate::batch::{Batch, apply_batch};
+use merkle_forest::codec::FixedBytes;
+use state_ops::{Operation, Ordered};
+use std::alloc::{AllocError, Global};
+use std::test::Fail;
+
+type Key = FixedBytes<8>;
+
+type Change = Operation<Key, u64>;
+
+fn key(last: u8) -> Key {
+    FixedBytes::new([0, 0, 0, 0, 0, 0, 0, last])
+}
+
+fn update(last: u8, value: u64, next: u8) -> Change {
+    Operation::Update(Ordered {
+        key: key(last),
+        value,
+        next_key: key(next),
+    })
+}
+
+fn delete(last: u8) -> Change {
+    Operation::Delete(key(last))
+}
+
+fn commit(floor: u64) -> Change {
+    Operation::CommitFloor(None, floor)
+}
+
+/// Appends the batch with its commit.
+fn append(alloc: Global, log: &mut Vec<Change>, batch: &Batch<Key, u64>) -> Result<(), AllocError> {
+    let old = latest_map_of(alloc, log)?;
+    let mut new = latest_map_of(alloc, log)?;
+    apply_batch(&mut new, batch)?;
+    for operation in batch_operations(alloc, &old, &new)? {
+        log.push(operation)?;
+    }
+    let floor = inactivity_floor(log);
+    Ok(log.push(commit(floor))?)
+}
+
+fn first_log(alloc: Global) -> Result<Vec<Change>, AllocError> {
+    let mut log = Vec::new(alloc);
+    log.push(commit(0))?;
+    Ok(log)
+}
+
+fn put(alloc: Global, log: &mut Vec<Change>, last: u8, value: u64) -> Result<(), AllocError> {
+    let mut batch = Batch::new(alloc);
+    batch.put(key(last), value)?;
+    append(alloc, log, &batch)
+}
+
+fn take(alloc: Global, log: &mut Vec<Change>, last: u8) -> Result<(), AllocError> {
+    let mut batch = Batch::new(alloc);
+    batch.delete(key(last))?;
+    append(alloc, log, &batch)
+}
+
+#[test]
+fn appends_and_marks(rt: HostRuntime) -> Result<(), Fail> {
+    let alloc = rt.alloc();
+    let mut log = first_log(alloc)?;
+    put(alloc, &mut log, b'a', 1)?;
+    assert_eq!(rt;
+        log.as_slice(),
+        [commit(0), update(b'a', 1, b'a'), commit(1)].as_slice()
+    );
+    assert_eq!(rt;
+        activity_bits(alloc, &log)?.as_slice(),
+        [false, true, true].as_slice()
+    );
+    put(alloc, &mut log, b'c', 3)?;
+    assert_eq!(rt; log.len(), 6);
+    assert_eq!(rt;
+        &log[3..],
+        [update(b'a', 1, b'c'), update(b'c', 3, b'a'), commit(3)].as_slice()
+    );
+    assert_eq!(rt;
+        activity_bits(alloc, &log)?.as_slice(),
+        [false, false, false, true, true, true].as_slice()
+    );
+    take(alloc, &mut log, b'a')?;
+    assert_eq!(rt; log.len(), 9);
+    assert_eq!(rt;
+        &log[6..],
+        [delete(b'a'), update(b'c', 3, b'c'), commit(7)].as_slice()
+    );
+    take(alloc, &mut log, b'c')?;
+    assert_eq!(rt; log.len(), 11);
+    assert_eq!(rt; &log[9..], [delete(b'c'), commit(10)].as_slice());
+    let bits = activity_bits(alloc, &log)?;
+    assert_eq!(rt;
+        bits.as_slice(),
+        [
+            false, false, false, false, false, false, false, false, false, false, true
+        ]
+        .as_slice()
+    );
+    Ok(())
+}
+
+#[test]
+fn says_only_what_changes(rt: HostRuntime) -> Result<(), Fail> {
+    let alloc = rt.alloc();
+    let mut log = first_log(alloc)?;
+    put(alloc, &mut log, b'a', 1)?;
+    put(alloc, &mut log, b'c', 3)?;
+    take(alloc, &mut log, b'a')?;
+    put(alloc, &mut log, b'c', 3)?;
+    assert_eq!(rt; log.len(), 10);
+    assert_eq!(rt; &log[9..], [commit(7)].as_slice());
+    let bits = activity_bits(alloc, &log)?;
+    assert_eq!(rt;
+        bits.as_slice(),
+        [
+            false, false, false, false, false, false, false, true, false, true
+        ]
+        .as_slice()
+    );
+    Ok(())
+}
+
+#[test]
+fn last_word_wins(rt: HostRuntime) -> Result<(), Fail> {
+    let alloc = rt.alloc();
+    let mut log = first_log(alloc)?;
+    let mut batch = Batch::new(alloc);
+    batch.put(key(b'a'), 1)?;
+    batch.delete(key(b'a'))?;
+    append(alloc, &mut log, &batch)?;
+    assert_eq!(rt; log.as_slice(), [commit(0), commit(1)].as_slice());
+    assert_eq!(rt;
+        activity_bits(alloc, &log)?.as_slice(),
+        [false, true].as_slice()
+    );
+    Ok(())
+}

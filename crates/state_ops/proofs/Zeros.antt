@@ -1,0 +1,85 @@
+-- Zeros, and the frame of an operation.
+use Rattle.std.proofs.Common.{◌≡◌, ℕ, zero, suc, ◌-◌, ltb, false, cond, List, [], ◌∷◌, ◌++◌, length, take, drop, replicate, Result, Ok, Err, refl, sym, ◌∙◌, ap, subst, append-nil, arith}
+use Rattle.std.specs.Prelude.{MatchResult}
+use Rattle.std.proofs.lemmas.Bool.{le-ltb}
+use Rattle.std.proofs.lemmas.List.{take_at, drop_at, length-append}
+use Rattle.merkle_forest.specs.declared.codec.error.Error.{Error}
+use Rattle.merkle_forest.specs.declared.codec.error.Error.TheVariants.{EndOfBuffer, ExtraData, InvalidVarint, InvalidBool, InvalidEnum, InvalidLength, Invalid, Memory}
+use Rattle.merkle_forest.specs.Codec.{Outcome, Reads, Refuses, ◌>>=◌}
+use Rattle.state_ops.specs.Operation.{padded}
+use Rattle.state_ops.specs.Reading.{after_zeros, after_absent}
+
+-- what is found to be zeros is zeros
+pub zeros_are : (bytes rest : List ℕ) → after_zeros bytes ≡ Ok rest → (bytes ≡ replicate (length bytes) 0) × (rest ≡ [])
+zeros_are [] rest is = (refl, cc)
+zeros_are (zero ∷ bytes) rest is = (ap (λ s. 0 ∷ s) (zeros_are bytes rest is).0, (zeros_are bytes rest is).1)
+zeros_are (suc b ∷ bytes) rest is = absurd (cc)
+
+-- the fault that the grammar names is the one that is answered
+pub refuses_fault : (e : Error) (expected : Outcome) → expected ≡ Err e → Refuses e expected
+refuses_fault EndOfBuffer expected is = is
+refuses_fault ExtraData expected is = is
+refuses_fault InvalidVarint expected is = is
+refuses_fault InvalidBool expected is = is
+refuses_fault (InvalidEnum tag) expected is = is
+refuses_fault InvalidLength expected is = is
+refuses_fault Invalid expected is = is
+refuses_fault Memory expected is = tt
+
+-- a fault is refused wherever an outcome with the same faults is expected
+pub refuses_bind : (e : Error) (expected : Outcome) (f : List ℕ → Outcome) → Refuses e expected → Refuses e (expected >>= f)
+refuses_bind EndOfBuffer expected f is = ap (λ x. x >>= f) is
+refuses_bind ExtraData expected f is = ap (λ x. x >>= f) is
+refuses_bind InvalidVarint expected f is = ap (λ x. x >>= f) is
+refuses_bind InvalidBool expected f is = ap (λ x. x >>= f) is
+refuses_bind (InvalidEnum tag) expected f is = ap (λ x. x >>= f) is
+refuses_bind InvalidLength expected f is = ap (λ x. x >>= f) is
+refuses_bind Invalid expected f is = ap (λ x. x >>= f) is
+refuses_bind Memory expected f is = tt
+
+-- a frame of a known size is taken from the front
+pub framed : (size : ℕ) (fault : Outcome) (f : List ℕ → Outcome) (old bytes new : List ℕ) → old ≡ bytes ++ new → length bytes ≡ size
+    → cond (ltb (length old) size) fault (f (take size old) >>= λ _. Ok (drop size old)) ≡ (f bytes >>= λ _. Ok new)
+framed size fault f old bytes new is sized =
+    let long : ltb (length old) size ≡ false = le-ltb _ _ (omega (arith, ap length is, length-append bytes new)) in
+    let front : take size old ≡ bytes = ap (take size) is ∙ take_at bytes new size sized in
+    let back : drop size old ≡ new = ap (drop size) is ∙ drop_at bytes new size sized in
+    rw (long, front, back) refl
+
+-- a frame whose reader reads all of it
+pub framed_reads : {T : Type 0} (spelling : T → List ℕ) (size : ℕ) (f : List ℕ → Outcome) (old bytes new : List ℕ) (result : Result T Error) → old ≡ bytes ++ new → length bytes ≡ size
+    → Reads spelling bytes [] (f bytes) result → Reads spelling old new (cond (ltb (length old) size) (Err EndOfBuffer) (f (take size old) >>= λ _. Ok (drop size old))) result
+framed_reads spelling size f old bytes new (Ok value) is sized read = (
+  framed size (Err EndOfBuffer) f old bytes new is sized ∙ ap (λ x. x >>= λ _. Ok new) read.0,
+  is ∙ ap (λ s. s ++ new) (read.1 ∙ append-nil (spelling value)),
+)
+framed_reads spelling size f old bytes new (Err e) is sized read =
+    subst (Refuses e) (sym (framed size (Err EndOfBuffer) f old bytes new is sized)) (refuses_bind e (f bytes) (λ _. Ok new) read)
+
+-- zeros in the place of a value
+pub absent_reads : (size : ℕ) (old bytes new : List ℕ) (result : Result (Unit {0}) Error) → old ≡ bytes ++ new → length bytes ≡ size
+    → MatchResult result (λ _. after_zeros bytes ≡ Ok []) (λ e. after_zeros bytes ≡ Err e) → Reads (λ _. replicate size 0) old new (after_absent size old) result
+absent_reads size old bytes new (Ok u) is sized found =
+    framed_reads (λ (_ : Unit {0}). replicate size 0) size after_zeros old bytes new (Ok u) is sized (found, (zeros_are bytes [] found).0 ∙ (ap (λ n. replicate n 0) sized ∙ sym (append-nil (replicate size 0))))
+absent_reads size old bytes new (Err e) is sized found =
+    framed_reads (λ (_ : Unit {0}). replicate size 0) size after_zeros old bytes new (Err e) is sized (refuses_fault e (after_zeros bytes) found)
+
+-- zeros up to the size are the padding
+pub padded_is : (size : ℕ) (bytes front rest : List ℕ) → length bytes ≡ size → bytes ≡ front ++ rest → after_zeros rest ≡ Ok [] → bytes ≡ padded size front ++ []
+padded_is size bytes front rest sized is found =
+    let count : length rest ≡ size - length front = omega (arith, ap length is, length-append front rest) in
+    is ∙ (ap (λ s. front ++ s) ((zeros_are rest [] found).0 ∙ ap (λ n. replicate n 0) count) ∙ sym (append-nil (padded size front)))
+
+-- what is as long as the whole is the whole
+pub all_taken : (whole front rest : List ℕ) → whole ≡ front ++ rest → length front ≡ length whole → front ≡ whole
+all_taken whole front [] is sized = sym (is ∙ append-nil front)
+all_taken whole front (b ∷ rest) is sized = absurd (omega (arith, ap length is, length-append front (b ∷ rest)))
+
+-- an operation without its padding, and zeros behind it
+pub padded_reads : (f : List ℕ → Outcome) (size : ℕ) (bytes start front rest padding new : List ℕ) → start ≡ bytes → f start ≡ Ok rest → start ≡ front ++ rest
+    → rest ≡ padding ++ new → length padding ≡ length rest → after_zeros padding ≡ Ok [] → length bytes ≡ size
+    → ((f bytes >>= after_zeros) ≡ Ok []) × (bytes ≡ padded size front ++ [])
+padded_reads f size bytes start front rest padding new at_start reads is taken whole found sized =
+    let same : padding ≡ rest = all_taken rest padding new taken whole in
+    let zeros : after_zeros rest ≡ Ok [] = ap after_zeros (sym same) ∙ found in
+    (ap (λ x. x >>= after_zeros) (ap f (sym at_start) ∙ reads) ∙ zeros, padded_is size bytes front rest sized (sym at_start ∙ is) zeros)

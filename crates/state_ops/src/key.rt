@@ -1,0 +1,23 @@
+//! What may be a key or a value of a state.
+
+ghost use Rattle.std.specs.Prelude.{◌≡◌, ℕ, refl};
+ghost use Rattle.std.specs.Cmp.Lexicographic.{slice_cmp};
+ghost use Rattle.std.specs.Ordering.{nat_cmp};
+
+use merkle_forest::codec::{Faithful, FixedBytes, FixedSize, Read};
+
+/// A key: its spelling has a fixed size, and its order is the byte order of its spelling.
+pub trait Key: Read<Cfg = ()> + FixedSize + Faithful + Ord {
+    ghost ordered: { (k l : Self) → Self.cmp k l ≡ slice_cmp nat_cmp (Self.spelling k) (Self.spelling l) };
+}
+
+/// A value whose spelling has a fixed size.
+pub trait FixedValue: Read<Cfg = ()> + FixedSize + Faithful {}
+
+impl<const M: usize> Key for FixedBytes<M> {
+    ghost ordered = { λ _ _. refl };
+}
+
+impl<const M: usize> FixedValue for FixedBytes<M> {}
+
+impl FixedValue for u64 {}
