@@ -1,0 +1,4 @@
+//! The authenticated store.
+#![tactic(auto)]
+
+pub mod script;
