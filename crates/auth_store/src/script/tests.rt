@@ -1,5 +1,6 @@
 //! Examples of keys, numbers, lines and readers.
 
+use super::report::{report_bad_line, report_check, report_commit, report_error, report_new, report_none, report_open, report_present, report_proof, report_root, report_value};
 use super::{InputError, Line, parse_key, parse_line, parse_number, read_script};
 use merkle_forest::codec::FixedBytes;
 use std::io;
@@ -122,4 +123,24 @@ fn reads_scripts(rt: HostRuntime) -> Result<(), Fail> {
 fn refuses_long_scripts(rt: HostRuntime) {
     let mut longer = io::repeat(b'x').take(0x100_0001);
     assert_eq!(rt; read_script(rt.alloc(), &mut longer).err(), Some(InputError::Read));
+}
+
+#[test]
+fn reports(rt: HostRuntime) -> Result<(), Fail> {
+    let mut out = Vec::new(rt.alloc());
+    report_new(&mut out)?;
+    report_open(&mut out, 0)?;
+    report_commit(&mut out, u64::MAX)?;
+    report_value(&mut out, 7)?;
+    report_none(&mut out)?;
+    report_root(rt.alloc(), &mut out, &[0x00, 0x1f, 0xa0])?;
+    report_present(&mut out, 10)?;
+    report_proof(rt.alloc(), &mut out, &[0xff])?;
+    report_check(&mut out, true)?;
+    report_check(&mut out, false)?;
+    report_error(&mut out, "S3")?;
+    report_bad_line(&mut out, 12)?;
+    let lines = b"new\nopen 0\ncommit 18446744073709551615\nvalue 7\nnone\nroot 001fa0\npresent 10\nproof ff\nyes\nno\nerror S3\nbad line 12\n";
+    assert_eq!(rt; out.as_slice(), lines.as_slice());
+    Ok(())
 }
