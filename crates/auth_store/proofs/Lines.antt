@@ -1,8 +1,6 @@
 -- Keys, numbers and words of a line.
-use Rattle.std.proofs.Common.{◌≡◌, ◌≢◌, ℕ, ◌<◌, ◌^◌, ltb, Bool, true, false, cond, ◌&&◌, List, [], ◌∷◌, ◌++◌, length, drop, codes, Option, None, Some, MatchOption, Result, Ok, Err, Bor, refl, sym, ◌∙◌, ap, arith}
-use Rattle.std.specs.Bool.{Decides}
+use Rattle.std.proofs.Common.{◌≡◌, ◌≢◌, ℕ, ◌^◌, ltb, Bool, true, false, cond, ◌&&◌, List, [], ◌∷◌, ◌++◌, length, Option, None, Some, MatchOption, Result, Ok, Err, Bor, refl, ◌∙◌, ap, arith}
 use Rattle.std.specs.Char.{is_ascii_digit}
-use Rattle.std.specs.List.{list_all}
 use Rattle.std.proofs.lemmas.Bool.Decides.{Decides-eqb}
 use Rattle.std.proofs.lemmas.List.Sums.{AllPass-from_list_all, list_all-from_AllPass}
 use Rattle.std.proofs.Math.Dec.{eqb}
@@ -30,7 +28,7 @@ number_passes text h =
     let small : ltb (decimal_value text) (2 ^ 64) ≡ true = grind arith in
     rw (some, list_all-from_AllPass is_ascii_digit text h.1, small) refl
 
-passes_number : (text : List ℕ) → is_number text ≡ true → IsNumber text
+pub passes_number : (text : List ℕ) → is_number text ≡ true → IsNumber text
 passes_number text h =
     let parts = all_three _ _ _ h in
     (ltb-true _ _ parts.0, AllPass-from_list_all is_ascii_digit text parts.1, ltb-true _ _ parts.2)

@@ -1,3 +1,4 @@
 pub mod Script
 pub mod Line
 pub mod Report
+pub mod Spelling

@@ -1,7 +1,9 @@
 //! The lines of a script.
 
-ghost use Rattle.std.specs.Prelude.{◌≡◌, MatchOption};
+ghost use Rattle.std.specs.Prelude.{◌≡◌, MatchOption, IfSome};
 ghost use Rattle.auth_store.specs.Line.{line_of, line_with_words, key_and_number, behind};
+ghost use Rattle.auth_store.specs.Spelling.{Spells};
+ghost use Rattle.auth_store.specs.declared.script.line.Line.{Line};
 
 use super::key::parse_key;
 use super::number::parse_number;
@@ -34,7 +36,16 @@ pub enum Line {
 
 /// The line that these bytes spell, without the newline. A bad line: `None`.
 pub fn parse_line(line: &[u8]) -> Option<Line>
-    ensures { result ≡ line_of line.now }
+    ensures exact { result ≡ line_of line.now }
+    ensures spelled { IfSome result (λ asked. Spells asked line.now) }
+    ensures only { (asked : Line) → Spells asked line.now → result ≡ Some asked }
+{
+    parse_word(line).or_else(|| parse_words(line))
+}
+
+/// An empty line or a line of one word. Another line: `None`.
+fn parse_word(line: &[u8]) -> Option<Line>
+    ensures { MatchOption result (line_of line.now ≡ line_with_words line.now) (λ asked. line_of line.now ≡ Some asked) }
 {
     match line {
         b"" => Some(Line::Empty),
@@ -42,7 +53,7 @@ pub fn parse_line(line: &[u8]) -> Option<Line>
         b"commit" => Some(Line::Commit { metadata: None }),
         b"root" => Some(Line::Root),
         b"proof" => Some(Line::Proof),
-        _ => parse_words(line),
+        _ => None,
     }
 }
 
@@ -59,7 +70,9 @@ fn parse_words(line: &[u8]) -> Option<Line>
         Some(Line::Put { key, value })
     } else if let Some(metadata) = strip_words(line, b"commit ") {
         let metadata = parse_number(metadata)?;
-        Some(Line::Commit { metadata: Some(metadata) })
+        Some(Line::Commit {
+            metadata: Some(metadata),
+        })
     } else if let Some(key) = strip_words(line, b"get ") {
         let key = parse_key(key)?;
         Some(Line::Get { key })

@@ -72,7 +72,11 @@ pub fn report_proof<W: Write>(alloc: Global, out: &mut W, proof: &[u8]) -> io::R
 pub fn report_check<W: Write>(out: &mut W, holds: bool) -> io::Result<()>
     ensures { OnOk result (Appends (W.contents out.old) (W.contents out.new) (reported (if holds then codes "yes" else codes "no"))) }
 {
-    if holds { out.write_all(b"yes\n") } else { out.write_all(b"no\n") }
+    if holds {
+        out.write_all(b"yes\n")
+    } else {
+        out.write_all(b"no\n")
+    }
 }
 
 /// Prints `error CODE`, with a refusal's short name, such as `S3`.
