@@ -14,7 +14,7 @@ use merkle_forest::codec::FixedBytes;
 pub enum Line {
     /// An empty line, which is skipped.
     Empty,
-    /// `new mmr SEED`: a store over an MMR whose values come from this seed.
+    /// `new mmr SEED`: a new store over an MMR, with this seed.
     New { seed: u64 },
     /// `open`: opens the store again.
     Open,

@@ -17,14 +17,14 @@ pub fn report_new<W: Write>(out: &mut W) -> io::Result<()>
     out.write_all(b"new\n")
 }
 
-/// Prints `open N`, with the count of operations.
+/// Prints `open N`.
 pub fn report_open<W: Write>(out: &mut W, count: u64) -> io::Result<()>
     ensures { OnOk result (Appends (W.contents out.old) (W.contents out.new) (reported (codes "open " ++ decimal count))) }
 {
     writeln!(out, "open {count}")
 }
 
-/// Prints `commit N`, with the count of operations.
+/// Prints `commit N`.
 pub fn report_commit<W: Write>(out: &mut W, count: u64) -> io::Result<()>
     ensures { OnOk result (Appends (W.contents out.old) (W.contents out.new) (reported (codes "commit " ++ decimal count))) }
 {
