@@ -1,3 +1,6 @@
 pub mod Entries
 pub mod Lookups
 pub mod Logs
+pub mod Numbers
+pub mod Lines
+pub mod Spellings

@@ -1,8 +1,9 @@
-//! An authenticated store: the history of a state and the log that stands for it.
+//! An authenticated store: the history of a state, the log that stands for it, its client and its script.
 #![tactic(auto)]
 
 pub mod batch;
 pub mod history;
+pub mod script;
 pub mod state;
 
 pub use batch::{Batch, Word};
