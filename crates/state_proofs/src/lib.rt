@@ -2,3 +2,4 @@
 #![tactic(auto)]
 
 pub mod bits;
+pub mod grafting;

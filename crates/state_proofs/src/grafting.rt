@@ -1,0 +1,138 @@
+//! Chunks grafted onto the tree of the operations.
+
+ghost use Rattle.std.specs.Prelude.{◌≡◌, ◌<◌, ◌≤◌, ◌+◌, ◌*◌, ◌/◌, ◌^◌, ◌++◌, [], ◌∷◌, ℕ, List, map, length, IfOk, OnOk, slice_index_or};
+ghost use Rattle.std.specs.List.{AllByRecursion};
+ghost use Rattle.merkle_forest.specs.Forest.{leaf_count, leaves};
+ghost use Rattle.merkle_forest.specs.Shape.{shape};
+ghost use Rattle.merkle_forest.specs.Trees.{end_of};
+ghost use Rattle.merkle_forest.specs.TreesCode.{shapes};
+ghost use Rattle.state_proofs.specs.Grafting.{grafted, grafted_digest, nodes_at, graftable_chunks, chunk_aligned_inactive_peaks};
+
+use crate::bits::is_zero_chunk;
+use merkle_forest::Digest;
+use merkle_forest::forest::{Tree, height_of, leaf_count_of};
+use merkle_forest::hasher::{HashFunction, hash_leaf, hash_node};
+use merkle_forest::trees::TreeDigests;
+use std::marker::PhantomData;
+
+// The digest of a subtree of the grafting height with its chunk: a chunk without a set bit leaves it as it is.
+fn graft<H: HashFunction>(chunk: &[u8], digest: &H::Digest) -> H::Digest
+    ensures { H.Digest.spelling result ≡ grafted H.hash_of chunk.now (H.Digest.spelling digest.now) }
+{
+    if is_zero_chunk(chunk) {
+        return *digest;
+    }
+    H::hash(&[chunk, digest.as_bytes()])
+}
+
+/// The digests of the grafted tree: at the grafting height a chunk is joined in.
+#[derive(Drop)]
+pub struct Grafted<'a, H> {
+    /// The encoded operations.
+    pub elements: &'a [Vec<u8>],
+    /// The chunks of activity bits.
+    pub chunks: &'a [Vec<u8>],
+    /// The height of a tree over as many operations as a chunk has bits.
+    pub grafting_height: u64,
+    /// How many bits a chunk has.
+    pub bits: usize,
+    /// The hash function.
+    pub function: PhantomData<H>,
+    ghost some_bits: { 0 < bits },
+}
+
+// The chunk that stands over the leaf, or no byte where there is none.
+fn chunk_over<'a>(chunks: &'a [Vec<u8>], bits: usize, start: usize) -> &'a [u8]
+    requires { 0 < bits }
+    ensures { result.now ≡ slice_index_or (map (λ chunk. chunk.items) chunks.now) (start / bits) [] }
+{
+    match chunks.get(start / bits) {
+        Some(chunk) => chunk,
+        None => &[],
+    }
+}
+
+// The digest of a tree of the grafted tree.
+fn digest_of<H: HashFunction>(grafted: &Grafted<'_, H>, start: usize, tree: &Tree) -> H::Digest
+    requires { start + leaf_count (shape tree.now) ≤ length grafted.now.elements.now }
+    ensures { H.Digest.spelling result ≡ grafted_digest H.hash_of grafted.now.grafting_height grafted.now.bits
+        (map (λ chunk. chunk.items) grafted.now.chunks.now) (map (λ e. e.items) grafted.now.elements.now) start (shape tree.now) }
+{
+    match tree {
+        Tree::Leaf(position) => hash_leaf::<H>(*position, &grafted.elements[start]),
+        Tree::Branch(position, left, right) => {
+            let left_digest = digest_of(grafted, start, left);
+            let right_digest = digest_of(grafted, start + leaf_count_of(left), right);
+            let own = hash_node::<H>(*position, &left_digest, &right_digest);
+            if height_of(tree) == grafted.grafting_height {
+                graft::<H>(chunk_over(grafted.chunks, grafted.bits, start), &own)
+            } else {
+                own
+            }
+        }
+    }
+}
+
+impl<H: HashFunction> TreeDigests<H::Digest> for Grafted<'_, H> {
+    ghost digest_at = { λ g. grafted_digest H.hash_of g.grafting_height g.bits (map (λ chunk. chunk.items) g.chunks.now) (map (λ e. e.items) g.elements.now) };
+
+    ghost element_count = { λ g. length g.elements.now };
+
+    fn digest(&self, start: usize, tree: &Tree) -> H::Digest {
+        digest_of(self, start, tree)
+    }
+}
+
+// How many nodes of that height the tree has.
+fn nodes_of_height(level: u64, tree: &Tree) -> usize
+    requires { leaf_count (shape tree.now) < 2 ^ 64 }
+    ensures count { result ≡ nodes_at level (shape tree.now) }
+    ensures few { result ≤ leaf_count (shape tree.now) }
+{
+    match tree {
+        Tree::Leaf(_) => if level == 0 { 1 } else { 0 },
+        Tree::Branch(_, left, right) => {
+            if height_of(tree) == level {
+                1
+            } else {
+                nodes_of_height(level, left) + nodes_of_height(level, right)
+            }
+        }
+    }
+}
+
+/// How many chunks are graftable: each node of the grafting height is over one.
+pub fn graftable_count(grafting_height: u64, peaks: &[Tree]) -> usize
+    requires { leaves (map shape peaks.now) < 2 ^ 64 }
+    ensures count { result ≡ graftable_chunks grafting_height (map shape peaks.now) }
+    ensures few { result ≤ leaves (map shape peaks.now) }
+{
+    match peaks {
+        [] => 0,
+        [peak, rest @ ..] => {
+            nodes_of_height(grafting_height, peak) + graftable_count(grafting_height, rest)
+        }
+    }
+}
+
+/// How many of these peaks come first whose leaves all stand before the floor and end at a chunk's border.
+pub fn aligned_count_of(bits: usize, floor: u64, peaks: &[(usize, &Tree)]) -> usize
+    requires some { 0 < bits }
+    requires small { AllByRecursion (λ peak. end_of peak < 2 ^ 64) (shapes peaks.now) }
+    ensures count { result ≡ chunk_aligned_inactive_peaks bits floor (shapes peaks.now) }
+    ensures within { result ≤ length peaks.now }
+{
+    match peaks {
+        [] => 0,
+        [(start, tree), rest @ ..] => {
+            let end = *start + leaf_count_of(tree);
+            if end as u64 > floor {
+                return 0;
+            }
+            match aligned_count_of(bits, floor, rest) {
+                0 => if end % bits == 0 { 1 } else { 0 },
+                later => later + 1,
+            }
+        }
+    }
+}
