@@ -1,6 +1,6 @@
 -- The digests of a range proof, in their order. `digest` gives the digest of a tree whose first leaf stands at a location.
-use Rattle.std.specs.Prelude.{ℕ, ◌+◌, ◌≤◌, ◌||◌, ◌&&◌, not, Bool, nat_le, if◌then◌else◌, List, [], ◌∷◌, ◌++◌, map, take, drop, filter}
-use Rattle.std.specs.List.{flat_map, AllByRecursion}
+use Rattle.std.specs.Prelude.{ℕ, ◌+◌, ◌||◌, ◌&&◌, not, Bool, nat_le, if◌then◌else◌, List, [], ◌∷◌, ◌++◌, map, take, drop, filter}
+use Rattle.std.specs.List.{flat_map}
 use Rattle.merkle_forest.specs.declared.bagging.Bagging.{Bagging}
 use Rattle.merkle_forest.specs.declared.bagging.Bagging.TheVariants.{ForwardFold, BackwardFold}
 use Rattle.merkle_forest.specs.Forest.{Tree, leaf, branch, leaf_count}
@@ -60,7 +60,3 @@ abbrev pub range_digests : Hash → Digests → Bagging → ℕ → ℕ → List
 range_digests hash digest bagging start stop inactive active =
     before_digests hash digest bagging start inactive active ++ after_digests hash digest bagging stop inactive active
     ++ inner_digests digest start stop inactive ++ inner_digests digest start stop active
-
--- every one of these peaks ends within so many elements
-abbrev pub Within : ℕ → List Placed → Type 0
-Within count peaks = AllByRecursion (λ peak. end_of peak ≤ count) peaks

@@ -4,9 +4,9 @@ ghost use Rattle.std.specs.Prelude.{◌≡◌, ◌<◌, ◌≤◌, ◌+◌, ◌^
 ghost use Rattle.std.specs.List.{AllByRecursion};
 ghost use Rattle.merkle_forest.specs.Forest.{Tree, leaf_count};
 ghost use Rattle.merkle_forest.specs.Shape.{shape};
-ghost use Rattle.merkle_forest.specs.Trees.{end_of};
+ghost use Rattle.merkle_forest.specs.Trees.{Within};
 ghost use Rattle.merkle_forest.specs.TreesCode.{shapes};
-ghost use Rattle.merkle_core.specs.Ranges.{siblings, is_before, is_after, meets, singly, inner_digests, as_one, before_digests, after_digests, range_digests, Within};
+ghost use Rattle.merkle_core.specs.Ranges.{siblings, is_before, is_after, meets, singly, inner_digests, as_one, before_digests, after_digests, range_digests};
 ghost use Rattle.merkle_core.specs.RangesCode.{stands};
 ghost use Rattle.merkle_forest.specs.Hashing.{folded_forward, folded_backward};
 

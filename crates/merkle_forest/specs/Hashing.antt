@@ -58,9 +58,9 @@ abbrev pub inactive_count : ℕ → List ℕ
 inactive_count inactive = if inactive == 0 then [] else number inactive
 
 -- a tree's root: leaf count, bagging, count of inactive peaks, and the bagged digest if there is a peak
-abbrev pub root_string : Bagging → ℕ → ℕ → List ℕ → List ℕ
+unfoldable pub root_string : Bagging → ℕ → ℕ → List ℕ → List ℕ
 root_string bagging leaves inactive digest = number leaves ++ (domain_of bagging ∷ (inactive_count inactive ++ digest))
 
 -- the root of a tree with these peaks, from left to right
-abbrev pub root_of : Hash → Bagging → ℕ → ℕ → List (List ℕ) → List ℕ
+unfoldable pub root_of : Hash → Bagging → ℕ → ℕ → List (List ℕ) → List ℕ
 root_of hash bagging leaves inactive peaks = hash (root_string bagging leaves inactive (bagged hash bagging (items hash inactive peaks)))

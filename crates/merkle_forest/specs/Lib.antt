@@ -10,3 +10,4 @@ pub mod Trees
 pub mod TreesCode
 pub mod Varint
 pub mod VarintLaws
+pub mod TreesLaws

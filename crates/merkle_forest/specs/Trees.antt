@@ -1,5 +1,6 @@
 -- Digests of trees, by recursion over the forest.
-use Rattle.std.specs.Prelude.{ℕ, ◌+◌, List, [], ◌∷◌, ◌++◌, length, map, slice_index_or, nat_le, if◌then◌else◌, suc}
+use Rattle.std.specs.Prelude.{ℕ, ◌+◌, ◌≤◌, List, [], ◌∷◌, ◌++◌, length, map, slice_index_or, nat_le, if◌then◌else◌, suc}
+use Rattle.std.specs.List.{AllByRecursion}
 use Rattle.merkle_forest.specs.declared.bagging.Bagging.{Bagging}
 use Rattle.merkle_forest.specs.Forest.{Tree, leaf, branch, leaf_count, leaves, Rule, forest_of}
 use Rattle.merkle_forest.specs.Hashing.{Hash, leaf_string, node_string, root_of}
@@ -17,6 +18,10 @@ abbrev pub placed : List Tree → List Placed
 placed [] = []
 placed (peak ∷ peaks) = placed peaks ++ (leaves peaks, peak) ∷ []
 
+-- every one of these peaks ends within so many leaves
+abbrev pub Within : ℕ → List Placed → Type 0
+Within count peaks = AllByRecursion (λ peak. end_of peak ≤ count) peaks
+
 -- the digest of a tree over the elements from `start` on: of each leaf's and each branch's string
 abbrev pub plain_digest : Hash → List (List ℕ) → ℕ → Tree → List ℕ
 plain_digest hash elements start (leaf p) = hash (leaf_string p (slice_index_or elements start []))
@@ -33,6 +38,6 @@ inactive_peaks floor [] = 0
 inactive_peaks floor (peak ∷ peaks) = if nat_le (end_of peak) floor then suc (inactive_peaks floor peaks) else 0
 
 -- the root of the tree over these elements
-abbrev pub tree_root : Hash → Bagging → Rule → List (List ℕ) → ℕ → List ℕ
+unfoldable pub tree_root : Hash → Bagging → Rule → List (List ℕ) → ℕ → List ℕ
 tree_root hash bagging rule elements inactive =
     root_of hash bagging (length elements) inactive (peak_digests (plain_digest hash elements) (forest_of rule (length elements)))

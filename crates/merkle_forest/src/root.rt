@@ -48,6 +48,7 @@ fn bag<F: Family, H: Hasher<F>>(hasher: &H, first: &H::Digest, digests: &[H::Dig
 }
 
 // The digest of a root's string.
+#[tactic(auto, unfolding(crate::specs::Hashing::root_string))]
 fn seal<F: Family, H: Hasher<F>>(hasher: &H, leaves: u64, inactive: u64, peaks: &[u8]) -> H::Digest
     ensures { H.Digest.spelling result ≡ H.hash_of (root_string (H.bagging_of hasher.now) leaves inactive peaks.now) }
 {
@@ -80,6 +81,28 @@ pub fn root_with_folded_peaks<F: Family, H: Hasher<F>>(
     }
 }
 
+/// The root over the peaks, of which the first `inactive` are inactive.
+#[tactic(auto, unfolding(crate::specs::Hashing::root_of))]
+pub fn root_of_peaks<F: Family, H: Hasher<F>>(
+    hasher: &H,
+    leaves: u64,
+    inactive: usize,
+    peaks: &[H::Digest],
+) -> H::Digest
+    requires { inactive ≤ length peaks.now }
+    ensures { H.Digest.spelling result ≡ root_of H.hash_of (H.bagging_of hasher.now) leaves inactive (map H.Digest.spelling peaks.now) }
+{
+    let (front, rest) = peaks.split_at(inactive);
+    match front {
+        [] => root_with_folded_peaks(hasher, leaves, 0, rest),
+        [first, others @ ..] => {
+            let folded = fold_onto(hasher, *first, others);
+            let bagged = bag(hasher, &folded, rest);
+            seal(hasher, leaves, inactive as u64, bagged.as_bytes())
+        }
+    }
+}
+
 /// The root over the peaks, of which the first `inactive` are inactive. None: there are fewer peaks.
 pub fn root<F: Family, H: Hasher<F>>(
     hasher: &H,
@@ -94,13 +117,5 @@ pub fn root<F: Family, H: Hasher<F>>(
     if peaks.len() < inactive {
         return None;
     }
-    let (front, rest) = peaks.split_at(inactive);
-    match front {
-        [] => Some(root_with_folded_peaks(hasher, leaves, 0, rest)),
-        [first, others @ ..] => {
-            let folded = fold_onto(hasher, *first, others);
-            let bagged = bag(hasher, &folded, rest);
-            Some(seal(hasher, leaves, inactive as u64, bagged.as_bytes()))
-        }
-    }
+    Some(root_of_peaks(hasher, leaves, inactive, peaks))
 }

@@ -1,10 +1,9 @@
 //! Digests of trees by recursion over the forest: the plain programs of the definitions (own).
 
 ghost use Rattle.std.specs.Prelude.{◌≡◌, ◌<◌, ◌≤◌, ◌+◌, ◌^◌, ◌++◌, ◌∷◌, [], ℕ, List, map, length, IfOk, OnOk};
-ghost use Rattle.std.specs.List.{AllByRecursion};
 ghost use Rattle.merkle_forest.specs.Forest.{Tree, leaf_count, leaves, forest_of};
 ghost use Rattle.merkle_forest.specs.Shape.{shape};
-ghost use Rattle.merkle_forest.specs.Trees.{placed, plain_digest, peak_digests, inactive_peaks, tree_root, end_of};
+ghost use Rattle.merkle_forest.specs.Trees.{placed, plain_digest, peak_digests, inactive_peaks, tree_root, Within};
 ghost use Rattle.merkle_forest.specs.TreesCode.{shapes};
 
 use crate::digest::Digest;
@@ -83,6 +82,7 @@ fn append_digests<D: Digest, T: TreeDigests<D>>(
     requires within { leaves (map shape peaks.now) ≤ T.element_count digests.now }
     ensures digests { OnOk result (map D.spelling found.new.items ≡ map D.spelling found.old.items ++ peak_digests (T.digest_at digests.now) (map shape peaks.now)) }
     ensures counted { IfOk result (λ count. count ≡ leaves (map shape peaks.now)) }
+    ensures longer { OnOk result (length found.new.items ≡ length found.old.items + length peaks.now) }
 {
     match peaks {
         [] => Ok(0),
@@ -102,7 +102,8 @@ pub fn digests_of_peaks<D: Digest, T: TreeDigests<D>>(
 ) -> Result<Vec<D>, AllocError>
     requires small { leaves (map shape peaks.now) < 2 ^ 64 }
     requires within { leaves (map shape peaks.now) ≤ T.element_count digests.now }
-    ensures { IfOk result (λ found. map D.spelling found.items ≡ peak_digests (T.digest_at digests.now) (map shape peaks.now)) }
+    ensures digests { IfOk result (λ found. map D.spelling found.items ≡ peak_digests (T.digest_at digests.now) (map shape peaks.now)) }
+    ensures counted { IfOk result (λ found. length found.items ≡ length peaks.now) }
 {
     let mut found = Vec::new(alloc);
     append_digests(&mut found, digests, peaks)?;
@@ -111,7 +112,7 @@ pub fn digests_of_peaks<D: Digest, T: TreeDigests<D>>(
 
 /// How many of these peaks come first whose leaves all stand before the floor.
 pub fn inactive_count_of(floor: u64, peaks: &[(usize, &Tree)]) -> usize
-    requires { AllByRecursion (λ peak. end_of peak < 2 ^ 64) (shapes peaks.now) }
+    requires { Within usize.MAX (shapes peaks.now) }
     ensures count { result ≡ inactive_peaks floor (shapes peaks.now) }
     ensures within { result ≤ length peaks.now }
 {
@@ -135,6 +136,7 @@ fn append_placed<'a>(
     requires { leaves (map shape peaks.now) < 2 ^ 64 }
     ensures placed { OnOk result (shapes found.new.items ≡ shapes found.old.items ++ placed (map shape peaks.now)) }
     ensures counted { IfOk result (λ count. count ≡ leaves (map shape peaks.now)) }
+    ensures longer { OnOk result (length found.new.items ≡ length found.old.items + length peaks.now) }
 {
     match peaks {
         [] => Ok(0),
@@ -149,7 +151,9 @@ fn append_placed<'a>(
 /// The peaks from left to right, each with the location of its first leaf. It fails for want of memory alone.
 pub fn place<'a>(alloc: Global, peaks: &'a [Tree]) -> Result<Vec<(usize, &'a Tree)>, AllocError>
     requires { leaves (map shape peaks.now) < 2 ^ 64 }
-    ensures { IfOk result (λ found. shapes found.items ≡ placed (map shape peaks.now)) }
+    ensures placed { IfOk result (λ found. shapes found.items ≡ placed (map shape peaks.now)) }
+    ensures within { IfOk result (λ found. Within (leaves (map shape peaks.now)) (shapes found.items)) }
+    ensures counted { IfOk result (λ found. length found.items ≡ length peaks.now) }
 {
     let mut found = Vec::new(alloc);
     append_placed(&mut found, peaks)?;

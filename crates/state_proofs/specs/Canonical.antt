@@ -31,7 +31,7 @@ abbrev pub next_bit : Setting → State → ℕ
 next_bit setting state = length state.operations % chunk_bits setting
 
 -- all chunks, the partial one too
-abbrev pub chunks : Setting → State → List (List ℕ)
+unfoldable pub chunks : Setting → State → List (List ℕ)
 chunks setting state = chunks_of setting.width (full_chunks setting state + (if next_bit setting state == 0 then 0 else 1)) state.bits
 
 abbrev pub chunk : Setting → State → ℕ → List ℕ
@@ -44,31 +44,31 @@ abbrev pub peaks : Setting → State → List Placed
 peaks setting state = placed (forest setting state)
 
 -- the digests of the grafted tree
-abbrev pub grafted_digests : Setting → State → ℕ → Tree → List ℕ
+unfoldable pub grafted_digests : Setting → State → ℕ → Tree → List ℕ
 grafted_digests setting state = grafted_digest setting.hash setting.grafting_height (chunk_bits setting) (chunks setting state) state.operations
 
 -- the root of the operations' tree
-abbrev pub operations_root : Setting → State → List ℕ
+unfoldable pub operations_root : Setting → State → List ℕ
 operations_root setting state =
     tree_root setting.hash BackwardFold setting.rule state.operations (inactive_peaks state.floor (peaks setting state))
 
 -- the inactive peaks of the grafted tree
-abbrev pub grafted_inactive : Setting → State → ℕ
+unfoldable pub grafted_inactive : Setting → State → ℕ
 grafted_inactive setting state = chunk_aligned_inactive_peaks (chunk_bits setting) state.floor (peaks setting state)
 
 -- the root of the grafted tree
-abbrev pub grafted_root : Setting → State → List ℕ
+unfoldable pub grafted_root : Setting → State → List ℕ
 grafted_root setting state =
     root_of setting.hash BackwardFold (length state.operations) (grafted_inactive setting state) (peak_digests (grafted_digests setting state) (forest setting state))
 
 -- the digest of the full chunk that isn't graftable yet, if there is one
-abbrev pub pending_digest : Setting → State → Option (List ℕ)
+unfoldable pub pending_digest : Setting → State → Option (List ℕ)
 pending_digest setting state =
     let graftable = graftable_chunks setting.grafting_height (forest setting state) in
     if nat_lt graftable (full_chunks setting state) then Some (setting.hash (chunk setting state graftable)) else None
 
 -- the digest of the partial chunk, if there is one
-abbrev pub partial_digest : Setting → State → Option (List ℕ)
+unfoldable pub partial_digest : Setting → State → Option (List ℕ)
 partial_digest setting state =
     if next_bit setting state == 0 then None else Some (setting.hash (chunk setting state (full_chunks setting state)))
 
@@ -83,6 +83,6 @@ canonical_string operations grafted pending next partial =
     operations ++ grafted ++ if_any pending ++ if_any (option_map (λ digest. number next ++ digest) partial)
 
 -- the canonical root
-abbrev pub canonical_root : Setting → State → List ℕ
+unfoldable pub canonical_root : Setting → State → List ℕ
 canonical_root setting state =
     setting.hash (canonical_string (operations_root setting state) (grafted_root setting state) (pending_digest setting state) (next_bit setting state) (partial_digest setting state))

@@ -14,7 +14,7 @@ abbrev pub grafted_digest : Hash → ℕ → ℕ → List (List ℕ) → List (L
 grafted_digest hash grafting_height bits chunks elements start (leaf p) = hash (leaf_string p (slice_index_or elements start []))
 grafted_digest hash grafting_height bits chunks elements start (branch p left right) =
     let own = hash (node_string p (grafted_digest hash grafting_height bits chunks elements start left)
-        (grafted_digest hash grafting_height bits chunks elements (start + leaf_count left) right)) in
+    (grafted_digest hash grafting_height bits chunks elements (start + leaf_count left) right)) in
     if height (branch p left right) == grafting_height then grafted hash (slice_index_or chunks (start / bits) []) own else own
 
 -- how many nodes of that height a tree has

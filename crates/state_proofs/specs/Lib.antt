@@ -2,3 +2,4 @@ pub mod Bits
 pub mod Grafting
 pub mod Canonical
 pub mod Honest
+pub mod Snapshot

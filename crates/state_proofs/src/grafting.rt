@@ -1,10 +1,9 @@
 //! Chunks grafted onto the tree of the operations.
 
 ghost use Rattle.std.specs.Prelude.{◌≡◌, ◌<◌, ◌≤◌, ◌+◌, ◌*◌, ◌/◌, ◌^◌, ◌++◌, [], ◌∷◌, ℕ, List, map, length, IfOk, OnOk, slice_index_or};
-ghost use Rattle.std.specs.List.{AllByRecursion};
 ghost use Rattle.merkle_forest.specs.Forest.{leaf_count, leaves};
 ghost use Rattle.merkle_forest.specs.Shape.{shape};
-ghost use Rattle.merkle_forest.specs.Trees.{end_of};
+ghost use Rattle.merkle_forest.specs.Trees.{Within};
 ghost use Rattle.merkle_forest.specs.TreesCode.{shapes};
 ghost use Rattle.state_proofs.specs.Grafting.{grafted, grafted_digest, nodes_at, graftable_chunks, chunk_aligned_inactive_peaks};
 
@@ -118,7 +117,7 @@ pub fn graftable_count(grafting_height: u64, peaks: &[Tree]) -> usize
 /// How many of these peaks come first whose leaves all stand before the floor and end at a chunk's border.
 pub fn aligned_count_of(bits: usize, floor: u64, peaks: &[(usize, &Tree)]) -> usize
     requires some { 0 < bits }
-    requires small { AllByRecursion (λ peak. end_of peak < 2 ^ 64) (shapes peaks.now) }
+    requires small { Within usize.MAX (shapes peaks.now) }
     ensures count { result ≡ chunk_aligned_inactive_peaks bits floor (shapes peaks.now) }
     ensures within { result ≤ length peaks.now }
 {

@@ -2,4 +2,6 @@
 #![tactic(auto)]
 
 pub mod bits;
+pub mod canonical;
 pub mod grafting;
+pub mod snapshot;

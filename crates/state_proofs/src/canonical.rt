@@ -1,0 +1,58 @@
+//! The canonical root of a state: the plain program of the definition (own).
+
+ghost use Rattle.std.specs.Prelude.{◌≡◌, ◌<◌, ◌≤◌, ◌+◌, ◌*◌, ◌^◌, ◌++◌, [], ◌∷◌, ℕ, List, map, length, IfOk, option_map};
+ghost use Rattle.merkle_forest.specs.Forest.{leaves, forest_of};
+ghost use Rattle.merkle_forest.specs.Shape.{shape};
+ghost use Rattle.state_proofs.specs.Canonical.{chunks, operations_root, grafted_root, pending_digest, partial_digest, canonical_root, canonical_string};
+ghost use Rattle.state_proofs.specs.Snapshot.{state_of, setting_of};
+
+use crate::bits::chunks_from;
+use crate::grafting::{Grafted, aligned_count_of, graftable_count};
+use crate::snapshot::Snapshot;
+use merkle_forest::bagging::Bagging;
+use merkle_forest::digest::Digest;
+use merkle_forest::family::Family;
+use merkle_forest::forest::{Tree, grow};
+use merkle_forest::hasher::{HashFunction, Standard};
+use merkle_forest::root::root_of_peaks;
+use merkle_forest::trees::{Plain, digests_of_peaks, inactive_count_of, place};
+use std::alloc::{AllocError, Global};
+use std::marker::PhantomData;
+
+/// All chunks of the state, the partial one too. It fails for want of memory alone.
+#[tactic(auto, unfolding(crate::specs::Canonical::chunks))]
+pub fn all_chunks(alloc: Global, snapshot: &Snapshot<'_>) -> Result<Vec<Vec<u8>>, AllocError>
+    ensures { (rule : _) (hash : _) → IfOk result (λ found. map (λ chunk. chunk.items) found.items ≡ chunks (setting_of rule hash snapshot.now) (state_of snapshot.now)) }
+{
+    let bits = 8 * snapshot.width;
+    let full = snapshot.operations.len() / bits;
+    let count = if snapshot.operations.len() % bits == 0 {
+        full
+    } else {
+        full + 1
+    };
+    chunks_from(alloc, snapshot.width, count, snapshot.bits)
+}
+
+/// The root of the operations' tree. It fails for want of memory alone.
+pub fn root_of_operations<F: Family, H: HashFunction>(
+    alloc: Global,
+    snapshot: &Snapshot<'_>,
+    trees: &[Tree],
+) -> Result<H::Digest, AllocError>
+    requires grown { map shape trees.now ≡ forest_of F.merge_rule (length snapshot.now.operations.now) }
+    requires counted { leaves (map shape trees.now) ≡ length snapshot.now.operations.now }
+    ensures { IfOk result (λ root. H.Digest.spelling root ≡ operations_root (setting_of F.merge_rule H.hash_of snapshot.now) (state_of snapshot.now)) }
+{
+    let peaks = place(alloc, trees)?;
+    let inactive = inactive_count_of(snapshot.floor, &peaks);
+    let plain: Plain<'_, H> = Plain::new(snapshot.operations);
+    let digests: Vec<H::Digest> = digests_of_peaks(alloc, &plain, trees)?;
+    let hasher: Standard<H> = Standard::new(Bagging::BackwardFold);
+    Ok(root_of_peaks::<F, Standard<H>>(
+        &hasher,
+        snapshot.operations.len() as u64,
+        inactive,
+        &digests,
+    ))
+}
