@@ -1,6 +1,7 @@
 //! Merkle Mountain Ranges.
 
-ghost use Rattle.merkle_forest.specs.Forest.{mmr_rule};
+ghost use Rattle.std.specs.Prelude.{◌≡◌, ◌≤◌, ◌*◌, ◌-◌, ◌^◌, ℕ, count_ones};
+ghost use Rattle.merkle_forest.specs.Forest.{mmr_rule, size, forest_of};
 ghost use Rattle.merkle_forest.specs.ForestLaws.{mmr_merges_equals};
 
 use crate::family;
@@ -19,5 +20,18 @@ impl family::Family for Family {
         }
     }
 
+    fn leaf_position(leaves: u64) -> u64 {
+        2 * leaves - leaves.count_ones() as u64
+    }
+
     ghost merges_equals = { mmr_merges_equals };
 }
+
+/// The position of the leaf behind n leaves is 2n less the number of ones among n's binary digits.
+pub fn position_of_a_leaf()
+    ensures { (n : ℕ) → n ≤ 2 ^ 62 → size (forest_of mmr_rule n) ≡ 2 * n - count_ones n }
+{
+}
+
+#[cfg(test)]
+mod tests;

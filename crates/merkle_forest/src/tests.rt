@@ -2,14 +2,9 @@ use super::*;
 use crate::codec::{Decode, Encode, EncodeSize, Error, MaxEncodeSize};
 use std::test::Fail;
 
-#[derive(Clone, Copy, Debug)]
-struct AnyTrees;
+type Leaf = Location<mmr::Family>;
 
-impl Family for AnyTrees {}
-
-type Leaf = Location<AnyTrees>;
-
-type Node = Position<AnyTrees>;
+type Node = Position<mmr::Family>;
 
 #[test]
 fn locations(rt: HostRuntime) -> Result<(), Fail> {
