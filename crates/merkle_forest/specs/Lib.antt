@@ -8,6 +8,8 @@ pub mod ListLaws
 pub mod Lists
 pub mod Mmr
 pub mod MmrLaws
+pub mod MmrNodes
+pub mod Nodes
 pub mod Perfect
 pub mod Shape
 pub mod Trees

@@ -1,6 +1,10 @@
 -- The trees of a Merkle Mountain Range.
-use Rattle.std.specs.Prelude.{◌≡◌, ℕ, zero, suc, ◌+◌, ◌-◌, ◌^◌, ◌≤◌, List, [], ◌∷◌}
+use Rattle.std.specs.Prelude.{◌≡◌, ℕ, zero, suc, ◌+◌, ◌-◌, ◌*◌, ◌^◌, ◌≤◌, count_ones, List, [], ◌∷◌}
 use Rattle.merkle_forest.specs.Forest.{Tree, leaf, branch, height, size}
+
+-- the position of the leaf at a location: twice the location, less the number of ones among its binary digits
+abbrev pub leaf_place : ℕ → ℕ
+leaf_place location = 2 * location - count_ones location
 
 -- the tree of a height whose first leaf has this position: each branch stands right behind its right child
 unfoldable pub mmr_tree : ℕ → ℕ → Tree

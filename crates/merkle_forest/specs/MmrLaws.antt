@@ -7,7 +7,7 @@ use Rattle.std.specs.Int.RustNames.{count_ones}
 use Rattle.merkle_forest.specs.Forest.{Tree, leaf, branch, position, height, leaf_count, node_count, size, leaves, Rule, merged, settled, with_leaf, forest_of, mmr_rule}
 use Rattle.merkle_forest.specs.ForestLaws.{mmr_merges_equals}
 use Rattle.merkle_forest.specs.ForestGrowth.{size-twice, leaves-forest_of}
-use Rattle.merkle_forest.specs.Mmr.{mmr_tree, IsRange}
+use Rattle.merkle_forest.specs.Mmr.{leaf_place, mmr_tree, IsRange}
 
 pub height-mmr_tree : (h first : ℕ) → height (mmr_tree h first) ≡ h
 unfolding mmr_tree
@@ -70,7 +70,8 @@ unfolding forest_of mmr_tree
 forest_of-range zero = tt
 forest_of-range (suc n) = settled-range (length (forest_of mmr_rule n)) 0 (leaf (size (forest_of mmr_rule n))) (forest_of mmr_rule n) (omega arith) refl (forest_of-range n)
 
-ones-pow : (k : ℕ) → count_ones (2 ^ k) ≡ 1
+-- a power of two has a single one
+pub ones-pow : (k : ℕ) → count_ones (2 ^ k) ≡ 1
 unfolding count_ones
 ones-pow k = ap count_ones (omega arith) ∙ ones_cat k 1 0 (pow_pos k)
 
@@ -92,10 +93,10 @@ ones-range h (t ∷ ts) range =
     let all : count_ones (leaf_count t + leaves ts) ≡ count_ones rest.0 + 1 = ap count_ones split ∙ ones_cat (suc k) rest.0 (2 ^ k) lt ∙ ap (λ n. count_ones rest.0 + n) (ones-pow k) in
     (rest.0 * 2 ^ (suc k - h) + 2 ^ (k - h), split ∙ ap (λ n. n + 2 ^ k) high_all ∙ ap (λ n. rest.0 * 2 ^ (suc k - h) * 2 ^ h + n) low ∙ sym (add-mul (rest.0 * 2 ^ (suc k - h)) (2 ^ (k - h)) (2 ^ h)), omega (arith, all, above, rest.2))
 
+-- the nodes of a range
+pub size-range : (h : ℕ) (peaks : List Tree) → IsRange h peaks → size peaks ≡ leaf_place (leaves peaks)
+size-range h peaks range = omega (arith, size-twice peaks, (ones-range h peaks range).2)
+
 -- the position of the leaf behind n leaves
-pub size-mmr : (n : ℕ) → size (forest_of mmr_rule n) ≡ 2 * n - count_ones n
-size-mmr n =
-    let all : leaves (forest_of mmr_rule n) ≡ n = leaves-forest_of mmr_rule mmr_merges_equals n in
-    let ones = ones-range 0 (forest_of mmr_rule n) (forest_of-range n) in
-    let same : count_ones (leaves (forest_of mmr_rule n)) ≡ count_ones n = ap count_ones all in
-    omega (arith, size-twice (forest_of mmr_rule n), ones.2, same, all)
+pub size-mmr : (n : ℕ) → size (forest_of mmr_rule n) ≡ leaf_place n
+size-mmr n = size-range 0 (forest_of mmr_rule n) (forest_of-range n) ∙ ap leaf_place (leaves-forest_of mmr_rule mmr_merges_equals n)
