@@ -89,7 +89,7 @@ leaf_count-perfect (branch p left right) perfect =
     let same : 2 ^ height left ≡ 2 ^ height right = ap (λ h. 2 ^ h) perfect.0 in
     rw (pow-suc 2 (height left)) (omega arith)
 
-height_fits : (bound : ℕ) (h : ℕ) → 2 ^ h ≤ 2 ^ bound → h ≤ bound
+pub height_fits : (bound : ℕ) (h : ℕ) → 2 ^ h ≤ 2 ^ bound → h ≤ bound
 height_fits bound h le = elim (cases_lt bound h) [ inl lt ↦ absurd (omega (arith, pow_below bound h lt)) | inr le' ↦ le' ]
 
 -- no peak of a forest of up to 2 ^ bound leaves is higher than the bound

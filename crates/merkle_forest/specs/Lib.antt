@@ -9,6 +9,7 @@ pub mod Lists
 pub mod Mmr
 pub mod MmrLaws
 pub mod MmrNodes
+pub mod NodeLaws
 pub mod Nodes
 pub mod Perfect
 pub mod Shape

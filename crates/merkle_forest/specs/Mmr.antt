@@ -6,6 +6,10 @@ use Rattle.merkle_forest.specs.Forest.{Tree, leaf, branch, height, size}
 abbrev pub leaf_place : ℕ → ℕ
 leaf_place location = 2 * location - count_ones location
 
+-- the position of the root over 2 ^ h leaves from a location on
+abbrev pub root_place : ℕ → ℕ → ℕ
+root_place first h = leaf_place first + (2 ^ suc h - 2)
+
 -- the tree of a height whose first leaf has this position: each branch stands right behind its right child
 unfoldable pub mmr_tree : ℕ → ℕ → Tree
 mmr_tree zero first = leaf first

@@ -8,7 +8,7 @@ use Rattle.merkle_forest.specs.Forest.{Tree, leaf, branch, position, height, lea
 use Rattle.merkle_forest.specs.ForestLaws.{mmr_merges_equals}
 use Rattle.merkle_forest.specs.ForestGrowth.{leaves-forest_of}
 use Rattle.merkle_forest.specs.Nodes.{IsWithin, IsNodeAt, IsPeakAt, IsBranchOf}
-use Rattle.merkle_forest.specs.Mmr.{leaf_place, mmr_tree, IsRange}
+use Rattle.merkle_forest.specs.Mmr.{leaf_place, root_place, mmr_tree, IsRange}
 use Rattle.merkle_forest.specs.MmrLaws.{height-mmr_tree, leaf_count-mmr_tree, position-mmr_tree, ones-pow, ones-range, size-range, forest_of-range}
 
 -- the first leaf of the right half
@@ -126,11 +126,35 @@ peak_height-mmr n first h node peak low high =
     let double_h : 2 ^ suc h ≡ 2 ^ h * 2 = pow-suc 2 h in
     le_antisymm (pow_order h (height node) (omega (arith, it.low, it.high, all, double))) (pow_order (height node) h (omega (arith, it.low, it.high, all, double_h)))
 
--- the position of the root over 2 ^ h leaves from a location on
-abbrev pub root_place : ℕ → ℕ → ℕ
-root_place first h = leaf_place first + (2 ^ suc h - 2)
-
 pub node_position-mmr : (n first : ℕ) (node : Tree) → IsNodeAt first node (forest_of mmr_rule n) → position node ≡ root_place first (height node)
 node_position-mmr n first node stands =
     let it = node-mmr 0 first node (forest_of mmr_rule n) (forest_of-range n) stands in
     ap position it.is ∙ position-mmr_tree it.high (leaf_place first) ∙ ap (λ h. root_place first h) (sym (height-node first node it))
+
+branch_parts : (p h k first : ℕ) (left right : Tree) → branch p left right ≡ mmr_tree k first → h ≡ suc (height left)
+    → (p ≡ first + (2 ^ suc h - 2)) × (position left ≡ first + (2 ^ h - 2)) × (position right ≡ first + (2 ^ h - 1) + (2 ^ h - 2))
+unfolding mmr_tree
+branch_parts p h zero first left right is high = absurd (let e : branch p left right ≡ leaf first = is in cc)
+branch_parts p h (suc k) first left right is high =
+    let whole : branch p left right ≡ branch (first + (2 ^ suc (suc k) - 2)) (mmr_tree k first) (mmr_tree k (first + (2 ^ suc k - 1))) = is in
+    let at : p ≡ first + (2 ^ suc (suc k) - 2) = cc in
+    let is_left : left ≡ mmr_tree k first = cc in
+    let is_right : right ≡ mmr_tree k (first + (2 ^ suc k - 1)) = cc in
+    let same : h ≡ suc k = high ∙ ap (λ t. suc (height t)) is_left ∙ ap (λ n. suc n) (height-mmr_tree k first) in
+    (at ∙ ap (λ n. first + (2 ^ suc n - 2)) (sym same), ap position is_left ∙ position-mmr_tree k first ∙ ap (λ n. first + (2 ^ n - 2)) (sym same),
+     ap position is_right ∙ position-mmr_tree k (first + (2 ^ suc k - 1)) ∙ ap (λ n. first + (2 ^ n - 1) + (2 ^ n - 2)) (sym same))
+
+-- the children of a branch of height h stand 2 ^ h positions and one position before it
+pub children-mmr : (p h : ℕ) (left right : Tree) → IsBranchOf mmr_rule p h left right → (p ≡ position left + 2 ^ h) × (p ≡ position right + 1)
+children-mmr p h left right it =
+    let node = node-mmr 0 it.first (branch p left right) (forest_of mmr_rule it.leaf_total) (forest_of-range it.leaf_total) it.stands in
+    let parts = branch_parts p h node.high (leaf_place it.first) left right node.is it.high in
+    let double : 2 ^ suc h ≡ 2 ^ h * 2 = pow-suc 2 h in
+    let two : 2 ≤ 2 ^ h = pow_le 1 h (omega (arith, it.high)) in
+    (omega (arith, parts.0, parts.1, double, two), omega (arith, parts.0, parts.2, double, two))
+
+-- a peak begins before the last leaf
+pub peak-within_mmr : (n first : ℕ) (node : Tree) → IsPeakAt first node (forest_of mmr_rule n) → first < n
+peak-within_mmr n first node peak =
+    let it = peak-mmr 0 first node (forest_of mmr_rule n) (forest_of-range n) peak in
+    omega (arith, it.low, leaves-forest_of mmr_rule mmr_merges_equals n, pow_pos (height node))

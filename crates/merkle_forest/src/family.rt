@@ -2,6 +2,7 @@
 
 ghost use Rattle.std.specs.Prelude.{◌≡◌, ◌≤◌, ℕ, List, Option, IfSome};
 ghost use Rattle.merkle_forest.specs.Forest.{IsPairOfEquals, size, forest_of};
+ghost use Rattle.merkle_forest.specs.Nodes.{HasPeak, IsPlaceOfPeak, HasBranch, AreChildren};
 
 use crate::location::Location;
 use crate::position::Position;
@@ -29,6 +30,17 @@ pub trait Family: Copy + Debug + Drop {
         requires { leaves ≤ MAX_LEAVES }
         ensures { result ≡ size (forest_of merge_rule leaves) };
 
+    /// The position and the height of the peak that begins at a location, in the forest of this many leaves (own).
+    fn peak_from(leaves: u64, first: u64) -> (u64, u32)
+        requires few { leaves ≤ MAX_LEAVES }
+        requires begins { HasPeak (forest_of merge_rule leaves) first }
+        ensures { IsPlaceOfPeak (forest_of merge_rule leaves) first result.0 result.1 };
+
+    /// The positions of the left and the right child of the branch at a position, of this height (own).
+    fn child_positions(branch: u64, height: u32) -> (u64, u64)
+        requires { HasBranch merge_rule branch height }
+        ensures { AreChildren merge_rule branch height result.0 result.1 };
+
     ghost merges_equals: { (merges : ℕ) (heights : List ℕ) → IfSome (merge_rule merges heights) (IsPairOfEquals heights) };
 
     /// The position of the leaf at a location, which is how many nodes the forest of the leaves before it has.
@@ -37,5 +49,14 @@ pub trait Family: Copy + Debug + Drop {
         ensures { result ≡ size (forest_of merge_rule location) }
     {
         Position::new(Self::leaf_position(location.as_u64()))
+    }
+
+    /// The positions of the left and the right child of the branch at a position, of this height.
+    final fn children(position: Position<Self>, height: u32) -> (Position<Self>, Position<Self>)
+        requires { HasBranch merge_rule position height }
+        ensures { AreChildren merge_rule position height result.0 result.1 }
+    {
+        let (left, right) = Self::child_positions(position.as_u64(), height);
+        (Position::new(left), Position::new(right))
     }
 }
