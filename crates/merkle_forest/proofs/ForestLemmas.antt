@@ -4,7 +4,7 @@ use Rattle.std.specs.Prelude.{IfSome, OnOk, slice_get}
 use Rattle.std.specs.List.{insert, remove}
 use Rattle.merkle_forest.specs.declared.forest.Tree.{Tree as CodeTree}
 use Rattle.merkle_forest.specs.Forest.{Tree, leaf, branch, height, leaf_count, node_count, size, leaves, Rule, merged, settled, with_leaf, forest_of, IsPairOfEquals}
-pub use Rattle.merkle_forest.specs.ForestGrowth.{node_count-twice, leaves-merged, pair_within}
+pub use Rattle.merkle_forest.specs.ForestGrowth.{node_count-twice, leaves-merged, size-merged, pair_within}
 use Rattle.merkle_forest.specs.Shape.{shape}
 
 -- taking two neighbours out and putting the branch over them in their place
@@ -26,14 +26,6 @@ height_below (branch p left right) = omega (arith, height_below left, height_bel
 pub size_bound : (peaks : List Tree) → size peaks ≤ 2 * leaves peaks
 size_bound [] = omega arith
 size_bound (t ∷ peaks) = omega (arith, node_count-twice t, size_bound peaks)
-
--- a merge makes one node
-pub size-merged : (p place : ℕ) (peaks : List Tree) → suc place < length peaks → size (merged p place peaks) ≡ size peaks + 1
-size-merged p zero [] lt = absurd (omega arith)
-size-merged p zero (r ∷ []) lt = absurd (omega arith)
-size-merged p zero (r ∷ l ∷ peaks) lt = omega arith
-size-merged p (suc place) [] lt = absurd (omega arith)
-size-merged p (suc place) (t ∷ peaks) lt = omega (arith, size-merged p place peaks (omega arith))
 
 -- where the rule names no place, the peaks stay
 pub settled-none : (rule : Rule) (room merges : ℕ) (peaks : List Tree) → rule merges (map height peaks) ≡ None → settled rule room merges peaks ≡ peaks
@@ -79,3 +71,7 @@ forest_of-next rule n = rw add-one refl
 pub forest_of-zero : (rule : Rule) → forest_of rule 0 ≡ []
 unfolding forest_of
 forest_of-zero rule = refl
+
+pub size-none : (rule : Rule) → size (forest_of rule 0) ≡ 0
+unfolding forest_of
+size-none rule = refl

@@ -1,5 +1,5 @@
 -- What every forest of a pairing rule keeps as it grows.
-use Rattle.std.proofs.Common.{◌≡◌, ℕ, zero, suc, ◌+◌, ◌*◌, ◌^◌, ◌<◌, ◌≤◌, inl, inr, List, [], ◌∷◌, length, map, Option, Some, None, refl, sym, ◌∙◌, ap, arith, add-one, pow-suc}
+use Rattle.std.proofs.Common.{◌≡◌, ℕ, zero, suc, ◌+◌, ◌-◌, ◌*◌, ◌^◌, ◌<◌, ◌≤◌, inl, inr, List, [], ◌∷◌, length, map, Option, Some, None, refl, sym, ◌∙◌, ap, arith, add-one, add-zero, add-suc, pow-suc}
 use Rattle.std.proofs.lemmas.Bool.{cases_lt}
 use Rattle.std.proofs.lemmas.List.{length-map}
 use Rattle.std.proofs.lemmas.Nat.{pow_below}
@@ -25,6 +25,14 @@ leaves-merged p zero (r ∷ []) lt = refl
 leaves-merged p zero (r ∷ l ∷ peaks) lt = omega arith
 leaves-merged p (suc place) [] lt = refl
 leaves-merged p (suc place) (t ∷ peaks) lt = ap (λ n. leaf_count t + n) (leaves-merged p place peaks (omega arith))
+
+-- a merge makes one node
+pub size-merged : (p place : ℕ) (peaks : List Tree) → suc place < length peaks → size (merged p place peaks) ≡ size peaks + 1
+size-merged p zero [] lt = absurd (omega arith)
+size-merged p zero (r ∷ []) lt = absurd (omega arith)
+size-merged p zero (r ∷ l ∷ peaks) lt = omega arith
+size-merged p (suc place) [] lt = absurd (omega arith)
+size-merged p (suc place) (t ∷ peaks) lt = omega (arith, size-merged p place peaks (omega arith))
 
 get_within : (xs : List ℕ) (i h : ℕ) → slice_get xs i ≡ Some h → i < length xs
 get_within [] i h e = absurd cc
@@ -104,3 +112,41 @@ heights-up_to bound (t ∷ peaks) perfect few =
 
 pub forest_of-up_to : (rule : Rule) → IsPairing rule → (bound n : ℕ) → n ≤ 2 ^ bound → AreUpTo bound (forest_of rule n)
 forest_of-up_to rule pairs bound n few = heights-up_to bound (forest_of rule n) (forest_of-perfect rule pairs n) (omega (arith, leaves-forest_of rule pairs n))
+
+size-merged_pair : (s p place : ℕ) (peaks : List Tree) → IsPairOfEquals (map height peaks) place → s < size peaks → s < size (merged p place peaks)
+size-merged_pair s p place peaks pair more =
+    omega (arith, size-merged p place peaks (rw (← length-map peaks height) (pair_within (map height peaks) place pair)))
+
+-- a leaf adds nodes
+pub size-grows : (rule : Rule) → IsPairing rule → (n : ℕ) → size (forest_of rule n) < size (forest_of rule (suc n))
+unfolding forest_of
+size-grows rule pairs n =
+    settled-keeps rule (λ peaks. size (forest_of rule n) < size peaks) pairs (size-merged_pair (size (forest_of rule n))) (length (forest_of rule n)) 0 (leaf (size (forest_of rule n)) ∷ forest_of rule n)
+    (omega arith)
+
+-- more leaves have more nodes
+pub size-order : (rule : Rule) → IsPairing rule → (more n : ℕ) → size (forest_of rule n) + more ≤ size (forest_of rule (n + more))
+size-order rule pairs zero n = simp add-zero (omega arith)
+size-order rule pairs (suc more) n = simp add-suc (omega (arith, size-order rule pairs more n, size-grows rule pairs (n + more)))
+
+pub size-lt : (rule : Rule) → IsPairing rule → (n m : ℕ) → n < m → size (forest_of rule n) < size (forest_of rule m)
+size-lt rule pairs n m lt =
+    let same : size (forest_of rule (n + (m - n))) ≡ size (forest_of rule m) = ap (λ k. size (forest_of rule k)) (omega arith) in
+    omega (arith, size-order rule pairs (m - n) n, same)
+
+-- forests of one node count have one leaf count
+pub size-le : (rule : Rule) → IsPairing rule → (n m : ℕ) → size (forest_of rule n) ≤ size (forest_of rule m) → n ≤ m
+size-le rule pairs n m le = elim (cases_lt m n) [ inl lt ↦ absurd (omega (arith, le, size-lt rule pairs m n lt)) | inr le' ↦ le' ]
+
+pub size-mono : (rule : Rule) → IsPairing rule → (n m : ℕ) → n ≤ m → size (forest_of rule n) ≤ size (forest_of rule m)
+size-mono rule pairs n m le =
+    let same : size (forest_of rule (n + (m - n))) ≡ size (forest_of rule m) = ap (λ k. size (forest_of rule k)) (omega arith) in
+    omega (arith, size-order rule pairs (m - n) n, same)
+
+-- the forest whose nodes are too many has more leaves
+pub leaves-below : (rule : Rule) → IsPairing rule → (n m nodes : ℕ) → size (forest_of rule n) ≤ nodes → nodes < size (forest_of rule m) → n < m
+leaves-below rule pairs n m nodes fits more = elim (cases_lt n m) [ inl lt ↦ lt | inr le ↦ absurd (omega (arith, fits, more, size-mono rule pairs m n le)) ]
+
+-- the greatest leaf count whose nodes are not too many has a node count exactly if any has
+pub no_size : (rule : Rule) → IsPairing rule → (found n nodes : ℕ) → size (forest_of rule found) ≤ nodes → nodes ≡ size (forest_of rule n) → n ≤ found → size (forest_of rule found) ≡ nodes
+no_size rule pairs found n nodes fits is le = omega (arith, size-mono rule pairs n found le)

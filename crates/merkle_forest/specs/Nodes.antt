@@ -1,6 +1,6 @@
 -- Where the nodes of a forest stand. A node's place is the location of the first leaf below it.
 use Rattle.std.specs.Prelude.{◌≡◌, ℕ, suc, ◌+◌, ◌≤◌, ◌<◌, ◌^◌, ◌⊎◌, List, [], ◌∷◌}
-use Rattle.merkle_forest.specs.Forest.{Tree, leaf, branch, position, height, leaf_count, leaves, Rule, forest_of}
+use Rattle.merkle_forest.specs.Forest.{Tree, leaf, branch, position, height, leaf_count, size, leaves, Rule, forest_of}
 
 -- a tree whose first leaf has the location `first` is the tree that starts at `start`, or stands below its root
 abbrev pub IsWithin : ℕ → Tree → ℕ → Tree → Type 0
@@ -41,3 +41,7 @@ IsPlaceOfPeak peaks first p h = (peak : Tree) → IsPeakAt first peak peaks → 
 -- a peak begins at this location
 abbrev pub HasPeak : List Tree → ℕ → Type 0
 HasPeak peaks first = (peak : Tree) × IsPeakAt first peak peaks
+
+-- the node count of a forest of the rule
+abbrev pub IsSize : Rule → ℕ → Type 0
+IsSize rule s = (n : ℕ) × (n ≤ 2 ^ 62) × (s ≡ size (forest_of rule n))

@@ -1,11 +1,12 @@
 //! Families of Merkle forests.
 
-ghost use Rattle.std.specs.Prelude.{◌≡◌, ◌≤◌, ℕ, List, Option, IfSome};
+ghost use Rattle.std.specs.Prelude.{◌≡◌, ◌≤◌, ◌↔◌, ℕ, List, Option, IfSome, IsSome, IsTrue};
 ghost use Rattle.merkle_forest.specs.Forest.{IsPairOfEquals, size, forest_of};
-ghost use Rattle.merkle_forest.specs.Nodes.{HasPeak, IsPlaceOfPeak, HasBranch, AreChildren};
+ghost use Rattle.merkle_forest.specs.Nodes.{HasPeak, IsPlaceOfPeak, HasBranch, AreChildren, IsSize};
 
 use crate::location::Location;
 use crate::position::Position;
+use crate::sizes::greatest_leaf_count;
 use std::fmt::Debug;
 
 /// The greatest leaf count.
@@ -58,5 +59,34 @@ pub trait Family: Copy + Debug + Drop {
     {
         let (left, right) = Self::child_positions(position.as_u64(), height);
         (Position::new(left), Position::new(right))
+    }
+
+    /// The location of the leaf at a position. Where no leaf up to `MAX_LEAVES` stands there it is None.
+    final fn position_to_location(position: Position<Self>) -> Option<Location<Self>>
+        ensures some { IfSome result (λ location. (location ≤ MAX_LEAVES) × (size (forest_of merge_rule location) ≡ position)) }
+        ensures found { IsSome result ↔ IsSize merge_rule position }
+    {
+        let leaves = greatest_leaf_count::<Self>(position.as_u64());
+        if Self::leaf_position(leaves) == position.as_u64() {
+            Some(Location::new(leaves))
+        } else {
+            None
+        }
+    }
+
+    /// Whether a forest of up to `MAX_LEAVES` leaves has this many nodes.
+    final fn is_valid_size(size: Position<Self>) -> bool
+        ensures { IsTrue result ↔ IsSize merge_rule size }
+    {
+        Self::position_to_location(size).is_some()
+    }
+
+    /// The greatest node count up to this one that a forest of up to `MAX_LEAVES` leaves has.
+    final fn to_nearest_size(size: Position<Self>) -> Position<Self>
+        ensures valid { IsSize merge_rule result }
+        ensures within { result ≤ size }
+        ensures nearest { (s : ℕ) → IsSize merge_rule s → s ≤ size → s ≤ result }
+    {
+        Position::new(Self::leaf_position(greatest_leaf_count::<Self>(size.as_u64())))
     }
 }

@@ -9,6 +9,7 @@ pub mod forest;
 pub mod hasher;
 pub mod mmr;
 pub mod root;
+pub mod sizes;
 pub mod trees;
 pub mod location;
 pub mod location_range;
