@@ -4,6 +4,7 @@ use Rattle.std.specs.Prelude.{IfSome, OnOk, slice_get}
 use Rattle.std.specs.List.{insert, remove}
 use Rattle.merkle_forest.specs.declared.forest.Tree.{Tree as CodeTree}
 use Rattle.merkle_forest.specs.Forest.{Tree, leaf, branch, height, leaf_count, node_count, size, leaves, Rule, merged, settled, with_leaf, forest_of, IsPairOfEquals}
+pub use Rattle.merkle_forest.specs.ForestGrowth.{node_count-twice, leaves-merged, size-merged, pair_within}
 use Rattle.merkle_forest.specs.Shape.{shape}
 
 -- taking two neighbours out and putting the branch over them in their place
@@ -22,39 +23,9 @@ pub height_below : (t : Tree) → height t < leaf_count t
 height_below (leaf p) = omega arith
 height_below (branch p left right) = omega (arith, height_below left, height_below right)
 
--- a tree has one node more than twice its leaves, less two
-pub node_count-twice : (t : Tree) → suc (node_count t) ≡ 2 * leaf_count t
-node_count-twice (leaf p) = refl
-node_count-twice (branch p left right) = omega (arith, node_count-twice left, node_count-twice right)
-
 pub size_bound : (peaks : List Tree) → size peaks ≤ 2 * leaves peaks
 size_bound [] = omega arith
 size_bound (t ∷ peaks) = omega (arith, node_count-twice t, size_bound peaks)
-
--- a merge keeps the leaves
-pub leaves-merged : (p place : ℕ) (peaks : List Tree) → suc place < length peaks → leaves (merged p place peaks) ≡ leaves peaks
-leaves-merged p zero [] lt = refl
-leaves-merged p zero (r ∷ []) lt = refl
-leaves-merged p zero (r ∷ l ∷ peaks) lt = omega arith
-leaves-merged p (suc place) [] lt = refl
-leaves-merged p (suc place) (t ∷ peaks) lt = ap (λ n. leaf_count t + n) (leaves-merged p place peaks (omega arith))
-
--- a merge makes one node
-pub size-merged : (p place : ℕ) (peaks : List Tree) → suc place < length peaks → size (merged p place peaks) ≡ size peaks + 1
-size-merged p zero [] lt = absurd (omega arith)
-size-merged p zero (r ∷ []) lt = absurd (omega arith)
-size-merged p zero (r ∷ l ∷ peaks) lt = omega arith
-size-merged p (suc place) [] lt = absurd (omega arith)
-size-merged p (suc place) (t ∷ peaks) lt = omega (arith, size-merged p place peaks (omega arith))
-
-get_within : (xs : List ℕ) (i h : ℕ) → slice_get xs i ≡ Some h → i < length xs
-get_within [] i h e = absurd cc
-get_within (x ∷ xs) zero h e = omega arith
-get_within (x ∷ xs) (suc i) h e = omega (arith, get_within xs i h e)
-
--- two neighbours stand within the list
-pub pair_within : (heights : List ℕ) (place : ℕ) → IsPairOfEquals heights place → suc place < length heights
-pair_within heights place pair = get_within heights (suc place) pair.0 pair.2
 
 -- where the rule names no place, the peaks stay
 pub settled-none : (rule : Rule) (room merges : ℕ) (peaks : List Tree) → rule merges (map height peaks) ≡ None → settled rule room merges peaks ≡ peaks
@@ -100,3 +71,7 @@ forest_of-next rule n = rw add-one refl
 pub forest_of-zero : (rule : Rule) → forest_of rule 0 ≡ []
 unfolding forest_of
 forest_of-zero rule = refl
+
+pub size-none : (rule : Rule) → size (forest_of rule 0) ≡ 0
+unfolding forest_of
+size-none rule = refl

@@ -1,10 +1,17 @@
 pub mod Codec
 pub mod CodecLaws
 pub mod Forest
+pub mod ForestGrowth
 pub mod ForestLaws
 pub mod Hashing
 pub mod ListLaws
 pub mod Lists
+pub mod Mmr
+pub mod MmrLaws
+pub mod MmrNodes
+pub mod NodeLaws
+pub mod Nodes
+pub mod Perfect
 pub mod Shape
 pub mod Trees
 pub mod TreesCode

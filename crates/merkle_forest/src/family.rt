@@ -1,8 +1,12 @@
 //! Families of Merkle forests.
 
-ghost use Rattle.std.specs.Prelude.{◌≡◌, ℕ, List, Option, IfSome};
-ghost use Rattle.merkle_forest.specs.Forest.{IsPairOfEquals};
+ghost use Rattle.std.specs.Prelude.{◌≡◌, ◌≤◌, ◌↔◌, ℕ, List, Option, IfSome, IsSome, IsTrue};
+ghost use Rattle.merkle_forest.specs.Forest.{IsPairOfEquals, size, forest_of};
+ghost use Rattle.merkle_forest.specs.Nodes.{HasPeak, IsPlaceOfPeak, HasBranch, AreChildren, IsSize};
 
+use crate::location::Location;
+use crate::position::Position;
+use crate::sizes::greatest_leaf_count;
 use std::fmt::Debug;
 
 /// The greatest leaf count.
@@ -22,5 +26,67 @@ pub trait Family: Copy + Debug + Drop {
     fn merge_place(merges: usize, heights: &[u64]) -> Option<usize>
         ensures { result ≡ merge_rule merges heights.now };
 
+    /// How many nodes the forest of this many leaves has, which is the position of the next leaf.
+    fn leaf_position(leaves: u64) -> u64
+        requires { leaves ≤ MAX_LEAVES }
+        ensures { result ≡ size (forest_of merge_rule leaves) };
+
+    /// The position and the height of the peak that begins at a location, in the forest of this many leaves (own).
+    fn peak_from(leaves: u64, first: u64) -> (u64, u32)
+        requires few { leaves ≤ MAX_LEAVES }
+        requires begins { HasPeak (forest_of merge_rule leaves) first }
+        ensures { IsPlaceOfPeak (forest_of merge_rule leaves) first result.0 result.1 };
+
+    /// The positions of the left and the right child of the branch at a position, of this height (own).
+    fn child_positions(branch: u64, height: u32) -> (u64, u64)
+        requires { HasBranch merge_rule branch height }
+        ensures { AreChildren merge_rule branch height result.0 result.1 };
+
     ghost merges_equals: { (merges : ℕ) (heights : List ℕ) → IfSome (merge_rule merges heights) (IsPairOfEquals heights) };
+
+    /// The position of the leaf at a location, which is how many nodes the forest of the leaves before it has.
+    final fn location_to_position(location: Location<Self>) -> Position<Self>
+        requires { location ≤ MAX_LEAVES }
+        ensures { result ≡ size (forest_of merge_rule location) }
+    {
+        Position::new(Self::leaf_position(location.as_u64()))
+    }
+
+    /// The positions of the left and the right child of the branch at a position, of this height.
+    final fn children(position: Position<Self>, height: u32) -> (Position<Self>, Position<Self>)
+        requires { HasBranch merge_rule position height }
+        ensures { AreChildren merge_rule position height result.0 result.1 }
+    {
+        let (left, right) = Self::child_positions(position.as_u64(), height);
+        (Position::new(left), Position::new(right))
+    }
+
+    /// The location of the leaf at a position. Where no leaf up to `MAX_LEAVES` stands there it is None.
+    final fn position_to_location(position: Position<Self>) -> Option<Location<Self>>
+        ensures some { IfSome result (λ location. (location ≤ MAX_LEAVES) × (size (forest_of merge_rule location) ≡ position)) }
+        ensures found { IsSome result ↔ IsSize merge_rule position }
+    {
+        let leaves = greatest_leaf_count::<Self>(position.as_u64());
+        if Self::leaf_position(leaves) == position.as_u64() {
+            Some(Location::new(leaves))
+        } else {
+            None
+        }
+    }
+
+    /// Whether a forest of up to `MAX_LEAVES` leaves has this many nodes.
+    final fn is_valid_size(size: Position<Self>) -> bool
+        ensures { IsTrue result ↔ IsSize merge_rule size }
+    {
+        Self::position_to_location(size).is_some()
+    }
+
+    /// The greatest node count up to this one that a forest of up to `MAX_LEAVES` leaves has.
+    final fn to_nearest_size(size: Position<Self>) -> Position<Self>
+        ensures valid { IsSize merge_rule result }
+        ensures within { result ≤ size }
+        ensures nearest { (s : ℕ) → IsSize merge_rule s → s ≤ size → s ≤ result }
+    {
+        Position::new(Self::leaf_position(greatest_leaf_count::<Self>(size.as_u64())))
+    }
 }

@@ -7,12 +7,13 @@ pub mod digest;
 pub mod family;
 pub mod forest;
 pub mod hasher;
+pub mod mmr;
+pub mod root;
+pub mod sizes;
+pub mod trees;
 pub mod location;
 pub mod location_range;
-pub mod mmr;
 pub mod position;
-pub mod root;
-pub mod trees;
 
 pub use bagging::Bagging;
 pub use digest::Digest;

@@ -1,9 +1,21 @@
 //! Merkle Mountain Ranges.
 
-ghost use Rattle.merkle_forest.specs.Forest.{mmr_rule};
+ghost use Rattle.std.specs.Prelude.{◌≡◌, ◌≤◌, ◌+◌, ◌*◌, ◌-◌, ◌^◌, ℕ, count_ones};
+ghost use Rattle.merkle_forest.specs.Forest.{mmr_rule, size, forest_of};
 ghost use Rattle.merkle_forest.specs.ForestLaws.{mmr_merges_equals};
+ghost use Rattle.merkle_forest.specs.Mmr.{root_place};
 
 use crate::family;
+
+// The position of the root over 2^height leaves of which the first has this location, a multiple of 2^height.
+fn root_position(first: u64, height: u32) -> u64
+    requires { first + 2 ^ height ≤ 2 ^ 62 }
+    ensures { result ≡ root_place first height }
+{
+    let leaf = 2 * first - first.count_ones() as u64;
+    let nodes_behind = (2u64 << height) - 2;
+    leaf + nodes_behind
+}
 
 /// The family of Merkle Mountain Ranges: the last two peaks merge while their heights are equal.
 #[derive(Clone, Copy, Debug, PartialEq, Eq)]
@@ -19,5 +31,27 @@ impl family::Family for Family {
         }
     }
 
+    fn leaf_position(leaves: u64) -> u64 {
+        2 * leaves - leaves.count_ones() as u64
+    }
+
+    fn peak_from(leaves: u64, first: u64) -> (u64, u32) {
+        let height = (leaves - first).ilog2();
+        (root_position(first, height), height)
+    }
+
+    fn child_positions(branch: u64, height: u32) -> (u64, u64) {
+        (branch - (1u64 << height), branch - 1)
+    }
+
     ghost merges_equals = { mmr_merges_equals };
 }
+
+/// The position of the leaf behind n leaves is 2n less the number of ones among n's binary digits.
+pub fn position_of_a_leaf()
+    ensures { (n : ℕ) → n ≤ 2 ^ 62 → size (forest_of mmr_rule n) ≡ 2 * n - count_ones n }
+{
+}
+
+#[cfg(test)]
+mod tests;

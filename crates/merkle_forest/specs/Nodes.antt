@@ -1,0 +1,47 @@
+-- Where the nodes of a forest stand. A node's place is the location of the first leaf below it.
+use Rattle.std.specs.Prelude.{◌≡◌, ℕ, suc, ◌+◌, ◌≤◌, ◌<◌, ◌^◌, ◌⊎◌, List, [], ◌∷◌}
+use Rattle.merkle_forest.specs.Forest.{Tree, leaf, branch, position, height, leaf_count, size, leaves, Rule, forest_of}
+
+-- a tree whose first leaf has the location `first` is the tree that starts at `start`, or stands below its root
+abbrev pub IsWithin : ℕ → Tree → ℕ → Tree → Type 0
+IsWithin first node start (leaf p) = (first ≡ start) × (node ≡ leaf p)
+IsWithin first node start (branch p left right) =
+    ((first ≡ start) × (node ≡ branch p left right)) ⊎ (IsWithin first node start left ⊎ IsWithin first node (start + leaf_count left) right)
+
+-- a node of the forest of these peaks
+abbrev pub IsNodeAt : ℕ → Tree → List Tree → Type 0
+IsNodeAt first node [] = ⊥
+IsNodeAt first node (peak ∷ peaks) = IsWithin first node (leaves peaks) peak ⊎ IsNodeAt first node peaks
+
+-- a peak
+abbrev pub IsPeakAt : ℕ → Tree → List Tree → Type 0
+IsPeakAt first node [] = ⊥
+IsPeakAt first node (peak ∷ peaks) = ((first ≡ leaves peaks) × (node ≡ peak)) ⊎ IsPeakAt first node peaks
+
+-- the branch at position p, of height h, over these two trees is a node of a forest of the rule
+pub record IsBranchOf (rule : Rule) (p h : ℕ) (left right : Tree) : Type 0 where
+  pub leaf_total : ℕ
+  pub few : leaf_total ≤ 2 ^ 62
+  pub first : ℕ
+  pub stands : IsNodeAt first (branch p left right) (forest_of rule leaf_total)
+  pub high : h ≡ suc (height left)
+
+-- these are the positions of the two children of the branch at position p, of height h
+abbrev pub AreChildren : Rule → ℕ → ℕ → ℕ → ℕ → Type 0
+AreChildren rule p h at_left at_right = (left right : Tree) → IsBranchOf rule p h left right → (at_left ≡ position left) × (at_right ≡ position right)
+
+-- there is such a branch
+abbrev pub HasBranch : Rule → ℕ → ℕ → Type 0
+HasBranch rule p h = (left : Tree) × (right : Tree) × IsBranchOf rule p h left right
+
+-- the peak that begins at a location has this position and this height
+abbrev pub IsPlaceOfPeak : List Tree → ℕ → ℕ → ℕ → Type 0
+IsPlaceOfPeak peaks first p h = (peak : Tree) → IsPeakAt first peak peaks → (p ≡ position peak) × (h ≡ height peak)
+
+-- a peak begins at this location
+abbrev pub HasPeak : List Tree → ℕ → Type 0
+HasPeak peaks first = (peak : Tree) × IsPeakAt first peak peaks
+
+-- the node count of a forest of the rule
+abbrev pub IsSize : Rule → ℕ → Type 0
+IsSize rule s = (n : ℕ) × (n ≤ 2 ^ 62) × (s ≡ size (forest_of rule n))
