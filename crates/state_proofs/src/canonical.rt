@@ -1,9 +1,9 @@
 //! The canonical root of a state: the plain program of the definition (own).
 
-ghost use Rattle.std.specs.Prelude.{◌≡◌, ◌<◌, ◌≤◌, ◌+◌, ◌*◌, ◌^◌, ◌++◌, [], ◌∷◌, ℕ, List, map, length, IfOk, option_map};
+ghost use Rattle.std.specs.Prelude.{◌≡◌, ◌<◌, ◌≤◌, ◌+◌, ◌*◌, ◌^◌, ◌++◌, [], ◌∷◌, ℕ, List, map, length, IfOk, IfSome, IsSome, option_map, slice_index_or};
 ghost use Rattle.merkle_forest.specs.Forest.{leaves, forest_of};
 ghost use Rattle.merkle_forest.specs.Shape.{shape};
-ghost use Rattle.state_proofs.specs.Canonical.{chunks, operations_root, grafted_root, pending_digest, partial_digest, canonical_root, canonical_string};
+ghost use Rattle.state_proofs.specs.Canonical.{chunks as all_chunks, operations_root, grafted_root, pending_digest, partial_digest, canonical_root, canonical_string};
 ghost use Rattle.state_proofs.specs.Snapshot.{state_of, setting_of};
 
 use crate::bits::chunks_from;
@@ -21,8 +21,8 @@ use std::marker::PhantomData;
 
 /// All chunks of the state, the partial one too. It fails for want of memory alone.
 #[tactic(auto, unfolding(crate::specs::Canonical::chunks))]
-pub fn all_chunks(alloc: Global, snapshot: &Snapshot<'_>) -> Result<Vec<Vec<u8>>, AllocError>
-    ensures { (rule : _) (hash : _) → IfOk result (λ found. map (λ chunk. chunk.items) found.items ≡ chunks (setting_of rule hash snapshot.now) (state_of snapshot.now)) }
+pub fn chunks_of_state(alloc: Global, snapshot: &Snapshot<'_>) -> Result<Vec<Vec<u8>>, AllocError>
+    ensures { (rule : _) (hash : _) → IfOk result (λ found. map (λ chunk. chunk.items) found.items ≡ all_chunks (setting_of rule hash snapshot.now) (state_of snapshot.now)) }
 {
     let bits = 8 * snapshot.width;
     let full = snapshot.operations.len() / bits;
@@ -55,4 +55,50 @@ pub fn root_of_operations<F: Family, H: HashFunction>(
         inactive,
         &digests,
     ))
+}
+
+/// The digests of the grafted tree of the state.
+pub fn grafted_trees<'a, H>(snapshot: &Snapshot<'a>, chunks: &'a [Vec<u8>]) -> Grafted<'a, H>
+    ensures elements { result.elements.now ≡ snapshot.now.operations.now }
+    ensures chunks { result.chunks.now ≡ chunks.now }
+    ensures height { result.grafting_height ≡ snapshot.now.grafting_height }
+    ensures bits { result.bits ≡ 8 * snapshot.now.width }
+{
+    Grafted {
+        elements: snapshot.operations,
+        chunks,
+        grafting_height: snapshot.grafting_height,
+        bits: 8 * snapshot.width,
+        function: PhantomData,
+    }
+}
+
+/// The root of the grafted tree. It fails for want of memory alone.
+pub fn root_of_grafted<F: Family, H: HashFunction>(
+    alloc: Global,
+    snapshot: &Snapshot<'_>,
+    chunks: &[Vec<u8>],
+    trees: &[Tree],
+) -> Result<H::Digest, AllocError>
+    requires grown { map shape trees.now ≡ forest_of F.merge_rule (length snapshot.now.operations.now) }
+    requires counted { leaves (map shape trees.now) ≡ length snapshot.now.operations.now }
+    requires chunked { map (λ chunk. chunk.items) chunks.now ≡ all_chunks (setting_of F.merge_rule H.hash_of snapshot.now) (state_of snapshot.now) }
+    ensures { IfOk result (λ root. H.Digest.spelling root ≡ grafted_root (setting_of F.merge_rule H.hash_of snapshot.now) (state_of snapshot.now)) }
+{
+    let peaks = place(alloc, trees)?;
+    let inactive = aligned_count_of(8 * snapshot.width, snapshot.floor, &peaks);
+    let grafted: Grafted<'_, H> = grafted_trees(snapshot, chunks);
+    let digests: Vec<H::Digest> = digests_of_peaks(alloc, &grafted, trees)?;
+    let hasher: Standard<H> = Standard::new(Bagging::BackwardFold);
+    let leaves = snapshot.operations.len() as u64;
+    Ok(root_of_peaks::<F, Standard<H>>(&hasher, leaves, inactive, &digests))
+}
+
+// The digest of the chunk at an index, if it is there.
+fn chunk_digest<H: HashFunction>(chunks: &[Vec<u8>], index: usize) -> Option<H::Digest>
+    ensures there { index < length chunks.now → IsSome result }
+    ensures digest { IfSome result (λ d. H.Digest.spelling d ≡ H.hash_of (slice_index_or (map (λ chunk. chunk.items) chunks.now) index [])) }
+{
+    let chunk = chunks.get(index)?;
+    Some(H::hash(&[chunk]))
 }
