@@ -102,3 +102,40 @@ fn chunk_digest<H: HashFunction>(chunks: &[Vec<u8>], index: usize) -> Option<H::
     let chunk = chunks.get(index)?;
     Some(H::hash(&[chunk]))
 }
+
+/// The digest of the full chunk that isn't graftable yet, if there is one.
+#[tactic(auto, unfolding(crate::specs::Canonical::pending_digest))]
+pub fn pending_digest_of<F: Family, H: HashFunction>(
+    snapshot: &Snapshot<'_>,
+    chunks: &[Vec<u8>],
+    trees: &[Tree],
+) -> Option<H::Digest>
+    requires grown { map shape trees.now ≡ forest_of F.merge_rule (length snapshot.now.operations.now) }
+    requires counted { leaves (map shape trees.now) ≡ length snapshot.now.operations.now }
+    requires chunked { map (λ chunk. chunk.items) chunks.now ≡ all_chunks (setting_of F.merge_rule H.hash_of snapshot.now) (state_of snapshot.now) }
+    ensures { option_map H.Digest.spelling result ≡ pending_digest (setting_of F.merge_rule H.hash_of snapshot.now) (state_of snapshot.now) }
+{
+    let full = snapshot.operations.len() / (8 * snapshot.width);
+    let graftable = graftable_count(snapshot.grafting_height, trees);
+    if graftable < full {
+        chunk_digest::<H>(chunks, graftable)
+    } else {
+        None
+    }
+}
+
+/// The digest of the partial chunk, if there is one.
+#[tactic(auto, unfolding(crate::specs::Canonical::partial_digest))]
+pub fn partial_digest_of<F: Family, H: HashFunction>(
+    snapshot: &Snapshot<'_>,
+    chunks: &[Vec<u8>],
+) -> Option<H::Digest>
+    requires chunked { map (λ chunk. chunk.items) chunks.now ≡ all_chunks (setting_of F.merge_rule H.hash_of snapshot.now) (state_of snapshot.now) }
+    ensures { option_map H.Digest.spelling result ≡ partial_digest (setting_of F.merge_rule H.hash_of snapshot.now) (state_of snapshot.now) }
+{
+    let bits = 8 * snapshot.width;
+    if snapshot.operations.len() % bits == 0 {
+        return None;
+    }
+    chunk_digest::<H>(chunks, snapshot.operations.len() / bits)
+}
