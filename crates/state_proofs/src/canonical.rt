@@ -3,11 +3,12 @@
 ghost use Rattle.std.specs.Prelude.{◌≡◌, ◌<◌, ◌≤◌, ◌+◌, ◌*◌, ◌^◌, ◌++◌, [], ◌∷◌, ℕ, List, map, length, IfOk, IfSome, IsSome, option_map, slice_index_or};
 ghost use Rattle.merkle_forest.specs.Forest.{leaves, forest_of};
 ghost use Rattle.merkle_forest.specs.Shape.{shape};
-ghost use Rattle.state_proofs.specs.Canonical.{chunks as all_chunks, operations_root, grafted_root, pending_digest, partial_digest, canonical_root, canonical_string};
+ghost use Rattle.state_proofs.specs.Canonical.{chunks as all_chunks, operations_root, grafted_root, pending_digest, partial_digest, canonical_root as root_of_state};
 ghost use Rattle.state_proofs.specs.Snapshot.{state_of, setting_of};
 
 use crate::bits::chunks_from;
 use crate::grafting::{Grafted, aligned_count_of, graftable_count};
+use crate::seal::seal;
 use crate::snapshot::Snapshot;
 use merkle_forest::bagging::Bagging;
 use merkle_forest::digest::Digest;
@@ -138,4 +139,22 @@ pub fn partial_digest_of<F: Family, H: HashFunction>(
         return None;
     }
     chunk_digest::<H>(chunks, snapshot.operations.len() / bits)
+}
+
+/// The canonical root of the state. It fails for want of memory alone.
+#[tactic(auto, unfolding(crate::specs::Canonical::canonical_root))]
+pub fn canonical_root<F: Family, H: HashFunction>(
+    alloc: Global,
+    snapshot: &Snapshot<'_>,
+) -> Result<H::Digest, AllocError>
+    ensures { IfOk result (λ root. H.Digest.spelling root ≡ root_of_state (setting_of F.merge_rule H.hash_of snapshot.now) (state_of snapshot.now)) }
+{
+    let trees = grow::<F>(alloc, snapshot.operations.len() as u64)?;
+    let chunks = chunks_of_state(alloc, snapshot)?;
+    let operations = root_of_operations::<F, H>(alloc, snapshot, &trees)?;
+    let grafted = root_of_grafted::<F, H>(alloc, snapshot, &chunks, &trees)?;
+    let pending = pending_digest_of::<F, H>(snapshot, &chunks, &trees);
+    let partial = partial_digest_of::<F, H>(snapshot, &chunks);
+    let next = snapshot.operations.len() % (8 * snapshot.width);
+    Ok(seal::<H>(&operations, &grafted, &pending, next as u64, &partial))
 }

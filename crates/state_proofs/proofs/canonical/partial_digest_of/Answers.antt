@@ -19,5 +19,5 @@ returns g c =
     let digest = rw (← sized) at c.chunk_digest.ensures.digest in
     let there = rw (← sized) at c.chunk_digest.ensures.there in
     is_partial_digest setting state _ some
-        (chunk_is g.H.Digest.Write.spelling hash found full c.chunk_digest.result (there (omega (arith, partial_stands setting state some, ap length c.requires.chunked, length-map c.args.chunks.now (λ chunk. chunk.items)))) digest
-            ∙ ap (λ found. Some (hash (slice_index_or found full []))) c.requires.chunked)
+    (chunk_is g.H.Digest.Write.spelling hash found full c.chunk_digest.result (there (omega (arith, partial_stands setting state some, ap length c.requires.chunked, length-map c.args.chunks.now (λ chunk. chunk.items)))) digest
+    ∙ ap (λ found. Some (hash (slice_index_or found full []))) c.requires.chunked)

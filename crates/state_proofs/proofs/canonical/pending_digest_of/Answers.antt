@@ -18,8 +18,8 @@ returns-then-graftable-full g c =
     let sized = length-map c.args.snapshot.now.operations.now (λ e. e.items) in
     let full : graftable < full_chunks setting state = rw sized c.if-graftable-full.true in
     let counts : graftable ≡ graftable_chunks setting.grafting_height (forest_of g.F.Family.merge_rule (length state.operations)) =
-        c.graftable_count-graftable.ensures.count ∙ ap (graftable_chunks setting.grafting_height) (c.requires.grown ∙ ap (forest_of g.F.Family.merge_rule) (sym sized)) in
+    c.graftable_count-graftable.ensures.count ∙ ap (graftable_chunks setting.grafting_height) (c.requires.grown ∙ ap (forest_of g.F.Family.merge_rule) (sym sized)) in
     let there : graftable < length c.args.chunks.now = omega (arith, full, length-chunks setting state, ap length c.requires.chunked, length-map c.args.chunks.now (λ chunk. chunk.items)) in
     is_pending_digest setting state graftable _ counts full
-        (chunk_is g.H.Digest.Write.spelling hash found graftable c.chunk_digest.result (c.chunk_digest.ensures.there there) c.chunk_digest.ensures.digest
-            ∙ ap (λ found. Some (hash (slice_index_or found graftable []))) c.requires.chunked)
+    (chunk_is g.H.Digest.Write.spelling hash found graftable c.chunk_digest.result (c.chunk_digest.ensures.there there) c.chunk_digest.ensures.digest
+    ∙ ap (λ found. Some (hash (slice_index_or found graftable []))) c.requires.chunked)
