@@ -62,7 +62,7 @@ settled-range (suc room) merges t [] fits is range = (omega arith, is, tt)
 settled-range (suc room) merges t (u ∷ us) fits is range =
     tested (IsRange 0) (λ place. settled mmr_rule room (suc merges) (merged (size (t ∷ u ∷ us)) place (t ∷ u ∷ us))) (t ∷ u ∷ us) (eqb (height t) (height u))
     (λ same. settled-range room (suc merges) (branch (node_count t + (node_count u + size us)) u t) us (omega arith)
-        (joined_pair t u us is range.1 (eqb-true (height t) (height u) same)) range.2)
+    (joined_pair t u us is range.1 (eqb-true (height t) (height u) same)) range.2)
     (λ differ. (omega arith, is, (higher (height t) (height u) range.0 (eqb-false (height t) (height u) differ), range.1, range.2)))
 
 pub forest_of-range : (n : ℕ) → IsRange 0 (forest_of mmr_rule n)

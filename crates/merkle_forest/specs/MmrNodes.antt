@@ -20,7 +20,7 @@ leaf_place-right k a =
     let right : (2 * a + 1) * 2 ^ k ≡ a * 2 ^ suc k + 2 ^ k = omega (arith, wide) in
     let whole : count_ones (a * 2 ^ suc k) ≡ count_ones a + 0 = ap count_ones (omega arith) ∙ ones_cat (suc k) a 0 (pow_pos (suc k)) in
     let half : count_ones ((2 * a + 1) * 2 ^ k) ≡ count_ones a + 1 =
-        ap count_ones right ∙ ones_cat (suc k) a (2 ^ k) (pow_below k (suc k) (omega arith)) ∙ ap (λ n. count_ones a + n) (ones-pow k) in
+    ap count_ones right ∙ ones_cat (suc k) a (2 ^ k) (pow_below k (suc k) (omega arith)) ∙ ap (λ n. count_ones a + n) (ones-pow k) in
     let few : count_ones (a * 2 ^ suc k) ≤ a * 2 ^ suc k = ones_le_self (a * 2 ^ suc k) in
     let there : 0 < 2 ^ k = pow_pos k in
     omega (arith, double, right, whole, half, few, there)
@@ -140,9 +140,11 @@ branch_parts p h (suc k) first left right is high =
     let at : p ≡ first + (2 ^ suc (suc k) - 2) = cc in
     let is_left : left ≡ mmr_tree k first = cc in
     let is_right : right ≡ mmr_tree k (first + (2 ^ suc k - 1)) = cc in
-    let same : h ≡ suc k = high ∙ ap (λ t. suc (height t)) is_left ∙ ap (λ n. suc n) (height-mmr_tree k first) in
-    (at ∙ ap (λ n. first + (2 ^ suc n - 2)) (sym same), ap position is_left ∙ position-mmr_tree k first ∙ ap (λ n. first + (2 ^ n - 2)) (sym same),
-     ap position is_right ∙ position-mmr_tree k (first + (2 ^ suc k - 1)) ∙ ap (λ n. first + (2 ^ n - 1) + (2 ^ n - 2)) (sym same))
+    let same : h ≡ suc k = high ∙ ap (λ t. suc (height t)) is_left ∙ ap (λ n. suc n) (height-mmr_tree k first) in (
+      at ∙ ap (λ n. first + (2 ^ suc n - 2)) (sym same),
+      ap position is_left ∙ position-mmr_tree k first ∙ ap (λ n. first + (2 ^ n - 2)) (sym same),
+      ap position is_right ∙ position-mmr_tree k (first + (2 ^ suc k - 1)) ∙ ap (λ n. first + (2 ^ n - 1) + (2 ^ n - 2)) (sym same),
+    )
 
 -- the children of a branch of height h stand 2 ^ h positions and one position before it
 pub children-mmr : (p h : ℕ) (left right : Tree) → IsBranchOf mmr_rule p h left right → (p ≡ position left + 2 ^ h) × (p ≡ position right + 1)

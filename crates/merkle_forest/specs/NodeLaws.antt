@@ -67,6 +67,6 @@ next_peak first node [] peak more = absurd peak
 next_peak first node (t ∷ ts) (inl peak) more = absurd (let same : leaf_count node ≡ leaf_count t = ap leaf_count peak.1 in omega (arith, peak.0, same))
 next_peak first node (t ∷ ts) (inr peak) more =
     elim (cases_lt (first + leaf_count node) (leaves ts)) [
-        inl below ↦ (let rest = next_peak first node ts peak below in (rest.0, inr rest.1))
+      | inl below ↦ (let rest = next_peak first node ts peak below in (rest.0, inr rest.1))
       | inr all ↦ (t, inl (omega (arith, node-fits first node ts (peak-node first node ts peak)), refl))
     ]

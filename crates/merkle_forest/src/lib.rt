@@ -6,21 +6,25 @@ pub mod codec;
 pub mod digest;
 pub mod family;
 pub mod forest;
+pub mod graftable;
 pub mod hasher;
+pub mod location;
+pub mod location_range;
 pub mod mmr;
+pub mod pending;
+pub mod position;
 pub mod root;
 pub mod sizes;
 pub mod trees;
-pub mod location;
-pub mod location_range;
-pub mod position;
 
 pub use bagging::Bagging;
 pub use digest::Digest;
 pub use family::{Family, MAX_LEAVES, MAX_NODES};
+pub use graftable::Graftable;
 pub use hasher::{ByteHash, HashFunction};
 pub use location::Location;
 pub use location_range::LocationRangeExt;
+pub use pending::PendingOf;
 pub use position::Position;
 
 #[cfg(test)]

@@ -50,8 +50,7 @@ impl family::Family for Family {
 /// The position of the leaf behind n leaves is 2n less the number of ones among n's binary digits.
 pub fn position_of_a_leaf()
     ensures { (n : ℕ) → n ≤ 2 ^ 62 → size (forest_of mmr_rule n) ≡ 2 * n - count_ones n }
-{
-}
+{}
 
 #[cfg(test)]
 mod tests;

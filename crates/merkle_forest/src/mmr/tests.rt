@@ -10,7 +10,9 @@ fn node_count_of(tree: &Tree) -> u64 {
     match tree {
         Tree::Leaf(_) => 1,
         Tree::Branch(_, left, right) => {
-            node_count_of(left).wrapping_add(node_count_of(right)).wrapping_add(1)
+            node_count_of(left)
+                .wrapping_add(node_count_of(right))
+                .wrapping_add(1)
         }
     }
 }
