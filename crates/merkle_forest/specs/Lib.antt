@@ -11,6 +11,8 @@ pub mod MmrLaws
 pub mod MmrNodes
 pub mod NodeLaws
 pub mod Nodes
+pub mod PeakLaws
+pub mod Peaks
 pub mod Perfect
 pub mod Shape
 pub mod Trees

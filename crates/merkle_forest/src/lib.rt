@@ -8,6 +8,7 @@ pub mod family;
 pub mod forest;
 pub mod hasher;
 pub mod mmr;
+pub mod peaks;
 pub mod root;
 pub mod sizes;
 pub mod trees;
