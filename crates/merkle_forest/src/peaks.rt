@@ -1,9 +1,10 @@
 //! The peaks of a forest from left to right, for every family.
 
-ghost use Rattle.std.specs.Prelude.{◌≡◌, ◌≤◌, ℕ};
+ghost use Rattle.std.specs.Prelude.{◌≡◌, ◌≤◌, ℕ, map};
 ghost use Rattle.std.specs.Iterator.{YieldsFirst, item_count};
 ghost use Rattle.merkle_forest.specs.Forest.{forest_of};
 ghost use Rattle.merkle_forest.specs.Nodes.{IsSize};
+ghost use Rattle.merkle_forest.specs.Trees.{placed, inactive_peaks};
 ghost use Rattle.merkle_forest.specs.Peaks.{peak_places, ArePeaksOf};
 
 use crate::family::{Family, MAX_LEAVES};
@@ -69,4 +70,59 @@ impl<F: Family> Iterator for Peaks<F> {
         self.next += 1u64 << height;
         Some((Position::new(position), height))
     }
+}
+
+/// The positions of the peaks of a forest from left to right. Contracts see those that are left.
+#[derive(Drop)]
+pub struct PeakPositions<F: Family> {
+    peaks: Peaks<F>,
+}
+
+impl<F: Family> Model for PeakPositions<F> {
+    ghost use Rattle.std.specs.Prelude.{ℕ, List, map};
+
+    ghost Value = { List ℕ };
+
+    ghost view = { λ a. map (λ place. place.0) a.peaks };
+}
+
+impl<F: Family> PeakPositions<F> {
+    /// The positions of these peaks (own).
+    pub fn new(peaks: Peaks<F>) -> PeakPositions<F>
+        ensures { result ≡ map (λ place. place.0) peaks }
+    {
+        PeakPositions { peaks }
+    }
+}
+
+impl<F: Family> Iterator for PeakPositions<F> {
+    type Item = Position<F>;
+
+    ghost next_gives = { YieldsFirst (λ s. s) };
+
+    ghost remaining = { item_count (λ s. s) };
+
+    fn next(&mut self) -> Option<Position<F>> {
+        let (position, _) = self.peaks.next()?;
+        Some(position)
+    }
+}
+
+/// How many peaks of the forest of this many leaves come first whose leaves all stand before the floor (own).
+pub fn inactive_count<F: Family>(leaves: u64, floor: u64) -> usize
+    requires { leaves ≤ MAX_LEAVES }
+    ensures { result ≡ inactive_peaks floor (placed (forest_of F.merge_rule leaves)) }
+{
+    let mut first = 0;
+    let mut count = 0;
+    while first < leaves {
+        let (_, height) = F::peak_from(leaves, first);
+        let end = first + (1u64 << height);
+        if end > floor {
+            return count;
+        }
+        first = end;
+        count += 1;
+    }
+    count
 }

@@ -1,14 +1,14 @@
-use Rattle.std.proofs.Common.{◌≡◌, ◌<◌, ◌≤◌, ◌+◌, ◌*◌, ◌^◌, ◌%◌, List, [], ◌∷◌, length, sym, ◌∙◌, ap, arith}
+use Rattle.std.proofs.Common.{◌≡◌, ◌<◌, ◌≤◌, ◌+◌, ◌*◌, ◌^◌, ◌%◌, List, [], ◌∷◌, length, map, sym, ◌∙◌, ap, arith}
 use Rattle.merkle_forest.specs.Forest.{forest_of}
 use Rattle.merkle_forest.specs.ForestGrowth.{leaves-forest_of}
-use Rattle.merkle_forest.specs.Peaks.{places_from}
-use Rattle.merkle_forest.specs.PeakLaws.{IsStep, step, cut-begins, places_from-end}
+use Rattle.merkle_forest.specs.Peaks.{place_of, places_from}
+use Rattle.merkle_forest.specs.PeakLaws.{IsStep, step, cut-begins, placed_from-end}
 use Rattle.merkle_forest.proofs.peaks.PeaksIterator.next.Goals as goal
 
 pub returns-then-self-clause-steps : goal.returns-then-self-clause-steps
 returns-then-self-clause-steps g c =
     let none : places_from c.self.inside.next (forest_of g.F.Family.merge_rule c.self.inside.leaves) ≡ [] =
-        places_from-end (forest_of g.F.Family.merge_rule c.self.inside.leaves) c.self.inside.next (omega (arith, leaves-forest_of g.F.Family.merge_rule g.met.F.Family.merges_equals c.self.inside.leaves)) in
+        ap (map place_of) (placed_from-end (forest_of g.F.Family.merge_rule c.self.inside.leaves) c.self.inside.next (omega (arith, leaves-forest_of g.F.Family.merge_rule g.met.F.Family.merges_equals c.self.inside.leaves))) in
     (sym c.self.view_is ∙ none, sym c.self.view_is ∙ none)
 
 pub peak_from-position-requires-clause-begins : goal.peak_from-position-requires-clause-begins
