@@ -7,6 +7,7 @@ pub mod Hashing
 pub mod ListLaws
 pub mod Lists
 pub mod Mmr
+pub mod MmrBirths
 pub mod MmrLaws
 pub mod MmrNodes
 pub mod NodeLaws
