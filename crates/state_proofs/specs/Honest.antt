@@ -8,22 +8,22 @@ use Rattle.merkle_core.specs.Proofs.{proof_spelling}
 use Rattle.state_proofs.specs.Canonical.{Setting, State, chunk_bits, chunk, peaks, grafted_digests, grafted_inactive, operations_root, pending_digest, partial_digest}
 
 -- the digests that lead from the operations from `start` up to `stop` to the grafted root
-abbrev pub grafted_range : Setting → State → ℕ → ℕ → List (List ℕ)
+unfoldable pub grafted_range : Setting → State → ℕ → ℕ → List (List ℕ)
 grafted_range setting state start stop =
     let inactive = grafted_inactive setting state in
     range_digests setting.hash (grafted_digests setting state) BackwardFold start stop (take inactive (peaks setting state)) (drop inactive (peaks setting state))
 
 -- Merkle proof, pending digest as the family spells it, partial digest if any, and the root of the operations' tree
-abbrev pub range_proof : (Option (List ℕ) → List ℕ) → Setting → State → ℕ → ℕ → List ℕ
+unfoldable pub range_proof : (Option (List ℕ) → List ℕ) → Setting → State → ℕ → ℕ → List ℕ
 range_proof pending setting state start stop =
-    proof_spelling (length state.operations) (grafted_inactive setting state) (grafted_range setting state start stop) ++ pending (pending_digest setting state)
-    ++ option_spelling (λ digest. digest) (partial_digest setting state) ++ operations_root setting state
+    proof_spelling (length state.operations) (grafted_inactive setting state) (grafted_range setting state start stop)
+    ++ (pending (pending_digest setting state) ++ (option_spelling (λ digest. digest) (partial_digest setting state) ++ operations_root setting state))
 
 -- the location, the chunk with its bit, and the proof of the one operation there
-abbrev pub operation_proof : (Option (List ℕ) → List ℕ) → Setting → State → ℕ → List ℕ
+unfoldable pub operation_proof : (Option (List ℕ) → List ℕ) → Setting → State → ℕ → List ℕ
 operation_proof pending setting state location =
-    varint location ++ chunk setting state (location / chunk_bits setting) ++ range_proof pending setting state location (location + 1)
+    varint location ++ (chunk setting state (location / chunk_bits setting) ++ range_proof pending setting state location (location + 1))
 
 -- the proof of an update, and the next key that it names
-abbrev pub key_value_proof : (Option (List ℕ) → List ℕ) → Setting → State → ℕ → List ℕ → List ℕ
+unfoldable pub key_value_proof : (Option (List ℕ) → List ℕ) → Setting → State → ℕ → List ℕ → List ℕ
 key_value_proof pending setting state location next_key = operation_proof pending setting state location ++ next_key

@@ -4,5 +4,6 @@
 pub mod bits;
 pub mod canonical;
 pub mod grafting;
+pub mod honest;
 pub mod seal;
 pub mod snapshot;
