@@ -1,15 +1,14 @@
 -- Roots of equal parts are equal.
-use Rattle.std.proofs.Common.{◌≡◌, ℕ, zero, suc, ◌+◌, ◌*◌, ◌<◌, Bool, true, false, ltb, eqb, List, [], length, map, drop, Option, Some, None, refl, sym, ◌∙◌, ap, arith}
+use Rattle.std.proofs.Common.{◌≡◌, ℕ, zero, suc, ◌+◌, ◌*◌, ◌<◌, Bool, true, false, ltb, eqb, List, [], length, drop, Option, Some, None, refl, ◌∙◌, ap, arith}
 use Rattle.std.specs.Prelude.{IsSome, IfSome, option_map, slice_index_or, if◌then◌else◌, ◌==◌}
 use Rattle.std.proofs.lemmas.Bool.{lt-ltb}
 use Rattle.state_proofs.specs.Bits.{chunks_of}
-use Rattle.std.proofs.lemmas.List.{length-map}
 use Rattle.merkle_forest.specs.declared.bagging.Bagging.{Bagging}
 use Rattle.merkle_forest.specs.declared.bagging.Bagging.TheVariants.{BackwardFold}
-use Rattle.merkle_forest.specs.Forest.{Tree, Rule, forest_of}
+use Rattle.merkle_forest.specs.Forest.{Tree}
 use Rattle.merkle_forest.specs.Hashing.{Hash, root_of}
 use Rattle.merkle_forest.specs.Trees.{Placed, placed, plain_digest, peak_digests, inactive_peaks, tree_root}
-use Rattle.state_proofs.specs.Canonical.{Setting, State, chunk_bits, chunks, operations_root, grafted_root, grafted_digests, grafted_inactive, forest, peaks, full_chunks, next_bit, pending_digest, partial_digest}
+use Rattle.state_proofs.specs.Canonical.{Setting, State, chunk_bits, chunks, operations_root, grafted_root, grafted_digests, grafted_inactive, forest, full_chunks, next_bit, pending_digest, partial_digest}
 use Rattle.state_proofs.specs.Grafting.{grafted_digest, graftable_chunks, chunk_aligned_inactive_peaks}
 
 -- a root of the operations' tree, from what the code computes

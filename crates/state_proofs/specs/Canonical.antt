@@ -1,9 +1,9 @@
 -- The canonical root of a state: its operations, their activity bits and its floor.
-use Rattle.std.specs.Prelude.{ℕ, ◌+◌, ◌*◌, ◌/◌, ◌%◌, ◌==◌, nat_lt, Bool, if◌then◌else◌, List, [], ◌∷◌, ◌++◌, length, map, take, drop, Option, None, Some, option_map, slice_index_or}
+use Rattle.std.specs.Prelude.{ℕ, ◌+◌, ◌*◌, ◌/◌, ◌%◌, ◌==◌, nat_lt, Bool, if◌then◌else◌, List, [], ◌++◌, length, Option, None, Some, option_map, slice_index_or}
 use Rattle.merkle_forest.specs.declared.bagging.Bagging.TheVariants.{BackwardFold}
 use Rattle.merkle_forest.specs.Forest.{Tree, Rule, forest_of}
 use Rattle.merkle_forest.specs.Hashing.{Hash, number, root_of}
-use Rattle.merkle_forest.specs.Trees.{Placed, placed, plain_digest, peak_digests, inactive_peaks, tree_root}
+use Rattle.merkle_forest.specs.Trees.{Placed, placed, peak_digests, inactive_peaks, tree_root}
 use Rattle.state_proofs.specs.Bits.{chunks_of}
 use Rattle.state_proofs.specs.Grafting.{grafted_digest, graftable_chunks, chunk_aligned_inactive_peaks}
 

@@ -1,5 +1,5 @@
 -- The honest bytes of a proof.
-use Rattle.std.specs.Prelude.{ℕ, ◌+◌, ◌/◌, List, ◌++◌, length, map, take, drop, Option}
+use Rattle.std.specs.Prelude.{ℕ, ◌+◌, ◌/◌, List, ◌++◌, length, take, drop, Option}
 use Rattle.merkle_forest.specs.declared.bagging.Bagging.TheVariants.{BackwardFold}
 use Rattle.merkle_forest.specs.Codec.{option_spelling}
 use Rattle.merkle_forest.specs.Varint.{varint}

@@ -1,5 +1,5 @@
 -- A snapshot of the code as a state and its setting.
-use Rattle.std.specs.Prelude.{List, ℕ, map}
+use Rattle.std.specs.Prelude.{map}
 use Rattle.merkle_forest.specs.Forest.{Rule}
 use Rattle.merkle_forest.specs.Hashing.{Hash}
 use Rattle.state_proofs.specs.declared.snapshot.Snapshot.{Snapshot}

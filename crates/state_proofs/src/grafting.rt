@@ -40,8 +40,8 @@ pub struct Grafted<'a, H> {
     ghost some_bits: { 0 < bits },
 }
 
-// The chunk that stands over the leaf, or no byte where there is none.
-fn chunk_over<'a>(chunks: &'a [Vec<u8>], bits: usize, start: usize) -> &'a [u8]
+/// The chunk that stands over the leaf, or no byte where there is none.
+pub fn chunk_over<'a>(chunks: &'a [Vec<u8>], bits: usize, start: usize) -> &'a [u8]
     requires { 0 < bits }
     ensures { result.now ≡ slice_index_or (map (λ chunk. chunk.items) chunks.now) (start / bits) [] }
 {

@@ -15,7 +15,7 @@ ghost use Rattle.state_proofs.specs.Snapshot.{state_of, setting_of};
 use crate::canonical::{
     chunks_of_state, grafted_trees, partial_digest_of, pending_digest_of, root_of_operations,
 };
-use crate::grafting::{Grafted, aligned_count_of};
+use crate::grafting::{Grafted, aligned_count_of, chunk_over};
 use crate::snapshot::Snapshot;
 use merkle_core::Proof;
 use merkle_core::proof::write_proof;
@@ -73,4 +73,60 @@ fn grafted_proof<F: PendingOf<H::Digest>, H: HashFunction>(
         inactive_peaks: inactive as u64,
         digests,
     })
+}
+
+// Appends Merkle proof, pending digest, partial digest and the root of the operations.
+fn write_range_proof<D: Digest, F: PendingOf<D>>(
+    out: &mut Vec<u8>,
+    proof: &Proof<D>,
+    pending: &Option<D>,
+    partial: &Option<D>,
+    operations: &D,
+) -> Result<(), AllocError>
+    ensures { OnOk result (out.new.items ≡ out.old.items ++ (proof_spelling proof.now.leaves proof.now.inactive_peaks (map D.spelling proof.now.digests.items)
+        ++ (F.pending_spelling (option_map D.spelling pending.now) ++ (option_spelling (λ digest. digest) (option_map D.spelling partial.now) ++ D.spelling operations.now)))) }
+{
+    write_proof(proof, out)?;
+    F::write_pending(pending, out)?;
+    partial.write(out)?;
+    operations.write(out)?;
+    Ok(())
+}
+
+/// The honest bytes that prove the one operation at a location. It fails for want of memory alone.
+pub fn operation_proof_bytes<F: PendingOf<H::Digest>, H: HashFunction>(
+    alloc: Global,
+    snapshot: &Snapshot<'_>,
+    location: u64,
+) -> Result<Vec<u8>, AllocError>
+    requires { location < length snapshot.now.operations.now }
+    ensures { IfOk result (λ bytes. bytes.items ≡ operation_proof F.pending_spelling (setting_of F.merge_rule H.hash_of snapshot.now) (state_of snapshot.now) location) }
+{
+    let trees = grow::<F>(alloc, snapshot.operations.len() as u64)?;
+    let chunks = chunks_of_state(alloc, snapshot)?;
+    let proof = grafted_proof::<F, H>(alloc, snapshot, &chunks, &trees, location, location + 1)?;
+    let pending = pending_digest_of::<F, H>(snapshot, &chunks, &trees);
+    let partial = partial_digest_of::<F, H>(snapshot, &chunks);
+    let operations = root_of_operations::<F, H>(alloc, snapshot, &trees)?;
+    let mut out = Vec::new(alloc);
+    write_number(&mut out, location)?;
+    out.extend_from_slice(chunk_over(&chunks, 8 * snapshot.width, location as usize))?;
+    write_range_proof::<H::Digest, F>(&mut out, &proof, &pending, &partial, &operations)?;
+    Ok(out)
+}
+
+/// The honest bytes that prove the update at a location, which names this next key. It fails for want of memory alone.
+#[tactic(auto, unfolding(crate::specs::Honest::key_value_proof))]
+pub fn key_value_proof_bytes<F: PendingOf<H::Digest>, H: HashFunction>(
+    alloc: Global,
+    snapshot: &Snapshot<'_>,
+    location: u64,
+    next_key: &[u8],
+) -> Result<Vec<u8>, AllocError>
+    requires { location < length snapshot.now.operations.now }
+    ensures { IfOk result (λ bytes. bytes.items ≡ key_value_proof F.pending_spelling (setting_of F.merge_rule H.hash_of snapshot.now) (state_of snapshot.now) location next_key.now) }
+{
+    let mut out = operation_proof_bytes::<F, H>(alloc, snapshot, location)?;
+    out.extend_from_slice(next_key)?;
+    Ok(out)
 }

@@ -1,5 +1,3 @@
-use Rattle.std.proofs.Common.{◌∷◌, [], ◌++◌, take, drop, ap}
-use Rattle.state_proofs.specs.Bits.{byte_of}
 use Rattle.state_proofs.proofs.BitLemmas.{chunk_goes_on, chunk_ends}
 use Rattle.state_proofs.proofs.bits.chunk_from.Goals as goal
 

@@ -1,8 +1,8 @@
-use Rattle.std.proofs.Common.{◌≡◌, ◌<◌, sym, ◌∙◌, ap, length, map, Some, List, [], ℕ, arith, eqb, false, true}
+use Rattle.std.proofs.Common.{◌≡◌, ◌∙◌, ap, length, map, Some, [], arith, eqb, false}
 use Rattle.std.specs.Prelude.{slice_index_or}
 use Rattle.std.proofs.lemmas.Bool.{ne_eqb}
 use Rattle.std.proofs.lemmas.List.{length-map}
-use Rattle.state_proofs.specs.Canonical.{chunks, chunk_bits, full_chunks, next_bit}
+use Rattle.state_proofs.specs.Canonical.{full_chunks, next_bit}
 use Rattle.state_proofs.specs.Snapshot.{state_of, setting_of}
 use Rattle.state_proofs.proofs.RootLemmas.{is_partial_digest, chunk_is, partial_stands}
 use Rattle.state_proofs.proofs.canonical.partial_digest_of.Goals as goal

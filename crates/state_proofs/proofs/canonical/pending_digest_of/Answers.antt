@@ -1,8 +1,8 @@
-use Rattle.std.proofs.Common.{◌≡◌, ◌<◌, sym, ◌∙◌, ap, length, map, Some, List, [], ℕ, arith}
+use Rattle.std.proofs.Common.{◌≡◌, ◌<◌, sym, ◌∙◌, ap, length, map, Some, [], arith}
 use Rattle.std.specs.Prelude.{slice_index_or}
 use Rattle.std.proofs.lemmas.List.{length-map}
 use Rattle.merkle_forest.specs.Forest.{forest_of}
-use Rattle.state_proofs.specs.Canonical.{chunks, chunk_bits, full_chunks, next_bit}
+use Rattle.state_proofs.specs.Canonical.{full_chunks}
 use Rattle.state_proofs.specs.Grafting.{graftable_chunks}
 use Rattle.state_proofs.specs.Snapshot.{state_of, setting_of}
 use Rattle.state_proofs.proofs.RootLemmas.{is_pending_digest, chunk_is, length-chunks}

@@ -1,8 +1,7 @@
-use Rattle.std.proofs.Common.{sym, ◌∙◌, ap, length, map, refl}
+use Rattle.std.proofs.Common.{sym, ◌∙◌, ap, length, map}
 use Rattle.std.proofs.lemmas.List.{length-map}
 use Rattle.merkle_forest.specs.Forest.{forest_of}
 use Rattle.merkle_forest.specs.Shape.{shape}
-use Rattle.merkle_forest.specs.Trees.{peak_digests}
 use Rattle.merkle_forest.specs.TreesCode.{shapes}
 use Rattle.state_proofs.specs.Canonical.{chunk_bits}
 use Rattle.state_proofs.specs.Grafting.{grafted_digest, chunk_aligned_inactive_peaks}

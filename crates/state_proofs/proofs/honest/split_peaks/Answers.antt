@@ -1,4 +1,4 @@
-use Rattle.std.proofs.Common.{◌∙◌, ap, sym, subst, take, drop}
+use Rattle.std.proofs.Common.{◌∙◌, ap, sym, subst}
 use Rattle.std.proofs.lemmas.List.{take-map, drop-map}
 use Rattle.merkle_forest.specs.Trees.{Within}
 use Rattle.merkle_forest.specs.TreesCode.{placed_shape, shapes}
