@@ -2,8 +2,11 @@
 #![tactic(auto)]
 
 pub mod batch;
+pub mod error;
 pub mod history;
+pub mod plain;
 pub mod script;
 pub mod state;
+pub mod store;
 
 pub use batch::{Batch, Word};

@@ -1,0 +1,157 @@
+//! The authenticated store.
+
+ghost use Rattle.std.specs.Prelude.{◌≡◌, ◌<◌, ◌≤◌, ◌^◌, ◌↔◌, [], length, option_map, Ok, IfOk, IsOkAnd, IsTrue, OnOk, OnErr, IsErrOf};
+ghost use Rattle.auth_store.specs.Batch as words;
+ghost use Rattle.auth_store.specs.History as spec;
+ghost use Rattle.auth_store.specs.Map.{value_at};
+ghost use Rattle.auth_store.specs.Store.{IsChunkWidth, Keeps, setting_of_width, floor_of, root_of_history, commit_after};
+
+pub mod log;
+
+use crate::batch::Batch;
+use crate::error::StoreError;
+use crate::history::{inactivity_floor, latest_map_of};
+use crate::plain::{PlainCache, PlainDevice, Sizes};
+use crate::state;
+use log::{additions, copy_of, root_of_log, spelled};
+use merkle_forest::{Family, HashFunction};
+use state_ops::{FixedValue, Key, Operation};
+use std::alloc::Global;
+use std::marker::{Model, PhantomData};
+
+/// The greatest number of operations in a log.
+pub const MAX_OPERATIONS: u64 = 0x4000_0000_0000_0000;
+
+/// A store of keys `K` and values `V` with its history, whose root is hashed by `H` over trees of the family `F` and
+/// over chunks of `N` bytes. Its contracts see it as its history.
+#[derive(Drop)]
+pub struct Store<F: Family, H: HashFunction, K: Key, V: FixedValue, const N: usize> {
+    alloc: Global,
+    operations: Vec<Operation<K, V>>,
+    commits: u64,
+    floor: u64,
+    root: H::Digest,
+    device: PlainDevice,
+    family: PhantomData<F>,
+}
+
+impl<F: Family, H: HashFunction, K: Key, V: FixedValue, const N: usize> Model
+    for Store<F, H, K, V, N>
+{
+    ghost Value = { spec.History };
+
+    ghost view = { λ s. spec.history_of (spec.meanings K.spelling V.spelling s.operations.items) };
+
+    ghost invariant = { λ s. IsChunkWidth N × Keeps (setting_of_width F.merge_rule H.hash_of N) K.SIZE V.SIZE (spec.meanings K.spelling V.spelling s.operations.items) s.commits s.floor (H.Digest.spelling s.root) };
+}
+
+/// Whether a chunk may have this many bytes: a power of two from 1 to 4096.
+pub fn is_chunk_width(n: usize) -> bool {
+    n != 0 && n <= 4096 && n & (n - 1) == 0
+}
+
+impl<F: Family, H: HashFunction, K: Key, V: FixedValue, const N: usize> Store<F, H, K, V, N> {
+    /// A store with an empty history over an empty device. Want of memory: S4.
+    pub fn open(
+        alloc: Global,
+        device: PlainDevice,
+        cache: PlainCache,
+        sizes: Sizes,
+    ) -> Result<Store<F, H, K, V, N>, StoreError>
+        requires width { IsChunkWidth N }
+        requires empty { device.bytes.items ≡ [] }
+        ensures ok { IfOk result (λ store. store ≡ []) }
+        ensures err { IsErrOf result StoreError.NumberEnded → ⊥ }
+    {
+        let _ = (cache, sizes);
+        let mut device = device;
+        let mut operations = Vec::new(alloc);
+        operations.push(Operation::CommitFloor(None, 0))?;
+        let root = root_of_log::<F, H, K, V, N>(alloc, &operations, 0)?;
+        device.append(&spelled(alloc, &operations)?)?;
+        Ok(Store {
+            alloc,
+            operations,
+            commits: 0,
+            floor: 0,
+            root,
+            device,
+            family: PhantomData,
+        })
+    }
+
+    /// Appends the batch with its commit, and answers the new root. Where the log would pass 2^62 operations: S3; want
+    /// of memory: S4.
+    pub fn commit(
+        &mut self,
+        batch: Batch<K, V>,
+        metadata: Option<V>,
+    ) -> Result<H::Digest, StoreError>
+        ensures ok { OnOk result (self.new ≡ commit_after (words.meanings K.spelling V.spelling batch.words.items) (option_map V.spelling metadata) self.old) }
+        ensures root { IfOk result (λ root. H.Digest.spelling root ≡ root_of_history (setting_of_width F.merge_rule H.hash_of N) K.SIZE V.SIZE self.new) }
+        ensures err { OnErr result (self.new ≡ self.old) }
+        ensures within { OnOk result (length (spec.log_of self.new) ≤ 2 ^ 62) }
+        ensures ended { IsErrOf result StoreError.NumberEnded → 2 ^ 62 < length (spec.log_of (commit_after (words.meanings K.spelling V.spelling batch.words.items) (option_map V.spelling metadata) self.old)) }
+    {
+        let alloc = self.alloc;
+        let mut added = additions(alloc, &self.operations, &batch)?;
+        if added.len() as u64 >= MAX_OPERATIONS - self.operations.len() as u64 {
+            return Err(StoreError::NumberEnded);
+        }
+        let mut operations = copy_of(alloc, &self.operations)?;
+        operations.append(&mut added)?;
+        let floor = inactivity_floor(&operations);
+        operations.push(Operation::CommitFloor(metadata, floor))?;
+        let root = root_of_log::<F, H, K, V, N>(alloc, &operations, floor)?;
+        let bytes = spelled(alloc, &operations[self.operations.len()..])?;
+        self.device.append(&bytes)?;
+        self.operations = operations;
+        self.commits += 1;
+        self.floor = floor;
+        self.root = root;
+        Ok(root)
+    }
+
+    /// The value of the key in the latest state, or `None` where there is none. Want of memory: S4.
+    pub fn get(&self, key: &K) -> Result<Option<V>, StoreError>
+        ensures ok { IfOk result (λ found. option_map V.spelling found ≡ value_at (spec.latest_map self.now) (K.spelling key.now)) }
+        ensures err { IsErrOf result StoreError.NumberEnded → ⊥ }
+    {
+        let latest = latest_map_of(self.alloc, &self.operations)?;
+        match state::get(&latest, key) {
+            None => Ok(None),
+            Some(value) => Ok(Some(value.clone()?)),
+        }
+    }
+
+    /// The root of the history. It never refuses.
+    pub fn root(&self) -> Result<H::Digest, StoreError>
+        ensures { IsOkAnd result (λ root. H.Digest.spelling root ≡ root_of_history (setting_of_width F.merge_rule H.hash_of N) K.SIZE V.SIZE self.now) }
+    {
+        Ok(self.root)
+    }
+
+    /// How many commits the history has. It never refuses.
+    pub fn commits(&self) -> Result<u64, StoreError>
+        ensures { result ≡ Ok (length self.now) }
+    {
+        Ok(self.commits)
+    }
+
+    /// The floor that the last commit of the log records: the place of an operation. It never refuses.
+    pub fn floor(&self) -> Result<u64, StoreError>
+        ensures { result ≡ Ok (floor_of self.now) }
+    {
+        Ok(self.floor)
+    }
+
+    /// How many operations the log has. It never refuses.
+    pub fn len(&self) -> Result<u64, StoreError>
+        ensures { result ≡ Ok (length (spec.log_of self.now)) }
+    {
+        Ok(self.operations.len() as u64)
+    }
+}
+
+#[cfg(test)]
+mod tests;
