@@ -7,10 +7,13 @@ pub mod Hashing
 pub mod ListLaws
 pub mod Lists
 pub mod Mmr
+pub mod MmrBirths
 pub mod MmrLaws
 pub mod MmrNodes
 pub mod NodeLaws
 pub mod Nodes
+pub mod PeakLaws
+pub mod Peaks
 pub mod Perfect
 pub mod Shape
 pub mod Trees

@@ -25,17 +25,17 @@ leaf_place-right k a =
     let there : 0 < 2 ^ k = pow_pos k in
     omega (arith, double, right, whole, half, few, there)
 
-left_half : (k a : ℕ) → a * 2 ^ suc k ≡ a * 2 * 2 ^ k
+pub left_half : (k a : ℕ) → a * 2 ^ suc k ≡ a * 2 * 2 ^ k
 left_half k a = let wide : a * 2 ^ suc k ≡ a * (2 ^ k * 2) = ap (λ n. a * n) (pow-suc 2 k) in omega (arith, wide)
 
-right_half : (k a : ℕ) → (2 * a + 1) * 2 ^ k ≡ a * 2 ^ suc k + 2 ^ k
+pub right_half : (k a : ℕ) → (2 * a + 1) * 2 ^ k ≡ a * 2 ^ suc k + 2 ^ k
 right_half k a = omega (arith, left_half k a)
 
 pow_le : (a b : ℕ) → a ≤ b → 2 ^ a ≤ 2 ^ b
 pow_le a b le = pow-le-pow_right {n = 2} (omega arith) le
 
 -- 2 ^ a is below 2 ^ suc b where a is at most b, and there alone
-pow_order : (a b : ℕ) → 2 ^ a < 2 ^ suc b → a ≤ b
+pub pow_order : (a b : ℕ) → 2 ^ a < 2 ^ suc b → a ≤ b
 pow_order a b lt = elim (cases_lt b a) [ inl above ↦ absurd (omega (arith, lt, pow_le (suc b) a above)) | inr le ↦ le ]
 
 -- a tree over leaves from a multiple of their number on

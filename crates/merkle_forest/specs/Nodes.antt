@@ -1,5 +1,5 @@
 -- Where the nodes of a forest stand. A node's place is the location of the first leaf below it.
-use Rattle.std.specs.Prelude.{◌≡◌, ℕ, suc, ◌+◌, ◌≤◌, ◌<◌, ◌^◌, ◌⊎◌, List, [], ◌∷◌}
+use Rattle.std.specs.Prelude.{◌≡◌, ℕ, suc, ◌+◌, ◌≤◌, ◌^◌, ◌⊎◌, ◌↔◌, List, [], ◌∷◌}
 use Rattle.merkle_forest.specs.Forest.{Tree, leaf, branch, position, height, leaf_count, size, leaves, Rule, forest_of}
 
 -- a tree whose first leaf has the location `first` is the tree that starts at `start`, or stands below its root
@@ -45,3 +45,27 @@ HasPeak peaks first = (peak : Tree) × IsPeakAt first peak peaks
 -- the node count of a forest of the rule
 abbrev pub IsSize : Rule → ℕ → Type 0
 IsSize rule s = (n : ℕ) × (n ≤ 2 ^ 62) × (s ≡ size (forest_of rule n))
+
+-- a node of height h whose first leaf has the location `first`
+abbrev pub HasNode : List Tree → ℕ → ℕ → Type 0
+HasNode peaks first h = (node : Tree) × IsNodeAt first node peaks × (h ≡ height node)
+
+-- a forest of the rule has such a node
+abbrev pub IsSubtree : Rule → ℕ → ℕ → Type 0
+IsSubtree rule first h = (n : ℕ) × (n ≤ 2 ^ 62) × HasNode (forest_of rule n) first h
+
+-- in every forest of the rule such a node has this position
+abbrev pub IsPlaceOfNode : Rule → ℕ → ℕ → ℕ → Type 0
+IsPlaceOfNode rule first h p = (n : ℕ) (node : Tree) → n ≤ 2 ^ 62 → IsNodeAt first node (forest_of rule n) → h ≡ height node → p ≡ position node
+
+-- the forests that have such a node are those of so many leaves or more
+abbrev pub IsBirth : Rule → ℕ → ℕ → ℕ → Type 0
+IsBirth rule first h birth = (n : ℕ) → (HasNode (forest_of rule n) first h ↔ (birth ≤ n))
+
+-- a forest of the rule has a node of height h at position p
+abbrev pub StandsAt : Rule → ℕ → ℕ → Type 0
+StandsAt rule p h = (n : ℕ) × (n ≤ 2 ^ 62) × ((first : ℕ) × (node : Tree) × IsNodeAt first node (forest_of rule n) × (p ≡ position node) × (h ≡ height node))
+
+-- the leaf at this position is the first below the node of height h at position p
+abbrev pub IsLeftmostLeaf : Rule → ℕ → ℕ → ℕ → Type 0
+IsLeftmostLeaf rule p h at = (n first : ℕ) (node : Tree) → n ≤ 2 ^ 62 → IsNodeAt first node (forest_of rule n) → p ≡ position node → h ≡ height node → at ≡ size (forest_of rule first)

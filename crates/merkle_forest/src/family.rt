@@ -1,10 +1,12 @@
 //! Families of Merkle forests.
 
-ghost use Rattle.std.specs.Prelude.{◌≡◌, ◌≤◌, ◌↔◌, ℕ, List, Option, IfSome, IsSome, IsTrue};
+ghost use Rattle.std.specs.Prelude.{◌≡◌, ◌≤◌, ◌↔◌, ℕ, List, Option, IfSome, IsSome, IsTrue, map};
 ghost use Rattle.merkle_forest.specs.Forest.{IsPairOfEquals, size, forest_of};
 ghost use Rattle.merkle_forest.specs.Nodes.{HasPeak, IsPlaceOfPeak, HasBranch, AreChildren, IsSize};
+ghost use Rattle.merkle_forest.specs.Peaks.{peak_places, ArePeaksOf, IsInactiveCount};
 
 use crate::location::Location;
+use crate::peaks::{PeakPositions, Peaks, inactive_count};
 use crate::position::Position;
 use crate::sizes::greatest_leaf_count;
 use std::fmt::Debug;
@@ -88,5 +90,29 @@ pub trait Family: Copy + Debug + Drop {
         ensures nearest { (s : ℕ) → IsSize merge_rule s → s ≤ size → s ≤ result }
     {
         Position::new(Self::leaf_position(greatest_leaf_count::<Self>(size.as_u64())))
+    }
+
+    /// The peaks of the forest that has this many nodes, from left to right: the position and the height of each.
+    final fn peaks(size: Position<Self>) -> Peaks<Self>
+        requires { IsSize merge_rule size }
+        ensures { ArePeaksOf merge_rule size result }
+    {
+        Peaks::new(size)
+    }
+
+    /// The positions of the peaks of the forest of this many leaves, from left to right.
+    final fn nodes_to_pin(leaves: Location<Self>) -> PeakPositions<Self>
+        requires { leaves ≤ MAX_LEAVES }
+        ensures { result ≡ map (λ place. place.0) (peak_places (forest_of merge_rule leaves)) }
+    {
+        PeakPositions::new(Peaks::of_leaves(leaves))
+    }
+
+    /// How many peaks of the forest that has this many nodes come first whose leaves all stand before the floor.
+    final fn inactive_peaks(size: Position<Self>, floor: Location<Self>) -> usize
+        requires { IsSize merge_rule size }
+        ensures { IsInactiveCount merge_rule size floor result }
+    {
+        inactive_count::<Self>(greatest_leaf_count::<Self>(size.as_u64()), floor.as_u64())
     }
 }

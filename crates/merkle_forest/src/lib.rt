@@ -11,6 +11,7 @@ pub mod hasher;
 pub mod location;
 pub mod location_range;
 pub mod mmr;
+pub mod peaks;
 pub mod pending;
 pub mod position;
 pub mod root;

@@ -6,6 +6,7 @@ ghost use Rattle.merkle_forest.specs.ForestLaws.{mmr_merges_equals};
 ghost use Rattle.merkle_forest.specs.Mmr.{root_place};
 
 use crate::family;
+use crate::peaks::Peaks;
 
 // The position of the root over 2^height leaves of which the first has this location, a multiple of 2^height.
 fn root_position(first: u64, height: u32) -> u64
@@ -51,6 +52,9 @@ impl family::Family for Family {
 pub fn position_of_a_leaf()
     ensures { (n : ℕ) → n ≤ 2 ^ 62 → size (forest_of mmr_rule n) ≡ 2 * n - count_ones n }
 {}
+
+/// The peaks of a Merkle Mountain Range from left to right.
+pub type PeakIterator = Peaks<Family>;
 
 #[cfg(test)]
 mod tests;

@@ -78,9 +78,9 @@ if_any None = []
 if_any (Some bytes) = bytes
 
 -- both roots, the pending chunk's digest if any, and the next bit and the partial chunk's digest if any
-abbrev pub canonical_string : List ℕ → List ℕ → Option (List ℕ) → ℕ → Option (List ℕ) → List ℕ
+unfoldable pub canonical_string : List ℕ → List ℕ → Option (List ℕ) → ℕ → Option (List ℕ) → List ℕ
 canonical_string operations grafted pending next partial =
-    operations ++ grafted ++ if_any pending ++ if_any (option_map (λ digest. number next ++ digest) partial)
+    operations ++ (grafted ++ (if_any pending ++ if_any (option_map (λ digest. number next ++ digest) partial)))
 
 -- the canonical root
 unfoldable pub canonical_root : Setting → State → List ℕ

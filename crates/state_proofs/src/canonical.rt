@@ -1,13 +1,14 @@
 //! The canonical root of a state: the plain program of the definition (own).
 
-ghost use Rattle.std.specs.Prelude.{◌≡◌, ◌<◌, ◌≤◌, ◌+◌, ◌*◌, ◌^◌, ◌++◌, [], ◌∷◌, ℕ, List, map, length, IfOk, option_map};
+ghost use Rattle.std.specs.Prelude.{◌≡◌, ◌<◌, ◌≤◌, ◌+◌, ◌*◌, ◌^◌, ◌++◌, [], ◌∷◌, ℕ, List, map, length, IfOk, IfSome, IsSome, option_map, slice_index_or};
 ghost use Rattle.merkle_forest.specs.Forest.{leaves, forest_of};
 ghost use Rattle.merkle_forest.specs.Shape.{shape};
-ghost use Rattle.state_proofs.specs.Canonical.{chunks, operations_root, grafted_root, pending_digest, partial_digest, canonical_root, canonical_string};
+ghost use Rattle.state_proofs.specs.Canonical.{chunks as all_chunks, operations_root, grafted_root, pending_digest, partial_digest, canonical_root as root_of_state};
 ghost use Rattle.state_proofs.specs.Snapshot.{state_of, setting_of};
 
 use crate::bits::chunks_from;
 use crate::grafting::{Grafted, aligned_count_of, graftable_count};
+use crate::seal::seal;
 use crate::snapshot::Snapshot;
 use merkle_forest::bagging::Bagging;
 use merkle_forest::digest::Digest;
@@ -21,8 +22,8 @@ use std::marker::PhantomData;
 
 /// All chunks of the state, the partial one too. It fails for want of memory alone.
 #[tactic(auto, unfolding(crate::specs::Canonical::chunks))]
-pub fn all_chunks(alloc: Global, snapshot: &Snapshot<'_>) -> Result<Vec<Vec<u8>>, AllocError>
-    ensures { (rule : _) (hash : _) → IfOk result (λ found. map (λ chunk. chunk.items) found.items ≡ chunks (setting_of rule hash snapshot.now) (state_of snapshot.now)) }
+pub fn chunks_of_state(alloc: Global, snapshot: &Snapshot<'_>) -> Result<Vec<Vec<u8>>, AllocError>
+    ensures { (rule : _) (hash : _) → IfOk result (λ found. map (λ chunk. chunk.items) found.items ≡ all_chunks (setting_of rule hash snapshot.now) (state_of snapshot.now)) }
 {
     let bits = 8 * snapshot.width;
     let full = snapshot.operations.len() / bits;
@@ -55,4 +56,105 @@ pub fn root_of_operations<F: Family, H: HashFunction>(
         inactive,
         &digests,
     ))
+}
+
+/// The digests of the grafted tree of the state.
+pub fn grafted_trees<'a, H>(snapshot: &Snapshot<'a>, chunks: &'a [Vec<u8>]) -> Grafted<'a, H>
+    ensures elements { result.elements.now ≡ snapshot.now.operations.now }
+    ensures chunks { result.chunks.now ≡ chunks.now }
+    ensures height { result.grafting_height ≡ snapshot.now.grafting_height }
+    ensures bits { result.bits ≡ 8 * snapshot.now.width }
+{
+    Grafted {
+        elements: snapshot.operations,
+        chunks,
+        grafting_height: snapshot.grafting_height,
+        bits: 8 * snapshot.width,
+        function: PhantomData,
+    }
+}
+
+/// The root of the grafted tree. It fails for want of memory alone.
+pub fn root_of_grafted<F: Family, H: HashFunction>(
+    alloc: Global,
+    snapshot: &Snapshot<'_>,
+    chunks: &[Vec<u8>],
+    trees: &[Tree],
+) -> Result<H::Digest, AllocError>
+    requires grown { map shape trees.now ≡ forest_of F.merge_rule (length snapshot.now.operations.now) }
+    requires counted { leaves (map shape trees.now) ≡ length snapshot.now.operations.now }
+    requires chunked { map (λ chunk. chunk.items) chunks.now ≡ all_chunks (setting_of F.merge_rule H.hash_of snapshot.now) (state_of snapshot.now) }
+    ensures { IfOk result (λ root. H.Digest.spelling root ≡ grafted_root (setting_of F.merge_rule H.hash_of snapshot.now) (state_of snapshot.now)) }
+{
+    let peaks = place(alloc, trees)?;
+    let inactive = aligned_count_of(8 * snapshot.width, snapshot.floor, &peaks);
+    let grafted: Grafted<'_, H> = grafted_trees(snapshot, chunks);
+    let digests: Vec<H::Digest> = digests_of_peaks(alloc, &grafted, trees)?;
+    let hasher: Standard<H> = Standard::new(Bagging::BackwardFold);
+    let leaves = snapshot.operations.len() as u64;
+    Ok(root_of_peaks::<F, Standard<H>>(&hasher, leaves, inactive, &digests))
+}
+
+// The digest of the chunk at an index, if it is there.
+fn chunk_digest<H: HashFunction>(chunks: &[Vec<u8>], index: usize) -> Option<H::Digest>
+    ensures there { index < length chunks.now → IsSome result }
+    ensures digest { IfSome result (λ d. H.Digest.spelling d ≡ H.hash_of (slice_index_or (map (λ chunk. chunk.items) chunks.now) index [])) }
+{
+    let chunk = chunks.get(index)?;
+    Some(H::hash(&[chunk]))
+}
+
+/// The digest of the full chunk that isn't graftable yet, if there is one.
+#[tactic(auto, unfolding(crate::specs::Canonical::pending_digest))]
+pub fn pending_digest_of<F: Family, H: HashFunction>(
+    snapshot: &Snapshot<'_>,
+    chunks: &[Vec<u8>],
+    trees: &[Tree],
+) -> Option<H::Digest>
+    requires grown { map shape trees.now ≡ forest_of F.merge_rule (length snapshot.now.operations.now) }
+    requires counted { leaves (map shape trees.now) ≡ length snapshot.now.operations.now }
+    requires chunked { map (λ chunk. chunk.items) chunks.now ≡ all_chunks (setting_of F.merge_rule H.hash_of snapshot.now) (state_of snapshot.now) }
+    ensures { option_map H.Digest.spelling result ≡ pending_digest (setting_of F.merge_rule H.hash_of snapshot.now) (state_of snapshot.now) }
+{
+    let full = snapshot.operations.len() / (8 * snapshot.width);
+    let graftable = graftable_count(snapshot.grafting_height, trees);
+    if graftable < full {
+        chunk_digest::<H>(chunks, graftable)
+    } else {
+        None
+    }
+}
+
+/// The digest of the partial chunk, if there is one.
+#[tactic(auto, unfolding(crate::specs::Canonical::partial_digest))]
+pub fn partial_digest_of<F: Family, H: HashFunction>(
+    snapshot: &Snapshot<'_>,
+    chunks: &[Vec<u8>],
+) -> Option<H::Digest>
+    requires chunked { map (λ chunk. chunk.items) chunks.now ≡ all_chunks (setting_of F.merge_rule H.hash_of snapshot.now) (state_of snapshot.now) }
+    ensures { option_map H.Digest.spelling result ≡ partial_digest (setting_of F.merge_rule H.hash_of snapshot.now) (state_of snapshot.now) }
+{
+    let bits = 8 * snapshot.width;
+    if snapshot.operations.len() % bits == 0 {
+        return None;
+    }
+    chunk_digest::<H>(chunks, snapshot.operations.len() / bits)
+}
+
+/// The canonical root of the state. It fails for want of memory alone.
+#[tactic(auto, unfolding(crate::specs::Canonical::canonical_root))]
+pub fn canonical_root<F: Family, H: HashFunction>(
+    alloc: Global,
+    snapshot: &Snapshot<'_>,
+) -> Result<H::Digest, AllocError>
+    ensures { IfOk result (λ root. H.Digest.spelling root ≡ root_of_state (setting_of F.merge_rule H.hash_of snapshot.now) (state_of snapshot.now)) }
+{
+    let trees = grow::<F>(alloc, snapshot.operations.len() as u64)?;
+    let chunks = chunks_of_state(alloc, snapshot)?;
+    let operations = root_of_operations::<F, H>(alloc, snapshot, &trees)?;
+    let grafted = root_of_grafted::<F, H>(alloc, snapshot, &chunks, &trees)?;
+    let pending = pending_digest_of::<F, H>(snapshot, &chunks, &trees);
+    let partial = partial_digest_of::<F, H>(snapshot, &chunks);
+    let next = snapshot.operations.len() % (8 * snapshot.width);
+    Ok(seal::<H>(&operations, &grafted, &pending, next as u64, &partial))
 }

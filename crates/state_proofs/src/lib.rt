@@ -4,4 +4,5 @@
 pub mod bits;
 pub mod canonical;
 pub mod grafting;
+pub mod seal;
 pub mod snapshot;
