@@ -6,3 +6,4 @@ pub mod canonical;
 pub mod grafting;
 pub mod seal;
 pub mod snapshot;
+pub mod verify;
