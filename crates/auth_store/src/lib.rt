@@ -2,6 +2,7 @@
 #![tactic(auto)]
 
 pub mod batch;
+pub mod client;
 pub mod history;
 pub mod script;
 pub mod state;
