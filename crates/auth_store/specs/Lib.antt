@@ -7,3 +7,4 @@ pub mod Report
 pub mod Spelling
 pub mod Store
 pub mod Proving
+pub mod Claims
