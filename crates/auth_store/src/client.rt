@@ -62,7 +62,10 @@ pub struct ValueProof<'a, D, K> {
 }
 
 // Reads the Merkle proof of one operation: leaf count, count of inactive peaks, digests.
-fn read_proof<F: Graftable, D: Digest>(alloc: Global, cursor: &mut Cursor<'_>) -> Result<Proof<D>, Error> {
+fn read_proof<F: Graftable, D: Digest>(
+    alloc: Global,
+    cursor: &mut Cursor<'_>,
+) -> Result<Proof<D>, Error> {
     let leaves: Location<F> = Location::read_cfg(alloc, cursor, &())?;
     let inactive_peaks = read_number(cursor)?;
     let digests: Vec<D> = Vec::read_cfg(alloc, cursor, &RangeCfg::new(0, MAX_PROOF_DIGESTS))?;

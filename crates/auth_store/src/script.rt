@@ -5,11 +5,13 @@ pub mod key;
 pub mod line;
 pub mod number;
 pub mod report;
+pub mod run;
 
 pub use input::{InputError, MAX_READS, MAX_SCRIPT_BYTES, read_script};
 pub use key::parse_key;
 pub use line::{Line, parse_line};
 pub use number::parse_number;
+pub use run::run_script;
 
 #[cfg(test)]
 mod tests;

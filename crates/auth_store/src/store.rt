@@ -37,8 +37,7 @@ pub struct Store<F: Family, H: HashFunction, K: Key, V: FixedValue, const N: usi
 }
 
 impl<F: Family, H: HashFunction, K: Key, V: FixedValue, const N: usize> Model
-    for Store<F, H, K, V, N>
-{
+    for Store<F, H, K, V, N> {
     ghost Value = { spec.History };
 
     ghost view = { λ s. spec.history_of (spec.meanings K.spelling V.spelling s.operations.items) };

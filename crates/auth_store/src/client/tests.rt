@@ -69,7 +69,13 @@ fn fixed<const M: usize>(text: &str) -> FixedBytes<M> {
     FixedBytes::new(bytes)
 }
 
-fn says(alloc: Global, case: &Case, key: FixedBytes<8>, value: u64, bytes: &[u8]) -> Result<bool, ClientError> {
+fn says(
+    alloc: Global,
+    case: &Case,
+    key: FixedBytes<8>,
+    value: u64,
+    bytes: &[u8],
+) -> Result<bool, ClientError> {
     let claim = Claim::Value { key, value };
     check::<mmr::Family, ByteHash, FixedBytes<8>, u64, 1>(alloc, &fixed(case.root), &claim, bytes)
 }
@@ -82,7 +88,10 @@ fn honest_proofs_show_the_value_alone(rt: HostRuntime) -> Result<(), Fail> {
         let key = fixed(case.key);
         assert_eq!(rt; says(alloc, case, key, case.value, &bytes), Ok(true));
         assert_eq!(rt; says(alloc, case, key, case.value ^ 1, &bytes), Ok(false));
-        assert_eq!(rt; says(alloc, case, fixed("6262626262626262"), case.value, &bytes), Ok(false));
+        assert_eq!(rt;
+            says(alloc, case, fixed("6262626262626262"), case.value, &bytes),
+            Ok(false)
+        );
     }
     Ok(())
 }

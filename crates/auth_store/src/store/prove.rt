@@ -71,7 +71,13 @@ fn proof_at<F: PendingOf<H::Digest>, H: HashFunction, K: Key, V: FixedValue, con
 }
 
 /// The value of the key and the bytes that prove it, where the log has an active update of it. It fails for want of memory alone.
-pub fn prove_in_log<F: PendingOf<H::Digest>, H: HashFunction, K: Key, V: FixedValue, const N: usize>(
+pub fn prove_in_log<
+    F: PendingOf<H::Digest>,
+    H: HashFunction,
+    K: Key,
+    V: FixedValue,
+    const N: usize,
+>(
     alloc: Global,
     log: &[Operation<K, V>],
     floor: u64,
@@ -90,9 +96,13 @@ pub fn prove_in_log<F: PendingOf<H::Digest>, H: HashFunction, K: Key, V: FixedVa
     }
 }
 
-impl<F: PendingOf<H::Digest>, H: HashFunction, K: Key, V: FixedValue, const N: usize>
-    Store<F, H, K, V, N>
-{
+impl<F: PendingOf<H::Digest>, H: HashFunction, K: Key, V: FixedValue, const N: usize> Store<
+    F,
+    H,
+    K,
+    V,
+    N,
+> {
     /// The value of the key, and the honest bytes that prove it under the root of this moment. None: the key isn't there.
     /// Want of memory: S4.
     pub fn prove_key(&self, key: &K) -> Result<Option<KeyProof<V>>, StoreError> {

@@ -1,7 +1,6 @@
 use super::*;
-use merkle_forest::ByteHash;
 use merkle_forest::codec::FixedBytes;
-use merkle_forest::mmr;
+use merkle_forest::{ByteHash, mmr};
 use std::test::Fail;
 
 type Name = FixedBytes<8>;
