@@ -10,11 +10,9 @@ pub mod log;
 
 use crate::batch::Batch;
 use crate::error::StoreError;
-use crate::history::latest_map_of;
 use crate::plain::{PlainCache, PlainDevice, Sizes};
-use crate::state;
-use log::{Version, next_version, root_of_log, spelled};
 pub use log::MAX_OPERATIONS;
+use log::{Version, next_version, root_of_log, spelled, value_in};
 use merkle_forest::{Family, HashFunction};
 use state_ops::{FixedValue, Key, Operation};
 use std::alloc::Global;
@@ -34,8 +32,7 @@ pub struct Store<F: Family, H: HashFunction, K: Key, V: FixedValue, const N: usi
 }
 
 impl<F: Family, H: HashFunction, K: Key, V: FixedValue, const N: usize> Model
-    for Store<F, H, K, V, N>
-{
+    for Store<F, H, K, V, N> {
     ghost Value = { spec.History };
 
     ghost view = { λ s. spec.history_of (spec.meanings K.spelling V.spelling s.operations.items) };
@@ -91,16 +88,19 @@ impl<F: Family, H: HashFunction, K: Key, V: FixedValue, const N: usize> Store<F,
         ensures within { OnOk result (length (spec.log_of self.new) ≤ 2 ^ 62) }
         ensures ended { IsErrOf result StoreError.NumberEnded → 2 ^ 62 < length (spec.log_of (commit_after (words.meanings K.spelling V.spelling batch.words.items) (option_map V.spelling metadata) self.old)) }
     {
-        let next = next_version::<F, H, K, V, N>(self.alloc, &self.operations, &batch, metadata)?;
-        let bytes = spelled(self.alloc, &next.operations[self.operations.len()..])?;
-        if self.device.append(&bytes).is_err() {
-            return Err(StoreError::Memory);
-        }
+        let next = next_version::<F, H, K, V, N>(self.alloc, &self.operations, &batch, metadata);
         let Version {
             operations,
             floor,
             root,
-        } = next;
+            bytes,
+        } = match next {
+            Ok(next) => next,
+            Err(e) => return Err(e),
+        };
+        if self.device.append(&bytes).is_err() {
+            return Err(StoreError::Memory);
+        }
         self.operations = operations;
         self.commits += 1;
         self.floor = floor;
@@ -113,11 +113,7 @@ impl<F: Family, H: HashFunction, K: Key, V: FixedValue, const N: usize> Store<F,
         ensures ok { IfOk result (λ found. option_map V.spelling found ≡ value_at (spec.latest_map self.now) (K.spelling key.now)) }
         ensures err { IsErrOf result StoreError.NumberEnded → ⊥ }
     {
-        let latest = latest_map_of(self.alloc, &self.operations)?;
-        match state::get(&latest, key) {
-            None => Ok(None),
-            Some(value) => Ok(Some(value.clone()?)),
-        }
+        Ok(value_in(self.alloc, &self.operations, key)?)
     }
 
     /// The root of the history. It never refuses.

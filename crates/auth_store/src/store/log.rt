@@ -4,6 +4,7 @@ ghost use Rattle.std.specs.Prelude.{◌≡◌, ◌<◌, ◌≤◌, ◌^◌, [], 
 ghost use Rattle.auth_store.specs.Batch as words;
 ghost use Rattle.auth_store.specs.Batch.{map_after};
 ghost use Rattle.auth_store.specs.History.{meanings, replayed, batch_operations, inactivity_floor};
+ghost use Rattle.auth_store.specs.Map.{value_at};
 ghost use Rattle.auth_store.specs.Store as spec;
 ghost use Rattle.auth_store.specs.Store.{IsChunkWidth, setting_of_width, state_of_log};
 ghost use Rattle.std.specs.List.{flat_map};
@@ -12,7 +13,7 @@ ghost use Rattle.state_proofs.specs.Canonical.{canonical_root};
 
 use crate::batch::{Batch, apply_batch};
 use crate::error::StoreError;
-use crate::history;
+use crate::{history, state};
 use merkle_forest::{Family, HashFunction};
 use state_ops::fixed::{encode, write_operation};
 use state_ops::{FixedValue, Key, Operation};
@@ -108,6 +109,21 @@ pub fn spelled<K: Key, V: FixedValue>(
     Ok(bytes)
 }
 
+/// The value of the key in the state that the log leads to, or `None` where there is none. It fails for want of memory alone.
+pub fn value_in<K: Key, V: FixedValue>(
+    alloc: Global,
+    log: &[Operation<K, V>],
+    key: &K,
+) -> Result<Option<V>, AllocError>
+    ensures { IfOk result (λ found. option_map V.spelling found ≡ value_at (replayed [] (meanings K.spelling V.spelling log.now)) (K.spelling key.now)) }
+{
+    let latest = history::latest_map_of(alloc, log)?;
+    match state::get(&latest, key) {
+        None => Ok(None),
+        Some(value) => Ok(Some(value.clone()?)),
+    }
+}
+
 /// A log, and what follows from it.
 #[derive(Drop)]
 pub struct Version<K, V, D> {
@@ -117,6 +133,8 @@ pub struct Version<K, V, D> {
     pub floor: u64,
     /// The root.
     pub root: D,
+    /// The fixed spellings of the operations that are new in it.
+    pub bytes: Vec<u8>,
 }
 
 /// The log with the operations of a batch at its end, before they are committed. Where it would pass 2^62 operations
@@ -159,9 +177,11 @@ pub fn next_version<F: Family, H: HashFunction, K: Key, V: FixedValue, const N: 
     let floor = history::inactivity_floor(&operations);
     operations.push(Operation::CommitFloor(metadata, floor))?;
     let root = root_of_log::<F, H, K, V, N>(alloc, &operations, floor)?;
+    let bytes = spelled(alloc, &operations[log.len().min(operations.len())..])?;
     Ok(Version {
         operations,
         floor,
         root,
+        bytes,
     })
 }
