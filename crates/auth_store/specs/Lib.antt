@@ -6,3 +6,5 @@ pub mod Line
 pub mod Report
 pub mod Spelling
 pub mod Store
+pub mod Proving
+pub mod Claims

@@ -2,6 +2,7 @@
 #![tactic(auto)]
 
 pub mod batch;
+pub mod client;
 pub mod error;
 pub mod history;
 pub mod plain;

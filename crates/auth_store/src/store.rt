@@ -7,6 +7,7 @@ ghost use Rattle.auth_store.specs.Map.{value_at};
 ghost use Rattle.auth_store.specs.Store.{IsChunkWidth, Keeps, setting_of_width, floor_of, root_of_history, commit_after};
 
 pub mod log;
+pub mod prove;
 
 use crate::batch::Batch;
 use crate::error::StoreError;

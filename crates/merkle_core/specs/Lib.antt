@@ -1,3 +1,4 @@
 pub mod Ranges
 pub mod Proofs
 pub mod RangesCode
+pub mod Rebuilt

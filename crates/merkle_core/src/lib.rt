@@ -3,5 +3,8 @@
 
 pub mod proof;
 pub mod ranges;
+pub mod rebuild;
+pub mod reconstruct;
+pub mod walk;
 
 pub use proof::Proof;

@@ -81,6 +81,18 @@ pub fn root_with_folded_peaks<F: Family, H: Hasher<F>>(
     }
 }
 
+/// The root over one item, into which all peaks are folded.
+pub fn root_over_item<F: Family, H: Hasher<F>>(
+    hasher: &H,
+    leaves: u64,
+    inactive: u64,
+    item: &H::Digest,
+) -> H::Digest
+    ensures { H.Digest.spelling result ≡ H.hash_of (root_string (H.bagging_of hasher.now) leaves inactive (H.Digest.spelling item.now)) }
+{
+    seal(hasher, leaves, inactive, item.as_bytes())
+}
+
 /// The root over the peaks, of which the first `inactive` are inactive.
 #[tactic(auto, unfolding(crate::specs::Hashing::root_of))]
 pub fn root_of_peaks<F: Family, H: Hasher<F>>(

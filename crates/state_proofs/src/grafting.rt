@@ -14,8 +14,8 @@ use merkle_forest::hasher::{HashFunction, hash_leaf, hash_node};
 use merkle_forest::trees::TreeDigests;
 use std::marker::PhantomData;
 
-// The digest of a subtree of the grafting height with its chunk: a chunk without a set bit leaves it as it is.
-fn graft<H: HashFunction>(chunk: &[u8], digest: &H::Digest) -> H::Digest
+/// The digest of a subtree of the grafting height with its chunk: a chunk without a set bit leaves it as it is.
+pub fn graft<H: HashFunction>(chunk: &[u8], digest: &H::Digest) -> H::Digest
     ensures { H.Digest.spelling result ≡ grafted H.hash_of chunk.now (H.Digest.spelling digest.now) }
 {
     if is_zero_chunk(chunk) {

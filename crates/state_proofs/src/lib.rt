@@ -7,3 +7,4 @@ pub mod grafting;
 pub mod honest;
 pub mod seal;
 pub mod snapshot;
+pub mod verify;

@@ -4,6 +4,7 @@ ghost use Rattle.std.specs.Prelude.{◌≡◌, IfOk};
 ghost use Rattle.std.specs.List.{list_any};
 ghost use Rattle.state_ops.specs.Operation.{meaning_of};
 ghost use Rattle.auth_store.specs.History as spec;
+ghost use Rattle.auth_store.specs.Proving.{is_active_on as active_on};
 
 use state_ops::{FixedValue, Key, Operation};
 use std::alloc::{AllocError, Global};
@@ -59,6 +60,17 @@ pub fn is_active<K: Key, V: FixedValue>(
         Operation::Update(update) => !any_has_key(&update.key, later),
         Operation::CommitFloor(_, _) => !any_is_commit(later),
     }
+}
+
+/// Whether the operation is the active update of the key, given the operations after it.
+pub fn is_active_on<K: Key, V: FixedValue>(
+    key: &K,
+    operation: &Operation<K, V>,
+    later: &[Operation<K, V>],
+) -> bool
+    ensures { result ≡ active_on (K.spelling key.now) (meaning_of K.spelling V.spelling operation.now) (spec.meanings K.spelling V.spelling later.now) }
+{
+    has_key(key, operation) && is_active(operation, later)
 }
 
 /// Whether the operation is an update that still counts, given the operations after it.

@@ -1,0 +1,116 @@
+use super::*;
+use merkle_forest::codec::FixedBytes;
+use merkle_forest::hasher::ByteHash;
+use merkle_forest::mmr;
+use std::alloc::Global;
+use std::test::Fail;
+
+/// A key, its value, a root and the honest proof, which was made apart from this code.
+struct Case {
+    key: &'static str,
+    value: u64,
+    root: &'static str,
+    proof: &'static str,
+}
+
+const CASES: [Case; 6] = [
+    Case {
+        key: "0000000000000063",
+        value: 545,
+        root: "c2380cb2cb63b0ce59534f76b24ba17c47053e7606df0f56253ae5a1feeb2125",
+        proof: "047807000360158a8c53d81489c64d37c76fe7748dd8fced3305b83c2eb9d1c01e4f7c489106cb994b74e71c4d2d11cac56f385bac0e8f94f271045a0bcdf599fdf8cbbf5a8c717bc282ddc5a9653cec431a8d3d7a849b0bd0ee133c11877fd2ff29eba93b012d711642b726b04401627ca9fbac32f5c8530fb1903cc4db02258717921a4881f4e2538abee24a325a975fb0b09ed298f62e28b874c6771ee3fe76ebf332f28c3facc559cff626b7",
+    },
+    Case {
+        key: "0000000000000000",
+        value: 2,
+        root: "b6d55b281577cb6f49a7592719fd159b646ffd2b5a879f4366ad65de5ffbd2d0",
+        proof: "100f14000340e41d5df41e3dfe36c9a959ed4a3fd21389015bb0039ea2977e0de19d675c9a95ee85ce4f8f9c58fca63b50fcf89ac507c597276711f90fafc62950e7b137ba942d5dca8c1813bed220e5865a05db57a2ff12b7df4534ab72f9c4df877a700201dc0e9c3658a1a3ed1ec94274d8b19925c93e1abb7ddba294923ad9bde30f8cb87f7a5789834888d602d1f1c43371016a8f98ca82b90a331033146f339263acbd0000000000000063",
+    },
+    Case {
+        key: "977fa284d044cf55",
+        value: 276,
+        root: "980d515c9b384d08d2b7a6357b3eaf0dcde35bc9cd28ac080f14d4977c5bb68d",
+        proof: "07f40a0004f4e6cb421c23b01cebc68ec778f98db146b1d3d8d43ddb2b9e564972f0f8f6ad20552c95ea0dd298e8f7eb9449bfaa95eba6e03cebf2ba854e6da2dc43c2d608591314300c2a46ec25294e8f8cb21883bd314f4184fb65c8bc7c336cb4892c64ae118707402ff22a9f7922c4c1230ee406492f8c7ee8d40b96bc27b2e1b76dc101dbc1b4c900ffe48d575b5da5c638040125f65db0fe3e24494b76ea986457d98675d1b791d61ecb0d6234623c57a3ac23fb80f57e8edd012c5e17c5f204b0318cfd2bd195e8098ece",
+    },
+    Case {
+        key: "ffffffffffffffff",
+        value: 18446744073709551615,
+        root: "0646d1fa210e29e6ec4474070f772aba08f1cb253d00c5497f18a76dbdaac421",
+        proof: "081d0d0004daa70ecfd141ee7ef392d9f67355c7ec86a4da9fc8d83d80f4810b5864defeaa2a0b8341e6540db15838405a6171ea05bbac2374b396a79aa312223e5afccd27a169cf0a37030f6e53de18a72185a3f59cb37aedd687210f15021fbf5d501bafb934ee4f28244a6db714bd93b3a2a1e8279a03854430c93c482f7a65f0ab86b7011f18d650d205d71d934c3646ff5fac1c096ba52eba4cf758b865364f4167d3cdf6bee80ab45edd9458fa92a69ac020716cc6eea93665f3ba7dbe6c156830683b0000000000000061",
+    },
+    Case {
+        key: "945c867a01337d94",
+        value: 1,
+        root: "6d754e394b58b89bc65f0a2586e729e3cc1c249cce42765c770a46cfd1ecda6a",
+        proof: "1b6d1f0005f608bc65ae771004f0ffbffbf0c0507097728550ad1b679e4be384cfc28aac9cfce76d6aa1e8dee42fb565e91d1c1b688af1bc308ca3aaec3f72a8480b07030ab4165c1f7a4cd5f2945b389d218492d5e3bb759c90cd7d352dcd04ef8f3a06f9c5716a8e236d3b734fbe0ee053735db5f390282af95623af37e310c6940bc9e8443010cb49b607ec379272919a8363b15f709525cfd36caa77739b90ffa773560162c66a7a5dd70c3146618063c344e531e6d4b59e379808443ce962b3abd63c5a1402befffce22b5e7b3495cecb156d7109875bd5b5aa8e397cb16c29b688c742c42a242382752cf1",
+    },
+    Case {
+        key: "fa1071c336cce57b",
+        value: 55,
+        root: "97e7f75d25b9430884f74099867b059804e3dcfd11f5190c42d7de88917cf338",
+        proof: "0fc2150005d5bb26526bf58a71e462c71897fc5d5ba273d29a5e54743f87812178d92fd67fc0a66b7d0ad9ce08689f740061832404a8047fcf5700eac34f49c62b4e07073c7131c0b066df1e66269326143a284703b19d3f78c2f410f92355a1dc7699c6a5e0455e73a8639a49ae5b8621f12b0d9de1ce1768a7338ec2fc64034386ba36ab071e999962f1d89dd2c096964bd3ae37397eb18e2565cd47b93fff5995822092019652595f37edd08c51dfa26567e6cd76e6fa2709c3e578478ca398d316837a7a894ae9dfece82bd972591597df022e55cb3d640eb4160737da5f431bbf3c91d10000000000000000",
+    },
+];
+
+fn bytes_of(alloc: Global, text: &str) -> Result<Vec<u8>, Fail> {
+    let mut bytes = Vec::new(alloc);
+    for pair in text.as_bytes().chunks_exact(2) {
+        let mut byte = [0];
+        if hex::decode_to_slice(pair, &mut byte).is_ok() {
+            bytes.push(byte[0])?;
+        }
+    }
+    Ok(bytes)
+}
+
+fn fixed<const M: usize>(text: &str) -> FixedBytes<M> {
+    let mut bytes = [0; M];
+    let _ = hex::decode_to_slice(text.as_bytes(), &mut bytes);
+    FixedBytes::new(bytes)
+}
+
+fn says(alloc: Global, case: &Case, key: FixedBytes<8>, value: u64, bytes: &[u8]) -> Result<bool, ClientError> {
+    let claim = Claim::Value { key, value };
+    check::<mmr::Family, ByteHash, FixedBytes<8>, u64, 1>(alloc, &fixed(case.root), &claim, bytes)
+}
+
+#[test]
+fn honest_proofs_show_the_value_alone(rt: HostRuntime) -> Result<(), Fail> {
+    let alloc = rt.alloc();
+    for case in &CASES {
+        let bytes = bytes_of(alloc, case.proof)?;
+        let key = fixed(case.key);
+        assert_eq!(rt; says(alloc, case, key, case.value, &bytes), Ok(true));
+        assert_eq!(rt; says(alloc, case, key, case.value ^ 1, &bytes), Ok(false));
+        assert_eq!(rt; says(alloc, case, fixed("6262626262626262"), case.value, &bytes), Ok(false));
+    }
+    Ok(())
+}
+
+#[test]
+fn a_changed_proof_shows_nothing(rt: HostRuntime) -> Result<(), Fail> {
+    let alloc = rt.alloc();
+    for case in &CASES {
+        let key = fixed(case.key);
+        let mut bytes = bytes_of(alloc, case.proof)?;
+        for index in 0..bytes.len() {
+            for bit in 0..8u32 {
+                if let Some(byte) = bytes.get_mut(index) {
+                    *byte ^= 1u8 << bit;
+                }
+                assert_eq!(rt; says(alloc, case, key, case.value, &bytes), Ok(false));
+                if let Some(byte) = bytes.get_mut(index) {
+                    *byte ^= 1u8 << bit;
+                }
+            }
+        }
+        for count in 0..bytes.len() {
+            if let Some(front) = bytes.get(..count) {
+                assert_eq!(rt; says(alloc, case, key, case.value, front), Ok(false));
+            }
+        }
+        bytes.push(0)?;
+        assert_eq!(rt; says(alloc, case, key, case.value, &bytes), Ok(false));
+    }
+    Ok(())
+}

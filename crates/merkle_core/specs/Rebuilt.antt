@@ -1,0 +1,46 @@
+-- The digest that a proof of one element leads to, from the digests of the maximal nodes that do not hold it.
+use Rattle.std.specs.Prelude.{◌≡◌, ℕ, zero, suc, ◌+◌, ◌-◌, ◌^◌, ◌≤◌, ◌<◌, nat_lt, if◌then◌else◌, List, [], ◌∷◌, length, take, Option, None, Some, option_map, slice_get}
+use Rattle.std.specs.Option.{option_map_or}
+use Rattle.merkle_forest.specs.Forest.{Tree, leaf, branch, position, height, leaf_count, Rule, forest_of}
+use Rattle.merkle_forest.specs.Nodes.{IsNodeAt}
+
+-- how a leaf and a branch are hashed, and what stands in the place of a branch of a height
+pub record Hashing : Type 0 where
+  pub leaf_of : ℕ → List ℕ → List ℕ
+  pub node_of : ℕ → List ℕ → List ℕ → List ℕ
+  pub over : ℕ → List ℕ → List ℕ
+
+-- the last digest, and the digests before it
+abbrev pub last_of : List (List ℕ) → Option (List ℕ)
+last_of digests = slice_get digests (length digests - 1)
+
+abbrev pub before_last : List (List ℕ) → List (List ℕ)
+before_last digests = take (length digests - 1) digests
+
+-- a branch over the tree that holds the element and its sibling, where both are there
+abbrev pub joined : (List ℕ → List ℕ → List ℕ) → Option (List ℕ) → Option (List ℕ) → Option (List ℕ)
+joined join (Some left) (Some right) = Some (join left right)
+joined join left right = None
+
+-- the digest of a tree over the location, from the digests of the maximal nodes that do not hold it, from left to right
+abbrev pub rebuilt : Hashing → ℕ → List ℕ → ℕ → Tree → List (List ℕ) → Option (List ℕ)
+rebuilt hashing location element at (leaf p) [] = Some (hashing.leaf_of p element)
+rebuilt hashing location element at (leaf p) (d ∷ digests) = None
+rebuilt hashing location element at (branch p left right) [] = None
+rebuilt hashing location element at (branch p left right) (d ∷ digests) =
+    let join : List ℕ → List ℕ → List ℕ = λ x y. hashing.over (height (branch p left right)) (hashing.node_of p x y) in
+    if nat_lt location (at + leaf_count left)
+    then joined join (rebuilt hashing location element at left (before_last (d ∷ digests))) (last_of (d ∷ digests))
+    else joined join (Some d) (rebuilt hashing location element (at + leaf_count left) right digests)
+
+-- the tree at this place: a node of a forest of the rule
+pub record IsTreeAt (rule : Rule) (first at high : ℕ) (node : Tree) : Type 0 where
+  pub leaf_total : ℕ
+  pub few : leaf_total ≤ 2 ^ 62
+  pub stands : IsNodeAt first node (forest_of rule leaf_total)
+  pub place : at ≡ position node
+  pub level : high ≡ height node
+
+-- some tree stands at this place
+abbrev pub HasTree : Rule → ℕ → ℕ → ℕ → Type 0
+HasTree rule first at high = (node : Tree) × IsTreeAt rule first at high node

@@ -1,0 +1,101 @@
+//! A tree's digest rebuilt from one of its elements.
+
+ghost use Rattle.std.specs.Prelude.{◌≡◌, ◌<◌, ◌≤◌, ◌+◌, ◌^◌, ℕ, List, map, option_map};
+ghost use Rattle.merkle_forest.specs.Forest.{Tree};
+ghost use Rattle.merkle_core.specs.Rebuilt.{rebuilt, IsTreeAt, HasTree};
+
+use merkle_forest::Digest;
+use merkle_forest::family::Family;
+use merkle_forest::hasher::Hasher;
+
+/// What stands in the place of the branches on the way from a leaf to its peak (own).
+pub trait Overlay<D: Digest> {
+    /// From a branch's height and its digest: the digest that stands in its place.
+    ghost over: { Self → ℕ → List ℕ → List ℕ };
+
+    /// The digest that stands in the place of a branch of this height.
+    fn overlay(&self, height: u32, digest: D) -> D
+        ensures { D.spelling result ≡ over self.now height (D.spelling digest) };
+}
+
+/// Each branch stands for itself.
+#[derive(Clone, Copy, Debug)]
+pub struct Unchanged;
+
+impl<D: Digest> Overlay<D> for Unchanged {
+    ghost over = { λ _ _ digest. digest };
+
+    fn overlay(&self, _height: u32, digest: D) -> D {
+        digest
+    }
+}
+
+/// A node of a forest: the location of its first leaf, its position and its height.
+#[derive(Clone, Copy, Debug, PartialEq, Eq)]
+pub struct Place {
+    /// The location of the first leaf below it.
+    pub first: u64,
+    /// Its position.
+    pub position: u64,
+    /// Its height.
+    pub height: u32,
+}
+
+// The child of the branch that holds the location. Whether it is the left one is answered first.
+fn child_over<F: Family>(place: Place, location: u64) -> (bool, Place)
+    requires stands { HasTree F.merge_rule place.first place.position place.height }
+    requires branch { 0 < place.height }
+    ensures stands { HasTree F.merge_rule result.1.first result.1.position result.1.height }
+    ensures lower { result.1.height + 1 ≡ place.height }
+{
+    let (left, right) = F::child_positions(place.position, place.height);
+    let height = place.height - 1;
+    let middle = place.first + (1u64 << height);
+    if location < middle {
+        let child = Place {
+            first: place.first,
+            position: left,
+            height,
+        };
+        (true, child)
+    } else {
+        let child = Place {
+            first: middle,
+            position: right,
+            height,
+        };
+        (false, child)
+    }
+}
+
+/// The digest of the tree at the place, from the element at the location below it and the digests of the maximal nodes
+/// that do not hold it, from left to right. None: a digest is missing or left over.
+pub fn rebuild<F: Family, H: Hasher<F>, O: Overlay<H::Digest>>(
+    hasher: &H,
+    over: &O,
+    place: Place,
+    location: u64,
+    element: &[u8],
+    digests: &[H::Digest],
+) -> Option<H::Digest>
+    requires { HasTree F.merge_rule place.first place.position place.height }
+{
+    if place.height == 0 {
+        return match digests {
+            [] => Some(hasher.leaf_digest(place.position, element)),
+            _ => None,
+        };
+    }
+    let (is_left, child) = child_over::<F>(place, location);
+    if is_left {
+        let (sibling, rest) = digests.split_last()?;
+        let own = rebuild(hasher, over, child, location, element, rest)?;
+        let joined = hasher.node_digest(place.position, &own, sibling);
+        Some(over.overlay(place.height, joined))
+    } else {
+        let (sibling, rest) = digests.split_first()?;
+        let own = rebuild(hasher, over, child, location, element, rest)?;
+        let joined = hasher.node_digest(place.position, sibling, &own);
+        Some(over.overlay(place.height, joined))
+    }
+}

@@ -1,0 +1,88 @@
+//! The peaks of a forest from left to right, by closed formulas.
+
+ghost use Rattle.std.specs.Prelude.{◌≡◌, ◌<◌, ◌≤◌, ◌+◌, ◌-◌, ◌⊎◌, ℕ};
+ghost use Rattle.merkle_forest.specs.Forest.{forest_of};
+ghost use Rattle.merkle_forest.specs.Nodes.{HasPeak};
+ghost use Rattle.merkle_core.specs.Rebuilt.{HasTree};
+
+use crate::rebuild::Place;
+use merkle_forest::family::{Family, MAX_LEAVES};
+
+/// The peak that holds a leaf, and how many peaks stand on each side of it.
+#[derive(Clone, Copy, Debug, PartialEq, Eq)]
+pub struct PeakOver {
+    /// How many peaks stand before it.
+    pub before: u64,
+    /// Where it stands.
+    pub place: Place,
+    /// How many peaks stand behind it.
+    pub behind: u64,
+}
+
+// The peak that begins at `first`, and the location behind its last leaf.
+fn peak_at<F: Family>(leaves: u64, first: u64) -> (Place, u64)
+    requires few { leaves ≤ MAX_LEAVES }
+    requires begins { HasPeak (forest_of F.merge_rule leaves) first }
+    ensures stands { HasTree F.merge_rule result.0.first result.0.position result.0.height }
+    ensures later { first < result.1 }
+    ensures within { result.1 ≤ leaves }
+    ensures next { result.1 < leaves → HasPeak (forest_of F.merge_rule leaves) result.1 }
+{
+    let (position, height) = F::peak_from(leaves, first);
+    let place = Place {
+        first,
+        position,
+        height,
+    };
+    (place, first + (1u64 << height))
+}
+
+// How many peaks begin at `first` or behind it.
+fn peaks_from<F: Family>(leaves: u64, first: u64) -> u64
+    requires few { leaves ≤ MAX_LEAVES }
+    requires begins { first < leaves → HasPeak (forest_of F.merge_rule leaves) first }
+    ensures { result ≤ leaves - first }
+{
+    if first >= leaves {
+        return 0;
+    }
+    let (_, next) = peak_at::<F>(leaves, first);
+    1 + peaks_from::<F>(leaves, next)
+}
+
+// The peak that holds the location, among those that begin at `first` or behind it.
+fn peak_over_from<F: Family>(leaves: u64, first: u64, location: u64) -> PeakOver
+    requires few { leaves ≤ MAX_LEAVES }
+    requires begins { HasPeak (forest_of F.merge_rule leaves) first }
+    requires behind { first ≤ location }
+    requires within { location < leaves }
+    ensures stands { HasTree F.merge_rule result.place.first result.place.position result.place.height }
+    ensures before { result.before ≤ location - first }
+    ensures after { result.behind ≤ leaves }
+{
+    let (place, next) = peak_at::<F>(leaves, first);
+    if location < next {
+        return PeakOver {
+            before: 0,
+            place,
+            behind: peaks_from::<F>(leaves, next),
+        };
+    }
+    let found = peak_over_from::<F>(leaves, next, location);
+    PeakOver {
+        before: found.before + 1,
+        place: found.place,
+        behind: found.behind,
+    }
+}
+
+/// The peak that holds the leaf at the location, in the forest of this many leaves.
+pub fn peak_over<F: Family>(leaves: u64, location: u64) -> PeakOver
+    requires few { leaves ≤ MAX_LEAVES }
+    requires within { location < leaves }
+    ensures stands { HasTree F.merge_rule result.place.first result.place.position result.place.height }
+    ensures before { result.before ≤ location }
+    ensures after { result.behind ≤ leaves }
+{
+    peak_over_from::<F>(leaves, 0, location)
+}

@@ -1,0 +1,172 @@
+//! The check of a proof of one operation, by closed formulas.
+
+ghost use Rattle.std.specs.Prelude.{◌≡◌, ◌==◌, ◌<◌, ◌≤◌, ◌+◌, ◌-◌, ◌*◌, ◌/◌, ◌%◌, ◌^◌, ◌++◌, [], ◌∷◌, ℕ, List, min, IfSome, nat_lt, length, if◌then◌else◌, option_map};
+ghost use Rattle.state_proofs.specs.Grafting.{grafted};
+
+use crate::grafting::graft;
+use crate::seal::seal;
+use merkle_core::reconstruct::{Claimed, reconstruct_one};
+use merkle_core::rebuild::Overlay;
+use merkle_forest::bagging::Bagging;
+use merkle_forest::family::MAX_LEAVES;
+use merkle_forest::graftable::Graftable;
+use merkle_forest::hasher::{HashFunction, Standard};
+use std::marker::PhantomData;
+
+/// What a proof of one operation holds.
+#[derive(Clone, Copy)]
+pub struct OperationProof<'a, D> {
+    /// The location of the operation.
+    pub location: u64,
+    /// The chunk with its activity bit.
+    pub chunk: &'a [u8],
+    /// How many operations there are.
+    pub leaves: u64,
+    /// How many peaks of the grafted tree are inactive.
+    pub inactive: u64,
+    /// The digests that lead to the root of the grafted tree, in the order of the range proof.
+    pub digests: &'a [D],
+    /// The digest of the full chunk that isn't graftable yet.
+    pub pending: Option<D>,
+    /// The digest of the partial chunk.
+    pub partial: Option<D>,
+    /// The root of the operations' tree.
+    pub operations_root: D,
+}
+
+/// At the grafting height the chunk is joined in.
+#[derive(Clone, Copy)]
+pub struct GraftedChunk<'a, H> {
+    /// The chunk.
+    pub chunk: &'a [u8],
+    /// The height of a tree over as many operations as a chunk has bits.
+    pub grafting_height: u32,
+    /// The hash function.
+    pub function: PhantomData<H>,
+}
+
+impl<H: HashFunction> Overlay<H::Digest> for GraftedChunk<'_, H> {
+    ghost over = { λ g height digest. if height == g.grafting_height then grafted H.hash_of g.chunk.now digest else digest };
+
+    fn overlay(&self, height: u32, digest: H::Digest) -> H::Digest {
+        if height == self.grafting_height {
+            graft::<H>(self.chunk, &digest)
+        } else {
+            digest
+        }
+    }
+}
+
+// The height of a tree over as many operations as a chunk of so many bytes has bits. None: that is no power of two, or the
+// height is 63 or more.
+fn grafting_height_of(width: usize) -> Option<u32>
+    ensures some { IfSome result (λ height. 0 < width) }
+    ensures small { IfSome result (λ height. width < 2 ^ 60) }
+    ensures low { IfSome result (λ height. height ≤ 62) }
+{
+    let width = width as u64;
+    if !width.is_power_of_two() || width >= 1 << 60 {
+        return None;
+    }
+    Some(width.ilog2() + 3)
+}
+
+/// How many chunks of so many operations are graftable.
+pub fn graftable_chunks_of<F: Graftable>(leaves: u64, grafting_height: u32) -> u64
+    requires few { leaves ≤ MAX_LEAVES }
+    requires low { grafting_height ≤ 62 }
+    ensures { result ≡ (if nat_lt leaves (F.birth_of 0 grafting_height) then 0 else (leaves - F.birth_of 0 grafting_height) / 2 ^ grafting_height + 1) }
+{
+    let birth = F::peak_birth_size(0, grafting_height);
+    if leaves < birth {
+        return 0;
+    }
+    ((leaves - birth) >> grafting_height) + 1
+}
+
+// Whether the bit at this place of the chunk is set.
+fn is_bit_set(chunk: &[u8], place: u64) -> bool {
+    match chunk.get((place / 8) as usize) {
+        Some(byte) => (*byte >> (place % 8)) % 2 == 1,
+        None => false,
+    }
+}
+
+// Whether there is such a digest exactly if the chunk is there, and it is that of the chunk if that is the covered one.
+fn is_chunk_digest<H: HashFunction>(
+    digest: &Option<H::Digest>,
+    is_there: bool,
+    is_covered: bool,
+    chunk: &[u8],
+) -> bool {
+    match digest {
+        None => !is_there,
+        Some(digest) => is_there && (!is_covered || H::hash(&[chunk]) == *digest),
+    }
+}
+
+// Whether the digests of the pending and of the partial chunk fit the number of operations and the chunk.
+fn fits_chunks<F: Graftable, H: HashFunction>(
+    proof: &OperationProof<'_, H::Digest>,
+    bits: u64,
+    grafting_height: u32,
+) -> bool
+    requires some { 0 < bits }
+    requires few { proof.now.leaves ≤ MAX_LEAVES }
+    requires low { grafting_height ≤ 62 }
+{
+    let full = proof.leaves / bits;
+    let graftable = graftable_chunks_of::<F>(proof.leaves, grafting_height).min(full);
+    let index = proof.location / bits;
+    let is_pending = graftable <= index && index < full;
+    full - graftable <= 1
+        && is_chunk_digest::<H>(&proof.pending, graftable < full, is_pending, proof.chunk)
+        && is_chunk_digest::<H>(&proof.partial, proof.leaves % bits != 0, full <= index, proof.chunk)
+}
+
+// The root of the grafted tree that the proof of this operation leads to.
+fn grafted_root_of<F: Graftable, H: HashFunction>(
+    proof: &OperationProof<'_, H::Digest>,
+    grafting_height: u32,
+    operation: &[u8],
+) -> Option<H::Digest> {
+    let hasher: Standard<H> = Standard::new(Bagging::BackwardFold);
+    let over: GraftedChunk<'_, H> = GraftedChunk {
+        chunk: proof.chunk,
+        grafting_height,
+        function: PhantomData,
+    };
+    let claimed = Claimed {
+        leaves: proof.leaves,
+        inactive: proof.inactive,
+        location: proof.location,
+        element: operation,
+        digests: proof.digests,
+    };
+    reconstruct_one::<F, Standard<H>, GraftedChunk<'_, H>>(&hasher, &over, &claimed)
+}
+
+/// Whether the proof shows that the encoded operation stands at its location in the state of this root and is active there.
+pub fn verify_operation<F: Graftable, H: HashFunction>(
+    root: &H::Digest,
+    proof: &OperationProof<'_, H::Digest>,
+    operation: &[u8],
+) -> bool {
+    let Some(grafting_height) = grafting_height_of(proof.chunk.len()) else {
+        return false;
+    };
+    let bits = 8 * proof.chunk.len() as u64;
+    if proof.leaves > MAX_LEAVES || proof.location >= proof.leaves {
+        return false;
+    }
+    if !is_bit_set(proof.chunk, proof.location % bits) || !fits_chunks::<F, H>(proof, bits, grafting_height) {
+        return false;
+    }
+    match grafted_root_of::<F, H>(proof, grafting_height, operation) {
+        None => false,
+        Some(grafted) => {
+            let next = proof.leaves % bits;
+            seal::<H>(&proof.operations_root, &grafted, &proof.pending, next, &proof.partial) == *root
+        }
+    }
+}
