@@ -4,3 +4,4 @@ pub mod Logs
 pub mod Numbers
 pub mod Lines
 pub mod Spellings
+pub mod Stores

@@ -170,7 +170,7 @@ log_of-tail [] = refl
 log_of-tail (c ∷ h) =
     ap (λ l. (l ++ batch_operations (latest_map h) c.map) ++ commit_floor c.metadata (inactivity_floor (log_of h ++ batch_operations (latest_map h) c.map)) ∷ []) (log_of-tail h)
 
-IsState-latest_map : (h : History) → AreStates h → IsState (latest_map h)
+pub IsState-latest_map : (h : History) → AreStates h → IsState (latest_map h)
 IsState-latest_map [] s = tt
 IsState-latest_map (c ∷ h) s = s.0
 

@@ -6,7 +6,7 @@ use Rattle.merkle_forest.specs.Hashing.{Hash}
 use Rattle.state_ops.specs.Operation.{Operation, fixed_encoding}
 use Rattle.state_proofs.specs.Canonical.{Setting, State, canonical_root}
 use Rattle.auth_store.specs.Batch.{Word, map_after}
-use Rattle.auth_store.specs.History.{Commit, History, AreStates, latest_map, batch_operations, inactivity_floor, activity_bits, log_of, history_of}
+use Rattle.auth_store.specs.History.{Commit, History, AreStates, latest_map, batch_operations, inactivity_floor, activity_bits, log_of, history_of, replayed, committed}
 
 -- how many bytes a chunk may have: a power of two from 1 to 4096
 abbrev pub IsChunkWidth : ℕ → Type 0
@@ -44,6 +44,14 @@ root_of_history setting key value history = canonical_root setting (state_of_his
 -- the history with the commit of a batch
 abbrev pub commit_after : List Word → Option (List ℕ) → History → History
 commit_after words metadata history = record { map = map_after words (latest_map history); metadata = metadata } ∷ history
+
+-- the log with the operations of a batch at its end
+abbrev pub added_log : List Word → List Operation → List Operation
+added_log words log = log ++ batch_operations (replayed [] log) (map_after words (replayed [] log))
+
+-- the log with a batch and its commit at its end
+abbrev pub next_log : List Word → Option (List ℕ) → List Operation → List Operation
+next_log words metadata log = committed (added_log words log) metadata
 
 -- what a store keeps of a history: its log, the number of commits and the last floor, and the root
 pub record Keeps (setting : Setting) (key value : ℕ) (log : List Operation) (count last : ℕ) (digest : List ℕ) : Type 0 where

@@ -11,17 +11,13 @@ pub mod prove;
 
 use crate::batch::Batch;
 use crate::error::StoreError;
-use crate::history::{inactivity_floor, latest_map_of};
 use crate::plain::{PlainCache, PlainDevice, Sizes};
-use crate::state;
-use log::{additions, copy_of, root_of_log, spelled};
+pub use log::MAX_OPERATIONS;
+use log::{Version, next_version, root_of_log, spelled, value_in};
 use merkle_forest::{Family, HashFunction};
 use state_ops::{FixedValue, Key, Operation};
 use std::alloc::Global;
 use std::marker::{Model, PhantomData};
-
-/// The greatest number of operations in a log.
-pub const MAX_OPERATIONS: u64 = 0x4000_0000_0000_0000;
 
 /// A store of keys `K` and values `V` with its history, whose root is hashed by `H` over trees of the family `F` and
 /// over chunks of `N` bytes. Its contracts see it as its history.
@@ -93,18 +89,19 @@ impl<F: Family, H: HashFunction, K: Key, V: FixedValue, const N: usize> Store<F,
         ensures within { OnOk result (length (spec.log_of self.new) ≤ 2 ^ 62) }
         ensures ended { IsErrOf result StoreError.NumberEnded → 2 ^ 62 < length (spec.log_of (commit_after (words.meanings K.spelling V.spelling batch.words.items) (option_map V.spelling metadata) self.old)) }
     {
-        let alloc = self.alloc;
-        let mut added = additions(alloc, &self.operations, &batch)?;
-        if added.len() as u64 >= MAX_OPERATIONS - self.operations.len() as u64 {
-            return Err(StoreError::NumberEnded);
+        let next = next_version::<F, H, K, V, N>(self.alloc, &self.operations, &batch, metadata);
+        let Version {
+            operations,
+            floor,
+            root,
+            bytes,
+        } = match next {
+            Ok(next) => next,
+            Err(e) => return Err(e),
+        };
+        if self.device.append(&bytes).is_err() {
+            return Err(StoreError::Memory);
         }
-        let mut operations = copy_of(alloc, &self.operations)?;
-        operations.append(&mut added)?;
-        let floor = inactivity_floor(&operations);
-        operations.push(Operation::CommitFloor(metadata, floor))?;
-        let root = root_of_log::<F, H, K, V, N>(alloc, &operations, floor)?;
-        let bytes = spelled(alloc, &operations[self.operations.len()..])?;
-        self.device.append(&bytes)?;
         self.operations = operations;
         self.commits += 1;
         self.floor = floor;
@@ -117,11 +114,7 @@ impl<F: Family, H: HashFunction, K: Key, V: FixedValue, const N: usize> Store<F,
         ensures ok { IfOk result (λ found. option_map V.spelling found ≡ value_at (spec.latest_map self.now) (K.spelling key.now)) }
         ensures err { IsErrOf result StoreError.NumberEnded → ⊥ }
     {
-        let latest = latest_map_of(self.alloc, &self.operations)?;
-        match state::get(&latest, key) {
-            None => Ok(None),
-            Some(value) => Ok(Some(value.clone()?)),
-        }
+        Ok(value_in(self.alloc, &self.operations, key)?)
     }
 
     /// The root of the history. It never refuses.

@@ -1,9 +1,10 @@
 //! What a store computes from its log.
 
-ghost use Rattle.std.specs.Prelude.{◌≡◌, ◌≤◌, ◌^◌, [], map, length, IfOk};
+ghost use Rattle.std.specs.Prelude.{◌≡◌, ◌<◌, ◌≤◌, ◌^◌, [], map, length, option_map, IfOk, IsErrOf};
 ghost use Rattle.auth_store.specs.Batch as words;
 ghost use Rattle.auth_store.specs.Batch.{map_after};
-ghost use Rattle.auth_store.specs.History.{meanings, replayed, batch_operations};
+ghost use Rattle.auth_store.specs.History.{meanings, replayed, batch_operations, inactivity_floor};
+ghost use Rattle.auth_store.specs.Map.{value_at};
 ghost use Rattle.auth_store.specs.Store as spec;
 ghost use Rattle.auth_store.specs.Store.{IsChunkWidth, setting_of_width, state_of_log};
 ghost use Rattle.std.specs.List.{flat_map};
@@ -11,13 +12,17 @@ ghost use Rattle.state_ops.specs.Operation.{fixed_encoding};
 ghost use Rattle.state_proofs.specs.Canonical.{canonical_root};
 
 use crate::batch::{Batch, apply_batch};
-use crate::history;
+use crate::error::StoreError;
+use crate::{history, state};
 use merkle_forest::{Family, HashFunction};
 use state_ops::fixed::{encode, write_operation};
 use state_ops::{FixedValue, Key, Operation};
 use state_proofs::canonical::canonical_root;
 use state_proofs::snapshot::Snapshot;
 use std::alloc::{AllocError, Global};
+
+/// The greatest number of operations in a log.
+pub const MAX_OPERATIONS: u64 = 0x4000_0000_0000_0000;
 
 /// Operations that say the same. It fails for want of memory alone.
 pub fn copy_of<K: Key, V: FixedValue>(
@@ -102,4 +107,81 @@ pub fn spelled<K: Key, V: FixedValue>(
         rest = later;
     }
     Ok(bytes)
+}
+
+/// The value of the key in the state that the log leads to, or `None` where there is none. It fails for want of memory alone.
+pub fn value_in<K: Key, V: FixedValue>(
+    alloc: Global,
+    log: &[Operation<K, V>],
+    key: &K,
+) -> Result<Option<V>, AllocError>
+    ensures { IfOk result (λ found. option_map V.spelling found ≡ value_at (replayed [] (meanings K.spelling V.spelling log.now)) (K.spelling key.now)) }
+{
+    let latest = history::latest_map_of(alloc, log)?;
+    match state::get(&latest, key) {
+        None => Ok(None),
+        Some(value) => Ok(Some(value.clone()?)),
+    }
+}
+
+/// A log, and what follows from it.
+#[derive(Drop)]
+pub struct Version<K, V, D> {
+    /// The operations, a commit last.
+    pub operations: Vec<Operation<K, V>>,
+    /// The floor that the last commit records.
+    pub floor: u64,
+    /// The root.
+    pub root: D,
+    /// The fixed spellings of the operations that are new in it.
+    pub bytes: Vec<u8>,
+}
+
+/// The log with the operations of a batch at its end, before they are committed. Where it would pass 2^62 operations
+/// with its commit: S3; want of memory: S4.
+fn added_log<K: Key, V: FixedValue>(
+    alloc: Global,
+    log: &[Operation<K, V>],
+    batch: &Batch<K, V>,
+) -> Result<Vec<Operation<K, V>>, StoreError>
+    requires { length log.now ≤ 2 ^ 62 }
+    ensures ok { IfOk result (λ next. meanings K.spelling V.spelling next.items ≡ spec.added_log (words.meanings K.spelling V.spelling batch.now.words.items) (meanings K.spelling V.spelling log.now)) }
+    ensures few { IfOk result (λ next. length next.items < 2 ^ 62) }
+    ensures ended { IsErrOf result StoreError.NumberEnded → 2 ^ 62 ≤ length (spec.added_log (words.meanings K.spelling V.spelling batch.now.words.items) (meanings K.spelling V.spelling log.now)) }
+{
+    let mut added = additions(alloc, log, batch)?;
+    let mut next = copy_of(alloc, log)?;
+    if added.len() as u64 >= MAX_OPERATIONS - log.len() as u64 {
+        return Err(StoreError::NumberEnded);
+    }
+    next.append(&mut added)?;
+    Ok(next)
+}
+
+/// The log with a batch and its commit at its end. Where it would pass 2^62 operations: S3; want of memory: S4.
+pub fn next_version<F: Family, H: HashFunction, K: Key, V: FixedValue, const N: usize>(
+    alloc: Global,
+    log: &[Operation<K, V>],
+    batch: &Batch<K, V>,
+    metadata: Option<V>,
+) -> Result<Version<K, V, H::Digest>, StoreError>
+    requires width { IsChunkWidth N }
+    requires few { length log.now ≤ 2 ^ 62 }
+    ensures ok { IfOk result (λ next. meanings K.spelling V.spelling next.operations.items ≡ spec.next_log (words.meanings K.spelling V.spelling batch.now.words.items) (option_map V.spelling metadata) (meanings K.spelling V.spelling log.now)) }
+    ensures floor { IfOk result (λ next. next.floor ≡ inactivity_floor (spec.added_log (words.meanings K.spelling V.spelling batch.now.words.items) (meanings K.spelling V.spelling log.now))) }
+    ensures within { IfOk result (λ next. length next.operations.items ≤ 2 ^ 62) }
+    ensures root { IfOk result (λ next. H.Digest.spelling next.root ≡ canonical_root (setting_of_width F.merge_rule H.hash_of N) (state_of_log K.SIZE V.SIZE (meanings K.spelling V.spelling next.operations.items) next.floor)) }
+    ensures ended { IsErrOf result StoreError.NumberEnded → 2 ^ 62 < length (spec.next_log (words.meanings K.spelling V.spelling batch.now.words.items) (option_map V.spelling metadata) (meanings K.spelling V.spelling log.now)) }
+{
+    let mut operations = added_log(alloc, log, batch)?;
+    let floor = history::inactivity_floor(&operations);
+    operations.push(Operation::CommitFloor(metadata, floor))?;
+    let root = root_of_log::<F, H, K, V, N>(alloc, &operations, floor)?;
+    let bytes = spelled(alloc, &operations[log.len().min(operations.len())..])?;
+    Ok(Version {
+        operations,
+        floor,
+        root,
+        bytes,
+    })
 }
