@@ -1,6 +1,6 @@
 //! Why a store refuses.
 
-ghost use Rattle.std.specs.Prelude.{◌≡◌};
+ghost use Rattle.std.specs.Prelude.{◌≡◌, codes};
 ghost use Rattle.auth_store.specs.declared.error.StoreError.TheVariants.{Memory};
 
 use std::alloc::{AllocError, AllocFailed};
@@ -18,7 +18,10 @@ pub enum StoreError {
 
 impl StoreError {
     /// The refusal's number: `"S3"` or `"S4"`.
-    pub fn number(&self) -> &'static str {
+    pub fn number(&self) -> &'static str
+        ensures ended { self.now ≡ StoreError.NumberEnded → result.now ≡ codes "S3" }
+        ensures memory { self.now ≡ StoreError.Memory → result.now ≡ codes "S4" }
+    {
         match self {
             StoreError::NumberEnded => "S3",
             StoreError::Memory => "S4",
