@@ -1,7 +1,8 @@
 //! The check of a proof of one operation, by closed formulas.
 
-ghost use Rattle.std.specs.Prelude.{◌≡◌, ◌==◌, ◌<◌, ◌≤◌, ◌+◌, ◌-◌, ◌*◌, ◌/◌, ◌%◌, ◌^◌, ◌++◌, [], ◌∷◌, ℕ, List, min, IfSome, nat_lt, length, if◌then◌else◌, option_map};
+ghost use Rattle.std.specs.Prelude.{◌≡◌, ◌==◌, ◌<◌, ◌≤◌, ◌+◌, ◌-◌, ◌*◌, ◌/◌, ◌%◌, ◌^◌, ◌++◌, [], ◌∷◌, ℕ, List, min, IfSome, IsTrue, true, slice_get, nat_lt, length, if◌then◌else◌, option_map};
 ghost use Rattle.state_proofs.specs.Grafting.{grafted};
+ghost use Rattle.state_proofs.specs.Bits.{is_set};
 
 use crate::grafting::graft;
 use crate::seal::seal;
@@ -85,7 +86,9 @@ pub fn graftable_chunks_of<F: Graftable>(leaves: u64, grafting_height: u32) -> u
 }
 
 // Whether the bit at this place of the chunk is set.
-fn is_bit_set(chunk: &[u8], place: u64) -> bool {
+fn is_bit_set(chunk: &[u8], place: u64) -> bool
+    ensures { result ≡ is_set (slice_get chunk.now (place / 8)) place }
+{
     match chunk.get((place / 8) as usize) {
         Some(byte) => (*byte >> (place % 8)) % 2 == 1,
         None => false,
@@ -151,7 +154,11 @@ pub fn verify_operation<F: Graftable, H: HashFunction>(
     root: &H::Digest,
     proof: &OperationProof<'_, H::Digest>,
     operation: &[u8],
-) -> bool {
+) -> bool
+    ensures few { IsTrue result → proof.now.leaves ≤ MAX_LEAVES }
+    ensures within { IsTrue result → proof.now.location < proof.now.leaves }
+    ensures active { IsTrue result → is_set (slice_get proof.now.chunk.now (proof.now.location % (8 * length proof.now.chunk.now) / 8)) (proof.now.location % (8 * length proof.now.chunk.now)) ≡ true }
+{
     let Some(grafting_height) = grafting_height_of(proof.chunk.len()) else {
         return false;
     };
