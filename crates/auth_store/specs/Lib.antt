@@ -6,3 +6,4 @@ pub mod Line
 pub mod Report
 pub mod Spelling
 pub mod Claims
+pub mod ClaimsCode

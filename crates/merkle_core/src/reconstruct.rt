@@ -82,7 +82,11 @@ fn split_parts<D>(digests: &[D], front: u64, behind: u64) -> Option<(&[D], &[D],
 }
 
 // The digests folded from the right onto the last one.
-fn fold_before<F: Family, H: Hasher<F>>(hasher: &H, digests: &[H::Digest], last: H::Digest) -> H::Digest
+fn fold_before<F: Family, H: Hasher<F>>(
+    hasher: &H,
+    digests: &[H::Digest],
+    last: H::Digest,
+) -> H::Digest
     ensures { H.Digest.spelling result ≡ folded_before H.hash_of (map H.Digest.spelling digests.now) (H.Digest.spelling last) }
 {
     match digests {
@@ -110,7 +114,14 @@ pub fn reconstruct_one<F: Family, H: Hasher<F>, O: Overlay<H::Digest>>(
     }
     let sides = sides_of(hasher.root_bagging(), claimed.inactive, &peak);
     let (before, behind, path) = split_parts(claimed.digests, sides.before, sides.behind)?;
-    let own = rebuild(hasher, over, peak.place, claimed.location, claimed.element, path)?;
+    let own = rebuild(
+        hasher,
+        over,
+        peak.place,
+        claimed.location,
+        claimed.element,
+        path,
+    )?;
     let folded = if sides.from_left {
         fold_onto(hasher, fold_before(hasher, before, own), behind)
     } else {

@@ -6,8 +6,8 @@ ghost use Rattle.state_proofs.specs.Bits.{is_set};
 
 use crate::grafting::graft;
 use crate::seal::seal;
-use merkle_core::reconstruct::{Claimed, reconstruct_one};
 use merkle_core::rebuild::Overlay;
+use merkle_core::reconstruct::{Claimed, reconstruct_one};
 use merkle_forest::bagging::Bagging;
 use merkle_forest::family::MAX_LEAVES;
 use merkle_forest::graftable::Graftable;
@@ -124,7 +124,12 @@ fn fits_chunks<F: Graftable, H: HashFunction>(
     let is_pending = graftable <= index && index < full;
     full - graftable <= 1
         && is_chunk_digest::<H>(&proof.pending, graftable < full, is_pending, proof.chunk)
-        && is_chunk_digest::<H>(&proof.partial, proof.leaves % bits != 0, full <= index, proof.chunk)
+        && is_chunk_digest::<H>(
+            &proof.partial,
+            proof.leaves % bits != 0,
+            full <= index,
+            proof.chunk,
+        )
 }
 
 // The root of the grafted tree that the proof of this operation leads to.
@@ -166,14 +171,22 @@ pub fn verify_operation<F: Graftable, H: HashFunction>(
     if proof.leaves > MAX_LEAVES || proof.location >= proof.leaves {
         return false;
     }
-    if !is_bit_set(proof.chunk, proof.location % bits) || !fits_chunks::<F, H>(proof, bits, grafting_height) {
+    if !is_bit_set(proof.chunk, proof.location % bits)
+        || !fits_chunks::<F, H>(proof, bits, grafting_height)
+    {
         return false;
     }
     match grafted_root_of::<F, H>(proof, grafting_height, operation) {
         None => false,
         Some(grafted) => {
             let next = proof.leaves % bits;
-            seal::<H>(&proof.operations_root, &grafted, &proof.pending, next, &proof.partial) == *root
+            seal::<H>(
+                &proof.operations_root,
+                &grafted,
+                &proof.pending,
+                next,
+                &proof.partial,
+            ) == *root
         }
     }
 }
