@@ -6,6 +6,7 @@ use std::alloc::Global;
 use std::test::Fail;
 
 /// A key, its value, a root and the honest proof, which was made apart from this code.
+#[derive(Clone, Copy)]
 struct Case {
     key: &'static str,
     value: u64,
