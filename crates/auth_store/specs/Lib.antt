@@ -8,3 +8,4 @@ pub mod Spelling
 pub mod Store
 pub mod Proving
 pub mod Claims
+pub mod ClaimsCode

@@ -1,6 +1,8 @@
 //! The light client: it checks claims about a state against the state's root.
 
-ghost use Rattle.std.specs.Prelude.{◌≡◌, ◌++◌, ℕ, List, [], map, option_map, length, IfOk};
+ghost use Rattle.std.specs.Prelude.{◌≡◌, ◌++◌, map, length, IfOk};
+ghost use Rattle.merkle_core.specs.Proofs.{proof_spelling};
+ghost use Rattle.auth_store.specs.ClaimsCode.{value_proof_spelling};
 
 use merkle_core::proof::Proof;
 use merkle_forest::Digest;
@@ -65,7 +67,9 @@ pub struct ValueProof<'a, D, K> {
 fn read_proof<F: Graftable, D: Digest>(
     alloc: Global,
     cursor: &mut Cursor<'_>,
-) -> Result<Proof<D>, Error> {
+) -> Result<Proof<D>, Error>
+    ensures { IfOk result (λ proof. cursor.old ≡ proof_spelling proof.leaves proof.inactive_peaks (map D.spelling proof.digests.items) ++ cursor.new) }
+{
     let leaves: Location<F> = Location::read_cfg(alloc, cursor, &())?;
     let inactive_peaks = read_number(cursor)?;
     let digests: Vec<D> = Vec::read_cfg(alloc, cursor, &RangeCfg::new(0, MAX_PROOF_DIGESTS))?;
@@ -81,7 +85,10 @@ pub fn read_value_proof<'a, F: Graftable + PendingOf<D>, D: Digest, K: Key>(
     alloc: Global,
     cursor: &mut Cursor<'a>,
     width: usize,
-) -> Result<ValueProof<'a, D, K>, Error> {
+) -> Result<ValueProof<'a, D, K>, Error>
+    ensures spelled { IfOk result (λ proof. cursor.old ≡ value_proof_spelling F.pending_spelling D.spelling K.spelling proof ++ cursor.new) }
+    ensures chunk { IfOk result (λ proof. length proof.chunk.now ≡ width) }
+{
     let location: Location<F> = Location::read_cfg(alloc, cursor, &())?;
     let chunk = cursor.take(width)?;
     let proof = read_proof::<F, D>(alloc, cursor)?;

@@ -78,8 +78,7 @@ pub parts-fit : (rule : Rule) → IsPairing rule → (first p h : ℕ) (it : Par
 parts-fit rule pairs first p h it =
     let whole = node-leaves rule pairs it.leaf_total first (branch p it.left it.right) it.stands in
     let low = node-leaves rule pairs it.leaf_total first it.left (node_left first p it.left it.right (forest_of rule it.leaf_total) it.stands) in
-    let power : 2 ^ h ≡ 2 ^ suc (height it.left) = ap (λ n. 2 ^ n) it.high in
-    (
+    let power : 2 ^ h ≡ 2 ^ suc (height it.left) = ap (λ n. 2 ^ n) it.high in (
       omega (arith, whole.1, power, it.few),
       (branch-height rule pairs p h it.left it.right (branch_of rule first p h it)).0,
       low.0,

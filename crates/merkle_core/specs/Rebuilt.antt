@@ -2,6 +2,7 @@
 use Rattle.std.specs.Prelude.{◌≡◌, ℕ, zero, suc, ◌+◌, ◌-◌, ◌^◌, ◌≤◌, ◌<◌, nat_lt, if◌then◌else◌, List, [], ◌∷◌, length, take, Option, None, Some, option_map, slice_get}
 use Rattle.std.specs.Option.{option_map_or}
 use Rattle.merkle_forest.specs.Forest.{Tree, leaf, branch, position, height, leaf_count, Rule, forest_of}
+use Rattle.merkle_forest.specs.Hashing.{Hash, fold_string}
 use Rattle.merkle_forest.specs.Nodes.{IsNodeAt}
 
 -- how a leaf and a branch are hashed, and what stands in the place of a branch of a height
@@ -44,3 +45,8 @@ pub record IsTreeAt (rule : Rule) (first at high : ℕ) (node : Tree) : Type 0 w
 -- some tree stands at this place
 abbrev pub HasTree : Rule → ℕ → ℕ → ℕ → Type 0
 HasTree rule first at high = (node : Tree) × IsTreeAt rule first at high node
+
+-- digests folded from the right onto a last one
+abbrev pub folded_before : Hash → List (List ℕ) → List ℕ → List ℕ
+folded_before hash [] last = last
+folded_before hash (d ∷ digests) last = hash (fold_string d (folded_before hash digests last))

@@ -1,7 +1,7 @@
 //! A root rebuilt from a proof of one element, by closed formulas.
 
-ghost use Rattle.std.specs.Prelude.{◌≡◌, ◌<◌, ◌≤◌, ◌+◌, ◌-◌, ◌^◌, ℕ, List, map, option_map};
-ghost use Rattle.merkle_core.specs.Rebuilt.{HasTree};
+ghost use Rattle.std.specs.Prelude.{◌≡◌, ◌<◌, ◌≤◌, ◌+◌, ◌-◌, ◌^◌, ℕ, ◌++◌, List, map, length, IfSome, MatchOption};
+ghost use Rattle.merkle_core.specs.Rebuilt.{folded_before};
 
 use crate::rebuild::{Overlay, rebuild};
 use crate::walk::{PeakOver, peak_over};
@@ -65,7 +65,10 @@ fn sides_of(bagging: Bagging, inactive: u64, peak: &PeakOver) -> Sides
 }
 
 // The digests as three parts: so many first ones, so many next ones, and the others. None: there are fewer.
-fn split_parts<D>(digests: &[D], front: u64, behind: u64) -> Option<(&[D], &[D], &[D])> {
+fn split_parts<D>(digests: &[D], front: u64, behind: u64) -> Option<(&[D], &[D], &[D])>
+    ensures { MatchOption result (length digests.now < front + behind) (λ parts. (digests.now ≡ parts.0.now ++ (parts.1.now ++ parts.2.now))
+        × (length parts.0.now ≡ front) × (length parts.1.now ≡ behind)) }
+{
     let count = digests.len() as u64;
     if count < front {
         return None;
@@ -79,7 +82,13 @@ fn split_parts<D>(digests: &[D], front: u64, behind: u64) -> Option<(&[D], &[D],
 }
 
 // The digests folded from the right onto the last one.
-fn fold_before<F: Family, H: Hasher<F>>(hasher: &H, digests: &[H::Digest], last: H::Digest) -> H::Digest {
+fn fold_before<F: Family, H: Hasher<F>>(
+    hasher: &H,
+    digests: &[H::Digest],
+    last: H::Digest,
+) -> H::Digest
+    ensures { H.Digest.spelling result ≡ folded_before H.hash_of (map H.Digest.spelling digests.now) (H.Digest.spelling last) }
+{
     match digests {
         [] => last,
         [first, rest @ ..] => hasher.fold(first, &fold_before(hasher, rest, last)),
@@ -92,7 +101,10 @@ pub fn reconstruct_one<F: Family, H: Hasher<F>, O: Overlay<H::Digest>>(
     hasher: &H,
     over: &O,
     claimed: &Claimed<'_, H::Digest>,
-) -> Option<H::Digest> {
+) -> Option<H::Digest>
+    ensures few { IfSome result (λ _. claimed.now.leaves ≤ MAX_LEAVES) }
+    ensures within { IfSome result (λ _. claimed.now.location < claimed.now.leaves) }
+{
     if claimed.leaves > MAX_LEAVES || claimed.location >= claimed.leaves {
         return None;
     }
@@ -102,7 +114,14 @@ pub fn reconstruct_one<F: Family, H: Hasher<F>, O: Overlay<H::Digest>>(
     }
     let sides = sides_of(hasher.root_bagging(), claimed.inactive, &peak);
     let (before, behind, path) = split_parts(claimed.digests, sides.before, sides.behind)?;
-    let own = rebuild(hasher, over, peak.place, claimed.location, claimed.element, path)?;
+    let own = rebuild(
+        hasher,
+        over,
+        peak.place,
+        claimed.location,
+        claimed.element,
+        path,
+    )?;
     let folded = if sides.from_left {
         fold_onto(hasher, fold_before(hasher, before, own), behind)
     } else {

@@ -1,5 +1,5 @@
 -- Bits in chunks. Bit i stands in byte i / 8 of its chunk, as bit i mod 8 from the least.
-use Rattle.std.specs.Prelude.{ℕ, zero, suc, ◌+◌, ◌*◌, ◌==◌, Bool, if◌then◌else◌, List, [], ◌∷◌, take, drop}
+use Rattle.std.specs.Prelude.{ℕ, zero, suc, ◌+◌, ◌*◌, ◌/◌, ◌%◌, ◌^◌, ◌==◌, Bool, false, Option, None, Some, if◌then◌else◌, List, [], ◌∷◌, take, drop}
 use Rattle.std.specs.List.{list_all}
 
 -- the byte of up to eight bits, the least first
@@ -20,3 +20,8 @@ chunks_of width (suc count) bits = chunk_of width bits ∷ chunks_of width count
 -- whether no bit of the chunk is set
 abbrev pub is_zero : List ℕ → Bool
 is_zero chunk = list_all (λ byte. byte == 0) chunk
+
+-- whether the bit at a place is set in its byte, where there is that byte
+abbrev pub is_set : Option ℕ → ℕ → Bool
+is_set None place = false
+is_set (Some byte) place = byte / 2 ^ (place % 8) % 2 == 1

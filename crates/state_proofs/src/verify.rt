@@ -1,12 +1,13 @@
 //! The check of a proof of one operation, by closed formulas.
 
-ghost use Rattle.std.specs.Prelude.{◌≡◌, ◌==◌, ◌<◌, ◌≤◌, ◌+◌, ◌-◌, ◌*◌, ◌/◌, ◌%◌, ◌^◌, ◌++◌, [], ◌∷◌, ℕ, List, min, IfSome, nat_lt, length, if◌then◌else◌, option_map};
+ghost use Rattle.std.specs.Prelude.{◌≡◌, ◌==◌, ◌<◌, ◌≤◌, ◌+◌, ◌-◌, ◌*◌, ◌/◌, ◌%◌, ◌^◌, ◌++◌, [], ◌∷◌, ℕ, List, min, IfSome, IsTrue, true, slice_get, nat_lt, length, if◌then◌else◌, option_map};
 ghost use Rattle.state_proofs.specs.Grafting.{grafted};
+ghost use Rattle.state_proofs.specs.Bits.{is_set};
 
 use crate::grafting::graft;
 use crate::seal::seal;
-use merkle_core::reconstruct::{Claimed, reconstruct_one};
 use merkle_core::rebuild::Overlay;
+use merkle_core::reconstruct::{Claimed, reconstruct_one};
 use merkle_forest::bagging::Bagging;
 use merkle_forest::family::MAX_LEAVES;
 use merkle_forest::graftable::Graftable;
@@ -85,7 +86,9 @@ pub fn graftable_chunks_of<F: Graftable>(leaves: u64, grafting_height: u32) -> u
 }
 
 // Whether the bit at this place of the chunk is set.
-fn is_bit_set(chunk: &[u8], place: u64) -> bool {
+fn is_bit_set(chunk: &[u8], place: u64) -> bool
+    ensures { result ≡ is_set (slice_get chunk.now (place / 8)) place }
+{
     match chunk.get((place / 8) as usize) {
         Some(byte) => (*byte >> (place % 8)) % 2 == 1,
         None => false,
@@ -121,7 +124,12 @@ fn fits_chunks<F: Graftable, H: HashFunction>(
     let is_pending = graftable <= index && index < full;
     full - graftable <= 1
         && is_chunk_digest::<H>(&proof.pending, graftable < full, is_pending, proof.chunk)
-        && is_chunk_digest::<H>(&proof.partial, proof.leaves % bits != 0, full <= index, proof.chunk)
+        && is_chunk_digest::<H>(
+            &proof.partial,
+            proof.leaves % bits != 0,
+            full <= index,
+            proof.chunk,
+        )
 }
 
 // The root of the grafted tree that the proof of this operation leads to.
@@ -151,7 +159,11 @@ pub fn verify_operation<F: Graftable, H: HashFunction>(
     root: &H::Digest,
     proof: &OperationProof<'_, H::Digest>,
     operation: &[u8],
-) -> bool {
+) -> bool
+    ensures few { IsTrue result → proof.now.leaves ≤ MAX_LEAVES }
+    ensures within { IsTrue result → proof.now.location < proof.now.leaves }
+    ensures active { IsTrue result → is_set (slice_get proof.now.chunk.now (proof.now.location % (8 * length proof.now.chunk.now) / 8)) (proof.now.location % (8 * length proof.now.chunk.now)) ≡ true }
+{
     let Some(grafting_height) = grafting_height_of(proof.chunk.len()) else {
         return false;
     };
@@ -159,14 +171,22 @@ pub fn verify_operation<F: Graftable, H: HashFunction>(
     if proof.leaves > MAX_LEAVES || proof.location >= proof.leaves {
         return false;
     }
-    if !is_bit_set(proof.chunk, proof.location % bits) || !fits_chunks::<F, H>(proof, bits, grafting_height) {
+    if !is_bit_set(proof.chunk, proof.location % bits)
+        || !fits_chunks::<F, H>(proof, bits, grafting_height)
+    {
         return false;
     }
     match grafted_root_of::<F, H>(proof, grafting_height, operation) {
         None => false,
         Some(grafted) => {
             let next = proof.leaves % bits;
-            seal::<H>(&proof.operations_root, &grafted, &proof.pending, next, &proof.partial) == *root
+            seal::<H>(
+                &proof.operations_root,
+                &grafted,
+                &proof.pending,
+                next,
+                &proof.partial,
+            ) == *root
         }
     }
 }

@@ -6,6 +6,7 @@ use std::alloc::Global;
 use std::test::Fail;
 
 /// A key, its value, a root and the honest proof, which was made apart from this code.
+#[derive(Clone, Copy)]
 struct Case {
     key: &'static str,
     value: u64,
@@ -120,6 +121,31 @@ fn a_changed_proof_shows_nothing(rt: HostRuntime) -> Result<(), Fail> {
         }
         bytes.push(0)?;
         assert_eq!(rt; says(alloc, case, key, case.value, &bytes), Ok(false));
+    }
+    Ok(())
+}
+
+const WIDE: Case = Case {
+    key: "0000000000000062",
+    value: 18446744073709551615,
+    root: "0fab390577fd0a1320c3bf4ab16f08fac3a9ac331ee5946b78e957e41195d339",
+    proof: "09000e0000000000000000000000000000000000000000000000000000000000000c0003c954de2cb9889b3a80fd29fd4651591807cc1583fe426bb3ea1f2b2cebafa7e296e47f9d71354c65dac57a1f8b74a65a20fca6d4816a7807c2149e96562c7396fef3cad6f0dce5b687e3ad836ad577e377ed6e546655f390b05b2e53ae574c1d018c89f8d8b545ff76b8bc2a78addbe86867308f52ec92927b6721d6aa5e33c7972d3c84929ebad9ff0fcfd54358a1b7490fcfcb100f229e5ac72103852424c83b400712c2b1a8358f",
+};
+
+#[test]
+fn chunks_may_be_wide(rt: HostRuntime) -> Result<(), Fail> {
+    let alloc = rt.alloc();
+    let bytes = bytes_of(alloc, WIDE.proof)?;
+    let root: FixedBytes<32> = fixed(WIDE.root);
+    for (value, want) in [(WIDE.value, true), (WIDE.value ^ 1, false)] {
+        let claim: Claim<FixedBytes<8>, u64> = Claim::Value {
+            key: fixed(WIDE.key),
+            value,
+        };
+        let said = check::<mmr::Family, ByteHash, FixedBytes<8>, u64, 32>(
+            alloc, &root, &claim, &bytes,
+        );
+        assert_eq!(rt; said, Ok(want));
     }
     Ok(())
 }

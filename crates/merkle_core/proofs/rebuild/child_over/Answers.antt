@@ -31,6 +31,8 @@ pub returns-else-location-middle-clause-stands : goal.returns-else-location-midd
 returns-else-location-middle-clause-stands g c =
     let it = parts g.F.Family.merge_rule c.args.place.first c.args.place.position c.args.place.height c.requires.stands.0 c.requires.stands.1 c.requires.branch in
     let fit = parts-fit g.F.Family.merge_rule g.met.F.Family.merges_equals c.args.place.first c.args.place.position c.args.place.height it in
-    let both = c.child_positions-left.ensures it.left it.right (branch_of g.F.Family.merge_rule c.args.place.first c.args.place.position c.args.place.height it) in
-    (it.right, right_place g.F.Family.merge_rule g.met.F.Family.merges_equals c.args.place.first _ c.args.place.position c.args.place.height _ _ it
-    (ap (λ n. c.args.place.first + n) (one_shl (c.args.place.height - 1) 64 (omega (arith, fit.1)))) both.1 (omega (arith, it.high)))
+    let both = c.child_positions-left.ensures it.left it.right (branch_of g.F.Family.merge_rule c.args.place.first c.args.place.position c.args.place.height it) in (
+      it.right,
+      right_place g.F.Family.merge_rule g.met.F.Family.merges_equals c.args.place.first _ c.args.place.position c.args.place.height _ _ it
+          (ap (λ n. c.args.place.first + n) (one_shl (c.args.place.height - 1) 64 (omega (arith, fit.1)))) both.1 (omega (arith, it.high)),
+    )
