@@ -5,3 +5,6 @@ pub mod proof;
 pub mod ranges;
 
 pub use proof::Proof;
+
+#[cfg(test)]
+mod tests;

@@ -5,7 +5,7 @@ use crate::forest::{Tree, grow};
 use crate::hasher::Standard;
 use crate::root::root;
 use crate::tests::hashing::hex;
-use crate::trees::{Plain, digests_of_peaks};
+use crate::trees::{Plain, digests_of_peaks, inactive_count_of, place};
 use crate::{Bagging, ByteHash, mmr};
 use std::test::Fail;
 
@@ -80,4 +80,27 @@ fn root_of_seven_leaves(rt: HostRuntime) -> Result<(), Fail> {
         assert_eq!(rt; hex(rt.alloc(), &found)?.as_str(), text, "at {inactive}");
     }
     Ok(())
+}
+
+// The peaks of seven leaves have four, two and one of them.
+#[test]
+fn places_of_seven_leaves(rt: HostRuntime) -> Result<(), Fail> {
+    let peaks = grow::<mmr::Family>(rt.alloc(), 7)?;
+    let placed = place(rt.alloc(), &peaks)?;
+    let mut starts = Vec::new(rt.alloc());
+    for (start, _) in &placed {
+        starts.push(*start)?;
+    }
+    assert_eq!(rt; starts.as_slice(), [0, 4, 6].as_slice());
+    Ok(())
+}
+
+// Three leaves side by side: a peak is inactive where it ends at the floor or before it.
+#[test]
+fn inactive_leaves(rt: HostRuntime) {
+    let leaf = Tree::Leaf(0);
+    let placed = [(0, &leaf), (1, &leaf), (2, &leaf)];
+    assert_eq!(rt; inactive_count_of(0, &placed), 0);
+    assert_eq!(rt; inactive_count_of(2, &placed), 2);
+    assert_eq!(rt; inactive_count_of(9, &placed), 3);
 }
