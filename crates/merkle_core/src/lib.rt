@@ -8,3 +8,6 @@ pub mod reconstruct;
 pub mod walk;
 
 pub use proof::Proof;
+
+#[cfg(test)]
+mod tests;

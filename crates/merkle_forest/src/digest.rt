@@ -1,6 +1,6 @@
 //! Digests.
 
-ghost use Rattle.std.specs.Prelude.{◌≡◌, ℕ, length, true};
+ghost use Rattle.std.specs.Prelude.{◌≡◌, ℕ, length, replicate, true};
 ghost use Rattle.std.proofs.Common.{rules, ap};
 
 use crate::codec::{FixedBytes, FixedSize, Read};
@@ -9,7 +9,8 @@ use std::fmt::Debug;
 /// A digest of a fixed number of bytes, which are its spelling.
 pub trait Digest: Read<Cfg = ()> + FixedSize + Copy + Eq + Debug {
     /// The digest of zero bytes alone.
-    fn empty() -> Self;
+    fn empty() -> Self
+        ensures { Self.spelling result ≡ replicate Self.SIZE 0 };
 
     /// The digest's bytes.
     fn as_bytes(&self) -> &[u8]

@@ -1,3 +1,6 @@
+mod forests;
+mod hashing;
+
 use super::*;
 use crate::codec::{Decode, Encode, EncodeSize, Error, MaxEncodeSize};
 use std::test::Fail;
