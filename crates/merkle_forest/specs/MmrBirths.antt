@@ -15,7 +15,7 @@ use Rattle.merkle_forest.specs.MmrNodes.{pow_order, left_half, right_half, node_
 apart : (m a b : ℕ) → a * m < b * m → a * m + m ≤ b * m
 apart m a b lt =
     elim (cases_lt a b) [
-        inl less ↦ (let whole : suc a * m ≤ b * m = mul-le-mul_right m less in omega (arith, whole))
+      | inl less ↦ (let whole : suc a * m ≤ b * m = mul-le-mul_right m less in omega (arith, whole))
       | inr more ↦ absurd (let whole : b * m ≤ a * m = mul-le-mul_right m more in omega arith)
     ]
 
@@ -48,28 +48,28 @@ born-tree zero a c h first start at is_start is_first low high =
     (leaf at, (omega (arith, low, high, pow_pos h), refl), omega (arith, pow_order h 0 (omega (arith, low, high))))
 born-tree (suc k) a c h first start at is_start is_first low high =
     elim (cases_lt k h) [
-        inl above ↦ (let same = same_height h k first start above low high in
-            (branch (at + (2 ^ suc (suc k) - 2)) (mmr_tree k at) (mmr_tree k (at + (2 ^ suc k - 1))), inl (same.1, refl), same.0 ∙ ap (λ n. suc n) (sym (height-mmr_tree k at))))
+      | inl above ↦ (let same = same_height h k first start above low high in
+          (branch (at + (2 ^ suc (suc k) - 2)) (mmr_tree k at) (mmr_tree k (at + (2 ^ suc k - 1))), inl (same.1, refl), same.0 ∙ ap (λ n. suc n) (sym (height-mmr_tree k at))))
       | inr below ↦ (
-            let half : start + 2 ^ k ≡ (2 * a + 1) * 2 ^ k = omega (arith, is_start, right_half k a) in
-            let double : 2 ^ suc k ≡ 2 ^ k * 2 = pow-suc 2 k in
-            let counted : leaf_count (mmr_tree k at) ≡ 2 ^ k = leaf_count-mmr_tree k at in
-            elim (cases_lt first (start + 2 ^ k)) [
-                inl left ↦ (let it = born-tree k (a * 2) c h first start at (is_start ∙ left_half k a) is_first low (aligned_below h k c (2 * a + 1) first (start + 2 ^ k) below is_first half left) in
-                    (it.0, inr (inl it.1), it.2))
-              | inr right ↦ (let it = born-tree k (2 * a + 1) c h first (start + leaf_count (mmr_tree k at)) (at + (2 ^ suc k - 1)) (omega (arith, counted, half)) is_first (omega (arith, counted, right)) (omega (arith, counted, double, high)) in
-                    (it.0, inr (inr it.1), it.2))
-            ])
+          let half : start + 2 ^ k ≡ (2 * a + 1) * 2 ^ k = omega (arith, is_start, right_half k a) in
+          let double : 2 ^ suc k ≡ 2 ^ k * 2 = pow-suc 2 k in
+          let counted : leaf_count (mmr_tree k at) ≡ 2 ^ k = leaf_count-mmr_tree k at in
+          elim (cases_lt first (start + 2 ^ k)) [
+            | inl left ↦ (let it = born-tree k (a * 2) c h first start at (is_start ∙ left_half k a) is_first low (aligned_below h k c (2 * a + 1) first (start + 2 ^ k) below is_first half left) in
+                (it.0, inr (inl it.1), it.2))
+            | inr right ↦ (let it = born-tree k (2 * a + 1) c h first (start + leaf_count (mmr_tree k at)) (at + (2 ^ suc k - 1)) (omega (arith, counted, half)) is_first (omega (arith, counted, right)) (omega (arith, counted, double, high)) in
+                (it.0, inr (inr it.1), it.2))
+          ])
     ]
 
 left_of : (h k c d first start : ℕ) → first ≡ c * 2 ^ h → start ≡ d * 2 ^ suc k → first < start → first + 2 ^ h ≤ start + 2 ^ k → first + 2 ^ h ≤ start
 left_of h k c d first start is_first is_start lt high =
     elim (cases_lt (suc k) h) [
-        inl above ↦ (elim (cases_lt start (first + 2 ^ h)) [
-            inl past ↦ (let next : first + 2 ^ h ≡ suc c * 2 ^ h = omega (arith, is_first) in
-                absurd (omega (arith, aligned_below (suc k) h d (suc c) start (first + 2 ^ h) (omega (arith, above)) is_start next past, high, pow-suc 2 k, pow_pos k)))
-          | inr fits ↦ fits
-        ])
+      | inl above ↦ (elim (cases_lt start (first + 2 ^ h)) [
+        | inl past ↦ (let next : first + 2 ^ h ≡ suc c * 2 ^ h = omega (arith, is_first) in
+            absurd (omega (arith, aligned_below (suc k) h d (suc c) start (first + 2 ^ h) (omega (arith, above)) is_start next past, high, pow-suc 2 k, pow_pos k)))
+        | inr fits ↦ fits
+      ])
       | inr below ↦ aligned_below h (suc k) c d first start below is_first is_start lt
     ]
 
@@ -80,17 +80,18 @@ born-range b c h first (t ∷ ts) range is high =
     let ones = ones-range (suc k) ts range.2 in
     let mine : leaf_count t ≡ 2 ^ k = ap leaf_count range.1 ∙ leaf_count-mmr_tree k (size ts) in
     elim (cases_lt first (leaves ts)) [
-        inl before ↦ (let it = born-range (suc k) c h first ts range.2 is (left_of h k c ones.0 first (leaves ts) is ones.1 before (omega (arith, mine, high))) in
-            (it.0, inr it.1, it.2))
+      | inl before ↦ (let it = born-range (suc k) c h first ts range.2 is (left_of h k c ones.0 first (leaves ts) is ones.1 before (omega (arith, mine, high))) in
+          (it.0, inr it.1, it.2))
       | inr within ↦ (let it = born-tree k (ones.0 * 2) c h first (leaves ts) (size ts) (ones.1 ∙ left_half k ones.0) is within (omega (arith, mine, high)) in
-            (it.0, inl (subst (IsWithin first it.0 (leaves ts)) (sym range.1) it.1), it.2))
+          (it.0, inl (subst (IsWithin first it.0 (leaves ts)) (sym range.1) it.1), it.2))
     ]
 
 -- the node of height h over leaves from a multiple of 2 ^ h on is born with the last of them
 pub birth-mmr : (c h first : ℕ) → first ≡ c * 2 ^ h → IsBirth mmr_rule first h (first + 2 ^ h)
-birth-mmr c h first is n =
-    (λ it. (let power : 2 ^ h ≡ 2 ^ height it.0 = ap (λ k. 2 ^ k) it.2 in omega (arith, power, (node-leaves mmr_rule mmr_merges_equals n first it.0 it.1).1)),
-     λ few. born-range 0 c h first (forest_of mmr_rule n) (forest_of-range n) is (omega (arith, few, leaves-forest_of mmr_rule mmr_merges_equals n)))
+birth-mmr c h first is n = (
+  λ it. (let power : 2 ^ h ≡ 2 ^ height it.0 = ap (λ k. 2 ^ k) it.2 in omega (arith, power, (node-leaves mmr_rule mmr_merges_equals n first it.0 it.1).1)),
+  λ few. born-range 0 c h first (forest_of mmr_rule n) (forest_of-range n) is (omega (arith, few, leaves-forest_of mmr_rule mmr_merges_equals n)),
+)
 
 -- its position
 pub place-mmr : (first h : ℕ) → IsPlaceOfNode mmr_rule first h (root_place first h)

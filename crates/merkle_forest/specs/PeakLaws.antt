@@ -78,7 +78,7 @@ cut-begins first [] cut lt = absurd (omega arith)
 cut-begins first (t ∷ ts) cut lt =
     or_cases (eqb first (leaves (t ∷ ts))) (is_cut first ts) cut (λ same. absurd (omega (arith, eqb-true first (leaves (t ∷ ts)) same)))
     (λ rest. elim (cases_lt first (leaves ts)) [
-        inl before ↦ (let found = cut-begins first ts rest before in (found.0, inr found.1))
+      | inl before ↦ (let found = cut-begins first ts rest before in (found.0, inr found.1))
       | inr end ↦ (t, inl (omega (arith, end, cut-fits first ts rest), refl))
     ])
 
@@ -102,15 +102,15 @@ step rule pairs n first p h few cut before answer =
     let bound : h ≤ 62 = height_fits 62 h (omega (arith, counts.1, power)) in
     let next : first + 1 * 2 ^ h % 2 ^ 64 ≡ first + leaf_count found.0 = omega (arith, counts.0, power, one_shl h 64 (omega arith)) in
     let rest : placed_from first (forest_of rule n) ≡ (first, found.0) ∷ placed_from (first + 1 * 2 ^ h % 2 ^ 64) (forest_of rule n) =
-        placed_from-peak first found.0 (forest_of rule n) found.1 ∙ ap (λ k. (first, found.0) ∷ placed_from k (forest_of rule n)) (sym next) in
+    placed_from-peak first found.0 (forest_of rule n) found.1 ∙ ap (λ k. (first, found.0) ∷ placed_from k (forest_of rule n)) (sym next) in
     record {
       low = omega arith;
       fits = omega (arith, next, counts);
       further = omega (arith, next, leaf_count-pos found.0);
       cut = ap (λ k. is_cut k (forest_of rule n)) next ∙ cut-peak first found.0 (forest_of rule n) found.1;
       places = ap (map place_of) rest
-        ∙ ap (λ k. (k, height found.0) ∷ places_from (first + 1 * 2 ^ h % 2 ^ 64) (forest_of rule n)) (sym place.0)
-        ∙ ap (λ k. (p, k) ∷ places_from (first + 1 * 2 ^ h % 2 ^ 64) (forest_of rule n)) (sym place.1);
+          ∙ ap (λ k. (k, height found.0) ∷ places_from (first + 1 * 2 ^ h % 2 ^ 64) (forest_of rule n)) (sym place.0)
+          ∙ ap (λ k. (p, k) ∷ places_from (first + 1 * 2 ^ h % 2 ^ 64) (forest_of rule n)) (sym place.1);
       inactive = λ floor. ap (inactive_peaks floor) rest
-        ∙ ap (λ k. cond (leb k floor) (suc (inactive_peaks floor (placed_from (first + 1 * 2 ^ h % 2 ^ 64) (forest_of rule n)))) 0) (sym next);
+          ∙ ap (λ k. cond (leb k floor) (suc (inactive_peaks floor (placed_from (first + 1 * 2 ^ h % 2 ^ 64) (forest_of rule n)))) 0) (sym next);
     }

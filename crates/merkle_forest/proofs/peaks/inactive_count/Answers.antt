@@ -36,7 +36,7 @@ returns-then-end-floor g c =
     let it = step g.F.Family.merge_rule g.met.F.Family.merges_equals c.args.leaves c.loop-first.first c.peak_from-height.result.0 c.peak_from-height.result.1 c.requires c.loop-first.invariant.cut c.loop-first-test.true c.peak_from-height.ensures in
     let past = lt-leb (c.loop-first.first + 1 * 2 ^ c.peak_from-height.result.1 % 2 ^ 64) c.args.floor c.if-end-floor.true in
     let none : inactive_peaks c.args.floor (placed_from c.loop-first.first (forest_of g.F.Family.merge_rule c.args.leaves)) ≡ 0 =
-        it.inactive c.args.floor ∙ ap (λ b. cond b (suc (inactive_peaks c.args.floor (placed_from (c.loop-first.first + 1 * 2 ^ c.peak_from-height.result.1 % 2 ^ 64) (forest_of g.F.Family.merge_rule c.args.leaves)))) 0) past in
+    it.inactive c.args.floor ∙ ap (λ b. cond b (suc (inactive_peaks c.args.floor (placed_from (c.loop-first.first + 1 * 2 ^ c.peak_from-height.result.1 % 2 ^ 64) (forest_of g.F.Family.merge_rule c.args.leaves)))) 0) past in
     omega (arith, none, c.loop-first.invariant.counted)
 
 pub loop-first-smaller : goal.loop-first-smaller
@@ -49,7 +49,7 @@ loop-first-preserved g c =
     let it = step g.F.Family.merge_rule g.met.F.Family.merges_equals c.args.leaves c.loop-first.first c.peak_from-height.result.0 c.peak_from-height.result.1 c.requires c.loop-first.invariant.cut c.loop-first-test.true c.peak_from-height.ensures in
     let before = le-leb (c.loop-first.first + 1 * 2 ^ c.peak_from-height.result.1 % 2 ^ 64) c.args.floor c.if-end-floor.false in
     let one : inactive_peaks c.args.floor (placed_from c.loop-first.first (forest_of g.F.Family.merge_rule c.args.leaves)) ≡ suc (inactive_peaks c.args.floor (placed_from (c.loop-first.first + 1 * 2 ^ c.peak_from-height.result.1 % 2 ^ 64) (forest_of g.F.Family.merge_rule c.args.leaves))) =
-        it.inactive c.args.floor ∙ ap (λ b. cond b (suc (inactive_peaks c.args.floor (placed_from (c.loop-first.first + 1 * 2 ^ c.peak_from-height.result.1 % 2 ^ 64) (forest_of g.F.Family.merge_rule c.args.leaves)))) 0) before in
+    it.inactive c.args.floor ∙ ap (λ b. cond b (suc (inactive_peaks c.args.floor (placed_from (c.loop-first.first + 1 * 2 ^ c.peak_from-height.result.1 % 2 ^ 64) (forest_of g.F.Family.merge_rule c.args.leaves)))) 0) before in
     record {
       within = it.fits;
       small = omega (arith, it.further, c.loop-first.invariant.small);
@@ -60,5 +60,5 @@ loop-first-preserved g c =
 pub returns : goal.returns
 returns g c =
     let none = ap (inactive_peaks c.args.floor) (placed_from-end (forest_of g.F.Family.merge_rule c.args.leaves) c.loop-first.first
-        (omega (arith, c.loop-first-test.false, leaves-forest_of g.F.Family.merge_rule g.met.F.Family.merges_equals c.args.leaves))) in
+    (omega (arith, c.loop-first-test.false, leaves-forest_of g.F.Family.merge_rule g.met.F.Family.merges_equals c.args.leaves))) in
     omega (arith, none, c.loop-first.invariant.counted)

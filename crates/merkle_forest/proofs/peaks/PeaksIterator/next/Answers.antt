@@ -8,7 +8,7 @@ use Rattle.merkle_forest.proofs.peaks.PeaksIterator.next.Goals as goal
 pub returns-then-self-clause-steps : goal.returns-then-self-clause-steps
 returns-then-self-clause-steps g c =
     let none : places_from c.self.inside.next (forest_of g.F.Family.merge_rule c.self.inside.leaves) ≡ [] =
-        ap (map place_of) (placed_from-end (forest_of g.F.Family.merge_rule c.self.inside.leaves) c.self.inside.next (omega (arith, leaves-forest_of g.F.Family.merge_rule g.met.F.Family.merges_equals c.self.inside.leaves))) in
+    ap (map place_of) (placed_from-end (forest_of g.F.Family.merge_rule c.self.inside.leaves) c.self.inside.next (omega (arith, leaves-forest_of g.F.Family.merge_rule g.met.F.Family.merges_equals c.self.inside.leaves))) in
     (sym c.self.view_is ∙ none, sym c.self.view_is ∙ none)
 
 pub peak_from-position-requires-clause-begins : goal.peak_from-position-requires-clause-begins

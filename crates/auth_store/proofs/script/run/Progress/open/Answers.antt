@@ -1,5 +1,5 @@
-use Rattle.std.proofs.Common.{refl, rules, arith}
+use Rattle.std.proofs.Common.{refl, arith, lit<, lit≤}
 use Rattle.auth_store.proofs.script.run.Progress.open.Goals as goal
 
-pub open-requires-clause-width : goal.open-requires-clause-width
-open-requires-clause-width g c = (3, refl, omega arith)
+pub open-requires : goal.open-requires
+open-requires g c = (lit< tt, ((3, refl, lit≤ tt), c.new-device.ensures))
