@@ -251,3 +251,6 @@ pub fn run_script<R: Read, W: Write>(alloc: Global, reader: &mut R, writer: &mut
         Err(InputError::Read) => IO_FAILED,
     }
 }
+
+#[cfg(test)]
+mod tests;

@@ -110,3 +110,6 @@ impl<F: PendingOf<H::Digest>, H: HashFunction, K: Key, V: FixedValue, const N: u
         Ok(found)
     }
 }
+
+#[cfg(test)]
+mod tests;

@@ -53,7 +53,8 @@ fn key(high: u8, low: u8) -> Name {
 }
 
 fn open(alloc: Global) -> Result<Small, StoreError> {
-    Store::open(alloc, PlainDevice::new(alloc), PlainCache::new(), SIZES)
+    let device = PlainDevice::new(alloc);
+    Store::open(alloc, device, PlainCache::new(), SIZES)
 }
 
 #[test]

@@ -1,0 +1,5 @@
+use Rattle.std.proofs.Common.{refl, lit<, lit≤}
+use Rattle.auth_store.proofs.store.prove.tests.second_key.Goals as goal
+
+pub open-requires : goal.open-requires
+open-requires g c = (lit< tt, ((3, refl, lit≤ tt), c.new-device.ensures))

@@ -1,0 +1,44 @@
+use super::*;
+use crate::batch::Batch;
+use crate::client::{Claim, check};
+use crate::plain::{PlainCache, PlainDevice, Sizes};
+use merkle_forest::codec::FixedBytes;
+use merkle_forest::{ByteHash, mmr};
+use std::test::Fail;
+
+type Keys = FixedBytes<8>;
+
+type TestStore = Store<mmr::Family, ByteHash, Keys, u64, 1>;
+
+// The key `0000000000000061` after {put a 1} and {put c 3}: 174 bytes, which begin with the location, the chunk, the
+// leaf count, no inactive peak and three digests.
+#[test]
+fn second_key(rt: HostRuntime) -> Result<(), Fail> {
+    let alloc = rt.alloc();
+    let sizes = Sizes {
+        write_buffer: 128,
+        replay_buffer: 128,
+    };
+    let device = PlainDevice::new(alloc);
+    let mut store = TestStore::open(alloc, device, PlainCache::new(), sizes)?;
+    let key = FixedBytes::new([0, 0, 0, 0, 0, 0, 0, 0x61]);
+    let mut first = Batch::new(alloc);
+    first.put(key, 1)?;
+    store.commit(first, None)?;
+    let mut second = Batch::new(alloc);
+    second.put(FixedBytes::new([0, 0, 0, 0, 0, 0, 0, 0x63]), 3)?;
+    let root = store.commit(second, None)?;
+    let KeyProof::Value(value, bytes) = store.prove_key(&key)?.ok_or("the key is there")?;
+    assert_eq!(rt; value, 1);
+    assert_eq!(rt; bytes.len(), 174);
+    assert!(rt;
+        bytes
+            .as_slice()
+            .starts_with(&[0x03, 0x38, 0x06, 0x00, 0x03])
+    );
+    let yes = Claim::Value { key, value: 1 };
+    let no = Claim::Value { key, value: 2 };
+    assert!(rt; check::<mmr::Family, ByteHash, Keys, u64, 1>(alloc, &root, &yes, &bytes)?);
+    assert!(rt; !check::<mmr::Family, ByteHash, Keys, u64, 1>(alloc, &root, &no, &bytes)?);
+    Ok(())
+}
