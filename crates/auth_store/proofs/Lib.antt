@@ -1,4 +1,5 @@
 pub mod Entries
+pub mod Actives
 pub mod Lookups
 pub mod Logs
 pub mod Numbers

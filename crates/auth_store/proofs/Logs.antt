@@ -64,13 +64,13 @@ IsState-updates (e ∷ es) old new s h =
       | false ↦ IsState-updates es old new (with_entry s e.0 e.1) (IsState-with_entry s e.0 e.1 h)
     ]
 
-differ : (f : List ℕ → Bool) (q k : List ℕ) (a b : Bool) → f q ≡ a → f k ≡ b → (a ≡ b → ⊥) → same q k ≡ false
+pub differ : (f : List ℕ → Bool) (q k : List ℕ) (a b : Bool) → f q ≡ a → f k ≡ b → (a ≡ b → ⊥) → same q k ≡ false
 differ f q k a b at_q at_k apart = ⊎_elim (λ t. absurd (apart (sym at_q ∙ (ap f (exact q k t) ∙ at_k)))) (λ e. e) (cases_Bool (same q k))
 
-true_false : true ≡ false → ⊥
+pub true_false : true ≡ false → ⊥
 true_false e = cc
 
-false_true : false ≡ true → ⊥
+pub false_true : false ≡ true → ⊥
 false_true e = cc
 
 -- deletes leave the keys of the new state as they are
@@ -100,7 +100,7 @@ deletes_drop (e ∷ es) new s q h lacks gone =
     (cases_Bool (same q e.0))))
     (cases_Bool (is_some (value_at new e.0)))
 
-passed_by : (b : Bool) (v : List ℕ) (r : Option (List ℕ)) → cond b (Some v) r ≡ None → (b ≡ false) × (r ≡ None)
+pub passed_by : (b : Bool) (v : List ℕ) (r : Option (List ℕ)) → cond b (Some v) r ≡ None → (b ≡ false) × (r ≡ None)
 passed_by true v r e = absurd (cc)
 passed_by false v r e = (refl, e)
 
@@ -114,10 +114,10 @@ updates_keep (e ∷ es) old new s q none =
       | false ↦ updates_keep es old new (with_entry s e.0 e.1) q away.1 ∙ (value_at-with_entry s e.0 e.1 q ∙ ap (λ b. cond b (Some e.1) (value_at s q)) away.0)
     ]
 
-equal_bytes : (x y : List ℕ) → bytes_eq x y ≡ true → x ≡ y
+pub equal_bytes : (x y : List ℕ) → bytes_eq x y ≡ true → x ≡ y
 equal_bytes x y e = exact x y (is_eq-slice_cmp x y ∙ e)
 
-kept_value : (o : Option (List ℕ)) (v : List ℕ) (b : Bool) → (is_value o v && b) ≡ true → o ≡ Some v
+pub kept_value : (o : Option (List ℕ)) (v : List ℕ) (b : Bool) → (is_value o v && b) ≡ true → o ≡ Some v
 kept_value None v b e = absurd (cc)
 kept_value (Some w) v b e =
     ⊎_elim (λ t. ap (λ x. Some x) (equal_bytes w v t)) (λ f. absurd (false_true (sym (ap (λ x. x && b) f) ∙ e))) (cases_Bool (bytes_eq w v))

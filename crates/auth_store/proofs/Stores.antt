@@ -1,5 +1,5 @@
 -- What a store keeps stays true with the commit of a batch.
-use Rattle.std.proofs.Common.{◌≡◌, ℕ, ◌+◌, ◌<◌, ◌≤◌, ◌^◌, List, [], ◌∷◌, ◌++◌, length, Option, refl, ap, sym, ◌∙◌, subst, arith, length-append}
+use Rattle.std.proofs.Common.{◌≡◌, ℕ, ◌+◌, ◌<◌, ◌≤◌, ◌^◌, List, [], ◌∷◌, ◌++◌, length, Option, ap, sym, ◌∙◌, subst, arith, length-append}
 use Rattle.state_ops.specs.Operation.{Operation}
 use Rattle.state_proofs.specs.Canonical.{Setting, canonical_root}
 use Rattle.auth_store.specs.Batch.{Word, map_after}

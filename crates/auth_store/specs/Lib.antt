@@ -7,5 +7,6 @@ pub mod Report
 pub mod Spelling
 pub mod Store
 pub mod Proving
+pub mod ProvingCode
 pub mod Claims
 pub mod ClaimsCode

@@ -1,8 +1,10 @@
 //! Proofs that a store answers.
 
-ghost use Rattle.std.specs.Prelude.{◌≡◌, ◌<◌, ◌≤◌, ◌^◌, ℕ, map, length, IfOk, IfSome, IsErrOf};
+ghost use Rattle.std.specs.Prelude.{◌≡◌, ◌<◌, ◌≤◌, ◌^◌, ℕ, map, length, option_map, slice_get, IfOk, IfSome, IsErrOf};
 ghost use Rattle.auth_store.specs.History as spec;
-ghost use Rattle.auth_store.specs.Proving.{active_place};
+ghost use Rattle.auth_store.specs.Map.{value_at};
+ghost use Rattle.auth_store.specs.Proving.{active_place, active_update, honest_proof, named};
+ghost use Rattle.auth_store.specs.ProvingCode.{parts_of};
 ghost use Rattle.auth_store.specs.Store.{IsChunkWidth, setting_of_width, state_of_log};
 ghost use Rattle.state_proofs.specs.Honest.{key_value_proof};
 
@@ -14,7 +16,7 @@ use crate::history::activity::is_active_on;
 use merkle_forest::codec::Encode;
 use merkle_forest::pending::PendingOf;
 use merkle_forest::{Family, HashFunction};
-use state_ops::{FixedValue, Key, Operation};
+use state_ops::{FixedValue, Key, Operation, Ordered};
 use state_proofs::honest::key_value_proof_bytes;
 use state_proofs::snapshot::Snapshot;
 use std::alloc::{AllocError, Global};
@@ -40,6 +42,22 @@ fn place_of<K: Key, V: FixedValue>(key: &K, log: &[Operation<K, V>]) -> usize
                 place_of(key, later) + 1
             }
         }
+    }
+}
+
+// The update at a place of the log, or None where another operation stands there or none.
+fn update_at<K: Key, V: FixedValue>(
+    log: &[Operation<K, V>],
+    place: usize,
+) -> Option<&Ordered<K, V>>
+    ensures update { option_map (λ update. (V.spelling update.now.value, K.spelling update.now.next_key)) result ≡ named (slice_get (spec.meanings K.spelling V.spelling log.now) place) }
+    ensures within { IfSome result (λ _. place < length log.now) }
+{
+    match log.get(place) {
+        Some(Operation::Update(update)) => Some(update),
+        Some(Operation::Delete(_)) => None,
+        Some(Operation::CommitFloor(_, _)) => None,
+        None => None,
     }
 }
 
@@ -85,15 +103,16 @@ pub fn prove_in_log<
 ) -> Result<Option<KeyProof<V>>, AllocError>
     requires width { IsChunkWidth N }
     requires few { length log.now ≤ 2 ^ 62 }
+    ensures { let log = spec.meanings K.spelling V.spelling log.now in
+        IfOk result (λ found. option_map (parts_of V.spelling) found ≡ option_map (λ update. (update.0, key_value_proof F.pending_spelling (setting_of_width F.merge_rule H.hash_of N)
+        (state_of_log K.SIZE V.SIZE log floor) (active_place (K.spelling key.now) log) update.1)) (active_update (K.spelling key.now) log)) }
 {
     let place = place_of(key, log);
-    match log.get(place) {
-        Some(Operation::Update(update)) => {
-            let bytes = proof_at::<F, H, K, V, N>(alloc, log, floor, place, &update.next_key)?;
-            Ok(Some(KeyProof::Value(update.value.clone()?, bytes)))
-        }
-        _ => Ok(None),
-    }
+    let Some(update) = update_at(log, place) else {
+        return Ok(None);
+    };
+    let bytes = proof_at::<F, H, K, V, N>(alloc, log, floor, place, &update.next_key)?;
+    Ok(Some(KeyProof::Value(update.value.clone()?, bytes)))
 }
 
 impl<F: PendingOf<H::Digest>, H: HashFunction, K: Key, V: FixedValue, const N: usize> Store<
@@ -105,7 +124,11 @@ impl<F: PendingOf<H::Digest>, H: HashFunction, K: Key, V: FixedValue, const N: u
 > {
     /// The value of the key, and the honest bytes that prove it under the root of this moment. None: the key isn't there.
     /// Want of memory: S4.
-    pub fn prove_key(&self, key: &K) -> Result<Option<KeyProof<V>>, StoreError> {
+    pub fn prove_key(&self, key: &K) -> Result<Option<KeyProof<V>>, StoreError>
+        ensures ok { IfOk result (λ found. option_map (parts_of V.spelling) found ≡ option_map (λ value. (value, honest_proof F.pending_spelling (setting_of_width F.merge_rule H.hash_of N)
+            K.SIZE V.SIZE self.now (K.spelling key.now))) (value_at (spec.latest_map self.now) (K.spelling key.now))) }
+        ensures err { IsErrOf result StoreError.NumberEnded → ⊥ }
+    {
         let found = prove_in_log::<F, H, K, V, N>(self.alloc, &self.operations, self.floor, key)?;
         Ok(found)
     }

@@ -1,7 +1,6 @@
-use Rattle.std.proofs.Common.{◌≡◌, List, ℕ, ◌++◌, ◌∙◌, map, ap, sym, append_assoc, rules}
+use Rattle.std.proofs.Common.{◌≡◌, List, ℕ, ◌++◌, append_assoc}
 use Rattle.merkle_forest.specs.Varint.{varint}
 use Rattle.merkle_forest.specs.Lists.{list_spelling}
-use Rattle.merkle_core.specs.Proofs.{proof_spelling}
 use Rattle.merkle_core.proofs.Spellings.{list_spelling-bytes}
 use Rattle.auth_store.proofs.client.read_proof.Goals as goal
 

@@ -4,7 +4,7 @@ use Rattle.std.proofs.lemmas.List.{length-map}
 use Rattle.auth_store.specs.Batch as words
 use Rattle.auth_store.specs.History as spec
 use Rattle.auth_store.specs.History.{History, log_of}
-use Rattle.auth_store.specs.Store.{Keeps, setting_of_width, commit_after}
+use Rattle.auth_store.specs.Store.{commit_after}
 use Rattle.auth_store.proofs.Stores.{commits_few, next_log-is, next_stands, next_keeps}
 use Rattle.auth_store.proofs.store.Store.commit.Goals as goal
 

@@ -1,4 +1,4 @@
-use Rattle.std.proofs.Common.{◌≡◌, ◌∙◌, ap}
+use Rattle.std.proofs.Common.{◌∙◌, ap}
 use Rattle.auth_store.specs.History.{latest_map}
 use Rattle.auth_store.specs.Map.{Map, value_at}
 use Rattle.auth_store.proofs.Stores.{latest_kept}

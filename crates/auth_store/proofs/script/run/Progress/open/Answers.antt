@@ -1,4 +1,4 @@
-use Rattle.std.proofs.Common.{refl, arith, lit<, lit≤}
+use Rattle.std.proofs.Common.{refl, lit<, lit≤}
 use Rattle.auth_store.proofs.script.run.Progress.open.Goals as goal
 
 pub open-requires : goal.open-requires
