@@ -197,11 +197,11 @@ shown pending setting key_size value_size last q log u =
     (u.0, key_value_proof pending setting (state_of_log key_size value_size log last) (active_place q log) u.1)
 
 -- the honest proof of a key, from what a store keeps
-pub honest_found : (pending : Option (List ℕ) → List ℕ) (setting : Setting) (key_size value_size : ℕ) (log : List Operation) (count last : ℕ) (digest q : List ℕ)
-    → Keeps setting key_size value_size log count last digest
+pub honest_found : (pending : Option (List ℕ) → List ℕ) (setting : Setting) (key_size value_size : ℕ) (log : List Operation) (count last : ℕ) (digest written q : List ℕ)
+    → Keeps setting key_size value_size log count last digest written
     → option_map (shown pending setting key_size value_size last q log) (active_update q log)
     ≡ option_map {U = List ℕ × List ℕ} (λ value. (value, honest_proof pending setting key_size value_size (history_of log) q)) (value_at (latest_map (history_of log)) q)
-honest_found pending setting key_size value_size log count last digest q keeps =
+honest_found pending setting key_size value_size log count last digest written q keeps =
     let h : History = history_of log in
     ap (λ l. option_map (shown pending setting key_size value_size last q l) (active_update q l)) keeps.whole
     ∙ (ap (λ f. option_map (shown pending setting key_size value_size f q (log_of h)) (active_update q (log_of h))) keeps.floor

@@ -1,6 +1,7 @@
 -- The store of a history: the state that is hashed for it, and its root.
 use Rattle.std.specs.Prelude.{◌≡◌, ℕ, ◌*◌, ◌^◌, ◌≤◌, List, [], ◌∷◌, ◌++◌, length, map, Option}
 use Rattle.std.specs.Int.{w64, trailing_zeros}
+use Rattle.std.specs.List.{flat_map}
 use Rattle.merkle_forest.specs.Forest.{Rule}
 use Rattle.merkle_forest.specs.Hashing.{Hash}
 use Rattle.state_ops.specs.Operation.{Operation, fixed_encoding}
@@ -19,6 +20,10 @@ setting_of_width rule hash width = record { rule = rule; hash = hash; width = wi
 -- the fixed spellings of a log's operations, from the sizes of keys and of values
 abbrev pub encodings : ℕ → ℕ → List Operation → List (List ℕ)
 encodings key value log = map (fixed_encoding key value) log
+
+-- the bytes of a log: the fixed spellings of its operations without a gap
+abbrev pub log_bytes : ℕ → ℕ → List Operation → List ℕ
+log_bytes key value log = flat_map (fixed_encoding key value) log
 
 -- what is hashed of a log and its last floor
 abbrev pub state_of_log : ℕ → ℕ → List Operation → ℕ → State
@@ -53,11 +58,12 @@ added_log words log = log ++ batch_operations (replayed [] log) (map_after words
 abbrev pub next_log : List Word → Option (List ℕ) → List Operation → List Operation
 next_log words metadata log = committed (added_log words log) metadata
 
--- what a store keeps of a history: its log, the number of commits and the last floor, and the root
-pub record Keeps (setting : Setting) (key value : ℕ) (log : List Operation) (count last : ℕ) (digest : List ℕ) : Type 0 where
+-- what a store keeps of a history: its log, the number of commits and the last floor, the root, and the written bytes
+pub record Keeps (setting : Setting) (key value : ℕ) (log : List Operation) (count last : ℕ) (digest written : List ℕ) : Type 0 where
   pub states : AreStates (history_of log)
   pub whole : log ≡ log_of (history_of log)
   pub commits : count ≡ length (history_of log)
   pub floor : last ≡ floor_of (history_of log)
   pub few : length log ≤ 2 ^ 62
   pub root : digest ≡ root_of_history setting key value (history_of log)
+  pub bytes : written ≡ log_bytes key value log

@@ -4,7 +4,7 @@ ghost use Rattle.std.specs.Prelude.{◌≡◌, ◌<◌, ◌≤◌, ◌^◌, ◌�
 ghost use Rattle.auth_store.specs.Batch as words;
 ghost use Rattle.auth_store.specs.History as spec;
 ghost use Rattle.auth_store.specs.Map.{value_at};
-ghost use Rattle.auth_store.specs.Store.{IsChunkWidth, Keeps, setting_of_width, floor_of, root_of_history, commit_after};
+ghost use Rattle.auth_store.specs.Store.{IsChunkWidth, Keeps, setting_of_width, floor_of, root_of_history, commit_after, log_bytes};
 
 pub mod log;
 pub mod prove;
@@ -38,7 +38,7 @@ impl<F: Family, H: HashFunction, K: Key, V: FixedValue, const N: usize> Model
 
     ghost view = { λ s. spec.history_of (spec.meanings K.spelling V.spelling s.operations.items) };
 
-    ghost invariant = { λ s. IsChunkWidth N × Keeps (setting_of_width F.merge_rule H.hash_of N) K.SIZE V.SIZE (spec.meanings K.spelling V.spelling s.operations.items) s.commits s.floor (H.Digest.spelling s.root) };
+    ghost invariant = { λ s. IsChunkWidth N × Keeps (setting_of_width F.merge_rule H.hash_of N) K.SIZE V.SIZE (spec.meanings K.spelling V.spelling s.operations.items) s.commits s.floor (H.Digest.spelling s.root) s.device.bytes.items };
 }
 
 /// Whether a chunk may have this many bytes: a power of two from 1 to 4096.
@@ -99,8 +99,9 @@ impl<F: Family, H: HashFunction, K: Key, V: FixedValue, const N: usize> Store<F,
             Ok(next) => next,
             Err(e) => return Err(e),
         };
-        if self.device.append(&bytes).is_err() {
-            return Err(StoreError::Memory);
+        match self.device.append(&bytes) {
+            Ok(()) => {}
+            Err(_) => return Err(StoreError::Memory),
         }
         self.operations = operations;
         self.commits += 1;
@@ -136,6 +137,14 @@ impl<F: Family, H: HashFunction, K: Key, V: FixedValue, const N: usize> Store<F,
         ensures { result ≡ Ok (floor_of self.now) }
     {
         Ok(self.floor)
+    }
+
+    /// The device and a cache, the device with the fixed spellings of the log's operations, one behind the other. It
+    /// always succeeds.
+    pub fn into_parts(self) -> (PlainDevice, PlainCache)
+        ensures { result.0.bytes.items ≡ log_bytes K.SIZE V.SIZE (spec.log_of self) }
+    {
+        (self.device, PlainCache::new())
     }
 
     /// How many operations the log has. It never refuses.

@@ -1,14 +1,12 @@
 //! What a store computes from its log.
 
-ghost use Rattle.std.specs.Prelude.{◌≡◌, ◌<◌, ◌≤◌, ◌^◌, [], map, length, option_map, IfOk, IsErrOf};
+ghost use Rattle.std.specs.Prelude.{◌≡◌, ◌<◌, ◌≤◌, ◌^◌, [], map, drop, length, option_map, IfOk, IsErrOf};
 ghost use Rattle.auth_store.specs.Batch as words;
 ghost use Rattle.auth_store.specs.Batch.{map_after};
 ghost use Rattle.auth_store.specs.History.{meanings, replayed, batch_operations, inactivity_floor};
 ghost use Rattle.auth_store.specs.Map.{value_at};
 ghost use Rattle.auth_store.specs.Store as spec;
 ghost use Rattle.auth_store.specs.Store.{IsChunkWidth, setting_of_width, state_of_log};
-ghost use Rattle.std.specs.List.{flat_map};
-ghost use Rattle.state_ops.specs.Operation.{fixed_encoding};
 ghost use Rattle.state_proofs.specs.Canonical.{canonical_root};
 
 use crate::batch::{Batch, apply_batch};
@@ -98,7 +96,7 @@ pub fn spelled<K: Key, V: FixedValue>(
     alloc: Global,
     operations: &[Operation<K, V>],
 ) -> Result<Vec<u8>, AllocError>
-    ensures { IfOk result (λ bytes. bytes.items ≡ flat_map (fixed_encoding K.SIZE V.SIZE) (meanings K.spelling V.spelling operations.now)) }
+    ensures { IfOk result (λ bytes. bytes.items ≡ spec.log_bytes K.SIZE V.SIZE (meanings K.spelling V.spelling operations.now)) }
 {
     let mut bytes = Vec::new(alloc);
     let mut rest = operations;
@@ -107,6 +105,18 @@ pub fn spelled<K: Key, V: FixedValue>(
         rest = later;
     }
     Ok(bytes)
+}
+
+/// The fixed spellings of the operations behind the first `count`. It fails for want of memory alone.
+fn spelled_behind<K: Key, V: FixedValue>(
+    alloc: Global,
+    operations: &[Operation<K, V>],
+    count: usize,
+) -> Result<Vec<u8>, AllocError>
+    ensures { IfOk result (λ bytes. bytes.items ≡ spec.log_bytes K.SIZE V.SIZE (drop count (meanings K.spelling V.spelling operations.now))) }
+{
+    let (_, later) = operations.split_at(count.min(operations.len()));
+    spelled(alloc, later)
 }
 
 /// The value of the key in the state that the log leads to, or `None` where there is none. It fails for want of memory alone.
@@ -170,6 +180,7 @@ pub fn next_version<F: Family, H: HashFunction, K: Key, V: FixedValue, const N: 
     ensures ok { IfOk result (λ next. meanings K.spelling V.spelling next.operations.items ≡ spec.next_log (words.meanings K.spelling V.spelling batch.now.words.items) (option_map V.spelling metadata) (meanings K.spelling V.spelling log.now)) }
     ensures floor { IfOk result (λ next. next.floor ≡ inactivity_floor (spec.added_log (words.meanings K.spelling V.spelling batch.now.words.items) (meanings K.spelling V.spelling log.now))) }
     ensures within { IfOk result (λ next. length next.operations.items ≤ 2 ^ 62) }
+    ensures bytes { IfOk result (λ next. next.bytes.items ≡ spec.log_bytes K.SIZE V.SIZE (drop (length log.now) (meanings K.spelling V.spelling next.operations.items))) }
     ensures root { IfOk result (λ next. H.Digest.spelling next.root ≡ canonical_root (setting_of_width F.merge_rule H.hash_of N) (state_of_log K.SIZE V.SIZE (meanings K.spelling V.spelling next.operations.items) next.floor)) }
     ensures ended { IsErrOf result StoreError.NumberEnded → 2 ^ 62 < length (spec.next_log (words.meanings K.spelling V.spelling batch.now.words.items) (option_map V.spelling metadata) (meanings K.spelling V.spelling log.now)) }
 {
@@ -177,7 +188,7 @@ pub fn next_version<F: Family, H: HashFunction, K: Key, V: FixedValue, const N: 
     let floor = history::inactivity_floor(&operations);
     operations.push(Operation::CommitFloor(metadata, floor))?;
     let root = root_of_log::<F, H, K, V, N>(alloc, &operations, floor)?;
-    let bytes = spelled(alloc, &operations[log.len().min(operations.len())..])?;
+    let bytes = spelled_behind(alloc, &operations, log.len())?;
     Ok(Version {
         operations,
         floor,

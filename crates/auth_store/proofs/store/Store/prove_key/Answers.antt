@@ -11,5 +11,5 @@ returns-clause-ok g c =
     let found = rw c.deref.ensures.value at c.in_ok-found.ensures in
     let key = g.K.Write.spelling c.args.key.now in
     found
-    ∙ (honest_found g.F.PendingOf.pending_spelling _ _ _ _ _ _ _ key c.self.invariant.1
+    ∙ (honest_found g.F.PendingOf.pending_spelling _ _ _ _ _ _ _ _ key c.self.invariant.1
     ∙ ap (λ (h : History). option_map {U = List ℕ × List ℕ} (λ value. (value, honest_proof g.F.PendingOf.pending_spelling (setting_of_width g.F.Family.merge_rule g.H.HashFunction.hash_of (denote.Param.value_of (denote.Param.number g.row.N))) g.K.FixedSize.SIZE g.V.FixedSize.SIZE h key)) (value_at (latest_map h) key)) c.self.view_is)
