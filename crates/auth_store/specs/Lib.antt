@@ -8,5 +8,7 @@ pub mod Spelling
 pub mod Store
 pub mod Proving
 pub mod ProvingCode
+pub mod Machine
+pub mod MachineCode
 pub mod Claims
 pub mod ClaimsCode

@@ -11,7 +11,7 @@ use Rattle.auth_store.specs.History.{Commit, History, AreStates, latest_map, bat
 
 -- how many bytes a chunk may have: a power of two from 1 to 4096
 abbrev pub IsChunkWidth : ℕ → Type 0
-IsChunkWidth width = (height : ℕ) × (8 * width ≡ 2 ^ height) × (width ≤ 4096)
+IsChunkWidth width = (8 * width ≡ 2 ^ trailing_zeros w64 (8 * width)) × (width ≤ 4096)
 
 -- the setting of chunks of this width: 8 times the width is 2 to the grafting height
 abbrev pub setting_of_width : Rule → Hash → ℕ → Setting

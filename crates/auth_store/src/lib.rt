@@ -7,6 +7,7 @@ pub mod error;
 pub mod history;
 pub mod plain;
 pub mod script;
+pub mod session;
 pub mod state;
 pub mod store;
 

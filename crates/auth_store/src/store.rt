@@ -1,6 +1,6 @@
 //! The authenticated store.
 
-ghost use Rattle.std.specs.Prelude.{◌≡◌, ◌<◌, ◌≤◌, ◌^◌, ◌↔◌, [], length, option_map, Ok, IfOk, IsOkAnd, IsTrue, OnOk, OnErr, IsErrOf};
+ghost use Rattle.std.specs.Prelude.{◌≡◌, ◌<◌, ◌≤◌, ◌^◌, ◌↔◌, [], length, option_map, Ok, IfOk, IsOkAnd, IsTrue, IfErr, OnOk, OnErr, IsErrOf};
 ghost use Rattle.auth_store.specs.Batch as words;
 ghost use Rattle.auth_store.specs.History as spec;
 ghost use Rattle.auth_store.specs.Map.{value_at};
@@ -13,7 +13,7 @@ use crate::batch::Batch;
 use crate::error::StoreError;
 use crate::plain::{PlainCache, PlainDevice, Sizes};
 pub use log::MAX_OPERATIONS;
-use log::{Version, next_version, root_of_log, spelled, value_in};
+use log::{Version, first_version, next_version, value_in};
 use merkle_forest::{Family, HashFunction};
 use state_ops::{FixedValue, Key, Operation};
 use std::alloc::Global;
@@ -41,39 +41,69 @@ impl<F: Family, H: HashFunction, K: Key, V: FixedValue, const N: usize> Model
     ghost invariant = { λ s. IsChunkWidth N × Keeps (setting_of_width F.merge_rule H.hash_of N) K.SIZE V.SIZE (spec.meanings K.spelling V.spelling s.operations.items) s.commits s.floor (H.Digest.spelling s.root) s.device.bytes.items };
 }
 
+/// Why a store was not opened, and what was handed in.
+#[derive(Debug, Drop)]
+pub struct NotOpened {
+    /// The refusal.
+    pub error: StoreError,
+    /// The device, still empty.
+    pub device: PlainDevice,
+    /// The cache.
+    pub cache: PlainCache,
+}
+
+impl From<NotOpened> for StoreError {
+    ghost from_gives = { λ refused e. e ≡ refused.error };
+
+    fn from(refused: NotOpened) -> StoreError {
+        refused.error
+    }
+}
+
 /// Whether a chunk may have this many bytes: a power of two from 1 to 4096.
-pub fn is_chunk_width(n: usize) -> bool {
-    n != 0 && n <= 4096 && n & (n - 1) == 0
+pub fn is_chunk_width(n: usize) -> bool
+    ensures { IsTrue result ↔ IsChunkWidth n }
+{
+    0 < n && n <= 4096 && 8 * n == 1 << (8 * n).trailing_zeros()
 }
 
 impl<F: Family, H: HashFunction, K: Key, V: FixedValue, const N: usize> Store<F, H, K, V, N> {
-    /// A store with an empty history over an empty device. Want of memory: S4.
+    /// A store with an empty history over an empty device. Want of memory: S4; the device is then given back, still empty.
     pub fn open(
         alloc: Global,
         device: PlainDevice,
         cache: PlainCache,
         sizes: Sizes,
-    ) -> Result<Store<F, H, K, V, N>, StoreError>
+    ) -> Result<Store<F, H, K, V, N>, NotOpened>
         requires width { IsChunkWidth N }
         requires empty { device.bytes.items ≡ [] }
         ensures ok { IfOk result (λ store. store ≡ []) }
-        ensures err { IsErrOf result StoreError.NumberEnded → ⊥ }
+        ensures error { IfErr result (λ refused. refused.error ≡ StoreError.Memory) }
+        ensures device { IfErr result (λ refused. refused.device.bytes.items ≡ []) }
     {
-        let _ = (cache, sizes);
+        let _ = sizes;
         let mut device = device;
-        let mut operations = Vec::new(alloc);
-        operations.push(Operation::CommitFloor(None, 0))?;
-        let root = root_of_log::<F, H, K, V, N>(alloc, &operations, 0)?;
-        device.append(&spelled(alloc, &operations)?)?;
-        Ok(Store {
-            alloc,
-            operations,
-            commits: 0,
-            floor: 0,
-            root,
-            device,
-            family: PhantomData,
-        })
+        match first_version::<F, H, K, V, N>(alloc, &mut device) {
+            Ok(Version {
+                operations,
+                floor,
+                root,
+                bytes: _,
+            }) => Ok(Store {
+                alloc,
+                operations,
+                commits: 0,
+                floor,
+                root,
+                device,
+                family: PhantomData,
+            }),
+            Err(_) => Err(NotOpened {
+                error: StoreError::Memory,
+                device,
+                cache,
+            }),
+        }
     }
 
     /// Appends the batch with its commit, and answers the new root. Where the log would pass 2^62 operations: S3; want

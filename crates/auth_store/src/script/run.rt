@@ -108,7 +108,7 @@ impl Progress {
                 }
                 self.store = Some(store);
             }
-            Err(e) => report_error(out, e.number())?,
+            Err(refused) => report_error(out, refused.error.number())?,
         }
         Ok(())
     }

@@ -1,16 +1,17 @@
 //! What a store computes from its log.
 
-ghost use Rattle.std.specs.Prelude.{◌≡◌, ◌<◌, ◌≤◌, ◌^◌, [], map, drop, length, option_map, IfOk, IsErrOf};
+ghost use Rattle.std.specs.Prelude.{◌≡◌, ◌<◌, ◌≤◌, ◌^◌, [], map, drop, length, option_map, IfOk, OnOk, OnErr, IsErrOf};
 ghost use Rattle.auth_store.specs.Batch as words;
 ghost use Rattle.auth_store.specs.Batch.{map_after};
-ghost use Rattle.auth_store.specs.History.{meanings, replayed, batch_operations, inactivity_floor};
+ghost use Rattle.auth_store.specs.History.{meanings, log_of, replayed, batch_operations, inactivity_floor};
 ghost use Rattle.auth_store.specs.Map.{value_at};
 ghost use Rattle.auth_store.specs.Store as spec;
-ghost use Rattle.auth_store.specs.Store.{IsChunkWidth, setting_of_width, state_of_log};
+ghost use Rattle.auth_store.specs.Store.{IsChunkWidth, setting_of_width, state_of_log, root_of_history};
 ghost use Rattle.state_proofs.specs.Canonical.{canonical_root};
 
 use crate::batch::{Batch, apply_batch};
 use crate::error::StoreError;
+use crate::plain::PlainDevice;
 use crate::{history, state};
 use merkle_forest::{Family, HashFunction};
 use state_ops::fixed::{encode, write_operation};
@@ -145,6 +146,33 @@ pub struct Version<K, V, D> {
     pub root: D,
     /// The fixed spellings of the operations that are new in it.
     pub bytes: Vec<u8>,
+}
+
+/// The log of the empty history, whose fixed spelling is written to the empty device. It fails for want of memory alone,
+/// and the device then stays as it was.
+pub fn first_version<F: Family, H: HashFunction, K: Key, V: FixedValue, const N: usize>(
+    alloc: Global,
+    device: &mut PlainDevice,
+) -> Result<Version<K, V, H::Digest>, AllocError>
+    requires width { IsChunkWidth N }
+    requires empty { device.old.bytes.items ≡ [] }
+    ensures log { IfOk result (λ first. meanings K.spelling V.spelling first.operations.items ≡ log_of []) }
+    ensures floor { IfOk result (λ first. first.floor ≡ 0) }
+    ensures root { IfOk result (λ first. H.Digest.spelling first.root ≡ root_of_history (setting_of_width F.merge_rule H.hash_of N) K.SIZE V.SIZE []) }
+    ensures written { OnOk result (device.new.bytes.items ≡ spec.log_bytes K.SIZE V.SIZE (log_of [])) }
+    ensures err { OnErr result (device.new.bytes.items ≡ []) }
+{
+    let mut operations = Vec::new(alloc);
+    operations.push(Operation::CommitFloor(None, 0))?;
+    let root = root_of_log::<F, H, K, V, N>(alloc, &operations, 0)?;
+    let bytes = spelled(alloc, &operations)?;
+    device.append(&bytes)?;
+    Ok(Version {
+        operations,
+        floor: 0,
+        root,
+        bytes,
+    })
 }
 
 /// The log with the operations of a batch at its end, before they are committed. Where it would pass 2^62 operations
