@@ -6,3 +6,4 @@ pub mod Numbers
 pub mod Lines
 pub mod Spellings
 pub mod Stores
+pub mod Runs

@@ -8,7 +8,7 @@ use Rattle.auth_store.specs.declared.error.StoreError.TheVariants.{NumberEnded, 
 use Rattle.auth_store.specs.Batch.{Word}
 use Rattle.auth_store.specs.Map.{value_at}
 use Rattle.auth_store.specs.History.{History, latest_map, log_of}
-use Rattle.auth_store.specs.Store.{setting_of_width, floor_of, root_of_history, commit_after}
+use Rattle.auth_store.specs.Store.{setting_of_width, floor_of, root_of_history, commit_after, log_bytes}
 use Rattle.auth_store.specs.Proving.{honest_proof}
 
 -- what stays the same in a run: trees, hashes and chunks, how the family spells a pending digest, and the sizes of keys and of values
@@ -142,3 +142,8 @@ IsRun m state [] [] last = last ≡ state
 IsRun m state [] (answer ∷ answers) last = ⊥
 IsRun m state (request ∷ requests) [] last = ⊥
 IsRun m state (request ∷ requests) (answer ∷ answers) last = (next : State) × IsStep m state request answer next × IsRun m next requests answers last
+
+-- what is written of a state: nothing, or the bytes of the history's log
+abbrev pub written_of : ℕ → ℕ → State → List ℕ
+written_of key_size value_size None = []
+written_of key_size value_size (Some history) = log_bytes key_size value_size (log_of history)

@@ -6,6 +6,7 @@ pub mod client;
 pub mod error;
 pub mod history;
 pub mod plain;
+pub mod run;
 pub mod script;
 pub mod session;
 pub mod state;

@@ -2,7 +2,7 @@
 
 ghost use Rattle.std.specs.Prelude.{◌≡◌, [], None};
 ghost use Rattle.auth_store.specs.Batch.{meanings};
-ghost use Rattle.auth_store.specs.Machine.{IsStep, machine, ask_open, ask_commit, ask_get, ask_root, ask_commits, ask_floor, ask_len, ask_proof};
+ghost use Rattle.auth_store.specs.Machine.{IsStep, machine, ask_open, ask_commit, ask_get, ask_root, ask_commits, ask_floor, ask_len, ask_proof, written_of};
 ghost use Rattle.auth_store.specs.MachineCode.{request_of, meaning_of};
 ghost use Rattle.auth_store.specs.Store.{IsChunkWidth};
 ghost use Rattle.std.specs.Prelude.{option_map};
@@ -222,6 +222,23 @@ impl<F: PendingOf<H::Digest>, H: HashFunction, K: Key, V: FixedValue, const N: u
             Step::Floor => self.floor(),
             Step::Len => self.len(),
             Step::ProveKey(key) => self.prove_key(&key),
+        }
+    }
+
+    /// Closes the store, if one is open, and answers the device, on which the log's bytes stand, and the cache. It always
+    /// succeeds.
+    pub fn into_parts(self) -> (PlainDevice, PlainCache)
+        ensures { result.0.bytes.items ≡ written_of K.SIZE V.SIZE self.store }
+    {
+        let Session {
+            alloc: _,
+            device,
+            cache,
+            store,
+        } = self;
+        match store {
+            Some(store) => store.into_parts(),
+            None => (device, cache),
         }
     }
 }
