@@ -7,3 +7,4 @@ pub mod Lines
 pub mod Spellings
 pub mod Stores
 pub mod Runs
+pub mod Widths

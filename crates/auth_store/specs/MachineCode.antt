@@ -1,5 +1,5 @@
 -- The machine's requests and answers, as the code holds them.
-use Rattle.std.specs.Prelude.{ℕ, List, map, Option, option_map}
+use Rattle.std.specs.Prelude.{ℕ, List, map, option_map}
 use Rattle.auth_store.specs.Batch.{meanings}
 use Rattle.auth_store.specs.ProvingCode.{parts_of}
 use Rattle.auth_store.specs.Machine.{Request, ask_open, ask_commit, ask_get, ask_root, ask_commits, ask_floor, ask_len, ask_proof}

@@ -63,3 +63,6 @@ where
     take_steps(session, steps, &mut answers);
     Ok(answers)
 }
+
+#[cfg(test)]
+mod tests;

@@ -10,7 +10,7 @@ use crate::batch::Batch;
 use crate::client::{Claim, check};
 use crate::error::StoreError;
 use crate::plain::{PlainCache, PlainDevice, Sizes};
-use crate::store::Store;
+use crate::session::{Answer, Session, Step};
 use crate::store::prove::KeyProof;
 use merkle_forest::codec::FixedBytes;
 use merkle_forest::digest::Digest;
@@ -33,7 +33,15 @@ pub const NO_MEMORY: u8 = 3;
 
 type Keys = FixedBytes<8>;
 
-type ScriptStore = Store<mmr::Family, ByteHash, Keys, u64, 1>;
+type ScriptSession = Session<mmr::Family, ByteHash, Keys, u64, 1>;
+
+type ScriptAnswer = Answer<FixedBytes<32>, u64>;
+
+/// Both buffers of the script's store, in bytes.
+const SIZES: Sizes = Sizes {
+    write_buffer: 128,
+    replay_buffer: 128,
+};
 
 /// Why a line ended the run.
 #[derive(Debug, Drop)]
@@ -75,90 +83,79 @@ struct Kept {
 #[derive(Drop)]
 struct Progress {
     alloc: Global,
-    store: Option<ScriptStore>,
+    session: ScriptSession,
     batch: Batch<Keys, u64>,
     kept: Option<Kept>,
 }
 
+// Prints a value, a root or a refusal. Any other answer has no line of its own, and the line was out of place.
+fn report<W: Write>(alloc: Global, out: &mut W, answer: &ScriptAnswer) -> Result<(), End> {
+    match answer {
+        Answer::Value(Some(value)) => Ok(report_value(out, *value)?),
+        Answer::Value(None) => Ok(report_none(out)?),
+        Answer::Root(root) => Ok(report_root(alloc, out, root.as_bytes())?),
+        Answer::Refused(error) => Ok(report_error(out, error.number())?),
+        _ => Err(End::BadLine),
+    }
+}
+
 impl Progress {
     fn new(alloc: Global) -> Progress {
+        let device = PlainDevice::new(alloc);
         Progress {
             alloc,
-            store: None,
+            session: Session::new(alloc, device, PlainCache::new()),
             batch: Batch::new(alloc),
             kept: None,
         }
     }
 
+    // Takes a step. A line that is out of place ends the run.
+    fn take(&mut self, step: Step<Keys, u64>) -> Result<ScriptAnswer, End> {
+        match self.session.step(step) {
+            Answer::NotOpen | Answer::StillOpen => Err(End::BadLine),
+            answer => Ok(answer),
+        }
+    }
+
     // Opens a store, where none is open.
     fn open<W: Write>(&mut self, out: &mut W) -> Result<(), End> {
-        if self.store.is_some() {
-            return Err(End::BadLine);
+        match self.take(Step::Open(SIZES))? {
+            Answer::Opened => match self.take(Step::Commits)? {
+                Answer::Commits(commits) => Ok(report_open(out, commits)?),
+                other => report(self.alloc, out, &other),
+            },
+            other => report(self.alloc, out, &other),
         }
-        let device = PlainDevice::new(self.alloc);
-        let sizes = Sizes {
-            write_buffer: 128,
-            replay_buffer: 128,
-        };
-        match ScriptStore::open(self.alloc, device, PlainCache::new(), sizes) {
-            Ok(store) => {
-                match store.commits() {
-                    Ok(commits) => report_open(out, commits)?,
-                    Err(e) => report_error(out, e.number())?,
-                }
-                self.store = Some(store);
-            }
-            Err(refused) => report_error(out, refused.error.number())?,
-        }
-        Ok(())
     }
 
     // Commits the words so far. The batch is empty again, also after a refusal.
     fn commit<W: Write>(&mut self, out: &mut W, metadata: Option<u64>) -> Result<(), End> {
-        let store = self.store.as_mut().ok_or(End::BadLine)?;
         let batch = std::mem::replace(&mut self.batch, Batch::new(self.alloc));
-        match store.commit(batch, metadata) {
-            Ok(_root) => match store.commits() {
-                Ok(commits) => report_commit(out, commits)?,
-                Err(e) => report_error(out, e.number())?,
+        match self.take(Step::Commit(batch, metadata))? {
+            Answer::Committed(_root) => match self.take(Step::Commits)? {
+                Answer::Commits(commits) => Ok(report_commit(out, commits)?),
+                other => report(self.alloc, out, &other),
             },
-            Err(e) => report_error(out, e.number())?,
+            other => report(self.alloc, out, &other),
         }
-        Ok(())
     }
 
-    // Answers the value of a key.
-    fn get<W: Write>(&self, out: &mut W, key: &Keys) -> Result<(), End> {
-        let store = self.store.as_ref().ok_or(End::BadLine)?;
-        match store.get(key) {
-            Ok(Some(value)) => report_value(out, value)?,
-            Ok(None) => report_none(out)?,
-            Err(e) => report_error(out, e.number())?,
-        }
-        Ok(())
-    }
-
-    // Answers the root.
-    fn root<W: Write>(&self, out: &mut W) -> Result<(), End> {
-        let store = self.store.as_ref().ok_or(End::BadLine)?;
-        match store.root() {
-            Ok(root) => report_root(self.alloc, out, root.as_bytes())?,
-            Err(e) => report_error(out, e.number())?,
-        }
-        Ok(())
+    // Takes a step whose answer is a line.
+    fn ask<W: Write>(&mut self, out: &mut W, step: Step<Keys, u64>) -> Result<(), End> {
+        let answer = self.take(step)?;
+        report(self.alloc, out, &answer)
     }
 
     // Proves a key that is there, and keeps the bytes and the root of now. A refused proof keeps the former ones.
-    fn prove<W: Write>(&mut self, out: &mut W, key: &Keys) -> Result<(), End> {
-        let store = self.store.as_ref().ok_or(End::BadLine)?;
-        let proved = match store.prove_key(key) {
-            Ok(proved) => proved,
-            Err(e) => return Ok(report_error(out, e.number())?),
+    fn prove<W: Write>(&mut self, out: &mut W, key: Keys) -> Result<(), End> {
+        let (value, bytes) = match self.take(Step::ProveKey(key))? {
+            Answer::Proof(Some(KeyProof::Value(value, bytes))) => (value, bytes),
+            other => return report(self.alloc, out, &other),
         };
-        let KeyProof::Value(value, bytes) = proved.ok_or(End::BadLine)?;
-        match store.root() {
-            Ok(root) => self.kept = Some(Kept { bytes, root }),
-            Err(e) => return Ok(report_error(out, e.number())?),
+        match self.take(Step::Root)? {
+            Answer::Root(root) => self.kept = Some(Kept { bytes, root }),
+            other => return report(self.alloc, out, &other),
         }
         Ok(report_present(out, value)?)
     }
@@ -193,9 +190,9 @@ impl Progress {
             Line::Open => self.open(out),
             Line::Put { key, value } => Ok(self.batch.put(key, value)?),
             Line::Commit { metadata } => self.commit(out, metadata),
-            Line::Get { key } => self.get(out, &key),
-            Line::Root => self.root(out),
-            Line::Prove { key } => self.prove(out, &key),
+            Line::Get { key } => self.ask(out, Step::Get(key)),
+            Line::Root => self.ask(out, Step::Root),
+            Line::Prove { key } => self.prove(out, key),
             Line::Proof => self.proof(out),
             Line::CheckValue { key, value } => self.check_value(out, key, value),
         }

@@ -54,7 +54,7 @@ fn key(high: u8, low: u8) -> Name {
 
 fn open(alloc: Global) -> Result<Small, StoreError> {
     let device = PlainDevice::new(alloc);
-    Store::open(alloc, device, PlainCache::new(), SIZES)
+    Ok(Store::open(alloc, device, PlainCache::new(), SIZES)?)
 }
 
 #[test]
