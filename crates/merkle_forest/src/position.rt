@@ -3,12 +3,13 @@
 ghost use Rattle.std.specs.Prelude.{◌≡◌, ◌+◌, ◌-◌, ◌^◌, ◌<◌, ◌≤◌, ◌↔◌, min, IsTrue, IsNone, IfSome, Some};
 ghost use Rattle.std.specs.Fmt.{decimal};
 ghost use Rattle.std.proofs.Common.{rules};
-ghost use Rattle.merkle_forest.specs.Varint.{varint, after_number};
+ghost use Rattle.merkle_forest_parts.specs.Varint.{varint, after_number};
 ghost use Rattle.merkle_forest.specs.declared.family.TheConstants.{MAX_NODES};
-ghost use Rattle.merkle_forest.specs.VarintLaws.{after_number_again};
+ghost use Rattle.merkle_forest_parts.specs.VarintLaws.{after_number_again, varint_at_most};
 
 use crate::codec::{
-    Cursor, EncodeSize, Error, Faithful, Read, Write, number_size, read_number, write_number,
+    Cursor, EncodeSize, Error, Faithful, MaxEncodeSize, Read, Write, number_size, read_number,
+    write_number,
 };
 use crate::family::{Family, MAX_NODES};
 use std::alloc::{AllocError, Global};
@@ -245,4 +246,12 @@ impl<F: Family> Read for Position<F> {
     }
 
     ghost read_again = { λ _ p rest value within. after_number_again MAX_NODES p rest value within };
+}
+
+impl<F: Family> MaxEncodeSize for Position<F> {
+    ghost MAX_SIZE = { 10 };
+
+    const MAX_SIZE: usize = 10;
+
+    ghost bounded = { λ v small. varint_at_most v small };
 }
