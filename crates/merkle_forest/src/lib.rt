@@ -2,6 +2,8 @@
 #![tactic(auto)]
 
 pub mod bagging;
+pub mod conversions;
+pub mod error;
 pub mod family;
 pub mod forest;
 pub mod graftable;
@@ -17,6 +19,7 @@ pub mod sizes;
 pub mod trees;
 
 pub use bagging::Bagging;
+pub use error::Error;
 pub use family::{Family, MAX_LEAVES, MAX_NODES};
 pub use graftable::Graftable;
 pub use hasher::{ByteHash, HashFunction};

@@ -118,6 +118,14 @@ impl<F: Family> From<u64> for Location<F> {
     }
 }
 
+impl<F: Family> From<usize> for Location<F> {
+    ghost from_gives = { λ n l. l ≡ n };
+
+    fn from(number: usize) -> Location<F> {
+        Location::new(number as u64)
+    }
+}
+
 impl<F: Family> From<Location<F>> for u64 {
     ghost from_gives = { λ l n. n ≡ l };
 
