@@ -59,8 +59,7 @@ impl Write for u8 {
     ghost is_value = { λ n. n < 2 ^ 8 };
 
     fn write(&self, out: &mut Vec<u8>) -> Result<(), AllocError> {
-        let value = *self;
-        out.extend_from_slice(&value.to_be_bytes())
+        out.extend_from_slice(&u8::to_be_bytes(*self))
     }
 }
 
@@ -103,8 +102,7 @@ impl Write for u16 {
     ghost is_value = { λ n. n < 2 ^ 16 };
 
     fn write(&self, out: &mut Vec<u8>) -> Result<(), AllocError> {
-        let value = *self;
-        out.extend_from_slice(&value.to_be_bytes())
+        out.extend_from_slice(&u16::to_be_bytes(*self))
     }
 }
 
@@ -147,8 +145,7 @@ impl Write for u32 {
     ghost is_value = { λ n. n < 2 ^ 32 };
 
     fn write(&self, out: &mut Vec<u8>) -> Result<(), AllocError> {
-        let value = *self;
-        out.extend_from_slice(&value.to_be_bytes())
+        out.extend_from_slice(&u32::to_be_bytes(*self))
     }
 }
 
@@ -191,8 +188,7 @@ impl Write for u64 {
     ghost is_value = { λ n. n < 2 ^ 64 };
 
     fn write(&self, out: &mut Vec<u8>) -> Result<(), AllocError> {
-        let value = *self;
-        out.extend_from_slice(&value.to_be_bytes())
+        out.extend_from_slice(&u64::to_be_bytes(*self))
     }
 }
 
