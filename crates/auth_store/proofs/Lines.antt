@@ -8,7 +8,7 @@ use borrow.Author.Tests.{ltb-true}
 use Rattle.hex.specs.Hex.{decode_of}
 use Rattle.hex.specs.declared.error.FromHexError.{FromHexError}
 use Rattle.hex.proofs.HexLemmas.{decode_of-ok}
-use Rattle.merkle_forest.specs.declared.codec.fixed_bytes.FixedBytes.{FixedBytes}
+use Rattle.merkle_forest_parts.specs.declared.codec.fixed_bytes.FixedBytes.{FixedBytes}
 use Rattle.auth_store.specs.Script.{IsKey, IsNumber, decimal_value}
 use Rattle.auth_store.specs.Line.{key_from, key_of, is_number, number_of, behind}
 

@@ -5,7 +5,7 @@ use Rattle.std.specs.List.{list_all}
 use Rattle.std.specs.Str.{bytes_eq}
 use Rattle.hex.specs.Hex.{decode_of}
 use Rattle.hex.specs.declared.error.FromHexError.{FromHexError}
-use Rattle.merkle_forest.specs.declared.codec.fixed_bytes.FixedBytes.{FixedBytes}
+use Rattle.merkle_forest_parts.specs.declared.codec.fixed_bytes.FixedBytes.{FixedBytes}
 use Rattle.auth_store.specs.Script.{decimal_value}
 use Rattle.auth_store.specs.declared.script.line.Line.{Line}
 use Rattle.auth_store.specs.declared.script.line.Line.TheVariants.{Empty, New, Open, Put, Commit, Get, Root, Prove, Proof, CheckValue}

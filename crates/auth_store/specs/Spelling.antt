@@ -1,7 +1,7 @@
 -- How each line is spelled: its words, with one space between them.
 use Rattle.std.specs.Prelude.{◌≡◌, ℕ, List, [], ◌++◌, codes, Some, None, Ok}
 use Rattle.hex.specs.Hex.{decode_of}
-use Rattle.merkle_forest.specs.declared.codec.fixed_bytes.FixedBytes.{FixedBytes}
+use Rattle.merkle_forest_parts.specs.declared.codec.fixed_bytes.FixedBytes.{FixedBytes}
 use Rattle.auth_store.specs.Script.{IsKey, IsNumber, decimal_value}
 use Rattle.auth_store.specs.declared.script.line.Line.{Line}
 use Rattle.auth_store.specs.declared.script.line.Line.TheVariants.{Empty, New, Open, Put, Commit, Get, Root, Prove, Proof, CheckValue}

@@ -82,7 +82,7 @@ pub fn rebuild<F: Family, H: Hasher<F>, O: Overlay<H::Digest>>(
 {
     if place.height == 0 {
         return match digests {
-            [] => Some(hasher.leaf_digest(place.position, element)),
+            [] => Some(hasher.digest_of_leaf(place.position, element)),
             _ => None,
         };
     }
@@ -90,12 +90,12 @@ pub fn rebuild<F: Family, H: Hasher<F>, O: Overlay<H::Digest>>(
     if is_left {
         let (sibling, rest) = digests.split_last()?;
         let own = rebuild(hasher, over, child, location, element, rest)?;
-        let joined = hasher.node_digest(place.position, &own, sibling);
+        let joined = hasher.digest_of_branch(place.position, &own, sibling);
         Some(over.overlay(place.height, joined))
     } else {
         let (sibling, rest) = digests.split_first()?;
         let own = rebuild(hasher, over, child, location, element, rest)?;
-        let joined = hasher.node_digest(place.position, sibling, &own);
+        let joined = hasher.digest_of_branch(place.position, sibling, &own);
         Some(over.overlay(place.height, joined))
     }
 }

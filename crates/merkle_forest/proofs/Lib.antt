@@ -1,4 +1,1 @@
 pub mod ForestLemmas
-pub mod Lists
-pub mod VarintWriting
-pub mod Varints

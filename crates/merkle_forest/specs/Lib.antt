@@ -1,11 +1,13 @@
-pub mod Codec
-pub mod CodecLaws
+pub use Rattle.merkle_forest_parts.specs.Codec
+pub use Rattle.merkle_forest_parts.specs.CodecLaws
+pub use Rattle.merkle_forest_parts.specs.ListLaws
+pub use Rattle.merkle_forest_parts.specs.Lists
+pub use Rattle.merkle_forest_parts.specs.Varint
+pub use Rattle.merkle_forest_parts.specs.VarintLaws
 pub mod Forest
 pub mod ForestGrowth
 pub mod ForestLaws
 pub mod Hashing
-pub mod ListLaws
-pub mod Lists
 pub mod Mmr
 pub mod MmrBirths
 pub mod MmrLaws
@@ -18,6 +20,4 @@ pub mod Perfect
 pub mod Shape
 pub mod Trees
 pub mod TreesCode
-pub mod Varint
-pub mod VarintLaws
 pub mod TreesLaws

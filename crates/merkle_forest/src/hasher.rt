@@ -1,15 +1,19 @@
 //! Hashers: the strings that are hashed, and SHA-256 behind them.
 
-ghost use Rattle.std.specs.Prelude.{◌≡◌, ◌<◌, ◌≤◌, ◌^◌, ◌++◌, ◌∷◌, [], ℕ, List, map, length, IfOk, IfErr, OnOk, ◌↔◌, IsOk, MatchOption};
+ghost use Rattle.std.specs.Prelude.{◌≡◌, ◌<◌, ◌≤◌, ◌↔◌, ℕ, List, map, length, IsOk, IsErr, IfOk, IfErr};
 ghost use Rattle.std.specs.List.{flat_map};
 ghost use Rattle.sha2.specs.Sha256.{sha256};
 ghost use Rattle.merkle_forest.specs.declared.bagging.Bagging.{Bagging};
-ghost use Rattle.merkle_forest.specs.Hashing.{leaf_string, node_string, fold_string, folded_onto, root_of, root_string, bagged, items};
+ghost use Rattle.merkle_forest.specs.Hashing.{leaf_string, node_string, fold_string, root_of, root_string, bagged};
 
 use crate::bagging::Bagging;
 use crate::codec::FixedBytes;
 use crate::digest::Digest;
+use crate::error::Error;
 use crate::family::Family;
+use crate::location::Location;
+use crate::position::Position;
+use crate::root::{root_of_items, root_of_peaks};
 use sha2::Sha256;
 use std::marker::PhantomData;
 
@@ -83,13 +87,58 @@ pub trait Hasher<F: Family>: Drop {
     fn root_bagging(&self) -> Bagging
         ensures { result ≡ bagging_of self.now };
 
-    /// The digest of a leaf at its position.
-    fn leaf_digest(&self, position: u64, element: &[u8]) -> Self::Digest
+    /// The digest of a leaf at its position (own).
+    fn digest_of_leaf(&self, position: u64, element: &[u8]) -> Self::Digest
         ensures { Self.Digest.spelling result ≡ leaf_of position element.now };
 
-    /// The digest of a branch at its position over its children's digests.
-    fn node_digest(&self, position: u64, left: &Self::Digest, right: &Self::Digest) -> Self::Digest
+    /// The digest of a branch at its position over its children's digests (own).
+    fn digest_of_branch(
+        &self,
+        position: u64,
+        left: &Self::Digest,
+        right: &Self::Digest,
+    ) -> Self::Digest
         ensures { Self.Digest.spelling result ≡ node_of position (Self.Digest.spelling left.now) (Self.Digest.spelling right.now) };
+
+    /// The digest of a leaf at its position.
+    final fn leaf_digest(&self, position: Position<F>, element: &[u8]) -> Self::Digest
+    where
+        Self: Sized,
+        ensures { Self.Digest.spelling result ≡ leaf_of position element.now }
+    {
+        self.digest_of_leaf(position.as_u64(), element)
+    }
+
+    /// The digest of a branch at its position over its children's digests.
+    final fn node_digest(
+        &self,
+        position: Position<F>,
+        left: &Self::Digest,
+        right: &Self::Digest,
+    ) -> Self::Digest
+    where
+        Self: Sized,
+        ensures { Self.Digest.spelling result ≡ node_of position (Self.Digest.spelling left.now) (Self.Digest.spelling right.now) }
+    {
+        self.digest_of_branch(position.as_u64(), left, right)
+    }
+
+    /// The digests of two branches, each at its position over its children's digests.
+    final fn node_digest_pair(
+        &self,
+        first: (Position<F>, &Self::Digest, &Self::Digest),
+        second: (Position<F>, &Self::Digest, &Self::Digest),
+    ) -> (Self::Digest, Self::Digest)
+    where
+        Self: Sized,
+        ensures first { Self.Digest.spelling result.0 ≡ node_of first.entry.0 (Self.Digest.spelling first.entry.1.now) (Self.Digest.spelling first.entry.2.now) }
+        ensures second { Self.Digest.spelling result.1 ≡ node_of second.entry.0 (Self.Digest.spelling second.entry.1.now) (Self.Digest.spelling second.entry.2.now) }
+    {
+        (
+            self.node_digest(first.0, first.1, first.2),
+            self.node_digest(second.0, second.1, second.2),
+        )
+    }
 
     /// The digest of these bytes alone.
     final fn digest(&self, bytes: &[u8]) -> Self::Digest
@@ -107,6 +156,45 @@ pub trait Hasher<F: Family>: Drop {
         ensures { Self.Digest.spelling result ≡ hash_of (fold_string (Self.Digest.spelling left.now) (Self.Digest.spelling right.now)) }
     {
         self.hash(&[left.as_bytes(), right.as_bytes()])
+    }
+
+    /// The root over a tree's peaks, of which the first `inactive_peaks` are inactive. Where there are fewer: M16.
+    final fn root(
+        &self,
+        leaves: Location<F>,
+        inactive_peaks: usize,
+        peak_digests: &[Self::Digest],
+    ) -> Result<Self::Digest, Error<F>>
+    where
+        Self: Sized,
+        ensures answered { IsOk result ↔ (inactive_peaks ≤ length peak_digests.now) }
+        ensures root { IfOk result (λ root. Self.Digest.spelling root ≡ root_of hash_of (bagging_of self.now) leaves inactive_peaks (map Self.Digest.spelling peak_digests.now)) }
+        ensures refused { IfErr result (λ e. e ≡ Error.InvalidInactivePeaks) }
+    {
+        if peak_digests.len() < inactive_peaks {
+            return Err(Error::InvalidInactivePeaks);
+        }
+        Ok(root_of_peaks(self, leaves.as_u64(), inactive_peaks, peak_digests))
+    }
+
+    /// The root over a tree's items, which are its peaks, but that the inactive ones are folded into the first item.
+    /// Where some are inactive and there is no item: M16.
+    final fn root_with_folded_peaks(
+        &self,
+        leaves: Location<F>,
+        inactive_peaks: usize,
+        items: &[Self::Digest],
+    ) -> Result<Self::Digest, Error<F>>
+    where
+        Self: Sized,
+        ensures answered { IsErr result ↔ ((0 < inactive_peaks) × (length items.now ≡ 0)) }
+        ensures root { IfOk result (λ root. Self.Digest.spelling root ≡ hash_of (root_string (bagging_of self.now) leaves inactive_peaks (bagged hash_of (bagging_of self.now) (map Self.Digest.spelling items.now)))) }
+        ensures refused { IfErr result (λ e. e ≡ Error.InvalidInactivePeaks) }
+    {
+        if items.is_empty() && inactive_peaks > 0 {
+            return Err(Error::InvalidInactivePeaks);
+        }
+        Ok(root_of_items(self, leaves.as_u64(), inactive_peaks as u64, items))
     }
 }
 
@@ -148,11 +236,11 @@ impl<F: Family, H: HashFunction> Hasher<F> for Standard<H> {
         self.bagging
     }
 
-    fn leaf_digest(&self, position: u64, element: &[u8]) -> H::Digest {
+    fn digest_of_leaf(&self, position: u64, element: &[u8]) -> H::Digest {
         hash_leaf::<H>(position, element)
     }
 
-    fn node_digest(&self, position: u64, left: &H::Digest, right: &H::Digest) -> H::Digest {
+    fn digest_of_branch(&self, position: u64, left: &H::Digest, right: &H::Digest) -> H::Digest {
         hash_node::<H>(position, left, right)
     }
 }

@@ -1,9 +1,9 @@
-//! Positions, families, hashers and the codec of the Merkle forest.
+//! Positions, families and hashers of the Merkle forest, and its codec.
 #![tactic(auto)]
 
 pub mod bagging;
-pub mod codec;
-pub mod digest;
+pub mod conversions;
+pub mod error;
 pub mod family;
 pub mod forest;
 pub mod graftable;
@@ -19,12 +19,13 @@ pub mod sizes;
 pub mod trees;
 
 pub use bagging::Bagging;
-pub use digest::Digest;
+pub use error::Error;
 pub use family::{Family, MAX_LEAVES, MAX_NODES};
 pub use graftable::Graftable;
 pub use hasher::{ByteHash, HashFunction};
 pub use location::Location;
 pub use location_range::LocationRangeExt;
+pub use merkle_forest_parts::{Digest, codec, digest};
 pub use pending::PendingOf;
 pub use position::Position;
 

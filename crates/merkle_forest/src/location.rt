@@ -3,12 +3,13 @@
 ghost use Rattle.std.specs.Prelude.{◌≡◌, ◌+◌, ◌-◌, ◌^◌, ◌<◌, ◌≤◌, ◌↔◌, min, IsTrue, IsNone, IfSome, Some};
 ghost use Rattle.std.specs.Fmt.{decimal};
 ghost use Rattle.std.proofs.Common.{rules};
-ghost use Rattle.merkle_forest.specs.Varint.{varint, after_number};
+ghost use Rattle.merkle_forest_parts.specs.Varint.{varint, after_number};
 ghost use Rattle.merkle_forest.specs.declared.family.TheConstants.{MAX_LEAVES};
-ghost use Rattle.merkle_forest.specs.VarintLaws.{after_number_again};
+ghost use Rattle.merkle_forest_parts.specs.VarintLaws.{after_number_again, varint_at_most};
 
 use crate::codec::{
-    Cursor, EncodeSize, Error, Faithful, Read, Write, number_size, read_number, write_number,
+    Cursor, EncodeSize, Error, Faithful, MaxEncodeSize, Read, Write, number_size, read_number,
+    write_number,
 };
 use crate::family::{Family, MAX_LEAVES};
 use std::alloc::{AllocError, Global};
@@ -114,6 +115,14 @@ impl<F: Family> From<u64> for Location<F> {
 
     fn from(number: u64) -> Location<F> {
         Location::new(number)
+    }
+}
+
+impl<F: Family> From<usize> for Location<F> {
+    ghost from_gives = { λ n l. l ≡ n };
+
+    fn from(number: usize) -> Location<F> {
+        Location::new(number as u64)
     }
 }
 
@@ -245,4 +254,12 @@ impl<F: Family> Read for Location<F> {
     }
 
     ghost read_again = { λ _ l rest value within. after_number_again MAX_LEAVES l rest value within };
+}
+
+impl<F: Family> MaxEncodeSize for Location<F> {
+    ghost MAX_SIZE = { 10 };
+
+    const MAX_SIZE: usize = 10;
+
+    ghost bounded = { λ v small. varint_at_most v small };
 }

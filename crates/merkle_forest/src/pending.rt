@@ -1,7 +1,7 @@
 //! What a proof holds of the digest of a chunk that is full and not yet graftable.
 
 ghost use Rattle.std.specs.Prelude.{◌≡◌, ◌++◌, ℕ, List, [], Option, IfSome, Ok, OnOk, OnErr, option_map, refl};
-ghost use Rattle.merkle_forest.specs.Codec.{Outcome, Extends, Reads};
+ghost use Rattle.merkle_forest_parts.specs.Codec.{Outcome, Extends, Reads};
 
 use crate::codec::{Cursor, Error, Read, Write};
 use crate::digest::Digest;

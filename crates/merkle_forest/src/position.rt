@@ -3,12 +3,14 @@
 ghost use Rattle.std.specs.Prelude.{◌≡◌, ◌+◌, ◌-◌, ◌^◌, ◌<◌, ◌≤◌, ◌↔◌, min, IsTrue, IsNone, IfSome, Some};
 ghost use Rattle.std.specs.Fmt.{decimal};
 ghost use Rattle.std.proofs.Common.{rules};
-ghost use Rattle.merkle_forest.specs.Varint.{varint, after_number};
+ghost use Rattle.merkle_forest.specs.Nodes.{IsSize};
+ghost use Rattle.merkle_forest_parts.specs.Varint.{varint, after_number};
 ghost use Rattle.merkle_forest.specs.declared.family.TheConstants.{MAX_NODES};
-ghost use Rattle.merkle_forest.specs.VarintLaws.{after_number_again};
+ghost use Rattle.merkle_forest_parts.specs.VarintLaws.{after_number_again, varint_at_most};
 
 use crate::codec::{
-    Cursor, EncodeSize, Error, Faithful, Read, Write, number_size, read_number, write_number,
+    Cursor, EncodeSize, Error, Faithful, MaxEncodeSize, Read, Write, number_size, read_number,
+    write_number,
 };
 use crate::family::{Family, MAX_NODES};
 use std::alloc::{AllocError, Global};
@@ -65,6 +67,13 @@ impl<F: Family> Position<F> {
         self.value < MAX_NODES
     }
 
+    /// Whether a forest of up to `MAX_LEAVES` leaves has this many nodes.
+    pub fn is_valid_size(self) -> bool
+        ensures { IsTrue result ↔ IsSize F.merge_rule self }
+    {
+        F::is_valid_size(self)
+    }
+
     /// The sum. Past `MAX_NODES` it is None.
     pub fn checked_add(self, more: u64) -> Option<Position<F>>
         ensures some { IfSome result (λ sum. sum ≡ self + more) }
@@ -114,6 +123,14 @@ impl<F: Family> From<u64> for Position<F> {
 
     fn from(number: u64) -> Position<F> {
         Position::new(number)
+    }
+}
+
+impl<F: Family> From<usize> for Position<F> {
+    ghost from_gives = { λ n p. p ≡ n };
+
+    fn from(number: usize) -> Position<F> {
+        Position::new(number as u64)
     }
 }
 
@@ -245,4 +262,12 @@ impl<F: Family> Read for Position<F> {
     }
 
     ghost read_again = { λ _ p rest value within. after_number_again MAX_NODES p rest value within };
+}
+
+impl<F: Family> MaxEncodeSize for Position<F> {
+    ghost MAX_SIZE = { 10 };
+
+    const MAX_SIZE: usize = 10;
+
+    ghost bounded = { λ v small. varint_at_most v small };
 }

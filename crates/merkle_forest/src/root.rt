@@ -61,16 +61,16 @@ fn seal<F: Family, H: Hasher<F>>(hasher: &H, leaves: u64, inactive: u64, peaks: 
     }
 }
 
-/// The root over items: the inactive peaks folded into the first one where there are some, and the other peaks.
-pub fn root_with_folded_peaks<F: Family, H: Hasher<F>>(
+// The root over items: the inactive peaks folded into the first one where there are some, and the other peaks.
+pub(crate) fn root_of_items<F: Family, H: Hasher<F>>(
     hasher: &H,
     leaves: u64,
     inactive: u64,
-    folded: &[H::Digest],
+    items: &[H::Digest],
 ) -> H::Digest
-    ensures { H.Digest.spelling result ≡ H.hash_of (root_string (H.bagging_of hasher.now) leaves inactive (bagged H.hash_of (H.bagging_of hasher.now) (map H.Digest.spelling folded.now))) }
+    ensures { H.Digest.spelling result ≡ H.hash_of (root_string (H.bagging_of hasher.now) leaves inactive (bagged H.hash_of (H.bagging_of hasher.now) (map H.Digest.spelling items.now))) }
 {
-    match folded {
+    match items {
         [] => seal(hasher, leaves, inactive, &[]),
         [first, rest @ ..] => seal(
             hasher,
@@ -93,9 +93,9 @@ pub fn root_over_item<F: Family, H: Hasher<F>>(
     seal(hasher, leaves, inactive, item.as_bytes())
 }
 
-/// The root over the peaks, of which the first `inactive` are inactive.
+// The root over the peaks, of which the first `inactive` are inactive.
 #[tactic(auto, unfolding(crate::specs::Hashing::root_of))]
-pub fn root_of_peaks<F: Family, H: Hasher<F>>(
+pub(crate) fn root_of_peaks<F: Family, H: Hasher<F>>(
     hasher: &H,
     leaves: u64,
     inactive: usize,
@@ -106,28 +106,11 @@ pub fn root_of_peaks<F: Family, H: Hasher<F>>(
 {
     let (front, rest) = peaks.split_at(inactive);
     match front {
-        [] => root_with_folded_peaks(hasher, leaves, 0, rest),
+        [] => root_of_items(hasher, leaves, 0, rest),
         [first, others @ ..] => {
             let folded = fold_onto(hasher, *first, others);
             let bagged = bag(hasher, &folded, rest);
             seal(hasher, leaves, inactive as u64, bagged.as_bytes())
         }
     }
-}
-
-/// The root over the peaks, of which the first `inactive` are inactive. None: there are fewer peaks.
-pub fn root<F: Family, H: Hasher<F>>(
-    hasher: &H,
-    leaves: u64,
-    inactive: usize,
-    peaks: &[H::Digest],
-) -> Option<H::Digest>
-    ensures refused { IfNone result (length peaks.now < inactive) }
-    ensures answered { IfSome result (λ _. inactive ≤ length peaks.now) }
-    ensures root { IfSome result (λ d. H.Digest.spelling d ≡ root_of H.hash_of (H.bagging_of hasher.now) leaves inactive (map H.Digest.spelling peaks.now)) }
-{
-    if peaks.len() < inactive {
-        return None;
-    }
-    Some(root_of_peaks(hasher, leaves, inactive, peaks))
 }

@@ -2,7 +2,7 @@ mod forests;
 mod hashing;
 
 use super::*;
-use crate::codec::{Decode, Encode, EncodeSize, Error, MaxEncodeSize};
+use crate::codec::{self, Decode, Encode, EncodeSize, MaxEncodeSize};
 use std::test::Fail;
 
 type Leaf = Location<mmr::Family>;
@@ -20,7 +20,7 @@ fn locations(rt: HostRuntime) -> Result<(), Fail> {
     assert_eq!(rt; five.checked_sub(5), Some(Leaf::default()));
     assert_eq!(rt; five.checked_sub(6), None);
     assert_eq!(rt; five.saturating_add(u64::MAX).as_u64(), MAX_LEAVES);
-    assert_eq!(rt; five.saturating_sub(6), Leaf::from(0));
+    assert_eq!(rt; five.saturating_sub(6), Leaf::from(0u64));
     assert_eq!(rt; u64::from(five + Leaf::new(1) + 1 - 2 - Leaf::new(3)), 2);
     let mut moved = five;
     moved += 4;
@@ -41,7 +41,7 @@ fn positions(rt: HostRuntime) -> Result<(), Fail> {
     assert_eq!(rt; five.checked_add(MAX_NODES), None);
     assert_eq!(rt; five.checked_sub(5), Some(Node::default()));
     assert_eq!(rt; five.saturating_add(u64::MAX).as_u64(), MAX_NODES);
-    assert_eq!(rt; five.saturating_sub(6), Node::from(0));
+    assert_eq!(rt; five.saturating_sub(6), Node::from(0u64));
     assert_eq!(rt; u64::from(five + Node::new(1) + 1 - 2 - Node::new(3)), 2);
     let mut moved = five;
     moved += 4;
@@ -67,13 +67,40 @@ fn spelled(rt: HostRuntime) -> Result<(), Fail> {
     let past_leaves = Leaf::new(MAX_LEAVES + 1).encode(rt.alloc())?;
     assert_eq!(rt;
         Leaf::decode_cfg(rt.alloc(), &past_leaves, &()),
-        Err(Error::Invalid)
+        Err(codec::Error::Invalid)
     );
     let past_nodes = Node::new(MAX_NODES + 1).encode(rt.alloc())?;
     assert_eq!(rt;
         Node::decode_cfg(rt.alloc(), &past_nodes, &()),
-        Err(Error::Invalid)
+        Err(codec::Error::Invalid)
     );
     assert_eq!(rt; <Leaf as MaxEncodeSize>::MAX_SIZE, 10);
+    Ok(())
+}
+
+// The leaves 0 to 3 of a Merkle Mountain Range stand at 0, 1, 3 and 4; at 2 stands the first branch.
+#[test]
+fn converted(rt: HostRuntime) -> Result<(), Fail> {
+    assert_eq!(rt; Leaf::try_from(Node::new(4)), Ok(Leaf::new(3)));
+    assert_eq!(rt; Node::try_from(Leaf::from(3usize)), Ok(Node::from(4usize)));
+    assert_eq!(rt;
+        Leaf::try_from(Node::new(2)),
+        Err(Error::NonLeaf(Node::new(2)))
+    );
+    let past_nodes = Node::new(MAX_NODES + 1);
+    let past_leaves = Leaf::new(MAX_LEAVES + 1);
+    assert_eq!(rt;
+        Leaf::try_from(past_nodes),
+        Err(Error::PositionOverflow(past_nodes))
+    );
+    assert_eq!(rt;
+        Node::try_from(past_leaves),
+        Err(Error::LocationOverflow(past_leaves))
+    );
+    assert!(rt; Node::new(4).is_valid_size() && !Node::new(5).is_valid_size());
+    assert_eq!(rt;
+        format!(in rt.alloc(); "{}", Error::NonLeaf(Node::new(2)))?.as_str(),
+        "M1: no leaf stands at position 2"
+    );
     Ok(())
 }

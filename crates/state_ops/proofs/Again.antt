@@ -5,7 +5,7 @@ use Rattle.std.specs.Int.{w64, to_be_bytes, from_be_bytes}
 use Rattle.std.proofs.lemmas.Nat.{from_be_bytes-to_be_bytes_8}
 use Rattle.std.proofs.lemmas.Bool.{le-ltb}
 use Rattle.std.proofs.lemmas.List.{take_at, drop_at, length-append, length-replicate}
-use Rattle.merkle_forest.specs.declared.codec.error.Error.TheVariants.{EndOfBuffer, Invalid}
+use Rattle.merkle_forest_parts.specs.declared.codec.error.Error.TheVariants.{EndOfBuffer, Invalid}
 use Rattle.merkle_forest.specs.Codec.{Outcome, ◌>>=◌}
 use Rattle.state_ops.specs.Operation.{Operation, delete, update, commit_floor, fixed_size, fixed_metadata, padded, unpadded, fixed_encoding}
 use Rattle.state_ops.specs.Reading.{after_zeros, after_metadata, after_floor, after_unpadded, after_padded, after_operation, IsField, HasSpelling}

@@ -3,8 +3,8 @@ use Rattle.std.proofs.Common.{◌≡◌, ℕ, zero, suc, ◌-◌, ltb, false, co
 use Rattle.std.specs.Prelude.{MatchResult}
 use Rattle.std.proofs.lemmas.Bool.{le-ltb}
 use Rattle.std.proofs.lemmas.List.{take_at, drop_at, length-append}
-use Rattle.merkle_forest.specs.declared.codec.error.Error.{Error}
-use Rattle.merkle_forest.specs.declared.codec.error.Error.TheVariants.{EndOfBuffer, ExtraData, InvalidVarint, InvalidBool, InvalidEnum, InvalidLength, Invalid, Memory}
+use Rattle.merkle_forest_parts.specs.declared.codec.error.Error.{Error}
+use Rattle.merkle_forest_parts.specs.declared.codec.error.Error.TheVariants.{EndOfBuffer, ExtraData, InvalidVarint, InvalidBool, InvalidEnum, InvalidLength, Invalid, Memory}
 use Rattle.merkle_forest.specs.Codec.{Outcome, Reads, Refuses, ◌>>=◌}
 use Rattle.state_ops.specs.Operation.{padded}
 use Rattle.state_ops.specs.Reading.{after_zeros, after_absent}

@@ -2,7 +2,7 @@
 use Rattle.std.specs.Prelude.{◌≡◌, ◌≤◌, ◌++◌, IfSome, ℕ, zero, suc, ◌^◌, nat_lt, ◌==◌, if◌then◌else◌, List, [], ◌∷◌, length, take, drop, Ok, Err}
 use Rattle.std.specs.Int.{w64, from_be_bytes}
 use Rattle.merkle_forest.specs.Codec.{Outcome, ◌>>=◌}
-use Rattle.merkle_forest.specs.declared.codec.error.Error.TheVariants.{EndOfBuffer, InvalidBool, InvalidEnum, Invalid}
+use Rattle.merkle_forest_parts.specs.declared.codec.error.Error.TheVariants.{EndOfBuffer, InvalidBool, InvalidEnum, Invalid}
 use Rattle.state_ops.specs.Operation.{Operation, delete, update, commit_floor, fixed_size}
 
 -- zeros alone, up to the end

@@ -14,8 +14,8 @@ use merkle_forest::bagging::Bagging;
 use merkle_forest::digest::Digest;
 use merkle_forest::family::Family;
 use merkle_forest::forest::{Tree, grow};
-use merkle_forest::hasher::{HashFunction, Standard};
-use merkle_forest::root::root_of_peaks;
+use merkle_forest::hasher::{HashFunction, Hasher, Standard};
+use merkle_forest::location::Location;
 use merkle_forest::trees::{Plain, digests_of_peaks, inactive_count_of, place};
 use std::alloc::{AllocError, Global};
 use std::marker::PhantomData;
@@ -50,12 +50,8 @@ pub fn root_of_operations<F: Family, H: HashFunction>(
     let plain: Plain<'_, H> = Plain::new(snapshot.operations);
     let digests: Vec<H::Digest> = digests_of_peaks(alloc, &plain, trees)?;
     let hasher: Standard<H> = Standard::new(Bagging::BackwardFold);
-    Ok(root_of_peaks::<F, Standard<H>>(
-        &hasher,
-        snapshot.operations.len() as u64,
-        inactive,
-        &digests,
-    ))
+    let leaves: Location<F> = Location::new(snapshot.operations.len() as u64);
+    Ok(hasher.root(leaves, inactive, &digests).unwrap())
 }
 
 /// The digests of the grafted tree of the state.
@@ -91,8 +87,8 @@ pub fn root_of_grafted<F: Family, H: HashFunction>(
     let grafted: Grafted<'_, H> = grafted_trees(snapshot, chunks);
     let digests: Vec<H::Digest> = digests_of_peaks(alloc, &grafted, trees)?;
     let hasher: Standard<H> = Standard::new(Bagging::BackwardFold);
-    let leaves = snapshot.operations.len() as u64;
-    Ok(root_of_peaks::<F, Standard<H>>(&hasher, leaves, inactive, &digests))
+    let leaves: Location<F> = Location::new(snapshot.operations.len() as u64);
+    Ok(hasher.root(leaves, inactive, &digests).unwrap())
 }
 
 // The digest of the chunk at an index, if it is there.

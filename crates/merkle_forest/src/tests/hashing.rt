@@ -3,8 +3,9 @@
 
 use crate::codec::FixedBytes;
 use crate::hasher::{Hasher, Standard, hash_leaf, hash_node};
-use crate::root::root;
-use crate::{Bagging, ByteHash, HashFunction, mmr};
+use crate::location::Location;
+use crate::position::Position;
+use crate::{Bagging, ByteHash, Error, HashFunction, mmr};
 use std::alloc::Global;
 use std::fmt::Write;
 use std::test::Fail;
@@ -18,6 +19,18 @@ pub fn hex(alloc: Global, digest: &FixedBytes<32>) -> Result<String, Fail> {
     Ok(text)
 }
 
+fn mmr_leaves(count: u64) -> Location<mmr::Family> {
+    Location::new(count)
+}
+
+fn hasher_fold(
+    hasher: &Standard<ByteHash>,
+    left: &FixedBytes<32>,
+    right: &FixedBytes<32>,
+) -> FixedBytes<32> {
+    Hasher::<mmr::Family>::fold(hasher, left, right)
+}
+
 // The first is the digest of `abc` in the standard of SHA-256; the others are sha256(n(5) + b"abc"), sha256(n(6) + A + B)
 // and sha256(A + B).
 #[test]
@@ -26,7 +39,16 @@ fn digests(rt: HostRuntime) -> Result<(), Fail> {
     let a = FixedBytes::new([1; 32]);
     let b = FixedBytes::new([2; 32]);
     let hasher: Standard<ByteHash> = Standard::new(Bagging::ForwardFold);
-    let fold = Hasher::<mmr::Family>::fold(&hasher, &a, &b);
+    let fold = hasher_fold(&hasher, &a, &b);
+    let six: Position<mmr::Family> = Position::new(6);
+    let five: Position<mmr::Family> = Position::new(5);
+    let pair = hasher.node_digest_pair((six, &a, &b), (five, &b, &a));
+    assert_eq!(rt; pair.0, hash_node::<ByteHash>(6, &a, &b));
+    assert_eq!(rt; pair.1, hash_node::<ByteHash>(5, &b, &a));
+    assert_eq!(rt;
+        hasher.leaf_digest(five, b"abc"),
+        hash_leaf::<ByteHash>(5, b"abc")
+    );
     let found = [
         (
             ByteHash::hash(&[b"ab", b"c"]),
@@ -119,11 +141,21 @@ fn roots(rt: HostRuntime) -> Result<(), Fail> {
         let hasher: Standard<ByteHash> = Standard::new(bagging);
         for (leaves, inactive, count, text) in wanted {
             assert!(rt; count <= 3);
-            let found = root::<mmr::Family, _>(&hasher, leaves, inactive, &peaks[..count]);
-            let found = found.ok_or("peaks")?;
+            let leaves = mmr_leaves(leaves);
+            let found = hasher.root(leaves, inactive, &peaks[..count])?;
             assert_eq!(rt; hex(rt.alloc(), &found)?.as_str(), text);
         }
-        assert_eq!(rt; root::<mmr::Family, _>(&hasher, 7, 4, &peaks), None);
+        let refused = Err(Error::InvalidInactivePeaks);
+        assert_eq!(rt; hasher.root(mmr_leaves(7), 4, &peaks), refused);
+        let items = [hasher_fold(&hasher, &peaks[0], &peaks[1]), peaks[2]];
+        assert_eq!(rt;
+            hasher.root_with_folded_peaks(mmr_leaves(7), 2, &items),
+            hasher.root(mmr_leaves(7), 2, &peaks)
+        );
+        assert_eq!(rt;
+            hasher.root_with_folded_peaks(mmr_leaves(7), 1, &[]),
+            refused
+        );
     }
     Ok(())
 }

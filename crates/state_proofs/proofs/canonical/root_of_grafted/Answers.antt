@@ -1,4 +1,4 @@
-use Rattle.std.proofs.Common.{sym, ◌∙◌, ap, length, map}
+use Rattle.std.proofs.Common.{sym, ◌∙◌, ap, length, map, rules}
 use Rattle.std.proofs.lemmas.List.{length-map}
 use Rattle.merkle_forest.specs.Forest.{forest_of}
 use Rattle.merkle_forest.specs.Shape.{shape}
@@ -20,11 +20,11 @@ returns g c =
     is_grafted_root setting state c.new-hasher.result.bagging (length c.args.snapshot.now.operations.now) c.aligned_count_of-inactive.result
     (map shape c.args.trees.now) (shapes c.in_ok-peaks.peaks.items)
     (grafted_digest hash found.grafting_height found.bits (map (λ e. e.items) found.chunks.now) (map (λ e. e.items) found.elements.now))
-    (map g.H.Digest.Write.spelling c.deref-2.result.now) (g.H.Digest.Write.spelling c.root_of_peaks.result)
+    (map g.H.Digest.Write.spelling c.deref-2.result.now) (g.H.Digest.Write.spelling c.unwrap.result)
     c.new-hasher.ensures
     (c.requires.grown ∙ ap (forest_of g.F.Family.merge_rule) sized) c.in_ok-peaks.ensures.placed
     (c.aligned_count_of-inactive.ensures.count ∙ ap (λ peaks. chunk_aligned_inactive_peaks (chunk_bits setting) c.args.snapshot.now.floor (shapes peaks)) c.deref.ensures.value)
     (is_grafted_digests setting state found.grafting_height found.bits (map (λ e. e.items) found.chunks.now) (map (λ e. e.items) found.elements.now)
     (ap (map (λ e. e.items)) grafts.elements) (ap (map (λ e. e.items)) grafts.chunks ∙ c.requires.chunked) grafts.height grafts.bits)
     (ap (map g.H.Digest.Write.spelling) c.deref-2.ensures.value ∙ c.in_ok-digests.ensures.digests)
-    sized c.root_of_peaks.ensures
+    sized (search (rules, c.unwrap.ensures, c.root.ensures.root, c.new-leaves.ensures))

@@ -1,0 +1,23 @@
+//! Why a call of the Merkle layer is refused.
+
+use crate::family::Family;
+use crate::location::Location;
+use crate::position::Position;
+
+/// What a call of the Merkle layer refuses.
+#[derive_where(Clone, Copy, Debug, PartialEq, Eq)]
+#[derive(thiserror::Error)]
+pub enum Error<F: Family> {
+    /// M1: no leaf stands at this position.
+    #[error("M1: no leaf stands at position {0}")]
+    NonLeaf(Position<F>),
+    /// M2: this position is past `MAX_NODES`.
+    #[error("M2: position {0} is past the limit")]
+    PositionOverflow(Position<F>),
+    /// M3: this location is past `MAX_LEAVES`.
+    #[error("M3: location {0} is past the limit")]
+    LocationOverflow(Location<F>),
+    /// M16: there are fewer peaks than inactive ones.
+    #[error("M16: fewer peaks than inactive ones")]
+    InvalidInactivePeaks,
+}

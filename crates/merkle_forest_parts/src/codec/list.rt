@@ -1,0 +1,122 @@
+//! Lists: a count as a varint, and that many items.
+
+ghost use Rattle.std.specs.Prelude.{◌≡◌, ◌<◌, ◌≤◌, ◌^◌, ◌++◌, IfOk, length};
+ghost use Rattle.std.specs.List.{All};
+ghost use Rattle.merkle_forest_parts.specs.Varint.{varint, Finds};
+ghost use Rattle.merkle_forest_parts.specs.Lists.{list_spelling, bytes_spelling, AreItems, count_at, after_list, after_bytes};
+ghost use Rattle.merkle_forest_parts.specs.ListLaws.{list_again, bytes_again};
+
+use super::cursor::Cursor;
+use super::error::Error;
+use super::traits::{EncodeSize, Read, Write};
+use super::varint::{number_size, read_number, write_number};
+use crate::digest::Digest;
+use std::alloc::{AllocError, Global};
+
+/// The counts that a list may have, both ends among them.
+#[derive(Clone, Copy, Debug, PartialEq, Eq)]
+pub struct RangeCfg {
+    /// The least count.
+    pub least: usize,
+    /// The greatest count.
+    pub greatest: usize,
+}
+
+impl RangeCfg {
+    /// The counts from the least to the greatest. No count is allowed where the least is the greater.
+    pub fn new(least: usize, greatest: usize) -> RangeCfg
+        ensures least { result.least ≡ least }
+        ensures greatest { result.greatest ≡ greatest }
+    {
+        RangeCfg { least, greatest }
+    }
+}
+
+/// The count whose varint stands at the front. Where its bytes are missing: C1; a bad varint: C3; outside the range: C6.
+/// After a refusal the cursor's place is open.
+pub fn read_count(cursor: &mut Cursor<'_>, range: &RangeCfg) -> Result<usize, Error>
+    ensures exact { Finds cursor.new (count_at range.now.least range.now.greatest cursor.old) result }
+    ensures spelled { IfOk result (λ count. cursor.old ≡ varint count ++ cursor.new) }
+    ensures within { IfOk result (λ count. (range.now.least ≤ count) × (count ≤ range.now.greatest)) }
+{
+    let count = read_number(cursor)? as usize;
+    if count < range.least || count > range.greatest {
+        return Err(Error::InvalidLength);
+    }
+    Ok(count)
+}
+
+impl<D: Digest> Write for Vec<D> {
+    ghost spelling = { λ v. list_spelling D.spelling v.items };
+
+    ghost is_value = { λ v. AreItems D.is_value v.items };
+
+    fn write(&self, out: &mut Vec<u8>) -> Result<(), AllocError> {
+        write_number(out, self.len() as u64)?;
+        for item in self {
+            item.write(out)?;
+        }
+        Ok(())
+    }
+}
+
+impl<D: Digest> EncodeSize for Vec<D> {
+    fn encode_size(&self) -> usize {
+        let mut size = number_size(self.len() as u64);
+        for item in self {
+            size += item.as_bytes().len();
+        }
+        size
+    }
+}
+
+impl<D: Digest> Read for Vec<D> {
+    type Cfg = RangeCfg;
+
+    ghost after = { λ cfg bytes. after_list (D.after tt) cfg.least cfg.greatest bytes };
+
+    ghost is_within = { λ cfg v. (cfg.least ≤ length v.items) × (length v.items ≤ cfg.greatest) × All (D.is_within tt) v.items };
+
+    fn read_cfg(alloc: Global, cursor: &mut Cursor<'_>, cfg: &RangeCfg) -> Result<Vec<D>, Error> {
+        let count = read_count(cursor, cfg)?;
+        let mut items = Vec::new(alloc);
+        for read in 0..count {
+            items.push(D::read_cfg(alloc, cursor, &())?)?;
+        }
+        Ok(items)
+    }
+
+    ghost read_again = { λ cfg v rest values within. list_again D.spelling (D.after tt) D.is_value (D.is_within tt) (D.read_again tt) cfg.least cfg.greatest v.items rest values within.0 within.1 within.2 };
+}
+
+impl Write for Vec<u8> {
+    ghost spelling = { λ v. bytes_spelling v.items };
+
+    ghost is_value = { λ v. length v.items < 2 ^ 64 };
+
+    fn write(&self, out: &mut Vec<u8>) -> Result<(), AllocError> {
+        write_number(out, self.len() as u64)?;
+        out.extend_from_slice(self.as_slice())
+    }
+}
+
+impl EncodeSize for Vec<u8> {
+    fn encode_size(&self) -> usize {
+        number_size(self.len() as u64) + self.len()
+    }
+}
+
+impl Read for Vec<u8> {
+    type Cfg = RangeCfg;
+
+    ghost after = { λ cfg bytes. after_bytes cfg.least cfg.greatest bytes };
+
+    ghost is_within = { λ cfg v. (cfg.least ≤ length v.items) × (length v.items ≤ cfg.greatest) };
+
+    fn read_cfg(alloc: Global, cursor: &mut Cursor<'_>, cfg: &RangeCfg) -> Result<Vec<u8>, Error> {
+        let count = read_count(cursor, cfg)?;
+        Ok(cursor.take(count)?.to_vec(alloc)?)
+    }
+
+    ghost read_again = { λ cfg v rest value within. bytes_again cfg.least cfg.greatest v.items rest value within.0 within.1 };
+}

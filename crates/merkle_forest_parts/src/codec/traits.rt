@@ -1,0 +1,95 @@
+//! Values that are written as bytes and read back.
+
+ghost use Rattle.std.specs.Prelude.{◌≡◌, ◌<◌, ◌^◌, ◌++◌, ℕ, List, [], length, Ok, OnOk, OnErr, IfOk};
+ghost use Rattle.merkle_forest_parts.specs.Codec.{Outcome, Extends, Reads, whole};
+
+use super::cursor::Cursor;
+use super::error::Error;
+use std::alloc::{AllocError, Global};
+
+/// A value that has one spelling in bytes.
+pub trait Write: Drop {
+    /// The bytes that spell a value.
+    ghost spelling: { Self → List ℕ };
+
+    /// Holds of the values of the type.
+    ghost is_value: { Self → Type 0 };
+
+    /// Appends the value's spelling. It fails for want of memory alone, and some bytes may then have been appended.
+    fn write(&self, out: &mut Vec<u8>) -> Result<(), AllocError>
+        ensures ok { OnOk result (out.new.items ≡ out.old.items ++ spelling self.now) }
+        ensures err { OnErr result (Extends out.old.items out.new.items) }
+        ensures value { OnOk result (is_value self.now) };
+}
+
+/// A value whose copies are spelled as it is.
+pub trait Faithful: Write + Clone {
+    ghost copied: { (v w : Self) → Self.is_clone v w → Self.spelling w ≡ Self.spelling v };
+}
+
+/// A value that knows the length of its spelling.
+pub trait EncodeSize: Write {
+    /// The length of the spelling in bytes.
+    fn encode_size(&self) -> usize
+        requires { length (Self.spelling self.now) < 2 ^ 64 }
+        ensures { result ≡ length (Self.spelling self.now) };
+}
+
+/// A type whose values all have spellings of one length.
+pub trait FixedSize: Write {
+    ghost SIZE: { ℕ };
+
+    /// The length of each spelling in bytes.
+    const SIZE: usize;
+
+    ghost sized: { (v : Self) → Self.is_value v → length (Self.spelling v) ≡ SIZE };
+}
+
+/// A type whose values are read from bytes.
+pub trait Read: Write {
+    /// What a reader is told: limits on counts and on sizes.
+    type Cfg;
+
+    /// The bytes behind the value that stands at the front, or the first fault from the left.
+    ghost after: { Self.Cfg → List ℕ → Outcome };
+
+    /// Holds of the values that are read under these limits.
+    ghost is_within: { Self.Cfg → Self → Type 0 };
+
+    /// Reads the value at the front. After a refusal the cursor's place is open.
+    fn read_cfg(alloc: Global, cursor: &mut Cursor<'_>, cfg: &Self::Cfg) -> Result<Self, Error>
+        ensures { Reads Self.spelling cursor.old cursor.new (after cfg.now cursor.old) result };
+
+    ghost read_again: { (cfg : Self.Cfg) (v : Self) (rest : List ℕ) → Self.is_value v → is_within cfg v → after cfg (Self.spelling v ++ rest) ≡ Ok rest };
+}
+
+/// A value that is written into a vector of its own.
+pub trait Encode: Write {
+    /// The value's spelling. It fails for want of memory alone.
+    final fn encode(&self, alloc: Global) -> Result<Vec<u8>, AllocError>
+        ensures { IfOk result (λ v. v.items ≡ Self.spelling self.now) }
+    {
+        let mut out = Vec::new(alloc);
+        self.write(&mut out)?;
+        Ok(out)
+    }
+}
+
+/// A value that is read from all of the bytes.
+pub trait Decode: Read {
+    /// The value that the bytes spell, all of them. Where bytes are left over: C2.
+    final fn decode_cfg(alloc: Global, bytes: &[u8], cfg: &Self::Cfg) -> Result<Self, Error>
+        ensures { Reads Self.spelling bytes.now [] (whole (Self.after cfg.now bytes.now)) result }
+    {
+        let mut cursor = Cursor::new(bytes);
+        let value = Self::read_cfg(alloc, &mut cursor, cfg)?;
+        if !cursor.is_empty() {
+            return Err(Error::ExtraData);
+        }
+        Ok(value)
+    }
+}
+
+impl<T: Write> Encode for T {}
+
+impl<T: Read> Decode for T {}
