@@ -8,6 +8,7 @@ pub mod ListLaws
 pub mod Lists
 pub mod Mmr
 pub mod MmrBirths
+pub mod MmrCounts
 pub mod MmrLaws
 pub mod MmrNodes
 pub mod NodeLaws
