@@ -2,12 +2,15 @@
 
 ghost use Rattle.std.specs.Prelude.{◌≡◌, ◌↔◌, ◌≤◌, ◌<◌, ◌+◌, ◌-◌, ◌*◌, ◌/◌, ◌^◌, ℕ, nat_lt, if◌then◌else◌};
 ghost use Rattle.merkle_forest.specs.Forest.{Tree, position, height, forest_of};
+ghost use Rattle.merkle_forest.specs.Maximal.{AreChunkPeaks};
 ghost use Rattle.merkle_forest.specs.NodeLaws.{stands-counted};
-ghost use Rattle.merkle_forest.specs.Nodes.{IsNodeAt, HasNode, IsSubtree, StandsAt, IsBirth, IsBirthAt, IsPlaceOfNode, IsFirstLeaf, nodes_of_height};
+ghost use Rattle.merkle_forest.specs.Nodes.{IsNodeAt, HasNode, IsSize, IsSubtree, StandsAt, IsBirth, IsBirthAt, IsPlaceOfNode, IsFirstLeaf, nodes_of_height};
 
+use crate::chunk_peaks::ChunkPeaks;
 use crate::family::{Family, MAX_LEAVES};
 use crate::location::Location;
 use crate::position::Position;
+use crate::sizes::greatest_leaf_count;
 
 /// A family whose nodes begin at multiples of their leaf counts, at positions and with births that the first leaf and the height
 /// determine.
@@ -74,5 +77,19 @@ pub trait Graftable: Family {
         ensures { IsFirstLeaf Self.merge_rule position height result }
     {
         Location::new(Self::first_leaf(position.as_u64(), height))
+    }
+
+    /// The maximal nodes over the chunk of that number, of 2^grafting_height leaves, in the forest that has this many nodes, from
+    /// left to right: the position and the height of each.
+    final fn chunk_peaks(size: Position<Self>, chunk: u64, grafting_height: u32) -> ChunkPeaks<Self>
+        requires valid { IsSize Self.merge_rule size }
+        requires low { grafting_height ≤ 62 }
+        ensures { AreChunkPeaks Self.merge_rule size chunk grafting_height result }
+    {
+        ChunkPeaks::new(
+            greatest_leaf_count::<Self>(size.as_u64()),
+            chunk,
+            grafting_height,
+        )
     }
 }
