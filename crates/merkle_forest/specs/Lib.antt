@@ -13,8 +13,11 @@ pub mod MmrBirths
 pub mod MmrCounts
 pub mod MmrLaws
 pub mod MmrNodes
+pub mod MmrParents
+pub mod NodeGrowth
 pub mod NodeLaws
 pub mod Nodes
+pub mod ParentLaws
 pub mod PeakLaws
 pub mod Peaks
 pub mod Perfect

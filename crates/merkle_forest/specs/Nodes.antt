@@ -1,5 +1,5 @@
 -- Where the nodes of a forest stand. A node's place is the location of the first leaf below it.
-use Rattle.std.specs.Prelude.{◌≡◌, ◌==◌, ℕ, suc, ◌+◌, ◌≤◌, ◌^◌, ◌⊎◌, ◌↔◌, if◌then◌else◌, List, [], ◌∷◌}
+use Rattle.std.specs.Prelude.{◌≡◌, ◌==◌, ℕ, suc, ◌+◌, ◌≤◌, ◌^◌, ◌⊎◌, ◌↔◌, if◌then◌else◌, List, [], ◌∷◌, length, slice_get, Some}
 use Rattle.merkle_forest.specs.Forest.{Tree, leaf, branch, position, height, leaf_count, size, leaves, Rule, forest_of}
 
 -- a tree whose first leaf has the location `first` is the tree that starts at `start`, or stands below its root
@@ -77,6 +77,16 @@ IsBirthAt rule p h birth = (n : ℕ) → n ≤ 2 ^ 62 → (HasNodeAtPlace (fores
 -- the first leaf below the node of height h at position p has this location
 abbrev pub IsFirstLeaf : Rule → ℕ → ℕ → ℕ → Type 0
 IsFirstLeaf rule p h location = (n first : ℕ) (node : Tree) → n ≤ 2 ^ 62 → IsNodeAt first node (forest_of rule n) → p ≡ position node → h ≡ height node → location ≡ first
+
+-- every node at position p has height h
+abbrev pub IsHeightAt : Rule → ℕ → ℕ → Type 0
+IsHeightAt rule p h = (n first : ℕ) (node : Tree) → n ≤ 2 ^ 62 → IsNodeAt first node (forest_of rule n) → p ≡ position node → h ≡ height node
+
+-- The heights of the parents that are born with the leaf behind n leaves, in order of birth: those of the nodes that stand behind
+-- it in the forest which it makes.
+abbrev pub AreParents : Rule → ℕ → List ℕ → Type 0
+AreParents rule n heights = (suc (size (forest_of rule n)) + length heights ≡ size (forest_of rule (suc n)))
+    × ((i h : ℕ) → slice_get heights i ≡ Some h → HasNodeAtPlace (forest_of rule (suc n)) (suc (size (forest_of rule n)) + i) h)
 
 -- how many nodes of a height a tree has
 abbrev pub nodes_at : ℕ → Tree → ℕ

@@ -12,6 +12,7 @@ pub mod hasher;
 pub mod location;
 pub mod location_range;
 pub mod mmr;
+pub mod parent_heights;
 pub mod peaks;
 pub mod pending;
 pub mod position;

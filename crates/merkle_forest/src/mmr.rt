@@ -50,6 +50,10 @@ impl family::Family for Family {
         (branch - (1u64 << height), branch - 1)
     }
 
+    fn parent_range(leaves: u64) -> (u32, u32) {
+        (1, leaves.trailing_ones())
+    }
+
     ghost merges_equals = { mmr_merges_equals };
 }
 
