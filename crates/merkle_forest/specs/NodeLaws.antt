@@ -82,6 +82,12 @@ node-low rule pairs n first h node few stands high =
 pub subtree-low : (rule : Rule) → IsPairing rule → (first h : ℕ) → IsSubtree rule first h → (first + 2 ^ h ≤ 2 ^ 62) × (h ≤ 62)
 subtree-low rule pairs first h it = node-low rule pairs it.0 first h it.2.0 it.1 it.2.1 it.2.2
 
+-- the node at a position is one over the leaves from its first leaf on
+pub subtree-at : (rule : Rule) (p h location : ℕ) → StandsAt rule p h → IsFirstLeaf rule p h location → IsSubtree rule location h
+subtree-at rule p h location it is_first =
+    let same : it.2.0 ≡ location = sym (is_first it.0 it.2.0 it.2.1 it.1 it.2.2 it.2.3 it.2.4) in
+    (it.0, it.1, (it.2.1, subst (λ k. IsNodeAt k it.2.1 (forest_of rule it.0)) same it.2.2, it.2.4))
+
 -- the birth of the node at a position, from that of the node over its leaves
 pub birth-at : (rule : Rule) (root : ℕ → ℕ → ℕ) (p h location birth : ℕ)
     → ((n first : ℕ) (node : Tree) → IsNodeAt first node (forest_of rule n) → (chunk : ℕ) × (first ≡ chunk * 2 ^ height node))

@@ -8,7 +8,7 @@ ghost use Rattle.merkle_forest.specs.MmrNodes.{node_position-mmr};
 ghost use Rattle.merkle_forest.specs.MmrBirths.{aligned-mmr, birth-chunk_mmr, apart-mmr};
 ghost use Rattle.merkle_forest.specs.MmrCounts.{counted-mmr};
 
-use crate::family;
+use crate::family::{self, MAX_LEAVES, MAX_NODES};
 use crate::graftable::Graftable;
 use crate::peaks::Peaks;
 use crate::sizes::greatest_leaf_count;
@@ -89,6 +89,11 @@ impl Graftable for Family {
 /// The position of the leaf behind n leaves is 2n less the number of ones among n's binary digits.
 pub fn position_of_a_leaf()
     ensures { (n : ℕ) → n ≤ 2 ^ 62 → size (forest_of mmr_rule n) ≡ 2 * n - count_ones n }
+{}
+
+/// The forest of `MAX_LEAVES` leaves has `MAX_NODES` nodes.
+pub fn greatest_node_count()
+    ensures { size (forest_of mmr_rule MAX_LEAVES) ≡ MAX_NODES }
 {}
 
 /// The peaks of a Merkle Mountain Range from left to right.
