@@ -60,15 +60,21 @@ step_keeps : (P : List Tree → Type 0) (heights : List ℕ) (peaks : List Tree)
 step_keeps P heights peaks after None pair keeps p = p
 step_keeps P heights peaks after (Some place) pair keeps p = keeps place pair
 
--- what a merge keeps, the merges after a leaf keep
+-- what a merge keeps whose node has the next position, the merges after a leaf keep
+pub settled-keeps_next : (rule : Rule) (P : List Tree → Type 0) → IsPairing rule
+    → ((place : ℕ) (peaks : List Tree) → IsPairOfEquals (map height peaks) place → P peaks → P (merged (size peaks) place peaks))
+    → (room merges : ℕ) (peaks : List Tree) → P peaks → P (settled rule room merges peaks)
+unfolding settled
+settled-keeps_next rule P pairs keeps zero merges peaks p = p
+settled-keeps_next rule P pairs keeps (suc room) merges peaks p =
+    step_keeps P (map height peaks) peaks (λ place. settled rule room (suc merges) (merged (size peaks) place peaks)) (rule merges (map height peaks)) (pairs merges (map height peaks))
+    (λ place pair. settled-keeps_next rule P pairs keeps room (suc merges) (merged (size peaks) place peaks) (keeps place peaks pair p)) p
+
+-- what every merge keeps, they keep
 pub settled-keeps : (rule : Rule) (P : List Tree → Type 0) → IsPairing rule
     → ((p place : ℕ) (peaks : List Tree) → IsPairOfEquals (map height peaks) place → P peaks → P (merged p place peaks))
     → (room merges : ℕ) (peaks : List Tree) → P peaks → P (settled rule room merges peaks)
-unfolding settled
-settled-keeps rule P pairs keeps zero merges peaks p = p
-settled-keeps rule P pairs keeps (suc room) merges peaks p =
-    step_keeps P (map height peaks) peaks (λ place. settled rule room (suc merges) (merged (size peaks) place peaks)) (rule merges (map height peaks)) (pairs merges (map height peaks))
-    (λ place pair. settled-keeps rule P pairs keeps room (suc merges) (merged (size peaks) place peaks) (keeps (size peaks) place peaks pair p)) p
+settled-keeps rule P pairs keeps = settled-keeps_next rule P pairs (λ place peaks. keeps (size peaks) place peaks)
 
 -- every tree of a forest is perfect
 pub forest_of-perfect : (rule : Rule) → IsPairing rule → (n : ℕ) → ArePerfect (forest_of rule n)

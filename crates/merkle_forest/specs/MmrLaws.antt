@@ -100,3 +100,7 @@ size-range h peaks range = omega (arith, size-twice peaks, (ones-range h peaks r
 -- the position of the leaf behind n leaves
 pub size-mmr : (n : ℕ) → size (forest_of mmr_rule n) ≡ leaf_place n
 size-mmr n = size-range 0 (forest_of mmr_rule n) (forest_of-range n) ∙ ap leaf_place (leaves-forest_of mmr_rule mmr_merges_equals n)
+
+-- the greatest node count
+pub size-limit : size (forest_of mmr_rule (2 ^ 62)) ≡ 2 ^ 63 - 1
+size-limit = size-mmr (2 ^ 62) ∙ ap (λ n. 2 * 2 ^ 62 - n) (ones-pow 62)

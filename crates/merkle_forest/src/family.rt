@@ -1,11 +1,13 @@
 //! Families of Merkle forests.
 
-ghost use Rattle.std.specs.Prelude.{◌≡◌, ◌≤◌, ◌↔◌, ℕ, List, Option, IfSome, IsSome, IsTrue, map};
+ghost use Rattle.std.specs.Prelude.{◌≡◌, ◌≤◌, ◌<◌, ◌+◌, ◌↔◌, ℕ, List, Option, IfSome, IsSome, IsTrue, map};
+ghost use Rattle.std.specs.List.{range_with_len};
 ghost use Rattle.merkle_forest.specs.Forest.{IsPairOfEquals, size, forest_of};
-ghost use Rattle.merkle_forest.specs.Nodes.{HasPeak, IsPlaceOfPeak, HasBranch, AreChildren, IsSize};
+ghost use Rattle.merkle_forest.specs.Nodes.{HasPeak, IsPlaceOfPeak, HasBranch, AreChildren, IsSize, StandsAt, IsHeightAt, AreParents};
 ghost use Rattle.merkle_forest.specs.Peaks.{peak_places, ArePeaksOf, IsInactiveCount};
 
 use crate::location::Location;
+use crate::parent_heights::ParentHeights;
 use crate::peaks::{PeakPositions, Peaks, inactive_count};
 use crate::position::Position;
 use crate::sizes::greatest_leaf_count;
@@ -44,6 +46,13 @@ pub trait Family: Copy + Debug + Drop {
         requires { HasBranch merge_rule branch height }
         ensures { AreChildren merge_rule branch height result.0 result.1 };
 
+    /// The height of the first parent that is born with the leaf behind this many, and how many parents are: each is one higher than
+    /// the one before (own).
+    fn parent_range(leaves: u64) -> (u32, u32)
+        requires { leaves < MAX_LEAVES }
+        ensures parents { AreParents merge_rule leaves (range_with_len result.0 result.1) }
+        ensures low { result.0 + result.1 ≤ 64 };
+
     ghost merges_equals: { (merges : ℕ) (heights : List ℕ) → IfSome (merge_rule merges heights) (IsPairOfEquals heights) };
 
     /// The position of the leaf at a location, which is how many nodes the forest of the leaves before it has.
@@ -61,6 +70,30 @@ pub trait Family: Copy + Debug + Drop {
     {
         let (left, right) = Self::child_positions(position.as_u64(), height);
         (Position::new(left), Position::new(right))
+    }
+
+    /// The heights of the parents that are born with the next leaf, where there are this many leaves, in order of birth.
+    final fn parent_heights(leaves: Location<Self>) -> ParentHeights
+        requires { leaves < MAX_LEAVES }
+        ensures { AreParents merge_rule leaves result }
+    {
+        let (first, count) = Self::parent_range(leaves.as_u64());
+        ParentHeights::new(first, count)
+    }
+
+    /// The height of the node at a position.
+    final fn pos_to_height(position: Position<Self>) -> u32
+        requires { position < size (forest_of merge_rule MAX_LEAVES) }
+        ensures there { StandsAt merge_rule position result }
+        ensures all { IsHeightAt merge_rule position result }
+    {
+        let leaves = greatest_leaf_count::<Self>(position.as_u64());
+        let nodes_behind = position.as_u64() - Self::leaf_position(leaves);
+        if nodes_behind == 0 {
+            return 0;
+        }
+        let (first, _) = Self::parent_range(leaves);
+        first + (nodes_behind - 1) as u32
     }
 
     /// The location of the leaf at a position. Where no leaf up to `MAX_LEAVES` stands there it is None.

@@ -2,6 +2,7 @@
 #![tactic(auto)]
 
 pub mod bagging;
+pub mod chunk_peaks;
 pub mod conversions;
 pub mod error;
 pub mod family;
@@ -11,6 +12,7 @@ pub mod hasher;
 pub mod location;
 pub mod location_range;
 pub mod mmr;
+pub mod parent_heights;
 pub mod peaks;
 pub mod pending;
 pub mod position;

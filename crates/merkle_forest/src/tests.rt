@@ -1,5 +1,6 @@
 mod forests;
 mod hashing;
+mod nodes;
 
 use super::*;
 use crate::codec::{self, Decode, Encode, EncodeSize, MaxEncodeSize};
