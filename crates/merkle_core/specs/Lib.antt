@@ -2,3 +2,5 @@ pub mod Ranges
 pub mod Proofs
 pub mod RangesCode
 pub mod Rebuilt
+pub mod Reconstructed
+pub mod Walked
