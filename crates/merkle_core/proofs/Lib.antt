@@ -1,3 +1,4 @@
 pub mod Spellings
 pub mod Places
+pub mod Rebuilds
 pub mod Walks
