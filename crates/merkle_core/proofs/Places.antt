@@ -2,13 +2,13 @@
 use Rattle.std.proofs.Common.{◌≡◌, ℕ, suc, ◌+◌, ◌*◌, ◌%◌, ◌-◌, ◌^◌, ◌<◌, ◌≤◌, true, false, inl, inr, List, [], ◌∷◌, refl, sym, ◌∙◌, ap, subst, arith}
 use Rattle.std.proofs.Math.Nat.{pow-le-pow_right}
 use Rattle.merkle_forest.specs.Forest.{Tree, leaf, branch, position, height, leaf_count, leaves, Rule, forest_of}
-use Rattle.merkle_forest.specs.Perfect.{IsPerfect, IsPairing}
+use Rattle.merkle_forest.specs.Perfect.{IsPairing}
 use Rattle.merkle_forest.specs.ForestGrowth.{forest_of-perfect, leaves-forest_of, height_fits}
-use Rattle.merkle_forest.specs.Nodes.{IsWithin, IsNodeAt, IsPeakAt, IsBranchOf, AreChildren, HasBranch, HasPeak}
+use Rattle.merkle_forest.specs.Nodes.{IsWithin, IsNodeAt, IsPeakAt, IsBranchOf, AreChildren, HasPeak}
 use Rattle.merkle_forest.specs.NodeLaws.{within-self, node-perfect, node-leaves, branch-height, peak-node, first_peak, next_peak}
 use Rattle.std.proofs.lemmas.Nat.{pow_pos, one_shl}
 use Rattle.std.proofs.lemmas.Bool.{lt-ltb, le-ltb}
-use Rattle.merkle_core.specs.Rebuilt.{IsTreeAt, HasTree, IsChildOver}
+use Rattle.merkle_core.specs.Rebuilt.{IsTreeAt, IsChildOver}
 
 pub pow_le : (a b : ℕ) → a ≤ b → 2 ^ a ≤ 2 ^ b
 pow_le a b le = pow-le-pow_right {n = 2} (omega arith) le

@@ -1,8 +1,8 @@
 -- A branch rebuilt over the child that holds the location.
-use Rattle.std.proofs.Common.{◌≡◌, ℕ, suc, ◌+◌, ◌-◌, ◌<◌, Bool, true, false, ltb, cond, List, [], ◌∷◌, ◌++◌, length, map, take, Option, Some, None, refl, sym, ◌∙◌, ap, subst, arith}
+use Rattle.std.proofs.Common.{◌≡◌, ℕ, ◌+◌, ◌-◌, true, false, ltb, List, [], ◌∷◌, ◌++◌, length, map, take, Option, Some, refl, sym, ◌∙◌, ap, arith}
 use Rattle.std.specs.Prelude.{slice_get}
 use Rattle.std.proofs.lemmas.List.{map-append, length-append}
-use Rattle.merkle_forest.specs.Forest.{Tree, leaf, branch, position, height, leaf_count, Rule}
+use Rattle.merkle_forest.specs.Forest.{Tree, branch, position, height, leaf_count, Rule}
 use Rattle.merkle_core.specs.Rebuilt.{Hashing, last_of, before_last, joined, rebuilt, IsTreeAt, IsChildOver}
 
 -- a branch over the digests of its children

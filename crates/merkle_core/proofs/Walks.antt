@@ -1,14 +1,12 @@
 -- The peaks before a location, over it and behind it.
-use Rattle.std.proofs.Common.{◌≡◌, ℕ, zero, suc, ◌+◌, ◌<◌, ◌≤◌, Bool, true, false, cond, leb, not, ◌||◌, List, [], ◌∷◌, ◌++◌, length, refl, sym, ◌∙◌, ap, subst, arith}
-use Rattle.std.specs.List.{AllByRecursion, filter}
+use Rattle.std.proofs.Common.{◌≡◌, ℕ, ◌+◌, ◌<◌, ◌≤◌, Bool, true, false, cond, leb, List, [], ◌∷◌, ◌++◌, length, refl, sym, ◌∙◌, ap, arith}
+use Rattle.std.specs.List.{AllByRecursion}
 use Rattle.std.proofs.lemmas.Bool.{le-leb, lt-leb, leb-true}
-use Rattle.std.proofs.lemmas.List.Elements.{filter-append}
-use Rattle.merkle_forest.specs.Forest.{Tree, leaf, branch, position, height, leaf_count, leaves, Rule, forest_of}
-use Rattle.merkle_forest.specs.Trees.{Placed, end_of, placed}
+use Rattle.merkle_forest.specs.Forest.{Tree, leaf_count, leaves, Rule, forest_of}
+use Rattle.merkle_forest.specs.Trees.{Placed, end_of}
 use Rattle.merkle_forest.specs.Peaks.{placed_from}
 use Rattle.merkle_forest.specs.PeakLaws.{leaf_count-pos, placed_from-peak}
-use Rattle.merkle_forest.specs.Nodes.{IsPeakAt}
-use Rattle.merkle_core.specs.Ranges.{is_before, is_after, meets}
+use Rattle.merkle_core.specs.Ranges.{is_before, is_after}
 use Rattle.merkle_core.specs.Rebuilt.{IsTreeAt}
 use Rattle.merkle_core.specs.Reconstructed.{peaks_before, peaks_over, peaks_behind, IsPeakOver}
 use Rattle.merkle_core.specs.Walked.{IsPeakFrom}

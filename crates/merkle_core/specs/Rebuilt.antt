@@ -1,6 +1,5 @@
 -- The digest that a proof of one element leads to, from the digests of the maximal nodes that do not hold it.
-use Rattle.std.specs.Prelude.{◌≡◌, ℕ, zero, suc, ◌+◌, ◌-◌, ◌^◌, ◌≤◌, ◌<◌, Bool, true, false, nat_lt, if◌then◌else◌, List, [], ◌∷◌, length, take, Option, None, Some, option_map, slice_get}
-use Rattle.std.specs.Option.{option_map_or}
+use Rattle.std.specs.Prelude.{◌≡◌, ℕ, ◌+◌, ◌-◌, ◌^◌, ◌≤◌, Bool, true, false, nat_lt, if◌then◌else◌, List, [], ◌∷◌, length, take, Option, None, Some, slice_get}
 use Rattle.merkle_forest.specs.Forest.{Tree, leaf, branch, position, height, leaf_count, Rule, forest_of}
 use Rattle.merkle_forest.specs.Hashing.{Hash, fold_string}
 use Rattle.merkle_forest.specs.Nodes.{IsNodeAt}

@@ -1,4 +1,4 @@
-use Rattle.std.proofs.Common.{Bool, true, false, Some, None, subst, ◌∙◌, ap}
+use Rattle.std.proofs.Common.{Bool, Some, None, subst, ◌∙◌, ap}
 use Rattle.std.specs.Prelude.{option_map}
 use Rattle.merkle_core.specs.Rebuilt.{Hashing, IsChildOver}
 use Rattle.merkle_core.proofs.Rebuilds.{over_left, over_right, joined_is}

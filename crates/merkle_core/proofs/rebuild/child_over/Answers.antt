@@ -1,5 +1,4 @@
-use Rattle.std.proofs.Common.{◌≡◌, suc, ◌<◌, ◌≤◌, ◌^◌, ◌+◌, ◌-◌, ap, ◌∙◌, refl, arith}
-use Rattle.merkle_forest.specs.Forest.{height}
+use Rattle.std.proofs.Common.{◌≤◌, ◌^◌, ◌+◌, ◌-◌, ap, refl, arith}
 use Rattle.merkle_core.proofs.Places.{parts, branch_of, parts-fit, left_place, right_place, child_left, child_right, pow_le}
 use Rattle.std.proofs.lemmas.Nat.{one_shl}
 use Rattle.merkle_core.proofs.rebuild.child_over.Goals as goal

@@ -1,4 +1,4 @@
-use Rattle.std.proofs.Common.{◌≡◌, ℕ, ◌+◌, ◌<◌, ◌≤◌, List, ◌∷◌, length, ap, sym, subst, ◌∙◌, arith}
+use Rattle.std.proofs.Common.{◌≡◌, ℕ, ◌+◌, List, ◌∷◌, sym, subst, arith}
 use Rattle.merkle_forest.specs.Forest.{leaf_count, forest_of}
 use Rattle.merkle_forest.specs.Trees.{Placed}
 use Rattle.merkle_forest.specs.Peaks.{placed_from}

@@ -1,4 +1,4 @@
-use Rattle.std.proofs.Common.{◌≡◌, ◌+◌, ◌≤◌, length, ap, sym, arith}
+use Rattle.std.proofs.Common.{◌≡◌, length, ap, sym, arith}
 use Rattle.merkle_forest.specs.Forest.{leaves, forest_of}
 use Rattle.merkle_forest.specs.ForestGrowth.{leaves-forest_of}
 use Rattle.merkle_forest.specs.PeakLaws.{placed_from-end}

@@ -1,9 +1,8 @@
-use Rattle.std.proofs.Common.{◌≡◌, ◌<◌, ◌≤◌, ◌+◌, ◌*◌, ◌%◌, ◌^◌, ℕ, refl, sym, subst, ap, arith}
-use Rattle.merkle_forest.specs.Forest.{Tree, position, height, forest_of}
+use Rattle.std.proofs.Common.{◌<◌, ◌+◌, ℕ, refl, sym, subst, arith}
+use Rattle.merkle_forest.specs.Forest.{forest_of}
 use Rattle.merkle_forest.specs.Nodes.{HasPeak}
 use Rattle.merkle_forest.specs.NodeLaws.{peak-node, node-leaves}
-use Rattle.merkle_core.proofs.Places.{Behind, behind, Shift, shift, peak_place}
-use Rattle.merkle_core.proofs.walk.peak_at.Given as given
+use Rattle.merkle_core.proofs.Places.{behind, shift, peak_place}
 use Rattle.merkle_core.proofs.walk.peak_at.Goals as goal
 
 pub overflow_shl-result : goal.overflow_shl-result

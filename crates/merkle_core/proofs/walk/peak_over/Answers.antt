@@ -1,6 +1,6 @@
-use Rattle.std.proofs.Common.{◌<◌, List, subst, arith}
+use Rattle.std.proofs.Common.{List, subst, arith}
 use Rattle.merkle_forest.specs.Forest.{forest_of}
-use Rattle.merkle_forest.specs.Trees.{Placed, placed}
+use Rattle.merkle_forest.specs.Trees.{Placed}
 use Rattle.merkle_forest.specs.PeakLaws.{placed_from-zero}
 use Rattle.merkle_core.specs.Reconstructed.{IsPeakOver}
 use Rattle.merkle_core.proofs.Places.{first_of}
