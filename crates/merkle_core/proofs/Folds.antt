@@ -29,15 +29,15 @@ fold_backward hash [] own (d ∷ e ∷ back) few = absurd (omega arith)
 fold_backward hash (d ∷ []) own back few = ap (λ rest. hash (fold_string d rest)) (fold_backward hash [] own back few)
 fold_backward hash (d ∷ e ∷ front) own back few = ap (λ rest. hash (fold_string d rest)) (fold_backward hash (e ∷ front) own back few)
 
-take_past : (front : List (List ℕ)) (own : List ℕ) (back : List (List ℕ)) (j : ℕ) → take (length front + suc j) (front ++ own ∷ back) ≡ front ++ own ∷ take j back
+pub take_past : (front : List (List ℕ)) (own : List ℕ) (back : List (List ℕ)) (j : ℕ) → take (length front + suc j) (front ++ own ∷ back) ≡ front ++ own ∷ take j back
 take_past [] own back j = let e : 0 + suc j ≡ suc j = omega arith in rw e refl
 take_past (d ∷ front) own back j = let e : suc (length front) + suc j ≡ suc (length front + suc j) = omega arith in rw e (ap (λ xs. d ∷ xs) (take_past front own back j))
 
-drop_past : (front : List (List ℕ)) (own : List ℕ) (back : List (List ℕ)) (j : ℕ) → drop (length front + suc j) (front ++ own ∷ back) ≡ drop j back
+pub drop_past : (front : List (List ℕ)) (own : List ℕ) (back : List (List ℕ)) (j : ℕ) → drop (length front + suc j) (front ++ own ∷ back) ≡ drop j back
 drop_past [] own back j = let e : 0 + suc j ≡ suc j = omega arith in rw e refl
 drop_past (d ∷ front) own back j = let e : suc (length front) + suc j ≡ suc (length front + suc j) = omega arith in rw e (drop_past front own back j)
 
-take_drop : (j : ℕ) (xs : List (List ℕ)) → take j xs ++ drop j xs ≡ xs
+pub take_drop : (j : ℕ) (xs : List (List ℕ)) → take j xs ++ drop j xs ≡ xs
 take_drop zero xs = refl
 take_drop (suc j) [] = refl
 take_drop (suc j) (x ∷ xs) = ap (λ ys. x ∷ ys) (take_drop j xs)

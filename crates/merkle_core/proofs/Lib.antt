@@ -4,3 +4,7 @@ pub mod Rebuilds
 pub mod Walks
 pub mod Folds
 pub mod Reconstructs
+pub mod Siblings
+pub mod Splits
+pub mod Bags
+pub mod Accepted

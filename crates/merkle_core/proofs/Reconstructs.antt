@@ -115,9 +115,9 @@ back_part : {A : Type 0} (xs ys : List A) (n : ℕ) → length xs ≡ n → drop
 back_part xs ys n is = ap (λ k. drop k (xs ++ ys)) (sym is) ∙ drop_front xs ys
 
 pub enough_parts : (hashing : Hashing) (hash : Hash) (bagging : Bagging) (rule : Rule) (leaf_total inactive location : ℕ) (element : List ℕ) (digests front back path : List (List ℕ)) (before first at high behind : ℕ)
-    → IsPeakOver rule (placed (forest_of rule leaf_total)) location before first at high behind → leaf_total ≤ 2 ^ 62 → inactive ≤ before + 1 + behind
+    (it : IsPeakOver rule (placed (forest_of rule leaf_total)) location before first at high behind) → leaf_total ≤ 2 ^ 62 → inactive ≤ before + 1 + behind
     → digests ≡ front ++ (back ++ path) → length front ≡ digests_before bagging inactive before → length back ≡ digests_behind bagging inactive before behind
-    → (own : Option (List ℕ)) → ((node : Tree) → IsTreeAt rule first at high node → own ≡ rebuilt hashing location element first node path)
+    → (own : Option (List ℕ)) → own ≡ rebuilt hashing location element first it.node path
     → option_map (λ own. root_around hash bagging leaf_total inactive before front own back) own ≡ reconstructed hashing hash bagging rule leaf_total inactive location element digests
 enough_parts hashing hash bagging rule leaf_total inactive location element digests front back path before first at high behind it few some split fronts backs own is =
     let whole = of_parts hashing hash bagging rule leaf_total inactive location element (front ++ (back ++ path)) before first at high behind it few some in
@@ -127,7 +127,7 @@ enough_parts hashing hash bagging rule leaf_total inactive location element dige
     let rest : drop (digests_before bagging inactive before) (front ++ (back ++ path)) ≡ back ++ path = back_part front (back ++ path) _ fronts in
     let two : take (digests_behind bagging inactive before behind) (back ++ path) ≡ back = front_part back path _ backs in
     let three : drop (digests_behind bagging inactive before behind) (back ++ path) ≡ path = back_part back path _ backs in
-    rw split (sym (whole ∙ rw (enough, one, rest, two, three, is it.node it.tree) refl))
+    rw split (sym (whole ∙ rw (enough, one, rest, two, three, is) refl))
 
 -- the same of the code's digests
 pub of_code : {D : Type 0} (spelling : D → List ℕ) (hashing : Hashing) (hash : Hash) (bagging : Bagging) (rule : Rule) (leaf_total inactive location : ℕ) (element : List ℕ) (digests front back path : List D) (before first at high behind : ℕ)
@@ -139,4 +139,4 @@ pub of_code : {D : Type 0} (spelling : D → List ℕ) (hashing : Hashing) (hash
 of_code spelling hashing hash bagging rule leaf_total inactive location element digests front back path before first at high behind it few some split fronts backs own is =
     enough_parts hashing hash bagging rule leaf_total inactive location element (map spelling digests) (map spelling front) (map spelling back) (map spelling path) before first at high behind it few some
     (ap (map spelling) split ∙ map-append spelling front (back ++ path) ∙ ap (λ rest. map spelling front ++ rest) (map-append spelling back path))
-    (length-map front spelling ∙ fronts) (length-map back spelling ∙ backs) own is
+    (length-map front spelling ∙ fronts) (length-map back spelling ∙ backs) own (is it.node it.tree)

@@ -15,7 +15,7 @@ use Rattle.merkle_core.specs.Walked.{IsPeakFrom}
 abbrev pub AllFrom : ℕ → List Placed → Type 0
 AllFrom first peaks = AllByRecursion (λ peak. first ≤ peak.0) peaks
 
-all_from-append : (first : ℕ) (front back : List Placed) → AllFrom first front → AllFrom first back → AllFrom first (front ++ back)
+pub all_from-append : (first : ℕ) (front back : List Placed) → AllFrom first front → AllFrom first back → AllFrom first (front ++ back)
 all_from-append first [] back f b = b
 all_from-append first (p ∷ front) back f b = (f.0, all_from-append first front back f.1 b)
 

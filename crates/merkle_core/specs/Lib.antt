@@ -4,3 +4,4 @@ pub mod RangesCode
 pub mod Rebuilt
 pub mod Reconstructed
 pub mod Walked
+pub mod Followed
