@@ -6,8 +6,11 @@ pub mod ForestLaws
 pub mod Hashing
 pub mod ListLaws
 pub mod Lists
+pub mod Maximal
+pub mod MaximalLaws
 pub mod Mmr
 pub mod MmrBirths
+pub mod MmrCounts
 pub mod MmrLaws
 pub mod MmrNodes
 pub mod NodeLaws

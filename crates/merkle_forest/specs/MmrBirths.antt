@@ -1,15 +1,15 @@
 -- When the nodes of a Merkle Mountain Range are born.
-use Rattle.std.proofs.Common.{◌≡◌, ℕ, zero, suc, ◌+◌, ◌-◌, ◌*◌, ◌^◌, ◌<◌, ◌≤◌, inl, inr, List, [], ◌∷◌, refl, sym, ◌∙◌, ap, subst, arith, pow-suc, mul_assoc, mul-le-mul_right}
+use Rattle.std.proofs.Common.{◌≡◌, ℕ, zero, suc, ◌+◌, ◌-◌, ◌*◌, ◌^◌, ◌%◌, ◌<◌, ◌≤◌, inl, inr, List, [], ◌∷◌, refl, sym, ◌∙◌, ap, subst, arith, pow-suc, mul_assoc, mul-le-mul_right}
 use Rattle.std.proofs.lemmas.Bool.{cases_lt}
-use Rattle.std.proofs.lemmas.Nat.{pow_pos, pow-add}
+use Rattle.std.proofs.lemmas.Nat.{pow_pos, pow-add, shl_whole}
 use Rattle.merkle_forest.specs.Forest.{Tree, leaf, branch, position, height, leaf_count, size, leaves, forest_of, mmr_rule}
 use Rattle.merkle_forest.specs.ForestLaws.{mmr_merges_equals}
-use Rattle.merkle_forest.specs.ForestGrowth.{leaves-forest_of}
-use Rattle.merkle_forest.specs.Nodes.{IsWithin, IsNodeAt, HasNode, IsBirth, IsPlaceOfNode, IsLeftmostLeaf}
-use Rattle.merkle_forest.specs.NodeLaws.{node-leaves}
-use Rattle.merkle_forest.specs.Mmr.{leaf_place, root_place, mmr_tree, IsRange}
+use Rattle.merkle_forest.specs.ForestGrowth.{leaves-forest_of, size-le}
+use Rattle.merkle_forest.specs.Nodes.{IsWithin, IsNodeAt, HasNode, StandsAt, IsBirth, IsPlaceOfNode, IsFirstLeaf}
+use Rattle.merkle_forest.specs.NodeLaws.{node-leaves, node-low}
+use Rattle.merkle_forest.specs.Mmr.{root_place, mmr_tree, IsRange}
 use Rattle.merkle_forest.specs.MmrLaws.{height-mmr_tree, leaf_count-mmr_tree, ones-range, forest_of-range, size-mmr}
-use Rattle.merkle_forest.specs.MmrNodes.{pow_order, left_half, right_half, node_position-mmr}
+use Rattle.merkle_forest.specs.MmrNodes.{pow_order, left_half, right_half, height-node, node-mmr, node_position-mmr}
 
 -- of two multiples of a number, the lesser is less by that number or more
 apart : (m a b : ℕ) → a * m < b * m → a * m + m ≤ b * m
@@ -97,8 +97,33 @@ birth-mmr c h first is n = (
 pub place-mmr : (first h : ℕ) → IsPlaceOfNode mmr_rule first h (root_place first h)
 place-mmr first h n node few stands high = ap (root_place first) high ∙ sym (node_position-mmr n first node stands)
 
--- and that of its first leaf
-pub leftmost-mmr : (p h at : ℕ) → p ≡ at + (2 ^ suc h - 2) → IsLeftmostLeaf mmr_rule p h at
-leftmost-mmr p h at is n first node few stands place high =
-    let root : position node ≡ root_place first h = node_position-mmr n first node stands ∙ ap (root_place first) (sym high) in
-    omega (arith, is, place, root, size-mmr first)
+-- the first leaf below it
+pub first_leaf-mmr : (p h at first : ℕ) → p ≡ at + (2 ^ suc h - 2) → size (forest_of mmr_rule first) ≤ at → ((n : ℕ) → n ≤ 2 ^ 62 → size (forest_of mmr_rule n) ≤ at → n ≤ first)
+    → IsFirstLeaf mmr_rule p h first
+first_leaf-mmr p h at first is fits greatest n start node few stands place high =
+    let root : position node ≡ root_place start h = node_position-mmr n start node stands ∙ ap (root_place start) (sym high) in
+    let there : size (forest_of mmr_rule start) ≡ at = omega (arith, is, place, root, size-mmr start) in
+    let low : start + 2 ^ height node ≤ n = (node-leaves mmr_rule mmr_merges_equals n start node stands).1 in
+    let up_to : start ≤ first = greatest start (omega (arith, low, few)) (omega (arith, there)) in
+    let down_to : first ≤ start = size-le mmr_rule mmr_merges_equals first start (omega (arith, fits, there)) in
+    omega (arith, up_to, down_to)
+
+-- a node begins at a multiple of its leaf count
+pub aligned-mmr : (n first : ℕ) (node : Tree) → IsNodeAt first node (forest_of mmr_rule n) → (chunk : ℕ) × (first ≡ chunk * 2 ^ height node)
+aligned-mmr n first node stands =
+    let it = node-mmr 0 first node (forest_of mmr_rule n) (forest_of-range n) stands in
+    (it.times, it.aligned ∙ ap (λ h. it.times * 2 ^ h) (sym (height-node first node it)))
+
+pub birth-chunk_mmr : (chunk h : ℕ) → IsBirth mmr_rule (chunk * 2 ^ h) h (chunk * 2 ^ h + 2 ^ h)
+birth-chunk_mmr chunk h = birth-mmr chunk h (chunk * 2 ^ h) refl
+
+pub apart-mmr : (first h : ℕ) → first + 2 ^ h ≡ first + (0 + 2 ^ h)
+apart-mmr first h = omega arith
+
+-- its position leaves room for the nodes behind its first leaf
+pub room-mmr : (p h : ℕ) → StandsAt mmr_rule p h → (h < 64) × (2 * 2 ^ h % 2 ^ 64 ≡ 2 ^ suc h) × (2 ≤ 2 ^ suc h) × (2 ^ suc h - 2 ≤ p)
+room-mmr p h it =
+    let low = (node-low mmr_rule mmr_merges_equals it.0 it.2.0 h it.2.1 it.1 it.2.2 it.2.4).1 in
+    let double : 2 ^ suc h ≡ 2 ^ h * 2 = pow-suc 2 h in
+    let root : position it.2.1 ≡ root_place it.2.0 h = node_position-mmr it.0 it.2.0 it.2.1 it.2.2 ∙ ap (root_place it.2.0) (sym it.2.4) in
+    (omega (arith, low), omega (arith, shl_whole 2 2 h 64 (omega arith) (omega (arith, low)), double), omega (arith, double, pow_pos h), omega (arith, it.2.3, root))

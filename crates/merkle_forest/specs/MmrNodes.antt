@@ -31,7 +31,7 @@ left_half k a = let wide : a * 2 ^ suc k ≡ a * (2 ^ k * 2) = ap (λ n. a * n) 
 pub right_half : (k a : ℕ) → (2 * a + 1) * 2 ^ k ≡ a * 2 ^ suc k + 2 ^ k
 right_half k a = omega (arith, left_half k a)
 
-pow_le : (a b : ℕ) → a ≤ b → 2 ^ a ≤ 2 ^ b
+pub pow_le : (a b : ℕ) → a ≤ b → 2 ^ a ≤ 2 ^ b
 pow_le a b le = pow-le-pow_right {n = 2} (omega arith) le
 
 -- 2 ^ a is below 2 ^ suc b where a is at most b, and there alone

@@ -1,5 +1,5 @@
 -- Where the nodes of a forest stand. A node's place is the location of the first leaf below it.
-use Rattle.std.specs.Prelude.{◌≡◌, ℕ, suc, ◌+◌, ◌≤◌, ◌^◌, ◌⊎◌, ◌↔◌, List, [], ◌∷◌}
+use Rattle.std.specs.Prelude.{◌≡◌, ◌==◌, ℕ, suc, ◌+◌, ◌≤◌, ◌^◌, ◌⊎◌, ◌↔◌, if◌then◌else◌, List, [], ◌∷◌}
 use Rattle.merkle_forest.specs.Forest.{Tree, leaf, branch, position, height, leaf_count, size, leaves, Rule, forest_of}
 
 -- a tree whose first leaf has the location `first` is the tree that starts at `start`, or stands below its root
@@ -62,10 +62,28 @@ IsPlaceOfNode rule first h p = (n : ℕ) (node : Tree) → n ≤ 2 ^ 62 → IsNo
 abbrev pub IsBirth : Rule → ℕ → ℕ → ℕ → Type 0
 IsBirth rule first h birth = (n : ℕ) → (HasNode (forest_of rule n) first h ↔ (birth ≤ n))
 
--- a forest of the rule has a node of height h at position p
-abbrev pub StandsAt : Rule → ℕ → ℕ → Type 0
-StandsAt rule p h = (n : ℕ) × (n ≤ 2 ^ 62) × ((first : ℕ) × (node : Tree) × IsNodeAt first node (forest_of rule n) × (p ≡ position node) × (h ≡ height node))
+-- a node of height h at position p
+abbrev pub HasNodeAtPlace : List Tree → ℕ → ℕ → Type 0
+HasNodeAtPlace peaks p h = (first : ℕ) × (node : Tree) × IsNodeAt first node peaks × (p ≡ position node) × (h ≡ height node)
 
--- the leaf at this position is the first below the node of height h at position p
-abbrev pub IsLeftmostLeaf : Rule → ℕ → ℕ → ℕ → Type 0
-IsLeftmostLeaf rule p h at = (n first : ℕ) (node : Tree) → n ≤ 2 ^ 62 → IsNodeAt first node (forest_of rule n) → p ≡ position node → h ≡ height node → at ≡ size (forest_of rule first)
+-- a forest of the rule has such a node
+abbrev pub StandsAt : Rule → ℕ → ℕ → Type 0
+StandsAt rule p h = (n : ℕ) × (n ≤ 2 ^ 62) × HasNodeAtPlace (forest_of rule n) p h
+
+-- the forests that have such a node are those of so many leaves or more
+abbrev pub IsBirthAt : Rule → ℕ → ℕ → ℕ → Type 0
+IsBirthAt rule p h birth = (n : ℕ) → n ≤ 2 ^ 62 → (HasNodeAtPlace (forest_of rule n) p h ↔ (birth ≤ n))
+
+-- the first leaf below the node of height h at position p has this location
+abbrev pub IsFirstLeaf : Rule → ℕ → ℕ → ℕ → Type 0
+IsFirstLeaf rule p h location = (n first : ℕ) (node : Tree) → n ≤ 2 ^ 62 → IsNodeAt first node (forest_of rule n) → p ≡ position node → h ≡ height node → location ≡ first
+
+-- how many nodes of a height a tree has
+abbrev pub nodes_at : ℕ → Tree → ℕ
+nodes_at level (leaf p) = if level == 0 then 1 else 0
+nodes_at level (branch p left right) = if height (branch p left right) == level then 1 else nodes_at level left + nodes_at level right
+
+-- how many nodes of a height a forest has
+abbrev pub nodes_of_height : ℕ → List Tree → ℕ
+nodes_of_height level [] = 0
+nodes_of_height level (peak ∷ peaks) = nodes_at level peak + nodes_of_height level peaks

@@ -2,6 +2,7 @@
 #![tactic(auto)]
 
 pub mod bagging;
+pub mod chunk_peaks;
 pub mod codec;
 pub mod digest;
 pub mod family;

@@ -4,9 +4,14 @@ ghost use Rattle.std.specs.Prelude.{◌≡◌, ◌≤◌, ◌+◌, ◌*◌, ◌-
 ghost use Rattle.merkle_forest.specs.Forest.{mmr_rule, size, forest_of};
 ghost use Rattle.merkle_forest.specs.ForestLaws.{mmr_merges_equals};
 ghost use Rattle.merkle_forest.specs.Mmr.{root_place};
+ghost use Rattle.merkle_forest.specs.MmrNodes.{node_position-mmr};
+ghost use Rattle.merkle_forest.specs.MmrBirths.{aligned-mmr, birth-chunk_mmr, apart-mmr};
+ghost use Rattle.merkle_forest.specs.MmrCounts.{counted-mmr};
 
 use crate::family;
+use crate::graftable::Graftable;
 use crate::peaks::Peaks;
+use crate::sizes::greatest_leaf_count;
 
 // The position of the root over 2^height leaves of which the first has this location, a multiple of 2^height.
 fn root_position(first: u64, height: u32) -> u64
@@ -46,6 +51,35 @@ impl family::Family for Family {
     }
 
     ghost merges_equals = { mmr_merges_equals };
+}
+
+impl Graftable for Family {
+    ghost birth_of = { λ first height. first + 2 ^ height };
+
+    ghost root_of = { root_place };
+
+    fn birth(first: u64, height: u32) -> u64 {
+        first + (1u64 << height)
+    }
+
+    fn subtree_root(first: u64, height: u32) -> u64 {
+        root_position(first, height)
+    }
+
+    fn first_leaf(position: u64, height: u32) -> u64 {
+        let nodes_behind = (2u64 << height) - 2;
+        greatest_leaf_count::<Family>(position - nodes_behind)
+    }
+
+    ghost aligned = { aligned-mmr };
+
+    ghost roots = { node_position-mmr };
+
+    ghost births = { birth-chunk_mmr };
+
+    ghost births_apart = { apart-mmr };
+
+    ghost births_counted = { counted-mmr };
 }
 
 /// The position of the leaf behind n leaves is 2n less the number of ones among n's binary digits.

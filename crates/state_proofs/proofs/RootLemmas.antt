@@ -7,9 +7,10 @@ use Rattle.merkle_forest.specs.declared.bagging.Bagging.{Bagging}
 use Rattle.merkle_forest.specs.declared.bagging.Bagging.TheVariants.{BackwardFold}
 use Rattle.merkle_forest.specs.Forest.{Tree}
 use Rattle.merkle_forest.specs.Hashing.{Hash, root_of}
+use Rattle.merkle_forest.specs.Nodes.{nodes_of_height}
 use Rattle.merkle_forest.specs.Trees.{Placed, placed, plain_digest, peak_digests, inactive_peaks, tree_root}
 use Rattle.state_proofs.specs.Canonical.{Setting, State, chunk_bits, chunks, operations_root, grafted_root, grafted_digests, grafted_inactive, forest, full_chunks, next_bit, pending_digest, partial_digest}
-use Rattle.state_proofs.specs.Grafting.{grafted_digest, graftable_chunks, chunk_aligned_inactive_peaks}
+use Rattle.state_proofs.specs.Grafting.{grafted_digest, chunk_aligned_inactive_peaks}
 
 -- a root of the operations' tree, from what the code computes
 pub is_operations_root : (setting : Setting) (state : State) (bagging : Bagging) (n inactive : ℕ) (trees : List Tree) (found : List Placed) (digests : List (List ℕ)) (root : List ℕ)
@@ -51,11 +52,11 @@ unfolding chunks
 length-chunks setting state = length-chunks_of setting.width (full_chunks setting state + (if next_bit setting state == 0 then 0 else 1)) state.bits
 
 -- a full chunk that isn't graftable yet is the pending one
-pub is_pending_digest : (setting : Setting) (state : State) (graftable : ℕ) (digest : Option (List ℕ)) → graftable ≡ graftable_chunks setting.grafting_height (forest setting state) → graftable < full_chunks setting state
+pub is_pending_digest : (setting : Setting) (state : State) (graftable : ℕ) (digest : Option (List ℕ)) → graftable ≡ nodes_of_height setting.grafting_height (forest setting state) → graftable < full_chunks setting state
     → digest ≡ Some (setting.hash (slice_index_or (chunks setting state) graftable [])) → digest ≡ pending_digest setting state
 unfolding pending_digest
 is_pending_digest setting state graftable digest counts lt is =
-    let less : ltb (graftable_chunks setting.grafting_height (forest setting state)) (full_chunks setting state) ≡ true = rw (← counts) (lt-ltb graftable (full_chunks setting state) lt) in
+    let less : ltb (nodes_of_height setting.grafting_height (forest setting state)) (full_chunks setting state) ≡ true = rw (← counts) (lt-ltb graftable (full_chunks setting state) lt) in
     is ∙ rw (less, counts) refl
 
 -- what is left over of a chunk is the partial one

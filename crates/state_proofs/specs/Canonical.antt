@@ -3,9 +3,10 @@ use Rattle.std.specs.Prelude.{ℕ, ◌+◌, ◌*◌, ◌/◌, ◌%◌, ◌==◌,
 use Rattle.merkle_forest.specs.declared.bagging.Bagging.TheVariants.{BackwardFold}
 use Rattle.merkle_forest.specs.Forest.{Tree, Rule, forest_of}
 use Rattle.merkle_forest.specs.Hashing.{Hash, number, root_of}
+use Rattle.merkle_forest.specs.Nodes.{nodes_of_height}
 use Rattle.merkle_forest.specs.Trees.{Placed, placed, peak_digests, inactive_peaks, tree_root}
 use Rattle.state_proofs.specs.Bits.{chunks_of}
-use Rattle.state_proofs.specs.Grafting.{grafted_digest, graftable_chunks, chunk_aligned_inactive_peaks}
+use Rattle.state_proofs.specs.Grafting.{grafted_digest, chunk_aligned_inactive_peaks}
 
 -- how a tree grows, how strings are hashed, and how many bytes a chunk has: 8 times that is 2 to the grafting height
 pub record Setting : Type 0 where
@@ -64,7 +65,7 @@ grafted_root setting state =
 -- the digest of the full chunk that isn't graftable yet, if there is one
 unfoldable pub pending_digest : Setting → State → Option (List ℕ)
 pending_digest setting state =
-    let graftable = graftable_chunks setting.grafting_height (forest setting state) in
+    let graftable = nodes_of_height setting.grafting_height (forest setting state) in
     if nat_lt graftable (full_chunks setting state) then Some (setting.hash (chunk setting state graftable)) else None
 
 -- the digest of the partial chunk, if there is one

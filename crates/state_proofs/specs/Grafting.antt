@@ -17,16 +17,6 @@ grafted_digest hash grafting_height bits chunks elements start (branch p left ri
     (grafted_digest hash grafting_height bits chunks elements (start + leaf_count left) right)) in
     if height (branch p left right) == grafting_height then grafted hash (slice_index_or chunks (start / bits) []) own else own
 
--- how many nodes of that height a tree has
-abbrev pub nodes_at : ℕ → Tree → ℕ
-nodes_at level (leaf p) = if level == 0 then 1 else 0
-nodes_at level (branch p left right) = if height (branch p left right) == level then 1 else nodes_at level left + nodes_at level right
-
--- how many chunks are graftable: each node of the grafting height is over one
-abbrev pub graftable_chunks : ℕ → List Tree → ℕ
-graftable_chunks grafting_height [] = 0
-graftable_chunks grafting_height (peak ∷ peaks) = nodes_at grafting_height peak + graftable_chunks grafting_height peaks
-
 -- the count, where a later count is none: the peaks so far end at a chunk's border or not
 abbrev pub counted : ℕ → ℕ → Placed → ℕ
 counted bits zero peak = if end_of peak % bits == 0 then 1 else 0

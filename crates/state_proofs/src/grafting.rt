@@ -2,10 +2,11 @@
 
 ghost use Rattle.std.specs.Prelude.{◌≡◌, ◌<◌, ◌≤◌, ◌+◌, ◌*◌, ◌/◌, ◌^◌, ◌++◌, [], ◌∷◌, ℕ, List, map, length, IfOk, OnOk, slice_index_or};
 ghost use Rattle.merkle_forest.specs.Forest.{leaf_count, leaves};
+ghost use Rattle.merkle_forest.specs.Nodes.{nodes_at, nodes_of_height};
 ghost use Rattle.merkle_forest.specs.Shape.{shape};
 ghost use Rattle.merkle_forest.specs.Trees.{Within};
 ghost use Rattle.merkle_forest.specs.TreesCode.{shapes};
-ghost use Rattle.state_proofs.specs.Grafting.{grafted, grafted_digest, nodes_at, graftable_chunks, chunk_aligned_inactive_peaks};
+ghost use Rattle.state_proofs.specs.Grafting.{grafted, grafted_digest, chunk_aligned_inactive_peaks};
 
 use crate::bits::is_zero_chunk;
 use merkle_forest::Digest;
@@ -103,7 +104,7 @@ fn nodes_of_height(level: u64, tree: &Tree) -> usize
 /// How many chunks are graftable: each node of the grafting height is over one.
 pub fn graftable_count(grafting_height: u64, peaks: &[Tree]) -> usize
     requires { leaves (map shape peaks.now) < 2 ^ 64 }
-    ensures count { result ≡ graftable_chunks grafting_height (map shape peaks.now) }
+    ensures count { result ≡ nodes_of_height grafting_height (map shape peaks.now) }
     ensures few { result ≤ leaves (map shape peaks.now) }
 {
     match peaks {

@@ -78,7 +78,7 @@ pub fn graftable_chunks_of<F: Graftable>(leaves: u64, grafting_height: u32) -> u
     requires low { grafting_height ≤ 62 }
     ensures { result ≡ (if nat_lt leaves (F.birth_of 0 grafting_height) then 0 else (leaves - F.birth_of 0 grafting_height) / 2 ^ grafting_height + 1) }
 {
-    let birth = F::peak_birth_size(0, grafting_height);
+    let birth = F::birth(0, grafting_height);
     if leaves < birth {
         return 0;
     }

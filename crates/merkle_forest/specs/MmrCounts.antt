@@ -1,0 +1,77 @@
+-- How many nodes of a height a Merkle Mountain Range has.
+use Rattle.std.proofs.Common.{◌≡◌, ℕ, zero, suc, ◌+◌, ◌-◌, ◌*◌, ◌/◌, ◌^◌, ◌<◌, ◌≤◌, cond, ltb, inl, inr, List, [], ◌∷◌, refl, sym, ◌∙◌, ap, arith, pow-suc, add-mul}
+use Rattle.std.proofs.lemmas.Bool.{cases_lt, eq-eqb, ne_eqb, lt-ltb, le-ltb, cond-true, cond-false}
+use Rattle.std.proofs.lemmas.Nat.{pow_pos, pow-add, div-mul-add}
+use Rattle.merkle_forest.specs.Forest.{Tree, height, leaf_count, size, leaves, forest_of, mmr_rule}
+use Rattle.merkle_forest.specs.ForestLaws.{mmr_merges_equals}
+use Rattle.merkle_forest.specs.ForestGrowth.{leaves-forest_of}
+use Rattle.merkle_forest.specs.Nodes.{nodes_at, nodes_of_height}
+use Rattle.merkle_forest.specs.Mmr.{mmr_tree, IsRange}
+use Rattle.merkle_forest.specs.MmrLaws.{height-mmr_tree, leaf_count-mmr_tree, forest_of-range}
+use Rattle.merkle_forest.specs.MmrNodes.{pow_le}
+
+-- a tree has no node higher than itself
+none_above : (level k at : ℕ) → k < level → nodes_at level (mmr_tree k at) ≡ 0
+unfolding mmr_tree
+none_above level zero at lt = cond-false _ 1 0 (ne_eqb level 0 (λ same. omega arith))
+none_above level (suc k) at lt =
+    let high : height (mmr_tree k at) ≡ k = height-mmr_tree k at in
+    cond-false _ 1 (nodes_at level (mmr_tree k at) + nodes_at level (mmr_tree k (at + (2 ^ suc k - 1)))) (ne_eqb (suc (height (mmr_tree k at))) level (λ same. omega (arith, high)))
+    ∙ omega (arith, none_above level k at (omega arith), none_above level k (at + (2 ^ suc k - 1)) (omega arith))
+
+one_at_top : (k at : ℕ) → nodes_at k (mmr_tree k at) ≡ 1
+unfolding mmr_tree
+one_at_top zero at = refl
+one_at_top (suc k) at =
+    cond-true _ 1 (nodes_at (suc k) (mmr_tree k at) + nodes_at (suc k) (mmr_tree k (at + (2 ^ suc k - 1)))) (eq-eqb (suc (height (mmr_tree k at))) (suc k) (ap (λ n. suc n) (height-mmr_tree k at)))
+
+-- and each level below has twice as many as the one above it
+halves : (level j k at : ℕ) → k ≡ j + level → nodes_at level (mmr_tree k at) ≡ 2 ^ j
+unfolding mmr_tree
+halves level zero k at is = let same : k ≡ level = omega (arith, is) in ap (λ n. nodes_at level (mmr_tree n at)) same ∙ one_at_top level at
+halves level (suc j) zero at is = absurd (omega (arith, is))
+halves level (suc j) (suc k) at is =
+    let high : height (mmr_tree k at) ≡ k = height-mmr_tree k at in
+    cond-false _ 1 (nodes_at level (mmr_tree k at) + nodes_at level (mmr_tree k (at + (2 ^ suc k - 1)))) (ne_eqb (suc (height (mmr_tree k at))) level (λ same. omega (arith, high, is)))
+    ∙ omega (arith, pow-suc 2 j, halves level j k at (omega (arith, is)), halves level j k (at + (2 ^ suc k - 1)) (omega (arith, is)))
+
+-- the leaves below the nodes of a height are all leaves but the last few, fewer than such a node has
+pub count-bounds : (level b e : ℕ) (peaks : List Tree) → IsRange b peaks → e ≤ b → e ≤ level
+    → (nodes_of_height level peaks * 2 ^ level ≤ leaves peaks) × (leaves peaks + 2 ^ e ≤ suc (nodes_of_height level peaks) * 2 ^ level)
+count-bounds level b e [] range low under = (omega arith, omega (arith, pow_le e level under))
+count-bounds level b e (t ∷ ts) range low under =
+    let k : ℕ = height t in
+    let mine : leaf_count t ≡ 2 ^ k = ap leaf_count range.1 ∙ leaf_count-mmr_tree k (size ts) in
+    let least : 2 ^ e ≤ 2 ^ k = pow_le e k (omega (arith, low, range.0)) in
+    elim (cases_lt k level) [
+      | inl above ↦ (
+          let none : nodes_at level t ≡ 0 = ap (nodes_at level) range.1 ∙ none_above level k (size ts) above in
+          let same : (nodes_at level t + nodes_of_height level ts) * 2 ^ level ≡ nodes_of_height level ts * 2 ^ level = ap (λ n. n * 2 ^ level) (omega (arith, none)) in
+          let rest = count-bounds level (suc k) (suc k) ts range.2 (omega arith) above in
+          (omega (arith, same, rest.0), omega (arith, same, rest.1, mine, least, pow-suc 2 k)))
+      | inr below ↦ (
+          let some : nodes_at level t ≡ 2 ^ (k - level) = ap (nodes_at level) range.1 ∙ halves level (k - level) k (size ts) (omega (arith, below)) in
+          let whole : 2 ^ k ≡ 2 ^ (k - level) * 2 ^ level = ap (λ n. 2 ^ n) (omega (arith, below)) ∙ pow-add 2 (k - level) level in
+          let split : (nodes_at level t + nodes_of_height level ts) * 2 ^ level ≡ 2 ^ (k - level) * 2 ^ level + nodes_of_height level ts * 2 ^ level =
+          add-mul (nodes_at level t) (nodes_of_height level ts) (2 ^ level) ∙ ap (λ n. n * 2 ^ level + nodes_of_height level ts * 2 ^ level) some in
+          let rest = count-bounds level (suc k) level ts range.2 (omega (arith, below)) (omega arith) in
+          (omega (arith, split, whole, mine, rest.0), omega (arith, split, whole, mine, rest.1, pow_le e level under)))
+    ]
+
+-- the count between these bounds
+counted : (d n count : ℕ) → 0 < d → count * d ≤ n → n < suc count * d → count ≡ cond (ltb n (0 + d)) 0 ((n - (0 + d)) / d + 1)
+counted d n zero some low high = sym (cond-true _ 0 ((n - (0 + d)) / d + 1) (lt-ltb n (0 + d) (omega (arith, high))))
+counted d n (suc count) some low high =
+    let rest : n - (0 + d) ≡ count * d + (n - (d + count * d)) = omega (arith, low) in
+    let quotient : (n - (0 + d)) / d ≡ count = ap (λ m. m / d) rest ∙ div-mul-add count d (n - (d + count * d)) (omega (arith, low, high)) in
+    omega (arith, quotient) ∙ sym (cond-false _ 0 ((n - (0 + d)) / d + 1) (le-ltb n (0 + d) (omega (arith, low))))
+
+-- so many nodes of a height stand in the forest of n leaves
+pub count-mmr : (n level : ℕ) → nodes_of_height level (forest_of mmr_rule n) ≡ cond (ltb n (0 + 2 ^ level)) 0 ((n - (0 + 2 ^ level)) / 2 ^ level + 1)
+count-mmr n level =
+    let it = count-bounds level 0 0 (forest_of mmr_rule n) (forest_of-range n) (omega arith) (omega arith) in
+    let all : leaves (forest_of mmr_rule n) ≡ n = leaves-forest_of mmr_rule mmr_merges_equals n in
+    counted (2 ^ level) n (nodes_of_height level (forest_of mmr_rule n)) (pow_pos level) (omega (arith, it.0, all)) (omega (arith, it.1, all))
+
+pub counted-mmr : (n level : ℕ) → n ≤ 2 ^ 62 → 0 < level → level ≤ 62 → nodes_of_height level (forest_of mmr_rule n) ≡ cond (ltb n (0 + 2 ^ level)) 0 ((n - (0 + 2 ^ level)) / 2 ^ level + 1)
+counted-mmr n level few some low = count-mmr n level
