@@ -75,3 +75,6 @@ count-mmr n level =
 
 pub counted-mmr : (n level : ℕ) → n ≤ 2 ^ 62 → 0 < level → level ≤ 62 → nodes_of_height level (forest_of mmr_rule n) ≡ cond (ltb n (0 + 2 ^ level)) 0 ((n - (0 + 2 ^ level)) / 2 ^ level + 1)
 counted-mmr n level few some low = count-mmr n level
+
+pub soon-mmr : (level : ℕ) → 0 + 2 ^ level ≤ 2 * 2 ^ level
+soon-mmr level = omega arith

@@ -49,6 +49,10 @@ pub trait Graftable: Family {
     /// A node is born as long after its first leaf as the first node of its height is after the start.
     ghost births_apart: { (first height : ℕ) → birth_of first height ≡ first + birth_of 0 height };
 
+    /// The first node of a height is born by the time that as many leaves again as its own are there: so at most one full chunk
+    /// of leaves has no node yet.
+    ghost births_soon: { (height : ℕ) → birth_of 0 height ≤ 2 * 2 ^ height };
+
     /// How many nodes of a height a forest has.
     ghost births_counted: { (leaves height : ℕ) → leaves ≤ 2 ^ 62 → 0 < height → height ≤ 62 → nodes_of_height height (forest_of Self.merge_rule leaves) ≡ (if nat_lt leaves (birth_of 0 height) then 0 else (leaves - birth_of 0 height) / 2 ^ height + 1) };
 
