@@ -1,3 +1,4 @@
 pub mod BitLemmas
 pub mod RootLemmas
 pub mod HonestLemmas
+pub mod HeightLemmas
