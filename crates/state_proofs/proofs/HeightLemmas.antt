@@ -1,5 +1,5 @@
 -- The grafting height of a chunk.
-use Rattle.std.proofs.Common.{◌≡◌, ℕ, suc, ◌+◌, ◌-◌, ◌*◌, ◌^◌, ◌<◌, ◌≤◌, inl, inr, List, Some, refl, sym, ◌∙◌, ap, subst, arith}
+use Rattle.std.proofs.Common.{◌≡◌, ℕ, zero, suc, ◌+◌, ◌-◌, ◌*◌, ◌^◌, ◌<◌, ◌≤◌, inl, inr, List, Some, sym, ◌∙◌, ap, subst, arith}
 use Rattle.std.proofs.Math.Nat.{pow-le-pow_right}
 use Rattle.std.proofs.lemmas.Nat.{pow_below, pow_pos, pow-add}
 use Rattle.std.proofs.lemmas.Bool.{cases_lt}
@@ -50,3 +50,7 @@ at_height rule hash root proof operation grafting_height whole it =
       subst (λ (h : ℕ). FitsChunks hash (nodes_of_height h (forest_of rule proof.leaves)) proof) same it.fits,
       ap (λ h. reconstructed (grafted_hashing hash h proof.chunk) hash BackwardFold rule proof.leaves proof.inactive proof.location operation proof.digests) (sym same) ∙ it.leads,
     )
+
+pub some_height : (width height : ℕ) → 8 * width ≡ 2 ^ height → 0 < height
+some_height width zero whole = absurd (omega (arith, whole))
+some_height width (suc height) whole = omega arith

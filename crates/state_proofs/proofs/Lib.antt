@@ -2,3 +2,6 @@ pub mod BitLemmas
 pub mod RootLemmas
 pub mod HonestLemmas
 pub mod HeightLemmas
+pub mod ActiveLemmas
+pub mod FollowLemmas
+pub mod Accepted

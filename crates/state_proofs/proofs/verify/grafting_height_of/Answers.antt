@@ -1,4 +1,4 @@
-use Rattle.std.proofs.Common.{◌≡◌, ℕ, ◌<◌, ◌≤◌, ◌+◌, ◌*◌, ◌^◌, ◌∙◌, ap, arith}
+use Rattle.std.proofs.Common.{arith}
 use Rattle.std.proofs.lemmas.Nat.{one_shl}
 use Rattle.state_proofs.proofs.HeightLemmas.{height_of_log, eight_times}
 use Rattle.state_proofs.proofs.verify.grafting_height_of.Goals as goal

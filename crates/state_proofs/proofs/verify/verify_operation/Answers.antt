@@ -1,6 +1,6 @@
-use Rattle.std.proofs.Common.{◌≡◌, ℕ, List, ◌<◌, ◌≤◌, ◌+◌, ◌*◌, ◌%◌, ◌^◌, Option, Some, None, Bool, true, false, refl, sym, ◌∙◌, ap, subst, arith}
+use Rattle.std.proofs.Common.{◌≡◌, ℕ, List, ◌%◌, Option, Some, None, refl, sym, ◌∙◌, ap, arith}
 use Rattle.state_proofs.specs.Canonical.{canonical_string}
-use Rattle.state_proofs.specs.Verified.{Parts, bits_of, Verifies}
+use Rattle.state_proofs.specs.Verified.{Parts, bits_of}
 use Rattle.state_proofs.specs.VerifiedCode.{parts_of}
 use Rattle.state_proofs.proofs.HeightLemmas.{at_height}
 use Rattle.state_proofs.proofs.verify.verify_operation.Goals as goal
