@@ -4,6 +4,7 @@ pub mod Forest
 pub mod ForestGrowth
 pub mod ForestLaws
 pub mod Hashing
+pub mod HashLaws
 pub mod ListLaws
 pub mod Lists
 pub mod Maximal
