@@ -149,7 +149,7 @@ digested_inactive hash digest BackwardFold location j first node front back low 
       sides = sides_inactive hash (length front + suc j) j (singly digest front) (digest first node) (singly digest back) (omega (arith, length-map front f)) (omega (arith, length-map back f, le));
     }
 
-digested : (hash : Hash) (digest : Digests) (bagging : Bagging) (location inactive first : ℕ) (node : Tree) (front back : List Placed) → first ≤ location → location < first + leaf_count node → Within location front
+pub digested : (hash : Hash) (digest : Digests) (bagging : Bagging) (location inactive first : ℕ) (node : Tree) (front back : List Placed) → first ≤ location → location < first + leaf_count node → Within location front
     → AllFrom (location + 1) back → inactive ≤ length front + 1 + length back → Digested hash digest bagging location inactive first node front back
 digested hash digest bagging location inactive first node front back low high fronts backs some =
     elim (cases_lt (length front) inactive) [

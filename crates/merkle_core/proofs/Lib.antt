@@ -8,3 +8,4 @@ pub mod Siblings
 pub mod Splits
 pub mod Bags
 pub mod Accepted
+pub mod Short

@@ -25,12 +25,15 @@ pub meets-after : (location at : ℕ) (t : Tree) → location < at → meets loc
 meets-after location at t lt = ap not (or_true (is_before location (at, t)) (is_after (location + 1) (at, t)) (after-yes location (at, t) lt))
 
 -- a tree that does not hold the location is its own sibling
-alone : (digest : Digests) (location at : ℕ) (t : Tree) → meets location (location + 1) (at, t) ≡ false → siblings digest location (location + 1) at t ≡ digest at t ∷ []
+pub alone : (digest : Digests) (location at : ℕ) (t : Tree) → meets location (location + 1) (at, t) ≡ false → siblings digest location (location + 1) at t ≡ digest at t ∷ []
 alone digest location at (leaf p) apart = ap (λ b. cond b [] (digest at (leaf p) ∷ [])) apart
 alone digest location at (branch p left right) apart =
     ap (λ b. cond b (siblings digest location (location + 1) at left ++ siblings digest location (location + 1) (at + leaf_count left) right) (digest at (branch p left right) ∷ [])) apart
 
-siblings-branch : (digest : Digests) (location at p : ℕ) (left right : Tree) → at ≤ location → location < at + leaf_count (branch p left right)
+pub siblings-leaf : (digest : Digests) (location at p : ℕ) → at ≤ location → location < at + 1 → siblings digest location (location + 1) at (leaf p) ≡ []
+siblings-leaf digest location at p le lt = ap (λ b. cond b [] (digest at (leaf p) ∷ [])) (meets-yes location at (leaf p) le lt)
+
+pub siblings-branch : (digest : Digests) (location at p : ℕ) (left right : Tree) → at ≤ location → location < at + leaf_count (branch p left right)
     → siblings digest location (location + 1) at (branch p left right) ≡ siblings digest location (location + 1) at left ++ siblings digest location (location + 1) (at + leaf_count left) right
 siblings-branch digest location at p left right le lt =
     ap (λ b. cond b (siblings digest location (location + 1) at left ++ siblings digest location (location + 1) (at + leaf_count left) right) (digest at (branch p left right) ∷ []))
@@ -39,8 +42,7 @@ siblings-branch digest location at p left right le lt =
 pub rebuilt-siblings : (hashing : Hashing) (digest : Digests) (location : ℕ) (element : List ℕ) (at : ℕ) (t : Tree) → at ≤ location → location < at + leaf_count t → Follows hashing digest location element at t
     → rebuilt hashing location element at t (siblings digest location (location + 1) at t) ≡ Some (digest at t)
 rebuilt-siblings hashing digest location element at (leaf p) le lt follows =
-    let none : siblings digest location (location + 1) at (leaf p) ≡ [] = ap (λ b. cond b [] (digest at (leaf p) ∷ [])) (meets-yes location at (leaf p) le lt) in
-    ap (rebuilt hashing location element at (leaf p)) none ∙ ap (λ d. Some d) (sym follows)
+    ap (rebuilt hashing location element at (leaf p)) (siblings-leaf digest location at p le lt) ∙ ap (λ d. Some d) (sym follows)
 rebuilt-siblings hashing digest location element at (branch p left right) le lt follows =
     let whole = siblings-branch digest location at p left right le lt in
     elim (cases_lt location (at + leaf_count left)) [
