@@ -1,2 +1,11 @@
 pub mod Spellings
 pub mod Places
+pub mod Rebuilds
+pub mod Walks
+pub mod Folds
+pub mod Reconstructs
+pub mod Siblings
+pub mod Splits
+pub mod Bags
+pub mod Accepted
+pub mod Short

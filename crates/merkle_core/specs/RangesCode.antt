@@ -1,5 +1,5 @@
 -- The sides of a range, as the code names them.
-use Rattle.std.specs.Prelude.{ℕ, Bool}
+use Rattle.std.specs.Prelude.{Bool}
 use Rattle.merkle_core.specs.declared.ranges.Side.{Side}
 use Rattle.merkle_core.specs.declared.ranges.Side.TheVariants.{Before, After}
 use Rattle.merkle_forest.specs.Trees.{Placed}

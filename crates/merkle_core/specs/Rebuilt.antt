@@ -1,6 +1,5 @@
 -- The digest that a proof of one element leads to, from the digests of the maximal nodes that do not hold it.
-use Rattle.std.specs.Prelude.{◌≡◌, ℕ, zero, suc, ◌+◌, ◌-◌, ◌^◌, ◌≤◌, ◌<◌, nat_lt, if◌then◌else◌, List, [], ◌∷◌, length, take, Option, None, Some, option_map, slice_get}
-use Rattle.std.specs.Option.{option_map_or}
+use Rattle.std.specs.Prelude.{◌≡◌, ℕ, ◌+◌, ◌-◌, ◌^◌, ◌≤◌, Bool, true, false, nat_lt, if◌then◌else◌, List, [], ◌∷◌, length, take, Option, None, Some, slice_get}
 use Rattle.merkle_forest.specs.Forest.{Tree, leaf, branch, position, height, leaf_count, Rule, forest_of}
 use Rattle.merkle_forest.specs.Hashing.{Hash, fold_string}
 use Rattle.merkle_forest.specs.Nodes.{IsNodeAt}
@@ -45,6 +44,16 @@ pub record IsTreeAt (rule : Rule) (first at high : ℕ) (node : Tree) : Type 0 w
 -- some tree stands at this place
 abbrev pub HasTree : Rule → ℕ → ℕ → ℕ → Type 0
 HasTree rule first at high = (node : Tree) × IsTreeAt rule first at high node
+
+-- the child of the node that holds the location: whether it is the left one, and where it stands
+pub record IsChildOver (rule : Rule) (location first : ℕ) (node : Tree) (is_left : Bool) (begins at high : ℕ) : Type 0 where
+  pub p : ℕ
+  pub left : Tree
+  pub right : Tree
+  pub is : node ≡ branch p left right
+  pub side : is_left ≡ nat_lt location (first + leaf_count left)
+  pub at_left : is_left ≡ true → (begins ≡ first) × IsTreeAt rule begins at high left
+  pub at_right : is_left ≡ false → (begins ≡ first + leaf_count left) × IsTreeAt rule begins at high right
 
 -- digests folded from the right onto a last one
 abbrev pub folded_before : Hash → List (List ℕ) → List ℕ → List ℕ

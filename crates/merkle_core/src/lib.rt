@@ -1,6 +1,7 @@
 //! Merkle proofs of the forest.
 #![tactic(auto)]
 
+pub mod laws;
 pub mod proof;
 pub mod ranges;
 pub mod rebuild;

@@ -2,7 +2,7 @@
 
 ghost use Rattle.std.specs.Prelude.{◌≡◌, ◌<◌, ◌≤◌, ◌+◌, ◌^◌, ℕ, List, map, option_map};
 ghost use Rattle.merkle_forest.specs.Forest.{Tree};
-ghost use Rattle.merkle_core.specs.Rebuilt.{rebuilt, IsTreeAt, HasTree};
+ghost use Rattle.merkle_core.specs.Rebuilt.{rebuilt, IsTreeAt, HasTree, IsChildOver};
 
 use merkle_forest::Digest;
 use merkle_forest::family::Family;
@@ -45,6 +45,8 @@ pub struct Place {
 fn child_over<F: Family>(place: Place, location: u64) -> (bool, Place)
     requires stands { HasTree F.merge_rule place.first place.position place.height }
     requires branch { 0 < place.height }
+    ensures child { (node : Tree) → IsTreeAt F.merge_rule place.first place.position place.height node
+        → IsChildOver F.merge_rule location place.first node result.0 result.1.first result.1.position result.1.height }
     ensures stands { HasTree F.merge_rule result.1.first result.1.position result.1.height }
     ensures lower { result.1.height + 1 ≡ place.height }
 {
@@ -79,6 +81,8 @@ pub fn rebuild<F: Family, H: Hasher<F>, O: Overlay<H::Digest>>(
     digests: &[H::Digest],
 ) -> Option<H::Digest>
     requires { HasTree F.merge_rule place.first place.position place.height }
+    ensures { (node : Tree) → IsTreeAt F.merge_rule place.first place.position place.height node → option_map H.Digest.spelling result
+        ≡ rebuilt (record { leaf_of = H.leaf_of; node_of = H.node_of; over = O.over over.now }) location element.now place.first node (map H.Digest.spelling digests.now) }
 {
     if place.height == 0 {
         return match digests {

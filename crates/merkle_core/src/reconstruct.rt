@@ -1,10 +1,13 @@
 //! A root rebuilt from a proof of one element, by closed formulas.
 
-ghost use Rattle.std.specs.Prelude.{◌≡◌, ◌<◌, ◌≤◌, ◌+◌, ◌-◌, ◌^◌, ℕ, ◌++◌, List, map, length, IfSome, MatchOption};
+ghost use Rattle.std.specs.Prelude.{◌≡◌, ◌<◌, ◌≤◌, ◌+◌, ◌^◌, ◌++◌, ◌∷◌, map, length, MatchOption, option_map, IsTrue, ◌↔◌, ◌⊎◌};
+ghost use Rattle.merkle_forest.specs.declared.bagging.Bagging.TheVariants.{ForwardFold};
+ghost use Rattle.merkle_forest.specs.Hashing.{bagged, items};
 ghost use Rattle.merkle_core.specs.Rebuilt.{folded_before};
+ghost use Rattle.merkle_core.specs.Reconstructed.{digests_before, digests_behind, still_inactive, reconstructed};
 
 use crate::rebuild::{Overlay, rebuild};
-use crate::walk::{PeakOver, peak_over};
+use crate::walk::peak_over;
 use merkle_forest::bagging::Bagging;
 use merkle_forest::family::{Family, MAX_LEAVES};
 use merkle_forest::hasher::Hasher;
@@ -25,41 +28,26 @@ pub struct Claimed<'a, D> {
     pub digests: &'a [D],
 }
 
-/// How the digests beside the peak that holds the element are folded.
-#[derive(Clone, Copy, Debug, PartialEq, Eq)]
-struct Sides {
-    // How many digests stand for the peaks before it.
-    before: u64,
-    // How many digests stand for the peaks behind it.
-    behind: u64,
-    // Whether all of them are folded from the left.
-    from_left: bool,
+// How many digests stand for the peaks before the one that holds the element.
+fn count_before(bagging: Bagging, inactive: u64, before: u64) -> u64
+    ensures { result ≡ digests_before bagging inactive before }
+{
+    match bagging {
+        Bagging::ForwardFold => before.min(1),
+        Bagging::BackwardFold => inactive.min(before).min(1) + before.saturating_sub(inactive),
+    }
 }
 
-// How the digests beside the peak are folded, of so many inactive peaks.
-fn sides_of(bagging: Bagging, inactive: u64, peak: &PeakOver) -> Sides
-    requires { peak.now.before + peak.now.behind < 2 ^ 63 }
+// How many digests stand for the peaks behind it.
+fn count_behind(bagging: Bagging, inactive: u64, before: u64, behind: u64) -> u64
+    requires { before < 2 ^ 63 }
+    ensures { result ≡ digests_behind bagging inactive before behind }
 {
-    let some_before = peak.before.min(1);
-    if bagging == Bagging::ForwardFold {
-        return Sides {
-            before: some_before,
-            behind: peak.behind,
-            from_left: true,
-        };
-    }
-    if peak.before < inactive {
-        let folded = (inactive - peak.before - 1).min(peak.behind);
-        Sides {
-            before: some_before,
-            behind: folded + (peak.behind - folded).min(1),
-            from_left: true,
-        }
-    } else {
-        Sides {
-            before: inactive.min(1) + (peak.before - inactive),
-            behind: peak.behind.min(1),
-            from_left: false,
+    match bagging {
+        Bagging::ForwardFold => behind,
+        Bagging::BackwardFold => {
+            let singly = inactive.saturating_sub(before + 1).min(behind);
+            singly + (behind - singly).min(1)
         }
     }
 }
@@ -95,15 +83,50 @@ fn fold_before<F: Family, H: Hasher<F>>(
     }
 }
 
-/// The root of the tree, rebuilt from the proof of its one element. None: the element or the inactive peaks are not within
-/// the tree, the tree is too large, or a digest is missing or left over.
+// Whether the digests are folded from the left: by the bagging, or since the peak with the element is inactive.
+fn is_from_left(bagging: Bagging, inactive: u64, before: u64) -> bool
+    ensures { IsTrue result ↔ ((bagging ≡ ForwardFold) ⊎ (before < inactive)) }
+{
+    match bagging {
+        Bagging::ForwardFold => true,
+        Bagging::BackwardFold => before < inactive,
+    }
+}
+
+// The one digest that the root is over, from the digests before the peak, its own and those behind it. There are
+// `before` peaks before it and `after` ones behind it.
+fn bag_around<F: Family, H: Hasher<F>>(
+    hasher: &H,
+    inactive: u64,
+    before: u64,
+    after: u64,
+    front: &[H::Digest],
+    own: H::Digest,
+    back: &[H::Digest],
+) -> H::Digest
+    requires some { inactive ≤ before + 1 + after }
+    requires front { length front.now ≡ digests_before (H.bagging_of hasher.now) inactive before }
+    requires back { length back.now ≡ digests_behind (H.bagging_of hasher.now) inactive before after }
+    ensures { H.Digest.spelling result ≡ bagged H.hash_of (H.bagging_of hasher.now) (items H.hash_of (still_inactive (H.bagging_of hasher.now) inactive before)
+        (map H.Digest.spelling front.now ++ H.Digest.spelling own ∷ map H.Digest.spelling back.now)) }
+{
+    if is_from_left(hasher.root_bagging(), inactive, before) {
+        fold_onto(hasher, fold_before(hasher, front, own), back)
+    } else {
+        fold_before(hasher, front, fold_onto(hasher, own, back))
+    }
+}
+
+/// The root of the tree, rebuilt from the proof of its one element. None: the tree is too large, the element or the inactive
+/// peaks are not within it, or a digest is missing or left over.
+#[tactic(auto, unfolding(crate::specs::Reconstructed::reconstructed, crate::specs::Reconstructed::root_around))]
 pub fn reconstruct_one<F: Family, H: Hasher<F>, O: Overlay<H::Digest>>(
     hasher: &H,
     over: &O,
     claimed: &Claimed<'_, H::Digest>,
 ) -> Option<H::Digest>
-    ensures few { IfSome result (λ _. claimed.now.leaves ≤ MAX_LEAVES) }
-    ensures within { IfSome result (λ _. claimed.now.location < claimed.now.leaves) }
+    ensures { option_map H.Digest.spelling result ≡ reconstructed (record { leaf_of = H.leaf_of; node_of = H.node_of; over = O.over over.now }) H.hash_of (H.bagging_of hasher.now)
+        F.merge_rule claimed.now.leaves claimed.now.inactive claimed.now.location claimed.now.element.now (map H.Digest.spelling claimed.now.digests.now) }
 {
     if claimed.leaves > MAX_LEAVES || claimed.location >= claimed.leaves {
         return None;
@@ -112,8 +135,10 @@ pub fn reconstruct_one<F: Family, H: Hasher<F>, O: Overlay<H::Digest>>(
     if claimed.inactive > peak.before + 1 + peak.behind {
         return None;
     }
-    let sides = sides_of(hasher.root_bagging(), claimed.inactive, &peak);
-    let (before, behind, path) = split_parts(claimed.digests, sides.before, sides.behind)?;
+    let bagging = hasher.root_bagging();
+    let before = count_before(bagging, claimed.inactive, peak.before);
+    let behind = count_behind(bagging, claimed.inactive, peak.before, peak.behind);
+    let (front, back, path) = split_parts(claimed.digests, before, behind)?;
     let own = rebuild(
         hasher,
         over,
@@ -122,10 +147,14 @@ pub fn reconstruct_one<F: Family, H: Hasher<F>, O: Overlay<H::Digest>>(
         claimed.element,
         path,
     )?;
-    let folded = if sides.from_left {
-        fold_onto(hasher, fold_before(hasher, before, own), behind)
-    } else {
-        fold_before(hasher, before, fold_onto(hasher, own, behind))
-    };
-    Some(root_over_item(hasher, claimed.leaves, claimed.inactive, &folded))
+    let bagged = bag_around(
+        hasher,
+        claimed.inactive,
+        peak.before,
+        peak.behind,
+        front,
+        own,
+        back,
+    );
+    Some(root_over_item(hasher, claimed.leaves, claimed.inactive, &bagged))
 }

@@ -1,9 +1,12 @@
 //! The peaks of a forest from left to right, by closed formulas.
 
-ghost use Rattle.std.specs.Prelude.{◌≡◌, ◌<◌, ◌≤◌, ◌+◌, ◌-◌, ◌⊎◌, ℕ};
+ghost use Rattle.std.specs.Prelude.{◌≡◌, ◌<◌, ◌≤◌, ◌-◌, length};
 ghost use Rattle.merkle_forest.specs.Forest.{forest_of};
 ghost use Rattle.merkle_forest.specs.Nodes.{HasPeak};
-ghost use Rattle.merkle_core.specs.Rebuilt.{HasTree};
+ghost use Rattle.merkle_forest.specs.Peaks.{placed_from};
+ghost use Rattle.merkle_forest.specs.Trees.{placed};
+ghost use Rattle.merkle_core.specs.Reconstructed.{IsPeakOver};
+ghost use Rattle.merkle_core.specs.Walked.{IsPeakFrom};
 
 use crate::rebuild::Place;
 use merkle_forest::family::{Family, MAX_LEAVES};
@@ -23,7 +26,7 @@ pub struct PeakOver {
 fn peak_at<F: Family>(leaves: u64, first: u64) -> (Place, u64)
     requires few { leaves ≤ MAX_LEAVES }
     requires begins { HasPeak (forest_of F.merge_rule leaves) first }
-    ensures stands { HasTree F.merge_rule result.0.first result.0.position result.0.height }
+    ensures peak { IsPeakFrom F.merge_rule leaves first result.0.first result.0.position result.0.height result.1 }
     ensures later { first < result.1 }
     ensures within { result.1 ≤ leaves }
     ensures next { result.1 < leaves → HasPeak (forest_of F.merge_rule leaves) result.1 }
@@ -41,7 +44,8 @@ fn peak_at<F: Family>(leaves: u64, first: u64) -> (Place, u64)
 fn peaks_from<F: Family>(leaves: u64, first: u64) -> u64
     requires few { leaves ≤ MAX_LEAVES }
     requires begins { first < leaves → HasPeak (forest_of F.merge_rule leaves) first }
-    ensures { result ≤ leaves - first }
+    ensures count { result ≡ length (placed_from first (forest_of F.merge_rule leaves)) }
+    ensures few { result ≤ leaves - first }
 {
     if first >= leaves {
         return 0;
@@ -56,9 +60,10 @@ fn peak_over_from<F: Family>(leaves: u64, first: u64, location: u64) -> PeakOver
     requires begins { HasPeak (forest_of F.merge_rule leaves) first }
     requires behind { first ≤ location }
     requires within { location < leaves }
-    ensures stands { HasTree F.merge_rule result.place.first result.place.position result.place.height }
+    ensures over { IsPeakOver F.merge_rule (placed_from first (forest_of F.merge_rule leaves)) location result.before
+        result.place.first result.place.position result.place.height result.behind }
     ensures before { result.before ≤ location - first }
-    ensures after { result.behind ≤ leaves }
+    ensures behind { result.behind ≤ leaves }
 {
     let (place, next) = peak_at::<F>(leaves, first);
     if location < next {
@@ -76,13 +81,14 @@ fn peak_over_from<F: Family>(leaves: u64, first: u64, location: u64) -> PeakOver
     }
 }
 
-/// The peak that holds the leaf at the location, in the forest of this many leaves.
+/// The peak that holds the leaf at the location, in the forest of this many leaves, and how many stand before and behind it.
 pub fn peak_over<F: Family>(leaves: u64, location: u64) -> PeakOver
     requires few { leaves ≤ MAX_LEAVES }
     requires within { location < leaves }
-    ensures stands { HasTree F.merge_rule result.place.first result.place.position result.place.height }
+    ensures over { IsPeakOver F.merge_rule (placed (forest_of F.merge_rule leaves)) location result.before
+        result.place.first result.place.position result.place.height result.behind }
     ensures before { result.before ≤ location }
-    ensures after { result.behind ≤ leaves }
+    ensures behind { result.behind ≤ leaves }
 {
     peak_over_from::<F>(leaves, 0, location)
 }

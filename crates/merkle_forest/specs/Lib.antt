@@ -8,6 +8,7 @@ pub mod Forest
 pub mod ForestGrowth
 pub mod ForestLaws
 pub mod Hashing
+pub mod HashLaws
 pub mod Maximal
 pub mod MaximalLaws
 pub mod Mmr

@@ -1,14 +1,17 @@
 -- How many nodes of a height a Merkle Mountain Range has.
-use Rattle.std.proofs.Common.{◌≡◌, ℕ, zero, suc, ◌+◌, ◌-◌, ◌*◌, ◌/◌, ◌^◌, ◌<◌, ◌≤◌, cond, ltb, inl, inr, List, [], ◌∷◌, refl, sym, ◌∙◌, ap, arith, pow-suc, add-mul}
-use Rattle.std.proofs.lemmas.Bool.{cases_lt, eq-eqb, ne_eqb, lt-ltb, le-ltb, cond-true, cond-false}
+use Rattle.std.proofs.Common.{◌≡◌, ℕ, zero, suc, ◌+◌, ◌-◌, ◌*◌, ◌/◌, ◌^◌, ◌<◌, ◌≤◌, Bool, true, false, cond, ltb, inl, inr, List, [], ◌∷◌, length, refl, sym, ◌∙◌, ap, arith, pow-suc, add-mul}
+use Rattle.std.proofs.lemmas.Bool.{cases_lt, eq-eqb, ne_eqb, lt-ltb, le-ltb, ltb-true, ltb-false, cond-true, cond-false}
 use Rattle.std.proofs.lemmas.Nat.{pow_pos, pow-add, div-mul-add}
+use Rattle.std.proofs.Math.Nat.{div-lt_iff_lt-mul, lt-div-mul-add}
 use Rattle.merkle_forest.specs.Forest.{Tree, height, leaf_count, size, leaves, forest_of, mmr_rule}
 use Rattle.merkle_forest.specs.ForestLaws.{mmr_merges_equals}
 use Rattle.merkle_forest.specs.ForestGrowth.{leaves-forest_of}
-use Rattle.merkle_forest.specs.Nodes.{nodes_at, nodes_of_height}
+use Rattle.merkle_forest.specs.Nodes.{IsPeakAt, nodes_at, nodes_of_height}
+use Rattle.merkle_forest.specs.NodeLaws.{peak-node, node-leaves, node-low, first_peak}
+use Rattle.merkle_forest.specs.PeakLaws.{leaf_count-pos}
 use Rattle.merkle_forest.specs.Mmr.{mmr_tree, IsRange}
 use Rattle.merkle_forest.specs.MmrLaws.{height-mmr_tree, leaf_count-mmr_tree, forest_of-range}
-use Rattle.merkle_forest.specs.MmrNodes.{pow_le}
+use Rattle.merkle_forest.specs.MmrNodes.{pow_le, peak-mmr}
 
 -- a tree has no node higher than itself
 none_above : (level k at : ℕ) → k < level → nodes_at level (mmr_tree k at) ≡ 0
@@ -75,3 +78,65 @@ count-mmr n level =
 
 pub counted-mmr : (n level : ℕ) → n ≤ 2 ^ 62 → 0 < level → level ≤ 62 → nodes_of_height level (forest_of mmr_rule n) ≡ cond (ltb n (0 + 2 ^ level)) 0 ((n - (0 + 2 ^ level)) / 2 ^ level + 1)
 counted-mmr n level few some low = count-mmr n level
+
+pub soon-mmr : (level : ℕ) → 0 + 2 ^ level ≤ 2 * 2 ^ level
+soon-mmr level = omega arith
+
+-- every full chunk has its node
+full-case : (n d : ℕ) (test : Bool) → 0 < d → (test ≡ true → n < 0 + d) → (test ≡ false → 0 + d ≤ n) → n / d ≤ cond test 0 ((n - (0 + d)) / d + 1)
+full-case n d true some below above =
+    let few : n / d < 1 = (div-lt_iff_lt-mul {k = d} {x = n} {y = 1} some).1 (omega (arith, below refl)) in
+    omega (arith, few)
+full-case n d false some below above =
+    let rest : n - (0 + d) < (n - (0 + d)) / d * d + d = lt-div-mul-add {a = n - (0 + d)} {b = d} some in
+    let few : n / d < (n - (0 + d)) / d + 2 = (div-lt_iff_lt-mul {k = d} {x = n} {y = (n - (0 + d)) / d + 2} some).1 (omega (arith, rest, above refl)) in
+    omega (arith, few)
+
+pub all-mmr : (n level : ℕ) → nodes_of_height level (forest_of mmr_rule n) < n / 2 ^ level → ⊥
+all-mmr n level more =
+    let few = full-case n (2 ^ level) (ltb n (0 + 2 ^ level)) (pow_pos level) (ltb-true n (0 + 2 ^ level)) (ltb-false n (0 + 2 ^ level)) in
+    omega (arith, more, count-mmr n level, few)
+
+-- the heights of a range that has less than 2 ^ 62 leaves are different numbers below 62
+few-range : (b : ℕ) (t : Tree) (ts : List Tree) → IsRange b (t ∷ ts) → leaves (t ∷ ts) < 2 ^ 62 → length (t ∷ ts) + b ≤ 62
+few-range b t [] range few =
+    let mine : leaf_count t ≡ 2 ^ height t = ap leaf_count range.1 ∙ leaf_count-mmr_tree (height t) 0 in
+    elim (cases_lt (height t) 62) [ inl low ↦ omega (arith, range.0, low) | inr high ↦ absurd (omega (arith, few, mine, pow_le 62 (height t) high)) ]
+few-range b t (u ∷ ts) range few = omega (arith, range.0, few-range (suc (height t)) u ts range.2 (omega (arith, few)))
+
+low-peak : (n first : ℕ) (node : Tree) → n < 2 ^ 62 → IsPeakAt first node (forest_of mmr_rule n) → height node ≤ 61
+low-peak n first node few peak =
+    let whole = node-leaves mmr_rule mmr_merges_equals n first node (peak-node first node (forest_of mmr_rule n) peak) in
+    elim (cases_lt (height node) 62) [ inl low ↦ omega (arith, low) | inr high ↦ absurd (omega (arith, few, whole.1, pow_le 62 (height node) high)) ]
+
+few-trees : (n first : ℕ) (node : Tree) (trees : List Tree) → IsRange 0 trees → leaves trees < 2 ^ 62 → IsPeakAt first node trees → length trees ≤ 62
+few-trees n first node [] range few peak = omega arith
+few-trees n first node (t ∷ ts) range few peak = omega (arith, few-range 0 t ts range few)
+
+length-few : (trees : List Tree) → length trees ≤ leaves trees
+length-few [] = omega arith
+length-few (t ∷ ts) = omega (arith, leaf_count-pos t, length-few ts)
+
+others-few : (first : ℕ) (node : Tree) (trees : List Tree) → IsPeakAt first node trees → leaf_count node + length trees ≤ leaves trees + 1
+others-few first node [] peak = absurd peak
+others-few first node (t ∷ ts) (inl peak) = omega (arith, ap leaf_count peak.1, length-few ts)
+others-few first node (t ∷ ts) (inr peak) = omega (arith, leaf_count-pos t, others-few first node ts peak)
+
+-- the forest of 2 ^ 62 leaves is one tree
+one-tree : (n : ℕ) → 2 ^ 62 ≤ n → n ≤ 2 ^ 62 → length (forest_of mmr_rule n) ≤ 1
+one-tree n many few =
+    let all : leaves (forest_of mmr_rule n) ≡ n = leaves-forest_of mmr_rule mmr_merges_equals n in
+    let first = first_peak (forest_of mmr_rule n) (omega (arith, all, many)) in
+    let it = peak-mmr 0 0 first.0 (forest_of mmr_rule n) (forest_of-range n) first.1 in
+    let whole = node-leaves mmr_rule mmr_merges_equals n 0 first.0 (peak-node 0 first.0 (forest_of mmr_rule n) first.1) in
+    let high : 62 ≤ height first.0 =
+    elim (cases_lt (height first.0) 62) [ inl low ↦ absurd (omega (arith, it.high, all, many, pow_le (suc (height first.0)) 62 low)) | inr le ↦ le ] in
+    omega (arith, others-few 0 first.0 (forest_of mmr_rule n) first.1, whole.0, pow_le 62 (height first.0) high, all, few)
+
+-- a peak's height and the other peaks are at most 122
+pub few-mmr : (n first : ℕ) (node : Tree) → n ≤ 2 ^ 62 → IsPeakAt first node (forest_of mmr_rule n) → length (forest_of mmr_rule n) + height node ≤ 123
+few-mmr n first node few peak =
+    elim (cases_lt n (2 ^ 62)) [
+      | inl less ↦ omega (arith, few-trees n first node (forest_of mmr_rule n) (forest_of-range n) (omega (arith, less, leaves-forest_of mmr_rule mmr_merges_equals n)) peak, low-peak n first node less peak)
+      | inr all ↦ (let low = node-low mmr_rule mmr_merges_equals n first (height node) node few (peak-node first node (forest_of mmr_rule n) peak) refl in omega (arith, one-tree n all few, low.1))
+    ]

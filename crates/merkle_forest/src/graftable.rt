@@ -1,10 +1,10 @@
 //! Where the nodes of a forest stand, and when they are born.
 
-ghost use Rattle.std.specs.Prelude.{◌≡◌, ◌↔◌, ◌≤◌, ◌<◌, ◌+◌, ◌-◌, ◌*◌, ◌/◌, ◌^◌, ℕ, nat_lt, if◌then◌else◌};
+ghost use Rattle.std.specs.Prelude.{◌≡◌, ◌↔◌, ◌≤◌, ◌<◌, ◌+◌, ◌-◌, ◌*◌, ◌/◌, ◌^◌, ℕ, nat_lt, if◌then◌else◌, length};
 ghost use Rattle.merkle_forest.specs.Forest.{Tree, position, height, forest_of};
 ghost use Rattle.merkle_forest.specs.Maximal.{AreChunkPeaks};
 ghost use Rattle.merkle_forest.specs.NodeLaws.{stands-counted};
-ghost use Rattle.merkle_forest.specs.Nodes.{IsNodeAt, HasNode, IsSize, IsSubtree, StandsAt, IsBirth, IsBirthAt, IsPlaceOfNode, IsFirstLeaf, nodes_of_height};
+ghost use Rattle.merkle_forest.specs.Nodes.{IsNodeAt, IsPeakAt, HasNode, IsSize, IsSubtree, StandsAt, IsBirth, IsBirthAt, IsPlaceOfNode, IsFirstLeaf, nodes_of_height};
 
 use crate::chunk_peaks::ChunkPeaks;
 use crate::family::{Family, MAX_LEAVES};
@@ -48,6 +48,14 @@ pub trait Graftable: Family {
 
     /// A node is born as long after its first leaf as the first node of its height is after the start.
     ghost births_apart: { (first height : ℕ) → birth_of first height ≡ first + birth_of 0 height };
+
+    /// The first node of a height is born by the time that as many leaves again as its own are there: so at most one full chunk
+    /// of leaves has no node yet.
+    ghost births_soon: { (height : ℕ) → birth_of 0 height ≤ 2 * 2 ^ height };
+
+    /// A peak's height and the other peaks are at most 122.
+    ghost few_peaks: { (leaves first : ℕ) (node : Tree) → leaves ≤ 2 ^ 62 → IsPeakAt first node (forest_of Self.merge_rule leaves)
+        → length (forest_of Self.merge_rule leaves) + height node ≤ 123 };
 
     /// How many nodes of a height a forest has.
     ghost births_counted: { (leaves height : ℕ) → leaves ≤ 2 ^ 62 → 0 < height → height ≤ 62 → nodes_of_height height (forest_of Self.merge_rule leaves) ≡ (if nat_lt leaves (birth_of 0 height) then 0 else (leaves - birth_of 0 height) / 2 ^ height + 1) };

@@ -3,6 +3,7 @@
 ghost use Rattle.std.specs.Prelude.{◌≡◌, ◌<◌, ◌≤◌, ◌↔◌, ℕ, List, map, length, IsOk, IsErr, IfOk, IfErr};
 ghost use Rattle.std.specs.List.{flat_map};
 ghost use Rattle.sha2.specs.Sha256.{sha256};
+ghost use Rattle.merkle_forest.specs.HashLaws.{length-sha256};
 ghost use Rattle.merkle_forest.specs.declared.bagging.Bagging.{Bagging};
 ghost use Rattle.merkle_forest.specs.Hashing.{leaf_string, node_string, fold_string, root_of, root_string, bagged};
 
@@ -27,6 +28,8 @@ pub trait HashFunction: Drop {
     /// The digest of the parts, one after the other.
     fn hash(parts: &[&[u8]]) -> Self::Digest
         ensures { Self.Digest.spelling result ≡ hash_of (flat_map (λ part. part.now) parts.now) };
+
+    ghost sized: { (bytes : List ℕ) → length (hash_of bytes) ≡ Self.Digest.SIZE };
 }
 
 /// SHA-256 (own).
@@ -46,6 +49,8 @@ impl HashFunction for ByteHash {
         }
         FixedBytes::new(hasher.finalize())
     }
+
+    ghost sized = { length-sha256 };
 }
 
 /// The digest of a leaf's string.

@@ -6,7 +6,7 @@ ghost use Rattle.merkle_forest.specs.ForestLaws.{mmr_merges_equals};
 ghost use Rattle.merkle_forest.specs.Mmr.{root_place};
 ghost use Rattle.merkle_forest.specs.MmrNodes.{node_position-mmr};
 ghost use Rattle.merkle_forest.specs.MmrBirths.{aligned-mmr, birth-chunk_mmr, apart-mmr};
-ghost use Rattle.merkle_forest.specs.MmrCounts.{counted-mmr};
+ghost use Rattle.merkle_forest.specs.MmrCounts.{counted-mmr, soon-mmr, few-mmr};
 
 use crate::family::{self, MAX_LEAVES, MAX_NODES};
 use crate::graftable::Graftable;
@@ -82,6 +82,10 @@ impl Graftable for Family {
     ghost births = { birth-chunk_mmr };
 
     ghost births_apart = { apart-mmr };
+
+    ghost births_soon = { soon-mmr };
+
+    ghost few_peaks = { few-mmr };
 
     ghost births_counted = { counted-mmr };
 }

@@ -1,9 +1,13 @@
 //! What a proof holds of the digest of a chunk that is full and not yet graftable.
 
-ghost use Rattle.std.specs.Prelude.{◌≡◌, ◌++◌, ℕ, List, [], Option, IfSome, Ok, OnOk, OnErr, option_map, refl};
+ghost use Rattle.std.specs.Prelude.{◌≡◌, ◌<◌, ◌≤◌, ◌/◌, ◌^◌, ◌++◌, ℕ, List, [], length, Option, Some, None, Ok, IfOk, OnOk, OnErr, option_map, refl};
+ghost use Rattle.std.proofs.Common.{sym, ◌∙◌};
 ghost use Rattle.merkle_forest_parts.specs.Codec.{Outcome, Extends, Reads};
+ghost use Rattle.merkle_forest.specs.Forest.{forest_of};
+ghost use Rattle.merkle_forest.specs.MmrCounts.{all-mmr};
+ghost use Rattle.merkle_forest.specs.Nodes.{nodes_of_height};
 
-use crate::codec::{Cursor, Error, Read, Write};
+use crate::codec::{Cursor, Error};
 use crate::digest::Digest;
 use crate::family::Family;
 use crate::mmr;
@@ -11,6 +15,9 @@ use std::alloc::{AllocError, Global};
 
 /// A family that says how a proof spells the digest of the pending chunk (own). At most one chunk is pending.
 pub trait PendingOf<D: Digest>: Family {
+    /// Holds of what a proof may hold: the bytes of the digest of the pending chunk, or its absence.
+    ghost is_pending: { Option (List ℕ) → Type 0 };
+
     /// The bytes that spell the digest of the pending chunk, or its absence.
     ghost pending_spelling: { Option (List ℕ) → List ℕ };
 
@@ -24,14 +31,28 @@ pub trait PendingOf<D: Digest>: Family {
 
     /// Reads the digest of the pending chunk, or its absence, at the front. After a refusal the cursor's place is open.
     fn read_pending(alloc: Global, cursor: &mut Cursor<'_>) -> Result<Option<D>, Error>
-        ensures { Reads (λ digest. pending_spelling (option_map D.spelling digest)) cursor.old cursor.new (pending_after cursor.old) result };
+        ensures read { Reads (λ digest. pending_spelling (option_map D.spelling digest)) cursor.old cursor.new (pending_after cursor.old) result }
+        ensures held { IfOk result (λ digest. is_pending (option_map D.spelling digest)) };
 
-    ghost pending_again: { (digest : Option D) (rest : List ℕ) → IfSome digest D.is_value → IfSome digest (D.is_within tt)
-        → pending_after (pending_spelling (option_map D.spelling digest) ++ rest) ≡ Ok rest };
+    /// What was spelled is read again.
+    ghost pending_again: { (digest : Option (List ℕ)) (rest : List ℕ) → is_pending digest → pending_after (pending_spelling digest ++ rest) ≡ Ok rest };
+
+    /// One spelling stands for one digest, and does not begin another spelling.
+    ghost pending_once: { (digest other : Option (List ℕ)) (rest more : List ℕ) → is_pending digest → is_pending other
+        → pending_spelling digest ++ rest ≡ pending_spelling other ++ more → (digest ≡ other) × (rest ≡ more) };
+
+    /// A proof may hold no digest.
+    ghost none_pending: { is_pending None };
+
+    /// Where some full chunk of 2^height leaves has no node, a proof may hold any digest.
+    ghost some_pending: { (leaves height : ℕ) (digest : List ℕ) → leaves ≤ 2 ^ 62 → 0 < height → height ≤ 62
+        → nodes_of_height height (forest_of Self.merge_rule leaves) < leaves / 2 ^ height → length digest ≡ D.SIZE → is_pending (Some digest) };
 }
 
 /// A proof over a Merkle Mountain Range holds nothing of it: there no chunk is ever pending.
 impl<D: Digest> PendingOf<D> for mmr::Family {
+    ghost is_pending = { λ digest. digest ≡ None };
+
     ghost pending_spelling = { λ _. [] };
 
     ghost pending_after = { λ bytes. Ok bytes };
@@ -44,5 +65,11 @@ impl<D: Digest> PendingOf<D> for mmr::Family {
         Ok(None)
     }
 
-    ghost pending_again = { λ _ _ _ _. refl };
+    ghost pending_again = { λ _ _ _. refl };
+
+    ghost pending_once = { λ _ _ _ _ is was same. (is ∙ sym was, same) };
+
+    ghost none_pending = { refl };
+
+    ghost some_pending = { λ leaves height _ _ _ _ more _. absurd (all-mmr leaves height more) };
 }

@@ -3,7 +3,7 @@ use Rattle.std.proofs.Common.{◌≡◌, ℕ, suc, ◌+◌, ◌-◌, ◌^◌, �
 use Rattle.std.specs.List.{flat_map, All}
 use Rattle.std.proofs.lemmas.List.{flat_map_more, take_more}
 use Rattle.std.proofs.lemmas.List.Folds.{length-flat_map-take}
-use Rattle.std.proofs.lemmas.List.Elements.{All-more}
+use Rattle.std.proofs.lemmas.List.Elements.{All-more, All-append, All-cons, All-nil}
 use Rattle.merkle_forest_parts.specs.Codec.{Outcome, Extends, Refuses}
 use Rattle.merkle_forest_parts.specs.Varint.{varint}
 use Rattle.merkle_forest_parts.specs.Lists.{list_spelling, count_at, after_items, after_list}
@@ -74,6 +74,9 @@ all_read after least greatest count i whole start bytes found done so_far =
 
 pub counts_more : {T : Type 0} (items new_items : List T) (item : T) (i : ℕ) → new_items ≡ items ++ item ∷ [] → length items ≡ i → length new_items ≡ i + 1
 counts_more items new_items item i pushed so_far = omega (arith, length-append items (item ∷ []), ap length pushed)
+
+pub values_more : {T : Type 0} (is_value : T → Type 0) (items new_items : List T) (item : T) → new_items ≡ items ++ item ∷ [] → is_value item → All is_value items → All is_value new_items
+values_more is_value items new_items item pushed value so_far = rw pushed (All-append is_value items (item ∷ []) so_far (All-cons is_value item [] value (All-nil is_value)))
 
 pub spelled_whole : {T : Type 0} (spelling : T → List ℕ) (items : List T) (count i : ℕ) (bytes start rest : List ℕ) → count ≤ i → i ≤ count → length items ≡ i
     → bytes ≡ varint count ++ start → start ≡ flat_map spelling items ++ rest → bytes ≡ list_spelling spelling items ++ rest

@@ -1,7 +1,8 @@
 //! Digests.
 
-ghost use Rattle.std.specs.Prelude.{◌≡◌, ℕ, length, replicate, true};
+ghost use Rattle.std.specs.Prelude.{◌≡◌, ℕ, List, length, replicate, true, refl};
 ghost use Rattle.std.proofs.Common.{rules, ap};
+ghost use Rattle.merkle_forest_parts.specs.Codec.{after_fixed};
 
 use crate::codec::{FixedBytes, FixedSize, Read};
 use std::fmt::Debug;
@@ -22,6 +23,9 @@ pub trait Digest: Read<Cfg = ()> + FixedSize + Copy + Eq + Debug {
     ghost copied: { (d e : Self) → Self.is_clone d e → e ≡ d };
 
     ghost equal: { (d e : Self) → Self.eq d e ≡ true → d ≡ e };
+
+    /// Any `SIZE` bytes are a digest.
+    ghost any_bytes: { (bytes : List ℕ) → Self.after tt bytes ≡ after_fixed Self.SIZE bytes };
 }
 
 impl<const M: usize> Digest for FixedBytes<M> {
@@ -38,4 +42,6 @@ impl<const M: usize> Digest for FixedBytes<M> {
     ghost copied = { λ d e same. Prim.cc };
 
     ghost equal = { λ d e same. Prim.search rules };
+
+    ghost any_bytes = { λ bytes. refl };
 }

@@ -5,6 +5,7 @@ use Rattle.merkle_forest.specs.Codec.{option_spelling}
 use Rattle.merkle_forest.specs.Varint.{varint}
 use Rattle.merkle_core.specs.Ranges.{range_digests}
 use Rattle.merkle_core.specs.Proofs.{proof_spelling}
+use Rattle.state_proofs.specs.Verified.{Parts}
 use Rattle.state_proofs.specs.Canonical.{Setting, State, chunk_bits, chunk, peaks, grafted_digests, grafted_inactive, operations_root, pending_digest, partial_digest}
 
 -- the digests that lead from the operations from `start` up to `stop` to the grafted root
@@ -27,3 +28,16 @@ operation_proof pending setting state location =
 -- the proof of an update, and the next key that it names
 unfoldable pub key_value_proof : (Option (List ℕ) → List ℕ) → Setting → State → ℕ → List ℕ → List ℕ
 key_value_proof pending setting state location next_key = operation_proof pending setting state location ++ next_key
+
+-- what the honest proof of the operation at a location holds
+abbrev pub honest_parts : Setting → State → ℕ → Parts
+honest_parts setting state location = record {
+  location = location;
+  chunk = chunk setting state (location / chunk_bits setting);
+  leaves = length state.operations;
+  inactive = grafted_inactive setting state;
+  digests = grafted_range setting state location (location + 1);
+  pending = pending_digest setting state;
+  partial = partial_digest setting state;
+  operations_root = operations_root setting state;
+}

@@ -5,6 +5,7 @@ pub mod bits;
 pub mod canonical;
 pub mod grafting;
 pub mod honest;
+pub mod laws;
 pub mod seal;
 pub mod snapshot;
 pub mod verify;

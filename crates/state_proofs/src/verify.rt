@@ -1,8 +1,14 @@
 //! The check of a proof of one operation, by closed formulas.
 
-ghost use Rattle.std.specs.Prelude.{◌≡◌, ◌==◌, ◌<◌, ◌≤◌, ◌+◌, ◌-◌, ◌*◌, ◌/◌, ◌%◌, ◌^◌, ◌++◌, [], ◌∷◌, ℕ, List, min, IfSome, IsTrue, true, slice_get, nat_lt, length, if◌then◌else◌, option_map};
+ghost use Rattle.std.specs.Prelude.{◌≡◌, ◌==◌, ◌<◌, ◌≤◌, ◌*◌, ◌/◌, ◌^◌, ◌↔◌, ℕ, IfSome, IfNone, IsTrue, map, slice_get, length, if◌then◌else◌, option_map};
+ghost use Rattle.merkle_forest.specs.declared.bagging.Bagging.TheVariants.{BackwardFold};
+ghost use Rattle.merkle_forest.specs.Forest.{forest_of};
+ghost use Rattle.merkle_forest.specs.Nodes.{nodes_of_height};
+ghost use Rattle.merkle_core.specs.Reconstructed.{reconstructed};
 ghost use Rattle.state_proofs.specs.Grafting.{grafted};
 ghost use Rattle.state_proofs.specs.Bits.{is_set};
+ghost use Rattle.state_proofs.specs.Verified.{FitsChunk, FitsChunks, Verifies, grafted_hashing};
+ghost use Rattle.state_proofs.specs.VerifiedCode.{parts_of};
 
 use crate::grafting::graft;
 use crate::seal::seal;
@@ -61,22 +67,27 @@ impl<H: HashFunction> Overlay<H::Digest> for GraftedChunk<'_, H> {
 // The height of a tree over as many operations as a chunk of so many bytes has bits. None: that is no power of two, or the
 // height is 63 or more.
 fn grafting_height_of(width: usize) -> Option<u32>
-    ensures some { IfSome result (λ height. 0 < width) }
-    ensures small { IfSome result (λ height. width < 2 ^ 60) }
-    ensures low { IfSome result (λ height. height ≤ 62) }
+    ensures some { IfSome result (λ height. (8 * width ≡ 2 ^ height) × (height ≤ 62)) }
+    ensures none { IfNone result ((height : ℕ) → 8 * width ≡ 2 ^ height → height ≤ 62 → ⊥) }
+    ensures high { IfSome result (λ height. 0 < height) }
 {
     let width = width as u64;
-    if !width.is_power_of_two() || width >= 1 << 60 {
+    if width == 0 {
         return None;
     }
-    Some(width.ilog2() + 3)
+    let height = width.ilog2();
+    if height > 59 || width != 1u64 << height {
+        return None;
+    }
+    Some(height + 3)
 }
 
 /// How many chunks of so many operations are graftable.
 pub fn graftable_chunks_of<F: Graftable>(leaves: u64, grafting_height: u32) -> u64
     requires few { leaves ≤ MAX_LEAVES }
+    requires some { 0 < grafting_height }
     requires low { grafting_height ≤ 62 }
-    ensures { result ≡ (if nat_lt leaves (F.birth_of 0 grafting_height) then 0 else (leaves - F.birth_of 0 grafting_height) / 2 ^ grafting_height + 1) }
+    ensures { result ≡ nodes_of_height grafting_height (forest_of F.merge_rule leaves) }
 {
     let birth = F::birth(0, grafting_height);
     if leaves < birth {
@@ -95,38 +106,42 @@ fn is_bit_set(chunk: &[u8], place: u64) -> bool
     }
 }
 
-// Whether there is such a digest exactly if the chunk is there, and it is that of the chunk if that is the covered one.
-fn is_chunk_digest<H: HashFunction>(
+// Whether a digest is held exactly if the chunk is there, and it is that of this chunk if this is the covered one.
+fn fits_chunk<H: HashFunction>(
     digest: &Option<H::Digest>,
     is_there: bool,
     is_covered: bool,
     chunk: &[u8],
-) -> bool {
+) -> bool
+    ensures { IsTrue result ↔ FitsChunk H.hash_of chunk.now (IsTrue is_there) (IsTrue is_covered) (option_map H.Digest.spelling digest.now) }
+{
     match digest {
         None => !is_there,
-        Some(digest) => is_there && (!is_covered || H::hash(&[chunk]) == *digest),
+        Some(digest) => is_there && (!is_covered || *digest == H::hash(&[chunk])),
     }
 }
 
 // Whether the digests of the pending and of the partial chunk fit the number of operations and the chunk.
 fn fits_chunks<F: Graftable, H: HashFunction>(
     proof: &OperationProof<'_, H::Digest>,
-    bits: u64,
     grafting_height: u32,
 ) -> bool
-    requires some { 0 < bits }
+    requires whole { 8 * length proof.now.chunk.now ≡ 2 ^ grafting_height }
     requires few { proof.now.leaves ≤ MAX_LEAVES }
+    requires some { 0 < grafting_height }
     requires low { grafting_height ≤ 62 }
+    ensures { IsTrue result ↔ FitsChunks H.hash_of (nodes_of_height grafting_height (forest_of F.merge_rule proof.now.leaves)) (parts_of H.Digest.spelling proof.now) }
 {
+    let bits = 8 * proof.chunk.len() as u64;
     let full = proof.leaves / bits;
-    let graftable = graftable_chunks_of::<F>(proof.leaves, grafting_height).min(full);
+    let graftable = graftable_chunks_of::<F>(proof.leaves, grafting_height);
     let index = proof.location / bits;
     let is_pending = graftable <= index && index < full;
-    full - graftable <= 1
-        && is_chunk_digest::<H>(&proof.pending, graftable < full, is_pending, proof.chunk)
-        && is_chunk_digest::<H>(
+    full <= graftable + 1
+        && fits_chunk::<H>(&proof.pending, graftable < full, is_pending, proof.chunk)
+        && fits_chunk::<H>(
             &proof.partial,
-            proof.leaves % bits != 0,
+            proof.leaves % bits > 0,
             full <= index,
             proof.chunk,
         )
@@ -137,7 +152,10 @@ fn grafted_root_of<F: Graftable, H: HashFunction>(
     proof: &OperationProof<'_, H::Digest>,
     grafting_height: u32,
     operation: &[u8],
-) -> Option<H::Digest> {
+) -> Option<H::Digest>
+    ensures { option_map H.Digest.spelling result ≡ reconstructed (grafted_hashing H.hash_of grafting_height proof.now.chunk.now) H.hash_of BackwardFold F.merge_rule
+        proof.now.leaves proof.now.inactive proof.now.location operation.now (map H.Digest.spelling proof.now.digests.now) }
+{
     let hasher: Standard<H> = Standard::new(Bagging::BackwardFold);
     let over: GraftedChunk<'_, H> = GraftedChunk {
         chunk: proof.chunk,
@@ -160,20 +178,19 @@ pub fn verify_operation<F: Graftable, H: HashFunction>(
     proof: &OperationProof<'_, H::Digest>,
     operation: &[u8],
 ) -> bool
-    ensures few { IsTrue result → proof.now.leaves ≤ MAX_LEAVES }
-    ensures within { IsTrue result → proof.now.location < proof.now.leaves }
-    ensures active { IsTrue result → is_set (slice_get proof.now.chunk.now (proof.now.location % (8 * length proof.now.chunk.now) / 8)) (proof.now.location % (8 * length proof.now.chunk.now)) ≡ true }
+    ensures { IsTrue result ↔ Verifies F.merge_rule H.hash_of (H.Digest.spelling root.now) (parts_of H.Digest.spelling proof.now) operation.now }
 {
     let Some(grafting_height) = grafting_height_of(proof.chunk.len()) else {
         return false;
     };
-    let bits = 8 * proof.chunk.len() as u64;
     if proof.leaves > MAX_LEAVES || proof.location >= proof.leaves {
         return false;
     }
-    if !is_bit_set(proof.chunk, proof.location % bits)
-        || !fits_chunks::<F, H>(proof, bits, grafting_height)
-    {
+    let bits = 8 * proof.chunk.len() as u64;
+    if !is_bit_set(proof.chunk, proof.location % bits) {
+        return false;
+    }
+    if !fits_chunks::<F, H>(proof, grafting_height) {
         return false;
     }
     match grafted_root_of::<F, H>(proof, grafting_height, operation) {

@@ -58,7 +58,8 @@ pub trait Read: Write {
 
     /// Reads the value at the front. After a refusal the cursor's place is open.
     fn read_cfg(alloc: Global, cursor: &mut Cursor<'_>, cfg: &Self::Cfg) -> Result<Self, Error>
-        ensures { Reads Self.spelling cursor.old cursor.new (after cfg.now cursor.old) result };
+        ensures read { Reads Self.spelling cursor.old cursor.new (after cfg.now cursor.old) result }
+        ensures value { IfOk result Self.is_value };
 
     ghost read_again: { (cfg : Self.Cfg) (v : Self) (rest : List ℕ) → Self.is_value v → is_within cfg v → after cfg (Self.spelling v ++ rest) ≡ Ok rest };
 }
@@ -79,7 +80,8 @@ pub trait Encode: Write {
 pub trait Decode: Read {
     /// The value that the bytes spell, all of them. Where bytes are left over: C2.
     final fn decode_cfg(alloc: Global, bytes: &[u8], cfg: &Self::Cfg) -> Result<Self, Error>
-        ensures { Reads Self.spelling bytes.now [] (whole (Self.after cfg.now bytes.now)) result }
+        ensures read { Reads Self.spelling bytes.now [] (whole (Self.after cfg.now bytes.now)) result }
+        ensures value { IfOk result Self.is_value }
     {
         let mut cursor = Cursor::new(bytes);
         let value = Self::read_cfg(alloc, &mut cursor, cfg)?;

@@ -10,5 +10,5 @@ joined leaves number inactive spelled bytes start second third rest same first n
 
 pub returns : goal.returns
 returns g c =
-    joined c.in_ok-leaves.leaves c.as_u64.result c.in_ok-inactive_peaks.inactive_peaks (list_spelling g.D.Write.spelling c.in_ok-digests.digests.items) _ _ _ _ _ c.as_u64.ensures c.in_ok-leaves.ensures.1 c.in_ok-inactive_peaks.ensures.spelled c.in_ok-digests.ensures.1
+    joined c.in_ok-leaves.leaves c.as_u64.result c.in_ok-inactive_peaks.inactive_peaks (list_spelling g.D.Write.spelling c.in_ok-digests.digests.items) _ _ _ _ _ c.as_u64.ensures c.in_ok-leaves.ensures.read.1 c.in_ok-inactive_peaks.ensures.spelled c.in_ok-digests.ensures.read.1
     (list_spelling-bytes g.D.Write.spelling c.in_ok-digests.digests.items)

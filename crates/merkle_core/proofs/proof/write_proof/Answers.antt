@@ -1,4 +1,4 @@
-use Rattle.std.proofs.Common.{◌++◌, ◌∙◌, ap, sym, append_assoc}
+use Rattle.std.proofs.Common.{append_assoc}
 use Rattle.merkle_core.proofs.Spellings.{list_spelling-bytes}
 use Rattle.merkle_core.proofs.proof.write_proof.Goals as goal
 

@@ -1,6 +1,5 @@
-use Rattle.std.proofs.Common.{◌≡◌, suc, ◌<◌, ◌≤◌, ◌^◌, ◌+◌, ◌-◌, ap, ◌∙◌, arith}
-use Rattle.merkle_forest.specs.Forest.{height}
-use Rattle.merkle_core.proofs.Places.{parts, branch_of, parts-fit, left_place, right_place, pow_le}
+use Rattle.std.proofs.Common.{◌≤◌, ◌^◌, ◌+◌, ◌-◌, ap, refl, arith}
+use Rattle.merkle_core.proofs.Places.{parts, branch_of, parts-fit, left_place, right_place, child_left, child_right, pow_le}
 use Rattle.std.proofs.lemmas.Nat.{one_shl}
 use Rattle.merkle_core.proofs.rebuild.child_over.Goals as goal
 
@@ -36,3 +35,17 @@ returns-else-location-middle-clause-stands g c =
       right_place g.F.Family.merge_rule g.met.F.Family.merges_equals c.args.place.first _ c.args.place.position c.args.place.height _ _ it
           (ap (λ n. c.args.place.first + n) (one_shl (c.args.place.height - 1) 64 (omega (arith, fit.1)))) both.1 (omega (arith, it.high)),
     )
+
+pub returns-then-location-middle-clause-child : goal.returns-then-location-middle-clause-child
+returns-then-location-middle-clause-child g c node tree =
+    let fit = parts-fit g.F.Family.merge_rule g.met.F.Family.merges_equals c.args.place.first c.args.place.position c.args.place.height
+    (parts g.F.Family.merge_rule c.args.place.first c.args.place.position c.args.place.height node tree c.requires.branch) in
+    child_left g.F.Family.merge_rule g.met.F.Family.merges_equals c.args.location c.args.place.first c.args.place.position c.args.place.height _ _ _ node tree c.requires.branch
+    c.child_positions-left.ensures refl (omega (arith, one_shl (c.args.place.height - 1) 64 (omega (arith, fit.1))))
+
+pub returns-else-location-middle-clause-child : goal.returns-else-location-middle-clause-child
+returns-else-location-middle-clause-child g c node tree =
+    let fit = parts-fit g.F.Family.merge_rule g.met.F.Family.merges_equals c.args.place.first c.args.place.position c.args.place.height
+    (parts g.F.Family.merge_rule c.args.place.first c.args.place.position c.args.place.height node tree c.requires.branch) in
+    child_right g.F.Family.merge_rule g.met.F.Family.merges_equals c.args.location c.args.place.first _ c.args.place.position c.args.place.height _ _ _ node tree c.requires.branch
+    c.child_positions-left.ensures refl (ap (λ n. c.args.place.first + n) (one_shl (c.args.place.height - 1) 64 (omega (arith, fit.1)))) (omega arith)

@@ -1,8 +1,8 @@
-use Rattle.std.proofs.Common.{◌≡◌, ◌<◌, ◌≤◌, ◌+◌, ◌*◌, ◌%◌, ◌^◌, ℕ, sym, subst, ap, arith}
-use Rattle.merkle_forest.specs.Forest.{Tree, position, height, forest_of}
+use Rattle.std.proofs.Common.{◌<◌, ◌+◌, ℕ, refl, sym, subst, arith}
+use Rattle.merkle_forest.specs.Forest.{forest_of}
 use Rattle.merkle_forest.specs.Nodes.{HasPeak}
-use Rattle.merkle_core.proofs.Places.{Behind, behind, Shift, shift, peak_place}
-use Rattle.merkle_core.proofs.walk.peak_at.Given as given
+use Rattle.merkle_forest.specs.NodeLaws.{peak-node, node-leaves}
+use Rattle.merkle_core.proofs.Places.{behind, shift, peak_place}
 use Rattle.merkle_core.proofs.walk.peak_at.Goals as goal
 
 pub overflow_shl-result : goal.overflow_shl-result
@@ -18,11 +18,20 @@ overflow_add-result g c =
     let by = shift c.args.leaves c.args.first c.peak_from-position.result.1 there.0 c.requires.few it.fits (c.peak_from-position.ensures there.0 there.1).1 in
     omega (arith, by.whole, it.fits, c.requires.few)
 
-pub returns-clause-stands : goal.returns-clause-stands
-returns-clause-stands g c =
+pub returns-clause-peak : goal.returns-clause-peak
+returns-clause-peak g c =
     let there = c.requires.begins in
     let at = c.peak_from-position.ensures there.0 there.1 in
-    (there.0, peak_place g.F.Family.merge_rule c.args.leaves c.args.first _ _ there.0 c.requires.few there.1 at.0 at.1)
+    let stands = peak-node c.args.first there.0 (forest_of g.F.Family.merge_rule c.args.leaves) there.1 in
+    let whole = node-leaves g.F.Family.merge_rule g.met.F.Family.merges_equals c.args.leaves c.args.first there.0 stands in
+    let by = shift c.args.leaves c.args.first c.peak_from-position.result.1 there.0 c.requires.few whole.1 at.1 in
+    record {
+      node = there.0;
+      stands = there.1;
+      tree = peak_place g.F.Family.merge_rule c.args.leaves c.args.first _ _ there.0 c.requires.few there.1 at.0 at.1;
+      same = refl;
+      next = omega (arith, by.whole, whole.0);
+    }
 
 pub returns-clause-later : goal.returns-clause-later
 returns-clause-later g c =

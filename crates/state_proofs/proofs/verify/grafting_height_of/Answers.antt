@@ -1,18 +1,16 @@
-use Rattle.std.proofs.Common.{◌≡◌, ℕ, ◌<◌, ◌≤◌, ◌+◌, ◌*◌, ◌^◌, inl, inr, arith}
-use Rattle.std.proofs.Math.Nat.{pow-le-pow_right}
-use Rattle.std.proofs.lemmas.Bool.{cases_lt}
+use Rattle.std.proofs.Common.{arith}
+use Rattle.std.proofs.lemmas.Nat.{one_shl}
+use Rattle.state_proofs.proofs.HeightLemmas.{height_of_log, eight_times}
 use Rattle.state_proofs.proofs.verify.grafting_height_of.Goals as goal
+use Rattle.state_proofs.proofs.verify.grafting_height_of.Goals.{then-height-gt59-via-then-height-gt59, then-height-gt59-via-else-height-gt59+then-width-height}
 
-pow_le : (a b : ℕ) → a ≤ b → 2 ^ a ≤ 2 ^ b
-pow_le a b le = pow-le-pow_right {n = 2} (omega arith) le
-
--- a number below 2 ^ 60 has a logarithm of at most 59
-low_log : (log n : ℕ) → 2 ^ log ≤ n → n < 2 ^ 60 → log ≤ 59
-low_log log n power small =
-    elim (cases_lt 59 log) [
-      | inl lt ↦ absurd (omega (arith, power, small, pow_le 60 log lt))
-      | inr le ↦ le
+pub returns-then-height-gt59-clause-none : goal.returns-then-height-gt59-clause-none
+returns-then-height-gt59-clause-none c height whole low =
+    let it = height_of_log c.ilog2-height.result c.args.width height c.ilog2-height.ensures.power_le c.ilog2-height.ensures.next_power_gt whole in
+    elim c.then-height-gt59.branch [
+      | then-height-gt59-via-then-height-gt59 w ↦ omega (arith, it.0, low)
+      | then-height-gt59-via-else-height-gt59+then-width-height w ↦ omega (arith, it.1, one_shl c.ilog2-height.result 64 c.ilog2-height.ensures.bound)
     ]
 
-pub returns-clause-low : goal.returns-clause-low
-returns-clause-low c = omega (arith, low_log c.ilog2.result c.args.width c.ilog2.ensures.power_le (omega arith))
+pub returns-clause-some : goal.returns-clause-some
+returns-clause-some c = (omega (arith, one_shl c.ilog2-height.result 64 c.ilog2-height.ensures.bound, eight_times c.ilog2-height.result), omega arith)

@@ -20,3 +20,6 @@ returns-in-Len g c = rw c.in-Len.is c.len.ensures
 
 pub returns-in-ProveKey : goal.returns-in-ProveKey
 returns-in-ProveKey g c = rw c.in-ProveKey.is c.prove_key.ensures
+
+pub returns-in-Open : goal.returns-in-Open
+returns-in-Open g c = rw c.in-Open.is c.open.ensures
