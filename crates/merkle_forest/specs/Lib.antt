@@ -8,6 +8,7 @@ pub mod ListLaws
 pub mod Lists
 pub mod Maximal
 pub mod MaximalLaws
+pub mod MaximalMeaning
 pub mod Mmr
 pub mod MmrBirths
 pub mod MmrCounts
