@@ -1,11 +1,11 @@
 -- What every forest of a pairing rule keeps as it grows.
-use Rattle.std.proofs.Common.{◌≡◌, ℕ, zero, suc, ◌+◌, ◌-◌, ◌*◌, ◌^◌, ◌<◌, ◌≤◌, inl, inr, List, [], ◌∷◌, length, map, Option, Some, None, refl, sym, ◌∙◌, ap, arith, add-one, add-zero, add-suc, pow-suc}
+use Rattle.std.proofs.Common.{◌≡◌, ℕ, zero, suc, ◌+◌, ◌-◌, ◌*◌, ◌^◌, ◌<◌, ◌≤◌, inl, inr, List, [], ◌∷◌, length, map, Option, Some, None, refl, sym, ◌∙◌, ap, arith, add-zero, add-suc, pow-suc}
 use Rattle.std.proofs.lemmas.Bool.{cases_lt}
 use Rattle.std.proofs.lemmas.List.{length-map}
 use Rattle.std.proofs.lemmas.Nat.{pow_below}
 use Rattle.std.specs.Prelude.{IfSome, slice_get}
 use Rattle.std.specs.Option.{option_map_or}
-use Rattle.merkle_forest.specs.Forest.{Tree, leaf, branch, height, leaf_count, node_count, size, leaves, Rule, merged, settled, with_leaf, forest_of, IsPairOfEquals}
+use Rattle.merkle_forest.specs.Forest.{Tree, leaf, branch, height, leaf_count, node_count, size, leaves, Rule, merged, settled, forest_of, IsPairOfEquals}
 use Rattle.merkle_forest.specs.Perfect.{IsPerfect, ArePerfect, IsPairing}
 
 -- a tree has one node more than twice its leaves, less two

@@ -11,6 +11,7 @@ pub mod Hashing
 pub mod HashLaws
 pub mod Maximal
 pub mod MaximalLaws
+pub mod MaximalMeaning
 pub mod Mmr
 pub mod MmrBirths
 pub mod MmrCounts

@@ -2,6 +2,7 @@
 use Rattle.std.specs.Prelude.{◌≡◌, ◌&&◌, ℕ, ◌+◌, ◌*◌, ◌≤◌, ◌^◌, Bool, nat_le, if◌then◌else◌, List, [], ◌∷◌, ◌++◌, map}
 use Rattle.merkle_forest.specs.Forest.{Tree, leaf, branch, leaf_count, size, leaves, Rule, forest_of}
 use Rattle.merkle_forest.specs.Trees.{Placed}
+use Rattle.merkle_forest.specs.Nodes.{IsWithin, IsNodeAt}
 use Rattle.merkle_forest.specs.Peaks.{place_of}
 
 -- the leaves of the tree that starts at `start` all have locations from `from` on and before `to`
@@ -28,3 +29,10 @@ maximal_places from to peaks = map place_of (maximal_nodes from to peaks)
 abbrev pub AreChunkPeaks : Rule → ℕ → ℕ → ℕ → List (ℕ × ℕ) → Type 0
 AreChunkPeaks rule nodes chunk level places =
     (n : ℕ) → n ≤ 2 ^ 62 → nodes ≡ size (forest_of rule n) → places ≡ maximal_places (chunk * 2 ^ level) (chunk * 2 ^ level + 2 ^ level) (forest_of rule n)
+
+-- a node whose leaves all stand in the range, and there is no other such node that it stands below
+pub record IsMaximalNode (from to : ℕ) (peaks : List Tree) (first : ℕ) (node : Tree) : Type 0 where
+  pub stands : IsNodeAt first node peaks
+  pub low : from ≤ first
+  pub high : first + leaf_count node ≤ to
+  pub top : (start : ℕ) (other : Tree) → IsNodeAt start other peaks → from ≤ start → start + leaf_count other ≤ to → IsWithin first node start other → other ≡ node

@@ -1,6 +1,6 @@
 -- A walk over the maximal nodes of a range from left to right.
-use Rattle.std.proofs.Common.{◌≡◌, ℕ, suc, ◌+◌, ◌-◌, ◌*◌, ◌/◌, ◌%◌, ◌^◌, ◌<◌, ◌≤◌, ◌↔◌, true, false, cond, leb, ◌&&◌, min, inl, inr, List, [], ◌∷◌, ◌++◌, map, refl, sym, ◌∙◌, ap, subst, arith}
-use Rattle.std.proofs.lemmas.Bool.{cases_lt, le-leb, lt-leb, and_from, and_left, and_right, cond-true, cond-false}
+use Rattle.std.proofs.Common.{◌≡◌, ℕ, ◌+◌, ◌-◌, ◌*◌, ◌/◌, ◌%◌, ◌^◌, ◌<◌, ◌≤◌, ◌↔◌, true, false, cond, leb, ◌&&◌, min, inl, inr, List, [], ◌∷◌, ◌++◌, map, refl, sym, ◌∙◌, ap, subst, arith}
+use Rattle.std.proofs.lemmas.Bool.{cases_lt, le-leb, lt-leb, leb-true, and_parts, and_from, and_left, and_right, cond-true, cond-false}
 use Rattle.std.proofs.lemmas.Nat.{pow_pos, one_shl, div-add-mod', mod-mul-add}
 use Rattle.merkle_forest.specs.Forest.{Tree, leaf, branch, position, height, leaf_count, leaves, Rule, forest_of}
 use Rattle.merkle_forest.specs.Perfect.{IsPairing}
@@ -12,8 +12,13 @@ use Rattle.merkle_forest.specs.PeakLaws.{leaf_count-pos}
 use Rattle.merkle_forest.specs.MmrNodes.{pow_le}
 use Rattle.merkle_forest.specs.Maximal.{is_inside, maximal_in_tree, maximal_nodes, maximal_places}
 
-inside : (from to start : ℕ) (t : Tree) → from ≤ start → start + leaf_count t ≤ to → is_inside from to start t ≡ true
+pub inside : (from to start : ℕ) (t : Tree) → from ≤ start → start + leaf_count t ≤ to → is_inside from to start t ≡ true
 inside from to start t low high = and_from (leb from start) (leb (start + leaf_count t) to) (le-leb from start low) (le-leb (start + leaf_count t) to high)
+
+pub inside-parts : (from to start : ℕ) (t : Tree) → is_inside from to start t ≡ true → (from ≤ start) × (start + leaf_count t ≤ to)
+inside-parts from to start t is =
+    let both = and_parts (leb from start) (leb (start + leaf_count t) to) is in
+    (leb-true from start both.0, leb-true (start + leaf_count t) to both.1)
 
 before : (from to start : ℕ) (t : Tree) → start < from → is_inside from to start t ≡ false
 before from to start t lt = and_left (leb from start) (leb (start + leaf_count t) to) (lt-leb from start lt)

@@ -1,10 +1,10 @@
 -- Where the nodes of a Merkle Mountain Range stand.
-use Rattle.std.proofs.Common.{◌≡◌, ◌≢◌, ℕ, zero, suc, ◌+◌, ◌-◌, ◌*◌, ◌^◌, ◌<◌, ◌≤◌, Bool, true, false, cond, eqb, List, [], ◌∷◌, length, map, Option, Some, None, refl, sym, ◌∙◌, ap, arith, add-one, pow-suc, mul_assoc, add-mul}
+use Rattle.std.proofs.Common.{◌≡◌, ◌≢◌, ℕ, zero, suc, ◌+◌, ◌-◌, ◌*◌, ◌^◌, ◌<◌, ◌≤◌, Bool, true, false, cond, eqb, List, [], ◌∷◌, length, Some, None, refl, sym, ◌∙◌, ap, arith, pow-suc, mul_assoc, add-mul}
 use Rattle.std.proofs.lemmas.Bool.{eqb-true, eqb-false}
 use Rattle.std.proofs.lemmas.Nat.{pow_pos, pow-add, pow_below, ones_cat}
 use Rattle.std.specs.Option.{option_map_or}
 use Rattle.std.specs.Int.RustNames.{count_ones}
-use Rattle.merkle_forest.specs.Forest.{Tree, leaf, branch, position, height, leaf_count, node_count, size, leaves, Rule, merged, settled, with_leaf, forest_of, mmr_rule}
+use Rattle.merkle_forest.specs.Forest.{Tree, leaf, branch, position, height, leaf_count, node_count, size, leaves, merged, settled, forest_of, mmr_rule}
 use Rattle.merkle_forest.specs.ForestLaws.{mmr_merges_equals}
 use Rattle.merkle_forest.specs.ForestGrowth.{size-twice, leaves-forest_of}
 use Rattle.merkle_forest.specs.Mmr.{leaf_place, mmr_tree, IsRange}

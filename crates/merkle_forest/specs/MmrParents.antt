@@ -1,13 +1,13 @@
 -- The parents that are born with a leaf of a Merkle Mountain Range: as many as the lowest ones of the leaf's location.
-use Rattle.std.proofs.Common.{◌≡◌, ℕ, zero, suc, ◌+◌, ◌-◌, ◌*◌, ◌/◌, ◌%◌, ◌^◌, ◌<◌, ◌≤◌, List, [], ◌∷◌, length, Some, refl, sym, ◌∙◌, ap, arith, pow-suc}
+use Rattle.std.proofs.Common.{◌≡◌, ℕ, zero, suc, ◌+◌, ◌-◌, ◌*◌, ◌/◌, ◌%◌, ◌^◌, ◌<◌, refl, sym, ◌∙◌, ap, arith, pow-suc}
 use Rattle.std.proofs.lemmas.Nat.{pow_pos, pow_below, mod-pow-add, div-add-mod', ones_cat, ones_le_self}
 use Rattle.std.proofs.lemmas.Nat.Bits.{bit_at-trailing_ones}
 use Rattle.std.specs.List.{range_with_len}
 use Rattle.std.specs.Int.{bit_at, w64, trailing_ones}
 use Rattle.std.specs.Int.RustNames.{count_ones}
-use Rattle.merkle_forest.specs.Forest.{Tree, position, height, size, forest_of, mmr_rule}
+use Rattle.merkle_forest.specs.Forest.{position, size, forest_of, mmr_rule}
 use Rattle.merkle_forest.specs.Nodes.{HasNodeAtPlace, AreParents}
-use Rattle.merkle_forest.specs.Mmr.{leaf_place, root_place}
+use Rattle.merkle_forest.specs.Mmr.{root_place}
 use Rattle.merkle_forest.specs.MmrLaws.{ones-pow, size-mmr}
 use Rattle.merkle_forest.specs.MmrNodes.{node_position-mmr}
 use Rattle.merkle_forest.specs.MmrBirths.{birth-mmr}

@@ -1,9 +1,9 @@
 -- The nodes that are born with a leaf stand right behind it.
-use Rattle.std.proofs.Common.{◌≡◌, ℕ, zero, suc, ◌+◌, ◌-◌, ◌^◌, ◌<◌, ◌≤◌, inl, inr, List, [], ◌∷◌, length, Some, refl, ◌∙◌, ap, subst, arith}
+use Rattle.std.proofs.Common.{◌≡◌, ℕ, zero, suc, ◌+◌, ◌-◌, ◌^◌, ◌<◌, ◌≤◌, inl, inr, length, Some, refl, ◌∙◌, ap, subst, arith}
 use Rattle.std.proofs.lemmas.Bool.{cases_lt}
 use Rattle.std.specs.Prelude.{slice_get}
 use Rattle.std.specs.List.{range_with_len}
-use Rattle.merkle_forest.specs.Forest.{Tree, size, Rule, forest_of}
+use Rattle.merkle_forest.specs.Forest.{size, Rule, forest_of}
 use Rattle.merkle_forest.specs.Perfect.{IsPairing}
 use Rattle.merkle_forest.specs.ForestGrowth.{some_number, leaves-below}
 use Rattle.merkle_forest.specs.Nodes.{HasNodeAtPlace, AreParents, StandsAt, IsHeightAt}

@@ -9,6 +9,7 @@ pub mod family;
 pub mod forest;
 pub mod graftable;
 pub mod hasher;
+pub mod laws;
 pub mod location;
 pub mod location_range;
 pub mod mmr;

@@ -1,4 +1,3 @@
-use Rattle.std.proofs.Common.{◌≡◌, arith}
 use Rattle.std.proofs.lemmas.Bool.{leb-true, le-leb, eqb-true, eq-eqb}
 use Rattle.merkle_forest.specs.MaximalLaws.{born-there, never-there}
 use Rattle.merkle_forest.proofs.chunk_peaks.has_node.Goals as goal

@@ -1,6 +1,6 @@
-use Rattle.std.proofs.Common.{◌≡◌, ◌<◌, ◌≤◌, ◌+◌, ◌*◌, ◌^◌, ◌%◌, min, List, [], ◌∷◌, length, sym, ◌∙◌, ap, arith}
+use Rattle.std.proofs.Common.{◌≡◌, ◌+◌, ◌*◌, ◌^◌, ◌%◌, ◌∷◌, length, sym, ◌∙◌, ap, arith}
 use Rattle.std.proofs.lemmas.Nat.{one_shl}
-use Rattle.merkle_forest.specs.Forest.{position, height, forest_of}
+use Rattle.merkle_forest.specs.Forest.{forest_of}
 use Rattle.merkle_forest.specs.ForestGrowth.{height_fits}
 use Rattle.merkle_forest.specs.Maximal.{maximal_places}
 use Rattle.merkle_forest.specs.MaximalLaws.{end-places, step-places}

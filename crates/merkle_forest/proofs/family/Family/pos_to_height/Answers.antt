@@ -1,4 +1,4 @@
-use Rattle.std.proofs.Common.{◌≡◌, ◌+◌, ◌-◌, ◌<◌, ◌≤◌, arith}
+use Rattle.std.proofs.Common.{arith}
 use Rattle.merkle_forest.specs.ParentLaws.{height-none, height-some}
 use Rattle.merkle_forest.proofs.family.Family.pos_to_height.Goals as goal
 
