@@ -5,8 +5,9 @@ ghost use Rattle.merkle_forest.specs.Forest.{mmr_rule, size, forest_of};
 ghost use Rattle.merkle_forest.specs.ForestLaws.{mmr_merges_equals};
 ghost use Rattle.merkle_forest.specs.Mmr.{root_place};
 
-use crate::family;
+use crate::hasher::Standard;
 use crate::peaks::Peaks;
+use crate::{error, family, location, position};
 
 // The position of the root over 2^height leaves of which the first has this location, a multiple of 2^height.
 fn root_position(first: u64, height: u32) -> u64
@@ -55,6 +56,18 @@ pub fn position_of_a_leaf()
 
 /// The peaks of a Merkle Mountain Range from left to right.
 pub type PeakIterator = Peaks<Family>;
+
+/// The location of a leaf of a Merkle Mountain Range.
+pub type Location = location::Location<Family>;
+
+/// The position of a node of a Merkle Mountain Range.
+pub type Position = position::Position<Family>;
+
+/// What a call over a Merkle Mountain Range refuses.
+pub type Error = error::Error<Family>;
+
+/// The hasher of plain trees.
+pub type StandardHasher<H> = Standard<H>;
 
 #[cfg(test)]
 mod tests;
