@@ -8,10 +8,12 @@ ghost use Rattle.merkle_forest.specs.MmrNodes.{node_position-mmr};
 ghost use Rattle.merkle_forest.specs.MmrBirths.{aligned-mmr, birth-chunk_mmr, apart-mmr};
 ghost use Rattle.merkle_forest.specs.MmrCounts.{counted-mmr, soon-mmr, few-mmr};
 
-use crate::family::{self, MAX_LEAVES, MAX_NODES};
+use crate::family::{MAX_LEAVES, MAX_NODES};
 use crate::graftable::Graftable;
+use crate::hasher::Standard;
 use crate::peaks::Peaks;
 use crate::sizes::greatest_leaf_count;
+use crate::{error, family, location, position};
 
 // The position of the root over 2^height leaves of which the first has this location, a multiple of 2^height.
 fn root_position(first: u64, height: u32) -> u64
@@ -102,6 +104,18 @@ pub fn greatest_node_count()
 
 /// The peaks of a Merkle Mountain Range from left to right.
 pub type PeakIterator = Peaks<Family>;
+
+/// The location of a leaf of a Merkle Mountain Range.
+pub type Location = location::Location<Family>;
+
+/// The position of a node of a Merkle Mountain Range.
+pub type Position = position::Position<Family>;
+
+/// What a call over a Merkle Mountain Range refuses.
+pub type Error = error::Error<Family>;
+
+/// The hasher of plain trees.
+pub type StandardHasher<H> = Standard<H>;
 
 #[cfg(test)]
 mod tests;

@@ -6,9 +6,9 @@ use super::*;
 use crate::codec::{self, Decode, Encode, EncodeSize, MaxEncodeSize};
 use std::test::Fail;
 
-type Leaf = Location<mmr::Family>;
+type Leaf = mmr::Location;
 
-type Node = Position<mmr::Family>;
+type Node = mmr::Position;
 
 #[test]
 fn locations(rt: HostRuntime) -> Result<(), Fail> {

@@ -1,7 +1,6 @@
 use super::*;
 use crate::family::Family as _;
 use crate::forest::{Tree, grow};
-use crate::location::Location;
 use std::test::Fail;
 
 const LEAF_POSITIONS: [u64; 16] = [0, 1, 3, 4, 7, 8, 10, 11, 15, 16, 18, 19, 22, 23, 25, 26];

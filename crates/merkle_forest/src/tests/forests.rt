@@ -3,7 +3,6 @@
 use crate::codec::FixedBytes;
 use crate::forest::{Tree, grow};
 use crate::hasher::{Hasher, Standard};
-use crate::location::Location;
 use crate::tests::hashing::hex;
 use crate::trees::{Plain, digests_of_peaks, inactive_count_of, place};
 use crate::{Bagging, ByteHash, mmr};
@@ -76,7 +75,7 @@ fn root_of_seven_leaves(rt: HostRuntime) -> Result<(), Fail> {
     let digests: Vec<FixedBytes<32>> = digests_of_peaks(rt.alloc(), &plain, &peaks)?;
     for (bagging, inactive, text) in wanted {
         let hasher: Standard<ByteHash> = Standard::new(bagging);
-        let seven: Location<mmr::Family> = Location::new(7);
+        let seven = mmr::Location::new(7);
         let found = hasher.root(seven, inactive, &digests)?;
         assert_eq!(rt; hex(rt.alloc(), &found)?.as_str(), text, "at {inactive}");
     }

@@ -3,8 +3,6 @@
 
 use crate::codec::FixedBytes;
 use crate::hasher::{Hasher, Standard, hash_leaf, hash_node};
-use crate::location::Location;
-use crate::position::Position;
 use crate::{Bagging, ByteHash, Error, HashFunction, mmr};
 use std::alloc::Global;
 use std::fmt::Write;
@@ -19,8 +17,8 @@ pub fn hex(alloc: Global, digest: &FixedBytes<32>) -> Result<String, Fail> {
     Ok(text)
 }
 
-fn mmr_leaves(count: u64) -> Location<mmr::Family> {
-    Location::new(count)
+fn mmr_leaves(count: u64) -> mmr::Location {
+    mmr::Location::new(count)
 }
 
 fn hasher_fold(
@@ -38,10 +36,10 @@ fn digests(rt: HostRuntime) -> Result<(), Fail> {
     let alloc = rt.alloc();
     let a = FixedBytes::new([1; 32]);
     let b = FixedBytes::new([2; 32]);
-    let hasher: Standard<ByteHash> = Standard::new(Bagging::ForwardFold);
+    let hasher: mmr::StandardHasher<ByteHash> = Standard::new(Bagging::ForwardFold);
     let fold = hasher_fold(&hasher, &a, &b);
-    let six: Position<mmr::Family> = Position::new(6);
-    let five: Position<mmr::Family> = Position::new(5);
+    let six = mmr::Position::new(6);
+    let five = mmr::Position::new(5);
     let pair = hasher.node_digest_pair((six, &a, &b), (five, &b, &a));
     assert_eq!(rt; pair.0, hash_node::<ByteHash>(6, &a, &b));
     assert_eq!(rt; pair.1, hash_node::<ByteHash>(5, &b, &a));
