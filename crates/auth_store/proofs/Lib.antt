@@ -5,3 +5,5 @@ pub mod Numbers
 pub mod Lines
 pub mod Spellings
 pub mod Stores
+pub mod Reading
+pub mod Showing
