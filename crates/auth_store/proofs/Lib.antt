@@ -7,3 +7,4 @@ pub mod Spellings
 pub mod Stores
 pub mod Reading
 pub mod Showing
+pub mod Acceptance

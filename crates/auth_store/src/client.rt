@@ -9,6 +9,8 @@ ghost use Rattle.state_proofs.specs.Verified.{Verifies};
 ghost use Rattle.auth_store.specs.ClaimsCode.{parts_of, claimed_update};
 ghost use Rattle.auth_store.specs.Shown.{value_proof_bytes, Fits, Shows, after_proof, after_value_proof};
 
+pub mod laws;
+
 use merkle_core::proof::Proof;
 use merkle_forest::Digest;
 use merkle_forest::codec::{Cursor, Error, RangeCfg, Read, read_number};
