@@ -8,3 +8,6 @@ pub mod Spellings
 pub mod Stores
 pub mod Runs
 pub mod Widths
+pub mod Reading
+pub mod Showing
+pub mod Acceptance

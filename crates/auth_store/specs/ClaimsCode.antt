@@ -1,12 +1,24 @@
--- The spelling of the client's proofs, as the code holds them.
-use Rattle.std.specs.Prelude.{ℕ, List, ◌++◌, map, Option, option_map}
-use Rattle.merkle_forest.specs.Codec.{option_spelling}
-use Rattle.merkle_forest.specs.Varint.{varint}
-use Rattle.merkle_core.specs.Proofs.{proof_spelling}
+-- Claims and proofs, as the code holds them.
+use Rattle.std.specs.Prelude.{ℕ, List, map, option_map}
+use Rattle.state_ops.specs.Operation.{Operation, update}
+use Rattle.state_proofs.specs.Verified.{Parts}
+use Rattle.auth_store.specs.declared.client.Claim.{Claim}
+use Rattle.auth_store.specs.declared.client.Claim.TheVariants.{Value}
 use Rattle.auth_store.specs.declared.client.ValueProof.{ValueProof}
 
--- location, chunk, Merkle proof, pending digest, partial digest if any, root of the operations and next key
-abbrev pub value_proof_spelling : {D K : Type 0} → (Option (List ℕ) → List ℕ) → (D → List ℕ) → (K → List ℕ) → ValueProof D K → List ℕ
-value_proof_spelling pending digest key proof =
-    varint proof.location ++ (proof.chunk.now ++ (proof_spelling proof.proof.leaves proof.proof.inactive_peaks (map digest proof.proof.digests.items)
-    ++ (pending (option_map digest proof.pending) ++ (option_spelling digest proof.partial ++ (digest proof.operations_root ++ key proof.next_key)))))
+-- the parts of the operation's proof
+abbrev pub parts_of : {D K : Type 0} → (D → List ℕ) → ValueProof D K → Parts
+parts_of digest proof = record {
+  location = proof.location;
+  chunk = proof.chunk.now;
+  leaves = proof.proof.leaves;
+  inactive = proof.proof.inactive_peaks;
+  digests = map digest proof.proof.digests.items;
+  pending = option_map digest proof.pending;
+  partial = option_map digest proof.partial;
+  operations_root = digest proof.operations_root;
+}
+
+-- the update that the claim is of, from its next key
+abbrev pub claimed_update : {K V : Type 0} → (K → List ℕ) → (V → List ℕ) → Claim K V → List ℕ → Operation
+claimed_update key value (Value k v) next_key = update (key k) (value v) next_key

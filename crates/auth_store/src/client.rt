@@ -1,8 +1,15 @@
 //! The light client: it checks claims about a state against the state's root.
 
-ghost use Rattle.std.specs.Prelude.{◌≡◌, ◌++◌, map, length, IfOk};
+ghost use Rattle.std.specs.Prelude.{◌≡◌, ◌≤◌, ◌<◌, ◌^◌, ◌++◌, ◌↔◌, [], ℕ, List, map, length, false, Ok, IfOk, IsTrue};
+ghost use Rattle.std.specs.List.{All};
+ghost use Rattle.merkle_forest.specs.Codec.{Reads};
 ghost use Rattle.merkle_core.specs.Proofs.{proof_spelling};
-ghost use Rattle.auth_store.specs.ClaimsCode.{value_proof_spelling};
+ghost use Rattle.state_ops.specs.Operation.{fixed_encoding, update};
+ghost use Rattle.state_proofs.specs.Verified.{Verifies};
+ghost use Rattle.auth_store.specs.ClaimsCode.{parts_of, claimed_update};
+ghost use Rattle.auth_store.specs.Shown.{value_proof_bytes, Fits, Shows, after_proof, after_value_proof};
+
+pub mod laws;
 
 use merkle_core::proof::Proof;
 use merkle_forest::Digest;
@@ -68,7 +75,12 @@ fn read_proof<F: Graftable, D: Digest>(
     alloc: Global,
     cursor: &mut Cursor<'_>,
 ) -> Result<Proof<D>, Error>
-    ensures { IfOk result (λ proof. cursor.old ≡ proof_spelling proof.leaves proof.inactive_peaks (map D.spelling proof.digests.items) ++ cursor.new) }
+    ensures read { Reads (λ proof. proof_spelling proof.leaves proof.inactive_peaks (map D.spelling proof.digests.items)) cursor.old cursor.new
+        (after_proof (D.after tt) MAX_PROOF_DIGESTS cursor.old) result }
+    ensures leaves { IfOk result (λ proof. proof.leaves ≤ 2 ^ 62) }
+    ensures inactive { IfOk result (λ proof. proof.inactive_peaks < 2 ^ 64) }
+    ensures few { IfOk result (λ proof. length proof.digests.items ≤ MAX_PROOF_DIGESTS) }
+    ensures digests { IfOk result (λ proof. All (λ digest. length digest ≡ D.SIZE) (map D.spelling proof.digests.items)) }
 {
     let leaves: Location<F> = Location::read_cfg(alloc, cursor, &())?;
     let inactive_peaks = read_number(cursor)?;
@@ -86,8 +98,10 @@ pub fn read_value_proof<'a, F: Graftable + PendingOf<D>, D: Digest, K: Key>(
     cursor: &mut Cursor<'a>,
     width: usize,
 ) -> Result<ValueProof<'a, D, K>, Error>
-    ensures spelled { IfOk result (λ proof. cursor.old ≡ value_proof_spelling F.pending_spelling D.spelling K.spelling proof ++ cursor.new) }
-    ensures chunk { IfOk result (λ proof. length proof.chunk.now ≡ width) }
+    ensures read { Reads (λ proof. value_proof_bytes F.pending_spelling (parts_of D.spelling proof) (K.spelling proof.next_key)) cursor.old cursor.new
+        (after_value_proof (D.after tt) F.pending_after (K.after tt) width MAX_PROOF_DIGESTS cursor.old) result }
+    ensures fits { IfOk result (λ proof. Fits F.is_pending width D.SIZE MAX_PROOF_DIGESTS (parts_of D.spelling proof)) }
+    ensures key { IfOk result (λ proof. K.after tt (K.spelling proof.next_key ++ cursor.new) ≡ Ok cursor.new) }
 {
     let location: Location<F> = Location::read_cfg(alloc, cursor, &())?;
     let chunk = cursor.take(width)?;
@@ -107,20 +121,31 @@ pub fn read_value_proof<'a, F: Graftable + PendingOf<D>, D: Digest, K: Key>(
     })
 }
 
-// Whether the proof shows that the key has the value in the state of this root. It fails for want of memory alone.
-fn check_value<F: Graftable, H: HashFunction, K: Key, V: FixedValue>(
+// The encoded update that gives the key this value, before this next key. It fails for want of memory alone.
+fn encoded_update<K: Key, V: FixedValue>(
     alloc: Global,
-    root: &H::Digest,
     key: &K,
     value: &V,
-    proof: ValueProof<'_, H::Digest, K>,
-) -> Result<bool, AllocError> {
+    next_key: &K,
+) -> Result<Vec<u8>, AllocError>
+    ensures { IfOk result (λ bytes. bytes.items ≡ fixed_encoding K.SIZE V.SIZE (update (K.spelling key.now) (V.spelling value.now) (K.spelling next_key.now))) }
+{
     let update = Operation::Update(Ordered {
         key: key.clone()?,
         value: value.clone()?,
-        next_key: proof.next_key,
+        next_key: next_key.clone()?,
     });
-    let operation = encode(alloc, &update)?;
+    encode(alloc, &update)
+}
+
+// Whether the proof shows that the encoded operation stands at its location in the state of this root and is active there.
+fn shows_operation<F: Graftable, H: HashFunction, K: Key>(
+    root: &H::Digest,
+    proof: &ValueProof<'_, H::Digest, K>,
+    operation: &[u8],
+) -> bool
+    ensures { IsTrue result ↔ Verifies F.merge_rule H.hash_of (H.Digest.spelling root.now) (parts_of H.Digest.spelling proof.now) operation.now }
+{
     let parts = OperationProof {
         location: proof.location,
         chunk: proof.chunk,
@@ -131,7 +156,66 @@ fn check_value<F: Graftable, H: HashFunction, K: Key, V: FixedValue>(
         partial: proof.partial,
         operations_root: proof.operations_root,
     };
-    Ok(verify_operation::<F, H>(root, &parts, &operation))
+    verify_operation::<F, H>(root, &parts, operation)
+}
+
+// Whether the proof shows that the key has the value in the state of this root. It fails for want of memory alone.
+fn check_value<F: Graftable, H: HashFunction, K: Key, V: FixedValue>(
+    alloc: Global,
+    root: &H::Digest,
+    key: &K,
+    value: &V,
+    proof: &ValueProof<'_, H::Digest, K>,
+) -> Result<bool, AllocError>
+    ensures { IfOk result (λ yes. IsTrue yes ↔ Verifies F.merge_rule H.hash_of (H.Digest.spelling root.now) (parts_of H.Digest.spelling proof.now)
+        (fixed_encoding K.SIZE V.SIZE (update (K.spelling key.now) (V.spelling value.now) (K.spelling proof.now.next_key)))) }
+{
+    let operation = encoded_update(alloc, key, value, &proof.next_key)?;
+    Ok(shows_operation::<F, H, K>(root, proof, &operation))
+}
+
+// What a proof that could not be read shows: nothing, where memory was not wanting.
+fn refused(e: Error) -> Result<bool, ClientError>
+    ensures { IfOk result (λ yes. (yes ≡ false) × (e ≡ Error.Memory → ⊥)) }
+{
+    match e {
+        Error::Memory => Err(ClientError::Memory),
+        Error::EndOfBuffer
+        | Error::ExtraData
+        | Error::InvalidVarint
+        | Error::InvalidBool
+        | Error::InvalidEnum(_)
+        | Error::InvalidLength
+        | Error::Invalid => Ok(false),
+    }
+}
+
+// Whether the bytes show that the key has the value in the state of this root. It fails for want of memory alone.
+fn shows_value<F, H, K, V, const N: usize>(
+    alloc: Global,
+    root: &H::Digest,
+    key: &K,
+    value: &V,
+    bytes: &[u8],
+) -> Result<bool, ClientError>
+where
+    F: Graftable + PendingOf<H::Digest>,
+    H: HashFunction,
+    K: Key,
+    V: FixedValue,
+    ensures { IfOk result (λ yes. IsTrue yes ↔ Shows F.merge_rule H.hash_of F.is_pending F.pending_spelling (λ next_key. K.after tt next_key ≡ Ok []) N H.Digest.SIZE MAX_PROOF_DIGESTS
+        (λ next_key. fixed_encoding K.SIZE V.SIZE (update (K.spelling key.now) (V.spelling value.now) next_key)) (H.Digest.spelling root.now) bytes.now) }
+{
+    let mut cursor = Cursor::new(bytes);
+    match read_value_proof::<F, H::Digest, K>(alloc, &mut cursor, N) {
+        Err(e) => refused(e),
+        Ok(proof) => {
+            if !cursor.is_empty() {
+                return Ok(false);
+            }
+            Ok(check_value::<F, H, K, V>(alloc, root, key, value, &proof)?)
+        }
+    }
 }
 
 /// Whether the bytes prove the claim about the state of this root, with chunks of `N` bytes. Bytes that are no proof, or have
@@ -147,18 +231,11 @@ where
     H: HashFunction,
     K: Key,
     V: FixedValue,
+    ensures { IfOk result (λ yes. IsTrue yes ↔ Shows F.merge_rule H.hash_of F.is_pending F.pending_spelling (λ next_key. K.after tt next_key ≡ Ok []) N H.Digest.SIZE MAX_PROOF_DIGESTS
+        (λ next_key. fixed_encoding K.SIZE V.SIZE (claimed_update K.spelling V.spelling claim.now next_key)) (H.Digest.spelling root.now) bytes.now) }
 {
-    let Claim::Value { key, value } = claim;
-    let mut cursor = Cursor::new(bytes);
-    match read_value_proof::<F, H::Digest, K>(alloc, &mut cursor, N) {
-        Err(Error::Memory) => Err(ClientError::Memory),
-        Err(_) => Ok(false),
-        Ok(proof) => {
-            if !cursor.is_empty() {
-                return Ok(false);
-            }
-            Ok(check_value::<F, H, K, V>(alloc, root, key, value, proof)?)
-        }
+    match claim {
+        Claim::Value { key, value } => shows_value::<F, H, K, V, N>(alloc, root, key, value, bytes),
     }
 }
 

@@ -9,3 +9,4 @@ pub mod Splits
 pub mod Bags
 pub mod Accepted
 pub mod Short
+pub mod Sized

@@ -5,3 +5,4 @@ pub mod HeightLemmas
 pub mod ActiveLemmas
 pub mod FollowLemmas
 pub mod Accepted
+pub mod HonestSizes
