@@ -1,5 +1,5 @@
 -- The active update of a key names its value and its next key in the latest state.
-use Rattle.std.proofs.Common.{◌≡◌, ℕ, ◌+◌, Bool, true, false, cond, ◌&&◌, not, List, [], ◌∷◌, ◌++◌, Option, None, Some, option_map, refl, ap, sym, ◌∙◌, ⊎_elim}
+use Rattle.std.proofs.Common.{◌≡◌, ℕ, IfSome, subst, ◌+◌, Bool, true, false, cond, ◌&&◌, not, List, [], ◌∷◌, ◌++◌, Option, None, Some, option_map, refl, ap, sym, ◌∙◌, ⊎_elim}
 use Rattle.std.specs.Prelude.{is_some, slice_get, unwrap_or, ◌||◌}
 use Rattle.std.specs.Str.{bytes_eq}
 use Rattle.std.specs.List.{list_any}
@@ -7,11 +7,11 @@ use native.Mathlib.Numerals.{unary_clauses}
 use Rattle.std.proofs.lemmas.Bool.{cases_Bool}
 use Rattle.state_ops.specs.Operation.{Operation, delete, update, commit_floor}
 use Rattle.auth_store.specs.Map.{Map, value_at, next_key}
-use Rattle.auth_store.specs.History.{History, latest_map, has_key, is_active, is_kept, deletes, updates, batch_operations, inactivity_floor, log_of, history_of, IsState, AreStates}
+use Rattle.auth_store.specs.History.{History, latest_map, has_key, is_active, activity_bits, is_kept, deletes, updates, batch_operations, inactivity_floor, log_of, history_of, IsState, AreStates}
 use Rattle.state_proofs.specs.Canonical.{Setting}
 use Rattle.state_proofs.specs.Honest.{key_value_proof}
 use Rattle.auth_store.specs.Store.{state_of_log, floor_of, Keeps}
-use Rattle.auth_store.specs.Proving.{active_place, named, active_update, honest_proof}
+use Rattle.auth_store.specs.Proving.{is_active_on, active_place, named, active_update, honest_proof}
 use Rattle.auth_store.proofs.Lookups.{same, exact, none_later, IsState-tail}
 use Rattle.auth_store.proofs.Logs.{differ, true_false, false_true, passed_by, equal_bytes, kept_value}
 
@@ -212,3 +212,68 @@ honest_found pending setting key_size value_size log count last digest written q
         ≡ option_map {U = List ℕ × List ℕ} (λ value. (value, honest_proof pending setting key_size value_size (history_of log) q)) at
     each None = refl
     each (Some v) = refl
+
+-- the active update of a key stands at its place, and its bit is set
+pub record Stands (q : List ℕ) (log : List Operation) (u : List ℕ × List ℕ) : Type 0 where
+  pub update_at : slice_get log (active_place q log) ≡ Some (update q u.0 u.1)
+  pub bit_at : slice_get (activity_bits log) (active_place q log) ≡ Some true
+
+passed : (q : List ℕ) (op : Operation) (later : List Operation) → is_active_on q op later ≡ false → active_update q (op ∷ later) ≡ active_update q later
+passed q op later off = ap (λ b. named (slice_get (op ∷ later) (cond b 0 (active_place q later + 1)))) off ∙ ap named (later_get op later (active_place q later))
+
+stands_later : (q : List ℕ) (op : Operation) (later : List Operation) (u : List ℕ × List ℕ) → is_active_on q op later ≡ false → Stands q later u → Stands q (op ∷ later) u
+stands_later q op later u off stands = record {
+  update_at = ap (λ b. slice_get (op ∷ later) (cond b 0 (active_place q later + 1))) off ∙ (later_get op later (active_place q later) ∙ stands.update_at);
+  bit_at = ap (λ b. slice_get (is_active op later ∷ activity_bits later) (cond b 0 (active_place q later + 1))) off ∙ (later_bit (is_active op later) (activity_bits later) (active_place q later) ∙ stands.bit_at);
+}
+  where
+    later_bit : (bit : Bool) (bits : List Bool) (n : ℕ) → slice_get (bit ∷ bits) (n + 1) ≡ slice_get bits n
+    later_bit bit bits n = simp unary_clauses refl
+
+both_true : (a b : Bool) → (a && b) ≡ true → (a ≡ true) × (b ≡ true)
+both_true true b h = (refl, h)
+both_true false b h = absurd (cc)
+
+stands_here : (q k v n : List ℕ) (later : List Operation) (u : List ℕ × List ℕ) → is_active_on q (update k v n) later ≡ true → active_update q (update k v n ∷ later) ≡ Some u → Stands q (update k v n ∷ later) u
+stands_here q k v n later u on is =
+    let parts = both_true (same q k) (is_active (update k v n) later) on in
+    let here : active_place q (update k v n ∷ later) ≡ 0 = ap (λ b. cond b 0 (active_place q later + 1)) on in
+    let said_u : Some (v, n) ≡ Some u = sym (ap (λ p. named (slice_get (update k v n ∷ later) p)) here) ∙ is in
+    let value : v ≡ u.0 = ap (λ (o : Option (List ℕ × List ℕ)). (unwrap_or o (v, n)).0) said_u in
+    let next : n ≡ u.1 = ap (λ (o : Option (List ℕ × List ℕ)). (unwrap_or o (v, n)).1) said_u in
+    record {
+      update_at = ap (slice_get (update k v n ∷ later)) here ∙ (ap (λ x. Some (update x v n)) (sym (exact q k parts.0)) ∙ (ap (λ x. Some (update q x n)) value ∙ ap (λ x. Some (update q u.0 x)) next));
+      bit_at = ap (slice_get (is_active (update k v n) later ∷ activity_bits later)) here ∙ ap Some parts.1;
+    }
+
+pub active_stands : (q : List ℕ) (log : List Operation) (u : List ℕ × List ℕ) → active_update q log ≡ Some u → Stands q log u
+active_stands q [] u is = absurd (cc)
+active_stands q (delete k ∷ later) u is =
+    let off : is_active_on q (delete k) later ≡ false = elim (same q k) as (λ b. (b && false) ≡ false) [ true ↦ refl | false ↦ refl ] in
+    stands_later q (delete k) later u off (active_stands q later u (sym (passed q (delete k) later off) ∙ is))
+active_stands q (update k v n ∷ later) u is =
+    ⊎_elim
+    (λ on. stands_here q k v n later u on is)
+    (λ off. stands_later q (update k v n) later u off (active_stands q later u (sym (passed q (update k v n) later off) ∙ is)))
+    (cases_Bool (is_active_on q (update k v n) later))
+active_stands q (commit_floor m f ∷ later) u is =
+    stands_later q (commit_floor m f) later u refl (active_stands q later u (sym (passed q (commit_floor m f) later refl) ∙ is))
+
+-- what a store proves of a key that is there stands in its log
+pub present_stands : (q v : List ℕ) (h : History) → AreStates h → value_at (latest_map h) q ≡ Some v → Stands q (log_of h) (v, next_key (latest_map h) q)
+present_stands q v h states at =
+    active_stands q (log_of h) (v, next_key (latest_map h) q) (active-log q h states ∙ ap (option_map (λ value. (value, next_key (latest_map h) q))) at)
+
+-- what holds of the next key that the active update names holds of the key's next key
+pub of_next_key : {X Y : Type 0} (R : List ℕ → Type 0) (parts : X → Y) (shown_as : List ℕ × List ℕ → Y) (found : Option X) (u : Named) (state : Map) (q : List ℕ)
+    → u ≡ entry_of state q → option_map parts found ≡ option_map shown_as u → IfSome found (λ _. IfSome u (λ x. R x.1)) → IfSome found (λ _. R (next_key state q))
+of_next_key R parts shown_as None u state q is same holds = tt
+of_next_key {X} {Y} R parts shown_as (Some p) u state q is same holds = there (value_at state q) is
+  where
+    there : (at : Option (List ℕ)) → u ≡ option_map (λ value. (value, next_key state q)) at → R (next_key state q)
+    there None none = let gone : Some (parts p) ≡ None = same ∙ ap (option_map shown_as) none in absurd (cc)
+    there (Some v) some = subst (λ x. IfSome x (λ y. R y.1)) some holds
+
+pub kept_entry : (setting : Setting) (key_size value_size : ℕ) (log : List Operation) (count last : ℕ) (digest written q : List ℕ)
+    → Keeps setting key_size value_size log count last digest written → active_update q log ≡ entry_of (latest_map (history_of log)) q
+kept_entry setting key_size value_size log count last digest written q keeps = ap (active_update q) keeps.whole ∙ active-log q (history_of log) keeps.states

@@ -9,6 +9,9 @@ use merkle_forest::codec::{Faithful, FixedBytes, FixedSize, Read};
 /// A key: its spelling has a fixed size, and its order is the byte order of its spelling.
 pub trait Key: Read<Cfg = ()> + FixedSize + Faithful + Ord {
     ghost ordered: { (k l : Self) → Self.cmp k l ≡ slice_cmp nat_cmp (Self.spelling k) (Self.spelling l) };
+
+    /// Each key may be read.
+    ghost within: { (k : Self) → Self.is_within tt k };
 }
 
 /// A value whose spelling has a fixed size.
@@ -16,6 +19,8 @@ pub trait FixedValue: Read<Cfg = ()> + FixedSize + Faithful {}
 
 impl<const M: usize> Key for FixedBytes<M> {
     ghost ordered = { λ _ _. refl };
+
+    ghost within = { λ _. tt };
 }
 
 impl<const M: usize> FixedValue for FixedBytes<M> {}

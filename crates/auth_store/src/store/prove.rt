@@ -1,8 +1,8 @@
 //! Proofs that a store answers.
 
-ghost use Rattle.std.specs.Prelude.{◌≡◌, ◌<◌, ◌≤◌, ◌^◌, ℕ, map, length, option_map, slice_get, IfOk, IfSome, IsErrOf};
+ghost use Rattle.std.specs.Prelude.{◌≡◌, ◌<◌, ◌≤◌, ◌^◌, ℕ, [], Ok, map, length, option_map, slice_get, IfOk, IfSome, IsErrOf};
 ghost use Rattle.auth_store.specs.History as spec;
-ghost use Rattle.auth_store.specs.Map.{value_at};
+ghost use Rattle.auth_store.specs.Map.{next_key, value_at};
 ghost use Rattle.auth_store.specs.Proving.{active_place, active_update, honest_proof, named};
 ghost use Rattle.auth_store.specs.ProvingCode.{parts_of};
 ghost use Rattle.auth_store.specs.Store.{IsChunkWidth, setting_of_width, state_of_log};
@@ -13,7 +13,7 @@ use super::log::encodings;
 use crate::error::StoreError;
 use crate::history;
 use crate::history::activity::is_active_on;
-use merkle_forest::codec::Encode;
+use merkle_forest::codec::Write;
 use merkle_forest::pending::PendingOf;
 use merkle_forest::{Family, HashFunction};
 use state_ops::{FixedValue, Key, Operation, Ordered};
@@ -61,6 +61,16 @@ fn update_at<K: Key, V: FixedValue>(
     }
 }
 
+// The key's spelling, from which the key is read again. It fails for want of memory alone.
+fn encoded_key<K: Key>(alloc: Global, key: &K) -> Result<Vec<u8>, AllocError>
+    ensures bytes { IfOk result (λ bytes. bytes.items ≡ K.spelling key.now) }
+    ensures read { IfOk result (λ _. K.after tt (K.spelling key.now) ≡ Ok []) }
+{
+    let mut bytes = Vec::new(alloc);
+    key.write(&mut bytes)?;
+    Ok(bytes)
+}
+
 // The honest bytes that prove the update at a place of the log, which names this next key.
 fn proof_at<F: PendingOf<H::Digest>, H: HashFunction, K: Key, V: FixedValue, const N: usize>(
     alloc: Global,
@@ -72,7 +82,8 @@ fn proof_at<F: PendingOf<H::Digest>, H: HashFunction, K: Key, V: FixedValue, con
     requires width { IsChunkWidth N }
     requires few { length log.now ≤ 2 ^ 62 }
     requires within { place < length log.now }
-    ensures { IfOk result (λ bytes. bytes.items ≡ key_value_proof F.pending_spelling (setting_of_width F.merge_rule H.hash_of N)
+    ensures next { IfOk result (λ _. K.after tt (K.spelling next_key.now) ≡ Ok []) }
+    ensures bytes { IfOk result (λ bytes. bytes.items ≡ key_value_proof F.pending_spelling (setting_of_width F.merge_rule H.hash_of N)
         (state_of_log K.SIZE V.SIZE (spec.meanings K.spelling V.spelling log.now) floor) place (K.spelling next_key.now)) }
 {
     let operations = encodings(alloc, log)?;
@@ -84,7 +95,7 @@ fn proof_at<F: PendingOf<H::Digest>, H: HashFunction, K: Key, V: FixedValue, con
         width: N,
         grafting_height: (8 * N).trailing_zeros() as u64,
     };
-    let next = next_key.encode(alloc)?;
+    let next = encoded_key(alloc, next_key)?;
     key_value_proof_bytes::<F, H>(alloc, &snapshot, place as u64, &next)
 }
 
@@ -103,7 +114,8 @@ pub fn prove_in_log<
 ) -> Result<Option<KeyProof<V>>, AllocError>
     requires width { IsChunkWidth N }
     requires few { length log.now ≤ 2 ^ 62 }
-    ensures { let log = spec.meanings K.spelling V.spelling log.now in
+    ensures next { IfOk result (λ found. IfSome found (λ _. IfSome (active_update (K.spelling key.now) (spec.meanings K.spelling V.spelling log.now)) (λ update. K.after tt update.1 ≡ Ok []))) }
+    ensures found { let log = spec.meanings K.spelling V.spelling log.now in
         IfOk result (λ found. option_map (parts_of V.spelling) found ≡ option_map (λ update. (update.0, key_value_proof F.pending_spelling (setting_of_width F.merge_rule H.hash_of N)
         (state_of_log K.SIZE V.SIZE log floor) (active_place (K.spelling key.now) log) update.1)) (active_update (K.spelling key.now) log)) }
 {
@@ -127,6 +139,7 @@ impl<F: PendingOf<H::Digest>, H: HashFunction, K: Key, V: FixedValue, const N: u
     pub fn prove_key(&self, key: &K) -> Result<Option<KeyProof<V>>, StoreError>
         ensures ok { IfOk result (λ found. option_map (parts_of V.spelling) found ≡ option_map (λ value. (value, honest_proof F.pending_spelling (setting_of_width F.merge_rule H.hash_of N)
             K.SIZE V.SIZE self.now (K.spelling key.now))) (value_at (spec.latest_map self.now) (K.spelling key.now))) }
+        ensures next { IfOk result (λ found. IfSome found (λ _. K.after tt (next_key (spec.latest_map self.now) (K.spelling key.now)) ≡ Ok [])) }
         ensures err { IsErrOf result StoreError.NumberEnded → ⊥ }
     {
         let found = prove_in_log::<F, H, K, V, N>(self.alloc, &self.operations, self.floor, key)?;
