@@ -1,5 +1,6 @@
 pub mod Entries
 pub mod Actives
+pub mod Batches
 pub mod Lookups
 pub mod Logs
 pub mod Numbers

@@ -6,6 +6,7 @@ ghost use Rattle.auth_store.specs.History as spec;
 ghost use Rattle.auth_store.specs.Map.{value_at};
 ghost use Rattle.auth_store.specs.Store.{IsChunkWidth, Keeps, setting_of_width, floor_of, root_of_history, commit_after, log_bytes};
 
+pub mod laws;
 pub mod log;
 pub mod prove;
 
