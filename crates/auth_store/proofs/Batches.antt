@@ -16,6 +16,7 @@ any-append f (x ∷ xs) ys left right = none_of (f x) (list_any f xs) (list_any 
     tail_of : (a b : Bool) → (a || b) ≡ false → b ≡ false
     tail_of true b h = absurd (cc)
     tail_of false b h = h
+
     none_of : (a b c : Bool) → (a || b) ≡ false → c ≡ false → (a || c) ≡ false
     none_of true b c h e = absurd (cc)
     none_of false b c h e = e

@@ -85,12 +85,14 @@ impl<F: Family, H: HashFunction, K: Key, V: FixedValue, const N: usize> Store<F,
         let _ = sizes;
         let mut device = device;
         match first_version::<F, H, K, V, N>(alloc, &mut device) {
-            Ok(Version {
-                operations,
-                floor,
-                root,
-                bytes: _,
-            }) => Ok(Store {
+            Ok(
+                Version {
+                    operations,
+                    floor,
+                    root,
+                    bytes: _,
+                },
+            ) => Ok(Store {
                 alloc,
                 operations,
                 commits: 0,

@@ -41,16 +41,16 @@ regroup w x y z = simp append_assoc
 -- by BackwardFold
 range_backward : (hash : Hash) (digest : Digests) (location : ℕ) (inactive active f_i f_a a_i a_a o_i o_a : List Placed) → Parts location inactive active f_i f_a a_i a_a o_i o_a
     → range_digests hash digest BackwardFold location (location + 1) inactive active
-        ≡ (as_one (folded_forward hash) (singly digest f_i) ++ singly digest f_a)
-        ++ ((singly digest a_i ++ as_one (folded_backward hash) (singly digest a_a)) ++ (inner_of digest location o_i ++ inner_of digest location o_a))
+    ≡ (as_one (folded_forward hash) (singly digest f_i) ++ singly digest f_a)
+    ++ ((singly digest a_i ++ as_one (folded_backward hash) (singly digest a_a)) ++ (inner_of digest location o_i ++ inner_of digest location o_a))
 range_backward hash digest location inactive active f_i f_a a_i a_a o_i o_a it =
     rw (it.b_i, it.b_a, it.a_i, it.a_a, it.o_i, it.o_a)
     (regroup (as_one (folded_forward hash) (singly digest f_i) ++ singly digest f_a) (singly digest a_i ++ as_one (folded_backward hash) (singly digest a_a)) (inner_of digest location o_i) (inner_of digest location o_a))
 
 range_forward : (hash : Hash) (digest : Digests) (location : ℕ) (inactive active f_i f_a a_i a_a o_i o_a : List Placed) → Parts location inactive active f_i f_a a_i a_a o_i o_a
     → range_digests hash digest ForwardFold location (location + 1) inactive active
-        ≡ as_one (folded_forward hash) (singly digest f_i ++ singly digest f_a)
-        ++ ((singly digest a_i ++ singly digest a_a) ++ (inner_of digest location o_i ++ inner_of digest location o_a))
+    ≡ as_one (folded_forward hash) (singly digest f_i ++ singly digest f_a)
+    ++ ((singly digest a_i ++ singly digest a_a) ++ (inner_of digest location o_i ++ inner_of digest location o_a))
 range_forward hash digest location inactive active f_i f_a a_i a_a o_i o_a it =
     rw (it.b_i, it.b_a, it.a_i, it.a_a, it.o_i, it.o_a)
     (regroup (as_one (folded_forward hash) (singly digest f_i ++ singly digest f_a)) (singly digest a_i ++ singly digest a_a) (inner_of digest location o_i) (inner_of digest location o_a))
@@ -161,8 +161,8 @@ digested hash digest bagging location inactive first node front back low high fr
 pub accepted : (hashing : Hashing) (hash : Hash) (bagging : Bagging) (rule : Rule) → IsPairing rule → (digest : Digests) (leaf_total inactive location : ℕ) (element : List ℕ) → leaf_total ≤ 2 ^ 62 → location < leaf_total
     → inactive ≤ length (forest_of rule leaf_total) → FollowsIn hashing digest rule leaf_total location element
     → reconstructed hashing hash bagging rule leaf_total inactive location element
-        (range_digests hash digest bagging location (location + 1) (take inactive (placed (forest_of rule leaf_total))) (drop inactive (placed (forest_of rule leaf_total))))
-        ≡ Some (root_of hash bagging leaf_total inactive (peak_digests digest (forest_of rule leaf_total)))
+    (range_digests hash digest bagging location (location + 1) (take inactive (placed (forest_of rule leaf_total))) (drop inactive (placed (forest_of rule leaf_total))))
+    ≡ Some (root_of hash bagging leaf_total inactive (peak_digests digest (forest_of rule leaf_total)))
 unfolding root_around root_of
 accepted hashing hash bagging rule pairs digest leaf_total inactive location element few within some follows =
     let trees : List Tree = forest_of rule leaf_total in

@@ -87,5 +87,5 @@ range_sized size hash digest bagging start stop inactive active sized gives =
     let four : List (List ℕ) = inner_digests digest start stop active in
     both_sized size ((one ++ two) ++ three) four
     (both_sized size (one ++ two) three (both_sized size one two (before_sized size hash digest bagging start inactive active sized gives) (after_sized size hash digest bagging stop inactive active sized gives))
-      (inner_sized size digest start stop (filter (meets start stop) inactive) gives))
+    (inner_sized size digest start stop (filter (meets start stop) inactive) gives))
     (inner_sized size digest start stop (filter (meets start stop) active) gives)

@@ -31,29 +31,29 @@ split location [] lt = absurd (omega arith)
 split location (t ∷ ts) lt =
     elim (cases_lt location (leaves ts)) [
       | inl below ↦ (let rest = split location ts below in record {
-          front = rest.front;
-          first = rest.first;
-          node = rest.node;
-          back = rest.back ++ (leaves ts, t) ∷ [];
-          is = ap (λ ps. ps ++ (leaves ts, t) ∷ []) rest.is ∙ append_assoc rest.front ((rest.first, rest.node) ∷ rest.back) ((leaves ts, t) ∷ []);
-          peak = inr rest.peak;
-          low = rest.low;
-          high = rest.high;
-          fronts = rest.fronts;
-          backs = all_from-append (location + 1) rest.back ((leaves ts, t) ∷ []) rest.backs (omega (arith, below), tt);
-        })
+        front = rest.front;
+        first = rest.first;
+        node = rest.node;
+        back = rest.back ++ (leaves ts, t) ∷ [];
+        is = ap (λ ps. ps ++ (leaves ts, t) ∷ []) rest.is ∙ append_assoc rest.front ((rest.first, rest.node) ∷ rest.back) ((leaves ts, t) ∷ []);
+        peak = inr rest.peak;
+        low = rest.low;
+        high = rest.high;
+        fronts = rest.fronts;
+        backs = all_from-append (location + 1) rest.back ((leaves ts, t) ∷ []) rest.backs (omega (arith, below), tt);
+      })
       | inr above ↦ record {
-          front = placed ts;
-          first = leaves ts;
-          node = t;
-          back = [];
-          is = refl;
-          peak = inl (refl, refl);
-          low = above;
-          high = omega (arith, lt);
-          fronts = within_more (leaves ts) location (placed ts) above (placed_within ts);
-          backs = tt;
-        }
+        front = placed ts;
+        first = leaves ts;
+        node = t;
+        back = [];
+        is = refl;
+        peak = inl (refl, refl);
+        low = above;
+        high = omega (arith, lt);
+        fronts = within_more (leaves ts) location (placed ts) above (placed_within ts);
+        backs = tt;
+      }
     ]
 
 -- the three lists of peaks that all stand before the location

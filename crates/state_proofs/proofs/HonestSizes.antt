@@ -73,8 +73,8 @@ inactive_fits setting state pairs few =
 -- the honest bytes, part by part
 pub honest_bytes : (pending : Option (List ℕ) → List ℕ) (setting : Setting) (state : State) (location : ℕ) (next_key : List ℕ)
     → key_value_proof pending setting state location next_key
-        ≡ varint location ++ (chunk setting state (location / chunk_bits setting) ++ (proof_spelling (length state.operations) (grafted_inactive setting state) (grafted_range setting state location (location + 1))
-        ++ (pending (pending_digest setting state) ++ (option_spelling (λ digest. digest) (partial_digest setting state) ++ (operations_root setting state ++ next_key)))))
+    ≡ varint location ++ (chunk setting state (location / chunk_bits setting) ++ (proof_spelling (length state.operations) (grafted_inactive setting state) (grafted_range setting state location (location + 1))
+    ++ (pending (pending_digest setting state) ++ (option_spelling (λ digest. digest) (partial_digest setting state) ++ (operations_root setting state ++ next_key)))))
 unfolding key_value_proof operation_proof range_proof
 honest_bytes pending setting state location next_key = simp append_assoc
 

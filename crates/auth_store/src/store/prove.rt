@@ -46,10 +46,7 @@ fn place_of<K: Key, V: FixedValue>(key: &K, log: &[Operation<K, V>]) -> usize
 }
 
 // The update at a place of the log, or None where another operation stands there or none.
-fn update_at<K: Key, V: FixedValue>(
-    log: &[Operation<K, V>],
-    place: usize,
-) -> Option<&Ordered<K, V>>
+fn update_at<K: Key, V: FixedValue>(log: &[Operation<K, V>], place: usize) -> Option<&Ordered<K, V>>
     ensures update { option_map (λ update. (V.spelling update.now.value, K.spelling update.now.next_key)) result ≡ named (slice_get (spec.meanings K.spelling V.spelling log.now) place) }
     ensures within { IfSome result (λ _. place < length log.now) }
 {
@@ -116,8 +113,11 @@ pub fn prove_in_log<
     requires few { length log.now ≤ 2 ^ 62 }
     ensures next { IfOk result (λ found. IfSome found (λ _. IfSome (active_update (K.spelling key.now) (spec.meanings K.spelling V.spelling log.now)) (λ update. K.after tt update.1 ≡ Ok []))) }
     ensures found { let log = spec.meanings K.spelling V.spelling log.now in
-        IfOk result (λ found. option_map (parts_of V.spelling) found ≡ option_map (λ update. (update.0, key_value_proof F.pending_spelling (setting_of_width F.merge_rule H.hash_of N)
-        (state_of_log K.SIZE V.SIZE log floor) (active_place (K.spelling key.now) log) update.1)) (active_update (K.spelling key.now) log)) }
+        IfOk result (λ found. option_map (parts_of V.spelling) found ≡ option_map (λ update. (
+          update.0,
+          key_value_proof F.pending_spelling (setting_of_width F.merge_rule H.hash_of N)
+              (state_of_log K.SIZE V.SIZE log floor) (active_place (K.spelling key.now) log) update.1,
+        )) (active_update (K.spelling key.now) log)) }
 {
     let place = place_of(key, log);
     let Some(update) = update_at(log, place) else {
@@ -137,8 +137,11 @@ impl<F: PendingOf<H::Digest>, H: HashFunction, K: Key, V: FixedValue, const N: u
     /// The value of the key, and the honest bytes that prove it under the root of this moment. None: the key isn't there.
     /// Want of memory: S4.
     pub fn prove_key(&self, key: &K) -> Result<Option<KeyProof<V>>, StoreError>
-        ensures ok { IfOk result (λ found. option_map (parts_of V.spelling) found ≡ option_map (λ value. (value, honest_proof F.pending_spelling (setting_of_width F.merge_rule H.hash_of N)
-            K.SIZE V.SIZE self.now (K.spelling key.now))) (value_at (spec.latest_map self.now) (K.spelling key.now))) }
+        ensures ok { IfOk result (λ found. option_map (parts_of V.spelling) found ≡ option_map (λ value. (
+          value,
+          honest_proof F.pending_spelling (setting_of_width F.merge_rule H.hash_of N)
+              K.SIZE V.SIZE self.now (K.spelling key.now),
+        )) (value_at (spec.latest_map self.now) (K.spelling key.now))) }
         ensures next { IfOk result (λ found. IfSome found (λ _. K.after tt (next_key (spec.latest_map self.now) (K.spelling key.now)) ≡ Ok [])) }
         ensures err { IsErrOf result StoreError.NumberEnded → ⊥ }
     {

@@ -8,10 +8,11 @@ pub loop-step-init : goal.loop-step-init
 loop-step-init g c = (rw (c.into_iter-steps.ensures.rest, c.requires.none) (taken_none _ _ _), omega (arith, c.into_iter-steps.ensures.len, c.requires.room))
 
 pub loop-step-preserved : goal.loop-step-preserved
-loop-step-preserved g c =
-    (taken_next _ _ _ _ _ _ _ _ _ _ _ c.loop-step.invariant.0 (ap (requests_of g.K.Write.spelling g.V.Write.spelling) c.in-Some.ensures.items) c.step.ensures
-    (ap (meanings_of g.H.Digest.Write.spelling g.V.Write.spelling) c.note.ensures.items ∙ map-append (meaning_of g.H.Digest.Write.spelling g.V.Write.spelling) c.loop-step.answers.items _),
-    omega (arith, c.in-Some.ensures.len, c.note.ensures.len, c.note.ensures.capacity, c.loop-step.invariant.1))
+loop-step-preserved g c = (
+  taken_next _ _ _ _ _ _ _ _ _ _ _ c.loop-step.invariant.0 (ap (requests_of g.K.Write.spelling g.V.Write.spelling) c.in-Some.ensures.items) c.step.ensures
+      (ap (meanings_of g.H.Digest.Write.spelling g.V.Write.spelling) c.note.ensures.items ∙ map-append (meaning_of g.H.Digest.Write.spelling g.V.Write.spelling) c.loop-step.answers.items _),
+  omega (arith, c.in-Some.ensures.len, c.note.ensures.len, c.note.ensures.capacity, c.loop-step.invariant.1),
+)
 
 pub returns : goal.returns
 returns g c = taken_end _ _ _ _ _ _ c.loop-step.invariant.0 (ap (requests_of g.K.Write.spelling g.V.Write.spelling) (nil_from_length _ (sym c.loop-step.steps.rest.ok.0 ∙ c.in_default.ensures.cases.0)))
