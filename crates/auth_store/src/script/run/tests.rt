@@ -9,7 +9,7 @@ fn outcome(alloc: Global, script: &str) -> (u8, Vec<u8>) {
     (status, out)
 }
 
-fn expect(rt: &impl Abort, alloc: Global, script: &str, printed: &str, status: u8) {
+pub fn expect(rt: &impl Abort, alloc: Global, script: &str, printed: &str, status: u8) {
     let (ended, out) = outcome(alloc, script);
     assert_eq!(rt; ended, status);
     assert_eq!(rt; out.as_slice(), printed.as_bytes());

@@ -10,17 +10,21 @@ type Keys = FixedBytes<8>;
 
 type TestStore = Store<mmr::Family, ByteHash, Keys, u64, 1>;
 
-// The key `0000000000000061` after {put a 1} and {put c 3}: 174 bytes, which begin with the location, the chunk, the
-// leaf count, no inactive peak and three digests.
-#[test]
-fn second_key(rt: HostRuntime) -> Result<(), Fail> {
-    let alloc = rt.alloc();
+fn opened(alloc: Global) -> Result<TestStore, StoreError> {
     let sizes = Sizes {
         write_buffer: 128,
         replay_buffer: 128,
     };
     let device = PlainDevice::new(alloc);
-    let mut store = TestStore::open(alloc, device, PlainCache::new(), sizes)?;
+    Ok(Store::open(alloc, device, PlainCache::new(), sizes)?)
+}
+
+// The key `0000000000000061` after {put a 1} and {put c 3}: 174 bytes, which begin with the location, the chunk, the
+// leaf count, no inactive peak and three digests.
+#[test]
+fn second_key(rt: HostRuntime) -> Result<(), Fail> {
+    let alloc = rt.alloc();
+    let mut store = opened(alloc)?;
     let key = FixedBytes::new([0, 0, 0, 0, 0, 0, 0, 0x61]);
     let mut first = Batch::new(alloc);
     first.put(key, 1)?;
@@ -40,5 +44,23 @@ fn second_key(rt: HostRuntime) -> Result<(), Fail> {
     let no = Claim::Value { key, value: 2 };
     assert!(rt; check::<mmr::Family, ByteHash, Keys, u64, 1>(alloc, &root, &yes, &bytes)?);
     assert!(rt; !check::<mmr::Family, ByteHash, Keys, u64, 1>(alloc, &root, &no, &bytes)?);
+    Ok(())
+}
+
+// The first lines of a user of this library, as the README has them.
+#[test]
+fn first_ten_lines(rt: HostRuntime) -> Result<(), Fail> {
+    let alloc = rt.alloc();
+    let mut store = opened(alloc)?;
+    let key = FixedBytes::new([0, 0, 0, 0, 0, 0, 0, 0x61]);
+    let mut batch = Batch::new(alloc);
+    batch.put(key, 1)?;
+    let root = store.commit(batch, None)?;
+    let proof = store.prove_key(&key)?.ok_or("the key is there")?;
+    let KeyProof::Value(value, bytes) = proof;
+    let claim = Claim::Value { key, value };
+    let yes = check::<mmr::Family, ByteHash, Keys, u64, 1>(alloc, &root, &claim, &bytes)?;
+    assert_eq!(rt; value, 1);
+    assert!(rt; yes);
     Ok(())
 }
