@@ -1,14 +1,13 @@
 -- What was read of a proof is within its limits.
-use Rattle.std.proofs.Common.{◌≡◌, ℕ, suc, ◌+◌, ◌^◌, ◌<◌, ◌≤◌, List, [], ◌∷◌, ◌++◌, length, map, Option, Some, None, Ok, refl, sym, ◌∙◌, ap, append_assoc, arith}
+use Rattle.std.proofs.Common.{◌≡◌, ℕ, ◌^◌, ◌<◌, ◌≤◌, List, [], ◌∷◌, ◌++◌, length, map, Option, Some, None, Ok, sym, ◌∙◌, ap, append_assoc}
 use Rattle.std.specs.Prelude.{IfSome, option_map}
 use Rattle.std.specs.List.{All, flat_map}
 use Rattle.std.proofs.lemmas.List.Elements.{All-nil, All-cons, All-head, All-tail}
-use Rattle.merkle_forest.specs.Codec.{◌>>=◌, Outcome}
+use Rattle.merkle_forest.specs.Codec.{Outcome}
 use Rattle.merkle_forest.specs.ListLaws.{list_within}
 use Rattle.merkle_forest.specs.Lists.{list_spelling, after_items, after_list}
 use Rattle.merkle_forest.specs.Varint.{varint, after_number}
 use Rattle.merkle_forest.specs.VarintLaws.{number_within}
-use Rattle.merkle_core.specs.Proofs.{proof_spelling}
 
 -- a count that was read is within its limit
 pub count_fits : (limit n : ℕ) (bytes rest new : List ℕ) → n < 2 ^ 64 → after_number limit bytes ≡ Ok new → bytes ≡ varint n ++ rest → n ≤ limit

@@ -1,5 +1,5 @@
 -- The bytes of a proof are read, and stand for one proof.
-use Rattle.std.proofs.Common.{◌≡◌, ℕ, zero, suc, ◌+◌, ◌^◌, ◌<◌, ◌≤◌, List, [], ◌∷◌, ◌++◌, length, map, Option, Some, None, Ok, Err, Bool, true, false, Result, refl, sym, ◌∙◌, ap, subst, append_assoc, arith}
+use Rattle.std.proofs.Common.{◌≡◌, ℕ, ◌^◌, ◌<◌, ◌≤◌, List, [], ◌∷◌, ◌++◌, length, Option, Some, None, Ok, Err, Bool, true, false, Result, refl, sym, ◌∙◌, ap, subst, append_assoc, arith}
 use Rattle.std.specs.Prelude.{IfSome, IfOk, IsTrue}
 use Rattle.std.proofs.lemmas.List.{append-nil}
 use Rattle.merkle_forest.specs.Forest.{Rule}
@@ -150,11 +150,10 @@ pub shows_exactly : (rule : Rule) (hash : Hash) (is_pending : Option (List ℕ) 
     → (Yes → Shows rule hash is_pending pending (λ k. key k ≡ Ok []) width size most update root bytes) × (Shows rule hash is_pending pending (λ k. key k ≡ Ok []) width size most update root bytes → Yes)
 shows_exactly rule hash is_pending pending key width size most update root bytes proof next_key new Yes once small none spelled fits last says =
     let whole : bytes ≡ value_proof_bytes pending proof next_key = spelled ∙ ap (λ rest. value_proof_bytes pending proof next_key ++ rest) none ∙ append-nil (value_proof_bytes pending proof next_key) in
-    let ends : key next_key ≡ Ok [] = ap key (sym (append-nil next_key) ∙ ap (λ rest. next_key ++ rest) (sym none)) ∙ last ∙ ap (λ rest. Ok rest) none in
-    (
+    let ends : key next_key ≡ Ok [] = ap key (sym (append-nil next_key) ∙ ap (λ rest. next_key ++ rest) (sym none)) ∙ last ∙ ap (λ rest. Ok rest) none in (
       λ yes. record { proof = proof; next_key = next_key; is = whole; fits = fits; key = ends; verifies = says.0 yes },
       λ it. (let same = shown_once is_pending pending width size most it.proof proof it.next_key next_key once small it.fits fits (sym it.is ∙ whole) in
-        says.1 (subst (λ (p : Parts). Verifies rule hash root p (update next_key)) same.0 (subst (λ (k : List ℕ). Verifies rule hash root it.proof (update k)) same.1 it.verifies))),
+          says.1 (subst (λ (p : Parts). Verifies rule hash root p (update next_key)) same.0 (subst (λ (k : List ℕ). Verifies rule hash root it.proof (update k)) same.1 it.verifies))),
     )
 
 -- a proof that was not read does not show it

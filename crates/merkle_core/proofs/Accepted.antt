@@ -1,25 +1,24 @@
 -- The digests of an honest proof of one element lead to the root.
-use Rattle.std.proofs.Common.{◌≡◌, ℕ, zero, suc, ◌+◌, ◌-◌, ◌^◌, ◌<◌, ◌≤◌, Bool, true, false, cond, inl, inr, List, [], ◌∷◌, ◌++◌, length, map, take, drop, Option, Some, None, refl, sym, ◌∙◌, ap, subst, arith, append_assoc}
-use Rattle.std.specs.List.{flat_map, filter}
+use Rattle.std.proofs.Common.{◌≡◌, ℕ, suc, ◌+◌, ◌-◌, ◌^◌, ◌<◌, ◌≤◌, inl, inr, List, [], ◌∷◌, ◌++◌, length, map, take, drop, Some, refl, sym, ◌∙◌, ap, subst, arith, append_assoc}
+use Rattle.std.specs.List.{flat_map}
 use Rattle.std.proofs.lemmas.Bool.{cases_lt}
 use Rattle.std.proofs.lemmas.List.{length-map, length-append, map-append, take-map, drop-map, take-append-le, drop-append-le, take-append-drop, append-nil}
 use Rattle.merkle_forest.specs.declared.bagging.Bagging.{Bagging}
 use Rattle.merkle_forest.specs.declared.bagging.Bagging.TheVariants.{ForwardFold, BackwardFold}
-use Rattle.merkle_forest.specs.Forest.{Tree, position, height, leaf_count, leaves, Rule, forest_of}
+use Rattle.merkle_forest.specs.Forest.{Tree, position, height, leaf_count, Rule, forest_of}
 use Rattle.merkle_forest.specs.ForestGrowth.{leaves-forest_of}
 use Rattle.merkle_forest.specs.Perfect.{IsPairing}
 use Rattle.merkle_forest.specs.Hashing.{Hash, folded_forward, folded_backward, root_string, root_of, bagged, items}
 use Rattle.merkle_forest.specs.Trees.{Placed, placed, peak_digests, Within}
 use Rattle.merkle_forest.specs.TreesLaws.{within_take, within_drop, length-placed}
-use Rattle.merkle_core.specs.Ranges.{Digests, is_before, is_after, meets, singly, siblings, as_one, before_digests, after_digests, inner_digests, range_digests}
-use Rattle.merkle_core.specs.Rebuilt.{Hashing, rebuilt}
-use Rattle.merkle_core.specs.Reconstructed.{peaks_before, peaks_over, peaks_behind, IsPeakOver, digests_before, digests_behind, root_around, reconstructed}
+use Rattle.merkle_core.specs.Ranges.{Digests, singly, siblings, as_one, range_digests}
+use Rattle.merkle_core.specs.Rebuilt.{Hashing}
+use Rattle.merkle_core.specs.Reconstructed.{peaks_before, peaks_over, peaks_behind, IsPeakOver, root_around, reconstructed}
 use Rattle.merkle_core.specs.Followed.{FollowsIn}
 use Rattle.merkle_core.proofs.Places.{peak_place}
-use Rattle.merkle_core.proofs.Walks.{AllFrom, Behind, all_behind}
+use Rattle.merkle_core.proofs.Walks.{AllFrom, all_behind}
 use Rattle.merkle_core.proofs.Siblings.{rebuilt-siblings}
-use Rattle.merkle_core.proofs.Splits.{Split, split, Before, all_before, Around, around, from_take, from_drop}
-use Rattle.merkle_core.proofs.Folds.{take_past, drop_past}
+use Rattle.merkle_core.proofs.Splits.{Split, split, all_before, around, from_take, from_drop}
 use Rattle.merkle_core.proofs.Bags.{Sides, sides_forward, sides_active, sides_inactive}
 use Rattle.merkle_core.proofs.Reconstructs.{enough_parts}
 
@@ -41,16 +40,16 @@ regroup w x y z = simp append_assoc
 -- by BackwardFold
 range_backward : (hash : Hash) (digest : Digests) (location : ℕ) (inactive active f_i f_a a_i a_a o_i o_a : List Placed) → Parts location inactive active f_i f_a a_i a_a o_i o_a
     → range_digests hash digest BackwardFold location (location + 1) inactive active
-        ≡ (as_one (folded_forward hash) (singly digest f_i) ++ singly digest f_a)
-        ++ ((singly digest a_i ++ as_one (folded_backward hash) (singly digest a_a)) ++ (inner_of digest location o_i ++ inner_of digest location o_a))
+    ≡ (as_one (folded_forward hash) (singly digest f_i) ++ singly digest f_a)
+    ++ ((singly digest a_i ++ as_one (folded_backward hash) (singly digest a_a)) ++ (inner_of digest location o_i ++ inner_of digest location o_a))
 range_backward hash digest location inactive active f_i f_a a_i a_a o_i o_a it =
     rw (it.b_i, it.b_a, it.a_i, it.a_a, it.o_i, it.o_a)
     (regroup (as_one (folded_forward hash) (singly digest f_i) ++ singly digest f_a) (singly digest a_i ++ as_one (folded_backward hash) (singly digest a_a)) (inner_of digest location o_i) (inner_of digest location o_a))
 
 range_forward : (hash : Hash) (digest : Digests) (location : ℕ) (inactive active f_i f_a a_i a_a o_i o_a : List Placed) → Parts location inactive active f_i f_a a_i a_a o_i o_a
     → range_digests hash digest ForwardFold location (location + 1) inactive active
-        ≡ as_one (folded_forward hash) (singly digest f_i ++ singly digest f_a)
-        ++ ((singly digest a_i ++ singly digest a_a) ++ (inner_of digest location o_i ++ inner_of digest location o_a))
+    ≡ as_one (folded_forward hash) (singly digest f_i ++ singly digest f_a)
+    ++ ((singly digest a_i ++ singly digest a_a) ++ (inner_of digest location o_i ++ inner_of digest location o_a))
 range_forward hash digest location inactive active f_i f_a a_i a_a o_i o_a it =
     rw (it.b_i, it.b_a, it.a_i, it.a_a, it.o_i, it.o_a)
     (regroup (as_one (folded_forward hash) (singly digest f_i ++ singly digest f_a)) (singly digest a_i ++ singly digest a_a) (inner_of digest location o_i) (inner_of digest location o_a))
@@ -161,8 +160,8 @@ digested hash digest bagging location inactive first node front back low high fr
 pub accepted : (hashing : Hashing) (hash : Hash) (bagging : Bagging) (rule : Rule) → IsPairing rule → (digest : Digests) (leaf_total inactive location : ℕ) (element : List ℕ) → leaf_total ≤ 2 ^ 62 → location < leaf_total
     → inactive ≤ length (forest_of rule leaf_total) → FollowsIn hashing digest rule leaf_total location element
     → reconstructed hashing hash bagging rule leaf_total inactive location element
-        (range_digests hash digest bagging location (location + 1) (take inactive (placed (forest_of rule leaf_total))) (drop inactive (placed (forest_of rule leaf_total))))
-        ≡ Some (root_of hash bagging leaf_total inactive (peak_digests digest (forest_of rule leaf_total)))
+    (range_digests hash digest bagging location (location + 1) (take inactive (placed (forest_of rule leaf_total))) (drop inactive (placed (forest_of rule leaf_total))))
+    ≡ Some (root_of hash bagging leaf_total inactive (peak_digests digest (forest_of rule leaf_total)))
 unfolding root_around root_of
 accepted hashing hash bagging rule pairs digest leaf_total inactive location element few within some follows =
     let trees : List Tree = forest_of rule leaf_total in

@@ -28,7 +28,7 @@ before_last-append ds d = ap (λ n. take n (ds ++ d ∷ [])) (one_less ds d) ∙
 
 branch_cases : (hashing : Hashing) (location : ℕ) (element : List ℕ) (first p : ℕ) (left right : Tree) (d : List ℕ) (ds : List (List ℕ)) → ltb location (first + leaf_count left) ≡ true
     → rebuilt hashing location element first (branch p left right) (d ∷ ds)
-        ≡ joined (join_of hashing (branch p left right)) (rebuilt hashing location element first left (before_last (d ∷ ds))) (last_of (d ∷ ds))
+    ≡ joined (join_of hashing (branch p left right)) (rebuilt hashing location element first left (before_last (d ∷ ds))) (last_of (d ∷ ds))
 branch_cases hashing location element first p left right d ds below = rw below refl
 
 -- over its left child the last digest is its sibling's

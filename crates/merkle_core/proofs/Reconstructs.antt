@@ -82,10 +82,10 @@ few_peaks hashing hash bagging rule leaf_total inactive location element digests
 pub of_parts : (hashing : Hashing) (hash : Hash) (bagging : Bagging) (rule : Rule) (leaf_total inactive location : ℕ) (element : List ℕ) (digests : List (List ℕ)) (before first at high behind : ℕ)
     (it : IsPeakOver rule (placed (forest_of rule leaf_total)) location before first at high behind) → leaf_total ≤ 2 ^ 62 → inactive ≤ before + 1 + behind
     → reconstructed hashing hash bagging rule leaf_total inactive location element digests
-        ≡ cond (ltb (length digests) (digests_before bagging inactive before + digests_behind bagging inactive before behind)) None
-            (option_map (λ own. root_around hash bagging leaf_total inactive before (take (digests_before bagging inactive before) digests) own
-                (take (digests_behind bagging inactive before behind) (drop (digests_before bagging inactive before) digests)))
-                (rebuilt hashing location element first it.node (drop (digests_behind bagging inactive before behind) (drop (digests_before bagging inactive before) digests))))
+    ≡ cond (ltb (length digests) (digests_before bagging inactive before + digests_behind bagging inactive before behind)) None
+    (option_map (λ own. root_around hash bagging leaf_total inactive before (take (digests_before bagging inactive before) digests) own
+    (take (digests_behind bagging inactive before behind) (drop (digests_before bagging inactive before) digests)))
+    (rebuilt hashing location element first it.node (drop (digests_behind bagging inactive before behind) (drop (digests_before bagging inactive before) digests))))
 unfolding reconstructed
 of_parts hashing hash bagging rule leaf_total inactive location element digests before first at high behind it few some =
     let small : ltb (2 ^ 62) leaf_total ≡ false = le-ltb (2 ^ 62) leaf_total few in
@@ -135,7 +135,7 @@ pub of_code : {D : Type 0} (spelling : D → List ℕ) (hashing : Hashing) (hash
     → digests ≡ front ++ (back ++ path) → length front ≡ digests_before bagging inactive before → length back ≡ digests_behind bagging inactive before behind
     → (own : Option (List ℕ)) → ((node : Tree) → IsTreeAt rule first at high node → own ≡ rebuilt hashing location element first node (map spelling path))
     → option_map (λ own. root_around hash bagging leaf_total inactive before (map spelling front) own (map spelling back)) own
-        ≡ reconstructed hashing hash bagging rule leaf_total inactive location element (map spelling digests)
+    ≡ reconstructed hashing hash bagging rule leaf_total inactive location element (map spelling digests)
 of_code spelling hashing hash bagging rule leaf_total inactive location element digests front back path before first at high behind it few some split fronts backs own is =
     enough_parts hashing hash bagging rule leaf_total inactive location element (map spelling digests) (map spelling front) (map spelling back) (map spelling path) before first at high behind it few some
     (ap (map spelling) split ∙ map-append spelling front (back ++ path) ∙ ap (λ rest. map spelling front ++ rest) (map-append spelling back path))

@@ -1,6 +1,6 @@
 -- The digests of a range proof have the size of a digest.
-use Rattle.std.proofs.Common.{◌≡◌, ℕ, ◌+◌, Bool, true, false, cond, List, [], ◌∷◌, ◌++◌, length, map, refl, sym, ◌∙◌, ap, arith}
-use Rattle.std.specs.List.{All, AllByRecursion, flat_map, filter}
+use Rattle.std.proofs.Common.{◌≡◌, ℕ, ◌+◌, Bool, true, false, cond, List, [], ◌∷◌, ◌++◌, length}
+use Rattle.std.specs.List.{All, flat_map, filter}
 use Rattle.std.proofs.lemmas.List.Elements.{All-nil, All-cons, All-head, All-append}
 use Rattle.merkle_forest.specs.declared.bagging.Bagging.{Bagging}
 use Rattle.merkle_forest.specs.declared.bagging.Bagging.TheVariants.{ForwardFold, BackwardFold}
@@ -87,5 +87,5 @@ range_sized size hash digest bagging start stop inactive active sized gives =
     let four : List (List ℕ) = inner_digests digest start stop active in
     both_sized size ((one ++ two) ++ three) four
     (both_sized size (one ++ two) three (both_sized size one two (before_sized size hash digest bagging start inactive active sized gives) (after_sized size hash digest bagging stop inactive active sized gives))
-      (inner_sized size digest start stop (filter (meets start stop) inactive) gives))
+    (inner_sized size digest start stop (filter (meets start stop) inactive) gives))
     (inner_sized size digest start stop (filter (meets start stop) active) gives)

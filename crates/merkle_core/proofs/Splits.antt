@@ -1,18 +1,17 @@
 -- The peaks before a location, the one over it, and those behind it.
-use Rattle.std.proofs.Common.{◌≡◌, ℕ, zero, suc, ◌+◌, ◌<◌, ◌≤◌, Bool, true, false, inl, inr, List, [], ◌∷◌, ◌++◌, length, take, drop, refl, sym, ◌∙◌, ap, subst, arith, append_assoc}
-use Rattle.std.specs.List.{AllByRecursion, filter}
+use Rattle.std.proofs.Common.{◌≡◌, ℕ, zero, suc, ◌+◌, ◌<◌, ◌≤◌, true, false, inl, inr, List, [], ◌∷◌, ◌++◌, take, drop, refl, ◌∙◌, ap, arith, append_assoc}
 use Rattle.std.proofs.lemmas.Bool.{cases_lt}
 use Rattle.std.proofs.lemmas.List.Elements.{filter-append}
 use Rattle.std.proofs.lemmas.List.{append-nil}
-use Rattle.merkle_forest.specs.Forest.{Tree, leaf_count, leaves, Rule, forest_of}
-use Rattle.merkle_forest.specs.Trees.{Placed, end_of, placed, Within}
+use Rattle.merkle_forest.specs.Forest.{Tree, leaf_count, leaves}
+use Rattle.merkle_forest.specs.Trees.{Placed, placed, Within}
 use Rattle.merkle_forest.specs.TreesLaws.{placed_within, within_more}
 use Rattle.merkle_forest.specs.PeakLaws.{leaf_count-pos}
 use Rattle.merkle_forest.specs.Nodes.{IsPeakAt}
 use Rattle.merkle_core.specs.Ranges.{is_before, is_after, meets}
 use Rattle.merkle_core.specs.Reconstructed.{peaks_before, peaks_over, peaks_behind}
-use Rattle.merkle_core.proofs.Walks.{AllFrom, all_from-append, Behind, all_behind, before-yes, before-no, after-yes, after-no}
-use Rattle.merkle_core.proofs.Siblings.{meets-yes, meets-before, meets-after}
+use Rattle.merkle_core.proofs.Walks.{AllFrom, all_from-append, all_behind, before-yes, before-no, after-no}
+use Rattle.merkle_core.proofs.Siblings.{meets-yes}
 
 pub record Split (location : ℕ) (trees : List Tree) : Type 0 where
   pub front : List Placed
@@ -31,29 +30,29 @@ split location [] lt = absurd (omega arith)
 split location (t ∷ ts) lt =
     elim (cases_lt location (leaves ts)) [
       | inl below ↦ (let rest = split location ts below in record {
-          front = rest.front;
-          first = rest.first;
-          node = rest.node;
-          back = rest.back ++ (leaves ts, t) ∷ [];
-          is = ap (λ ps. ps ++ (leaves ts, t) ∷ []) rest.is ∙ append_assoc rest.front ((rest.first, rest.node) ∷ rest.back) ((leaves ts, t) ∷ []);
-          peak = inr rest.peak;
-          low = rest.low;
-          high = rest.high;
-          fronts = rest.fronts;
-          backs = all_from-append (location + 1) rest.back ((leaves ts, t) ∷ []) rest.backs (omega (arith, below), tt);
-        })
+        front = rest.front;
+        first = rest.first;
+        node = rest.node;
+        back = rest.back ++ (leaves ts, t) ∷ [];
+        is = ap (λ ps. ps ++ (leaves ts, t) ∷ []) rest.is ∙ append_assoc rest.front ((rest.first, rest.node) ∷ rest.back) ((leaves ts, t) ∷ []);
+        peak = inr rest.peak;
+        low = rest.low;
+        high = rest.high;
+        fronts = rest.fronts;
+        backs = all_from-append (location + 1) rest.back ((leaves ts, t) ∷ []) rest.backs (omega (arith, below), tt);
+      })
       | inr above ↦ record {
-          front = placed ts;
-          first = leaves ts;
-          node = t;
-          back = [];
-          is = refl;
-          peak = inl (refl, refl);
-          low = above;
-          high = omega (arith, lt);
-          fronts = within_more (leaves ts) location (placed ts) above (placed_within ts);
-          backs = tt;
-        }
+        front = placed ts;
+        first = leaves ts;
+        node = t;
+        back = [];
+        is = refl;
+        peak = inl (refl, refl);
+        low = above;
+        high = omega (arith, lt);
+        fronts = within_more (leaves ts) location (placed ts) above (placed_within ts);
+        backs = tt;
+      }
     ]
 
 -- the three lists of peaks that all stand before the location

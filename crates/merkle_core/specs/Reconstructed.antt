@@ -60,7 +60,7 @@ abbrev pub root_of_parts : Hashing → Hash → Bagging → ℕ → ℕ → ℕ 
 root_of_parts hashing hash bagging leaves inactive location element peaks digests front back =
     if nat_lt (length digests) (front + back) then None
     else option_map (λ own. root_around hash bagging leaves inactive (length (peaks_before location peaks)) (take front digests) own (take back (drop front digests)))
-        (rebuilt_over hashing location element (peaks_over location peaks) (drop back (drop front digests)))
+    (rebuilt_over hashing location element (peaks_over location peaks) (drop back (drop front digests)))
 
 -- The root that the proof leads to. None: the tree is too large, it has fewer peaks than are to be inactive, no peak stands
 -- over the location, or there are too few digests or too many.
@@ -71,4 +71,4 @@ reconstructed hashing hash bagging rule leaves inactive location element digests
     let behind = length (peaks_behind location peaks) in
     if nat_lt (2 ^ 62) leaves || nat_lt (length peaks) inactive then None
     else root_of_parts hashing hash bagging leaves inactive location element peaks digests
-        (digests_before bagging inactive before) (digests_behind bagging inactive before behind)
+    (digests_before bagging inactive before) (digests_behind bagging inactive before behind)

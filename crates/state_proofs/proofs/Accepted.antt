@@ -29,7 +29,7 @@ abbrev pub Leads : Rule → Type 0
 Leads rule = (hashing : Hashing) (hash : Hash) (bagging : Bagging) (digest : Digests) (leaf_total inactive location : ℕ) (element : List ℕ) → leaf_total ≤ 2 ^ 62 → location < leaf_total → inactive ≤ length (forest_of rule leaf_total)
     → FollowsIn hashing digest rule leaf_total location element
     → reconstructed hashing hash bagging rule leaf_total inactive location element (range_digests hash digest bagging location (location + 1) (take inactive (placed (forest_of rule leaf_total))) (drop inactive (placed (forest_of rule leaf_total))))
-        ≡ Some (root_of hash bagging leaf_total inactive (peak_digests digest (forest_of rule leaf_total)))
+    ≡ Some (root_of hash bagging leaf_total inactive (peak_digests digest (forest_of rule leaf_total)))
 
 -- nodes begin at multiples of their leaf counts
 abbrev pub Aligned : Rule → Type 0
@@ -85,7 +85,7 @@ fits_none hash one held There Covered false there test same = (there refl, λ co
 -- the digest of the pending chunk
 pub pending_fits : (setting : Setting) (state : State) (index : ℕ) → full_chunks setting state ≤ nodes_of_height setting.grafting_height (forest setting state) + 1
     → FitsChunk setting.hash (chunk setting state index) (nodes_of_height setting.grafting_height (forest setting state) < full_chunks setting state)
-        ((nodes_of_height setting.grafting_height (forest setting state) ≤ index) × (index < full_chunks setting state)) (pending_digest setting state)
+    ((nodes_of_height setting.grafting_height (forest setting state) ≤ index) × (index < full_chunks setting state)) (pending_digest setting state)
 unfolding pending_digest
 pending_fits setting state index few =
     let graftable : ℕ = nodes_of_height setting.grafting_height (forest setting state) in
@@ -105,7 +105,7 @@ partial_fits setting state index few =
 pub leads : (setting : Setting) (state : State) (location : ℕ) → IsPairing setting.rule → Leads setting.rule → Aligned setting.rule → chunk_bits setting ≡ 2 ^ setting.grafting_height → length state.operations ≤ 2 ^ 62
     → location < length state.operations
     → reconstructed (grafted_hashing setting.hash setting.grafting_height (chunk setting state (location / chunk_bits setting))) setting.hash BackwardFold setting.rule (length state.operations) (grafted_inactive setting state) location
-        (slice_index_or state.operations location []) (grafted_range setting state location (location + 1)) ≡ Some (grafted_root setting state)
+    (slice_index_or state.operations location []) (grafted_range setting state location (location + 1)) ≡ Some (grafted_root setting state)
 unfolding grafted_range grafted_root grafted_digests
 leads setting state location pairs law aligned whole few within =
     law (grafted_hashing setting.hash setting.grafting_height (chunk setting state (location / chunk_bits setting))) setting.hash BackwardFold (grafted_digests setting state) (length state.operations) (grafted_inactive setting state) location

@@ -48,11 +48,10 @@ follows hash grafting_height bits chunks elements trees location whole aligned s
     let own : List ℕ = hash (node_string p (grafted_digest hash grafting_height bits chunks elements start left) (grafted_digest hash grafting_height bits chunks elements (start + leaf_count left) right)) in
     let same : eqb (suc (height left)) grafting_height ≡ true → slice_index_or chunks (start / bits) [] ≡ slice_index_or chunks (location / bits) [] =
     λ (at : eqb (suc (height left)) grafting_height ≡ true).
-      (let level : suc (height left) ≡ grafting_height = eqb-true (suc (height left)) grafting_height at in
-      let power : bits ≡ 2 ^ suc (height left) = whole ∙ ap (λ h. 2 ^ h) (sym level) in
-      let place : start ≡ it.0.0 * bits = it.0.1 ∙ ap (λ n. it.0.0 * n) (sym power) in
-      ap (λ index. slice_index_or chunks index []) (same_chunk it.0.0 bits start location place low (omega (arith, high, it.1, power)))) in
-    (
+    (let level : suc (height left) ≡ grafting_height = eqb-true (suc (height left)) grafting_height at in
+    let power : bits ≡ 2 ^ suc (height left) = whole ∙ ap (λ h. 2 ^ h) (sym level) in
+    let place : start ≡ it.0.0 * bits = it.0.1 ∙ ap (λ n. it.0.0 * n) (sym power) in
+    ap (λ index. slice_index_or chunks index []) (same_chunk it.0.0 bits start location place low (omega (arith, high, it.1, power)))) in (
       graft_case hash (eqb (suc (height left)) grafting_height) (slice_index_or chunks (start / bits) []) (slice_index_or chunks (location / bits) []) own same,
       (
         λ below. follows hash grafting_height bits chunks elements trees location whole aligned start left (λ first node within. all first node (inr (inl within))) low below,

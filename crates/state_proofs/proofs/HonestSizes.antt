@@ -1,12 +1,12 @@
 -- The parts of an honest proof are within the limits of a proof.
-use Rattle.std.proofs.Common.{◌≡◌, ℕ, suc, ◌+◌, ◌*◌, ◌/◌, ◌^◌, ◌<◌, ◌≤◌, eqb, ltb, cond, Bool, true, false, List, [], ◌∷◌, ◌++◌, length, take, drop, Option, Some, None, refl, sym, ◌∙◌, ap, append_assoc, arith}
+use Rattle.std.proofs.Common.{◌≡◌, ℕ, suc, ◌+◌, ◌/◌, ◌^◌, ◌<◌, ◌≤◌, eqb, ltb, cond, Bool, true, false, List, [], ◌++◌, length, take, drop, Option, Some, None, refl, append_assoc, arith}
 use Rattle.std.specs.Prelude.{IfSome, slice_index_or}
 use Rattle.std.proofs.lemmas.Bool.{ltb-true}
 use Rattle.merkle_forest.specs.Codec.{option_spelling}
 use Rattle.merkle_forest.specs.Varint.{varint}
 use Rattle.merkle_forest.specs.declared.bagging.Bagging.{Bagging}
 use Rattle.merkle_forest.specs.declared.bagging.Bagging.TheVariants.{BackwardFold}
-use Rattle.merkle_forest.specs.Forest.{Tree, leaf, branch, height, leaf_count, leaves, Rule, forest_of}
+use Rattle.merkle_forest.specs.Forest.{leaf, branch, height, leaf_count, Rule, forest_of}
 use Rattle.merkle_forest.specs.ForestGrowth.{size-twice, leaves-forest_of}
 use Rattle.merkle_forest.specs.Hashing.{Hash, node_string, root_of}
 use Rattle.merkle_forest.specs.Nodes.{nodes_of_height}
@@ -18,7 +18,7 @@ use Rattle.merkle_core.proofs.Sized.{AreSized, IsSized, Gives, range_sized}
 use Rattle.state_proofs.specs.Bits.{is_zero}
 use Rattle.state_proofs.specs.Canonical.{Setting, State, chunk_bits, full_chunks, next_bit, chunk, forest, peaks, grafted_digests, grafted_inactive, operations_root, pending_digest, partial_digest}
 use Rattle.state_proofs.specs.Grafting.{grafted, grafted_digest}
-use Rattle.state_proofs.specs.Honest.{grafted_range, range_proof, operation_proof, key_value_proof, honest_parts}
+use Rattle.state_proofs.specs.Honest.{grafted_range, range_proof, operation_proof, key_value_proof}
 use Rattle.state_proofs.proofs.Accepted.{inactive-few}
 
 graft_sized : (size : ℕ) (hash : Hash) (chunk own : List ℕ) (test : Bool) → IsSized size hash → length own ≡ size → length (cond test own (hash (chunk ++ own))) ≡ size
@@ -73,8 +73,8 @@ inactive_fits setting state pairs few =
 -- the honest bytes, part by part
 pub honest_bytes : (pending : Option (List ℕ) → List ℕ) (setting : Setting) (state : State) (location : ℕ) (next_key : List ℕ)
     → key_value_proof pending setting state location next_key
-        ≡ varint location ++ (chunk setting state (location / chunk_bits setting) ++ (proof_spelling (length state.operations) (grafted_inactive setting state) (grafted_range setting state location (location + 1))
-        ++ (pending (pending_digest setting state) ++ (option_spelling (λ digest. digest) (partial_digest setting state) ++ (operations_root setting state ++ next_key)))))
+    ≡ varint location ++ (chunk setting state (location / chunk_bits setting) ++ (proof_spelling (length state.operations) (grafted_inactive setting state) (grafted_range setting state location (location + 1))
+    ++ (pending (pending_digest setting state) ++ (option_spelling (λ digest. digest) (partial_digest setting state) ++ (operations_root setting state ++ next_key)))))
 unfolding key_value_proof operation_proof range_proof
 honest_bytes pending setting state location next_key = simp append_assoc
 

@@ -26,8 +26,8 @@ where
     ensures { (log : List Operation) (floor place : ℕ) (key value next_key : List ℕ) → IsChunkWidth N → length log ≤ 2 ^ 62 → slice_get log place ≡ Some (update key value next_key)
         → slice_get (activity_bits log) place ≡ Some true → K.after tt next_key ≡ Ok []
         → Shows F.merge_rule H.hash_of F.is_pending F.pending_spelling (λ next. K.after tt next ≡ Ok []) N H.Digest.SIZE MAX_PROOF_DIGESTS (λ next. fixed_encoding K.SIZE V.SIZE (update key value next))
-            (canonical_root (setting_of_width F.merge_rule H.hash_of N) (state_of_log K.SIZE V.SIZE log floor))
-            (key_value_proof F.pending_spelling (setting_of_width F.merge_rule H.hash_of N) (state_of_log K.SIZE V.SIZE log floor) place next_key) }
+        (canonical_root (setting_of_width F.merge_rule H.hash_of N) (state_of_log K.SIZE V.SIZE log floor))
+        (key_value_proof F.pending_spelling (setting_of_width F.merge_rule H.hash_of N) (state_of_log K.SIZE V.SIZE log floor) place next_key) }
 {
     honest_digests_are_few::<F>();
     honest_proofs_verify::<F>();

@@ -1,4 +1,4 @@
-use Rattle.std.proofs.Common.{◌≡◌, ℕ, ◌≤◌, ◌<◌, ◌^◌, List, ◌++◌, map, Ok, refl, sym, ◌∙◌, ap, rules, arith}
+use Rattle.std.proofs.Common.{◌^◌, refl, arith}
 use Rattle.merkle_forest.specs.Lists.{list_spelling}
 use Rattle.merkle_core.proofs.Spellings.{list_spelling-bytes}
 use Rattle.auth_store.proofs.Reading.{count_fits, list_fits, all_sized, joined}
@@ -9,7 +9,7 @@ returns-clause-read g c =
     let listed = rw (c.new.ensures.least, c.new.ensures.greatest) at c.in_ok-digests.ensures.read.0 in (
       rw (c.in_ok-leaves.ensures.read.0, c.in_ok-inactive_peaks.ensures.exact, listed) refl,
       joined c.in_ok-leaves.leaves c.as_u64.result c.in_ok-inactive_peaks.inactive_peaks (list_spelling g.D.Write.spelling c.in_ok-digests.digests.items) _ _ _ _ _ c.as_u64.ensures c.in_ok-leaves.ensures.read.1 c.in_ok-inactive_peaks.ensures.spelled
-      c.in_ok-digests.ensures.read.1 (list_spelling-bytes g.D.Write.spelling c.in_ok-digests.digests.items),
+          c.in_ok-digests.ensures.read.1 (list_spelling-bytes g.D.Write.spelling c.in_ok-digests.digests.items),
     )
 
 pub returns-clause-leaves : goal.returns-clause-leaves

@@ -1,4 +1,4 @@
-use Rattle.std.proofs.Common.{◌≡◌, ℕ, ◌≤◌, ◌<◌, ◌^◌, List, ◌++◌, length, map, Ok, refl, sym, ◌∙◌, ap, rules, arith}
+use Rattle.std.proofs.Common.{◌≤◌, ◌^◌, length, map, arith}
 use Rattle.std.proofs.lemmas.List.{length-map}
 use Rattle.auth_store.proofs.Reading.{count_fits, some_sized}
 use Rattle.auth_store.proofs.client.read_value_proof.Goals as goal

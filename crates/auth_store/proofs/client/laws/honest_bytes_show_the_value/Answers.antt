@@ -1,5 +1,4 @@
-use Rattle.std.proofs.Common.{◌≡◌, ◌<◌, ◌≤◌, ◌+◌, ◌/◌, ◌^◌, ℕ, List, [], length, map, Some, true, Ok, refl, sym, ◌∙◌, ap, subst, arith}
-use Rattle.std.specs.Prelude.{slice_get, slice_index_or}
+use Rattle.std.proofs.Common.{◌≡◌, ◌<◌, ◌≤◌, ◌/◌, ◌^◌, ℕ, List, [], length, Ok, subst, arith}
 use Rattle.std.proofs.lemmas.List.{length-map}
 use Rattle.std.proofs.lemmas.Option.{slice_get_within}
 use Rattle.state_ops.specs.Operation.{Operation, update, fixed_encoding}
@@ -23,7 +22,7 @@ returns g c log floor place key value next_key is_width few is_update is_active 
     let within : place < length state.operations = omega (arith, count, slice_get_within log place (update key value next_key) is_update) in
     let fits = honest_fits setting state place g.H.Digest.FixedSize.SIZE g.F.PendingOf.is_pending g.met.F.Family.merges_equals g.met.H.HashFunction.sized c.honest_digests_are_few.ensures g.met.F.PendingOf.none_pending
     (λ digest sized more. g.met.F.PendingOf.some_pending (length state.operations) setting.grafting_height digest many (some_height g.row.N setting.grafting_height w.whole) w.low
-      (subst (λ (bits : ℕ). nodes_of_height setting.grafting_height (forest setting state) < length state.operations / bits) w.whole more) sized)
+    (subst (λ (bits : ℕ). nodes_of_height setting.grafting_height (forest setting state) < length state.operations / bits) w.whole more) sized)
     w.some many within in
     let verified = c.honest_proofs_verify.ensures g.H.HashFunction.hash_of g.row.N setting.grafting_height state place w.whole w.low many within is_active in
     let verifies = subst (λ (operation : List ℕ). Verifies g.F.Family.merge_rule g.H.HashFunction.hash_of (canonical_root setting state) (honest_parts setting state place) operation)
