@@ -1,25 +1,24 @@
 -- The digests of an honest proof of one element lead to the root.
-use Rattle.std.proofs.Common.{◌≡◌, ℕ, zero, suc, ◌+◌, ◌-◌, ◌^◌, ◌<◌, ◌≤◌, Bool, true, false, cond, inl, inr, List, [], ◌∷◌, ◌++◌, length, map, take, drop, Option, Some, None, refl, sym, ◌∙◌, ap, subst, arith, append_assoc}
-use Rattle.std.specs.List.{flat_map, filter}
+use Rattle.std.proofs.Common.{◌≡◌, ℕ, suc, ◌+◌, ◌-◌, ◌^◌, ◌<◌, ◌≤◌, inl, inr, List, [], ◌∷◌, ◌++◌, length, map, take, drop, Some, refl, sym, ◌∙◌, ap, subst, arith, append_assoc}
+use Rattle.std.specs.List.{flat_map}
 use Rattle.std.proofs.lemmas.Bool.{cases_lt}
 use Rattle.std.proofs.lemmas.List.{length-map, length-append, map-append, take-map, drop-map, take-append-le, drop-append-le, take-append-drop, append-nil}
 use Rattle.merkle_forest.specs.declared.bagging.Bagging.{Bagging}
 use Rattle.merkle_forest.specs.declared.bagging.Bagging.TheVariants.{ForwardFold, BackwardFold}
-use Rattle.merkle_forest.specs.Forest.{Tree, position, height, leaf_count, leaves, Rule, forest_of}
+use Rattle.merkle_forest.specs.Forest.{Tree, position, height, leaf_count, Rule, forest_of}
 use Rattle.merkle_forest.specs.ForestGrowth.{leaves-forest_of}
 use Rattle.merkle_forest.specs.Perfect.{IsPairing}
 use Rattle.merkle_forest.specs.Hashing.{Hash, folded_forward, folded_backward, root_string, root_of, bagged, items}
 use Rattle.merkle_forest.specs.Trees.{Placed, placed, peak_digests, Within}
 use Rattle.merkle_forest.specs.TreesLaws.{within_take, within_drop, length-placed}
-use Rattle.merkle_core.specs.Ranges.{Digests, is_before, is_after, meets, singly, siblings, as_one, before_digests, after_digests, inner_digests, range_digests}
-use Rattle.merkle_core.specs.Rebuilt.{Hashing, rebuilt}
-use Rattle.merkle_core.specs.Reconstructed.{peaks_before, peaks_over, peaks_behind, IsPeakOver, digests_before, digests_behind, root_around, reconstructed}
+use Rattle.merkle_core.specs.Ranges.{Digests, singly, siblings, as_one, range_digests}
+use Rattle.merkle_core.specs.Rebuilt.{Hashing}
+use Rattle.merkle_core.specs.Reconstructed.{peaks_before, peaks_over, peaks_behind, IsPeakOver, root_around, reconstructed}
 use Rattle.merkle_core.specs.Followed.{FollowsIn}
 use Rattle.merkle_core.proofs.Places.{peak_place}
-use Rattle.merkle_core.proofs.Walks.{AllFrom, Behind, all_behind}
+use Rattle.merkle_core.proofs.Walks.{AllFrom, all_behind}
 use Rattle.merkle_core.proofs.Siblings.{rebuilt-siblings}
-use Rattle.merkle_core.proofs.Splits.{Split, split, Before, all_before, Around, around, from_take, from_drop}
-use Rattle.merkle_core.proofs.Folds.{take_past, drop_past}
+use Rattle.merkle_core.proofs.Splits.{Split, split, all_before, around, from_take, from_drop}
 use Rattle.merkle_core.proofs.Bags.{Sides, sides_forward, sides_active, sides_inactive}
 use Rattle.merkle_core.proofs.Reconstructs.{enough_parts}
 

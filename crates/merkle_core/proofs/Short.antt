@@ -1,11 +1,10 @@
 -- How many digests an honest proof of one element has.
-use Rattle.std.proofs.Common.{◌≡◌, ℕ, zero, suc, ◌+◌, ◌-◌, ◌^◌, ◌<◌, ◌≤◌, inl, inr, List, [], ◌∷◌, ◌++◌, length, take, drop, refl, sym, ◌∙◌, ap, arith}
-use Rattle.std.specs.Prelude.{min}
+use Rattle.std.proofs.Common.{◌≡◌, ℕ, ◌+◌, ◌<◌, ◌≤◌, inl, inr, List, ◌∷◌, ◌++◌, length, take, drop, ◌∙◌, ap, arith}
 use Rattle.std.proofs.lemmas.Bool.{cases_lt}
 use Rattle.std.proofs.lemmas.List.{length-map, length-append}
 use Rattle.merkle_forest.specs.declared.bagging.Bagging.{Bagging}
 use Rattle.merkle_forest.specs.declared.bagging.Bagging.TheVariants.{ForwardFold, BackwardFold}
-use Rattle.merkle_forest.specs.Forest.{Tree, leaf, branch, height, leaf_count, leaves, Rule, forest_of}
+use Rattle.merkle_forest.specs.Forest.{Tree, leaf, branch, height, leaf_count, Rule, forest_of}
 use Rattle.merkle_forest.specs.ForestGrowth.{leaves-forest_of, forest_of-perfect}
 use Rattle.merkle_forest.specs.Hashing.{Hash}
 use Rattle.merkle_forest.specs.NodeLaws.{peak-node, node-perfect}
@@ -17,7 +16,7 @@ use Rattle.merkle_core.specs.Ranges.{Digests, siblings, singly, range_digests}
 use Rattle.merkle_core.specs.Reconstructed.{digests_before, digests_behind}
 use Rattle.merkle_core.proofs.Siblings.{alone, siblings-branch, siblings-leaf, meets-before, meets-after}
 use Rattle.merkle_core.proofs.Splits.{Split, split}
-use Rattle.merkle_core.proofs.Accepted.{Digested, digested}
+use Rattle.merkle_core.proofs.Accepted.{digested}
 
 -- a perfect tree has as many siblings beside the way to a leaf as it is high
 length-siblings : (digest : Digests) (location at : ℕ) (t : Tree) → IsPerfect t → at ≤ location → location < at + leaf_count t → length (siblings digest location (location + 1) at t) ≡ height t

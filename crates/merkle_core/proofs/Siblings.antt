@@ -1,10 +1,7 @@
 -- The digests beside the way from a root to a leaf lead back to the root.
-use Rattle.std.proofs.Common.{◌≡◌, ℕ, suc, ◌+◌, ◌<◌, ◌≤◌, Bool, true, false, not, ◌||◌, ltb, cond, inl, inr, List, [], ◌∷◌, ◌++◌, length, Option, Some, None, refl, sym, ◌∙◌, ap, subst, arith}
+use Rattle.std.proofs.Common.{◌≡◌, ℕ, ◌+◌, ◌<◌, ◌≤◌, Bool, true, false, not, ◌||◌, cond, inl, inr, List, [], ◌∷◌, ◌++◌, Some, refl, sym, ◌∙◌, ap, arith}
 use Rattle.std.proofs.lemmas.Bool.{cases_lt, lt-ltb, le-ltb}
-use Rattle.std.proofs.lemmas.List.{append-nil}
-use Rattle.merkle_forest.specs.Forest.{Tree, leaf, branch, position, height, leaf_count, Rule}
-use Rattle.merkle_forest.specs.Trees.{Placed, end_of}
-use Rattle.merkle_forest.specs.PeakLaws.{leaf_count-pos}
+use Rattle.merkle_forest.specs.Forest.{Tree, leaf, branch, leaf_count}
 use Rattle.merkle_core.specs.Ranges.{Digests, is_before, is_after, meets, siblings}
 use Rattle.merkle_core.specs.Rebuilt.{Hashing, joined, rebuilt}
 use Rattle.merkle_core.specs.Followed.{Follows}

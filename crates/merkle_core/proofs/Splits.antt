@@ -1,18 +1,17 @@
 -- The peaks before a location, the one over it, and those behind it.
-use Rattle.std.proofs.Common.{◌≡◌, ℕ, zero, suc, ◌+◌, ◌<◌, ◌≤◌, Bool, true, false, inl, inr, List, [], ◌∷◌, ◌++◌, length, take, drop, refl, sym, ◌∙◌, ap, subst, arith, append_assoc}
-use Rattle.std.specs.List.{AllByRecursion, filter}
+use Rattle.std.proofs.Common.{◌≡◌, ℕ, zero, suc, ◌+◌, ◌<◌, ◌≤◌, true, false, inl, inr, List, [], ◌∷◌, ◌++◌, take, drop, refl, ◌∙◌, ap, arith, append_assoc}
 use Rattle.std.proofs.lemmas.Bool.{cases_lt}
 use Rattle.std.proofs.lemmas.List.Elements.{filter-append}
 use Rattle.std.proofs.lemmas.List.{append-nil}
-use Rattle.merkle_forest.specs.Forest.{Tree, leaf_count, leaves, Rule, forest_of}
-use Rattle.merkle_forest.specs.Trees.{Placed, end_of, placed, Within}
+use Rattle.merkle_forest.specs.Forest.{Tree, leaf_count, leaves}
+use Rattle.merkle_forest.specs.Trees.{Placed, placed, Within}
 use Rattle.merkle_forest.specs.TreesLaws.{placed_within, within_more}
 use Rattle.merkle_forest.specs.PeakLaws.{leaf_count-pos}
 use Rattle.merkle_forest.specs.Nodes.{IsPeakAt}
 use Rattle.merkle_core.specs.Ranges.{is_before, is_after, meets}
 use Rattle.merkle_core.specs.Reconstructed.{peaks_before, peaks_over, peaks_behind}
-use Rattle.merkle_core.proofs.Walks.{AllFrom, all_from-append, Behind, all_behind, before-yes, before-no, after-yes, after-no}
-use Rattle.merkle_core.proofs.Siblings.{meets-yes, meets-before, meets-after}
+use Rattle.merkle_core.proofs.Walks.{AllFrom, all_from-append, all_behind, before-yes, before-no, after-no}
+use Rattle.merkle_core.proofs.Siblings.{meets-yes}
 
 pub record Split (location : ℕ) (trees : List Tree) : Type 0 where
   pub front : List Placed

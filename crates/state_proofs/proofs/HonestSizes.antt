@@ -1,12 +1,12 @@
 -- The parts of an honest proof are within the limits of a proof.
-use Rattle.std.proofs.Common.{◌≡◌, ℕ, suc, ◌+◌, ◌*◌, ◌/◌, ◌^◌, ◌<◌, ◌≤◌, eqb, ltb, cond, Bool, true, false, List, [], ◌∷◌, ◌++◌, length, take, drop, Option, Some, None, refl, sym, ◌∙◌, ap, append_assoc, arith}
+use Rattle.std.proofs.Common.{◌≡◌, ℕ, suc, ◌+◌, ◌/◌, ◌^◌, ◌<◌, ◌≤◌, eqb, ltb, cond, Bool, true, false, List, [], ◌++◌, length, take, drop, Option, Some, None, refl, append_assoc, arith}
 use Rattle.std.specs.Prelude.{IfSome, slice_index_or}
 use Rattle.std.proofs.lemmas.Bool.{ltb-true}
 use Rattle.merkle_forest.specs.Codec.{option_spelling}
 use Rattle.merkle_forest.specs.Varint.{varint}
 use Rattle.merkle_forest.specs.declared.bagging.Bagging.{Bagging}
 use Rattle.merkle_forest.specs.declared.bagging.Bagging.TheVariants.{BackwardFold}
-use Rattle.merkle_forest.specs.Forest.{Tree, leaf, branch, height, leaf_count, leaves, Rule, forest_of}
+use Rattle.merkle_forest.specs.Forest.{leaf, branch, height, leaf_count, Rule, forest_of}
 use Rattle.merkle_forest.specs.ForestGrowth.{size-twice, leaves-forest_of}
 use Rattle.merkle_forest.specs.Hashing.{Hash, node_string, root_of}
 use Rattle.merkle_forest.specs.Nodes.{nodes_of_height}
@@ -18,7 +18,7 @@ use Rattle.merkle_core.proofs.Sized.{AreSized, IsSized, Gives, range_sized}
 use Rattle.state_proofs.specs.Bits.{is_zero}
 use Rattle.state_proofs.specs.Canonical.{Setting, State, chunk_bits, full_chunks, next_bit, chunk, forest, peaks, grafted_digests, grafted_inactive, operations_root, pending_digest, partial_digest}
 use Rattle.state_proofs.specs.Grafting.{grafted, grafted_digest}
-use Rattle.state_proofs.specs.Honest.{grafted_range, range_proof, operation_proof, key_value_proof, honest_parts}
+use Rattle.state_proofs.specs.Honest.{grafted_range, range_proof, operation_proof, key_value_proof}
 use Rattle.state_proofs.proofs.Accepted.{inactive-few}
 
 graft_sized : (size : ℕ) (hash : Hash) (chunk own : List ℕ) (test : Bool) → IsSized size hash → length own ≡ size → length (cond test own (hash (chunk ++ own))) ≡ size
