@@ -82,7 +82,7 @@ activity_bits (operation ∷ later) = is_active operation later ∷ activity_bit
 abbrev pub is_active_update : Operation → List Operation → Bool
 is_active_update operation later = not (is_commit operation) && is_active operation later
 
--- the place of the first active update, or the number of operations where there is none
+-- the place of the first active update, or the number of operations where there is none, which is the place of the commit that follows
 abbrev pub inactivity_floor : List Operation → ℕ
 inactivity_floor [] = 0
 inactivity_floor (operation ∷ later) = if is_active_update operation later then 0 else inactivity_floor later + 1

@@ -25,6 +25,7 @@ machine rule hash pending width key value = record { setting = setting_of_width 
 abbrev pub State : Type 0
 State = Option History
 
+-- what a session is asked
 pub data Request : Type 0 where
   ask_open : Request
   ask_commit : List Word → Option (List ℕ) → Request
@@ -35,6 +36,7 @@ pub data Request : Type 0 where
   ask_len : Request
   ask_proof : List ℕ → Request
 
+-- what it answers
 pub data Answer : Type 0 where
   opened : Answer
   committed : List ℕ → Answer
@@ -74,6 +76,7 @@ answer_of m ask_floor history = floor_is (floor_of history)
 answer_of m ask_len history = len_is (length (log_of history))
 answer_of m (ask_proof key) history = proof (proof_of m history key)
 
+-- whether the request is to open
 abbrev pub is_open : Request → Bool
 is_open ask_open = true
 is_open (ask_commit words metadata) = false
@@ -105,9 +108,10 @@ HasRoom ask_floor history = Unit {0}
 HasRoom ask_len history = Unit {0}
 HasRoom (ask_proof key) history = Unit {0}
 
-abbrev pub IsWithin : Request → State → Type 0
-IsWithin request None = Unit {0}
-IsWithin request (Some history) = HasRoom request history
+-- the request leads to no log past 2^62 operations
+abbrev pub KeepsLimit : Request → State → Type 0
+KeepsLimit request None = Unit {0}
+KeepsLimit request (Some history) = HasRoom request history
 
 -- which requests to an open store may want memory
 abbrev pub MayLackMemory : Request → Type 0
@@ -133,7 +137,7 @@ IsRefusal request (Some history) error = MayRefuse request history error
 -- One step: the answer without a refusal, within the limit; or a refusal that changes nothing.
 abbrev pub IsStep : Machine → State → Request → Answer → State → Type 0
 IsStep m state request answer next =
-    ((answer ≡ answered m request state) × (next ≡ after request state) × IsWithin request state)
+    ((answer ≡ answered m request state) × (next ≡ after request state) × KeepsLimit request state)
     ⊎ ((error : StoreError) × (answer ≡ refused error) × (next ≡ state) × IsRefusal request state error)
 
 -- A run: an answer for each request, one step after the other.

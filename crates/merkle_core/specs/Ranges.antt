@@ -18,7 +18,7 @@ is_before start peak = nat_le (end_of peak) start
 abbrev pub is_after : ℕ → Placed → Bool
 is_after stop peak = nat_le stop peak.0
 
--- some leaf of the peak stands in the range
+-- the peak stands neither wholly before the range nor wholly behind it: some leaf of it is in the range, which is not empty
 abbrev pub meets : ℕ → ℕ → Placed → Bool
 meets start stop peak = not (is_before start peak || is_after stop peak)
 
@@ -38,14 +38,14 @@ siblings digest start stop at (branch p left right) =
     if meets start stop (at, branch p left right) then siblings digest start stop at left ++ siblings digest start stop (at + leaf_count left) right
     else digest at (branch p left right) ∷ []
 
--- the peaks before the range, of which the inactive ones are folded into one (all of them by ForwardFold)
+-- the peaks before the range, of which the inactive ones are folded from the left into one (all of them by ForwardFold)
 abbrev pub before_digests : Hash → Digests → Bagging → ℕ → List Placed → List Placed → List (List ℕ)
 before_digests hash digest BackwardFold start inactive active =
     as_one (folded_forward hash) (singly digest (filter (is_before start) inactive)) ++ singly digest (filter (is_before start) active)
 before_digests hash digest ForwardFold start inactive active =
     as_one (folded_forward hash) (singly digest (filter (is_before start) inactive) ++ singly digest (filter (is_before start) active))
 
--- the peaks behind the range, of which the active ones are folded into one (none of them by ForwardFold)
+-- the peaks behind the range, of which the active ones are folded from the right into one (none of them by ForwardFold)
 abbrev pub after_digests : Hash → Digests → Bagging → ℕ → List Placed → List Placed → List (List ℕ)
 after_digests hash digest BackwardFold stop inactive active =
     singly digest (filter (is_after stop) inactive) ++ as_one (folded_backward hash) (singly digest (filter (is_after stop) active))

@@ -4,7 +4,7 @@ use Rattle.merkle_forest.specs.Forest.{Tree, leaf, branch, position, height, lea
 use Rattle.merkle_forest.specs.Hashing.{Hash, fold_string}
 use Rattle.merkle_forest.specs.Nodes.{IsNodeAt}
 
--- how a leaf and a branch are hashed, and what stands in the place of a branch of a height
+-- how a leaf and a branch are hashed, and which digest counts for a branch, from its height and its own hash
 pub record Hashing : Type 0 where
   pub leaf_of : ℕ → List ℕ → List ℕ
   pub node_of : ℕ → List ℕ → List ℕ → List ℕ

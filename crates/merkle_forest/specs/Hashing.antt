@@ -39,7 +39,7 @@ folded_backward hash [] = []
 folded_backward hash (d ∷ []) = d
 folded_backward hash (d ∷ e ∷ digests) = hash (fold_string d (folded_backward hash (e ∷ digests)))
 
--- the inactive peaks, which are the first ones, as one item
+-- the items that are bagged: the inactive peaks, which come first, folded from the left into one, then the other peaks singly
 abbrev pub items : Hash → ℕ → List (List ℕ) → List (List ℕ)
 items hash inactive peaks = if inactive == 0 then peaks else folded_forward hash (take inactive peaks) ∷ drop inactive peaks
 
@@ -61,6 +61,6 @@ inactive_count inactive = if inactive == 0 then [] else number inactive
 unfoldable pub root_string : Bagging → ℕ → ℕ → List ℕ → List ℕ
 root_string bagging leaves inactive digest = number leaves ++ (domain_of bagging ∷ (inactive_count inactive ++ digest))
 
--- the root of a tree with these peaks, from left to right
+-- the root of a tree with these peaks, from left to right, of which so many come first as inactive ones
 unfoldable pub root_of : Hash → Bagging → ℕ → ℕ → List (List ℕ) → List ℕ
 root_of hash bagging leaves inactive peaks = hash (root_string bagging leaves inactive (bagged hash bagging (items hash inactive peaks)))

@@ -1,8 +1,8 @@
--- Where the nodes of a forest stand. A node's place is the location of the first leaf below it.
+-- Which nodes a forest has. A node is told by the location of the first leaf below it, or by its position, together with its height.
 use Rattle.std.specs.Prelude.{◌≡◌, ◌==◌, ℕ, suc, ◌+◌, ◌≤◌, ◌^◌, ◌⊎◌, ◌↔◌, if◌then◌else◌, List, [], ◌∷◌, length, slice_get, Some}
 use Rattle.merkle_forest.specs.Forest.{Tree, leaf, branch, position, height, leaf_count, size, leaves, Rule, forest_of}
 
--- a tree whose first leaf has the location `first` is the tree that starts at `start`, or stands below its root
+-- the first tree, whose first leaf has the location `first`, is the second one, whose first leaf has the location `start`, or stands in it
 abbrev pub IsWithin : ℕ → Tree → ℕ → Tree → Type 0
 IsWithin first node start (leaf p) = (first ≡ start) × (node ≡ leaf p)
 IsWithin first node start (branch p left right) =

@@ -3,9 +3,11 @@ use Rattle.std.specs.Prelude.{◌≡◌, ◌==◌, ◌||◌, ℕ, ◌+◌, ◌�
 use Rattle.merkle_forest.specs.Forest.{Tree, position, height, size, leaves, Rule, forest_of}
 use Rattle.merkle_forest.specs.Trees.{Placed, placed, inactive_peaks}
 
+-- a peak's position and height
 abbrev pub place_of : Placed → ℕ × ℕ
 place_of peak = (position peak.1, height peak.1)
 
+-- those of all peaks, from left to right
 abbrev pub peak_places : List Tree → List (ℕ × ℕ)
 peak_places peaks = map place_of (placed peaks)
 
@@ -14,6 +16,7 @@ abbrev pub placed_from : ℕ → List Tree → List Placed
 placed_from first [] = []
 placed_from first (peak ∷ peaks) = if nat_le first (leaves peaks) then placed_from first peaks ++ (leaves peaks, peak) ∷ [] else []
 
+-- those of the peaks from a location on
 abbrev pub places_from : ℕ → List Tree → List (ℕ × ℕ)
 places_from first peaks = map place_of (placed_from first peaks)
 

@@ -37,7 +37,7 @@ abbrev pub inactive_peaks : ℕ → List Placed → ℕ
 inactive_peaks floor [] = 0
 inactive_peaks floor (peak ∷ peaks) = if nat_le (end_of peak) floor then suc (inactive_peaks floor peaks) else 0
 
--- the root of the tree over these elements
+-- the root of the tree over these elements, of whose peaks so many come first as inactive ones
 unfoldable pub tree_root : Hash → Bagging → Rule → List (List ℕ) → ℕ → List ℕ
 tree_root hash bagging rule elements inactive =
     root_of hash bagging (length elements) inactive (peak_digests (plain_digest hash elements) (forest_of rule (length elements)))

@@ -17,12 +17,12 @@ grafted_digest hash grafting_height bits chunks elements start (branch p left ri
     (grafted_digest hash grafting_height bits chunks elements (start + leaf_count left) right)) in
     if height (branch p left right) == grafting_height then grafted hash (slice_index_or chunks (start / bits) []) own else own
 
--- the count, where a later count is none: the peaks so far end at a chunk's border or not
+-- this peak's part of that number: where no later peak ends at a border, 1 if this one does; else one more than the later ones give
 abbrev pub counted : ℕ → ℕ → Placed → ℕ
 counted bits zero peak = if end_of peak % bits == 0 then 1 else 0
 counted bits (suc later) peak = suc (suc later)
 
--- how many peaks come first whose leaves all stand before the floor and end at a chunk's border
+-- the greatest number of first peaks whose leaves all stand before the floor and of which the last one ends at a chunk's border; 0 where there is none
 abbrev pub chunk_aligned_inactive_peaks : ℕ → ℕ → List Placed → ℕ
 chunk_aligned_inactive_peaks bits floor [] = 0
 chunk_aligned_inactive_peaks bits floor (peak ∷ peaks) =

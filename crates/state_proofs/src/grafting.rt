@@ -115,7 +115,8 @@ pub fn graftable_count(grafting_height: u64, peaks: &[Tree]) -> usize
     }
 }
 
-/// How many of these peaks come first whose leaves all stand before the floor and end at a chunk's border.
+/// The greatest number of first peaks whose leaves all stand before the floor and of which the last one ends at a chunk's
+/// border; 0 where there is none.
 pub fn aligned_count_of(bits: usize, floor: u64, peaks: &[(usize, &Tree)]) -> usize
     requires some { 0 < bits }
     requires small { Within usize.MAX (shapes peaks.now) }

@@ -1,6 +1,7 @@
 //! What a store computes from its log.
 
-ghost use Rattle.std.specs.Prelude.{◌≡◌, ◌<◌, ◌≤◌, ◌^◌, [], map, drop, length, option_map, IfOk, OnOk, OnErr, IsErrOf};
+ghost use Rattle.std.specs.Prelude.{◌≡◌, ◌<◌, ◌≤◌, ◌*◌, ◌^◌, [], map, drop, length, option_map, IfOk, OnOk, OnErr, IsErrOf};
+ghost use Rattle.std.specs.Int.{w64, trailing_zeros};
 ghost use Rattle.auth_store.specs.Batch as words;
 ghost use Rattle.auth_store.specs.Batch.{map_after};
 ghost use Rattle.auth_store.specs.History.{meanings, log_of, replayed, batch_operations, inactivity_floor};
@@ -70,6 +71,29 @@ pub fn encodings<K: Key, V: FixedValue>(
     Ok(encoded)
 }
 
+/// The encoded operations with their activity bits and the last floor, in chunks of `N` bytes.
+pub fn snapshot_of<'a, const N: usize>(
+    operations: &'a [Vec<u8>],
+    bits: &'a [bool],
+    floor: u64,
+) -> Snapshot<'a>
+    requires width { IsChunkWidth N }
+    requires few { length operations.now ≤ 2 ^ 62 }
+    ensures operations { result.operations.now ≡ operations.now }
+    ensures bits { result.bits.now ≡ bits.now }
+    ensures floor { result.floor ≡ floor }
+    ensures width { result.width ≡ N }
+    ensures height { result.grafting_height ≡ trailing_zeros w64 (8 * N) }
+{
+    Snapshot {
+        operations,
+        bits,
+        floor,
+        width: N,
+        grafting_height: (8 * N).trailing_zeros() as u64,
+    }
+}
+
 /// The root of the log with its last floor, in chunks of `N` bytes. It fails for want of memory alone.
 pub fn root_of_log<F: Family, H: HashFunction, K: Key, V: FixedValue, const N: usize>(
     alloc: Global,
@@ -82,13 +106,7 @@ pub fn root_of_log<F: Family, H: HashFunction, K: Key, V: FixedValue, const N: u
 {
     let operations = encodings(alloc, log)?;
     let bits = history::activity_bits(alloc, log)?;
-    let snapshot = Snapshot {
-        operations: &operations,
-        bits: &bits,
-        floor,
-        width: N,
-        grafting_height: (8 * N).trailing_zeros() as u64,
-    };
+    let snapshot = snapshot_of::<N>(&operations, &bits, floor);
     canonical_root::<F, H>(alloc, &snapshot)
 }
 

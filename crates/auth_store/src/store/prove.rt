@@ -9,7 +9,7 @@ ghost use Rattle.auth_store.specs.Store.{IsChunkWidth, setting_of_width, state_o
 ghost use Rattle.state_proofs.specs.Honest.{key_value_proof};
 
 use super::Store;
-use super::log::encodings;
+use super::log::{encodings, snapshot_of};
 use crate::error::StoreError;
 use crate::history;
 use crate::history::activity::is_active_on;
@@ -18,7 +18,6 @@ use merkle_forest::pending::PendingOf;
 use merkle_forest::{Family, HashFunction};
 use state_ops::{FixedValue, Key, Operation, Ordered};
 use state_proofs::honest::key_value_proof_bytes;
-use state_proofs::snapshot::Snapshot;
 use std::alloc::{AllocError, Global};
 
 /// What a store answers to a key that is there: its value, and the bytes that prove it under the root of that moment.
@@ -85,13 +84,7 @@ fn proof_at<F: PendingOf<H::Digest>, H: HashFunction, K: Key, V: FixedValue, con
 {
     let operations = encodings(alloc, log)?;
     let bits = history::activity_bits(alloc, log)?;
-    let snapshot = Snapshot {
-        operations: &operations,
-        bits: &bits,
-        floor,
-        width: N,
-        grafting_height: (8 * N).trailing_zeros() as u64,
-    };
+    let snapshot = snapshot_of::<N>(&operations, &bits, floor);
     let next = encoded_key(alloc, next_key)?;
     key_value_proof_bytes::<F, H>(alloc, &snapshot, place as u64, &next)
 }
