@@ -1,5 +1,6 @@
 //! How values are written as bytes and read back.
 
+pub mod array;
 pub mod cursor;
 pub mod error;
 pub mod fixed_bytes;

@@ -88,6 +88,10 @@ fn appends_and_marks(rt: HostRuntime) -> Result<(), Fail> {
         &log[6..],
         [delete(b'a'), update(b'c', 3, b'c'), commit(7)].as_slice()
     );
+    assert_eq!(rt;
+        activity_bits(alloc, &log)?.as_slice(),
+        [false, false, false, false, false, false, false, true, true].as_slice()
+    );
     take(alloc, &mut log, b'c')?;
     assert_eq!(rt; log.len(), 11);
     assert_eq!(rt; &log[9..], [delete(b'c'), commit(10)].as_slice());

@@ -58,6 +58,14 @@ impl MaxEncodeSize for u64 {
     ghost bounded = { λ v h. Prim.omega arith };
 }
 
+impl<const M: usize> MaxEncodeSize for [u8; M] {
+    ghost MAX_SIZE = { M };
+
+    const MAX_SIZE: usize = M;
+
+    ghost bounded = { λ v h. Prim.omega arith };
+}
+
 impl<const M: usize> MaxEncodeSize for FixedBytes<M> {
     ghost MAX_SIZE = { M };
 

@@ -91,3 +91,21 @@ fn bytes(rt: HostRuntime) -> Result<(), Fail> {
     assert_eq!(rt; long, Err(Error::InvalidLength));
     Ok(())
 }
+
+#[test]
+fn arrays(rt: HostRuntime) -> Result<(), Fail> {
+    let alloc = rt.alloc();
+    let bytes = [1u8, 2, 3, 4];
+    assert_eq!(rt; bytes.encode(alloc)?.as_slice(), [1u8, 2, 3, 4].as_slice());
+    assert_eq!(rt; bytes.encode_size(), 4);
+    assert_eq!(rt; <[u8; 4]>::decode_cfg(alloc, &[1, 2, 3, 4], &())?, bytes);
+    assert_eq!(rt;
+        <[u8; 4]>::decode_cfg(alloc, &[1, 2, 3], &()),
+        Err(Error::EndOfBuffer)
+    );
+    assert_eq!(rt;
+        <[u8; 4]>::decode_cfg(alloc, &[1, 2, 3, 4, 5], &()),
+        Err(Error::ExtraData)
+    );
+    Ok(())
+}
