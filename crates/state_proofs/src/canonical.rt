@@ -1,6 +1,6 @@
 //! The canonical root of a state: the plain program of the definition (own).
 
-ghost use Rattle.std.specs.Prelude.{◌≡◌, ◌<◌, ◌≤◌, ◌+◌, ◌*◌, ◌^◌, ◌++◌, [], ◌∷◌, ℕ, List, map, length, IfOk, IfSome, IsSome, option_map, slice_index_or};
+ghost use Rattle.std.specs.Prelude.{◌≡◌, ◌<◌, ◌≤◌, ◌+◌, ◌*◌, ◌^◌, ◌++◌, ◌↔◌, [], ◌∷◌, ℕ, List, map, length, IfOk, IfSome, IsSome, option_map, slice_index_or};
 ghost use Rattle.merkle_forest.specs.Forest.{leaves, forest_of};
 ghost use Rattle.merkle_forest.specs.Shape.{shape};
 ghost use Rattle.state_proofs.specs.Canonical.{chunks as all_chunks, operations_root, grafted_root, pending_digest, partial_digest, canonical_root as root_of_state};
@@ -93,7 +93,7 @@ pub fn root_of_grafted<F: Family, H: HashFunction>(
 
 // The digest of the chunk at an index, if it is there.
 fn chunk_digest<H: HashFunction>(chunks: &[Vec<u8>], index: usize) -> Option<H::Digest>
-    ensures there { index < length chunks.now → IsSome result }
+    ensures there { IsSome result ↔ index < length chunks.now }
     ensures digest { IfSome result (λ d. H.Digest.spelling d ≡ H.hash_of (slice_index_or (map (λ chunk. chunk.items) chunks.now) index [])) }
 {
     let chunk = chunks.get(index)?;

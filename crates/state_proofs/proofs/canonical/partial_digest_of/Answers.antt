@@ -17,7 +17,7 @@ returns g c =
     let full = full_chunks setting state in
     let some : eqb (next_bit setting state) 0 ≡ false = rw sized (ne_eqb _ _ c.if-snapshot-bits-eq0.false) in
     let digest = rw (← sized) at c.chunk_digest.ensures.digest in
-    let there = rw (← sized) at c.chunk_digest.ensures.there in
+    let there = rw (← sized) at c.chunk_digest.ensures.there.1 in
     is_partial_digest setting state _ some
     (chunk_is g.H.Digest.Write.spelling hash found full c.chunk_digest.result (there (omega (arith, partial_stands setting state some, ap length c.requires.chunked, length-map c.args.chunks.now (λ chunk. chunk.items)))) digest
     ∙ ap (λ found. Some (hash (slice_index_or found full []))) c.requires.chunked)
