@@ -25,6 +25,7 @@ pub mod ParentLaws
 pub mod PeakLaws
 pub mod Peaks
 pub mod Perfect
+pub mod RootLengths
 pub mod Shape
 pub mod Trees
 pub mod TreesCode
