@@ -1,5 +1,10 @@
 //! A whole run of a script.
 
+ghost use Rattle.std.specs.Prelude.{◌≡◌};
+ghost use Rattle.std.specs.IoError.{error_kind};
+ghost use Rattle.std.specs.declared.io.ErrorKind.TheVariants.{OutOfMemory};
+ghost use Rattle.auth_store.specs.declared.script.run.End.TheVariants as ends;
+
 use super::input::{InputError, read_script};
 use super::line::{Line, parse_line};
 use super::report::{
@@ -52,18 +57,24 @@ enum End {
 }
 
 impl From<AllocError> for End {
+    ghost from_gives = { λ _ e. e ≡ ends.Memory };
+
     fn from(_e: AllocError) -> End {
         End::Memory
     }
 }
 
 impl<T: Drop> From<AllocFailed<T>> for End {
+    ghost from_gives = { λ _ e. e ≡ ends.Memory };
+
     fn from(_e: AllocFailed<T>) -> End {
         End::Memory
     }
 }
 
 impl From<io::Error> for End {
+    ghost from_gives = { λ e end. (error_kind e ≡ OutOfMemory → end ≡ ends.Memory) × ((error_kind e ≡ OutOfMemory → ⊥) → end ≡ ends.Io) };
+
     fn from(e: io::Error) -> End {
         match e.kind() {
             ErrorKind::OutOfMemory => End::Memory,

@@ -177,6 +177,7 @@ pub fn first_version<F: Family, H: HashFunction, K: Key, V: FixedValue, const N:
     ensures log { IfOk result (λ first. meanings K.spelling V.spelling first.operations.items ≡ log_of []) }
     ensures floor { IfOk result (λ first. first.floor ≡ 0) }
     ensures root { IfOk result (λ first. H.Digest.spelling first.root ≡ root_of_history (setting_of_width F.merge_rule H.hash_of N) K.SIZE V.SIZE []) }
+    ensures bytes { IfOk result (λ first. first.bytes.items ≡ spec.log_bytes K.SIZE V.SIZE (log_of [])) }
     ensures written { OnOk result (device.new.bytes.items ≡ spec.log_bytes K.SIZE V.SIZE (log_of [])) }
     ensures err { OnErr result (device.new.bytes.items ≡ []) }
 {
