@@ -180,6 +180,16 @@ impl<F: Family, H: HashFunction, K: Key, V: FixedValue, const N: usize> Store<F,
         (self.device, PlainCache::new())
     }
 
+    /// What holds of every store: its chunks have a width that may be, each commit of its history has a state, and its log
+    /// has at most 2^62 operations.
+    pub fn holds_a_history(&self)
+        ensures width { IsChunkWidth N }
+        ensures states { spec.AreStates self.now }
+        ensures few { length (spec.log_of self.now) ≤ 2 ^ 62 }
+    {
+        let _ = &self.operations;
+    }
+
     /// How many operations the log has. It never refuses.
     pub fn len(&self) -> Result<u64, StoreError>
         ensures { result ≡ Ok (length (spec.log_of self.now)) }
