@@ -1,11 +1,13 @@
 -- What the operations of a batch leave out.
-use Rattle.std.proofs.Common.{◌≡◌, ℕ, Bool, true, false, cond, List, [], ◌∷◌, ◌++◌, Option, None, Some, refl, ap, sym, ◌∙◌, ⊎_elim}
+use Rattle.std.proofs.Common.{◌≡◌, ℕ, Bool, true, false, cond, ◌+◌, List, [], ◌∷◌, ◌++◌, length, Option, None, Some, refl, ap, sym, ◌∙◌, ⊎_elim, arith}
 use Rattle.std.specs.Prelude.{is_some, unwrap_or, ◌||◌}
-use Rattle.std.specs.List.{list_any}
+use Rattle.std.specs.List.{filter, list_any}
+use Rattle.std.proofs.lemmas.List.{length-append}
+use Rattle.std.proofs.lemmas.List.Elements.{filter-append}
 use Rattle.std.proofs.lemmas.Bool.{cases_Bool}
-use Rattle.state_ops.specs.Operation.{Operation, delete, update}
+use Rattle.state_ops.specs.Operation.{Operation, commit_floor, delete, update}
 use Rattle.auth_store.specs.Map.{Map, value_at, next_key}
-use Rattle.auth_store.specs.History.{has_key, is_commit, is_kept, deletes, updates, batch_operations, IsState}
+use Rattle.auth_store.specs.History.{History, log_of, latest_map, inactivity_floor, has_key, is_commit, is_kept, deletes, updates, batch_operations, IsState}
 use Rattle.auth_store.proofs.Lookups.{same, exact, none_later, IsState-tail}
 use Rattle.auth_store.proofs.Logs.{differ, true_false, passed_by}
 
@@ -37,6 +39,29 @@ updates_no_commit (e ∷ es) old new = elim (is_kept old new e.0 e.1) as (λ b. 
 
 pub no_commit : (old new : Map) → list_any is_commit (batch_operations old new) ≡ false
 no_commit old new = any-append is_commit (deletes old new) (updates new old new) (deletes_no_commit old new) (updates_no_commit new old new)
+
+-- where none passes, none is kept
+none_kept : (operations : List Operation) → list_any is_commit operations ≡ false → filter is_commit operations ≡ []
+none_kept [] none = refl
+none_kept (operation ∷ operations) none = drop (is_commit operation) (list_any is_commit operations) none (none_kept operations)
+  where
+    drop : (is any : Bool) → (is || any) ≡ false → (any ≡ false → filter is_commit operations ≡ []) → cond is (operation ∷ filter is_commit operations) (filter is_commit operations) ≡ []
+    drop true any none later = absurd (cc)
+    drop false any none later = later none
+
+-- a log has a commit for each of its history and the one that it begins with
+pub commits_counted : (history : History) → length (filter is_commit (log_of history)) ≡ length history + 1
+commits_counted [] = refl
+commits_counted (commit ∷ history) =
+    let operations : List Operation = batch_operations (latest_map history) commit.map in
+    let last : List Operation = commit_floor commit.metadata (inactivity_floor (log_of history ++ operations)) ∷ [] in
+    let whole : filter is_commit (log_of (commit ∷ history)) ≡ (filter is_commit (log_of history) ++ filter is_commit operations) ++ last = filter-append is_commit (log_of history ++ operations) last
+    ∙ ap (λ kept. kept ++ last) (filter-append is_commit (log_of history) operations) in
+    let none : filter is_commit operations ≡ [] = none_kept operations (no_commit (latest_map history) commit.map) in
+    let long : length ((filter is_commit (log_of history) ++ filter is_commit operations) ++ last) ≡ (length (filter is_commit (log_of history)) + length (filter is_commit operations)) + 1 =
+    length-append (filter is_commit (log_of history) ++ filter is_commit operations) last ∙ ap (λ n. n + 1) (length-append (filter is_commit (log_of history)) (filter is_commit operations)) in
+    let zero : length (filter is_commit operations) ≡ 0 = ap length none in
+    ap length whole ∙ (long ∙ omega (arith, zero, commits_counted history))
 
 -- a key of the new state isn't deleted
 deletes_not : (q : List ℕ) (es new : Map) → is_some (value_at new q) ≡ true → list_any (has_key q) (deletes es new) ≡ false
