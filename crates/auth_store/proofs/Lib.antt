@@ -4,7 +4,6 @@ pub mod Batches
 pub mod Lookups
 pub mod Logs
 pub mod Numbers
-pub mod Own
 pub mod Lines
 pub mod Spellings
 pub mod Stores

@@ -10,7 +10,6 @@ ghost use Rattle.auth_store.specs.ClaimsCode.{parts_of, claimed_update};
 ghost use Rattle.auth_store.specs.Shown.{value_proof_bytes, Fits, Shows, after_proof, after_value_proof};
 
 pub mod laws;
-pub mod own;
 
 use merkle_core::proof::Proof;
 use merkle_forest::Digest;

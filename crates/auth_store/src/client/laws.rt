@@ -11,6 +11,7 @@ ghost use Rattle.auth_store.specs.Shown.{Shows};
 ghost use Rattle.auth_store.specs.Store.{IsChunkWidth, setting_of_width, state_of_log, root_of_history};
 
 use super::MAX_PROOF_DIGESTS;
+use crate::store::Store;
 use merkle_core::laws::honest_digests_are_few;
 use merkle_forest::graftable::Graftable;
 use merkle_forest::hasher::HashFunction;
@@ -50,4 +51,21 @@ where
         (honest_proof F.pending_spelling (setting_of_width F.merge_rule H.hash_of N) K.SIZE V.SIZE history key) }
 {
     honest_bytes_show_the_value::<F, H, K, V, N>();
+}
+
+/// The honest proof of each key of a store shows its value under the root of this moment, where the next key is one that is
+/// read, as `Store::prove_key` says: so `check` says yes to each proof that a store answers.
+pub fn own_proofs_show_their_values<F, H, K, V, const N: usize>(store: &Store<F, H, K, V, N>)
+where
+    F: Graftable + PendingOf<H::Digest>,
+    H: HashFunction,
+    K: Key,
+    V: FixedValue,
+    ensures { (key value : List ℕ) → value_at (latest_map store.now) key ≡ Some value → K.after tt (next_key (latest_map store.now) key) ≡ Ok []
+        → Shows F.merge_rule H.hash_of F.is_pending F.pending_spelling (λ next. K.after tt next ≡ Ok []) N H.Digest.SIZE MAX_PROOF_DIGESTS (λ next. fixed_encoding K.SIZE V.SIZE (update key value next))
+        (root_of_history (setting_of_width F.merge_rule H.hash_of N) K.SIZE V.SIZE store.now)
+        (honest_proof F.pending_spelling (setting_of_width F.merge_rule H.hash_of N) K.SIZE V.SIZE store.now key) }
+{
+    store.holds_a_history();
+    proofs_of_keys_show_their_values::<F, H, K, V, N>();
 }

@@ -1,6 +1,5 @@
 use super::*;
 use crate::batch::Batch;
-use crate::client::own::says_yes_to_own_proof;
 use crate::client::{Claim, check};
 use crate::plain::{PlainCache, PlainDevice, Sizes};
 use merkle_forest::codec::FixedBytes;
@@ -63,20 +62,5 @@ fn first_ten_lines(rt: HostRuntime) -> Result<(), Fail> {
     let yes = check::<mmr::Family, ByteHash, Keys, u64, 1>(alloc, &root, &claim, &bytes)?;
     assert_eq!(rt; value, 1);
     assert!(rt; yes);
-    Ok(())
-}
-
-// The client says yes to the proof of the one key, and there is nothing to check for another key.
-#[test]
-fn yes_to_own_proof(rt: HostRuntime) -> Result<(), Fail> {
-    let alloc = rt.alloc();
-    let mut store = opened(alloc)?;
-    let key = FixedBytes::new([0, 0, 0, 0, 0, 0, 0, 0x61]);
-    let mut batch = Batch::new(alloc);
-    batch.put(key, 1)?;
-    store.commit(batch, None)?;
-    assert_eq!(rt; says_yes_to_own_proof(alloc, &store, &key)?, Some(true));
-    let other = FixedBytes::new([0, 0, 0, 0, 0, 0, 0, 0x62]);
-    assert_eq!(rt; says_yes_to_own_proof(alloc, &store, &other)?, None);
     Ok(())
 }
