@@ -3,6 +3,7 @@ pub mod Actives
 pub mod Batches
 pub mod Lookups
 pub mod Logs
+pub mod Mapped
 pub mod Numbers
 pub mod Lines
 pub mod Spellings

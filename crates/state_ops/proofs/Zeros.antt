@@ -1,6 +1,8 @@
 -- Zeros, and the frame of an operation.
-use Rattle.std.proofs.Common.{◌≡◌, ℕ, zero, suc, ◌-◌, ltb, false, cond, List, [], ◌∷◌, ◌++◌, length, take, drop, replicate, Result, Ok, Err, refl, sym, ◌∙◌, ap, subst, append-nil, arith}
-use Rattle.std.specs.Prelude.{MatchResult}
+use Rattle.std.proofs.Common.{◌≡◌, ℕ, zero, suc, ◌-◌, ltb, true, false, cond, nat_eq, List, [], ◌∷◌, ◌++◌, length, take, drop, replicate, Result, Ok, Err, refl, sym, ◌∙◌, ap, subst, append-nil, arith}
+use Rattle.std.specs.Prelude.{MatchResult, ◌&&◌}
+use Rattle.std.proofs.Math.Dec.{eqb-suc-zero}
+use Rattle.std.specs.List.{list_all}
 use Rattle.std.proofs.lemmas.Bool.{le-ltb}
 use Rattle.std.proofs.lemmas.List.{take_at, drop_at, length-append}
 use Rattle.merkle_forest_parts.specs.declared.codec.error.Error.{Error}
@@ -8,6 +10,17 @@ use Rattle.merkle_forest_parts.specs.declared.codec.error.Error.TheVariants.{End
 use Rattle.merkle_forest.specs.Codec.{Outcome, Reads, Refuses, ◌>>=◌}
 use Rattle.state_ops.specs.Operation.{padded}
 use Rattle.state_ops.specs.Reading.{after_zeros, after_absent}
+
+-- zeros are what a test of each byte finds
+pub zeros_all : (bytes : List ℕ) → list_all (λ byte. nat_eq byte 0) bytes ≡ true → after_zeros bytes ≡ Ok []
+zeros_all [] all = refl
+zeros_all (zero ∷ bytes) all = zeros_all bytes all
+zeros_all (suc b ∷ bytes) all = let no : list_all (λ byte. nat_eq byte 0) (suc b ∷ bytes) ≡ false = ap (λ is. is && list_all (λ byte. nat_eq byte 0) bytes) (eqb-suc-zero b) in absurd (cc)
+
+pub zeros_not_all : (bytes : List ℕ) → list_all (λ byte. nat_eq byte 0) bytes ≡ false → after_zeros bytes ≡ Err Invalid
+zeros_not_all [] all = absurd (cc)
+zeros_not_all (zero ∷ bytes) all = zeros_not_all bytes all
+zeros_not_all (suc b ∷ bytes) all = refl
 
 -- what is found to be zeros is zeros
 pub zeros_are : (bytes rest : List ℕ) → after_zeros bytes ≡ Ok rest → (bytes ≡ replicate (length bytes) 0) × (rest ≡ [])

@@ -22,33 +22,24 @@ fn has_key<K: Key, V: FixedValue>(key: &K, operation: &Operation<K, V>) -> bool
 
 /// Whether one of the operations is about the key.
 fn any_has_key<K: Key, V: FixedValue>(key: &K, operations: &[Operation<K, V>]) -> bool
-    ensures { result ≡ list_any (spec.has_key (K.spelling key.now)) (spec.meanings K.spelling V.spelling operations.now) }
+    ensures { result ≡ list_any (λ operation. spec.has_key (K.spelling key.now) (meaning_of K.spelling V.spelling operation)) operations.now }
 {
-    let mut rest = operations;
-    while let [operation, later @ ..] = rest {
-        if has_key(key, operation) {
-            return true;
-        }
-        rest = later;
-    }
-    false
+    operations
+        .iter()
+        .any(|operation| has_key(key, operation))
 }
 
 /// Whether one of the operations is a commit.
 fn any_is_commit<K: Key, V: FixedValue>(operations: &[Operation<K, V>]) -> bool
-    ensures { result ≡ list_any spec.is_commit (spec.meanings K.spelling V.spelling operations.now) }
+    ensures { result ≡ list_any (λ operation. spec.is_commit (meaning_of K.spelling V.spelling operation)) operations.now }
 {
-    let mut rest = operations;
-    while let [operation, later @ ..] = rest {
-        if let Operation::CommitFloor(_, _) = operation {
-            return true;
-        }
-        rest = later;
-    }
-    false
+    operations
+        .iter()
+        .any(|operation| matches!(operation, Operation::CommitFloor(_, _)))
 }
 
 /// Whether the operation still counts, given the operations after it: an update whose key no later one has, or the last commit.
+#[tactic(auto, using(crate::proofs::Mapped::any_map))]
 pub fn is_active<K: Key, V: FixedValue>(
     operation: &Operation<K, V>,
     later: &[Operation<K, V>],

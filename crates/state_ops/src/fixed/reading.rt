@@ -1,7 +1,8 @@
 //! Operations read from their fixed spelling.
 
-ghost use Rattle.std.specs.Prelude.{◌≡◌, ◌++◌, ℕ, [], replicate, length, option_map, Ok, Err, MatchResult};
+ghost use Rattle.std.specs.Prelude.{◌≡◌, ◌++◌, ℕ, [], replicate, length, option_map, nat_eq, Ok, Err, MatchResult};
 ghost use Rattle.std.specs.Int.{w64, to_be_bytes};
+ghost use Rattle.std.specs.List.{list_all};
 ghost use Rattle.merkle_forest.specs.Codec.{Reads};
 ghost use Rattle.state_ops.specs.Operation as spec;
 ghost use Rattle.state_ops.specs.Reading as grammar;
@@ -13,18 +14,23 @@ use merkle_forest::codec::{Cursor, Error, FixedSize, Read};
 use merkle_forest::family::MAX_LEAVES;
 use std::alloc::Global;
 
-/// Whether all bytes are zeros. Where one isn't: C7.
+/// Whether all bytes are zeros.
+fn are_zeros(bytes: &[u8]) -> bool
+    ensures { result ≡ list_all (λ byte. nat_eq byte 0) bytes.now }
+{
+    bytes.iter().all(|byte| *byte == 0)
+}
+
+/// Checks that all bytes are zeros. Where one isn't: C7.
+#[tactic(auto, using(crate::proofs::Zeros::zeros_all, crate::proofs::Zeros::zeros_not_all))]
 fn check_zeros(bytes: &[u8]) -> Result<(), Error>
     ensures { MatchResult result (λ _. grammar.after_zeros bytes.now ≡ Ok []) (λ e. grammar.after_zeros bytes.now ≡ Err e) }
 {
-    let mut rest = bytes;
-    while let [byte, later @ ..] = rest {
-        if *byte != 0 {
-            return Err(Error::Invalid);
-        }
-        rest = later;
+    if are_zeros(bytes) {
+        Ok(())
+    } else {
+        Err(Error::Invalid)
     }
-    Ok(())
 }
 
 /// Reads the zeros that stand in the place of a value.
