@@ -149,6 +149,7 @@ fn append_placed<'a>(
 }
 
 /// The peaks from left to right, each with the location of its first leaf. It fails for want of memory alone.
+#[tactic(auto, using(crate::specs::TreesLaws::placed_within))]
 pub fn place<'a>(alloc: Global, peaks: &'a [Tree]) -> Result<Vec<(usize, &'a Tree)>, AllocError>
     requires { leaves (map shape peaks.now) < 2 ^ 64 }
     ensures placed { IfOk result (λ found. shapes found.items ≡ placed (map shape peaks.now)) }
