@@ -1,0 +1,7 @@
+pub mod Entries
+pub mod Batches
+pub mod Lookups
+pub mod Logs
+pub mod Numbers
+pub mod Lines
+pub mod Spellings
