@@ -7,13 +7,13 @@ use native.Mathlib.Numerals.{unary_clauses}
 use Rattle.std.proofs.lemmas.Bool.{cases_Bool}
 use Rattle.state_ops.specs.Operation.{Operation, delete, update, commit_floor}
 use Rattle.auth_store.specs.Map.{Map, value_at, next_key}
-use Rattle.auth_store.specs.History.{History, latest_map, has_key, is_active, activity_bits, is_kept, deletes, updates, batch_operations, inactivity_floor, log_of, history_of, IsState, AreStates}
+use Rattle.auth_store.specs.History.{History, latest_map, has_key, is_active, is_active_on, activity_bits, is_kept, deletes, updates, batch_operations, inactivity_floor, log_of, history_of, IsState, AreStates}
 use Rattle.state_proofs.specs.Canonical.{Setting}
 use Rattle.state_proofs.specs.Honest.{key_value_proof}
 use Rattle.auth_store.specs.Store.{state_of_log, floor_of, Keeps}
-use Rattle.auth_store.specs.Proving.{is_active_on, active_place, named, active_update, honest_proof}
-use Rattle.auth_store.proofs.Lookups.{same, exact, none_later, IsState-tail}
-use Rattle.auth_store.proofs.Logs.{differ, true_false, false_true, passed_by, equal_bytes, kept_value}
+use Rattle.auth_store.specs.Proving.{active_place, named, active_update, honest_proof}
+use Rattle.auth_store_parts.proofs.Lookups.{same, exact, none_later, IsState-tail}
+use Rattle.auth_store_parts.proofs.Logs.{differ, true_false, false_true, passed_by, equal_bytes, kept_value}
 
 abbrev Named : Type 0
 Named = Option (List ℕ × List ℕ)

@@ -1,12 +1,4 @@
-pub mod Entries
 pub mod Actives
-pub mod Batches
-pub mod Lookups
-pub mod Logs
-pub mod Mapped
-pub mod Numbers
-pub mod Lines
-pub mod Spellings
 pub mod Stores
 pub mod Runs
 pub mod Widths

@@ -7,7 +7,7 @@ use Rattle.state_proofs.specs.Canonical.{Setting, canonical_root}
 use Rattle.auth_store.specs.Batch.{Word, map_after}
 use Rattle.auth_store.specs.History.{History, AreStates, latest_map, batch_operations, inactivity_floor, replayed, committed, log_of, history_of}
 use Rattle.auth_store.specs.Store.{state_of_log, log_bytes, floor_of, commit_after, added_log, next_log, Keeps}
-use Rattle.auth_store.proofs.Logs.{history_of-log_of, replayed-log_of, IsState-map_after, IsState-latest_map}
+use Rattle.auth_store_parts.proofs.Logs.{history_of-log_of, replayed-log_of, IsState-map_after, IsState-latest_map}
 
 -- a history is shorter than its log
 pub length-log_of : (h : History) → length h < length (log_of h)

@@ -1,15 +1,11 @@
 -- Which update proves a key, and the honest bytes of its proof.
-use Rattle.std.specs.Prelude.{ℕ, ◌+◌, ◌&&◌, if◌then◌else◌, Bool, List, [], ◌∷◌, Option, None, Some, slice_get}
+use Rattle.std.specs.Prelude.{ℕ, ◌+◌, if◌then◌else◌, List, [], ◌∷◌, Option, None, Some, slice_get}
 use Rattle.state_ops.specs.Operation.{Operation, delete, update, commit_floor}
 use Rattle.state_proofs.specs.Canonical.{Setting}
 use Rattle.state_proofs.specs.Honest.{key_value_proof}
 use Rattle.auth_store.specs.Map.{next_key}
-use Rattle.auth_store.specs.History.{History, latest_map, log_of, has_key, is_active}
+use Rattle.auth_store.specs.History.{History, latest_map, log_of, is_active_on}
 use Rattle.auth_store.specs.Store.{state_of_history}
-
--- whether the operation is the one that counts for the key
-abbrev pub is_active_on : List ℕ → Operation → List Operation → Bool
-is_active_on key operation later = has_key key operation && is_active operation later
 
 -- the place of the active update of a key, or the number of operations where there is none
 abbrev pub active_place : List ℕ → List Operation → ℕ

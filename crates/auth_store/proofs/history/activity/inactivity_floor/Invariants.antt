@@ -1,9 +1,0 @@
-use Rattle.std.proofs.Common.{◌≡◌, ◌+◌, ◌≤◌, length}
-use Rattle.auth_store.specs.History as spec
-use Rattle.auth_store.proofs.history.activity.inactivity_floor.Given as goal
-
-abbrev pub invariant-loop-rest : goal.invariant-loop-rest
-invariant-loop-rest g l = record { within : length l.rest ≤ length l.operations; counted : spec.inactivity_floor (spec.meanings g.K.Write.spelling g.V.Write.spelling l.rest) + length l.operations ≡ spec.inactivity_floor (spec.meanings g.K.Write.spelling g.V.Write.spelling l.operations) + length l.rest }
-
-abbrev pub decreases-loop-rest : goal.decreases-loop-rest
-decreases-loop-rest g l = length l.rest

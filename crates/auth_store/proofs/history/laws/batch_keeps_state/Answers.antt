@@ -1,5 +1,0 @@
-use Rattle.auth_store.proofs.Logs.{IsState-map_after}
-use Rattle.auth_store.proofs.history.laws.batch_keeps_state.Goals as goal
-
-pub returns : goal.returns
-returns c = IsState-map_after

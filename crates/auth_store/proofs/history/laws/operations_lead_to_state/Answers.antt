@@ -1,5 +1,0 @@
-use Rattle.auth_store.proofs.Logs.{replayed-batch}
-use Rattle.auth_store.proofs.history.laws.operations_lead_to_state.Goals as goal
-
-pub returns : goal.returns
-returns c = replayed-batch

@@ -1,7 +1,0 @@
-use Rattle.std.proofs.Common.{◌∙◌, ap}
-use Rattle.auth_store.specs.Map.{state_of}
-use Rattle.auth_store.proofs.Entries.{state_of-remove_entry}
-use Rattle.auth_store.proofs.state.remove.Goals as goal
-
-pub returns : goal.returns
-returns g c = ap (state_of g.K.Write.spelling g.V.Write.spelling) c.remove.ensures.entries ∙ state_of-remove_entry g.K.Write.spelling g.V.Write.spelling g.K.Ord.cmp g.met.K.Key.ordered c.args.state.now.entries c.args.key.now

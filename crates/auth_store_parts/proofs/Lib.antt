@@ -1,0 +1,8 @@
+pub mod Entries
+pub mod Batches
+pub mod Lookups
+pub mod Logs
+pub mod Mapped
+pub mod Numbers
+pub mod Lines
+pub mod Spellings

@@ -1,0 +1,133 @@
+-- Histories, the logs that stand for them, and which operations of a log are active.
+use Rattle.std.specs.Prelude.{ℕ, ◌+◌, Bool, true, false, T, not, ◌&&◌, if◌then◌else◌, List, [], ◌∷◌, ◌++◌, map, Option, None, Some, is_some}
+use Rattle.std.specs.Str.{bytes_eq}
+use Rattle.std.specs.FinMap.{is_sorted}
+use Rattle.std.specs.Ordering.{is_eq}
+use Rattle.std.specs.List.{flat_map, list_any}
+use Rattle.state_ops.specs.Operation.{Operation, delete, update, commit_floor, meaning_of}
+use Rattle.state_ops.specs.declared.operation.Operation as code
+use Rattle.auth_store_parts.specs.Map.{Map, key_order, value_at, next_key, with_entry, without_key}
+
+-- one commit: the state behind it and its metadata
+pub record Commit : Type 0 where
+  pub map : Map
+  pub metadata : Option (List ℕ)
+
+-- the commits, the newest first
+abbrev pub History : Type 0
+History = List Commit
+
+-- the state behind the newest commit
+abbrev pub latest_map : History → Map
+latest_map [] = []
+latest_map (commit ∷ history) = commit.map
+
+-- what operations of the code say, given how their keys and their values are spelled
+abbrev pub meanings : {K V : Type 0} → (K → List ℕ) → (V → List ℕ) → List (code.Operation K V) → List Operation
+meanings key value operations = map (meaning_of key value) operations
+
+-- whether an optional value is this one
+abbrev pub is_value : Option (List ℕ) → List ℕ → Bool
+is_value None value = false
+is_value (Some other) value = bytes_eq other value
+
+-- a delete of a key that the new state lacks
+abbrev pub delete_of : Map → List ℕ → List Operation
+delete_of new key = if is_some (value_at new key) then [] else (delete key ∷ [])
+
+-- a delete for each of these entries whose key the new state lacks
+abbrev pub deletes : Map → Map → List Operation
+deletes entries new = flat_map (λ e. delete_of new e.0) entries
+
+-- whether the old state has the key with the same value and the same next key
+abbrev pub is_kept : Map → Map → List ℕ → List ℕ → Bool
+is_kept old new key value = is_value (value_at old key) value && bytes_eq (next_key old key) (next_key new key)
+
+-- an update of a key that isn't kept
+abbrev pub update_of : Map → Map → List ℕ → List ℕ → List Operation
+update_of old new key value = if is_kept old new key value then [] else (update key value (next_key new key) ∷ [])
+
+-- an update for each of these entries of the new state that isn't kept
+abbrev pub updates : Map → Map → Map → List Operation
+updates entries old new = flat_map (λ e. update_of old new e.0 e.1) entries
+
+-- the operations that lead from the old state to the new one, without the commit
+abbrev pub batch_operations : Map → Map → List Operation
+batch_operations old new = deletes old new ++ updates new old new
+
+-- whether the operation is about the key
+abbrev pub has_key : List ℕ → Operation → Bool
+has_key key (delete k) = is_eq (key_order key k)
+has_key key (update k value next) = is_eq (key_order key k)
+has_key key (commit_floor metadata floor) = false
+
+-- whether the operation is a commit
+abbrev pub is_commit : Operation → Bool
+is_commit (delete k) = false
+is_commit (update k value next) = false
+is_commit (commit_floor metadata floor) = true
+
+-- whether the operation still counts: an update whose key no later one has, or the last commit
+abbrev pub is_active : Operation → List Operation → Bool
+is_active (delete k) later = false
+is_active (update k value next) later = not (list_any (has_key k) later)
+is_active (commit_floor metadata floor) later = not (list_any is_commit later)
+
+-- whether the operation is the one that counts for the key
+abbrev pub is_active_on : List ℕ → Operation → List Operation → Bool
+is_active_on key operation later = has_key key operation && is_active operation later
+
+-- a bit for each operation: whether it is active
+abbrev pub activity_bits : List Operation → List Bool
+activity_bits [] = []
+activity_bits (operation ∷ later) = is_active operation later ∷ activity_bits later
+
+-- whether the operation is an active update
+abbrev pub is_active_update : Operation → List Operation → Bool
+is_active_update operation later = not (is_commit operation) && is_active operation later
+
+-- the place of the first active update, or the number of operations where there is none, which is the place of the commit that follows
+abbrev pub inactivity_floor : List Operation → ℕ
+inactivity_floor [] = 0
+inactivity_floor (operation ∷ later) = if is_active_update operation later then 0 else inactivity_floor later + 1
+
+-- the log with a commit at its end
+abbrev pub committed : List Operation → Option (List ℕ) → List Operation
+committed operations metadata = operations ++ commit_floor metadata (inactivity_floor operations) ∷ []
+
+-- the log of a history
+abbrev pub log_of : History → List Operation
+log_of [] = commit_floor None 0 ∷ []
+log_of (commit ∷ history) = committed (log_of history ++ batch_operations (latest_map history) commit.map) commit.metadata
+
+-- the state after an operation
+abbrev pub after_operation : Operation → Map → Map
+after_operation (delete key) state = without_key state key
+after_operation (update key value next) state = with_entry state key value
+after_operation (commit_floor metadata floor) state = state
+
+-- the state after all operations, one after the other
+abbrev pub replayed : Map → List Operation → Map
+replayed state [] = state
+replayed state (operation ∷ operations) = replayed (after_operation operation state) operations
+
+-- the history with the commits of these operations, the first of which meets this state
+abbrev pub history_from : Map → History → List Operation → History
+history_from state history [] = history
+history_from state history (delete key ∷ operations) = history_from (without_key state key) history operations
+history_from state history (update key value next ∷ operations) = history_from (with_entry state key value) history operations
+history_from state history (commit_floor metadata floor ∷ operations) = history_from state (record { map = state; metadata = metadata } ∷ history) operations
+
+-- the history that a log stands for: its first operation is no commit of the history
+abbrev pub history_of : List Operation → History
+history_of [] = []
+history_of (operation ∷ operations) = history_from [] [] operations
+
+-- the keys ascend strictly
+abbrev pub IsState : Map → Type 0
+IsState state = T (is_sorted key_order state)
+
+-- each commit has a state
+abbrev pub AreStates : History → Type 0
+AreStates [] = Unit {0}
+AreStates (commit ∷ history) = IsState commit.map × AreStates history

@@ -1,0 +1,77 @@
+-- What a line of a script asks for.
+use Rattle.std.specs.Prelude.{ℕ, ◌^◌, ◌==◌, nat_lt, ◌&&◌, Bool, if◌then◌else◌, List, [], ◌∷◌, length, take, drop, codes, Option, Some, None, Result, Ok, Err}
+use Rattle.std.specs.Char.{is_ascii_digit}
+use Rattle.std.specs.List.{list_all}
+use Rattle.std.specs.Str.{bytes_eq}
+use Rattle.hex.specs.Hex.{decode_of}
+use Rattle.hex.specs.declared.error.FromHexError.{FromHexError}
+use Rattle.merkle_forest_parts.specs.declared.codec.fixed_bytes.FixedBytes.{FixedBytes}
+use Rattle.auth_store_parts.specs.Script.{decimal_value}
+use Rattle.auth_store_parts.specs.declared.script.line.Line.{Line}
+use Rattle.auth_store_parts.specs.declared.script.line.Line.TheVariants.{Empty, New, Open, Put, Commit, Get, Root, Prove, Proof, CheckValue}
+
+-- the key of these bytes, if they are there
+abbrev pub key_from : Result (List ℕ) FromHexError → Option (FixedBytes 8)
+key_from (Ok bytes) = Some (record { bytes = bytes })
+key_from (Err e) = None
+
+-- the key that a text spells
+unfoldable pub key_of : List ℕ → Option (FixedBytes 8)
+key_of text = if length text == 16 then key_from (decode_of text) else None
+
+-- whether a text is a number: one or more decimal digits of a value of 64 bits
+abbrev pub is_number : List ℕ → Bool
+is_number text = nat_lt 0 (length text) && list_all is_ascii_digit text && nat_lt (decimal_value text) (2 ^ 64)
+
+-- the number that a text spells
+unfoldable pub number_of : List ℕ → Option ℕ
+number_of text = if is_number text then Some (decimal_value text) else None
+
+-- the second part, if the first is there
+infixl 10 ◌>>=◌
+abbrev pub ◌>>=◌ : {A B : Type 0} → Option A → (A → Option B) → Option B
+None >>= f = None
+(Some x) >>= f = f x
+
+-- what stands behind these words at the front of a text
+unfoldable pub behind : List ℕ → List ℕ → Option (List ℕ)
+behind [] text = Some text
+behind (c ∷ words) [] = None
+behind (c ∷ words) (b ∷ text) = if b == c then behind words text else None
+
+-- a key, a space and a number
+unfoldable pub key_and_number : List ℕ → Option (FixedBytes 8 × ℕ)
+key_and_number text = do
+  digits ← behind (codes " ") (drop 16 text)
+  key ← key_of (take 16 text)
+  number ← number_of digits
+  Some (key, number)
+
+-- a line that begins with these words and goes on so, or another
+abbrev pub begins : Option (List ℕ) → (List ℕ → Option Line) → Option Line → Option Line
+begins None found other = other
+begins (Some rest) found other = found rest
+
+-- a line that is these words alone, or another
+abbrev pub is_all : List ℕ → List ℕ → Line → Option Line → Option Line
+is_all words text line other = if bytes_eq text words then Some line else other
+
+abbrev pub line_with_words : List ℕ → Option Line
+line_with_words text =
+    begins (behind (codes "new mmr ") text) (λ seed. number_of seed >>= λ n. Some (New n)) (
+    begins (behind (codes "put ") text) (λ words. key_and_number words >>= λ p. Some (Put p.0 p.1)) (
+    begins (behind (codes "commit ") text) (λ metadata. number_of metadata >>= λ n. Some (Commit (Some n))) (
+    begins (behind (codes "get ") text) (λ key. key_of key >>= λ k. Some (Get k)) (
+    begins (behind (codes "prove ") text) (λ key. key_of key >>= λ k. Some (Prove k)) (
+    begins (behind (codes "check value ") text) (λ words. key_and_number words >>= λ p. Some (CheckValue p.0 p.1))
+    None)))))
+
+-- the line that a text spells
+abbrev pub line_of : List ℕ → Option Line
+line_of text =
+    is_all [] text Empty (
+    is_all (codes "open") text Open (
+    is_all (codes "commit") text (Commit None) (
+    is_all (codes "root") text Root (
+    is_all (codes "proof") text Proof (
+    line_with_words text)))))

@@ -1,0 +1,135 @@
+//! The operations that lead from one state to another.
+
+ghost use Rattle.std.specs.Prelude.{◌≡◌, ◌++◌, ◌<◌, length, IfOk, OnOk};
+ghost use Rattle.std.specs.Str.{bytes_eq};
+ghost use Rattle.auth_store_parts.specs.Map.{state_of, next_key};
+ghost use Rattle.auth_store_parts.specs.History as spec;
+
+use crate::state;
+use merkle_forest::codec::Encode;
+use state_ops::{FixedValue, Key, Operation, Ordered};
+use std::alloc::{AllocError, Global};
+use std::collections::BTreeMap;
+
+/// Whether two values have one spelling. It fails for want of memory alone.
+fn is_same_value<V: FixedValue>(alloc: Global, value: &V, other: &V) -> Result<bool, AllocError>
+    ensures { IfOk result (λ same. same ≡ bytes_eq (V.spelling value.now) (V.spelling other.now)) }
+{
+    let left = value.encode(alloc)?;
+    let right = other.encode(alloc)?;
+    Ok(left.as_slice() == right.as_slice())
+}
+
+/// The least key above the key, or the least of all where none is above.
+fn next_of<'a, K: Key, V: FixedValue>(state: &'a BTreeMap<K, V>, key: &K) -> &'a K
+    requires { 0 < length state.now.entries }
+    ensures { K.spelling result.now ≡ next_key (state_of K.spelling V.spelling state.now.entries) (K.spelling key.now) }
+{
+    state::next_key(state, key).unwrap()
+}
+
+/// Whether the key has the same next key in both states.
+fn is_same_next<K: Key, V: FixedValue>(old: &BTreeMap<K, V>, new: &BTreeMap<K, V>, key: &K) -> bool
+    requires in_old { 0 < length old.now.entries }
+    requires in_new { 0 < length new.now.entries }
+    ensures { result ≡ bytes_eq (next_key (state_of K.spelling V.spelling old.now.entries) (K.spelling key.now)) (next_key (state_of K.spelling V.spelling new.now.entries) (K.spelling key.now)) }
+{
+    next_of(old, key).cmp(next_of(new, key)).is_eq()
+}
+
+/// Whether the old state has the key of the new one with the same value and the same next key. It fails for want of memory alone.
+fn is_kept<K: Key, V: FixedValue>(
+    alloc: Global,
+    old: &BTreeMap<K, V>,
+    new: &BTreeMap<K, V>,
+    key: &K,
+    value: &V,
+) -> Result<bool, AllocError>
+    requires { 0 < length new.now.entries }
+    ensures { IfOk result (λ kept. kept ≡ spec.is_kept (state_of K.spelling V.spelling old.now.entries) (state_of K.spelling V.spelling new.now.entries) (K.spelling key.now) (V.spelling value.now)) }
+{
+    match state::get(old, key) {
+        None => Ok(false),
+        Some(before) => Ok(is_same_value(alloc, before, value)? && is_same_next(old, new, key)),
+    }
+}
+
+/// Says a delete where the new state lacks the key. It fails for want of memory alone.
+fn push_delete<K: Key, V: FixedValue>(
+    new: &BTreeMap<K, V>,
+    key: &K,
+    out: &mut Vec<Operation<K, V>>,
+) -> Result<(), AllocError>
+    ensures { OnOk result (spec.meanings K.spelling V.spelling out.new.items ≡ spec.meanings K.spelling V.spelling out.old.items ++ spec.delete_of (state_of K.spelling V.spelling new.now.entries) (K.spelling key.now)) }
+{
+    if state::get(new, key).is_some() {
+        return Ok(());
+    }
+    Ok(out.push(Operation::Delete(key.clone()?))?)
+}
+
+/// Says an update where the key isn't kept. It fails for want of memory alone.
+fn push_update<K: Key, V: FixedValue>(
+    alloc: Global,
+    old: &BTreeMap<K, V>,
+    new: &BTreeMap<K, V>,
+    key: &K,
+    value: &V,
+    out: &mut Vec<Operation<K, V>>,
+) -> Result<(), AllocError>
+    requires { 0 < length new.now.entries }
+    ensures { OnOk result (spec.meanings K.spelling V.spelling out.new.items ≡ spec.meanings K.spelling V.spelling out.old.items ++ spec.update_of (state_of K.spelling V.spelling old.now.entries) (state_of K.spelling V.spelling new.now.entries) (K.spelling key.now) (V.spelling value.now)) }
+{
+    if is_kept(alloc, old, new, key, value)? {
+        return Ok(());
+    }
+    let update = Ordered {
+        key: key.clone()?,
+        value: value.clone()?,
+        next_key: next_of(new, key).clone()?,
+    };
+    Ok(out.push(Operation::Update(update))?)
+}
+
+/// Says a delete for each key of the old state that the new one lacks. It fails for want of memory alone.
+fn push_deletes<K: Key, V: FixedValue>(
+    old: &BTreeMap<K, V>,
+    new: &BTreeMap<K, V>,
+    out: &mut Vec<Operation<K, V>>,
+) -> Result<(), AllocError>
+    ensures { OnOk result (spec.meanings K.spelling V.spelling out.new.items ≡ spec.meanings K.spelling V.spelling out.old.items ++ spec.deletes (state_of K.spelling V.spelling old.now.entries) (state_of K.spelling V.spelling new.now.entries)) }
+{
+    for (key, _) in old {
+        push_delete(new, key, out)?;
+    }
+    Ok(())
+}
+
+/// Says an update for each key of the new state that isn't kept. It fails for want of memory alone.
+fn push_updates<K: Key, V: FixedValue>(
+    alloc: Global,
+    old: &BTreeMap<K, V>,
+    new: &BTreeMap<K, V>,
+    out: &mut Vec<Operation<K, V>>,
+) -> Result<(), AllocError>
+    ensures { OnOk result (spec.meanings K.spelling V.spelling out.new.items ≡ spec.meanings K.spelling V.spelling out.old.items ++ spec.updates (state_of K.spelling V.spelling new.now.entries) (state_of K.spelling V.spelling old.now.entries) (state_of K.spelling V.spelling new.now.entries)) }
+{
+    for (key, value) in new {
+        push_update(alloc, old, new, key, value, out)?;
+    }
+    Ok(())
+}
+
+/// The operations that lead from the old state to the new one, without the commit. It fails for want of memory alone.
+pub fn batch_operations<K: Key, V: FixedValue>(
+    alloc: Global,
+    old: &BTreeMap<K, V>,
+    new: &BTreeMap<K, V>,
+) -> Result<Vec<Operation<K, V>>, AllocError>
+    ensures { IfOk result (λ operations. spec.meanings K.spelling V.spelling operations.items ≡ spec.batch_operations (state_of K.spelling V.spelling old.now.entries) (state_of K.spelling V.spelling new.now.entries)) }
+{
+    let mut out = Vec::new(alloc);
+    push_deletes(old, new, &mut out)?;
+    push_updates(alloc, old, new, &mut out)?;
+    Ok(out)
+}

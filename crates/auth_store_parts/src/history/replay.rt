@@ -1,0 +1,45 @@
+//! The state that a log leads to.
+
+ghost use Rattle.std.specs.Prelude.{◌≡◌, [], IfOk, OnOk, OnErr};
+ghost use Rattle.state_ops.specs.Operation.{meaning_of};
+ghost use Rattle.auth_store_parts.specs.Map.{state_of};
+ghost use Rattle.auth_store_parts.specs.History as spec;
+
+use crate::state;
+use state_ops::{FixedValue, Key, Operation};
+use std::alloc::{AllocError, Global};
+use std::collections::BTreeMap;
+
+/// Applies one operation to the state. It fails for want of memory alone, and the state then stays as it was.
+pub fn apply_operation<K: Key, V: FixedValue>(
+    state: &mut BTreeMap<K, V>,
+    operation: &Operation<K, V>,
+) -> Result<(), AllocError>
+    ensures ok { OnOk result (state_of K.spelling V.spelling state.new.entries ≡ spec.after_operation (meaning_of K.spelling V.spelling operation.now) (state_of K.spelling V.spelling state.old.entries)) }
+    ensures err { OnErr result (state.new.entries ≡ state.old.entries) }
+{
+    match operation {
+        Operation::Delete(key) => {
+            state::remove(state, key);
+            Ok(())
+        }
+        Operation::Update(update) => state::put(state, &update.key, &update.value),
+        Operation::CommitFloor(_, _) => Ok(()),
+    }
+}
+
+/// The state after all operations of a log. It fails for want of memory alone.
+pub fn latest_map_of<K: Key, V: FixedValue>(
+    alloc: Global,
+    operations: &[Operation<K, V>],
+) -> Result<BTreeMap<K, V>, AllocError>
+    ensures { IfOk result (λ state. state_of K.spelling V.spelling state.entries ≡ spec.replayed [] (spec.meanings K.spelling V.spelling operations.now)) }
+{
+    let mut state = BTreeMap::new(alloc);
+    let mut rest = operations;
+    while let [operation, later @ ..] = rest {
+        apply_operation(&mut state, operation)?;
+        rest = later;
+    }
+    Ok(state)
+}
