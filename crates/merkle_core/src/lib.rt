@@ -1,4 +1,5 @@
-//! Merkle proofs of the forest.
+//! Merkle proofs of the forest. The crate ports a part of `merkle` of commonware-storage 2026.10.0; `In the Rust` names what an
+//! item is there.
 #![tactic(auto)]
 
 pub mod laws;

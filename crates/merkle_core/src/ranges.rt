@@ -52,7 +52,7 @@ fn append_siblings<D: Digest, T: TreeDigests<D>>(
     }
 }
 
-/// A side of a range of leaves.
+/// A side of a range of leaves (own).
 #[derive(Clone, Copy, Debug, PartialEq, Eq)]
 pub enum Side {
     /// Before this first leaf of the range.
@@ -220,6 +220,7 @@ fn append_after<F: Family, H: Hasher<F>, T: TreeDigests<H::Digest>>(
 
 /// The digests of the proof of the leaves from `start` up to `stop`, in their order. It fails for want of memory alone.
 /// `inactive` and `active` are the peaks from left to right, each with the location of its first leaf.
+/// In the Rust: `merkle::RangePlan::build`, which asks for nodes; here every digest is computed from the leaves.
 pub fn range_digests_of<F: Family, H: Hasher<F>, T: TreeDigests<H::Digest>>(
     alloc: Global,
     hasher: &H,

@@ -18,7 +18,7 @@ pub trait Overlay<D: Digest> {
         ensures { D.spelling result ≡ over self.now height (D.spelling digest) };
 }
 
-/// Each branch stands for itself.
+/// Each branch stands for itself (own).
 #[derive(Clone, Copy, Debug)]
 pub struct Unchanged;
 
@@ -30,7 +30,7 @@ impl<D: Digest> Overlay<D> for Unchanged {
     }
 }
 
-/// A node of a forest: the location of its first leaf, its position and its height.
+/// A node of a forest: the location of its first leaf, its position and its height (own).
 #[derive(Clone, Copy, Debug, PartialEq, Eq)]
 pub struct Place {
     /// The location of the first leaf below it.
@@ -71,7 +71,7 @@ fn child_over<F: Family>(place: Place, location: u64) -> (bool, Place)
 }
 
 /// The digest of the tree at the place, from the element at the location below it and the digests of the maximal nodes
-/// that do not hold it, from left to right. None: a digest is missing or left over.
+/// that do not hold it, from left to right (own). None: a digest is missing or left over.
 pub fn rebuild<F: Family, H: Hasher<F>, O: Overlay<H::Digest>>(
     hasher: &H,
     over: &O,

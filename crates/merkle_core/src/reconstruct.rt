@@ -13,7 +13,7 @@ use merkle_forest::family::{Family, MAX_LEAVES};
 use merkle_forest::hasher::Hasher;
 use merkle_forest::root::{fold_onto, root_over_item};
 
-/// What a proof says of its tree, and its one element.
+/// What a proof says of its tree, and its one element (own).
 #[derive(Clone, Copy)]
 pub struct Claimed<'a, D> {
     /// How many leaves the tree has.
@@ -22,7 +22,7 @@ pub struct Claimed<'a, D> {
     pub inactive: u64,
     /// The location of the element.
     pub location: u64,
-    /// The element.
+    /// The bytes of the element.
     pub element: &'a [u8],
     /// The digests, in the order of the range proof.
     pub digests: &'a [D],
@@ -119,6 +119,7 @@ fn bag_around<F: Family, H: Hasher<F>>(
 
 /// The root of the tree, rebuilt from the proof of its one element. None: the tree is too large, the element or the inactive
 /// peaks are not within it, or a digest is missing or left over.
+/// In the Rust: `merkle::proof::Proof::reconstruct_root`, over a range of elements and with an error that names the fault.
 #[tactic(auto, unfolding(crate::specs::Reconstructed::reconstructed, crate::specs::Reconstructed::root_around))]
 pub fn reconstruct_one<F: Family, H: Hasher<F>, O: Overlay<H::Digest>>(
     hasher: &H,

@@ -11,7 +11,7 @@ ghost use Rattle.merkle_core.specs.Walked.{IsPeakFrom};
 use crate::rebuild::Place;
 use merkle_forest::family::{Family, MAX_LEAVES};
 
-/// The peak that holds a leaf, and how many peaks stand on each side of it.
+/// The peak that holds a leaf, and how many peaks stand on each side of it (own).
 #[derive(Clone, Copy, Debug, PartialEq, Eq)]
 pub struct PeakOver {
     /// How many peaks stand before it.
@@ -81,7 +81,8 @@ fn peak_over_from<F: Family>(leaves: u64, first: u64, location: u64) -> PeakOver
     }
 }
 
-/// The peak that holds the leaf at the location, in the forest of this many leaves, and how many stand before and behind it.
+/// The peak that holds the leaf at the location, in the forest of this many leaves, and how many stand before and behind it
+/// (own).
 pub fn peak_over<F: Family>(leaves: u64, location: u64) -> PeakOver
     requires few { leaves ≤ MAX_LEAVES }
     requires within { location < leaves }

@@ -38,7 +38,7 @@ fn highest_before<F: Graftable>(leaves: u64, first: u64, end: u64) -> u32
 }
 
 /// The maximal nodes over a range of leaves, from left to right: the position and the height of each. Contracts see those that
-/// are left.
+/// are left. In the Rust: the unnamed iterator of `merkle::Graftable::chunk_peaks`.
 #[derive(Drop)]
 pub struct ChunkPeaks<F: Graftable> {
     leaves: u64,

@@ -12,6 +12,7 @@ use crate::location::Location;
 use crate::position::Position;
 
 /// The location of the leaf at a position. Past `MAX_NODES`: M2; where no leaf stands there: M1.
+/// In the Rust: `TryFrom` of `merkle::Position` for `merkle::Location`.
 impl<F: Family> TryFrom<Position<F>> for Location<F> {
     type Error = Error<F>;
 
@@ -29,6 +30,7 @@ impl<F: Family> TryFrom<Position<F>> for Location<F> {
 }
 
 /// The position of the leaf at a location. Past `MAX_LEAVES`: M3.
+/// In the Rust: `TryFrom` of `merkle::Location` for `merkle::Position`.
 impl<F: Family> TryFrom<Location<F>> for Position<F> {
     type Error = Error<F>;
 

@@ -13,13 +13,13 @@ use crate::position::Position;
 use crate::sizes::greatest_leaf_count;
 use std::fmt::Debug;
 
-/// The greatest leaf count.
+/// The greatest leaf count, 2^62. In the Rust: `merkle::Family::MAX_LEAVES`, a location of each family.
 pub const MAX_LEAVES: u64 = 0x4000_0000_0000_0000;
 
-/// The greatest node count.
+/// The greatest node count, 2^63 - 1. In the Rust: `merkle::Family::MAX_NODES`, a constant of each family.
 pub const MAX_NODES: u64 = 0x7fff_ffff_ffff_ffff;
 
-/// A family of forests, told by the rule by which appended leaves merge into trees.
+/// A family of forests, told by the rule by which appended leaves merge into trees. In the Rust: `merkle::Family`.
 pub trait Family: Copy + Debug + Drop {
     /// From the number of merges since the last leaf was appended, and the heights of the peaks from right to left:
     /// the place of the two neighbours that merge next.
@@ -30,7 +30,7 @@ pub trait Family: Copy + Debug + Drop {
     fn merge_place(merges: usize, heights: &[u64]) -> Option<usize>
         ensures { result ≡ merge_rule merges heights.now };
 
-    /// How many nodes the forest of this many leaves has, which is the position of the next leaf.
+    /// How many nodes the forest of this many leaves has, which is the position of the next leaf (own).
     fn leaf_position(leaves: u64) -> u64
         requires { leaves ≤ MAX_LEAVES }
         ensures { result ≡ size (forest_of merge_rule leaves) };
@@ -56,6 +56,7 @@ pub trait Family: Copy + Debug + Drop {
     ghost merges_equals: { (merges : ℕ) (heights : List ℕ) → IfSome (merge_rule merges heights) (IsPairOfEquals heights) };
 
     /// The position of the leaf at a location, which is how many nodes the forest of the leaves before it has.
+    /// In the Rust: `merkle::Family::location_to_position`.
     final fn location_to_position(location: Location<Self>) -> Position<Self>
         requires { location ≤ MAX_LEAVES }
         ensures { result ≡ size (forest_of merge_rule location) }
@@ -64,6 +65,7 @@ pub trait Family: Copy + Debug + Drop {
     }
 
     /// The positions of the left and the right child of the branch at a position, of this height.
+    /// In the Rust: `merkle::Family::children`.
     final fn children(position: Position<Self>, height: u32) -> (Position<Self>, Position<Self>)
         requires { HasBranch merge_rule position height }
         ensures { AreChildren merge_rule position height result.0 result.1 }
@@ -73,6 +75,7 @@ pub trait Family: Copy + Debug + Drop {
     }
 
     /// The heights of the parents that are born with the next leaf, where there are this many leaves, in order of birth.
+    /// In the Rust: `merkle::Family::parent_heights`, with an unnamed iterator.
     final fn parent_heights(leaves: Location<Self>) -> ParentHeights
         requires { leaves < MAX_LEAVES }
         ensures { AreParents merge_rule leaves result }
@@ -81,7 +84,7 @@ pub trait Family: Copy + Debug + Drop {
         ParentHeights::new(first, count)
     }
 
-    /// The height of the node at a position.
+    /// The height of the node at a position: 0 for a leaf. In the Rust: `merkle::Family::pos_to_height`.
     final fn pos_to_height(position: Position<Self>) -> u32
         requires { position < size (forest_of merge_rule MAX_LEAVES) }
         ensures there { StandsAt merge_rule position result }
@@ -97,6 +100,7 @@ pub trait Family: Copy + Debug + Drop {
     }
 
     /// The location of the leaf at a position. Where no leaf up to `MAX_LEAVES` stands there it is None.
+    /// In the Rust: `merkle::Family::position_to_location`.
     final fn position_to_location(position: Position<Self>) -> Option<Location<Self>>
         ensures some { IfSome result (λ location. (location ≤ MAX_LEAVES) × (size (forest_of merge_rule location) ≡ position)) }
         ensures found { IsSome result ↔ IsSize merge_rule position }
@@ -109,7 +113,7 @@ pub trait Family: Copy + Debug + Drop {
         }
     }
 
-    /// Whether a forest of up to `MAX_LEAVES` leaves has this many nodes.
+    /// Whether a forest of up to `MAX_LEAVES` leaves has this many nodes. In the Rust: `merkle::Family::is_valid_size`.
     final fn is_valid_size(size: Position<Self>) -> bool
         ensures { IsTrue result ↔ IsSize merge_rule size }
     {
@@ -117,6 +121,7 @@ pub trait Family: Copy + Debug + Drop {
     }
 
     /// The greatest node count up to this one that a forest of up to `MAX_LEAVES` leaves has.
+    /// In the Rust: `merkle::Family::to_nearest_size`.
     final fn to_nearest_size(size: Position<Self>) -> Position<Self>
         ensures valid { IsSize merge_rule result }
         ensures within { result ≤ size }
@@ -126,6 +131,7 @@ pub trait Family: Copy + Debug + Drop {
     }
 
     /// The peaks of the forest that has this many nodes, from left to right: the position and the height of each.
+    /// In the Rust: `merkle::Family::peaks`, with an unnamed iterator.
     final fn peaks(size: Position<Self>) -> Peaks<Self>
         requires { IsSize merge_rule size }
         ensures { ArePeaksOf merge_rule size result }
@@ -134,6 +140,7 @@ pub trait Family: Copy + Debug + Drop {
     }
 
     /// The positions of the peaks of the forest of this many leaves, from left to right.
+    /// In the Rust: `merkle::Family::nodes_to_pin`, with an unnamed iterator.
     final fn nodes_to_pin(leaves: Location<Self>) -> PeakPositions<Self>
         requires { leaves ≤ MAX_LEAVES }
         ensures { result ≡ map (λ place. place.0) (peak_places (forest_of merge_rule leaves)) }
@@ -141,7 +148,8 @@ pub trait Family: Copy + Debug + Drop {
         PeakPositions::new(Peaks::of_leaves(leaves))
     }
 
-    /// How many peaks of the forest that has this many nodes come first whose leaves all stand before the floor.
+    /// How many peaks of the forest that has this many nodes come first whose leaves all stand before the floor, a location.
+    /// In the Rust: `merkle::Family::inactive_peaks`.
     final fn inactive_peaks(size: Position<Self>, floor: Location<Self>) -> usize
         requires { IsSize merge_rule size }
         ensures { IsInactiveCount merge_rule size floor result }

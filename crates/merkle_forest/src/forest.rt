@@ -10,7 +10,9 @@ use std::alloc::{AllocError, Global};
 /// A tree of a forest: a leaf at its position, or a branch at its position over two trees.
 #[derive(Debug, Drop)]
 pub enum Tree {
+    /// A leaf at its position.
     Leaf(u64),
+    /// A branch at its position, over the left and the right tree.
     Branch(u64, Box<Tree>, Box<Tree>),
 }
 

@@ -13,7 +13,7 @@ use crate::position::Position;
 use crate::sizes::greatest_leaf_count;
 
 /// A family whose nodes begin at multiples of their leaf counts, at positions and with births that the first leaf and the height
-/// determine.
+/// determine. In the Rust: `merkle::Graftable`.
 pub trait Graftable: Family {
     /// From the first leaf's location and the height: the leaf count at which the node is born.
     ghost birth_of: { ℕ → ℕ → ℕ };
@@ -63,7 +63,7 @@ pub trait Graftable: Family {
     /// Of the chunks of 2^height leaves those before that count have their node, and no others.
     ghost chunks_counted: { (leaves chunk height : ℕ) → leaves ≤ 2 ^ 62 → 0 < height → height ≤ 62 → HasNode (forest_of Self.merge_rule leaves) (chunk * 2 ^ height) height ↔ (chunk < nodes_of_height height (forest_of Self.merge_rule leaves)) } = { λ leaves chunk height few some low. stands-counted Self.merge_rule birth_of leaves height chunk (births chunk height) (births_apart (chunk * 2 ^ height) height) (births_counted leaves height few some low) };
 
-    /// The leaf count at which the node of this height at a position is born.
+    /// The leaf count at which the node of this height at a position is born. In the Rust: `merkle::Graftable::peak_birth_size`.
     final fn peak_birth_size(position: Position<Self>, height: u32) -> u64
         requires { StandsAt Self.merge_rule position height }
         ensures { IsBirthAt Self.merge_rule position height result }
@@ -72,6 +72,7 @@ pub trait Graftable: Family {
     }
 
     /// The position of the node of this height over the leaves from a location on.
+    /// In the Rust: `merkle::Graftable::subtree_root_position`.
     final fn subtree_root_position(location: Location<Self>, height: u32) -> Position<Self>
         requires { IsSubtree Self.merge_rule location height }
         ensures { IsPlaceOfNode Self.merge_rule location height result }
@@ -80,6 +81,7 @@ pub trait Graftable: Family {
     }
 
     /// The location of the first leaf below the node of this height at a position.
+    /// In the Rust: `merkle::Graftable::leftmost_leaf`.
     final fn leftmost_leaf(position: Position<Self>, height: u32) -> Location<Self>
         requires { StandsAt Self.merge_rule position height }
         ensures { IsFirstLeaf Self.merge_rule position height result }
@@ -89,6 +91,7 @@ pub trait Graftable: Family {
 
     /// The maximal nodes over the chunk of that number, of 2^grafting_height leaves, in the forest that has this many nodes, from
     /// left to right: the position and the height of each.
+    /// In the Rust: `merkle::Graftable::chunk_peaks`, with an unnamed iterator.
     final fn chunk_peaks(size: Position<Self>, chunk: u64, grafting_height: u32) -> ChunkPeaks<Self>
         requires valid { IsSize Self.merge_rule size }
         requires low { grafting_height ≤ 62 }

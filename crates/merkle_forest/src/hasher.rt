@@ -18,8 +18,9 @@ use crate::root::{root_of_items, root_of_peaks};
 use sha2::Sha256;
 use std::marker::PhantomData;
 
-/// A hash function from bytes to digests.
+/// A hash function from bytes to digests. In the Rust: `commonware_cryptography::Hasher`.
 pub trait HashFunction: Drop {
+    /// The digests of the function. In the Rust: `commonware_cryptography::Hasher::Digest`.
     type Digest: Digest;
 
     /// The bytes of the digest of these bytes.
@@ -32,7 +33,7 @@ pub trait HashFunction: Drop {
     ghost sized: { (bytes : List ℕ) → length (hash_of bytes) ≡ Self.Digest.SIZE };
 }
 
-/// SHA-256 (own).
+/// SHA-256 (own). In the Rust `commonware_cryptography::Sha256` stands in its place.
 #[derive(Clone, Copy, Debug)]
 pub struct ByteHash;
 
@@ -53,14 +54,14 @@ impl HashFunction for ByteHash {
     ghost sized = { length-sha256 };
 }
 
-/// The digest of a leaf's string.
+/// The digest of a leaf's string: its position in 8 bytes, and the element (own).
 pub fn hash_leaf<H: HashFunction>(position: u64, element: &[u8]) -> H::Digest
     ensures { H.Digest.spelling result ≡ H.hash_of (leaf_string position element.now) }
 {
     H::hash(&[&position.to_be_bytes(), element])
 }
 
-/// The digest of a branch's string.
+/// The digest of a branch's string: its position in 8 bytes, and the digests of its children (own).
 pub fn hash_node<H: HashFunction>(position: u64, left: &H::Digest, right: &H::Digest) -> H::Digest
     ensures { H.Digest.spelling result ≡ H.hash_of (node_string position (H.Digest.spelling left.now) (H.Digest.spelling right.now)) }
 {
@@ -68,8 +69,10 @@ pub fn hash_node<H: HashFunction>(position: u64, left: &H::Digest, right: &H::Di
 }
 
 /// A hasher of a tree's leaves, branches and roots. It says how a leaf and a branch are hashed; all else is the same for
-/// every hasher.
+/// every hasher. In the Rust: `merkle::hasher::Hasher`, whose `leaf_digest`, `node_digest` and `node_digest_pair` a hasher may
+/// give itself.
 pub trait Hasher<F: Family>: Drop {
+    /// The digests of leaves, branches and roots. In the Rust: `merkle::hasher::Hasher::Digest`.
     type Digest: Digest;
 
     /// The bytes of the digest of these bytes.
@@ -84,11 +87,11 @@ pub trait Hasher<F: Family>: Drop {
     /// The side from which a root's peaks are folded.
     ghost bagging_of: { Self → Bagging };
 
-    /// The digest of the parts, one after the other.
+    /// The digest of the parts, one after the other. In the Rust: `merkle::hasher::Hasher::hash`.
     fn hash(&self, parts: &[&[u8]]) -> Self::Digest
         ensures { Self.Digest.spelling result ≡ hash_of (flat_map (λ part. part.now) parts.now) };
 
-    /// The side from which a root's peaks are folded.
+    /// The side from which a root's peaks are folded. In the Rust: `merkle::hasher::Hasher::root_bagging`.
     fn root_bagging(&self) -> Bagging
         ensures { result ≡ bagging_of self.now };
 
@@ -105,7 +108,7 @@ pub trait Hasher<F: Family>: Drop {
     ) -> Self::Digest
         ensures { Self.Digest.spelling result ≡ node_of position (Self.Digest.spelling left.now) (Self.Digest.spelling right.now) };
 
-    /// The digest of a leaf at its position.
+    /// The digest of a leaf at its position. In the Rust: `merkle::hasher::Hasher::leaf_digest`.
     final fn leaf_digest(&self, position: Position<F>, element: &[u8]) -> Self::Digest
     where
         Self: Sized,
@@ -115,6 +118,7 @@ pub trait Hasher<F: Family>: Drop {
     }
 
     /// The digest of a branch at its position over its children's digests.
+    /// In the Rust: `merkle::hasher::Hasher::node_digest`.
     final fn node_digest(
         &self,
         position: Position<F>,
@@ -129,6 +133,7 @@ pub trait Hasher<F: Family>: Drop {
     }
 
     /// The digests of two branches, each at its position over its children's digests.
+    /// In the Rust: `merkle::hasher::Hasher::node_digest_pair`, over an array of two nodes.
     final fn node_digest_pair(
         &self,
         first: (Position<F>, &Self::Digest, &Self::Digest),
@@ -145,7 +150,7 @@ pub trait Hasher<F: Family>: Drop {
         )
     }
 
-    /// The digest of these bytes alone.
+    /// The digest of these bytes alone. In the Rust: `merkle::hasher::Hasher::digest`.
     final fn digest(&self, bytes: &[u8]) -> Self::Digest
     where
         Self: Sized,
@@ -154,7 +159,7 @@ pub trait Hasher<F: Family>: Drop {
         self.hash(&[bytes])
     }
 
-    /// Two digests folded into one.
+    /// The digest into which two are folded, the left one first. In the Rust: `merkle::hasher::Hasher::fold`.
     final fn fold(&self, left: &Self::Digest, right: &Self::Digest) -> Self::Digest
     where
         Self: Sized,
@@ -163,7 +168,9 @@ pub trait Hasher<F: Family>: Drop {
         self.hash(&[left.as_bytes(), right.as_bytes()])
     }
 
-    /// The root over a tree's peaks, of which the first `inactive_peaks` are inactive. Where there are fewer: M16.
+    /// The root over a tree's peaks from left to right, of which the first `inactive_peaks` are inactive. Where there are
+    /// fewer: M16.
+    /// In the Rust: `merkle::hasher::Hasher::root`, over an iterator of digests.
     final fn root(
         &self,
         leaves: Location<F>,
@@ -184,6 +191,7 @@ pub trait Hasher<F: Family>: Drop {
 
     /// The root over a tree's items, which are its peaks, but that the inactive ones are folded into the first item.
     /// Where some are inactive and there is no item: M16.
+    /// In the Rust: `merkle::hasher::Hasher::root_with_folded_peaks`, over an iterator of digests.
     final fn root_with_folded_peaks(
         &self,
         leaves: Location<F>,
@@ -203,7 +211,7 @@ pub trait Hasher<F: Family>: Drop {
     }
 }
 
-/// The hasher of plain trees: a leaf and a branch are hashed with their positions.
+/// The hasher of plain trees: a leaf and a branch are hashed with their positions. In the Rust: `merkle::hasher::Standard`.
 #[derive(Clone, Copy, Debug)]
 pub struct Standard<H> {
     bagging: Bagging,
@@ -211,7 +219,7 @@ pub struct Standard<H> {
 }
 
 impl<H> Standard<H> {
-    /// A hasher that folds peaks from this side.
+    /// A hasher that folds peaks from this side. In the Rust: `merkle::hasher::Standard::new`.
     pub fn new(bagging: Bagging) -> Standard<H>
         ensures { result.bagging ≡ bagging }
     {

@@ -1,4 +1,5 @@
-//! Positions, families and hashers of the Merkle forest, and its codec.
+//! Positions, families and hashers of the Merkle forest, and its codec. The crate ports the lower part of `merkle` of
+//! commonware-storage 2026.10.0; `In the Rust` names what an item is there.
 #![tactic(auto)]
 
 pub mod bagging;

@@ -18,6 +18,7 @@ use std::marker::{Model, PhantomData};
 use std::ops::{Add, AddAssign, Sub, SubAssign};
 
 /// The place of a leaf in a forest of the family: how many leaves stand before it. Contracts see the number.
+/// In the Rust: `merkle::Location`.
 #[derive_where(Clone, Copy, PartialEq, Eq, PartialOrd, Ord, Hash)]
 pub struct Location<F: Family> {
     value: u64,
@@ -35,7 +36,7 @@ impl<F: Family> Model for Location<F> {
 }
 
 impl<F: Family> Location<F> {
-    /// The location of this number.
+    /// The location of this number, also where that is past `MAX_LEAVES`. In the Rust: `merkle::Location::new`.
     pub const fn new(number: u64) -> Location<F>
         ensures { result ≡ number }
     {
@@ -45,28 +46,28 @@ impl<F: Family> Location<F> {
         }
     }
 
-    /// The location's number.
+    /// The location's number: how many leaves stand before it. In the Rust: `merkle::Location::as_u64`.
     pub const fn as_u64(self) -> u64
         ensures { result ≡ self }
     {
         self.value
     }
 
-    /// Whether it is at most `MAX_LEAVES`, as a count of leaves is.
+    /// Whether it is at most `MAX_LEAVES`, as a count of leaves is. In the Rust: `merkle::Location::is_valid`.
     pub const fn is_valid(self) -> bool
         ensures { IsTrue result ↔ (self ≤ MAX_LEAVES) }
     {
         self.value <= MAX_LEAVES
     }
 
-    /// Whether it is below `MAX_LEAVES`, as a leaf's place is.
+    /// Whether it is below `MAX_LEAVES`, as a leaf's place is. In the Rust: `merkle::Location::is_valid_index`.
     pub const fn is_valid_index(self) -> bool
         ensures { IsTrue result ↔ (self < MAX_LEAVES) }
     {
         self.value < MAX_LEAVES
     }
 
-    /// The sum. Past `MAX_LEAVES` it is None.
+    /// The sum. Past `MAX_LEAVES` it is None. In the Rust: `merkle::Location::checked_add`.
     pub fn checked_add(self, more: u64) -> Option<Location<F>>
         ensures some { IfSome result (λ sum. sum ≡ self + more) }
         ensures none { IsNone result ↔ (MAX_LEAVES < self + more) }
@@ -78,7 +79,7 @@ impl<F: Family> Location<F> {
         Some(Location::new(sum))
     }
 
-    /// The difference. Below 0 it is None.
+    /// The difference. Below 0 it is None. In the Rust: `merkle::Location::checked_sub`.
     pub fn checked_sub(self, less: u64) -> Option<Location<F>>
         ensures some { IfSome result (λ rest. rest + less ≡ self) }
         ensures none { IsNone result ↔ (self < less) }
@@ -87,14 +88,14 @@ impl<F: Family> Location<F> {
         Some(Location::new(rest))
     }
 
-    /// The sum, or `MAX_LEAVES` where the sum is past it.
+    /// The sum, or `MAX_LEAVES` where the sum is past it. In the Rust: `merkle::Location::saturating_add`.
     pub fn saturating_add(self, more: u64) -> Location<F>
         ensures { result ≡ min (self + more) MAX_LEAVES }
     {
         Location::new(self.value.saturating_add(more).min(MAX_LEAVES))
     }
 
-    /// The difference, or 0 where there is none.
+    /// The difference, or 0 where there is none. In the Rust: `merkle::Location::saturating_sub`.
     pub fn saturating_sub(self, less: u64) -> Location<F>
         ensures { result ≡ self - less }
     {

@@ -6,13 +6,13 @@ use crate::family::Family;
 use crate::location::Location;
 use std::ops::Range;
 
-/// A range of locations, seen as numbers.
+/// A range of locations, seen as numbers. In the Rust: `merkle::LocationRangeExt`.
 pub trait LocationRangeExt {
     ghost start: { Self → ℕ };
 
     ghost end: { Self → ℕ };
 
-    /// The range of the same numbers.
+    /// The same range, with its ends as usize. In the Rust: `merkle::LocationRangeExt::to_usize_range`.
     fn to_usize_range(&self) -> Range<usize>
         ensures start { result.start ≡ start self.now }
         ensures end { result.end ≡ end self.now };

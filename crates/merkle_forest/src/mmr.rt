@@ -26,6 +26,7 @@ fn root_position(first: u64, height: u32) -> u64
 }
 
 /// The family of Merkle Mountain Ranges: the last two peaks merge while their heights are equal.
+/// In the Rust: `merkle::mmr::Family`.
 #[derive(Clone, Copy, Debug, PartialEq, Eq)]
 pub struct Family;
 
@@ -102,19 +103,20 @@ pub fn greatest_node_count()
     ensures { size (forest_of mmr_rule MAX_LEAVES) ≡ MAX_NODES }
 {}
 
-/// The peaks of a Merkle Mountain Range from left to right.
+/// The peaks of a Merkle Mountain Range from left to right: the position and the height of each.
+/// In the Rust: `merkle::mmr::iterator::PeakIterator`.
 pub type PeakIterator = Peaks<Family>;
 
-/// The location of a leaf of a Merkle Mountain Range.
+/// The location of a leaf of a Merkle Mountain Range. In the Rust: `merkle::mmr::Location`.
 pub type Location = location::Location<Family>;
 
-/// The position of a node of a Merkle Mountain Range.
+/// The position of a node of a Merkle Mountain Range. In the Rust: `merkle::mmr::Position`.
 pub type Position = position::Position<Family>;
 
-/// What a call over a Merkle Mountain Range refuses.
+/// What a call over a Merkle Mountain Range refuses. In the Rust: `merkle::mmr::Error`.
 pub type Error = error::Error<Family>;
 
-/// The hasher of plain trees.
+/// The hasher of plain trees. In the Rust: `merkle::mmr::StandardHasher`.
 pub type StandardHasher<H> = Standard<H>;
 
 #[cfg(test)]

@@ -7,6 +7,7 @@ ghost use Rattle.std.specs.List.{range_with_len};
 use std::marker::Model;
 
 /// Heights in order of birth, each one higher than the one before. Contracts see those that are left.
+/// In the Rust: the unnamed iterator of `merkle::Family::parent_heights`.
 #[derive(Drop)]
 pub struct ParentHeights {
     next: u32,

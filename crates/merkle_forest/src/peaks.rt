@@ -14,6 +14,7 @@ use crate::sizes::greatest_leaf_count;
 use std::marker::{Model, PhantomData};
 
 /// The peaks of a forest from left to right: the position and the height of each. Contracts see those that are left.
+/// In the Rust: the unnamed iterator of `merkle::Family::peaks`.
 #[derive(Drop)]
 pub struct Peaks<F: Family> {
     leaves: u64,
@@ -35,6 +36,7 @@ impl<F: Family> Model for Peaks<F> {
 
 impl<F: Family> Peaks<F> {
     /// The peaks of the forest that has this many nodes.
+    /// In the Rust: `merkle::mmr::iterator::PeakIterator::new`; here it is for every family.
     pub fn new(nodes: Position<F>) -> Peaks<F>
         requires { IsSize F.merge_rule nodes }
         ensures { ArePeaksOf F.merge_rule nodes result }
@@ -73,6 +75,7 @@ impl<F: Family> Iterator for Peaks<F> {
 }
 
 /// The positions of the peaks of a forest from left to right. Contracts see those that are left.
+/// In the Rust: the unnamed iterator of `merkle::Family::nodes_to_pin`.
 #[derive(Drop)]
 pub struct PeakPositions<F: Family> {
     peaks: Peaks<F>,

@@ -14,6 +14,7 @@ use crate::mmr;
 use std::alloc::{AllocError, Global};
 
 /// A family that says how a proof spells the digest of the pending chunk (own). At most one chunk is pending.
+/// In the Rust a type of each family stands in its place, `merkle::Graftable::PendingChunk`, which is written and read itself.
 pub trait PendingOf<D: Digest>: Family {
     /// Holds of what a proof may hold: the bytes of the digest of the pending chunk, or its absence.
     ghost is_pending: { Option (List ℕ) → Type 0 };
@@ -24,12 +25,14 @@ pub trait PendingOf<D: Digest>: Family {
     /// The bytes behind that spelling at the front, or the first fault from the left.
     ghost pending_after: { List ℕ → Outcome };
 
-    /// Appends the spelling. It fails for want of memory alone, and some bytes may then have been appended.
+    /// Appends the spelling of the digest of the pending chunk, or of its absence. It fails for want of memory alone, and some
+    /// bytes may then have been appended.
     fn write_pending(digest: &Option<D>, out: &mut Vec<u8>) -> Result<(), AllocError>
         ensures ok { OnOk result (out.new.items ≡ out.old.items ++ pending_spelling (option_map D.spelling digest.now)) }
         ensures err { OnErr result (Extends out.old.items out.new.items) };
 
-    /// Reads the digest of the pending chunk, or its absence, at the front. After a refusal the cursor's place is open.
+    /// The digest of the pending chunk, or its absence, at the front; or the first fault from the left, or C8. After a refusal
+    /// the cursor's place is open.
     fn read_pending(alloc: Global, cursor: &mut Cursor<'_>) -> Result<Option<D>, Error>
         ensures read { Reads (λ digest. pending_spelling (option_map D.spelling digest)) cursor.old cursor.new (pending_after cursor.old) result }
         ensures held { IfOk result (λ digest. is_pending (option_map D.spelling digest)) };

@@ -19,6 +19,7 @@ use std::marker::{Model, PhantomData};
 use std::ops::{Add, AddAssign, Sub, SubAssign};
 
 /// The place of a node in a forest of the family: how many nodes stand before it. Contracts see the number.
+/// In the Rust: `merkle::Position`.
 #[derive_where(Clone, Copy, PartialEq, Eq, PartialOrd, Ord, Hash)]
 pub struct Position<F: Family> {
     value: u64,
@@ -36,7 +37,7 @@ impl<F: Family> Model for Position<F> {
 }
 
 impl<F: Family> Position<F> {
-    /// The position of this number.
+    /// The position of this number, also where that is past `MAX_NODES`. In the Rust: `merkle::Position::new`.
     pub const fn new(number: u64) -> Position<F>
         ensures { result ≡ number }
     {
@@ -46,35 +47,35 @@ impl<F: Family> Position<F> {
         }
     }
 
-    /// The position's number.
+    /// The position's number: how many nodes stand before it. In the Rust: `merkle::Position::as_u64`.
     pub const fn as_u64(self) -> u64
         ensures { result ≡ self }
     {
         self.value
     }
 
-    /// Whether it is at most `MAX_NODES`, as a count of nodes is.
+    /// Whether it is at most `MAX_NODES`, as a count of nodes is. In the Rust: `merkle::Position::is_valid`.
     pub const fn is_valid(self) -> bool
         ensures { IsTrue result ↔ (self ≤ MAX_NODES) }
     {
         self.value <= MAX_NODES
     }
 
-    /// Whether it is below `MAX_NODES`, as a node's place is.
+    /// Whether it is below `MAX_NODES`, as a node's place is. In the Rust: `merkle::Position::is_valid_index`.
     pub const fn is_valid_index(self) -> bool
         ensures { IsTrue result ↔ (self < MAX_NODES) }
     {
         self.value < MAX_NODES
     }
 
-    /// Whether a forest of up to `MAX_LEAVES` leaves has this many nodes.
+    /// Whether a forest of up to `MAX_LEAVES` leaves has this many nodes. In the Rust: `merkle::Position::is_valid_size`.
     pub fn is_valid_size(self) -> bool
         ensures { IsTrue result ↔ IsSize F.merge_rule self }
     {
         F::is_valid_size(self)
     }
 
-    /// The sum. Past `MAX_NODES` it is None.
+    /// The sum. Past `MAX_NODES` it is None. In the Rust: `merkle::Position::checked_add`.
     pub fn checked_add(self, more: u64) -> Option<Position<F>>
         ensures some { IfSome result (λ sum. sum ≡ self + more) }
         ensures none { IsNone result ↔ (MAX_NODES < self + more) }
@@ -86,7 +87,7 @@ impl<F: Family> Position<F> {
         Some(Position::new(sum))
     }
 
-    /// The difference. Below 0 it is None.
+    /// The difference. Below 0 it is None. In the Rust: `merkle::Position::checked_sub`.
     pub fn checked_sub(self, less: u64) -> Option<Position<F>>
         ensures some { IfSome result (λ rest. rest + less ≡ self) }
         ensures none { IsNone result ↔ (self < less) }
@@ -95,14 +96,14 @@ impl<F: Family> Position<F> {
         Some(Position::new(rest))
     }
 
-    /// The sum, or `MAX_NODES` where the sum is past it.
+    /// The sum, or `MAX_NODES` where the sum is past it. In the Rust: `merkle::Position::saturating_add`.
     pub fn saturating_add(self, more: u64) -> Position<F>
         ensures { result ≡ min (self + more) MAX_NODES }
     {
         Position::new(self.value.saturating_add(more).min(MAX_NODES))
     }
 
-    /// The difference, or 0 where there is none.
+    /// The difference, or 0 where there is none. In the Rust: `merkle::Position::saturating_sub`.
     pub fn saturating_sub(self, less: u64) -> Position<F>
         ensures { result ≡ self - less }
     {

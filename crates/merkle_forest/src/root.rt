@@ -9,7 +9,7 @@ use crate::digest::Digest;
 use crate::family::Family;
 use crate::hasher::Hasher;
 
-/// The digests folded from the left onto the first one.
+/// The digest into which the digests are folded from the left, onto the first one (own).
 pub fn fold_onto<F: Family, H: Hasher<F>>(
     hasher: &H,
     first: H::Digest,
@@ -23,7 +23,7 @@ pub fn fold_onto<F: Family, H: Hasher<F>>(
     }
 }
 
-/// The digests folded from the right, with the first one at the left end.
+/// The digest into which the digests are folded from the right, with the first one at the left end (own).
 pub fn fold_backward<F: Family, H: Hasher<F>>(
     hasher: &H,
     first: &H::Digest,
@@ -81,7 +81,7 @@ pub(crate) fn root_of_items<F: Family, H: Hasher<F>>(
     }
 }
 
-/// The root over one item, into which all peaks are folded.
+/// The root over one item, into which all peaks are folded; `inactive` is how many of them are inactive (own).
 pub fn root_over_item<F: Family, H: Hasher<F>>(
     hasher: &H,
     leaves: u64,

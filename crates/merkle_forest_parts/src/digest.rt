@@ -7,13 +7,13 @@ ghost use Rattle.merkle_forest_parts.specs.Codec.{after_fixed};
 use crate::codec::{FixedBytes, FixedSize, Read};
 use std::fmt::Debug;
 
-/// A digest of a fixed number of bytes, which are its spelling.
+/// A digest of a fixed number of bytes, which are its spelling. In the Rust: `commonware_cryptography::Digest`.
 pub trait Digest: Read<Cfg = ()> + FixedSize + Copy + Eq + Debug {
-    /// The digest of zero bytes alone.
+    /// The digest of which all `SIZE` bytes are zeros. In the Rust: the constant `commonware_cryptography::Digest::EMPTY`.
     fn empty() -> Self
         ensures { Self.spelling result ≡ replicate Self.SIZE 0 };
 
-    /// The digest's bytes.
+    /// The digest's bytes, `SIZE` of them. In the Rust: `AsRef::as_ref` of a digest.
     fn as_bytes(&self) -> &[u8]
         ensures bytes { result.now ≡ Self.spelling self.now }
         ensures sized { Self.is_value self.now };

@@ -8,7 +8,7 @@ use merkle_forest::codec::Faithful;
 use std::alloc::AllocError;
 
 impl<K: Faithful, V: Faithful> Operation<K, V> {
-    /// An operation that says the same. It fails for want of memory alone.
+    /// An operation that says the same. It fails for want of memory alone. In the Rust: `Clone::clone`, which never fails.
     pub fn try_copy(&self) -> Result<Operation<K, V>, AllocError>
         ensures { IfOk result (λ copy. spec.meaning_of K.spelling V.spelling copy ≡ spec.meaning_of K.spelling V.spelling self.now) }
     {

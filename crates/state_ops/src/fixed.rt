@@ -14,6 +14,7 @@ pub use reading::read_operation;
 use std::alloc::{AllocError, Global};
 
 /// The size in bytes of every operation with keys `K` and values `V`. It is wide enough for keys and values of any size.
+/// In the Rust: `commonware_codec::FixedSize::SIZE` of an ordered operation with `FixedEncoding`, a usize.
 pub fn fixed_size<K: Key, V: FixedValue>() -> u128
     ensures { result ≡ spec.fixed_size K.SIZE V.SIZE }
 {
@@ -73,6 +74,7 @@ fn write_unpadded<K: Key, V: FixedValue>(
 }
 
 /// Appends the operation's fixed spelling. It fails for want of memory alone, and some bytes may then have been appended.
+/// In the Rust: `qmdb::any::operation::OperationCodec::write_operation` of `FixedEncoding`, which never fails.
 pub fn write_operation<K: Key, V: FixedValue>(
     operation: &Operation<K, V>,
     out: &mut Vec<u8>,
@@ -86,7 +88,8 @@ pub fn write_operation<K: Key, V: FixedValue>(
     write_zeros(fixed_size::<K, V>().saturating_sub(written), out)
 }
 
-/// The operation's fixed spelling. It fails for want of memory alone.
+/// The bytes of the operation's fixed spelling. It fails for want of memory alone.
+/// In the Rust: `commonware_codec::Encode::encode` of such an operation, which never fails.
 pub fn encode<K: Key, V: FixedValue>(
     alloc: Global,
     operation: &Operation<K, V>,

@@ -7,6 +7,7 @@ ghost use Rattle.std.specs.Ordering.{nat_cmp};
 use merkle_forest::codec::{Faithful, FixedBytes, FixedSize, Read};
 
 /// A key: its spelling has a fixed size, and its order is the byte order of its spelling.
+/// In the Rust: `qmdb::operation::Key`; the fixed spelling also asks for a `commonware_utils::Array`.
 pub trait Key: Read<Cfg = ()> + FixedSize + Faithful + Ord {
     ghost ordered: { (k l : Self) → Self.cmp k l ≡ slice_cmp nat_cmp (Self.spelling k) (Self.spelling l) };
 
@@ -14,7 +15,7 @@ pub trait Key: Read<Cfg = ()> + FixedSize + Faithful + Ord {
     ghost within: { (k : Self) → Self.is_within tt k };
 }
 
-/// A value whose spelling has a fixed size.
+/// A value whose spelling has a fixed size. In the Rust: `qmdb::any::value::FixedValue`, which every such type is by itself.
 pub trait FixedValue: Read<Cfg = ()> + FixedSize + Faithful {}
 
 impl<const M: usize> Key for FixedBytes<M> {

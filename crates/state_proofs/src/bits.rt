@@ -28,7 +28,7 @@ fn split_front(bits: &[bool], count: usize) -> (&[bool], &[bool])
     }
 }
 
-/// A chunk of `width` bytes from the first bits: zeros where there are no more bits. It fails for want of memory alone.
+/// A chunk of `width` bytes from the first bits: zeros where there are no more bits (own). It fails for want of memory alone.
 pub fn chunk_from(alloc: Global, width: usize, bits: &[bool]) -> Result<Vec<u8>, AllocError>
     ensures { IfOk result (λ chunk. chunk.items ≡ chunk_of width bits.now) }
 {
@@ -42,7 +42,7 @@ pub fn chunk_from(alloc: Global, width: usize, bits: &[bool]) -> Result<Vec<u8>,
     Ok(chunk)
 }
 
-/// The first `count` chunks of `width` bytes each. It fails for want of memory alone.
+/// The first `count` chunks of `width` bytes each (own). It fails for want of memory alone.
 pub fn chunks_from(
     alloc: Global,
     width: usize,
@@ -62,7 +62,7 @@ pub fn chunks_from(
     Ok(chunks)
 }
 
-/// Whether no bit of the chunk is set.
+/// Whether no bit of the chunk is set (own).
 pub fn is_zero_chunk(chunk: &[u8]) -> bool
     ensures { result ≡ is_zero chunk.now }
 {

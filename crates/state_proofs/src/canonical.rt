@@ -100,7 +100,7 @@ fn chunk_digest<H: HashFunction>(chunks: &[Vec<u8>], index: usize) -> Option<H::
     Some(H::hash(&[chunk]))
 }
 
-/// The digest of the full chunk that isn't graftable yet, if there is one.
+/// The digest of the full chunk that isn't graftable yet. None where there is no such chunk.
 #[tactic(auto, unfolding(crate::specs::Canonical::pending_digest))]
 pub fn pending_digest_of<F: Family, H: HashFunction>(
     snapshot: &Snapshot<'_>,
@@ -121,7 +121,7 @@ pub fn pending_digest_of<F: Family, H: HashFunction>(
     }
 }
 
-/// The digest of the partial chunk, if there is one.
+/// The digest of the partial chunk, whose bits don't fill it. None where there is no such chunk.
 #[tactic(auto, unfolding(crate::specs::Canonical::partial_digest))]
 pub fn partial_digest_of<F: Family, H: HashFunction>(
     snapshot: &Snapshot<'_>,

@@ -16,6 +16,7 @@ use merkle_forest::trees::TreeDigests;
 use std::marker::PhantomData;
 
 /// The digest of a subtree of the grafting height with its chunk: a chunk without a set bit leaves it as it is.
+/// In the Rust: `qmdb::current::grafting::graft_chunk_digests`, over a list of chunks.
 pub fn graft<H: HashFunction>(chunk: &[u8], digest: &H::Digest) -> H::Digest
     ensures { H.Digest.spelling result ≡ grafted H.hash_of chunk.now (H.Digest.spelling digest.now) }
 {
@@ -25,7 +26,7 @@ pub fn graft<H: HashFunction>(chunk: &[u8], digest: &H::Digest) -> H::Digest
     H::hash(&[chunk, digest.as_bytes()])
 }
 
-/// The digests of the grafted tree: at the grafting height a chunk is joined in.
+/// The digests of the grafted tree: at the grafting height a chunk is joined in (own).
 #[derive(Drop)]
 pub struct Grafted<'a, H> {
     /// The encoded operations.
@@ -41,7 +42,7 @@ pub struct Grafted<'a, H> {
     ghost some_bits: { 0 < bits },
 }
 
-/// The chunk that stands over the leaf, or no byte where there is none.
+/// The bytes of the chunk that stands over the leaf at `start`, or no byte where there is none (own).
 pub fn chunk_over<'a>(chunks: &'a [Vec<u8>], bits: usize, start: usize) -> &'a [u8]
     requires { 0 < bits }
     ensures { result.now ≡ slice_index_or (map (λ chunk. chunk.items) chunks.now) (start / bits) [] }
@@ -101,7 +102,7 @@ fn nodes_of_height(level: u64, tree: &Tree) -> usize
     }
 }
 
-/// How many chunks are graftable: each node of the grafting height is over one.
+/// How many chunks are graftable, counted in the peaks: each node of the grafting height is over one (own).
 pub fn graftable_count(grafting_height: u64, peaks: &[Tree]) -> usize
     requires { leaves (map shape peaks.now) < 2 ^ 64 }
     ensures count { result ≡ nodes_of_height grafting_height (map shape peaks.now) }
@@ -117,6 +118,7 @@ pub fn graftable_count(grafting_height: u64, peaks: &[Tree]) -> usize
 
 /// The greatest number of first peaks whose leaves all stand before the floor and of which the last one ends at a chunk's
 /// border; 0 where there is none.
+/// In the Rust: `qmdb::current::grafting::chunk_aligned_inactive_peaks`, from leaf count and height.
 pub fn aligned_count_of(bits: usize, floor: u64, peaks: &[(usize, &Tree)]) -> usize
     requires some { 0 < bits }
     requires small { Within usize.MAX (shapes peaks.now) }

@@ -94,6 +94,7 @@ fn write_range_proof<D: Digest, F: PendingOf<D>>(
 }
 
 /// The honest bytes that prove the one operation at a location. It fails for want of memory alone.
+/// In the Rust: `qmdb::current::proof::operation::Proof::new`, whose answer is then written.
 pub fn operation_proof_bytes<F: PendingOf<H::Digest>, H: HashFunction>(
     alloc: Global,
     snapshot: &Snapshot<'_>,
@@ -116,6 +117,7 @@ pub fn operation_proof_bytes<F: PendingOf<H::Digest>, H: HashFunction>(
 }
 
 /// The honest bytes that prove the update at a location, which names this next key. It fails for want of memory alone.
+/// In the Rust: a `qmdb::current::ordered::proof::KeyValueProof`, written.
 #[tactic(auto, unfolding(crate::specs::Honest::key_value_proof))]
 pub fn key_value_proof_bytes<F: PendingOf<H::Digest>, H: HashFunction>(
     alloc: Global,

@@ -1,4 +1,5 @@
-//! Activity bits grafted onto the tree of operations, canonical roots and their proofs.
+//! Activity bits grafted onto the tree of operations, canonical roots and their proofs. The crate ports parts of `qmdb::current`
+//! of commonware-storage 2026.10.0; `In the Rust` names what an item is there.
 #![tactic(auto)]
 
 pub mod bits;

@@ -2,14 +2,14 @@
 
 ghost use Rattle.std.specs.Prelude.{◌≡◌, ◌<◌, ◌≤◌, ◌*◌, ◌^◌, length};
 
-/// Encoded operations, a bit for each, and the last floor; and how many bytes a chunk of bits has.
+/// Encoded operations, a bit for each, and the last floor; and how many bytes a chunk of bits has (own).
 #[derive(Clone, Copy)]
 pub struct Snapshot<'a> {
     /// The encoded operations.
     pub operations: &'a [Vec<u8>],
     /// Whether each operation is active.
     pub bits: &'a [bool],
-    /// The last floor: the place of the least active update.
+    /// The last floor: the location of the least active update.
     pub floor: u64,
     /// How many bytes a chunk has.
     pub width: usize,

@@ -21,30 +21,31 @@ use merkle_forest::hasher::{HashFunction, Standard};
 use std::marker::PhantomData;
 
 /// What a proof of one operation holds.
+/// In the Rust: `qmdb::current::proof::operation::Proof`; here its range proof and Merkle proof are taken apart into fields.
 #[derive(Clone, Copy)]
 pub struct OperationProof<'a, D> {
-    /// The location of the operation.
+    /// The location of the operation. In the Rust: `loc`.
     pub location: u64,
-    /// The chunk with its activity bit.
+    /// The bytes of the chunk with its activity bit.
     pub chunk: &'a [u8],
-    /// How many operations there are.
+    /// How many operations there are. In the Rust: `leaves` of the Merkle proof.
     pub leaves: u64,
-    /// How many peaks of the grafted tree are inactive.
+    /// How many peaks of the grafted tree are inactive. In the Rust: `inactive_peaks` of the Merkle proof.
     pub inactive: u64,
     /// The digests that lead to the root of the grafted tree, in the order of the range proof.
     pub digests: &'a [D],
-    /// The digest of the full chunk that isn't graftable yet.
+    /// The digest of the full chunk that isn't graftable yet. In the Rust: `pending_chunk_digest` of the range proof.
     pub pending: Option<D>,
-    /// The digest of the partial chunk.
+    /// The digest of the partial chunk. In the Rust: `partial_chunk_digest` of the range proof.
     pub partial: Option<D>,
-    /// The root of the operations' tree.
+    /// The root of the operations' tree. In the Rust: `ops_root` of the range proof.
     pub operations_root: D,
 }
 
-/// At the grafting height the chunk is joined in.
+/// At the grafting height the chunk is joined in. In the Rust: `qmdb::current::grafting::Verifier`, a hasher over several chunks.
 #[derive(Clone, Copy)]
 pub struct GraftedChunk<'a, H> {
-    /// The chunk.
+    /// The bytes of the chunk.
     pub chunk: &'a [u8],
     /// The height of a tree over as many operations as a chunk has bits.
     pub grafting_height: u32,
@@ -82,7 +83,8 @@ fn grafting_height_of(width: usize) -> Option<u32>
     Some(height + 3)
 }
 
-/// How many chunks of so many operations are graftable.
+/// How many chunks of so many operations are graftable, where a chunk has 2^grafting_height bits.
+/// In the Rust: `qmdb::current::grafting::graftable_chunks`, which panics at height 0; here that is a condition.
 pub fn graftable_chunks_of<F: Graftable>(leaves: u64, grafting_height: u32) -> u64
     requires few { leaves ≤ MAX_LEAVES }
     requires some { 0 < grafting_height }
@@ -173,6 +175,7 @@ fn grafted_root_of<F: Graftable, H: HashFunction>(
 }
 
 /// Whether the proof shows that the encoded operation stands at its location in the state of this root and is active there.
+/// In the Rust: `qmdb::current::proof::operation::Proof::verify`, which encodes the operation itself.
 pub fn verify_operation<F: Graftable, H: HashFunction>(
     root: &H::Digest,
     proof: &OperationProof<'_, H::Digest>,

@@ -6,7 +6,7 @@ ghost use Rattle.merkle_forest_parts.specs.Codec.{Outcome, after_fixed};
 use super::error::Error;
 use std::marker::Model;
 
-/// The bytes of a slice that are still to be read.
+/// The bytes of a slice that are still to be read (own). In the Rust any `commonware_codec::Buf` stands in its place.
 #[derive(Drop)]
 pub struct Cursor<'a> {
     rest: &'a [u8],

@@ -9,21 +9,22 @@ use super::error::Error;
 use super::traits::{EncodeSize, Faithful, FixedSize, Read, Write};
 use std::alloc::{AllocError, Global};
 
-/// `M` bytes, in the order of bytes.
+/// `M` bytes, in the order of bytes. In the Rust: `commonware_utils::sequence::FixedBytes`.
 #[derive(Clone, Copy, Debug, PartialEq, Eq, PartialOrd, Ord, Hash)]
 pub struct FixedBytes<const M: usize> {
+    /// The bytes, from first to last.
     pub bytes: [u8; M],
 }
 
 impl<const M: usize> FixedBytes<M> {
-    /// These bytes.
+    /// The value with these `M` bytes. In the Rust: `commonware_utils::sequence::FixedBytes::from`.
     pub fn new(bytes: [u8; M]) -> FixedBytes<M>
         ensures { result.bytes ≡ bytes.entry }
     {
         FixedBytes { bytes }
     }
 
-    /// The bytes as a slice.
+    /// The bytes as a slice of length `M`. In the Rust: `AsRef::as_ref` of the value.
     pub fn as_bytes(&self) -> &[u8]
         ensures { result.now ≡ self.now.bytes }
     {

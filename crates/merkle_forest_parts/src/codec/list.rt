@@ -13,17 +13,18 @@ use super::varint::{number_size, read_number, write_number};
 use crate::digest::Digest;
 use std::alloc::{AllocError, Global};
 
-/// The counts that a list may have, both ends among them.
+/// The counts of items that a list may have, both ends among them. In the Rust: `commonware_codec::RangeCfg`.
 #[derive(Clone, Copy, Debug, PartialEq, Eq)]
 pub struct RangeCfg {
-    /// The least count.
+    /// The least count of items.
     pub least: usize,
-    /// The greatest count.
+    /// The greatest count of items.
     pub greatest: usize,
 }
 
 impl RangeCfg {
     /// The counts from the least to the greatest. No count is allowed where the least is the greater.
+    /// In the Rust: `commonware_codec::RangeCfg::from`, over a range.
     pub fn new(least: usize, greatest: usize) -> RangeCfg
         ensures least { result.least ≡ least }
         ensures greatest { result.greatest ≡ greatest }
@@ -32,8 +33,8 @@ impl RangeCfg {
     }
 }
 
-/// The count whose varint stands at the front. Where its bytes are missing: C1; a bad varint: C3; outside the range: C6.
-/// After a refusal the cursor's place is open.
+/// The count of items whose varint stands at the front. Where its bytes are missing: C1; a bad varint: C3; outside the
+/// range: C6. After a refusal the cursor's place is open.
 pub fn read_count(cursor: &mut Cursor<'_>, range: &RangeCfg) -> Result<usize, Error>
     ensures exact { Finds cursor.new (count_at range.now.least range.now.greatest cursor.old) result }
     ensures spelled { IfOk result (λ count. cursor.old ≡ varint count ++ cursor.new) }

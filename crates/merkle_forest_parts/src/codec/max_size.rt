@@ -8,7 +8,7 @@ use super::fixed_bytes::FixedBytes;
 use super::traits::Write;
 use super::varint::UInt;
 
-/// A type whose spellings have a greatest length.
+/// A type whose spellings have a greatest length. In the Rust: `commonware_codec::MaxEncodeSize`.
 pub trait MaxEncodeSize: Write {
     ghost MAX_SIZE: { ℕ };
 

@@ -7,7 +7,7 @@ use super::cursor::Cursor;
 use super::error::Error;
 use std::alloc::{AllocError, Global};
 
-/// A value that has one spelling in bytes.
+/// A value that has one spelling in bytes. In the Rust: `commonware_codec::Write`.
 pub trait Write: Drop {
     /// The bytes that spell a value.
     ghost spelling: { Self → List ℕ };
@@ -16,38 +16,39 @@ pub trait Write: Drop {
     ghost is_value: { Self → Type 0 };
 
     /// Appends the value's spelling. It fails for want of memory alone, and some bytes may then have been appended.
+    /// In the Rust: `commonware_codec::Write::write`, which never fails.
     fn write(&self, out: &mut Vec<u8>) -> Result<(), AllocError>
         ensures ok { OnOk result (out.new.items ≡ out.old.items ++ spelling self.now) }
         ensures err { OnErr result (Extends out.old.items out.new.items) }
         ensures value { OnOk result (is_value self.now) };
 }
 
-/// A value whose copies are spelled as it is.
+/// A value whose copies are spelled as it is (own).
 pub trait Faithful: Write + Clone {
     ghost copied: { (v w : Self) → Self.is_clone v w → Self.spelling w ≡ Self.spelling v };
 }
 
-/// A value that knows the length of its spelling.
+/// A value that knows the length of its spelling. In the Rust: `commonware_codec::EncodeSize`.
 pub trait EncodeSize: Write {
-    /// The length of the spelling in bytes.
+    /// The length of the spelling in bytes. In the Rust: `commonware_codec::EncodeSize::encode_size`.
     fn encode_size(&self) -> usize
         requires { length (Self.spelling self.now) < 2 ^ 64 }
         ensures { result ≡ length (Self.spelling self.now) };
 }
 
-/// A type whose values all have spellings of one length.
+/// A type whose values all have spellings of one length. In the Rust: `commonware_codec::FixedSize`.
 pub trait FixedSize: Write {
     ghost SIZE: { ℕ };
 
-    /// The length of each spelling in bytes.
+    /// The length of each spelling in bytes. In the Rust: `commonware_codec::FixedSize::SIZE`.
     const SIZE: usize;
 
     ghost sized: { (v : Self) → Self.is_value v → length (Self.spelling v) ≡ SIZE };
 }
 
-/// A type whose values are read from bytes.
+/// A type whose values are read from bytes. In the Rust: `commonware_codec::Read`, which does not ask for `Write`.
 pub trait Read: Write {
-    /// What a reader is told: limits on counts and on sizes.
+    /// What a reader is told: limits on counts and on sizes. In the Rust: `commonware_codec::Read::Cfg`.
     type Cfg;
 
     /// The bytes behind the value that stands at the front, or the first fault from the left.
@@ -56,7 +57,8 @@ pub trait Read: Write {
     /// Holds of the values that are read under these limits.
     ghost is_within: { Self.Cfg → Self → Type 0 };
 
-    /// Reads the value at the front. After a refusal the cursor's place is open.
+    /// The value at the front, or the first fault from the left, or C8. After a refusal the cursor's place is open.
+    /// In the Rust: `commonware_codec::Read::read_cfg`, from any buffer and without an allocator.
     fn read_cfg(alloc: Global, cursor: &mut Cursor<'_>, cfg: &Self::Cfg) -> Result<Self, Error>
         ensures read { Reads Self.spelling cursor.old cursor.new (after cfg.now cursor.old) result }
         ensures value { IfOk result Self.is_value };
@@ -64,9 +66,10 @@ pub trait Read: Write {
     ghost read_again: { (cfg : Self.Cfg) (v : Self) (rest : List ℕ) → Self.is_value v → is_within cfg v → after cfg (Self.spelling v ++ rest) ≡ Ok rest };
 }
 
-/// A value that is written into a vector of its own.
+/// A value that is written into a vector of its own. In the Rust: `commonware_codec::Encode`.
 pub trait Encode: Write {
-    /// The value's spelling. It fails for want of memory alone.
+    /// The value's spelling, in a vector of its own. It fails for want of memory alone.
+    /// In the Rust: `commonware_codec::Encode::encode`, which never fails.
     final fn encode(&self, alloc: Global) -> Result<Vec<u8>, AllocError>
         ensures { IfOk result (λ v. v.items ≡ Self.spelling self.now) }
     {
@@ -76,9 +79,10 @@ pub trait Encode: Write {
     }
 }
 
-/// A value that is read from all of the bytes.
+/// A value that is read from all of the bytes. In the Rust: `commonware_codec::Decode`.
 pub trait Decode: Read {
-    /// The value that the bytes spell, all of them. Where bytes are left over: C2.
+    /// The value that the bytes spell, all of them, or the first fault from the left. Where bytes are left over: C2.
+    /// In the Rust: `commonware_codec::Decode::decode_cfg`, without an allocator.
     final fn decode_cfg(alloc: Global, bytes: &[u8], cfg: &Self::Cfg) -> Result<Self, Error>
         ensures read { Reads Self.spelling bytes.now [] (whole (Self.after cfg.now bytes.now)) result }
         ensures value { IfOk result Self.is_value }

@@ -10,7 +10,7 @@ use super::error::Error;
 use super::traits::{EncodeSize, Faithful, Read, Write};
 use std::alloc::{AllocError, Global};
 
-/// A number that is spelled as a varint, of 1 to 10 bytes.
+/// A number that is spelled as a varint, of 1 to 10 bytes. In the Rust: `commonware_codec::varint::UInt`, of a u64.
 #[derive(Clone, Copy, Debug, PartialEq, Eq, PartialOrd, Ord, Hash)]
 pub struct UInt(pub u64);
 

@@ -114,7 +114,10 @@ fn read_padded<K: Key, V: FixedValue>(alloc: Global, bytes: &[u8]) -> Result<Ope
     Ok(operation)
 }
 
-/// Reads the operation at the front. Fewer bytes than its size are C1, another tag C5, a flag that is neither 0 nor 1 C4; a byte of padding or of absent metadata that isn't zero and a floor past the greatest number of operations are C7. The first fault from the left is answered. After a refusal the cursor's place is open.
+/// The operation at the front, or the first fault from the left: fewer bytes than its size are C1, another tag C5, a flag that is
+/// neither 0 nor 1 C4; a byte of padding or of absent metadata that isn't zero and a floor past the greatest number of operations
+/// are C7; want of memory is C8. After a refusal the cursor's place is open.
+/// In the Rust: `qmdb::any::operation::OperationCodec::read_operation` of `FixedEncoding`.
 pub fn read_operation<K: Key, V: FixedValue>(
     alloc: Global,
     cursor: &mut Cursor<'_>,
