@@ -23,18 +23,14 @@ fn has_key<K: Key, V: FixedValue>(key: &K, operation: &Operation<K, V>) -> bool
 fn any_has_key<K: Key, V: FixedValue>(key: &K, operations: &[Operation<K, V>]) -> bool
     ensures { result ≡ list_any (λ operation. spec.has_key (K.spelling key.now) (meaning_of K.spelling V.spelling operation)) operations.now }
 {
-    operations
-        .iter()
-        .any(|operation| has_key(key, operation))
+    operations.iter().any(|operation| has_key(key, operation))
 }
 
 /// Whether one of the operations is a commit.
 fn any_is_commit<K: Key, V: FixedValue>(operations: &[Operation<K, V>]) -> bool
     ensures { result ≡ list_any (λ operation. spec.is_commit (meaning_of K.spelling V.spelling operation)) operations.now }
 {
-    operations
-        .iter()
-        .any(|operation| matches!(operation, Operation::CommitFloor(_, _)))
+    operations.iter().any(|operation| matches!(operation, Operation::CommitFloor(_, _)))
 }
 
 /// Whether the operation still counts, given the operations after it: an update whose key no later one has, or the last commit.
