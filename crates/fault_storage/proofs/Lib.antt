@@ -1,0 +1,4 @@
+pub mod Crc
+pub mod DrawLemmas
+pub mod Zeros
+pub mod Rooms

@@ -1,0 +1,22 @@
+//! Named blobs that fail, tear writes and crash as they are told to. The crate ports the fault storage of commonware-runtime
+//! 2026.10.0; `In the Rust` names what an item is there.
+#![tactic(auto)]
+
+pub mod checksum;
+pub mod draws;
+pub mod error;
+pub mod file;
+pub mod header;
+pub mod overlay;
+pub mod partition;
+pub mod probability;
+pub mod replay;
+
+pub use checksum::{Checksum, Crc32};
+pub use draws::PartialWriteMode;
+pub use error::Error;
+pub use partition::validate_partition_name;
+pub use probability::Probability;
+
+#[cfg(test)]
+mod tests;
