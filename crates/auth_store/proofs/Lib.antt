@@ -1,7 +1,6 @@
-pub mod Actives
+pub mod Proofs
 pub mod Stores
 pub mod Runs
+pub mod Honest
 pub mod Widths
-pub mod Reading
 pub mod Showing
-pub mod Acceptance

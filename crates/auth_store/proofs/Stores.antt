@@ -1,89 +1,119 @@
 -- What a store keeps stays true with the commit of a batch.
-use Rattle.std.proofs.Common.{◌≡◌, ℕ, ◌+◌, ◌<◌, ◌≤◌, ◌^◌, List, [], ◌∷◌, ◌++◌, length, Option, ap, sym, ◌∙◌, subst, arith, length-append, drop, append_assoc}
-use Rattle.std.proofs.Math.Seq.{drop-append_seam}
+use Rattle.std.proofs.Common.{◌≡◌, ℕ, ◌+◌, ◌<◌, ◌≤◌, ◌^◌, List, [], ◌∷◌, ◌++◌, length, Option, ap, sym, ◌∙◌, subst, arith, length-append, take, drop, append_assoc}
+use Rattle.std.specs.Prelude.{Result, Ok, Err, OnErr}
+use Rattle.std.proofs.Math.Seq.{take-append_seam}
 use Rattle.std.proofs.lemmas.Grind.{flat_map-append}
 use Rattle.state_ops.specs.Operation.{Operation, commit_floor, fixed_encoding}
 use Rattle.state_proofs.specs.Canonical.{Setting, canonical_root}
 use Rattle.auth_store.specs.Batch.{Word, map_after}
-use Rattle.auth_store.specs.History.{History, AreStates, latest_map, batch_operations, inactivity_floor, replayed, committed, log_of, history_of}
-use Rattle.auth_store.specs.Store.{state_of_log, log_bytes, floor_of, commit_after, added_log, next_log, Keeps}
-use Rattle.auth_store_parts.proofs.Logs.{history_of-log_of, replayed-log_of, IsState-map_after, IsState-latest_map}
+use Rattle.auth_store.specs.History.{History, AreStates, latest_map, batch_operations, replayed, inactivity_floor, with_commit, last_floor, log_of, history_of}
+use Rattle.auth_store.specs.Store.{state_of_log, log_bytes, commit_after, Keeps}
+use Rattle.auth_store_parts.specs.Laws.Logs.{history_of-log_of, replayed-log_of, IsState-map_after, IsState-latest_map, length-log_of}
 
--- a history is shorter than its log
-pub length-log_of : (h : History) → length h < length (log_of h)
-length-log_of [] = omega arith
-length-log_of (c ∷ h) = let earlier = length-log_of h in simp length-append (omega arith)
+-- what holds anyway holds after an error
+pub on_err : {T E : Type 0} (r : Result T E) (P : Type 0) → P → OnErr r P
+on_err (Ok v) P p = tt
+on_err (Err e) P p = p
 
--- the commits of a log of few operations are few
-pub commits_few : (setting : Setting) (key value : ℕ) (log : List Operation) (count last : ℕ) (digest written : List ℕ)
-    → Keeps setting key value log count last digest written → count < 2 ^ 62
-commits_few setting key value log count last digest written keeps =
-    let shorter = length-log_of (history_of log) in
-    let sized = ap length keeps.whole in
-    omega (arith, shorter, sized, keeps.commits, keeps.few)
+-- operations at the end leave what is in front
+pub front-append : (old now more : List Operation) → now ≡ old ++ more → take (length old) now ≡ old
+front-append old now more is = ap (take (length old)) is ∙ take-append_seam old more
 
--- a log of a history leads to the latest state
-latest_of : (log : List Operation) → AreStates (history_of log) → log ≡ log_of (history_of log) → replayed [] log ≡ latest_map (history_of log)
-latest_of log states whole = ap (replayed []) whole ∙ replayed-log_of (history_of log) states
+pub front-append_twice : (old now whole more last : List Operation) → now ≡ old ++ more → whole ≡ now ++ last → take (length old) whole ≡ old
+front-append_twice old now whole more last now-is is =
+    front-append old whole (more ++ last) (is ∙ (ap (λ l. l ++ last) now-is ∙ append_assoc old more last))
 
-pub latest_kept : (setting : Setting) (key value : ℕ) (log : List Operation) (count last : ℕ) (digest written : List ℕ)
-    → Keeps setting key value log count last digest written → replayed [] log ≡ latest_map (history_of log)
-latest_kept setting key value log count last digest written keeps = latest_of log keeps.states keeps.whole
+-- how long a log is with changes and a commit at its end
+pub committed_length : (log changes whole : List Operation) (metadata : Option (List ℕ)) → whole ≡ log ++ with_commit log changes metadata → length whole ≡ length log + length changes + 1
+committed_length log changes whole metadata is =
+    let long : length (with_commit log changes metadata) ≡ length changes + 1 = length-append changes (commit_floor metadata (inactivity_floor (log ++ changes)) ∷ []) in
+    omega (arith, ap length is, length-append log (with_commit log changes metadata), long)
 
-added-is : (words : List Word) (metadata : Option (List ℕ)) (log : List Operation) → AreStates (history_of log) → log ≡ log_of (history_of log)
-    → added_log words log ≡ log_of (history_of log) ++ batch_operations (latest_map (history_of log)) (map_after words (latest_map (history_of log)))
-added-is words metadata log states whole =
-    ap (λ s. log ++ batch_operations s (map_after words s)) (latest_of log states whole)
-    ∙ ap (λ l. l ++ batch_operations (latest_map (history_of log)) (map_after words (latest_map (history_of log)))) whole
+-- changes with a commit after them that records the floor of all
+pub committed : (log changes now whole : List Operation) (metadata : Option (List ℕ)) (floor : ℕ) → now ≡ log ++ changes
+    → floor ≡ inactivity_floor now → whole ≡ now ++ commit_floor metadata floor ∷ [] → whole ≡ log ++ with_commit log changes metadata
+committed log changes now whole metadata floor now-is floor-is is =
+    is ∙ (ap (λ l. l ++ commit_floor metadata floor ∷ []) now-is
+    ∙ (append_assoc log changes (commit_floor metadata floor ∷ [])
+    ∙ ap (λ f. log ++ (changes ++ commit_floor metadata f ∷ [])) (floor-is ∙ ap inactivity_floor now-is)))
 
-pub next_log-is : (setting : Setting) (key value : ℕ) (words : List Word) (metadata : Option (List ℕ)) (log : List Operation) (count last : ℕ) (digest written : List ℕ)
-    → Keeps setting key value log count last digest written → next_log words metadata log ≡ log_of (commit_after words metadata (history_of log))
-next_log-is setting key value words metadata log count last digest written keeps = ap (λ l. committed l metadata) (added-is words metadata log keeps.states keeps.whole)
+module _ (setting : Setting) (key value : ℕ) where
+  -- the commits of a log of few operations are few
+  pub commits_few : (log : List Operation) (count last : ℕ) (digest written : List ℕ) → Keeps setting key value log count last digest written → count < 2 ^ 62
+  commits_few log count last digest written keeps =
+      let shorter = length-log_of (history_of log) in
+      let sized = ap length keeps.whole in
+      omega (arith, shorter, sized, keeps.commits, keeps.few)
 
-states_after : (words : List Word) (metadata : Option (List ℕ)) (h : History) → AreStates h → AreStates (commit_after words metadata h)
-states_after words metadata h states = (IsState-map_after words (latest_map h) (IsState-latest_map h states), states)
+  -- the log leads to the latest state
+  pub latest_kept : (log : List Operation) (count last : ℕ) (digest written : List ℕ)
+      → Keeps setting key value log count last digest written → replayed [] log ≡ latest_map (history_of log)
+  latest_kept log count last digest written keeps = ap (replayed []) keeps.whole ∙ replayed-log_of (history_of log) keeps.states
 
--- the next log stands for the history with one commit more
-pub next_stands : (setting : Setting) (key value : ℕ) (words : List Word) (metadata : Option (List ℕ)) (log next : List Operation) (count last : ℕ) (digest written : List ℕ)
-    → Keeps setting key value log count last digest written → next ≡ next_log words metadata log
-    → history_of next ≡ commit_after words metadata (history_of log)
-next_stands setting key value words metadata log next count last digest written keeps is =
-    ap history_of (is ∙ next_log-is setting key value words metadata log count last digest written keeps)
-    ∙ history_of-log_of (commit_after words metadata (history_of log)) (states_after words metadata (history_of log) keeps.states)
+  -- the next log is that of the history with one commit more
+  pub next_log : (words : List Word) (metadata : Option (List ℕ)) (log : List Operation) (count last : ℕ) (digest written : List ℕ)
+      → Keeps setting key value log count last digest written
+      → log ++ with_commit log (batch_operations (replayed [] log) (map_after words (replayed [] log))) metadata ≡ log_of (commit_after words metadata (history_of log))
+  next_log words metadata log count last digest written keeps =
+      ap (λ state. log ++ with_commit log (batch_operations state (map_after words state)) metadata) (latest_kept log count last digest written keeps)
+      ∙ ap (λ l. l ++ with_commit l (batch_operations (latest_map (history_of log)) (map_after words (latest_map (history_of log)))) metadata) keeps.whole
 
--- what is behind the log in the next one are the new operations
-written_on : (key value : ℕ) (words : List Word) (metadata : Option (List ℕ)) (log next : List Operation) → next ≡ next_log words metadata log
-    → log_bytes key value log ++ log_bytes key value (drop (length log) next) ≡ log_bytes key value next
-written_on key value words metadata log next is =
-    let ops : List Operation = batch_operations (replayed [] log) (map_after words (replayed [] log)) in
-    let last : List Operation = commit_floor metadata (inactivity_floor (log ++ ops)) ∷ [] in
-    let whole : next ≡ log ++ (ops ++ last) = is ∙ append_assoc log ops last in
-    let behind : drop (length log) next ≡ ops ++ last = ap (drop (length log)) whole ∙ drop-append_seam log (ops ++ last) in
-    ap (λ l. log_bytes key value log ++ log_bytes key value l) behind
-    ∙ (sym (flat_map-append (fixed_encoding key value) log (ops ++ last)) ∙ ap (log_bytes key value) (sym whole))
+  states_after : (words : List Word) (metadata : Option (List ℕ)) (h : History) → AreStates h → AreStates (commit_after words metadata h)
+  states_after words metadata h states = (IsState-map_after words (latest_map h) (IsState-latest_map h states), states)
 
-pub next_keeps : (setting : Setting) (key value : ℕ) (words : List Word) (metadata : Option (List ℕ)) (log next : List Operation) (count last floor : ℕ) (digest root written fresh now : List ℕ)
-    → Keeps setting key value log count last digest written
-    → next ≡ next_log words metadata log → floor ≡ inactivity_floor (added_log words log) → length next ≤ 2 ^ 62
-    → root ≡ canonical_root setting (state_of_log key value next floor)
-    → fresh ≡ log_bytes key value (drop (length log) next)
-    → now ≡ written ++ fresh
-    → Keeps setting key value next (count + 1) floor root now
-next_keeps setting key value words metadata log next count last floor digest root written fresh now keeps is floor-is few root-is fresh-is now-is =
-    let h : History = history_of log in
-    let after : History = commit_after words metadata h in
-    let stands : history_of next ≡ after = next_stands setting key value words metadata log next count last digest written keeps is in
-    let whole : next ≡ log_of (history_of next) = is ∙ (next_log-is setting key value words metadata log count last digest written keeps ∙ ap log_of (sym stands)) in
-    let floored : floor ≡ floor_of (history_of next) = floor-is ∙ (ap inactivity_floor (added-is words metadata log keeps.states keeps.whole) ∙ ap floor_of (sym stands)) in
-    let sized : length (history_of next) ≡ length h + 1 = ap length stands ∙ omega arith in
-    let bytes : now ≡ log_bytes key value next =
-    now-is ∙ (ap (λ l. l ++ fresh) keeps.bytes ∙ (ap (λ l. log_bytes key value log ++ l) fresh-is ∙ written_on key value words metadata log next is)) in
-    record {
-      bytes = bytes;
-      states = subst AreStates (sym stands) (states_after words metadata h keeps.states);
-      whole = whole;
-      commits = omega (arith, sized, keeps.commits);
-      floor = floored;
-      few = few;
-      root = root-is ∙ (ap (λ (l : List Operation). canonical_root setting (state_of_log key value l floor)) whole ∙ ap (λ (f : ℕ). canonical_root setting (state_of_log key value (log_of (history_of next)) f)) floored);
-    }
+  -- it stands for that history
+  pub next_stands : (words : List Word) (metadata : Option (List ℕ)) (log next : List Operation) (count last : ℕ) (digest written : List ℕ)
+      → Keeps setting key value log count last digest written
+      → next ≡ log ++ with_commit log (batch_operations (replayed [] log) (map_after words (replayed [] log))) metadata
+      → history_of next ≡ commit_after words metadata (history_of log)
+  next_stands words metadata log next count last digest written keeps is =
+      ap history_of (is ∙ next_log words metadata log count last digest written keeps)
+      ∙ history_of-log_of (commit_after words metadata (history_of log)) (states_after words metadata (history_of log) keeps.states)
+
+  pub next_keeps : (words : List Word) (metadata : Option (List ℕ)) (log changes next : List Operation) (count last floor : ℕ) (digest root written now : List ℕ)
+      → Keeps setting key value log count last digest written
+      → changes ≡ batch_operations (replayed [] log) (map_after words (replayed [] log))
+      → next ≡ log ++ with_commit log changes metadata → floor ≡ last_floor next → length next ≤ 2 ^ 62
+      → root ≡ canonical_root setting (state_of_log key value next)
+      → now ≡ written ++ log_bytes key value (with_commit log changes metadata)
+      → Keeps setting key value next (count + 1) floor root now
+  next_keeps words metadata log changes next count last floor digest root written now keeps changes-is is floor-is few root-is now-is =
+      let h : History = history_of log in
+      let whole : next ≡ log ++ with_commit log (batch_operations (replayed [] log) (map_after words (replayed [] log))) metadata =
+      is ∙ ap (λ c. log ++ with_commit log c metadata) changes-is in
+      let stands : history_of next ≡ commit_after words metadata h = next_stands words metadata log next count last digest written keeps whole in
+      let sized : length (history_of next) ≡ length h + 1 = ap length stands ∙ omega arith in
+      record {
+        states = subst AreStates (sym stands) (states_after words metadata h keeps.states);
+        whole = whole ∙ (next_log words metadata log count last digest written keeps ∙ ap log_of (sym stands));
+        commits = omega (arith, sized, keeps.commits);
+        floor = floor-is;
+        few = few;
+        root = root-is;
+        bytes = now-is ∙ (ap (λ b. b ++ log_bytes key value (with_commit log changes metadata)) keeps.bytes
+            ∙ (sym (flat_map-append (fixed_encoding key value) log (with_commit log changes metadata)) ∙ ap (log_bytes key value) (sym is)));
+      }
+
+  -- the first log: a commit of nothing
+  pub first_keeps : (log : List Operation) (floor : ℕ) (root written : List ℕ) → log ≡ log_of [] → floor ≡ last_floor log
+      → root ≡ canonical_root setting (state_of_log key value log) → written ≡ log_bytes key value log → Keeps setting key value log 0 floor root written
+  first_keeps log floor root written is floor-is root-is written-is =
+      let none : history_of log ≡ [] = ap history_of is in
+      record {
+        states = subst AreStates (sym none) tt;
+        whole = is ∙ ap log_of (sym none);
+        commits = ap length (sym none);
+        floor = floor-is;
+        few = omega (arith, ap length is);
+        root = root-is;
+        bytes = written-is;
+      }
+
+  -- how long the next log is
+  pub next_length : (words : List Word) (metadata : Option (List ℕ)) (log changes : List Operation) (count last : ℕ) (digest written : List ℕ)
+      → Keeps setting key value log count last digest written
+      → changes ≡ batch_operations (replayed [] log) (map_after words (replayed [] log))
+      → length (log_of (commit_after words metadata (history_of log))) ≡ length log + length changes + 1
+  next_length words metadata log changes count last digest written keeps changes-is =
+      committed_length log changes (log_of (commit_after words metadata (history_of log))) metadata
+      (sym (ap (λ c. log ++ with_commit log c metadata) changes-is ∙ next_log words metadata log count last digest written keeps))

@@ -5,7 +5,6 @@ pub use Rattle.auth_store_parts.specs.Script
 pub use Rattle.auth_store_parts.specs.Line
 pub use Rattle.auth_store_parts.specs.Report
 pub use Rattle.auth_store_parts.specs.Spelling
-pub mod Shown
 pub mod Store
 pub mod Proving
 pub mod ProvingCode
@@ -13,3 +12,4 @@ pub mod Machine
 pub mod MachineCode
 pub mod Claims
 pub mod ClaimsCode
+pub mod ScriptRun

@@ -11,7 +11,8 @@ use Rattle.auth_store.specs.History.{History, latest_map, log_of}
 use Rattle.auth_store.specs.Store.{setting_of_width, floor_of, root_of_history, commit_after, log_bytes}
 use Rattle.auth_store.specs.Proving.{honest_proof}
 
--- what stays the same in a run: trees, hashes and chunks, how the family spells a pending digest, and the sizes of keys and of values
+-- what stays the same in a run: trees, hashes and chunks, how the family encodes a pending digest, and the sizes of
+-- keys and of values
 pub record Machine : Type 0 where
   pub setting : Setting
   pub pending : Option (List ℕ) → List ℕ
@@ -54,16 +55,10 @@ pub data Answer : Type 0 where
 abbrev pub proof_of : Machine → History → List ℕ → Option (List ℕ × List ℕ)
 proof_of m history key = option_map (λ v. (v, honest_proof m.pending m.setting m.key_size m.value_size history key)) (value_at (latest_map history) key)
 
--- the history behind a request to an open store
+-- the history after a request to an open store
 abbrev pub history_after : Request → History → History
-history_after ask_open history = history
 history_after (ask_commit words metadata) history = commit_after words metadata history
-history_after (ask_get key) history = history
-history_after ask_root history = history
-history_after ask_commits history = history
-history_after ask_floor history = history
-history_after ask_len history = history
-history_after (ask_proof key) history = history
+history_after _ history = history
 
 -- what an open store with this history answers
 abbrev pub answer_of : Machine → Request → History → Answer
@@ -79,34 +74,22 @@ answer_of m (ask_proof key) history = proof (proof_of m history key)
 -- whether the request is to open
 abbrev pub is_open : Request → Bool
 is_open ask_open = true
-is_open (ask_commit words metadata) = false
-is_open (ask_get key) = false
-is_open ask_root = false
-is_open ask_commits = false
-is_open ask_floor = false
-is_open ask_len = false
-is_open (ask_proof key) = false
+is_open _ = false
 
 -- the answer without a refusal: a closed session can only be opened
 abbrev pub answered : Machine → Request → State → Answer
 answered m request None = if is_open request then opened else not_open
 answered m request (Some history) = answer_of m request history
 
--- the state behind it: an opened store has the empty history
+-- the state after it: an opened store has the empty history
 abbrev pub after : Request → State → State
 after request None = if is_open request then Some [] else None
 after request (Some history) = Some (history_after request history)
 
 -- a batch is committed only where the log then has at most 2^62 operations
 abbrev pub HasRoom : Request → History → Type 0
-HasRoom ask_open history = Unit {0}
 HasRoom (ask_commit words metadata) history = length (log_of (commit_after words metadata history)) ≤ 2 ^ 62
-HasRoom (ask_get key) history = Unit {0}
-HasRoom ask_root history = Unit {0}
-HasRoom ask_commits history = Unit {0}
-HasRoom ask_floor history = Unit {0}
-HasRoom ask_len history = Unit {0}
-HasRoom (ask_proof key) history = Unit {0}
+HasRoom _ history = Unit {0}
 
 -- the request leads to no log past 2^62 operations
 abbrev pub KeepsLimit : Request → State → Type 0
@@ -115,16 +98,12 @@ KeepsLimit request (Some history) = HasRoom request history
 
 -- which requests to an open store may want memory
 abbrev pub MayLackMemory : Request → Type 0
-MayLackMemory ask_open = ⊥
 MayLackMemory (ask_commit words metadata) = Unit {0}
 MayLackMemory (ask_get key) = Unit {0}
-MayLackMemory ask_root = ⊥
-MayLackMemory ask_commits = ⊥
-MayLackMemory ask_floor = ⊥
-MayLackMemory ask_len = ⊥
 MayLackMemory (ask_proof key) = Unit {0}
+MayLackMemory _ = ⊥
 
--- which refusals an open store may answer: want of memory, or a log that would pass 2^62 operations
+-- which refusals an open store may answer: out of memory, or a log that would pass 2^62 operations
 abbrev pub MayRefuse : Request → History → StoreError → Type 0
 MayRefuse request history Memory = MayLackMemory request
 MayRefuse request history NumberEnded = 2 ^ 62 < length (log_of (history_after request history))

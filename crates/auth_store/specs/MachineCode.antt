@@ -9,7 +9,7 @@ use Rattle.auth_store.specs.declared.session.Step.TheVariants.{Open, Commit, Get
 use Rattle.auth_store.specs.declared.session.Answer.{Answer}
 use Rattle.auth_store.specs.declared.session.Answer.TheVariants as answers
 
--- what a step asks, given how keys and values are spelled
+-- what a step asks, given how keys and values are encoded
 abbrev pub request_of : {K V : Type 0} → (K → List ℕ) → (V → List ℕ) → Step K V → Request
 request_of key value (Open sizes) = ask_open
 request_of key value (Commit batch metadata) = ask_commit (meanings key value batch.words.items) (option_map value metadata)
@@ -20,14 +20,14 @@ request_of key value Floor = ask_floor
 request_of key value Len = ask_len
 request_of key value (ProveKey k) = ask_proof (key k)
 
--- what an answer says, given how digests and values are spelled
+-- what an answer says, given how digests and values are encoded
 abbrev pub meaning_of : {D V : Type 0} → (D → List ℕ) → (V → List ℕ) → Answer D V → machine.Answer
 meaning_of digest value answers.Opened = machine.opened
 meaning_of digest value (answers.Committed root) = machine.committed (digest root)
 meaning_of digest value (answers.Value found) = machine.value (option_map value found)
 meaning_of digest value (answers.Root root) = machine.root_is (digest root)
 meaning_of digest value (answers.Commits count) = machine.commits_are count
-meaning_of digest value (answers.Floor place) = machine.floor_is place
+meaning_of digest value (answers.Floor location) = machine.floor_is location
 meaning_of digest value (answers.Len count) = machine.len_is count
 meaning_of digest value (answers.Proof found) = machine.proof (option_map (parts_of value) found)
 meaning_of digest value (answers.Refused error) = machine.refused error

@@ -3,6 +3,6 @@ use Rattle.std.specs.Prelude.{ℕ, List}
 use Rattle.auth_store.specs.declared.store.prove.KeyProof.{KeyProof}
 use Rattle.auth_store.specs.declared.store.prove.KeyProof.TheVariants.{Value}
 
--- the value's spelling and the bytes that prove it
+-- the value's encoding and the bytes that prove it
 abbrev pub parts_of : {V : Type 0} → (V → List ℕ) → KeyProof V → List ℕ × List ℕ
-parts_of spelling (Value value bytes) = (spelling value, bytes.items)
+parts_of encoding (Value value bytes) = (encoding value, bytes.items)

@@ -11,7 +11,7 @@ pub enum StoreError {
     /// S3: the log would pass the greatest number of operations, 2 to the 62.
     #[error("S3: the log would pass 2^62 operations")]
     NumberEnded,
-    /// S4: want of memory.
+    /// S4: out of memory.
     #[error("S4: out of memory")]
     Memory,
 }

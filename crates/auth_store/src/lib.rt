@@ -10,3 +10,11 @@ pub mod session;
 pub mod store;
 
 pub use auth_store_parts::{Batch, Word, batch, history, state};
+pub use client::{Claim, check};
+pub use error::StoreError;
+pub use merkle_forest::codec::FixedBytes;
+pub use merkle_forest::{ByteHash, mmr};
+pub use plain::{PlainCache, PlainDevice, Sizes};
+pub use session::{Answer, Session, Step};
+pub use store::prove::KeyProof;
+pub use store::{NotOpened, Store, is_chunk_width};

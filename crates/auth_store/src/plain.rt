@@ -4,7 +4,7 @@ ghost use Rattle.std.specs.Prelude.{◌≡◌, ◌++◌, ◌==◌, [], length, O
 
 use std::alloc::{AllocError, Global};
 
-/// A list of bytes in memory. Nothing but want of memory refuses a write.
+/// A list of bytes in memory. Nothing but out of memory refuses a write.
 #[derive(Debug, Drop)]
 pub struct PlainDevice {
     /// The bytes that were written, in order.
@@ -28,7 +28,7 @@ impl PlainDevice {
         self.bytes.is_empty()
     }
 
-    /// Writes these bytes behind the others. It fails for want of memory alone, and the device then stays as it was.
+    /// Writes these bytes after the others. It fails only when out of memory, and the device then stays as it was.
     pub fn append(&mut self, bytes: &[u8]) -> Result<(), AllocError>
         ensures ok { OnOk result (self.new.bytes.items ≡ self.old.bytes.items ++ bytes.now) }
         ensures err { OnErr result (self.new.bytes.items ≡ self.old.bytes.items) }
@@ -55,4 +55,14 @@ pub struct Sizes {
     pub write_buffer: usize,
     /// The bytes that are read at once when a store is opened, at most.
     pub replay_buffer: usize,
+}
+
+impl Default for Sizes {
+    /// Both buffers have 4096 bytes.
+    fn default() -> Sizes {
+        Sizes {
+            write_buffer: 4096,
+            replay_buffer: 4096,
+        }
+    }
 }

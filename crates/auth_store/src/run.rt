@@ -6,8 +6,7 @@ ghost use Rattle.auth_store.specs.Machine.{IsRun, machine};
 ghost use Rattle.auth_store.specs.MachineCode.{requests_of, meanings_of};
 
 use crate::session::{Answer, Session, Step};
-use merkle_forest::HashFunction;
-use merkle_forest::pending::PendingOf;
+use merkle_forest::{Graftable, HashFunction, PendingOf};
 use state_ops::{FixedValue, Key};
 use std::alloc::{AllocError, Global};
 
@@ -28,14 +27,14 @@ fn take_steps<F, H, K, V, const N: usize>(
     answers: &mut Vec<Answer<H::Digest, V>>,
 )
 where
-    F: PendingOf<H::Digest>,
+    F: Graftable + PendingOf<H::Digest>,
     H: HashFunction,
     K: Key,
     V: FixedValue,
     requires none { answers.old.items ≡ [] }
     requires room { vec_len answers.old + vec_len steps ≤ vec_capacity answers.old }
-    ensures { IsRun (machine F.merge_rule H.hash_of F.pending_spelling N K.SIZE V.SIZE) session.old.store
-        (requests_of K.spelling V.spelling steps.items) (meanings_of H.Digest.spelling V.spelling answers.new.items) session.new.store }
+    ensures { IsRun (machine F.merge_rule H.hash_of F.pending_encoding N K.SIZE V.SIZE) session.old.store
+        (requests_of K.encoding V.encoding steps.items) (meanings_of H.Digest.encoding V.encoding answers.new.items) session.new.store }
 {
     let mut steps = steps.into_iter();
     while let Some(step) = steps.next() {
@@ -43,20 +42,20 @@ where
     }
 }
 
-/// Takes the steps one after the other and answers each: a run of the machine. It finds room for all answers first, and fails
-/// for want of that memory alone; the session then stays as it was.
+/// Takes the steps one after the other and answers each: a run of the machine. It finds room for all answers first,
+/// and fails only where there is no room for them; the session then stays as it was.
 pub fn run<F, H, K, V, const N: usize>(
     alloc: Global,
     session: &mut Session<F, H, K, V, N>,
     steps: Vec<Step<K, V>>,
 ) -> Result<Vec<Answer<H::Digest, V>>, AllocError>
 where
-    F: PendingOf<H::Digest>,
+    F: Graftable + PendingOf<H::Digest>,
     H: HashFunction,
     K: Key,
     V: FixedValue,
-    ensures ran { IfOk result (λ answers. IsRun (machine F.merge_rule H.hash_of F.pending_spelling N K.SIZE V.SIZE) session.old.store
-        (requests_of K.spelling V.spelling steps.items) (meanings_of H.Digest.spelling V.spelling answers.items) session.new.store) }
+    ensures ran { IfOk result (λ answers. IsRun (machine F.merge_rule H.hash_of F.pending_encoding N K.SIZE V.SIZE) session.old.store
+        (requests_of K.encoding V.encoding steps.items) (meanings_of H.Digest.encoding V.encoding answers.items) session.new.store) }
     ensures err { OnErr result (session.new.store ≡ session.old.store) }
 {
     let mut answers = Vec::with_capacity(alloc, steps.len())?;

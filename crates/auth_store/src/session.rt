@@ -1,19 +1,16 @@
 //! Steps of a session, one after the other.
 
-ghost use Rattle.std.specs.Prelude.{◌≡◌, [], None};
-ghost use Rattle.auth_store.specs.Batch.{meanings};
-ghost use Rattle.auth_store.specs.Machine.{IsStep, machine, ask_open, ask_commit, ask_get, ask_root, ask_commits, ask_floor, ask_len, ask_proof, written_of};
+ghost use Rattle.std.specs.Prelude.{◌≡◌, [], None, IfOk, IfErr, OnOk, OnErr};
+ghost use Rattle.auth_store.specs.Machine.{HasRoom, IsStep, MayRefuse, answer_of, ask_open, history_after, machine, written_of};
 ghost use Rattle.auth_store.specs.MachineCode.{request_of, meaning_of};
 ghost use Rattle.auth_store.specs.Store.{IsChunkWidth};
-ghost use Rattle.std.specs.Prelude.{option_map};
 
 use crate::batch::Batch;
 use crate::error::StoreError;
 use crate::plain::{PlainCache, PlainDevice, Sizes};
 use crate::store::Store;
 use crate::store::prove::KeyProof;
-use merkle_forest::pending::PendingOf;
-use merkle_forest::{Family, HashFunction};
+use merkle_forest::{Family, Graftable, HashFunction, PendingOf};
 use state_ops::{FixedValue, Key};
 use std::alloc::Global;
 
@@ -51,7 +48,7 @@ pub enum Answer<D, V> {
     Root(D),
     /// How many commits there are.
     Commits(u64),
-    /// The last floor: the place of an operation.
+    /// The last floor: the location of an operation.
     Floor(u64),
     /// How many operations there are.
     Len(u64),
@@ -65,6 +62,34 @@ pub enum Answer<D, V> {
     StillOpen,
 }
 
+// What an open store answers to a step, or its refusal.
+fn attempt<
+    F: Graftable + PendingOf<H::Digest>,
+    H: HashFunction,
+    K: Key,
+    V: FixedValue,
+    const N: usize,
+>(store: &mut Store<F, H, K, V, N>, step: Step<K, V>) -> Result<Answer<H::Digest, V>, StoreError>
+    ensures ok { let m = machine F.merge_rule H.hash_of F.pending_encoding N K.SIZE V.SIZE in
+        IfOk result (λ answer. meaning_of H.Digest.encoding V.encoding answer
+        ≡ answer_of m (request_of K.encoding V.encoding step) store.old) }
+    ensures next { OnOk result (store.new ≡ history_after (request_of K.encoding V.encoding step) store.old) }
+    ensures room { OnOk result (HasRoom (request_of K.encoding V.encoding step) store.old) }
+    ensures err { OnErr result (store.new ≡ store.old) }
+    ensures refused { IfErr result (MayRefuse (request_of K.encoding V.encoding step) store.old) }
+{
+    Ok(match step {
+        Step::Open(_) => Answer::StillOpen,
+        Step::Commit(batch, metadata) => Answer::Committed(store.commit(batch, metadata)?),
+        Step::Get(key) => Answer::Value(store.get(&key)?),
+        Step::Root => Answer::Root(store.root()?),
+        Step::Commits => Answer::Commits(store.commits()?),
+        Step::Floor => Answer::Floor(store.floor()?),
+        Step::Len => Answer::Len(store.len()?),
+        Step::ProveKey(key) => Answer::Proof(store.prove_key(&key)?),
+    })
+}
+
 /// A device that waits for a store, or the open store on it.
 #[derive(Drop)]
 pub struct Session<F: Family, H: HashFunction, K: Key, V: FixedValue, const N: usize> {
@@ -76,13 +101,13 @@ pub struct Session<F: Family, H: HashFunction, K: Key, V: FixedValue, const N: u
     ghost empty: { device.bytes.items ≡ [] },
 }
 
-impl<F: PendingOf<H::Digest>, H: HashFunction, K: Key, V: FixedValue, const N: usize> Session<
-    F,
-    H,
-    K,
-    V,
-    N,
-> {
+impl<
+    F: Graftable + PendingOf<H::Digest>,
+    H: HashFunction,
+    K: Key,
+    V: FixedValue,
+    const N: usize,
+> Session<F, H, K, V, N> {
     /// A session over an empty device, with no store open.
     pub fn new(alloc: Global, device: PlainDevice, cache: PlainCache) -> Session<F, H, K, V, N>
         requires width { IsChunkWidth N }
@@ -97,14 +122,12 @@ impl<F: PendingOf<H::Digest>, H: HashFunction, K: Key, V: FixedValue, const N: u
         }
     }
 
-    // Opens the store, where none is open.
+    // Opens the store, which is closed.
     fn open(&mut self, sizes: Sizes) -> Answer<H::Digest, V>
-        ensures { IsStep (machine F.merge_rule H.hash_of F.pending_spelling N K.SIZE V.SIZE) self.old.store ask_open (meaning_of H.Digest.spelling V.spelling result) self.new.store }
+        requires { self.old.store ≡ None }
+        ensures { IsStep (machine F.merge_rule H.hash_of F.pending_encoding N K.SIZE V.SIZE) self.old.store ask_open
+            (meaning_of H.Digest.encoding V.encoding result) self.new.store }
     {
-        match &self.store {
-            Some(_) => return Answer::StillOpen,
-            None => {}
-        }
         let device = std::mem::replace(&mut self.device, PlainDevice::new(self.alloc));
         match Store::open(self.alloc, device, self.cache, sizes) {
             Ok(store) => {
@@ -118,115 +141,34 @@ impl<F: PendingOf<H::Digest>, H: HashFunction, K: Key, V: FixedValue, const N: u
         }
     }
 
-    // Commits the batch, where a store is open.
-    fn commit(&mut self, batch: Batch<K, V>, metadata: Option<V>) -> Answer<H::Digest, V>
-        ensures { IsStep (machine F.merge_rule H.hash_of F.pending_spelling N K.SIZE V.SIZE) self.old.store (ask_commit (meanings K.spelling V.spelling batch.words.items) (option_map V.spelling metadata)) (meaning_of H.Digest.spelling V.spelling result) self.new.store }
+    // Takes a step of a closed session.
+    fn step_closed(&mut self, step: Step<K, V>) -> Answer<H::Digest, V>
+        requires { self.old.store ≡ None }
+        ensures { IsStep (machine F.merge_rule H.hash_of F.pending_encoding N K.SIZE V.SIZE) self.old.store
+            (request_of K.encoding V.encoding step) (meaning_of H.Digest.encoding V.encoding result) self.new.store }
     {
-        let Some(store) = self.store.as_mut() else {
+        let Step::Open(sizes) = step else {
             return Answer::NotOpen;
         };
-        match store.commit(batch, metadata) {
-            Ok(root) => Answer::Committed(root),
-            Err(error) => Answer::Refused(error),
-        }
-    }
-
-    // Answers the value of the key.
-    fn get(&self, key: &K) -> Answer<H::Digest, V>
-        ensures { IsStep (machine F.merge_rule H.hash_of F.pending_spelling N K.SIZE V.SIZE) self.now.store (ask_get (K.spelling key.now)) (meaning_of H.Digest.spelling V.spelling result) self.now.store }
-    {
-        let Some(store) = self.store.as_ref() else {
-            return Answer::NotOpen;
-        };
-        match store.get(key) {
-            Ok(found) => Answer::Value(found),
-            Err(error) => Answer::Refused(error),
-        }
-    }
-
-    // Answers the root.
-    fn root(&self) -> Answer<H::Digest, V>
-        ensures { IsStep (machine F.merge_rule H.hash_of F.pending_spelling N K.SIZE V.SIZE) self.now.store ask_root (meaning_of H.Digest.spelling V.spelling result) self.now.store }
-    {
-        let Some(store) = self.store.as_ref() else {
-            return Answer::NotOpen;
-        };
-        match store.root() {
-            Ok(root) => Answer::Root(root),
-            Err(error) => Answer::Refused(error),
-        }
-    }
-
-    // Answers the number of commits.
-    fn commits(&self) -> Answer<H::Digest, V>
-        ensures { IsStep (machine F.merge_rule H.hash_of F.pending_spelling N K.SIZE V.SIZE) self.now.store ask_commits (meaning_of H.Digest.spelling V.spelling result) self.now.store }
-    {
-        let Some(store) = self.store.as_ref() else {
-            return Answer::NotOpen;
-        };
-        match store.commits() {
-            Ok(count) => Answer::Commits(count),
-            Err(error) => Answer::Refused(error),
-        }
-    }
-
-    // Answers the last floor.
-    fn floor(&self) -> Answer<H::Digest, V>
-        ensures { IsStep (machine F.merge_rule H.hash_of F.pending_spelling N K.SIZE V.SIZE) self.now.store ask_floor (meaning_of H.Digest.spelling V.spelling result) self.now.store }
-    {
-        let Some(store) = self.store.as_ref() else {
-            return Answer::NotOpen;
-        };
-        match store.floor() {
-            Ok(place) => Answer::Floor(place),
-            Err(error) => Answer::Refused(error),
-        }
-    }
-
-    // Answers the number of operations.
-    fn len(&self) -> Answer<H::Digest, V>
-        ensures { IsStep (machine F.merge_rule H.hash_of F.pending_spelling N K.SIZE V.SIZE) self.now.store ask_len (meaning_of H.Digest.spelling V.spelling result) self.now.store }
-    {
-        let Some(store) = self.store.as_ref() else {
-            return Answer::NotOpen;
-        };
-        match store.len() {
-            Ok(count) => Answer::Len(count),
-            Err(error) => Answer::Refused(error),
-        }
-    }
-
-    // Answers the value of the key and its proof.
-    fn prove_key(&self, key: &K) -> Answer<H::Digest, V>
-        ensures { IsStep (machine F.merge_rule H.hash_of F.pending_spelling N K.SIZE V.SIZE) self.now.store (ask_proof (K.spelling key.now)) (meaning_of H.Digest.spelling V.spelling result) self.now.store }
-    {
-        let Some(store) = self.store.as_ref() else {
-            return Answer::NotOpen;
-        };
-        match store.prove_key(key) {
-            Ok(found) => Answer::Proof(found),
-            Err(error) => Answer::Refused(error),
-        }
+        self.open(sizes)
     }
 
     /// Takes one step and answers it: a step of the machine.
     pub fn step(&mut self, step: Step<K, V>) -> Answer<H::Digest, V>
-        ensures { IsStep (machine F.merge_rule H.hash_of F.pending_spelling N K.SIZE V.SIZE) self.old.store (request_of K.spelling V.spelling step) (meaning_of H.Digest.spelling V.spelling result) self.new.store }
+        ensures { IsStep (machine F.merge_rule H.hash_of F.pending_encoding N K.SIZE V.SIZE) self.old.store
+            (request_of K.encoding V.encoding step) (meaning_of H.Digest.encoding V.encoding result) self.new.store }
     {
-        match step {
-            Step::Open(sizes) => self.open(sizes),
-            Step::Commit(batch, metadata) => self.commit(batch, metadata),
-            Step::Get(key) => self.get(&key),
-            Step::Root => self.root(),
-            Step::Commits => self.commits(),
-            Step::Floor => self.floor(),
-            Step::Len => self.len(),
-            Step::ProveKey(key) => self.prove_key(&key),
+        let Some(store) = self.store.as_mut() else {
+            return self.step_closed(step);
+        };
+        match attempt(store, step) {
+            Ok(answer) => answer,
+            Err(error) => Answer::Refused(error),
         }
     }
 
-    /// Closes the store, if one is open, and answers the device, on which the log's bytes stand, and the cache. It always
-    /// succeeds.
+    /// Closes the store, if one is open, and answers the device, on which the log's bytes stand, and the cache. It
+    /// always succeeds.
     pub fn into_parts(self) -> (PlainDevice, PlainCache)
         ensures { result.0.bytes.items ≡ written_of K.SIZE V.SIZE self.store }
     {

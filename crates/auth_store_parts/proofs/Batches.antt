@@ -8,8 +8,8 @@ use Rattle.std.proofs.lemmas.Bool.{cases_Bool}
 use Rattle.state_ops.specs.Operation.{Operation, commit_floor, delete, update}
 use Rattle.auth_store_parts.specs.Map.{Map, value_at, next_key}
 use Rattle.auth_store_parts.specs.History.{History, log_of, latest_map, inactivity_floor, has_key, is_commit, is_kept, deletes, updates, batch_operations, IsState}
-use Rattle.auth_store_parts.proofs.Lookups.{same, exact, none_later, IsState-tail}
-use Rattle.auth_store_parts.proofs.Logs.{differ, true_false, passed_by}
+use Rattle.auth_store_parts.specs.Laws.Lookups.{same, exact, none_later, IsState-tail}
+use Rattle.auth_store_parts.specs.Laws.Logs.{differ, true_false, passed_by}
 
 any-append : (f : Operation → Bool) (xs ys : List Operation) → list_any f xs ≡ false → list_any f ys ≡ false → list_any f (xs ++ ys) ≡ false
 any-append f [] ys left right = right
@@ -53,15 +53,15 @@ none_kept (operation ∷ operations) none = drop (is_commit operation) (list_any
 pub commits_counted : (history : History) → length (filter is_commit (log_of history)) ≡ length history + 1
 commits_counted [] = refl
 commits_counted (commit ∷ history) =
+    let before : List Operation = log_of history in
     let operations : List Operation = batch_operations (latest_map history) commit.map in
-    let last : List Operation = commit_floor commit.metadata (inactivity_floor (log_of history ++ operations)) ∷ [] in
-    let whole : filter is_commit (log_of (commit ∷ history)) ≡ (filter is_commit (log_of history) ++ filter is_commit operations) ++ last = filter-append is_commit (log_of history ++ operations) last
-    ∙ ap (λ kept. kept ++ last) (filter-append is_commit (log_of history) operations) in
+    let last : List Operation = commit_floor commit.metadata (inactivity_floor (before ++ operations)) ∷ [] in
+    let whole : filter is_commit (before ++ (operations ++ last)) ≡ filter is_commit before ++ (filter is_commit operations ++ last) =
+    filter-append is_commit before (operations ++ last)
+    ∙ ap (λ kept. filter is_commit before ++ kept) (filter-append is_commit operations last) in
     let none : filter is_commit operations ≡ [] = none_kept operations (no_commit (latest_map history) commit.map) in
-    let long : length ((filter is_commit (log_of history) ++ filter is_commit operations) ++ last) ≡ (length (filter is_commit (log_of history)) + length (filter is_commit operations)) + 1 =
-    length-append (filter is_commit (log_of history) ++ filter is_commit operations) last ∙ ap (λ n. n + 1) (length-append (filter is_commit (log_of history)) (filter is_commit operations)) in
-    let zero : length (filter is_commit operations) ≡ 0 = ap length none in
-    ap length whole ∙ (long ∙ omega (arith, zero, commits_counted history))
+    let long : length (filter is_commit before ++ last) ≡ length (filter is_commit before) + 1 = length-append (filter is_commit before) last in
+    ap length (whole ∙ ap (λ kept. filter is_commit before ++ (kept ++ last)) none) ∙ (long ∙ omega (arith, commits_counted history))
 
 -- a key of the new state isn't deleted
 deletes_not : (q : List ℕ) (es new : Map) → is_some (value_at new q) ≡ true → list_any (has_key q) (deletes es new) ≡ false
@@ -118,5 +118,5 @@ kept_untouched old new q v h at kept =
     any-append (has_key q) (deletes old new) (updates new old new) (deletes_not q old new (ap is_some at)) (updates_not q v new old new h at kept)
 
 pub absent_untouched : (old new : Map) (q : List ℕ) → value_at old q ≡ None → value_at new q ≡ None → list_any (has_key q) (batch_operations old new) ≡ false
-absent_untouched old new q before behind =
-    any-append (has_key q) (deletes old new) (updates new old new) (deletes_none q old new before) (updates_none q new old new behind)
+absent_untouched old new q before after =
+    any-append (has_key q) (deletes old new) (updates new old new) (deletes_none q old new before) (updates_none q new old new after)

@@ -4,11 +4,13 @@ use Rattle.std.specs.Prelude.{filter, slice_get, unwrap_or, option_copied, ◌&&
 use Rattle.std.specs.declared.cmp.Ordering.{Ordering}
 use Rattle.std.specs.declared.cmp.Ordering.TheVariants.{Less, Equal, Greater}
 use Rattle.std.specs.Ordering.{match_ordering, is_lt, is_eq}
-use Rattle.std.specs.BTreeMap.{insert_entry, is_at}
+use Rattle.std.specs.BTreeMap.{BTreeMap, insert_entry, is_at, IsClone}
 use Rattle.std.specs.BTreeMap.Range.{range_contains}
 use Rattle.std.specs.declared.ops.Bound.TheVariants.{Excluded, Unbounded}
 use Rattle.std.specs.Str.{bytes_eq}
 use Rattle.std.proofs.lemmas.Map.Text.{is_eq-slice_cmp}
+use Rattle.std.specs.List.{AllZip}
+use Rattle.std.specs.Prelude.{Result, Ok, Err, MatchResult, IfOk}
 use Rattle.std.specs.Map.{lookup, remove_entry}
 use Rattle.auth_store_parts.specs.Map.{state_of, with_entry, without_key, value_at, above, first_key, next_key, key_order}
 
@@ -80,8 +82,26 @@ pub option_map-copied : {V : Type 0} (value : V → List ℕ) (found : Option (B
 option_map-copied value None there is = ap (option_map value) is
 option_map-copied value (Some v) there is = ap (option_map value) is
 
--- keys compare as their spellings do
+-- keys compare as their encodings do
 pub bytes_eq-cmp : {K : Type 0} (key : K → List ℕ) (cmp : K → K → Ordering) → ((a b : K) → cmp a b ≡ key_order (key a) (key b))
     → (k l : K) (left right : List ℕ) (order : Ordering) (same : Bool) → key k ≡ left → key l ≡ right → order ≡ cmp k l → same ≡ is_eq order → same ≡ bytes_eq left right
 bytes_eq-cmp key cmp ordered k l left right order same is_left is_right compares tells =
     tells ∙ (ap is_eq (compares ∙ ordered k l) ∙ (is_eq-slice_cmp (key k) (key l) ∙ (ap (λ x. bytes_eq x (key l)) is_left ∙ ap (bytes_eq left) is_right)))
+
+-- a map of copies is seen as the same state
+pub state_of-clone : {K V : Type 0} (key : K → List ℕ) (value : V → List ℕ) (C : K → K → Type 0) (D : V → V → Type 0) → ((k l : K) → C k l → key l ≡ key k) → ((v w : V) → D v w → value w ≡ value v)
+    → (es fs : List (K × V)) → AllZip (λ p q. C p.0 q.0 × D p.1 q.1) es fs → state_of key value fs ≡ state_of key value es
+state_of-clone key value C D keys values [] [] copied = refl
+state_of-clone key value C D keys values [] (f ∷ fs) copied = absurd copied
+state_of-clone key value C D keys values (e ∷ es) [] copied = absurd copied
+state_of-clone key value C D keys values (e ∷ es) (f ∷ fs) copied =
+    let first : key f.0 ≡ key e.0 = keys e.0 f.0 copied.0.0 in
+    let second : value f.1 ≡ value e.1 = values e.1 f.1 copied.0.1 in
+    let rest : state_of key value fs ≡ state_of key value es = state_of-clone key value C D keys values es fs copied.1 in
+    rw (first, second, rest) refl
+
+-- the map that a clone answers, if any
+pub state_of-cloned : {K V E : Type 0} (key : K → List ℕ) (value : V → List ℕ) (C : K → K → Type 0) (D : V → V → Type 0) (Q : E → Type 0) → ((k l : K) → C k l → key l ≡ key k) → ((v w : V) → D v w → value w ≡ value v)
+    → (state : BTreeMap K V) (r : Result (BTreeMap K V) E) → MatchResult r (λ n. IsClone C D state n) Q → IfOk r (λ copy. state_of key value copy.entries ≡ state_of key value state.entries)
+state_of-cloned key value C D Q keys values state (Ok copy) copied = state_of-clone key value C D keys values state.entries copy.entries copied
+state_of-cloned key value C D Q keys values state (Err e) copied = tt

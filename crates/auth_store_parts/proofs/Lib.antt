@@ -1,7 +1,5 @@
 pub mod Entries
 pub mod Batches
-pub mod Lookups
-pub mod Logs
 pub mod Mapped
 pub mod Numbers
 pub mod Lines

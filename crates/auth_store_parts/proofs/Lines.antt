@@ -10,7 +10,7 @@ use Rattle.hex.specs.declared.error.FromHexError.{FromHexError}
 use Rattle.hex.proofs.HexLemmas.{decode_of-ok}
 use Rattle.merkle_forest_parts.specs.declared.codec.fixed_bytes.FixedBytes.{FixedBytes}
 use Rattle.auth_store_parts.specs.Script.{IsKey, IsNumber, decimal_value}
-use Rattle.auth_store_parts.specs.Line.{key_from, key_of, is_number, number_of, behind}
+use Rattle.auth_store_parts.specs.Line.{key_from, key_of, is_number, number_of, after}
 
 otherwise : (b : Bool) → (b ≡ true → ⊥) → b ≡ false
 otherwise true h = absurd (h refl)
@@ -62,30 +62,30 @@ key_none text h =
 
 -- ---- words at the front
 
-pub behind-append : (words rest : List ℕ) → behind words (words ++ rest) ≡ Some rest
-unfolding behind
-behind-append [] rest = refl
-behind-append (c ∷ words) rest =
-    ap (λ b. cond b (behind words (words ++ rest)) None) ((Decides-eqb c c).1 refl) ∙ behind-append words rest
+pub after-append : (words rest : List ℕ) → after words (words ++ rest) ≡ Some rest
+unfolding after
+after-append [] rest = refl
+after-append (c ∷ words) rest =
+    ap (λ b. cond b (after words (words ++ rest)) None) ((Decides-eqb c c).1 refl) ∙ after-append words rest
 
 one_more : (b c : ℕ) (text words rest : List ℕ) (o : Option (List ℕ)) → (o ≡ Some rest → text ≡ words ++ rest) → (t : Bool) → (t ≡ true → b ≡ c) → cond t o None ≡ Some rest → b ∷ text ≡ c ∷ (words ++ rest)
 one_more b c text words rest o more true same h = let head = same refl in let tail = more h in cc
 one_more b c text words rest o more false same h = cc
 
-pub behind-some : (words text rest : List ℕ) → behind words text ≡ Some rest → text ≡ words ++ rest
-unfolding behind
-behind-some [] text rest h = cc
-behind-some (c ∷ words) [] rest h = cc
-behind-some (c ∷ words) (b ∷ text) rest h =
-    one_more b c text words rest (behind words text) (behind-some words text rest) (eqb b c) ((Decides-eqb b c).0) h
+pub after-some : (words text rest : List ℕ) → after words text ≡ Some rest → text ≡ words ++ rest
+unfolding after
+after-some [] text rest h = cc
+after-some (c ∷ words) [] rest h = cc
+after-some (c ∷ words) (b ∷ text) rest h =
+    one_more b c text words rest (after words text) (after-some words text rest) (eqb b c) ((Decides-eqb b c).0) h
 
 never : {A : Type 0} (o : Option A) → ((x : A) → o ≡ Some x → ⊥) → o ≡ None
 never None h = refl
 never (Some x) h = absurd (h x refl)
 
-pub behind-none : (words text : List ℕ) → ((rest : List ℕ) → text ≢ words ++ rest) → behind words text ≡ None
-behind-none words text h = never (behind words text) (λ rest found. h rest (behind-some words text rest found))
+pub after-none : (words text : List ℕ) → ((rest : List ℕ) → text ≢ words ++ rest) → after words text ≡ None
+after-none words text h = never (after words text) (λ rest found. h rest (after-some words text rest found))
 
-pub behind_is : (words text : List ℕ) (r : Option (Bor (List ℕ))) → MatchOption r ((rest : List ℕ) → text ≢ words ++ rest) (λ x. text ≡ words ++ x.now) → MatchOption r (behind words text ≡ None) (λ x. behind words text ≡ Some x.now)
-behind_is words text None h = behind-none words text h
-behind_is words text (Some x) h = ap (behind words) h ∙ behind-append words x.now
+pub after_is : (words text : List ℕ) (r : Option (Bor (List ℕ))) → MatchOption r ((rest : List ℕ) → text ≢ words ++ rest) (λ x. text ≡ words ++ x.now) → MatchOption r (after words text ≡ None) (λ x. after words text ≡ Some x.now)
+after_is words text None h = after-none words text h
+after_is words text (Some x) h = ap (after words) h ∙ after-append words x.now

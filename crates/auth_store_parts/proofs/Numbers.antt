@@ -20,6 +20,6 @@ decimal_value_after-past n i limit cs h past =
     let more = decimal_value_after-le (n * 10 + (get_or cs i 0 - 48)) (drop (i + 1) cs) in
     omega (arith, step, more)
 
--- behind the last digit
+-- after the last digit
 pub decimal_value_after-end : (n i : ℕ) (cs : List ℕ) → length cs ≤ i → decimal_value_after n (drop i cs) ≡ n
 decimal_value_after-end n i cs h = ap (decimal_value_after n) (drop_all i cs h)

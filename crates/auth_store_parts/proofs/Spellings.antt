@@ -13,9 +13,9 @@ use Rattle.merkle_forest_parts.specs.declared.codec.fixed_bytes.FixedBytes.{Fixe
 use Rattle.auth_store_parts.specs.declared.script.line.Line.{Line}
 use Rattle.auth_store_parts.specs.declared.script.line.Line.TheVariants.{Empty, New, Open, Put, Commit, Get, Root, Prove, Proof, CheckValue}
 use Rattle.auth_store_parts.specs.Script.{IsNumber, decimal_value}
-use Rattle.auth_store_parts.specs.Line.{◌>>=◌, key_from, key_of, is_number, number_of, behind, key_and_number, begins, is_all, line_of, line_with_words}
+use Rattle.auth_store_parts.specs.Line.{◌>>=◌, key_from, key_of, is_number, number_of, after, key_and_number, begins, is_all, line_of, line_with_words}
 use Rattle.auth_store_parts.specs.Spelling.{SpellsKey, SpellsNumber, SpellsBoth, Spells}
-use Rattle.auth_store_parts.proofs.Lines.{number_some, passes_number, key_some, behind-append, behind-some}
+use Rattle.auth_store_parts.proofs.Lines.{number_some, passes_number, key_some, after-append, after-some}
 
 -- ---- a spelled line is read
 
@@ -47,12 +47,12 @@ both_read key n text (k, is_key, (rest, spelled, counts)) =
     let front : take 16 text ≡ k = ap (take 16) whole ∙ take_at k (codes " " ++ rest) 16 is_key.0.0 in
     let back : drop 16 text ≡ codes " " ++ rest = ap (drop 16) whole ∙ drop_at k (codes " " ++ rest) 16 is_key.0.0 in
     joined _ _ rest key n
-    (ap (behind (codes " ")) back ∙ behind-append (codes " ") rest)
+    (ap (after (codes " ")) back ∙ after-append (codes " ") rest)
     (ap key_of front ∙ key_read key k is_key)
     (number_read n rest counts)
 
 pub spelled_is_read : (line : Line) (text : List ℕ) → Spells line text → line_of text ≡ Some line
-unfolding behind
+unfolding after
 spelled_is_read Empty text h = ap line_of h
 spelled_is_read (New seed) text h = ap line_of h.1 ∙ ap (λ o. o >>= λ n. Some (New n)) (number_read seed h.0 h.2)
 spelled_is_read Open text h = ap line_of h
@@ -107,8 +107,8 @@ parted (Some digits) (Some key) p h =
 both_spelled : (p : FixedBytes 8 × ℕ) (text : List ℕ) → key_and_number text ≡ Some p → SpellsBoth p.0 p.1 text
 unfolding key_and_number
 both_spelled p text h =
-    let parts = parted (behind (codes " ") (drop 16 text)) (key_of (take 16 text)) p h in
-    let back : drop 16 text ≡ codes " " ++ parts.0 = behind-some (codes " ") (drop 16 text) parts.0 parts.1 in
+    let parts = parted (after (codes " ") (drop 16 text)) (key_of (take 16 text)) p h in
+    let back : drop 16 text ≡ codes " " ++ parts.0 = after-some (codes " ") (drop 16 text) parts.0 parts.1 in
     let whole : text ≡ (take 16 text ++ codes " ") ++ parts.0 =
     sym (take-append-drop 16 text) ∙ ap (λ l. take 16 text ++ l) back ∙ sym (append_assoc (take 16 text) (codes " ") parts.0) in
     (take 16 text, key_spelled p.0 (take 16 text) parts.2, (parts.0, whole, number_spelled p.1 parts.0 parts.3))
@@ -124,18 +124,18 @@ all_found words text line asked other spelled later h =
 begins_found : {X : Type 0} (words text : List ℕ) (asked : Line) (value : List ℕ → Option X) (line : X → Line) (other : Option Line)
     → ((rest : List ℕ) (x : X) → text ≡ words ++ rest → value rest ≡ Some x → Spells (line x) text)
     → (other ≡ Some asked → Spells asked text)
-    → begins (behind words text) (λ rest. value rest >>= λ x. Some (line x)) other ≡ Some asked → Spells asked text
+    → begins (after words text) (λ rest. value rest >>= λ x. Some (line x)) other ≡ Some asked → Spells asked text
 begins_found {X} words text asked value line other spelled later h =
-    let arms : (o : Option (List ℕ)) → behind words text ≡ o → begins o (λ rest. value rest >>= λ x. Some (line x)) other ≡ Some asked → Spells asked text =
-    λ o. elim o as (λ o'. behind words text ≡ o' → begins o' (λ rest. value rest >>= λ x. Some (line x)) other ≡ Some asked → Spells asked text) [
+    let arms : (o : Option (List ℕ)) → after words text ≡ o → begins o (λ rest. value rest >>= λ x. Some (line x)) other ≡ Some asked → Spells asked text =
+    λ o. elim o as (λ o'. after words text ≡ o' → begins o' (λ rest. value rest >>= λ x. Some (line x)) other ≡ Some asked → Spells asked text) [
       | None ↦ λ e f. later f
       | Some rest ↦ λ e f.
           let value_arms : (v : Option X) → value rest ≡ v → (v >>= λ x. Some (line x)) ≡ Some asked → Spells asked text =
           λ v. elim v as (λ v'. value rest ≡ v' → (v' >>= λ x. Some (line x)) ≡ Some asked → Spells asked text) [
             | None ↦ λ ev g. absurd (cc g)
-            | Some x ↦ λ ev g. let is : line x ≡ asked = ap (λ o. unwrap_or o asked) g in subst (λ l. Spells l text) is (spelled rest x (behind-some words text rest e) ev)
+            | Some x ↦ λ ev g. let is : line x ≡ asked = ap (λ o. unwrap_or o asked) g in subst (λ l. Spells l text) is (spelled rest x (after-some words text rest e) ev)
           ] in value_arms (value rest) refl f
-    ] in arms (behind words text) refl h
+    ] in arms (after words text) refl h
 
 words_spelled : (text : List ℕ) (asked : Line) → line_with_words text ≡ Some asked → Spells asked text
 words_spelled text asked =

@@ -9,7 +9,7 @@ pub data Word : Type 0 where
   put : List ℕ → List ℕ → Word
   delete : List ℕ → Word
 
--- what a word of the code says, given how its keys and its values are spelled
+-- what a word of the code says, given how its keys and its values are encoded
 abbrev pub meaning_of : {K V : Type 0} → (K → List ℕ) → (V → List ℕ) → code.Word K V → Word
 meaning_of key value (Put k v) = put (key k) (value v)
 meaning_of key value (Delete k) = delete (key k)

@@ -1,5 +1,5 @@
 -- Histories, the logs that stand for them, and which operations of a log are active.
-use Rattle.std.specs.Prelude.{ℕ, ◌+◌, Bool, true, false, T, not, ◌&&◌, if◌then◌else◌, List, [], ◌∷◌, ◌++◌, map, Option, None, Some, is_some}
+use Rattle.std.specs.Prelude.{◌≡◌, ℕ, ◌+◌, Bool, true, false, T, not, ◌&&◌, if◌then◌else◌, List, [], ◌∷◌, ◌++◌, map, Option, None, Some, is_some, slice_get}
 use Rattle.std.specs.Str.{bytes_eq}
 use Rattle.std.specs.FinMap.{is_sorted}
 use Rattle.std.specs.Ordering.{is_eq}
@@ -8,7 +8,7 @@ use Rattle.state_ops.specs.Operation.{Operation, delete, update, commit_floor, m
 use Rattle.state_ops.specs.declared.operation.Operation as code
 use Rattle.auth_store_parts.specs.Map.{Map, key_order, value_at, next_key, with_entry, without_key}
 
--- one commit: the state behind it and its metadata
+-- one commit: the state after it and its metadata
 pub record Commit : Type 0 where
   pub map : Map
   pub metadata : Option (List ℕ)
@@ -17,12 +17,12 @@ pub record Commit : Type 0 where
 abbrev pub History : Type 0
 History = List Commit
 
--- the state behind the newest commit
+-- the state after the newest commit
 abbrev pub latest_map : History → Map
 latest_map [] = []
 latest_map (commit ∷ history) = commit.map
 
--- what operations of the code say, given how their keys and their values are spelled
+-- what operations of the code say, given how their keys and their values are encoded
 abbrev pub meanings : {K V : Type 0} → (K → List ℕ) → (V → List ℕ) → List (code.Operation K V) → List Operation
 meanings key value operations = map (meaning_of key value) operations
 
@@ -86,19 +86,50 @@ activity_bits (operation ∷ later) = is_active operation later ∷ activity_bit
 abbrev pub is_active_update : Operation → List Operation → Bool
 is_active_update operation later = not (is_commit operation) && is_active operation later
 
--- the place of the first active update, or the number of operations where there is none, which is the place of the commit that follows
+-- the location of the first active update, or the number of operations where there is none, which is the location of the commit that follows
 abbrev pub inactivity_floor : List Operation → ℕ
 inactivity_floor [] = 0
 inactivity_floor (operation ∷ later) = if is_active_update operation later then 0 else inactivity_floor later + 1
 
--- the log with a commit at its end
-abbrev pub committed : List Operation → Option (List ℕ) → List Operation
-committed operations metadata = operations ++ commit_floor metadata (inactivity_floor operations) ∷ []
+-- operations with a commit at their end, which records the floor of the log with them
+abbrev pub with_commit : List Operation → List Operation → Option (List ℕ) → List Operation
+with_commit log changes metadata = changes ++ commit_floor metadata (inactivity_floor (log ++ changes)) ∷ []
 
--- the log of a history
+-- The rule of logs: what is appended to a log that led to the old state where a commit leads to the new one with this metadata.
+abbrev pub appended : List Operation → Map → Map → Option (List ℕ) → List Operation
+appended log old new metadata = with_commit log (batch_operations old new) metadata
+
+-- the log of a history: it begins with a commit of nothing
 abbrev pub log_of : History → List Operation
 log_of [] = commit_floor None 0 ∷ []
-log_of (commit ∷ history) = committed (log_of history ++ batch_operations (latest_map history) commit.map) commit.metadata
+log_of (commit ∷ history) = log_of history ++ appended (log_of history) (latest_map history) commit.map commit.metadata
+
+-- the floor that the last commit of a log records, or this one where it has none
+abbrev pub floor_after : ℕ → List Operation → ℕ
+floor_after floor [] = floor
+floor_after floor (delete key ∷ operations) = floor_after floor operations
+floor_after floor (update key value next ∷ operations) = floor_after floor operations
+floor_after floor (commit_floor metadata recorded ∷ operations) = floor_after recorded operations
+
+-- the floor that the last commit of a log records
+abbrev pub last_floor : List Operation → ℕ
+last_floor log = floor_after 0 log
+
+-- the location of the active update of a key, or the number of operations where there is none
+abbrev pub active_location : List ℕ → List Operation → ℕ
+active_location key [] = 0
+active_location key (operation ∷ later) = if is_active_on key operation later then 0 else active_location key later + 1
+
+-- the value and the next key that an update names
+abbrev pub update_fields : Option Operation → Option (List ℕ × List ℕ)
+update_fields None = None
+update_fields (Some (delete key)) = None
+update_fields (Some (update key value next)) = Some (value, next)
+update_fields (Some (commit_floor metadata floor)) = None
+
+-- the value and the next key that the active update of a key names
+abbrev pub active_update : List ℕ → List Operation → Option (List ℕ × List ℕ)
+active_update key log = update_fields (slice_get log (active_location key log))
 
 -- the state after an operation
 abbrev pub after_operation : Operation → Map → Map
@@ -131,3 +162,8 @@ IsState state = T (is_sorted key_order state)
 abbrev pub AreStates : History → Type 0
 AreStates [] = Unit {0}
 AreStates (commit ∷ history) = IsState commit.map × AreStates history
+
+-- this update of a key stands at the key's location in the log, and is active there: these are its value and its next key
+pub record StandsAt (key : List ℕ) (log : List Operation) (fields : List ℕ × List ℕ) : Type 0 where
+  pub update_at : slice_get log (active_location key log) ≡ Some (update key fields.0 fields.1)
+  pub bit_at : slice_get (activity_bits log) (active_location key log) ≡ Some true

@@ -5,3 +5,4 @@ pub mod Script
 pub mod Line
 pub mod Report
 pub mod Spelling
+pub mod Laws

@@ -33,16 +33,16 @@ abbrev pub ◌>>=◌ : {A B : Type 0} → Option A → (A → Option B) → Opti
 None >>= f = None
 (Some x) >>= f = f x
 
--- what stands behind these words at the front of a text
-unfoldable pub behind : List ℕ → List ℕ → Option (List ℕ)
-behind [] text = Some text
-behind (c ∷ words) [] = None
-behind (c ∷ words) (b ∷ text) = if b == c then behind words text else None
+-- what stands after these words at the front of a text
+unfoldable pub after : List ℕ → List ℕ → Option (List ℕ)
+after [] text = Some text
+after (c ∷ words) [] = None
+after (c ∷ words) (b ∷ text) = if b == c then after words text else None
 
 -- a key, a space and a number
 unfoldable pub key_and_number : List ℕ → Option (FixedBytes 8 × ℕ)
 key_and_number text = do
-  digits ← behind (codes " ") (drop 16 text)
+  digits ← after (codes " ") (drop 16 text)
   key ← key_of (take 16 text)
   number ← number_of digits
   Some (key, number)
@@ -58,12 +58,12 @@ is_all words text line other = if bytes_eq text words then Some line else other
 
 abbrev pub line_with_words : List ℕ → Option Line
 line_with_words text =
-    begins (behind (codes "new mmr ") text) (λ seed. number_of seed >>= λ n. Some (New n)) (
-    begins (behind (codes "put ") text) (λ words. key_and_number words >>= λ p. Some (Put p.0 p.1)) (
-    begins (behind (codes "commit ") text) (λ metadata. number_of metadata >>= λ n. Some (Commit (Some n))) (
-    begins (behind (codes "get ") text) (λ key. key_of key >>= λ k. Some (Get k)) (
-    begins (behind (codes "prove ") text) (λ key. key_of key >>= λ k. Some (Prove k)) (
-    begins (behind (codes "check value ") text) (λ words. key_and_number words >>= λ p. Some (CheckValue p.0 p.1))
+    begins (after (codes "new mmr ") text) (λ seed. number_of seed >>= λ n. Some (New n)) (
+    begins (after (codes "put ") text) (λ words. key_and_number words >>= λ p. Some (Put p.0 p.1)) (
+    begins (after (codes "commit ") text) (λ metadata. number_of metadata >>= λ n. Some (Commit (Some n))) (
+    begins (after (codes "get ") text) (λ key. key_of key >>= λ k. Some (Get k)) (
+    begins (after (codes "prove ") text) (λ key. key_of key >>= λ k. Some (Prove k)) (
+    begins (after (codes "check value ") text) (λ words. key_and_number words >>= λ p. Some (CheckValue p.0 p.1))
     None)))))
 
 -- the line that a text spells

@@ -1,5 +1,5 @@
--- A state: its keys and values in ascending byte order of keys. A key or a value is its own spelling, a list of bytes.
-use Rattle.std.specs.Prelude.{ℕ, List, [], ◌∷◌, ◌++◌, Option, map, filter}
+-- A state: its keys and values in ascending byte order of keys. A key or a value is its own encoding, a list of bytes.
+use Rattle.std.specs.Prelude.{ℕ, List, [], ◌∷◌, ◌++◌, Option, option_map, map, filter}
 use Rattle.std.specs.Ordering.{nat_cmp, is_lt}
 use Rattle.std.specs.declared.cmp.Ordering.{Ordering}
 use Rattle.std.specs.Cmp.Lexicographic.{slice_cmp}
@@ -39,6 +39,10 @@ first_key (e ∷ es) = e.0
 abbrev pub next_key : Map → List ℕ → List ℕ
 next_key state key = first_key (above state key ++ state)
 
--- the state of a map of the code, given how its keys and its values are spelled
+-- the value of a key in a state and its next key, where the key is there
+abbrev pub entry_of : Map → List ℕ → Option (List ℕ × List ℕ)
+entry_of state key = option_map (λ value. (value, next_key state key)) (value_at state key)
+
+-- the state of a map of the code, given how its keys and its values are encoded
 abbrev pub state_of : {K V : Type 0} → (K → List ℕ) → (V → List ℕ) → List (K × V) → Map
 state_of key value entries = map (λ e. (key e.0, value e.1)) entries

@@ -8,7 +8,7 @@ use Rattle.hex.specs.Hex.{is_hex_digit}
 abbrev pub IsKey : List ℕ → Type 0
 IsKey text = (length text ≡ 16) × AllPass is_hex_digit text
 
--- the value of decimal digits that stand behind those of n
+-- the value of decimal digits that stand after those of n
 abbrev pub decimal_value_after : ℕ → List ℕ → ℕ
 decimal_value_after n [] = n
 decimal_value_after n (c ∷ cs) = decimal_value_after (n * 10 + (c - 48)) cs

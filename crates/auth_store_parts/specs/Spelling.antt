@@ -14,7 +14,7 @@ SpellsKey key text = IsKey text × (decode_of text ≡ Ok key.bytes)
 abbrev pub SpellsNumber : ℕ → List ℕ → Type 0
 SpellsNumber n text = IsNumber text × (decimal_value text ≡ n)
 
--- these words, and behind them more
+-- these words, and after them more
 abbrev pub Begins : List ℕ → (List ℕ → Type 0) → List ℕ → Type 0
 Begins words P text = (rest : List ℕ) × (text ≡ words ++ rest) × P rest
 

@@ -1,6 +1,6 @@
 //! Batches of changes to a state.
 
-ghost use Rattle.std.specs.Prelude.{◌≡◌, [], ◌∷◌, ◌++◌, OnOk, OnErr};
+ghost use Rattle.std.specs.Prelude.{◌≡◌, [], ◌∷◌, ◌++◌, IfOk, OnOk, OnErr};
 ghost use Rattle.auth_store_parts.specs.Batch.{meanings, meaning_of, put, delete, after_word, map_after};
 ghost use Rattle.auth_store_parts.specs.Map.{state_of};
 
@@ -35,29 +35,32 @@ impl<K: Key, V: FixedValue> Batch<K, V> {
         }
     }
 
-    /// Says that the key has this value. It fails for want of memory alone, and the batch then stays as it was.
+    /// Says that the key has this value. It fails only when out of memory, and the batch then stays as it was.
     pub fn put(&mut self, key: K, value: V) -> Result<(), AllocError>
-        ensures ok { OnOk result (meanings K.spelling V.spelling self.new.words.items ≡ meanings K.spelling V.spelling self.old.words.items ++ put (K.spelling key) (V.spelling value) ∷ []) }
+        ensures ok { OnOk result (meanings K.encoding V.encoding self.new.words.items
+            ≡ meanings K.encoding V.encoding self.old.words.items ++ put (K.encoding key) (V.encoding value) ∷ []) }
         ensures err { OnErr result (self.new.words.items ≡ self.old.words.items) }
     {
         Ok(self.words.push(Word::Put(key, value))?)
     }
 
-    /// Says that the key is gone. It fails for want of memory alone, and the batch then stays as it was.
+    /// Says that the key is gone. It fails only when out of memory, and the batch then stays as it was.
     pub fn delete(&mut self, key: K) -> Result<(), AllocError>
-        ensures ok { OnOk result (meanings K.spelling V.spelling self.new.words.items ≡ meanings K.spelling V.spelling self.old.words.items ++ delete (K.spelling key) ∷ []) }
+        ensures ok { OnOk result (meanings K.encoding V.encoding self.new.words.items
+            ≡ meanings K.encoding V.encoding self.old.words.items ++ delete (K.encoding key) ∷ []) }
         ensures err { OnErr result (self.new.words.items ≡ self.old.words.items) }
     {
         Ok(self.words.push(Word::Delete(key))?)
     }
 }
 
-/// Applies one word to the state. It fails for want of memory alone, and the state then stays as it was.
+/// Applies one word to the state. It fails only when out of memory, and the state then stays as it was.
 fn apply_word<K: Key, V: FixedValue>(
     state: &mut BTreeMap<K, V>,
     word: &Word<K, V>,
 ) -> Result<(), AllocError>
-    ensures ok { OnOk result (state_of K.spelling V.spelling state.new.entries ≡ after_word (meaning_of K.spelling V.spelling word.now) (state_of K.spelling V.spelling state.old.entries)) }
+    ensures ok { OnOk result (state_of K.encoding V.encoding state.new.entries
+        ≡ after_word (meaning_of K.encoding V.encoding word.now) (state_of K.encoding V.encoding state.old.entries)) }
     ensures err { OnErr result (state.new.entries ≡ state.old.entries) }
 {
     match word {
@@ -69,17 +72,18 @@ fn apply_word<K: Key, V: FixedValue>(
     }
 }
 
-/// Applies the batch's words to the state, in the order in which they were said. It fails for want of memory alone, and some words may then have been applied.
+/// The state after the batch's words, in the order in which they were said. It fails only when out of memory; the state is
+/// then gone, so hand in a copy where it is still wanted.
 pub fn apply_batch<K: Key, V: FixedValue>(
-    state: &mut BTreeMap<K, V>,
+    state: BTreeMap<K, V>,
     batch: &Batch<K, V>,
-) -> Result<(), AllocError>
-    ensures { OnOk result (state_of K.spelling V.spelling state.new.entries ≡ map_after (meanings K.spelling V.spelling batch.now.words.items) (state_of K.spelling V.spelling state.old.entries)) }
+) -> Result<BTreeMap<K, V>, AllocError>
+    ensures { IfOk result (λ after. state_of K.encoding V.encoding after.entries
+        ≡ map_after (meanings K.encoding V.encoding batch.now.words.items) (state_of K.encoding V.encoding state.entries)) }
 {
-    let mut rest = batch.words.as_slice();
-    while let [word, later @ ..] = rest {
-        apply_word(state, word)?;
-        rest = later;
+    let mut after = state;
+    for word in &batch.words {
+        apply_word(&mut after, word)?;
     }
-    Ok(())
+    Ok(after)
 }

@@ -5,8 +5,8 @@ pub mod changes;
 pub mod laws;
 pub mod replay;
 
-pub use activity::{activity_bits, inactivity_floor};
-pub use changes::batch_operations;
+pub use activity::{active_location, activity_bits, inactivity_floor};
+pub use changes::{batch_operations, changes_of};
 pub use replay::latest_map_of;
 
 #[cfg(test)]

@@ -1,4 +1,3 @@
-pub mod Spellings
 pub mod Places
 pub mod Rebuilds
 pub mod Walks
@@ -9,4 +8,3 @@ pub mod Splits
 pub mod Bags
 pub mod Accepted
 pub mod Short
-pub mod Sized

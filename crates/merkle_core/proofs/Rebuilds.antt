@@ -3,7 +3,7 @@ use Rattle.std.proofs.Common.{◌≡◌, ℕ, ◌+◌, ◌-◌, true, false, ltb
 use Rattle.std.specs.Prelude.{slice_get}
 use Rattle.std.proofs.lemmas.List.{map-append, length-append}
 use Rattle.merkle_forest.specs.Forest.{Tree, branch, position, height, leaf_count, Rule}
-use Rattle.merkle_core.specs.Rebuilt.{Hashing, last_of, before_last, joined, rebuilt, IsTreeAt, IsChildOver}
+use Rattle.merkle_core.specs.Rebuilt.{Hashing, last_of, before_last, option_map2, rebuilt, IsTreeAt, IsChildOver}
 
 -- a branch over the digests of its children
 abbrev pub join_of : Hashing → Tree → List ℕ → List ℕ → List ℕ
@@ -26,49 +26,78 @@ last_of-append ds d = ap (slice_get (ds ++ d ∷ [])) (one_less ds d) ∙ at_end
 before_last-append : (ds : List (List ℕ)) (d : List ℕ) → before_last (ds ++ d ∷ []) ≡ ds
 before_last-append ds d = ap (λ n. take n (ds ++ d ∷ [])) (one_less ds d) ∙ front_of ds d
 
-branch_cases : (hashing : Hashing) (location : ℕ) (element : List ℕ) (first p : ℕ) (left right : Tree) (d : List ℕ) (ds : List (List ℕ)) → ltb location (first + leaf_count left) ≡ true
+branch_cases : (hashing : Hashing) (location : ℕ) (element : List ℕ) (first p : ℕ) (left right : Tree) (d : List ℕ)
+    (ds : List (List ℕ)) → ltb location (first + leaf_count left) ≡ true
     → rebuilt hashing location element first (branch p left right) (d ∷ ds)
-    ≡ joined (join_of hashing (branch p left right)) (rebuilt hashing location element first left (before_last (d ∷ ds))) (last_of (d ∷ ds))
+    ≡ option_map2 (join_of hashing (branch p left right))
+    (rebuilt hashing location element first left (before_last (d ∷ ds))) (last_of (d ∷ ds))
 branch_cases hashing location element first p left right d ds below = rw below refl
 
 -- over its left child the last digest is its sibling's
-pub rebuilt-left : (hashing : Hashing) (location : ℕ) (element : List ℕ) (first p : ℕ) (left right : Tree) (ds : List (List ℕ)) (d : List ℕ) → ltb location (first + leaf_count left) ≡ true
-    → rebuilt hashing location element first (branch p left right) (ds ++ d ∷ []) ≡ joined (join_of hashing (branch p left right)) (rebuilt hashing location element first left ds) (Some d)
-rebuilt-left hashing location element first p left right [] d below = branch_cases hashing location element first p left right d [] below
-    ∙ ap (λ own. joined (join_of hashing (branch p left right)) (rebuilt hashing location element first left own) (last_of (d ∷ []))) (before_last-append [] d)
-    ∙ ap (λ own. joined (join_of hashing (branch p left right)) (rebuilt hashing location element first left []) own) (last_of-append [] d)
+pub rebuilt-left : (hashing : Hashing) (location : ℕ) (element : List ℕ) (first p : ℕ) (left right : Tree)
+    (ds : List (List ℕ)) (d : List ℕ) → ltb location (first + leaf_count left) ≡ true
+    → rebuilt hashing location element first (branch p left right) (ds ++ d ∷ [])
+    ≡ option_map2 (join_of hashing (branch p left right)) (rebuilt hashing location element first left ds) (Some d)
+rebuilt-left hashing location element first p left right [] d below =
+    branch_cases hashing location element first p left right d [] below
+    ∙ ap (λ own. option_map2 (join_of hashing (branch p left right)) (rebuilt hashing location element first left own)
+    (last_of (d ∷ []))) (before_last-append [] d)
+    ∙ ap (λ own. option_map2 (join_of hashing (branch p left right))
+    (rebuilt hashing location element first left []) own) (last_of-append [] d)
 rebuilt-left hashing location element first p left right (e ∷ ds) d below =
     branch_cases hashing location element first p left right e (ds ++ d ∷ []) below
-    ∙ ap (λ own. joined (join_of hashing (branch p left right)) (rebuilt hashing location element first left own) (last_of (e ∷ ds ++ d ∷ []))) (before_last-append (e ∷ ds) d)
-    ∙ ap (λ own. joined (join_of hashing (branch p left right)) (rebuilt hashing location element first left (e ∷ ds)) own) (last_of-append (e ∷ ds) d)
+    ∙ ap (λ own. option_map2 (join_of hashing (branch p left right)) (rebuilt hashing location element first left own)
+    (last_of (e ∷ ds ++ d ∷ []))) (before_last-append (e ∷ ds) d)
+    ∙ ap (λ own. option_map2 (join_of hashing (branch p left right))
+    (rebuilt hashing location element first left (e ∷ ds)) own) (last_of-append (e ∷ ds) d)
 
 -- over its right child the first digest is its sibling's
-pub rebuilt-right : (hashing : Hashing) (location : ℕ) (element : List ℕ) (first p : ℕ) (left right : Tree) (ds : List (List ℕ)) (d : List ℕ) → ltb location (first + leaf_count left) ≡ false
-    → rebuilt hashing location element first (branch p left right) (d ∷ ds) ≡ joined (join_of hashing (branch p left right)) (Some d) (rebuilt hashing location element (first + leaf_count left) right ds)
+pub rebuilt-right : (hashing : Hashing) (location : ℕ) (element : List ℕ) (first p : ℕ) (left right : Tree)
+    (ds : List (List ℕ)) (d : List ℕ) → ltb location (first + leaf_count left) ≡ false
+    → rebuilt hashing location element first (branch p left right) (d ∷ ds)
+    ≡ option_map2 (join_of hashing (branch p left right)) (Some d)
+    (rebuilt hashing location element (first + leaf_count left) right ds)
 rebuilt-right hashing location element first p left right ds d above = rw above refl
 
 -- the same of the code's digests, for whatever the child's digest is
-pub over_left : {D : Type 0} (spelling : D → List ℕ) (hashing : Hashing) (rule : Rule) (location : ℕ) (element : List ℕ) (first : ℕ) (node : Tree) (begins at high : ℕ)
-    → IsChildOver rule location first node true begins at high → (digests rest : List D) (sibling : D) → digests ≡ rest ++ sibling ∷ [] → (own : Option (List ℕ))
-    → ((child : Tree) → IsTreeAt rule begins at high child → own ≡ rebuilt hashing location element begins child (map spelling rest))
-    → joined (join_of hashing node) own (Some (spelling sibling)) ≡ rebuilt hashing location element first node (map spelling digests)
-over_left spelling hashing rule location element first node begins at high it digests rest sibling split own is =
+pub over_left : {D : Type 0} (encoding : D → List ℕ) (hashing : Hashing) (rule : Rule) (location : ℕ)
+    (element : List ℕ) (first : ℕ) (node : Tree) (begins at high : ℕ)
+    → IsChildOver rule location first node true begins at high → (digests rest : List D) (sibling : D)
+    → digests ≡ rest ++ sibling ∷ [] → (own : Option (List ℕ))
+    → ((child : Tree) → IsTreeAt rule begins at high child
+    → own ≡ rebuilt hashing location element begins child (map encoding rest))
+    → option_map2 (join_of hashing node) own (Some (encoding sibling))
+    ≡ rebuilt hashing location element first node (map encoding digests)
+over_left encoding hashing rule location element first node begins at high it digests rest sibling split own is =
     let there = it.at_left refl in
-    let child : own ≡ rebuilt hashing location element first it.left (map spelling rest) = is it.left there.1 ∙ ap (λ n. rebuilt hashing location element n it.left (map spelling rest)) there.0 in
-    let bytes : map spelling digests ≡ map spelling rest ++ spelling sibling ∷ [] = ap (map spelling) split ∙ map-append spelling rest (sibling ∷ []) in
-    rw (it.is, bytes, child) (sym (rebuilt-left hashing location element first it.p it.left it.right (map spelling rest) (spelling sibling) (sym it.side)))
+    let child : own ≡ rebuilt hashing location element first it.left (map encoding rest) = is it.left there.1
+    ∙ ap (λ n. rebuilt hashing location element n it.left (map encoding rest)) there.0 in
+    let bytes : map encoding digests ≡ map encoding rest ++ encoding sibling ∷ [] = ap (map encoding) split
+    ∙ map-append encoding rest (sibling ∷ []) in
+    rw (it.is, bytes, child)
+    (sym (rebuilt-left hashing location element first it.p it.left it.right (map encoding rest) (encoding sibling)
+    (sym it.side)))
 
-pub over_right : {D : Type 0} (spelling : D → List ℕ) (hashing : Hashing) (rule : Rule) (location : ℕ) (element : List ℕ) (first : ℕ) (node : Tree) (begins at high : ℕ)
-    → IsChildOver rule location first node false begins at high → (digests rest : List D) (sibling : D) → digests ≡ sibling ∷ rest → (own : Option (List ℕ))
-    → ((child : Tree) → IsTreeAt rule begins at high child → own ≡ rebuilt hashing location element begins child (map spelling rest))
-    → joined (join_of hashing node) (Some (spelling sibling)) own ≡ rebuilt hashing location element first node (map spelling digests)
-over_right spelling hashing rule location element first node begins at high it digests rest sibling split own is =
+pub over_right : {D : Type 0} (encoding : D → List ℕ) (hashing : Hashing) (rule : Rule) (location : ℕ)
+    (element : List ℕ) (first : ℕ) (node : Tree) (begins at high : ℕ)
+    → IsChildOver rule location first node false begins at high → (digests rest : List D) (sibling : D)
+    → digests ≡ sibling ∷ rest → (own : Option (List ℕ))
+    → ((child : Tree) → IsTreeAt rule begins at high child
+    → own ≡ rebuilt hashing location element begins child (map encoding rest))
+    → option_map2 (join_of hashing node) (Some (encoding sibling)) own
+    ≡ rebuilt hashing location element first node (map encoding digests)
+over_right encoding hashing rule location element first node begins at high it digests rest sibling split own is =
     let there = it.at_right refl in
-    let child : own ≡ rebuilt hashing location element (first + leaf_count it.left) it.right (map spelling rest) = is it.right there.1 ∙ ap (λ n. rebuilt hashing location element n it.right (map spelling rest)) there.0 in
-    let bytes : map spelling digests ≡ spelling sibling ∷ map spelling rest = ap (map spelling) split in
-    rw (it.is, bytes, child) (sym (rebuilt-right hashing location element first it.p it.left it.right (map spelling rest) (spelling sibling) (sym it.side)))
+    let child : own ≡ rebuilt hashing location element (first + leaf_count it.left) it.right (map encoding rest) =
+    is it.right there.1 ∙ ap (λ n. rebuilt hashing location element n it.right (map encoding rest)) there.0 in
+    let bytes : map encoding digests ≡ encoding sibling ∷ map encoding rest = ap (map encoding) split in
+    rw (it.is, bytes, child)
+    (sym (rebuilt-right hashing location element first it.p it.left it.right (map encoding rest)
+    (encoding sibling) (sym it.side)))
 
 -- what the code joins
-pub joined_is : (hashing : Hashing) (node : Tree) (high p : ℕ) (outcome own left right : List ℕ) → high ≡ height node → p ≡ position node → outcome ≡ hashing.over high own
-    → own ≡ hashing.node_of p left right → Some outcome ≡ joined (join_of hashing node) (Some left) (Some right)
-joined_is hashing node high p outcome own left right level place over_is own_is = rw (over_is, own_is, level, place) refl
+pub joined_is : (hashing : Hashing) (node : Tree) (high p : ℕ) (outcome own left right : List ℕ) → high ≡ height node
+    → p ≡ position node → outcome ≡ hashing.over high own
+    → own ≡ hashing.node_of p left right → Some outcome ≡ option_map2 (join_of hashing node) (Some left) (Some right)
+joined_is hashing node high p outcome own left right level subtree over_is own_is =
+    rw (over_is, own_is, level, subtree) refl

@@ -1,7 +1,8 @@
-pub mod Ranges
+pub mod Followed
+pub mod Laws
 pub mod Proofs
+pub mod Ranges
 pub mod RangesCode
 pub mod Rebuilt
 pub mod Reconstructed
 pub mod Walked
-pub mod Followed

@@ -2,9 +2,9 @@
 use Rattle.std.specs.Prelude.{Bool}
 use Rattle.merkle_core.specs.declared.ranges.Side.{Side}
 use Rattle.merkle_core.specs.declared.ranges.Side.TheVariants.{Before, After}
-use Rattle.merkle_forest.specs.Trees.{Placed}
+use Rattle.merkle_forest.specs.Trees.{Located}
 use Rattle.merkle_core.specs.Ranges.{is_before, is_after}
 
-abbrev pub stands : Side → Placed → Bool
+abbrev pub stands : Side → Located → Bool
 stands (Before start) peak = is_before start peak
 stands (After stop) peak = is_after stop peak

@@ -18,9 +18,9 @@ abbrev pub before_last : List (List ℕ) → List (List ℕ)
 before_last digests = take (length digests - 1) digests
 
 -- a branch over the tree that holds the element and its sibling, where both are there
-abbrev pub joined : (List ℕ → List ℕ → List ℕ) → Option (List ℕ) → Option (List ℕ) → Option (List ℕ)
-joined join (Some left) (Some right) = Some (join left right)
-joined join left right = None
+abbrev pub option_map2 : (List ℕ → List ℕ → List ℕ) → Option (List ℕ) → Option (List ℕ) → Option (List ℕ)
+option_map2 join (Some left) (Some right) = Some (join left right)
+option_map2 join left right = None
 
 -- the digest of a tree over the location, from the digests of the maximal nodes that do not hold it, from left to right
 abbrev pub rebuilt : Hashing → ℕ → List ℕ → ℕ → Tree → List (List ℕ) → Option (List ℕ)
@@ -30,23 +30,24 @@ rebuilt hashing location element at (branch p left right) [] = None
 rebuilt hashing location element at (branch p left right) (d ∷ digests) =
     let join : List ℕ → List ℕ → List ℕ = λ x y. hashing.over (height (branch p left right)) (hashing.node_of p x y) in
     if nat_lt location (at + leaf_count left)
-    then joined join (rebuilt hashing location element at left (before_last (d ∷ digests))) (last_of (d ∷ digests))
-    else joined join (Some d) (rebuilt hashing location element (at + leaf_count left) right digests)
+    then option_map2 join (rebuilt hashing location element at left (before_last (d ∷ digests))) (last_of (d ∷ digests))
+    else option_map2 join (Some d) (rebuilt hashing location element (at + leaf_count left) right digests)
 
--- the tree at this place: a node of a forest of the rule
+-- the tree at this subtree: a node of a forest of the rule
 pub record IsTreeAt (rule : Rule) (first at high : ℕ) (node : Tree) : Type 0 where
   pub leaf_total : ℕ
   pub few : leaf_total ≤ 2 ^ 62
   pub stands : IsNodeAt first node (forest_of rule leaf_total)
-  pub place : at ≡ position node
+  pub subtree : at ≡ position node
   pub level : high ≡ height node
 
--- some tree stands at this place
+-- some tree stands at this subtree
 abbrev pub HasTree : Rule → ℕ → ℕ → ℕ → Type 0
 HasTree rule first at high = (node : Tree) × IsTreeAt rule first at high node
 
 -- the child of the node that holds the location: whether it is the left one, and where it stands
-pub record IsChildOver (rule : Rule) (location first : ℕ) (node : Tree) (is_left : Bool) (begins at high : ℕ) : Type 0 where
+pub record IsChildOver (rule : Rule) (location first : ℕ) (node : Tree) (is_left : Bool)
+    (begins at high : ℕ) : Type 0 where
   pub p : ℕ
   pub left : Tree
   pub right : Tree

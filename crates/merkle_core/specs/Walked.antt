@@ -4,7 +4,7 @@ use Rattle.merkle_forest.specs.Forest.{Tree, leaf_count, Rule, forest_of}
 use Rattle.merkle_forest.specs.Nodes.{IsPeakAt}
 use Rattle.merkle_core.specs.Rebuilt.{IsTreeAt}
 
--- the peak that begins at `first` stands at this place, and the next one begins behind its last leaf
+-- the peak that begins at `first` stands at this subtree, and the next one begins after its last leaf
 pub record IsPeakFrom (rule : Rule) (leaves first begins at high end : ℕ) : Type 0 where
   pub node : Tree
   pub stands : IsPeakAt first node (forest_of rule leaves)

@@ -1,5 +1,5 @@
-//! Merkle proofs of the forest. The crate ports a part of `merkle` of commonware-storage 2026.10.0; `In the Rust` names what an
-//! item is there.
+//! Merkle proofs of the forest. The crate ports a part of `merkle` of commonware-storage 2026.10.0; `In the Rust` names
+//! what an item is there.
 #![tactic(auto)]
 
 pub mod laws;
@@ -9,7 +9,7 @@ pub mod rebuild;
 pub mod reconstruct;
 pub mod walk;
 
-pub use proof::Proof;
+pub use proof::{MAX_PROOF_DIGESTS_PER_ELEMENT, Proof};
 
 #[cfg(test)]
 mod tests;

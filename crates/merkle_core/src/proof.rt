@@ -1,32 +1,96 @@
-//! Merkle proofs and how they are written.
+//! Merkle proofs and how they are written and read.
 
-ghost use Rattle.std.specs.Prelude.{◌≡◌, ◌<◌, ◌^◌, ◌++◌, ℕ, List, map, length, OnOk};
-ghost use Rattle.merkle_core.specs.Proofs.{proof_spelling};
+ghost use Rattle.std.specs.Prelude.{◌≡◌, ◌<◌, ◌≤◌, ◌^◌, ◌++◌, ℕ, List, map, length, Ok, OnOk, OnErr};
+ghost use Rattle.merkle_forest.specs.Codec.{Extends};
+ghost use Rattle.merkle_forest.specs.Lists.{AreItems};
+ghost use Rattle.merkle_core.specs.Proofs.{proof_encoding, after_proof, ProofLacks};
 
 use merkle_forest::Digest;
-use merkle_forest::codec::Write;
-use merkle_forest::codec::varint::write_number;
-use std::alloc::AllocError;
+use merkle_forest::codec::{
+    Cursor, EncodeSize, Error, RangeCfg, Read, Write, number_size, or_undo, read_number,
+    write_number,
+};
+use merkle_forest::family::Family;
+use merkle_forest::location::Location;
+use std::alloc::{AllocError, Global};
 
-/// A proof against a root: the leaf count, the count of inactive peaks, and digests of nodes.
-/// In the Rust: `merkle::proof::Proof`, whose leaf count is a `merkle::Location`.
-#[derive(Drop)]
-pub struct Proof<D> {
+/// The greatest count of digests in the proof of one element. In the Rust: `merkle::MAX_PROOF_DIGESTS_PER_ELEMENT`.
+pub const MAX_PROOF_DIGESTS_PER_ELEMENT: usize = 122;
+
+/// A proof against a root: the leaf count, the count of inactive peaks, and digests of nodes. Its encoding is these in
+/// order. Reading takes the greatest count of digests; more are C6, and a leaf count past 2^62 is C7.
+/// In the Rust: `merkle::proof::Proof`, whose count of peaks is a usize.
+#[derive(Debug, PartialEq, Eq, Drop)]
+pub struct Proof<F: Family, D: Digest> {
     /// How many leaves the tree has.
-    pub leaves: u64,
+    pub leaves: Location<F>,
     /// How many peaks are inactive.
     pub inactive_peaks: u64,
     /// The digests, in the order of the range proof.
     pub digests: Vec<D>,
 }
 
-/// Appends the proof's spelling: leaf count, count of inactive peaks, count of digests, digests. It fails for want of memory
-/// alone, and what was appended is then open. In the Rust: `commonware_codec::Write::write` of a proof, which never fails.
-pub fn write_proof<D: Digest>(proof: &Proof<D>, out: &mut Vec<u8>) -> Result<(), AllocError>
-    ensures { OnOk result (out.new.items ≡ out.old.items ++ proof_spelling proof.now.leaves proof.now.inactive_peaks (map D.spelling proof.now.digests.items)) }
+// Appends the encoding. Out of memory, some of its bytes may have been appended.
+fn write_parts<F: Family, D: Digest>(
+    proof: &Proof<F, D>,
+    out: &mut Vec<u8>,
+) -> Result<(), AllocError>
+    ensures ok { OnOk result (out.new.items ≡ out.old.items
+        ++ proof_encoding proof.now.leaves proof.now.inactive_peaks (map D.encoding proof.now.digests.items)) }
+    ensures err { OnErr result (Extends out.old.items out.new.items) }
+    ensures leaves { OnOk result (proof.now.leaves < 2 ^ 64) }
+    ensures inactive { OnOk result (proof.now.inactive_peaks < 2 ^ 64) }
+    ensures digests { OnOk result (AreItems D.is_value proof.now.digests.items) }
 {
-    write_number(out, proof.leaves)?;
+    proof.leaves.write(out)?;
     write_number(out, proof.inactive_peaks)?;
-    proof.digests.write(out)?;
-    Ok(())
+    proof.digests.write(out)
+}
+
+impl<F: Family, D: Digest> Write for Proof<F, D> {
+    ghost encoding = { λ p. proof_encoding p.leaves p.inactive_peaks (map D.encoding p.digests.items) };
+
+    ghost is_value = { λ p. (p.leaves < 2 ^ 64) × (p.inactive_peaks < 2 ^ 64) × AreItems D.is_value p.digests.items };
+
+    fn write(&self, out: &mut Vec<u8>) -> Result<(), AllocError> {
+        let start = out.len();
+        or_undo(write_parts(self, out), out, start)
+    }
+}
+
+impl<F: Family, D: Digest> EncodeSize for Proof<F, D> {
+    fn encode_size(&self) -> usize {
+        self.leaves.encode_size() + number_size(self.inactive_peaks) + self.digests.encode_size()
+    }
+}
+
+impl<F: Family, D: Digest> Read for Proof<F, D> {
+    ghost use Rattle.merkle_core.specs.Laws.Proofs.{read_parts_again};
+
+    type Cfg = usize;
+
+    ghost after = { λ most bytes. after_proof (D.after tt) most bytes };
+
+    ghost may_lack = { λ most bytes. ProofLacks most bytes };
+
+    ghost is_within = { λ most p. (p.leaves ≤ 2 ^ 62) × (length p.digests.items ≤ most) };
+
+    fn read_cfg(
+        alloc: Global,
+        cursor: &mut Cursor<'_>,
+        most: &usize,
+    ) -> Result<Proof<F, D>, Error> {
+        let leaves = Location::read_cfg(alloc, cursor, &())?;
+        let inactive_peaks = read_number(cursor)?;
+        let digests = Vec::read_cfg(alloc, cursor, &RangeCfg::new(0, *most))?;
+        Ok(Proof {
+            leaves,
+            inactive_peaks,
+            digests,
+        })
+    }
+
+    ghost read_again = { λ most p rest value within.
+        read_parts_again D.encoding (D.after tt) D.is_value D.SIZE D.sized D.any_bytes most p.leaves p.inactive_peaks
+        p.digests.items rest value.0 value.1 value.2 within.0 within.1 };
 }

@@ -1,4 +1,19 @@
 //! The digests of a range proof: the plain program of the definition (own).
+//!
+//! A Merkle Mountain Range of 11 leaves has three peaks, at the positions 14, 17 and 18:
+//!
+//! ```text
+//!               14
+//!        6             13
+//!     2     5       9      12      17
+//!    0 1   3 4     7 8   10  11   15 16   18      positions
+//!    0 1   2 3     4 5    6   7    8  9   10      leaves
+//! ```
+//!
+//! The proof of leaf 2 has, in this order: nothing for the peaks before 14, since there is none; one digest for the
+//! peaks after it, 17 and 18 folded from the right (by `ForwardFold` one for each); and the maximal nodes in 14 that
+//! do not hold the leaf, from left to right: 2, 4, 13. What lies outside the peak comes first, so that a reader knows
+//! by counts alone where the path begins.
 
 ghost use Rattle.std.specs.Prelude.{◌≡◌, ◌<◌, ◌≤◌, ◌+◌, ◌^◌, ◌++◌, [], ◌∷◌, ℕ, List, map, filter, take, drop, length, IfOk, OnOk, IsTrue, ◌↔◌, true, Bool};
 ghost use Rattle.std.specs.List.{AllByRecursion};
@@ -39,7 +54,8 @@ fn append_siblings<D: Digest, T: TreeDigests<D>>(
 ) -> Result<(), AllocError>
     requires small { at + leaf_count (shape tree.now) < 2 ^ 64 }
     requires within { at + leaf_count (shape tree.now) ≤ T.element_count digests.now }
-    ensures { OnOk result (map D.spelling found.new.items ≡ map D.spelling found.old.items ++ siblings (T.digest_at digests.now) start stop at (shape tree.now)) }
+    ensures { OnOk result (map D.encoding found.new.items
+        ≡ map D.encoding found.old.items ++ siblings (T.digest_at digests.now) start stop at (shape tree.now)) }
 {
     let meets = tree_meets(start, stop, at, tree);
     match tree {
@@ -57,7 +73,7 @@ fn append_siblings<D: Digest, T: TreeDigests<D>>(
 pub enum Side {
     /// Before this first leaf of the range.
     Before(u64),
-    /// Behind the range, which ends before this leaf.
+    /// After the range, which ends before this leaf.
     After(u64),
 }
 
@@ -81,7 +97,9 @@ fn append_side<D: Digest, T: TreeDigests<D>>(
 ) -> Result<(), AllocError>
     requires small { T.element_count digests.now < 2 ^ 64 }
     requires within { Within (T.element_count digests.now) (shapes peaks.now) }
-    ensures { OnOk result (map D.spelling found.new.items ≡ map D.spelling found.old.items ++ singly (T.digest_at digests.now) (filter (stands side) (shapes peaks.now))) }
+    ensures { OnOk result (map D.encoding found.new.items
+        ≡ map D.encoding found.old.items ++ singly (T.digest_at digests.now)
+        (filter (stands side) (shapes peaks.now))) }
 {
     match peaks {
         [] => Ok(()),
@@ -104,7 +122,8 @@ fn append_inner<D: Digest, T: TreeDigests<D>>(
 ) -> Result<(), AllocError>
     requires small { T.element_count digests.now < 2 ^ 64 }
     requires within { Within (T.element_count digests.now) (shapes peaks.now) }
-    ensures { OnOk result (map D.spelling found.new.items ≡ map D.spelling found.old.items ++ inner_digests (T.digest_at digests.now) start stop (shapes peaks.now)) }
+    ensures { OnOk result (map D.encoding found.new.items
+        ≡ map D.encoding found.old.items ++ inner_digests (T.digest_at digests.now) start stop (shapes peaks.now)) }
 {
     match peaks {
         [] => Ok(()),
@@ -123,7 +142,9 @@ fn append_folded_forward<F: Family, H: Hasher<F>>(
     hasher: &H,
     digests: &[H::Digest],
 ) -> Result<(), AllocError>
-    ensures { OnOk result (map H.Digest.spelling found.new.items ≡ map H.Digest.spelling found.old.items ++ as_one (folded_forward H.hash_of) (map H.Digest.spelling digests.now)) }
+    ensures { OnOk result (map H.Digest.encoding found.new.items
+        ≡ map H.Digest.encoding found.old.items ++ as_one (folded_forward H.hash_of)
+        (map H.Digest.encoding digests.now)) }
 {
     match digests {
         [] => Ok(()),
@@ -137,7 +158,9 @@ fn append_folded_backward<F: Family, H: Hasher<F>>(
     hasher: &H,
     digests: &[H::Digest],
 ) -> Result<(), AllocError>
-    ensures { OnOk result (map H.Digest.spelling found.new.items ≡ map H.Digest.spelling found.old.items ++ as_one (folded_backward H.hash_of) (map H.Digest.spelling digests.now)) }
+    ensures { OnOk result (map H.Digest.encoding found.new.items
+        ≡ map H.Digest.encoding found.old.items ++ as_one (folded_backward H.hash_of)
+        (map H.Digest.encoding digests.now)) }
 {
     match digests {
         [] => Ok(()),
@@ -154,7 +177,8 @@ fn side_digests<D: Digest, T: TreeDigests<D>>(
 ) -> Result<Vec<D>, AllocError>
     requires small { T.element_count digests.now < 2 ^ 64 }
     requires within { Within (T.element_count digests.now) (shapes peaks.now) }
-    ensures { IfOk result (λ found. map D.spelling found.items ≡ singly (T.digest_at digests.now) (filter (stands side) (shapes peaks.now))) }
+    ensures { IfOk result (λ found. map D.encoding found.items
+        ≡ singly (T.digest_at digests.now) (filter (stands side) (shapes peaks.now))) }
 {
     let mut found = Vec::new(alloc);
     append_side(&mut found, digests, side, peaks)?;
@@ -174,8 +198,9 @@ fn append_before<F: Family, H: Hasher<F>, T: TreeDigests<H::Digest>>(
     requires small { T.element_count digests.now < 2 ^ 64 }
     requires within_inactive { Within (T.element_count digests.now) (shapes inactive.now) }
     requires within_active { Within (T.element_count digests.now) (shapes active.now) }
-    ensures { OnOk result (map H.Digest.spelling found.new.items ≡ map H.Digest.spelling found.old.items
-        ++ before_digests H.hash_of (T.digest_at digests.now) (H.bagging_of hasher.now) start (shapes inactive.now) (shapes active.now)) }
+    ensures { OnOk result (map H.Digest.encoding found.new.items ≡ map H.Digest.encoding found.old.items
+        ++ before_digests H.hash_of (T.digest_at digests.now) (H.bagging_of hasher.now) start (shapes inactive.now)
+        (shapes active.now)) }
 {
     let side = Side::Before(start);
     let mut first = side_digests(alloc, digests, side, inactive)?;
@@ -191,7 +216,7 @@ fn append_before<F: Family, H: Hasher<F>, T: TreeDigests<H::Digest>>(
     }
 }
 
-// The digests of the peaks behind the range.
+// The digests of the peaks after the range.
 fn append_after<F: Family, H: Hasher<F>, T: TreeDigests<H::Digest>>(
     alloc: Global,
     found: &mut Vec<H::Digest>,
@@ -204,8 +229,9 @@ fn append_after<F: Family, H: Hasher<F>, T: TreeDigests<H::Digest>>(
     requires small { T.element_count digests.now < 2 ^ 64 }
     requires within_inactive { Within (T.element_count digests.now) (shapes inactive.now) }
     requires within_active { Within (T.element_count digests.now) (shapes active.now) }
-    ensures { OnOk result (map H.Digest.spelling found.new.items ≡ map H.Digest.spelling found.old.items
-        ++ after_digests H.hash_of (T.digest_at digests.now) (H.bagging_of hasher.now) stop (shapes inactive.now) (shapes active.now)) }
+    ensures { OnOk result (map H.Digest.encoding found.new.items ≡ map H.Digest.encoding found.old.items
+        ++ after_digests H.hash_of (T.digest_at digests.now) (H.bagging_of hasher.now) stop (shapes inactive.now)
+        (shapes active.now)) }
 {
     let side = Side::After(stop);
     append_side(found, digests, side, inactive)?;
@@ -218,7 +244,7 @@ fn append_after<F: Family, H: Hasher<F>, T: TreeDigests<H::Digest>>(
     }
 }
 
-/// The digests of the proof of the leaves from `start` up to `stop`, in their order. It fails for want of memory alone.
+/// The digests of the proof of the leaves from `start` up to `stop`, in their order. It fails only when out of memory.
 /// `inactive` and `active` are the peaks from left to right, each with the location of its first leaf.
 /// In the Rust: `merkle::RangePlan::build`, which asks for nodes; here every digest is computed from the leaves.
 pub fn range_digests_of<F: Family, H: Hasher<F>, T: TreeDigests<H::Digest>>(
@@ -233,8 +259,9 @@ pub fn range_digests_of<F: Family, H: Hasher<F>, T: TreeDigests<H::Digest>>(
     requires small { T.element_count digests.now < 2 ^ 64 }
     requires within_inactive { Within (T.element_count digests.now) (shapes inactive.now) }
     requires within_active { Within (T.element_count digests.now) (shapes active.now) }
-    ensures { IfOk result (λ found. map H.Digest.spelling found.items
-        ≡ range_digests H.hash_of (T.digest_at digests.now) (H.bagging_of hasher.now) start stop (shapes inactive.now) (shapes active.now)) }
+    ensures { IfOk result (λ found. map H.Digest.encoding found.items
+        ≡ range_digests H.hash_of (T.digest_at digests.now) (H.bagging_of hasher.now) start stop (shapes inactive.now)
+        (shapes active.now)) }
 {
     let mut found = Vec::new(alloc);
     append_before(alloc, &mut found, hasher, digests, start, inactive, active)?;

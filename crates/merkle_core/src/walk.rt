@@ -3,12 +3,12 @@
 ghost use Rattle.std.specs.Prelude.{◌≡◌, ◌<◌, ◌≤◌, ◌-◌, length};
 ghost use Rattle.merkle_forest.specs.Forest.{forest_of};
 ghost use Rattle.merkle_forest.specs.Nodes.{HasPeak};
-ghost use Rattle.merkle_forest.specs.Peaks.{placed_from};
-ghost use Rattle.merkle_forest.specs.Trees.{placed};
+ghost use Rattle.merkle_forest.specs.Peaks.{located_from};
+ghost use Rattle.merkle_forest.specs.Trees.{located};
 ghost use Rattle.merkle_core.specs.Reconstructed.{IsPeakOver};
 ghost use Rattle.merkle_core.specs.Walked.{IsPeakFrom};
 
-use crate::rebuild::Place;
+use crate::rebuild::Subtree;
 use merkle_forest::family::{Family, MAX_LEAVES};
 
 /// The peak that holds a leaf, and how many peaks stand on each side of it (own).
@@ -17,13 +17,13 @@ pub struct PeakOver {
     /// How many peaks stand before it.
     pub before: u64,
     /// Where it stands.
-    pub place: Place,
-    /// How many peaks stand behind it.
-    pub behind: u64,
+    pub subtree: Subtree,
+    /// How many peaks stand after it.
+    pub after: u64,
 }
 
-// The peak that begins at `first`, and the location behind its last leaf.
-fn peak_at<F: Family>(leaves: u64, first: u64) -> (Place, u64)
+// The peak that begins at `first`, and the location after its last leaf.
+fn peak_at<F: Family>(leaves: u64, first: u64) -> (Subtree, u64)
     requires few { leaves ≤ MAX_LEAVES }
     requires begins { HasPeak (forest_of F.merge_rule leaves) first }
     ensures peak { IsPeakFrom F.merge_rule leaves first result.0.first result.0.position result.0.height result.1 }
@@ -32,19 +32,19 @@ fn peak_at<F: Family>(leaves: u64, first: u64) -> (Place, u64)
     ensures next { result.1 < leaves → HasPeak (forest_of F.merge_rule leaves) result.1 }
 {
     let (position, height) = F::peak_from(leaves, first);
-    let place = Place {
+    let subtree = Subtree {
         first,
         position,
         height,
     };
-    (place, first + (1u64 << height))
+    (subtree, first + (1u64 << height))
 }
 
-// How many peaks begin at `first` or behind it.
+// How many peaks begin at `first` or after it.
 fn peaks_from<F: Family>(leaves: u64, first: u64) -> u64
     requires few { leaves ≤ MAX_LEAVES }
     requires begins { first < leaves → HasPeak (forest_of F.merge_rule leaves) first }
-    ensures count { result ≡ length (placed_from first (forest_of F.merge_rule leaves)) }
+    ensures count { result ≡ length (located_from first (forest_of F.merge_rule leaves)) }
     ensures few { result ≤ leaves - first }
 {
     if first >= leaves {
@@ -54,42 +54,42 @@ fn peaks_from<F: Family>(leaves: u64, first: u64) -> u64
     1 + peaks_from::<F>(leaves, next)
 }
 
-// The peak that holds the location, among those that begin at `first` or behind it.
+// The peak that holds the location, among those that begin at `first` or after it.
 fn peak_over_from<F: Family>(leaves: u64, first: u64, location: u64) -> PeakOver
     requires few { leaves ≤ MAX_LEAVES }
     requires begins { HasPeak (forest_of F.merge_rule leaves) first }
-    requires behind { first ≤ location }
+    requires after { first ≤ location }
     requires within { location < leaves }
-    ensures over { IsPeakOver F.merge_rule (placed_from first (forest_of F.merge_rule leaves)) location result.before
-        result.place.first result.place.position result.place.height result.behind }
+    ensures over { IsPeakOver F.merge_rule (located_from first (forest_of F.merge_rule leaves)) location result.before
+        result.subtree.first result.subtree.position result.subtree.height result.after }
     ensures before { result.before ≤ location - first }
-    ensures behind { result.behind ≤ leaves }
+    ensures after { result.after ≤ leaves }
 {
-    let (place, next) = peak_at::<F>(leaves, first);
+    let (subtree, next) = peak_at::<F>(leaves, first);
     if location < next {
         return PeakOver {
             before: 0,
-            place,
-            behind: peaks_from::<F>(leaves, next),
+            subtree,
+            after: peaks_from::<F>(leaves, next),
         };
     }
     let found = peak_over_from::<F>(leaves, next, location);
     PeakOver {
         before: found.before + 1,
-        place: found.place,
-        behind: found.behind,
+        subtree: found.subtree,
+        after: found.after,
     }
 }
 
-/// The peak that holds the leaf at the location, in the forest of this many leaves, and how many stand before and behind it
-/// (own).
+/// The peak that holds the leaf at the location, in the forest of this many leaves, and how many stand before and after
+/// it (own).
 pub fn peak_over<F: Family>(leaves: u64, location: u64) -> PeakOver
     requires few { leaves ≤ MAX_LEAVES }
     requires within { location < leaves }
-    ensures over { IsPeakOver F.merge_rule (placed (forest_of F.merge_rule leaves)) location result.before
-        result.place.first result.place.position result.place.height result.behind }
+    ensures over { IsPeakOver F.merge_rule (located (forest_of F.merge_rule leaves)) location result.before
+        result.subtree.first result.subtree.position result.subtree.height result.after }
     ensures before { result.before ≤ location }
-    ensures behind { result.behind ≤ leaves }
+    ensures after { result.after ≤ leaves }
 {
     peak_over_from::<F>(leaves, 0, location)
 }

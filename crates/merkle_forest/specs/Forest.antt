@@ -24,7 +24,7 @@ node_count (leaf p) = 1
 node_count (branch p left right) = suc (node_count left + node_count right)
 
 -- A family's rule. From the number of merges since the last leaf was appended, and the heights of the peaks
--- from right to left, it tells the place of the two neighbours that merge next: the place of the right one,
+-- from right to left, it tells the index of the two neighbours that merge next: the index of the right one,
 -- counted from the right. None: no peaks merge.
 abbrev pub Rule : Type 0
 Rule = ℕ → List ℕ → Option ℕ
@@ -39,23 +39,24 @@ leaves [] = 0
 leaves (peak ∷ peaks) = leaf_count peak + leaves peaks
 
 -- the two peaks at the right end under a new node
-abbrev pub joined : ℕ → List Tree → List Tree
-joined p (right ∷ left ∷ peaks) = branch p left right ∷ peaks
-joined p peaks = peaks
+abbrev pub with_parent : ℕ → List Tree → List Tree
+with_parent p (right ∷ left ∷ peaks) = branch p left right ∷ peaks
+with_parent p peaks = peaks
 
 -- two neighbours under a new node
 abbrev pub merged : ℕ → ℕ → List Tree → List Tree
-merged p place peaks = take place peaks ++ joined p (drop place peaks)
+merged p index peaks = take index peaks ++ with_parent p (drop index peaks)
 
 -- the peaks after the merges that the rule asks for, of which there are at most `room`
-unfoldable pub settled : Rule → ℕ → ℕ → List Tree → List Tree
-settled rule zero merges peaks = peaks
-settled rule (suc room) merges peaks =
-    option_map_or (λ place. settled rule room (suc merges) (merged (size peaks) place peaks)) (rule merges (map height peaks)) peaks
+unfoldable pub peaks_after_merges : Rule → ℕ → ℕ → List Tree → List Tree
+peaks_after_merges rule zero merges peaks = peaks
+peaks_after_merges rule (suc room) merges peaks =
+    option_map_or (λ index. peaks_after_merges rule room (suc merges) (merged (size peaks) index peaks))
+    (rule merges (map height peaks)) peaks
 
 -- one more leaf: it joins as a peak of its own, and then peaks merge
 abbrev pub with_leaf : Rule → List Tree → List Tree
-with_leaf rule peaks = settled rule (length peaks) 0 (leaf (size peaks) ∷ peaks)
+with_leaf rule peaks = peaks_after_merges rule (length peaks) 0 (leaf (size peaks) ∷ peaks)
 
 -- the forest of n leaves
 unfoldable pub forest_of : Rule → ℕ → List Tree
@@ -67,6 +68,6 @@ abbrev pub mmr_rule : Rule
 mmr_rule merges (a ∷ b ∷ heights) = if a == b then Some 0 else None
 mmr_rule merges heights = None
 
--- a place at which two neighbours have equal heights
+-- an index at which two neighbours have equal heights
 abbrev pub IsPairOfEquals : List ℕ → ℕ → Type 0
-IsPairOfEquals heights place = (h : ℕ) × (slice_get heights place ≡ Some h) × (slice_get heights (suc place) ≡ Some h)
+IsPairOfEquals heights index = (h : ℕ) × (slice_get heights index ≡ Some h) × (slice_get heights (suc index) ≡ Some h)

@@ -1,5 +1,5 @@
 -- The strings that are hashed. A hash is a function from bytes to bytes.
-use Rattle.std.specs.Prelude.{ℕ, ◌==◌, if◌then◌else◌, List, [], ◌∷◌, ◌++◌, length, map, take, drop}
+use Rattle.std.specs.Prelude.{◌≡◌, ◌⊎◌, ℕ, ◌==◌, if◌then◌else◌, List, [], ◌∷◌, ◌++◌, take, drop}
 use Rattle.std.specs.Int.{w64, to_be_bytes}
 use Rattle.merkle_forest.specs.declared.bagging.Bagging.{Bagging}
 use Rattle.merkle_forest.specs.declared.bagging.Bagging.TheVariants.{ForwardFold, BackwardFold}
@@ -39,9 +39,11 @@ folded_backward hash [] = []
 folded_backward hash (d ∷ []) = d
 folded_backward hash (d ∷ e ∷ digests) = hash (fold_string d (folded_backward hash (e ∷ digests)))
 
--- the items that are bagged: the inactive peaks, which come first, folded from the left into one, then the other peaks singly
+-- the items that are bagged: the inactive peaks, which come first, folded from the left into one, then the other peaks
+-- singly
 abbrev pub items : Hash → ℕ → List (List ℕ) → List (List ℕ)
-items hash inactive peaks = if inactive == 0 then peaks else folded_forward hash (take inactive peaks) ∷ drop inactive peaks
+items hash inactive peaks =
+    if inactive == 0 then peaks else folded_forward hash (take inactive peaks) ∷ drop inactive peaks
 
 -- the items as one digest: nothing where there is no peak
 abbrev pub bagged : Hash → Bagging → List (List ℕ) → List ℕ
@@ -63,4 +65,10 @@ root_string bagging leaves inactive digest = number leaves ++ (domain_of bagging
 
 -- the root of a tree with these peaks, from left to right, of which so many come first as inactive ones
 unfoldable pub root_of : Hash → Bagging → ℕ → ℕ → List (List ℕ) → List ℕ
-root_of hash bagging leaves inactive peaks = hash (root_string bagging leaves inactive (bagged hash bagging (items hash inactive peaks)))
+root_of hash bagging leaves inactive peaks =
+    hash (root_string bagging leaves inactive (bagged hash bagging (items hash inactive peaks)))
+
+-- the lengths of a root's string where digests have 32 bytes: without a digest, with one, and with an inactive count
+-- too
+abbrev pub IsRootLength : ℕ → Type 0
+IsRootLength n = (n ≡ 9) ⊎ ((n ≡ 41) ⊎ (n ≡ 49))

@@ -3,20 +3,22 @@ use Rattle.std.specs.Prelude.{◌≡◌, ℕ, zero, suc, ◌+◌, ◌-◌, ◌*�
 use Rattle.merkle_forest.specs.Forest.{Tree, leaf, branch, height, size}
 
 -- the position of the leaf at a location: twice the location, less the number of ones among its binary digits
-abbrev pub leaf_place : ℕ → ℕ
-leaf_place location = 2 * location - count_ones location
+abbrev pub leaf_position : ℕ → ℕ
+leaf_position location = 2 * location - count_ones location
 
 -- the position of the root over 2 ^ h leaves from a location on
-abbrev pub root_place : ℕ → ℕ → ℕ
-root_place first h = leaf_place first + (2 ^ suc h - 2)
+abbrev pub root_position : ℕ → ℕ → ℕ
+root_position first h = leaf_position first + (2 ^ suc h - 2)
 
--- the tree of a height whose first leaf has this position: each branch stands right behind its right child
+-- the tree of a height whose first leaf has this position: each branch stands right after its right child
 unfoldable pub mmr_tree : ℕ → ℕ → Tree
 mmr_tree zero first = leaf first
-mmr_tree (suc h) first = branch (first + (2 ^ suc (suc h) - 2)) (mmr_tree h first) (mmr_tree h (first + (2 ^ suc h - 1)))
+mmr_tree (suc h) first =
+    branch (first + (2 ^ suc (suc h) - 2)) (mmr_tree h first) (mmr_tree h (first + (2 ^ suc h - 1)))
 
--- each peak's nodes stand right behind those of the peaks to its left, and the heights, from right to left, strictly
+-- each peak's nodes stand right after those of the peaks to its left, and the heights, from right to left, strictly
 -- increase from this one on
 abbrev pub IsRange : ℕ → List Tree → Type 0
 IsRange h [] = Unit {0}
-IsRange h (peak ∷ peaks) = (h ≤ height peak) × (peak ≡ mmr_tree (height peak) (size peaks)) × IsRange (suc (height peak)) peaks
+IsRange h (peak ∷ peaks) = (h ≤ height peak) × (peak ≡ mmr_tree (height peak) (size peaks))
+    × IsRange (suc (height peak)) peaks

@@ -1,9 +1,13 @@
 //! The maximal nodes over a chunk of leaves, for every family that tells when its nodes are born.
+//!
+//! They are found by a walk from left to right: at a location the highest node that begins there and has no leaf past
+//! the chunk or past the last leaf, then the location after its leaves. In the range of 11 leaves that is drawn in
+//! `mmr`, chunks of four leaves have the maximal nodes 6, then 13, then 17 and 18.
 
 ghost use Rattle.std.specs.Prelude.{◌≡◌, ◌↔◌, ◌≤◌, ◌<◌, ◌+◌, ◌*◌, ◌^◌, ℕ, IsTrue};
 ghost use Rattle.std.specs.Iterator.{YieldsFirst, item_count};
 ghost use Rattle.merkle_forest.specs.Forest.{forest_of};
-ghost use Rattle.merkle_forest.specs.Maximal.{maximal_places};
+ghost use Rattle.merkle_forest.specs.Maximal.{maximal_positions};
 ghost use Rattle.merkle_forest.specs.Nodes.{HasNode};
 
 use crate::family::MAX_LEAVES;
@@ -21,7 +25,7 @@ pub fn has_node<F: Graftable>(leaves: u64, first: u64, height: u32) -> bool
     first % (1u64 << height) == 0 && F::birth(first, height) <= leaves
 }
 
-// The height of the highest node that begins at a location and has no leaf at the end or behind it.
+// The height of the highest node that begins at a location and has no leaf at the end or after it.
 fn highest_before<F: Graftable>(leaves: u64, first: u64, end: u64) -> u32
     requires few { leaves ≤ MAX_LEAVES }
     requires some { first < end }
@@ -37,8 +41,9 @@ fn highest_before<F: Graftable>(leaves: u64, first: u64, end: u64) -> u32
     height
 }
 
-/// The maximal nodes over a range of leaves, from left to right: the position and the height of each. Contracts see those that
-/// are left. In the Rust: the unnamed iterator of `merkle::Graftable::chunk_peaks`.
+/// The maximal nodes over a range of leaves, from left to right: the position and the height of each. Contracts see
+/// those that are left.
+/// In the Rust: the unnamed iterator of `merkle::Graftable::chunk_peaks`.
 #[derive(Drop)]
 pub struct ChunkPeaks<F: Graftable> {
     leaves: u64,
@@ -50,11 +55,11 @@ pub struct ChunkPeaks<F: Graftable> {
 impl<F: Graftable> Model for ChunkPeaks<F> {
     ghost use Rattle.std.specs.Prelude.{◌≤◌, ◌^◌, ℕ, List};
     ghost use Rattle.merkle_forest.specs.Forest.{forest_of};
-    ghost use Rattle.merkle_forest.specs.Maximal.{maximal_places};
+    ghost use Rattle.merkle_forest.specs.Maximal.{maximal_positions};
 
     ghost Value = { List (ℕ × ℕ) };
 
-    ghost view = { λ a. maximal_places a.next a.end (forest_of F.merge_rule a.leaves) };
+    ghost view = { λ a. maximal_positions a.next a.end (forest_of F.merge_rule a.leaves) };
 
     ghost invariant = { λ a. a.leaves ≤ 2 ^ 62 };
 }
@@ -64,7 +69,8 @@ impl<F: Graftable> ChunkPeaks<F> {
     pub fn new(leaves: u64, chunk: u64, height: u32) -> ChunkPeaks<F>
         requires few { leaves ≤ MAX_LEAVES }
         requires low { height ≤ 62 }
-        ensures { result ≡ maximal_places (chunk * 2 ^ height) (chunk * 2 ^ height + 2 ^ height) (forest_of F.merge_rule leaves) }
+        ensures { result ≡ maximal_positions (chunk * 2 ^ height) (chunk * 2 ^ height + 2 ^ height)
+            (forest_of F.merge_rule leaves) }
     {
         let width = 1u64 << height;
         let next = chunk.saturating_mul(width);

@@ -3,8 +3,8 @@
 ghost use Rattle.std.specs.Prelude.{◌≡◌, ◌≤◌, ◌<◌, ◌+◌, ◌↔◌, ℕ, List, Option, IfSome, IsSome, IsTrue, map};
 ghost use Rattle.std.specs.List.{range_with_len};
 ghost use Rattle.merkle_forest.specs.Forest.{IsPairOfEquals, size, forest_of};
-ghost use Rattle.merkle_forest.specs.Nodes.{HasPeak, IsPlaceOfPeak, HasBranch, AreChildren, IsSize, StandsAt, IsHeightAt, AreParents};
-ghost use Rattle.merkle_forest.specs.Peaks.{peak_places, ArePeaksOf, IsInactiveCount};
+ghost use Rattle.merkle_forest.specs.Nodes.{HasPeak, IsPositionOfPeak, HasBranch, AreChildren, IsSize, StandsAt, IsHeightAt, AreParents};
+ghost use Rattle.merkle_forest.specs.Peaks.{peak_positions, ArePeaksOf, IsInactiveCount};
 
 use crate::location::Location;
 use crate::parent_heights::ParentHeights;
@@ -22,12 +22,12 @@ pub const MAX_NODES: u64 = 0x7fff_ffff_ffff_ffff;
 /// A family of forests, told by the rule by which appended leaves merge into trees. In the Rust: `merkle::Family`.
 pub trait Family: Copy + Debug + Drop {
     /// From the number of merges since the last leaf was appended, and the heights of the peaks from right to left:
-    /// the place of the two neighbours that merge next.
+    /// the index of the two neighbours that merge next.
     ghost merge_rule: { ℕ → List ℕ → Option ℕ };
 
-    /// The place of the two neighbours that merge next, after `merges` merges since the last leaf was appended (own).
-    /// It is the place of the right one, counted from the right; `heights` are those of the peaks from right to left.
-    fn merge_place(merges: usize, heights: &[u64]) -> Option<usize>
+    /// The index of the two neighbours that merge next, after `merges` merges since the last leaf was appended (own).
+    /// It is the index of the right one, counted from the right; `heights` are those of the peaks from right to left.
+    fn merge_index(merges: usize, heights: &[u64]) -> Option<usize>
         ensures { result ≡ merge_rule merges heights.now };
 
     /// How many nodes the forest of this many leaves has, which is the position of the next leaf (own).
@@ -39,21 +39,22 @@ pub trait Family: Copy + Debug + Drop {
     fn peak_from(leaves: u64, first: u64) -> (u64, u32)
         requires few { leaves ≤ MAX_LEAVES }
         requires begins { HasPeak (forest_of merge_rule leaves) first }
-        ensures { IsPlaceOfPeak (forest_of merge_rule leaves) first result.0 result.1 };
+        ensures { IsPositionOfPeak (forest_of merge_rule leaves) first result.0 result.1 };
 
     /// The positions of the left and the right child of the branch at a position, of this height (own).
     fn child_positions(branch: u64, height: u32) -> (u64, u64)
         requires { HasBranch merge_rule branch height }
         ensures { AreChildren merge_rule branch height result.0 result.1 };
 
-    /// The height of the first parent that is born with the leaf behind this many, and how many parents are: each is one higher than
-    /// the one before (own).
+    /// The height of the first parent that is born with the leaf after this many, and how many parents are: each is one
+    /// higher than the one before (own).
     fn parent_range(leaves: u64) -> (u32, u32)
         requires { leaves < MAX_LEAVES }
         ensures parents { AreParents merge_rule leaves (range_with_len result.0 result.1) }
         ensures low { result.0 + result.1 ≤ 64 };
 
-    ghost merges_equals: { (merges : ℕ) (heights : List ℕ) → IfSome (merge_rule merges heights) (IsPairOfEquals heights) };
+    ghost merges_equals: { (merges : ℕ) (heights : List ℕ)
+        → IfSome (merge_rule merges heights) (IsPairOfEquals heights) };
 
     /// The position of the leaf at a location, which is how many nodes the forest of the leaves before it has.
     /// In the Rust: `merkle::Family::location_to_position`.
@@ -74,7 +75,8 @@ pub trait Family: Copy + Debug + Drop {
         (Position::new(left), Position::new(right))
     }
 
-    /// The heights of the parents that are born with the next leaf, where there are this many leaves, in order of birth.
+    /// The heights of the parents that are born with the next leaf, where there are this many leaves, in order of
+    /// birth.
     /// In the Rust: `merkle::Family::parent_heights`, with an unnamed iterator.
     final fn parent_heights(leaves: Location<Self>) -> ParentHeights
         requires { leaves < MAX_LEAVES }
@@ -91,18 +93,19 @@ pub trait Family: Copy + Debug + Drop {
         ensures all { IsHeightAt merge_rule position result }
     {
         let leaves = greatest_leaf_count::<Self>(position.as_u64());
-        let nodes_behind = position.as_u64() - Self::leaf_position(leaves);
-        if nodes_behind == 0 {
+        let nodes_after = position.as_u64() - Self::leaf_position(leaves);
+        if nodes_after == 0 {
             return 0;
         }
         let (first, _) = Self::parent_range(leaves);
-        first + (nodes_behind - 1) as u32
+        first + (nodes_after - 1) as u32
     }
 
     /// The location of the leaf at a position. Where no leaf up to `MAX_LEAVES` stands there it is None.
     /// In the Rust: `merkle::Family::position_to_location`.
     final fn position_to_location(position: Position<Self>) -> Option<Location<Self>>
-        ensures some { IfSome result (λ location. (location ≤ MAX_LEAVES) × (size (forest_of merge_rule location) ≡ position)) }
+        ensures some { IfSome result (λ location. (location ≤ MAX_LEAVES)
+            × (size (forest_of merge_rule location) ≡ position)) }
         ensures found { IsSome result ↔ IsSize merge_rule position }
     {
         let leaves = greatest_leaf_count::<Self>(position.as_u64());
@@ -143,12 +146,13 @@ pub trait Family: Copy + Debug + Drop {
     /// In the Rust: `merkle::Family::nodes_to_pin`, with an unnamed iterator.
     final fn nodes_to_pin(leaves: Location<Self>) -> PeakPositions<Self>
         requires { leaves ≤ MAX_LEAVES }
-        ensures { result ≡ map (λ place. place.0) (peak_places (forest_of merge_rule leaves)) }
+        ensures { result ≡ map (λ index. index.0) (peak_positions (forest_of merge_rule leaves)) }
     {
         PeakPositions::new(Peaks::of_leaves(leaves))
     }
 
-    /// How many peaks of the forest that has this many nodes come first whose leaves all stand before the floor, a location.
+    /// How many peaks of the forest that has this many nodes come first whose leaves all stand before the floor, a
+    /// location.
     /// In the Rust: `merkle::Family::inactive_peaks`.
     final fn inactive_peaks(size: Position<Self>, floor: Location<Self>) -> usize
         requires { IsSize merge_rule size }

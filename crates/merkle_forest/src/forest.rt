@@ -1,7 +1,18 @@
 //! The forest grown leaf by leaf: the plain program of the definition (own).
+//!
+//! Peaks are kept from right to left, since a forest grows at its right end. A family's rule sees the peaks' heights
+//! and names two neighbours that merge next; it is asked until it names none. So leaf 7 joins a Merkle Mountain Range:
+//!
+//! ```text
+//! peaks at     heights
+//! 11 10 9 6    0 0 1 2    10 and 11 merge under 12
+//! 12 9 6       1 1 2      9 and 12 merge under 13
+//! 13 6         2 2        6 and 13 merge under 14
+//! 14           3          no neighbours have one height
+//! ```
 
 ghost use Rattle.std.specs.Prelude.{◌*◌, ◌++◌, ◌≡◌, ◌<◌, ◌≤◌, ◌+◌, ◌^◌, ℕ, suc, length, map, vec_len, IfOk, OnOk, IfSome, slice_get};
-ghost use Rattle.merkle_forest.specs.Forest.{height, leaf_count, node_count, merged, size, leaves, settled, with_leaf, forest_of};
+ghost use Rattle.merkle_forest.specs.Forest.{height, leaf_count, node_count, merged, size, leaves, peaks_after_merges, with_leaf, forest_of};
 ghost use Rattle.merkle_forest.specs.Shape.{shape};
 
 use crate::family::Family;
@@ -43,75 +54,70 @@ fn merge(
     alloc: Global,
     peaks: &mut Vec<Tree>,
     position: u64,
-    place: usize,
+    index: usize,
 ) -> Result<(), AllocError>
-    requires { place + 1 < vec_len peaks.old }
-    ensures joined { OnOk result (map shape peaks.new.items ≡ merged position place (map shape peaks.old.items)) }
+    requires { index + 1 < vec_len peaks.old }
+    ensures with_parent { OnOk result (map shape peaks.new.items ≡ merged position index (map shape peaks.old.items)) }
     ensures kept { OnOk result (leaves (map shape peaks.new.items) ≡ leaves (map shape peaks.old.items)) }
     ensures grown { OnOk result (size (map shape peaks.new.items) ≡ size (map shape peaks.old.items) + 1) }
 {
-    let right = peaks.remove(place);
-    let left = peaks.remove(place);
+    let right = peaks.remove(index);
+    let left = peaks.remove(index);
     let left = Box::new(alloc, left)?;
     let right = Box::new(alloc, right)?;
-    peaks.insert(place, Tree::Branch(position, left, right))?;
+    peaks.insert(index, Tree::Branch(position, left, right))?;
     Ok(())
 }
 
-// Appends the heights of the peaks.
-fn append_heights(heights: &mut Vec<u64>, peaks: &[Tree]) -> Result<(), AllocError>
+fn heights_of(alloc: Global, peaks: &[Tree]) -> Result<Vec<u64>, AllocError>
     requires { leaves (map shape peaks.now) < 2 ^ 64 }
-    ensures { OnOk result (heights.new.items ≡ heights.old.items ++ map height (map shape peaks.now)) }
+    ensures { IfOk result (λ heights. heights.items ≡ map height (map shape peaks.now)) }
 {
-    match peaks {
-        [] => Ok(()),
-        [first, rest @ ..] => {
-            heights.push(height_of(first))?;
-            append_heights(heights, rest)
-        }
+    let mut heights = Vec::new(alloc);
+    for peak in peaks {
+        heights.push(height_of(peak))?;
     }
+    Ok(heights)
 }
 
-// The place of the two peaks that merge next.
-fn next_place<F: Family>(
+// The index of the two peaks that merge next.
+fn next_merge<F: Family>(
     alloc: Global,
     peaks: &[Tree],
     merges: usize,
 ) -> Result<Option<usize>, AllocError>
     requires { leaves (map shape peaks.now) < 2 ^ 64 }
-    ensures place { IfOk result (λ place. place ≡ F.merge_rule merges (map height (map shape peaks.now))) }
-    ensures within { IfOk result (λ place. IfSome place (λ i. i + 1 < length peaks.now)) }
+    ensures index { IfOk result (λ index. index ≡ F.merge_rule merges (map height (map shape peaks.now))) }
+    ensures within { IfOk result (λ index. IfSome index (λ i. i + 1 < length peaks.now)) }
 {
-    let mut heights = Vec::new(alloc);
-    append_heights(&mut heights, peaks)?;
-    Ok(F::merge_place(merges, &heights))
+    let heights = heights_of(alloc, peaks)?;
+    Ok(F::merge_index(merges, &heights))
 }
 
-// Merges peaks as the family's rule asks, at most `room` times. `size` is how many nodes there are; the answer is how many there are then.
-fn settle<F: Family>(
+// Merges peaks as the family's rule asks, at most `room` times. `size_before` is how many nodes there are; the answer is
+// how many there are then.
+fn merge_all<F: Family>(
     alloc: Global,
     peaks: &mut Vec<Tree>,
     size_before: u64,
     room: usize,
-    merges: usize,
 ) -> Result<u64, AllocError>
     requires sized { size_before ≡ size (map shape peaks.old.items) }
     requires few { leaves (map shape peaks.old.items) ≤ 2 ^ 62 }
-    requires rounds { room + merges < 2 ^ 64 }
-    ensures settles { OnOk result (map shape peaks.new.items ≡ settled F.merge_rule room merges (map shape peaks.old.items)) }
+    ensures merges_all { OnOk result (map shape peaks.new.items
+        ≡ peaks_after_merges F.merge_rule room 0 (map shape peaks.old.items)) }
     ensures sizes { IfOk result (λ after. after ≡ size (map shape peaks.new.items)) }
     ensures kept { OnOk result (leaves (map shape peaks.new.items) ≡ leaves (map shape peaks.old.items)) }
 {
-    if room == 0 {
-        return Ok(size_before);
+    let mut nodes = size_before;
+    for merges in 0..room {
+        let Some(index) = next_merge::<F>(alloc, peaks, merges)? else {
+            return Ok(nodes);
+        };
+        merge(alloc, peaks, nodes, index)?;
+        nodes += 1;
     }
-    match next_place::<F>(alloc, peaks, merges)? {
-        None => Ok(size_before),
-        Some(place) => {
-            merge(alloc, peaks, size_before, place)?;
-            settle::<F>(alloc, peaks, size_before + 1, room - 1, merges + 1)
-        }
-    }
+    Ok(nodes)
 }
 
 // Appends a leaf. `nodes` is how many nodes there are; the answer is how many there are then.
@@ -128,10 +134,10 @@ fn append_leaf<F: Family>(
 {
     let room = peaks.len();
     peaks.insert(0, Tree::Leaf(nodes))?;
-    settle::<F>(alloc, peaks, nodes + 1, room, 0)
+    merge_all::<F>(alloc, peaks, nodes + 1, room)
 }
 
-/// The forest of `leaf_count` leaves: its peaks from right to left. It fails for want of memory alone.
+/// The forest of `leaf_count` leaves: its peaks from right to left. It fails only when out of memory.
 pub fn grow<F: Family>(alloc: Global, leaf_count: u64) -> Result<Vec<Tree>, AllocError>
     requires { leaf_count ≤ 2 ^ 62 }
     ensures grown { IfOk result (λ peaks. map shape peaks.items ≡ forest_of F.merge_rule leaf_count) }

@@ -1,9 +1,9 @@
-//! Hashers: the strings that are hashed, and SHA-256 behind them.
+//! Hashers: the strings that are hashed, and SHA-256 after them.
 
 ghost use Rattle.std.specs.Prelude.{◌≡◌, ◌<◌, ◌≤◌, ◌↔◌, ℕ, List, map, length, IsOk, IsErr, IfOk, IfErr};
 ghost use Rattle.std.specs.List.{flat_map};
 ghost use Rattle.sha2.specs.Sha256.{sha256};
-ghost use Rattle.merkle_forest.specs.HashLaws.{length-sha256};
+ghost use Rattle.merkle_forest.specs.Laws.Hash.{length-sha256};
 ghost use Rattle.merkle_forest.specs.declared.bagging.Bagging.{Bagging};
 ghost use Rattle.merkle_forest.specs.Hashing.{leaf_string, node_string, fold_string, root_of, root_string, bagged};
 
@@ -28,7 +28,7 @@ pub trait HashFunction: Drop {
 
     /// The digest of the parts, one after the other.
     fn hash(parts: &[&[u8]]) -> Self::Digest
-        ensures { Self.Digest.spelling result ≡ hash_of (flat_map (λ part. part.now) parts.now) };
+        ensures { Self.Digest.encoding result ≡ hash_of (flat_map (λ part. part.now) parts.now) };
 
     ghost sized: { (bytes : List ℕ) → length (hash_of bytes) ≡ Self.Digest.SIZE };
 }
@@ -56,21 +56,23 @@ impl HashFunction for ByteHash {
 
 /// The digest of a leaf's string: its position in 8 bytes, and the element (own).
 pub fn hash_leaf<H: HashFunction>(position: u64, element: &[u8]) -> H::Digest
-    ensures { H.Digest.spelling result ≡ H.hash_of (leaf_string position element.now) }
+    ensures { H.Digest.encoding result ≡ H.hash_of (leaf_string position element.now) }
 {
     H::hash(&[&position.to_be_bytes(), element])
 }
 
 /// The digest of a branch's string: its position in 8 bytes, and the digests of its children (own).
 pub fn hash_node<H: HashFunction>(position: u64, left: &H::Digest, right: &H::Digest) -> H::Digest
-    ensures { H.Digest.spelling result ≡ H.hash_of (node_string position (H.Digest.spelling left.now) (H.Digest.spelling right.now)) }
+    ensures { H.Digest.encoding result ≡ H.hash_of
+        (node_string position (H.Digest.encoding left.now) (H.Digest.encoding right.now)) }
 {
     H::hash(&[&position.to_be_bytes(), left.as_bytes(), right.as_bytes()])
 }
 
-/// A hasher of a tree's leaves, branches and roots. It says how a leaf and a branch are hashed; all else is the same for
-/// every hasher. In the Rust: `merkle::hasher::Hasher`, whose `leaf_digest`, `node_digest` and `node_digest_pair` a hasher may
-/// give itself.
+/// A hasher of a tree's leaves, branches and roots. It says how a leaf and a branch are hashed; all else is the same
+/// for every hasher.
+/// In the Rust: `merkle::hasher::Hasher`, whose `leaf_digest`, `node_digest` and `node_digest_pair` a hasher may give
+/// itself.
 pub trait Hasher<F: Family>: Drop {
     /// The digests of leaves, branches and roots. In the Rust: `merkle::hasher::Hasher::Digest`.
     type Digest: Digest;
@@ -89,7 +91,7 @@ pub trait Hasher<F: Family>: Drop {
 
     /// The digest of the parts, one after the other. In the Rust: `merkle::hasher::Hasher::hash`.
     fn hash(&self, parts: &[&[u8]]) -> Self::Digest
-        ensures { Self.Digest.spelling result ≡ hash_of (flat_map (λ part. part.now) parts.now) };
+        ensures { Self.Digest.encoding result ≡ hash_of (flat_map (λ part. part.now) parts.now) };
 
     /// The side from which a root's peaks are folded. In the Rust: `merkle::hasher::Hasher::root_bagging`.
     fn root_bagging(&self) -> Bagging
@@ -97,7 +99,7 @@ pub trait Hasher<F: Family>: Drop {
 
     /// The digest of a leaf at its position (own).
     fn digest_of_leaf(&self, position: u64, element: &[u8]) -> Self::Digest
-        ensures { Self.Digest.spelling result ≡ leaf_of position element.now };
+        ensures { Self.Digest.encoding result ≡ leaf_of position element.now };
 
     /// The digest of a branch at its position over its children's digests (own).
     fn digest_of_branch(
@@ -106,13 +108,14 @@ pub trait Hasher<F: Family>: Drop {
         left: &Self::Digest,
         right: &Self::Digest,
     ) -> Self::Digest
-        ensures { Self.Digest.spelling result ≡ node_of position (Self.Digest.spelling left.now) (Self.Digest.spelling right.now) };
+        ensures { Self.Digest.encoding result ≡ node_of position (Self.Digest.encoding left.now)
+            (Self.Digest.encoding right.now) };
 
     /// The digest of a leaf at its position. In the Rust: `merkle::hasher::Hasher::leaf_digest`.
     final fn leaf_digest(&self, position: Position<F>, element: &[u8]) -> Self::Digest
     where
         Self: Sized,
-        ensures { Self.Digest.spelling result ≡ leaf_of position element.now }
+        ensures { Self.Digest.encoding result ≡ leaf_of position element.now }
     {
         self.digest_of_leaf(position.as_u64(), element)
     }
@@ -127,7 +130,8 @@ pub trait Hasher<F: Family>: Drop {
     ) -> Self::Digest
     where
         Self: Sized,
-        ensures { Self.Digest.spelling result ≡ node_of position (Self.Digest.spelling left.now) (Self.Digest.spelling right.now) }
+        ensures { Self.Digest.encoding result ≡ node_of position (Self.Digest.encoding left.now)
+            (Self.Digest.encoding right.now) }
     {
         self.digest_of_branch(position.as_u64(), left, right)
     }
@@ -141,8 +145,11 @@ pub trait Hasher<F: Family>: Drop {
     ) -> (Self::Digest, Self::Digest)
     where
         Self: Sized,
-        ensures first { Self.Digest.spelling result.0 ≡ node_of first.entry.0 (Self.Digest.spelling first.entry.1.now) (Self.Digest.spelling first.entry.2.now) }
-        ensures second { Self.Digest.spelling result.1 ≡ node_of second.entry.0 (Self.Digest.spelling second.entry.1.now) (Self.Digest.spelling second.entry.2.now) }
+        ensures first { Self.Digest.encoding result.0
+            ≡ node_of first.entry.0 (Self.Digest.encoding first.entry.1.now) (Self.Digest.encoding first.entry.2.now) }
+        ensures second { Self.Digest.encoding result.1
+            ≡ node_of second.entry.0 (Self.Digest.encoding second.entry.1.now)
+            (Self.Digest.encoding second.entry.2.now) }
     {
         (
             self.node_digest(first.0, first.1, first.2),
@@ -154,7 +161,7 @@ pub trait Hasher<F: Family>: Drop {
     final fn digest(&self, bytes: &[u8]) -> Self::Digest
     where
         Self: Sized,
-        ensures { Self.Digest.spelling result ≡ hash_of bytes.now }
+        ensures { Self.Digest.encoding result ≡ hash_of bytes.now }
     {
         self.hash(&[bytes])
     }
@@ -163,13 +170,14 @@ pub trait Hasher<F: Family>: Drop {
     final fn fold(&self, left: &Self::Digest, right: &Self::Digest) -> Self::Digest
     where
         Self: Sized,
-        ensures { Self.Digest.spelling result ≡ hash_of (fold_string (Self.Digest.spelling left.now) (Self.Digest.spelling right.now)) }
+        ensures { Self.Digest.encoding result ≡ hash_of
+            (fold_string (Self.Digest.encoding left.now) (Self.Digest.encoding right.now)) }
     {
         self.hash(&[left.as_bytes(), right.as_bytes()])
     }
 
-    /// The root over a tree's peaks from left to right, of which the first `inactive_peaks` are inactive. Where there are
-    /// fewer: M16.
+    /// The root over a tree's peaks from left to right, of which the first `inactive_peaks` are inactive. Where there
+    /// are fewer: M16.
     /// In the Rust: `merkle::hasher::Hasher::root`, over an iterator of digests.
     final fn root(
         &self,
@@ -180,7 +188,8 @@ pub trait Hasher<F: Family>: Drop {
     where
         Self: Sized,
         ensures answered { IsOk result ↔ (inactive_peaks ≤ length peak_digests.now) }
-        ensures root { IfOk result (λ root. Self.Digest.spelling root ≡ root_of hash_of (bagging_of self.now) leaves inactive_peaks (map Self.Digest.spelling peak_digests.now)) }
+        ensures root { IfOk result (λ root. Self.Digest.encoding root
+            ≡ root_of hash_of (bagging_of self.now) leaves inactive_peaks (map Self.Digest.encoding peak_digests.now)) }
         ensures refused { IfErr result (λ e. e ≡ Error.InvalidInactivePeaks) }
     {
         if peak_digests.len() < inactive_peaks {
@@ -201,7 +210,9 @@ pub trait Hasher<F: Family>: Drop {
     where
         Self: Sized,
         ensures answered { IsErr result ↔ ((0 < inactive_peaks) × (length items.now ≡ 0)) }
-        ensures root { IfOk result (λ root. Self.Digest.spelling root ≡ hash_of (root_string (bagging_of self.now) leaves inactive_peaks (bagged hash_of (bagging_of self.now) (map Self.Digest.spelling items.now)))) }
+        ensures root { IfOk result (λ root. Self.Digest.encoding root
+            ≡ hash_of (root_string (bagging_of self.now) leaves inactive_peaks
+            (bagged hash_of (bagging_of self.now) (map Self.Digest.encoding items.now)))) }
         ensures refused { IfErr result (λ e. e ≡ Error.InvalidInactivePeaks) }
     {
         if items.is_empty() && inactive_peaks > 0 {
@@ -211,7 +222,8 @@ pub trait Hasher<F: Family>: Drop {
     }
 }
 
-/// The hasher of plain trees: a leaf and a branch are hashed with their positions. In the Rust: `merkle::hasher::Standard`.
+/// The hasher of plain trees: a leaf and a branch are hashed with their positions.
+/// In the Rust: `merkle::hasher::Standard`.
 #[derive(Clone, Copy, Debug)]
 pub struct Standard<H> {
     bagging: Bagging,

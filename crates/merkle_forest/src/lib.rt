@@ -30,7 +30,7 @@ pub use hasher::{ByteHash, HashFunction};
 pub use location::Location;
 pub use location_range::LocationRangeExt;
 pub use merkle_forest_parts::{Digest, codec, digest};
-pub use pending::PendingOf;
+pub use pending::{PendingOf, Unused};
 pub use position::Position;
 
 #[cfg(test)]

@@ -1,11 +1,11 @@
-//! Places of leaves.
+//! Locations of leaves.
 
 ghost use Rattle.std.specs.Prelude.{◌≡◌, ◌+◌, ◌-◌, ◌^◌, ◌<◌, ◌≤◌, ◌↔◌, min, IsTrue, IsNone, IfSome, Some};
 ghost use Rattle.std.specs.Fmt.{decimal};
 ghost use Rattle.std.proofs.Common.{rules};
 ghost use Rattle.merkle_forest_parts.specs.Varint.{varint, after_number};
 ghost use Rattle.merkle_forest.specs.declared.family.TheConstants.{MAX_LEAVES};
-ghost use Rattle.merkle_forest_parts.specs.VarintLaws.{after_number_again, varint_at_most};
+ghost use Rattle.merkle_forest_parts.specs.Laws.Varint.{after_number_again, varint_at_most};
 
 use crate::codec::{
     Cursor, EncodeSize, Error, Faithful, MaxEncodeSize, Read, Write, number_size, read_number,
@@ -17,7 +17,7 @@ use std::fmt;
 use std::marker::{Model, PhantomData};
 use std::ops::{Add, AddAssign, Sub, SubAssign};
 
-/// The place of a leaf in a forest of the family: how many leaves stand before it. Contracts see the number.
+/// The index of a leaf in a forest of the family: how many leaves stand before it. Contracts see the number.
 /// In the Rust: `merkle::Location`.
 #[derive_where(Clone, Copy, PartialEq, Eq, PartialOrd, Ord, Hash)]
 pub struct Location<F: Family> {
@@ -60,7 +60,7 @@ impl<F: Family> Location<F> {
         self.value <= MAX_LEAVES
     }
 
-    /// Whether it is below `MAX_LEAVES`, as a leaf's place is. In the Rust: `merkle::Location::is_valid_index`.
+    /// Whether it is below `MAX_LEAVES`, as a leaf's location is. In the Rust: `merkle::Location::is_valid_index`.
     pub const fn is_valid_index(self) -> bool
         ensures { IsTrue result ↔ (self < MAX_LEAVES) }
     {
@@ -220,7 +220,7 @@ impl<F: Family> fmt::Debug for Location<F> {
 }
 
 impl<F: Family> Write for Location<F> {
-    ghost spelling = { varint };
+    ghost encoding = { varint };
 
     ghost is_value = { λ l. l < 2 ^ 64 };
 
@@ -243,6 +243,8 @@ impl<F: Family> Read for Location<F> {
     type Cfg = ();
 
     ghost after = { λ _ bytes. after_number MAX_LEAVES bytes };
+
+    ghost may_lack = { λ _ _. ⊥ };
 
     ghost is_within = { λ _ l. l ≤ MAX_LEAVES };
 

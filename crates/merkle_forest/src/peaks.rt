@@ -4,8 +4,8 @@ ghost use Rattle.std.specs.Prelude.{◌≡◌, ◌≤◌, ℕ, map};
 ghost use Rattle.std.specs.Iterator.{YieldsFirst, item_count};
 ghost use Rattle.merkle_forest.specs.Forest.{forest_of};
 ghost use Rattle.merkle_forest.specs.Nodes.{IsSize};
-ghost use Rattle.merkle_forest.specs.Trees.{placed, inactive_peaks};
-ghost use Rattle.merkle_forest.specs.Peaks.{peak_places, ArePeaksOf};
+ghost use Rattle.merkle_forest.specs.Trees.{located, inactive_peaks};
+ghost use Rattle.merkle_forest.specs.Peaks.{peak_positions, ArePeaksOf};
 
 use crate::family::{Family, MAX_LEAVES};
 use crate::location::Location;
@@ -25,11 +25,11 @@ pub struct Peaks<F: Family> {
 impl<F: Family> Model for Peaks<F> {
     ghost use Rattle.std.specs.Prelude.{◌≡◌, ◌≤◌, ◌^◌, ℕ, List, true};
     ghost use Rattle.merkle_forest.specs.Forest.{forest_of};
-    ghost use Rattle.merkle_forest.specs.Peaks.{places_from, is_cut};
+    ghost use Rattle.merkle_forest.specs.Peaks.{positions_from, is_cut};
 
     ghost Value = { List (ℕ × ℕ) };
 
-    ghost view = { λ a. places_from a.next (forest_of F.merge_rule a.leaves) };
+    ghost view = { λ a. positions_from a.next (forest_of F.merge_rule a.leaves) };
 
     ghost invariant = { λ a. (a.leaves ≤ 2 ^ 62) × (is_cut a.next (forest_of F.merge_rule a.leaves) ≡ true) };
 }
@@ -47,7 +47,7 @@ impl<F: Family> Peaks<F> {
     /// The peaks of the forest of this many leaves (own).
     pub fn of_leaves(leaves: Location<F>) -> Peaks<F>
         requires { leaves ≤ MAX_LEAVES }
-        ensures { result ≡ peak_places (forest_of F.merge_rule leaves) }
+        ensures { result ≡ peak_positions (forest_of F.merge_rule leaves) }
     {
         Peaks {
             leaves: leaves.as_u64(),
@@ -86,13 +86,13 @@ impl<F: Family> Model for PeakPositions<F> {
 
     ghost Value = { List ℕ };
 
-    ghost view = { λ a. map (λ place. place.0) a.peaks };
+    ghost view = { λ a. map (λ peak. peak.0) a.peaks };
 }
 
 impl<F: Family> PeakPositions<F> {
     /// The positions of these peaks (own).
     pub fn new(peaks: Peaks<F>) -> PeakPositions<F>
-        ensures { result ≡ map (λ place. place.0) peaks }
+        ensures { result ≡ map (λ peak. peak.0) peaks }
     {
         PeakPositions { peaks }
     }
@@ -114,7 +114,7 @@ impl<F: Family> Iterator for PeakPositions<F> {
 /// How many peaks of the forest of this many leaves come first whose leaves all stand before the floor (own).
 pub fn inactive_count<F: Family>(leaves: u64, floor: u64) -> usize
     requires { leaves ≤ MAX_LEAVES }
-    ensures { result ≡ inactive_peaks floor (placed (forest_of F.merge_rule leaves)) }
+    ensures { result ≡ inactive_peaks floor (located (forest_of F.merge_rule leaves)) }
 {
     let mut first = 0;
     let mut count = 0;

@@ -1,72 +1,155 @@
 //! What a proof holds of the digest of a chunk that is full and not yet graftable.
+//!
+//! A chunk of leaves is full when its last leaf is there, and graftable when the node over it is born. Where a family's
+//! nodes are born with their last leaf no full chunk is pending, and a proof has nothing to hold.
 
-ghost use Rattle.std.specs.Prelude.{◌≡◌, ◌<◌, ◌≤◌, ◌/◌, ◌^◌, ◌++◌, ℕ, List, [], length, Option, Some, None, Ok, IfOk, OnOk, OnErr, option_map, refl};
+ghost use Rattle.std.specs.Prelude.{◌≡◌, ◌<◌, ◌≤◌, ◌/◌, ◌^◌, ◌++◌, ◌↔◌, ℕ, List, [], length, Option, Some, None, Ok, IsSome, IfSome, option_map, refl, ⊤};
 ghost use Rattle.std.proofs.Common.{sym, ◌∙◌};
-ghost use Rattle.merkle_forest_parts.specs.Codec.{Outcome, Extends, Reads};
+ghost use Rattle.merkle_forest_parts.specs.Codec.{Outcome};
 ghost use Rattle.merkle_forest.specs.Forest.{forest_of};
-ghost use Rattle.merkle_forest.specs.MmrCounts.{all-mmr};
+ghost use Rattle.merkle_forest.specs.Laws.MmrCounts.{all-mmr};
 ghost use Rattle.merkle_forest.specs.Nodes.{nodes_of_height};
 
-use crate::codec::{Cursor, Error};
+use crate::codec::{Cursor, EncodeSize, Error, Read, Write};
 use crate::digest::Digest;
 use crate::family::Family;
 use crate::mmr;
 use std::alloc::{AllocError, Global};
+use std::fmt::Debug;
 
-/// A family that says how a proof spells the digest of the pending chunk (own). At most one chunk is pending.
-/// In the Rust a type of each family stands in its place, `merkle::Graftable::PendingChunk`, which is written and read itself.
+/// A family that says how a proof holds the digest of the pending chunk, of which there is at most one (own).
+/// In the Rust a type of each family stands in its place, `merkle::Graftable::PendingChunk`, a `merkle::PendingChunk`.
 pub trait PendingOf<D: Digest>: Family {
+    /// What a proof holds: the digest of the pending chunk, or its absence.
+    type Pending: Read<Cfg = ()> + EncodeSize + Copy + Eq + Debug;
+
     /// Holds of what a proof may hold: the bytes of the digest of the pending chunk, or its absence.
     ghost is_pending: { Option (List ℕ) → Type 0 };
 
-    /// The bytes that spell the digest of the pending chunk, or its absence.
-    ghost pending_spelling: { Option (List ℕ) → List ℕ };
+    /// The bytes that encode the digest of the pending chunk, or its absence.
+    ghost pending_encoding: { Option (List ℕ) → List ℕ };
 
-    /// The bytes behind that spelling at the front, or the first fault from the left.
+    /// The bytes after that encoding at the front, or the first fault from the left.
     ghost pending_after: { List ℕ → Outcome };
 
-    /// Appends the spelling of the digest of the pending chunk, or of its absence. It fails for want of memory alone, and some
-    /// bytes may then have been appended.
-    fn write_pending(digest: &Option<D>, out: &mut Vec<u8>) -> Result<(), AllocError>
-        ensures ok { OnOk result (out.new.items ≡ out.old.items ++ pending_spelling (option_map D.spelling digest.now)) }
-        ensures err { OnErr result (Extends out.old.items out.new.items) };
+    /// The bytes of the digest that is held, or its absence.
+    ghost held: { Self.Pending → Option (List ℕ) };
 
-    /// The digest of the pending chunk, or its absence, at the front; or the first fault from the left, or C8. After a refusal
-    /// the cursor's place is open.
-    fn read_pending(alloc: Global, cursor: &mut Cursor<'_>) -> Result<Option<D>, Error>
-        ensures read { Reads (λ digest. pending_spelling (option_map D.spelling digest)) cursor.old cursor.new (pending_after cursor.old) result }
-        ensures held { IfOk result (λ digest. is_pending (option_map D.spelling digest)) };
+    /// What a proof holds of this digest or its absence. None where a proof of the family may not hold it.
+    /// In the Rust: `TryFrom<Option<D>>` of a `merkle::PendingChunk`.
+    fn hold(digest: Option<D>) -> Option<Self::Pending>
+        ensures held { IfSome result (λ pending. held pending ≡ option_map D.encoding digest) }
+        ensures some { IsSome result ↔ is_pending (option_map D.encoding digest) };
 
-    /// What was spelled is read again.
-    ghost pending_again: { (digest : Option (List ℕ)) (rest : List ℕ) → is_pending digest → pending_after (pending_spelling digest ++ rest) ≡ Ok rest };
+    /// The digest that is held, or None where none is. In the Rust: `merkle::PendingChunk::as_ref`.
+    fn digest_of(pending: &Self::Pending) -> Option<D>
+        ensures { option_map D.encoding result ≡ held pending.now };
 
-    /// One spelling stands for one digest, and does not begin another spelling.
+    /// The encoding of what is held is that of the digest or of its absence.
+    ghost pending_encoded: { (pending : Self.Pending)
+        → Self.Pending.encoding pending ≡ pending_encoding (held pending) };
+
+    /// The bytes after what is held.
+    ghost pending_read: { (bytes : List ℕ) → Self.Pending.after tt bytes ≡ pending_after bytes };
+
+    /// What is read, and each other value, is one that a proof may hold.
+    ghost pending_value: { (pending : Self.Pending) → Self.Pending.is_value pending → is_pending (held pending) };
+
+    /// Reading it takes no memory.
+    ghost pending_never_lacks: { (bytes : List ℕ) → Self.Pending.may_lack tt bytes → ⊥ };
+
+    /// What is held determines the value.
+    ghost pending_same: { (pending other : Self.Pending) → held pending ≡ held other → pending ≡ other };
+
+    /// What was encoded is read again.
+    ghost pending_again: { (digest : Option (List ℕ)) (rest : List ℕ) → is_pending digest
+        → pending_after (pending_encoding digest ++ rest) ≡ Ok rest };
+
+    /// One encoding stands for one digest, and does not begin another encoding.
     ghost pending_once: { (digest other : Option (List ℕ)) (rest more : List ℕ) → is_pending digest → is_pending other
-        → pending_spelling digest ++ rest ≡ pending_spelling other ++ more → (digest ≡ other) × (rest ≡ more) };
+        → pending_encoding digest ++ rest ≡ pending_encoding other ++ more → (digest ≡ other) × (rest ≡ more) };
 
     /// A proof may hold no digest.
     ghost none_pending: { is_pending None };
 
     /// Where some full chunk of 2^height leaves has no node, a proof may hold any digest.
     ghost some_pending: { (leaves height : ℕ) (digest : List ℕ) → leaves ≤ 2 ^ 62 → 0 < height → height ≤ 62
-        → nodes_of_height height (forest_of Self.merge_rule leaves) < leaves / 2 ^ height → length digest ≡ D.SIZE → is_pending (Some digest) };
+        → nodes_of_height height (forest_of Self.merge_rule leaves) < leaves / 2 ^ height → length digest ≡ D.SIZE
+        → is_pending (Some digest) };
+}
+
+/// What a proof of a family holds in which no chunk is ever pending: nothing, written as no bytes.
+/// In the Rust: `merkle::Unused`.
+#[derive(Clone, Copy, Debug, PartialEq, Eq)]
+pub struct Unused;
+
+impl Write for Unused {
+    ghost encoding = { λ _. [] };
+
+    ghost is_value = { λ _. ⊤ };
+
+    fn write(&self, _out: &mut Vec<u8>) -> Result<(), AllocError> {
+        Ok(())
+    }
+}
+
+impl EncodeSize for Unused {
+    fn encode_size(&self) -> usize {
+        0
+    }
+}
+
+impl Read for Unused {
+    type Cfg = ();
+
+    ghost after = { λ _ bytes. Ok bytes };
+
+    ghost may_lack = { λ _ _. ⊥ };
+
+    ghost is_within = { λ _ _. ⊤ };
+
+    fn read_cfg(_alloc: Global, _cursor: &mut Cursor<'_>, _cfg: &()) -> Result<Unused, Error> {
+        Ok(Unused)
+    }
+
+    ghost read_again = { λ _ _ _ _ _. refl };
 }
 
 /// A proof over a Merkle Mountain Range holds nothing of it: there no chunk is ever pending.
 impl<D: Digest> PendingOf<D> for mmr::Family {
+    type Pending = Unused;
+
     ghost is_pending = { λ digest. digest ≡ None };
 
-    ghost pending_spelling = { λ _. [] };
+    ghost pending_encoding = { λ _. [] };
 
     ghost pending_after = { λ bytes. Ok bytes };
 
-    fn write_pending(_digest: &Option<D>, _out: &mut Vec<u8>) -> Result<(), AllocError> {
-        Ok(())
+    ghost held = { λ _. None };
+
+    fn hold(digest: Option<D>) -> Option<Unused>
+        ensures held { IfSome result (λ _. None ≡ option_map D.encoding digest) }
+        ensures some { IsSome result ↔ (option_map D.encoding digest ≡ None) }
+    {
+        match digest {
+            None => Some(Unused),
+            Some(_) => None,
+        }
     }
 
-    fn read_pending(_alloc: Global, _cursor: &mut Cursor<'_>) -> Result<Option<D>, Error> {
-        Ok(None)
+    fn digest_of(_pending: &Unused) -> Option<D> {
+        None
     }
+
+    ghost pending_encoded = { λ _. refl };
+
+    ghost pending_read = { λ _. refl };
+
+    ghost pending_value = { λ _ _. refl };
+
+    ghost pending_never_lacks = { λ _ lacks. lacks };
+
+    ghost pending_same = { λ _ _ _. refl };
 
     ghost pending_again = { λ _ _ _. refl };
 

@@ -1,4 +1,4 @@
-//! Places of nodes.
+//! Positions of nodes.
 
 ghost use Rattle.std.specs.Prelude.{◌≡◌, ◌+◌, ◌-◌, ◌^◌, ◌<◌, ◌≤◌, ◌↔◌, min, IsTrue, IsNone, IfSome, Some};
 ghost use Rattle.std.specs.Fmt.{decimal};
@@ -6,7 +6,7 @@ ghost use Rattle.std.proofs.Common.{rules};
 ghost use Rattle.merkle_forest.specs.Nodes.{IsSize};
 ghost use Rattle.merkle_forest_parts.specs.Varint.{varint, after_number};
 ghost use Rattle.merkle_forest.specs.declared.family.TheConstants.{MAX_NODES};
-ghost use Rattle.merkle_forest_parts.specs.VarintLaws.{after_number_again, varint_at_most};
+ghost use Rattle.merkle_forest_parts.specs.Laws.Varint.{after_number_again, varint_at_most};
 
 use crate::codec::{
     Cursor, EncodeSize, Error, Faithful, MaxEncodeSize, Read, Write, number_size, read_number,
@@ -18,7 +18,7 @@ use std::fmt;
 use std::marker::{Model, PhantomData};
 use std::ops::{Add, AddAssign, Sub, SubAssign};
 
-/// The place of a node in a forest of the family: how many nodes stand before it. Contracts see the number.
+/// The index of a node in a forest of the family: how many nodes stand before it. Contracts see the number.
 /// In the Rust: `merkle::Position`.
 #[derive_where(Clone, Copy, PartialEq, Eq, PartialOrd, Ord, Hash)]
 pub struct Position<F: Family> {
@@ -61,14 +61,15 @@ impl<F: Family> Position<F> {
         self.value <= MAX_NODES
     }
 
-    /// Whether it is below `MAX_NODES`, as a node's place is. In the Rust: `merkle::Position::is_valid_index`.
+    /// Whether it is below `MAX_NODES`, as a node's position is. In the Rust: `merkle::Position::is_valid_index`.
     pub const fn is_valid_index(self) -> bool
         ensures { IsTrue result ↔ (self < MAX_NODES) }
     {
         self.value < MAX_NODES
     }
 
-    /// Whether a forest of up to `MAX_LEAVES` leaves has this many nodes. In the Rust: `merkle::Position::is_valid_size`.
+    /// Whether a forest of up to `MAX_LEAVES` leaves has this many nodes.
+    /// In the Rust: `merkle::Position::is_valid_size`.
     pub fn is_valid_size(self) -> bool
         ensures { IsTrue result ↔ IsSize F.merge_rule self }
     {
@@ -228,7 +229,7 @@ impl<F: Family> fmt::Debug for Position<F> {
 }
 
 impl<F: Family> Write for Position<F> {
-    ghost spelling = { varint };
+    ghost encoding = { varint };
 
     ghost is_value = { λ p. p < 2 ^ 64 };
 
@@ -251,6 +252,8 @@ impl<F: Family> Read for Position<F> {
     type Cfg = ();
 
     ghost after = { λ _ bytes. after_number MAX_NODES bytes };
+
+    ghost may_lack = { λ _ _. ⊥ };
 
     ghost is_within = { λ _ p. p ≤ MAX_NODES };
 

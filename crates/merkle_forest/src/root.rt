@@ -15,12 +15,14 @@ pub fn fold_onto<F: Family, H: Hasher<F>>(
     first: H::Digest,
     digests: &[H::Digest],
 ) -> H::Digest
-    ensures { H.Digest.spelling result ≡ folded_onto H.hash_of (H.Digest.spelling first) (map H.Digest.spelling digests.now) }
+    ensures { H.Digest.encoding result ≡ folded_onto H.hash_of (H.Digest.encoding first)
+        (map H.Digest.encoding digests.now) }
 {
-    match digests {
-        [] => first,
-        [next, rest @ ..] => fold_onto(hasher, hasher.fold(&first, next), rest),
+    let mut folded = first;
+    for digest in digests {
+        folded = hasher.fold(&folded, digest);
     }
+    folded
 }
 
 /// The digest into which the digests are folded from the right, with the first one at the left end (own).
@@ -29,17 +31,23 @@ pub fn fold_backward<F: Family, H: Hasher<F>>(
     first: &H::Digest,
     digests: &[H::Digest],
 ) -> H::Digest
-    ensures { H.Digest.spelling result ≡ folded_backward H.hash_of (H.Digest.spelling first.now ∷ map H.Digest.spelling digests.now) }
+    ensures { H.Digest.encoding result ≡ folded_backward H.hash_of
+        (H.Digest.encoding first.now ∷ map H.Digest.encoding digests.now) }
 {
-    match digests {
-        [] => *first,
-        [next, rest @ ..] => hasher.fold(first, &fold_backward(hasher, next, rest)),
+    let Some(last) = digests.last() else {
+        return *first;
+    };
+    let mut folded = *last;
+    for index in (0..digests.len() - 1).rev() {
+        folded = hasher.fold(&digests[index], &folded);
     }
+    hasher.fold(first, &folded)
 }
 
 // The digests folded as the bagging says.
 fn bag<F: Family, H: Hasher<F>>(hasher: &H, first: &H::Digest, digests: &[H::Digest]) -> H::Digest
-    ensures { H.Digest.spelling result ≡ bagged H.hash_of (H.bagging_of hasher.now) (H.Digest.spelling first.now ∷ map H.Digest.spelling digests.now) }
+    ensures { H.Digest.encoding result ≡ bagged H.hash_of (H.bagging_of hasher.now)
+        (H.Digest.encoding first.now ∷ map H.Digest.encoding digests.now) }
 {
     match hasher.root_bagging() {
         Bagging::ForwardFold => fold_onto(hasher, *first, digests),
@@ -50,7 +58,7 @@ fn bag<F: Family, H: Hasher<F>>(hasher: &H, first: &H::Digest, digests: &[H::Dig
 // The digest of a root's string.
 #[tactic(auto, unfolding(crate::specs::Hashing::root_string))]
 fn seal<F: Family, H: Hasher<F>>(hasher: &H, leaves: u64, inactive: u64, peaks: &[u8]) -> H::Digest
-    ensures { H.Digest.spelling result ≡ H.hash_of (root_string (H.bagging_of hasher.now) leaves inactive peaks.now) }
+    ensures { H.Digest.encoding result ≡ H.hash_of (root_string (H.bagging_of hasher.now) leaves inactive peaks.now) }
 {
     let leaves = leaves.to_be_bytes();
     let domain = [hasher.root_bagging().domain()];
@@ -68,7 +76,9 @@ pub(crate) fn root_of_items<F: Family, H: Hasher<F>>(
     inactive: u64,
     items: &[H::Digest],
 ) -> H::Digest
-    ensures { H.Digest.spelling result ≡ H.hash_of (root_string (H.bagging_of hasher.now) leaves inactive (bagged H.hash_of (H.bagging_of hasher.now) (map H.Digest.spelling items.now))) }
+    ensures { H.Digest.encoding result ≡ H.hash_of
+        (root_string (H.bagging_of hasher.now) leaves inactive
+        (bagged H.hash_of (H.bagging_of hasher.now) (map H.Digest.encoding items.now))) }
 {
     match items {
         [] => seal(hasher, leaves, inactive, &[]),
@@ -88,7 +98,8 @@ pub fn root_over_item<F: Family, H: Hasher<F>>(
     inactive: u64,
     item: &H::Digest,
 ) -> H::Digest
-    ensures { H.Digest.spelling result ≡ H.hash_of (root_string (H.bagging_of hasher.now) leaves inactive (H.Digest.spelling item.now)) }
+    ensures { H.Digest.encoding result ≡ H.hash_of
+        (root_string (H.bagging_of hasher.now) leaves inactive (H.Digest.encoding item.now)) }
 {
     seal(hasher, leaves, inactive, item.as_bytes())
 }
@@ -102,7 +113,8 @@ pub(crate) fn root_of_peaks<F: Family, H: Hasher<F>>(
     peaks: &[H::Digest],
 ) -> H::Digest
     requires { inactive ≤ length peaks.now }
-    ensures { H.Digest.spelling result ≡ root_of H.hash_of (H.bagging_of hasher.now) leaves inactive (map H.Digest.spelling peaks.now) }
+    ensures { H.Digest.encoding result ≡ root_of H.hash_of (H.bagging_of hasher.now) leaves inactive
+        (map H.Digest.encoding peaks.now) }
 {
     let (front, rest) = peaks.split_at(inactive);
     match front {

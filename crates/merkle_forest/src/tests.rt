@@ -11,7 +11,7 @@ type Leaf = mmr::Location;
 type Node = mmr::Position;
 
 #[test]
-fn locations(rt: HostRuntime) -> Result<(), Fail> {
+fn location_arithmetic_stays_in_its_range(rt: HostRuntime) -> Result<(), Fail> {
     let five = Leaf::new(5);
     assert_eq!(rt; five.as_u64(), 5);
     assert!(rt; Leaf::new(MAX_LEAVES).is_valid());
@@ -34,7 +34,7 @@ fn locations(rt: HostRuntime) -> Result<(), Fail> {
 }
 
 #[test]
-fn positions(rt: HostRuntime) -> Result<(), Fail> {
+fn position_arithmetic_stays_in_its_range(rt: HostRuntime) -> Result<(), Fail> {
     let five = Node::new(5);
     assert_eq!(rt; five.as_u64(), 5);
     assert!(rt; Node::new(MAX_NODES).is_valid());
@@ -53,7 +53,9 @@ fn positions(rt: HostRuntime) -> Result<(), Fail> {
 }
 
 #[test]
-fn spelled(rt: HostRuntime) -> Result<(), Fail> {
+fn encodes_locations_and_positions_as_varints_within_their_limits(
+    rt: HostRuntime,
+) -> Result<(), Fail> {
     let leaf = Leaf::new(300);
     assert_eq!(rt;
         leaf.encode(rt.alloc())?.as_slice(),
@@ -81,7 +83,7 @@ fn spelled(rt: HostRuntime) -> Result<(), Fail> {
 
 // The leaves 0 to 3 of a Merkle Mountain Range stand at 0, 1, 3 and 4; at 2 stands the first branch.
 #[test]
-fn converted(rt: HostRuntime) -> Result<(), Fail> {
+fn converts_between_locations_and_positions_of_leaves(rt: HostRuntime) -> Result<(), Fail> {
     assert_eq!(rt; Leaf::try_from(Node::new(4)), Ok(Leaf::new(3)));
     assert_eq!(rt; Node::try_from(Leaf::from(3usize)), Ok(Node::from(4usize)));
     assert_eq!(rt;
@@ -103,5 +105,17 @@ fn converted(rt: HostRuntime) -> Result<(), Fail> {
         format!(in rt.alloc(); "{}", Error::NonLeaf(Node::new(2)))?.as_str(),
         "M1: no leaf stands at position 2"
     );
+    Ok(())
+}
+
+#[test]
+fn a_range_holds_no_pending_digest(rt: HostRuntime) -> Result<(), Fail> {
+    let digest = codec::FixedBytes::new([7; 32]);
+    assert_eq!(rt; mmr::Family::hold(Some(digest)), None);
+    let nothing: Option<codec::FixedBytes<32>> = None;
+    assert_eq!(rt; mmr::Family::hold(nothing), Some(Unused));
+    assert!(rt; Unused.encode(rt.alloc())?.is_empty());
+    assert_eq!(rt; Unused.encode_size(), 0);
+    assert_eq!(rt; Unused::decode_cfg(rt.alloc(), &[], &())?, Unused);
     Ok(())
 }

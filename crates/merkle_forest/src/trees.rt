@@ -3,7 +3,7 @@
 ghost use Rattle.std.specs.Prelude.{◌≡◌, ◌<◌, ◌≤◌, ◌+◌, ◌^◌, ◌++◌, ◌∷◌, [], ℕ, List, map, length, IfOk, OnOk};
 ghost use Rattle.merkle_forest.specs.Forest.{Tree, leaf_count, leaves, forest_of};
 ghost use Rattle.merkle_forest.specs.Shape.{shape};
-ghost use Rattle.merkle_forest.specs.Trees.{placed, plain_digest, peak_digests, inactive_peaks, tree_root, Within};
+ghost use Rattle.merkle_forest.specs.Trees.{located, plain_digest, peak_digests, inactive_peaks, tree_root, Within};
 ghost use Rattle.merkle_forest.specs.TreesCode.{shapes};
 
 use crate::digest::Digest;
@@ -17,7 +17,8 @@ use std::marker::PhantomData;
 /// The digest of a tree over the elements from `start` on.
 pub fn digest_of<H: HashFunction>(elements: &[Vec<u8>], start: usize, tree: &Tree) -> H::Digest
     requires { start + leaf_count (shape tree.now) ≤ length elements.now }
-    ensures { H.Digest.spelling result ≡ plain_digest H.hash_of (map (λ e. e.items) elements.now) start (shape tree.now) }
+    ensures { H.Digest.encoding result ≡ plain_digest H.hash_of (map (λ e. e.items) elements.now) start
+        (shape tree.now) }
 {
     match tree {
         Tree::Leaf(position) => hash_leaf::<H>(*position, &elements[start]),
@@ -40,7 +41,7 @@ pub trait TreeDigests<D: Digest> {
     /// The digest of a tree whose first leaf stands at `start`.
     fn digest(&self, start: usize, tree: &Tree) -> D
         requires { start + leaf_count (shape tree.now) ≤ element_count self.now }
-        ensures { D.spelling result ≡ digest_at self.now start (shape tree.now) };
+        ensures { D.encoding result ≡ digest_at self.now start (shape tree.now) };
 }
 
 /// The plain digests over these elements.
@@ -72,29 +73,7 @@ impl<H: HashFunction> TreeDigests<H::Digest> for Plain<'_, H> {
     }
 }
 
-// Appends the digests of the peaks from left to right, and answers how many leaves they have.
-fn append_digests<D: Digest, T: TreeDigests<D>>(
-    found: &mut Vec<D>,
-    digests: &T,
-    peaks: &[Tree],
-) -> Result<usize, AllocError>
-    requires small { leaves (map shape peaks.now) < 2 ^ 64 }
-    requires within { leaves (map shape peaks.now) ≤ T.element_count digests.now }
-    ensures digests { OnOk result (map D.spelling found.new.items ≡ map D.spelling found.old.items ++ peak_digests (T.digest_at digests.now) (map shape peaks.now)) }
-    ensures counted { IfOk result (λ count. count ≡ leaves (map shape peaks.now)) }
-    ensures longer { OnOk result (length found.new.items ≡ length found.old.items + length peaks.now) }
-{
-    match peaks {
-        [] => Ok(0),
-        [last, rest @ ..] => {
-            let before = append_digests(found, digests, rest)?;
-            found.push(digests.digest(before, last))?;
-            Ok(before + leaf_count_of(last))
-        }
-    }
-}
-
-/// The digests of the peaks, from left to right. It fails for want of memory alone.
+/// The digests of the peaks, from left to right. It fails only when out of memory.
 pub fn digests_of_peaks<D: Digest, T: TreeDigests<D>>(
     alloc: Global,
     digests: &T,
@@ -102,11 +81,17 @@ pub fn digests_of_peaks<D: Digest, T: TreeDigests<D>>(
 ) -> Result<Vec<D>, AllocError>
     requires small { leaves (map shape peaks.now) < 2 ^ 64 }
     requires within { leaves (map shape peaks.now) ≤ T.element_count digests.now }
-    ensures digests { IfOk result (λ found. map D.spelling found.items ≡ peak_digests (T.digest_at digests.now) (map shape peaks.now)) }
+    ensures digests { IfOk result (λ found. map D.encoding found.items
+        ≡ peak_digests (T.digest_at digests.now) (map shape peaks.now)) }
     ensures counted { IfOk result (λ found. length found.items ≡ length peaks.now) }
 {
     let mut found = Vec::new(alloc);
-    append_digests(&mut found, digests, peaks)?;
+    let mut start = 0;
+    for index in (0..peaks.len()).rev() {
+        let tree = &peaks[index];
+        found.push(digests.digest(start, tree))?;
+        start += leaf_count_of(tree);
+    }
     Ok(found)
 }
 
@@ -116,47 +101,30 @@ pub fn inactive_count_of(floor: u64, peaks: &[(usize, &Tree)]) -> usize
     ensures count { result ≡ inactive_peaks floor (shapes peaks.now) }
     ensures within { result ≤ length peaks.now }
 {
-    match peaks {
-        [] => 0,
-        [(start, tree), rest @ ..] => {
-            if (*start + leaf_count_of(tree)) as u64 <= floor {
-                inactive_count_of(floor, rest) + 1
-            } else {
-                0
-            }
+    let mut count = 0;
+    for (start, tree) in peaks {
+        if (*start + leaf_count_of(tree)) as u64 > floor {
+            return count;
         }
+        count += 1;
     }
+    count
 }
 
-// Appends the peaks from left to right, each with the location of its first leaf, and answers how many leaves they have.
-fn append_placed<'a>(
-    found: &mut Vec<(usize, &'a Tree)>,
-    peaks: &'a [Tree],
-) -> Result<usize, AllocError>
+/// The peaks from left to right, each with the location of its first leaf. It fails only when out of memory.
+#[tactic(auto, using(crate::specs::Laws::Trees::located_within))]
+pub fn locate<'a>(alloc: Global, peaks: &'a [Tree]) -> Result<Vec<(usize, &'a Tree)>, AllocError>
     requires { leaves (map shape peaks.now) < 2 ^ 64 }
-    ensures placed { OnOk result (shapes found.new.items ≡ shapes found.old.items ++ placed (map shape peaks.now)) }
-    ensures counted { IfOk result (λ count. count ≡ leaves (map shape peaks.now)) }
-    ensures longer { OnOk result (length found.new.items ≡ length found.old.items + length peaks.now) }
-{
-    match peaks {
-        [] => Ok(0),
-        [last, rest @ ..] => {
-            let before = append_placed(found, rest)?;
-            found.push((before, last))?;
-            Ok(before + leaf_count_of(last))
-        }
-    }
-}
-
-/// The peaks from left to right, each with the location of its first leaf. It fails for want of memory alone.
-#[tactic(auto, using(crate::specs::TreesLaws::placed_within))]
-pub fn place<'a>(alloc: Global, peaks: &'a [Tree]) -> Result<Vec<(usize, &'a Tree)>, AllocError>
-    requires { leaves (map shape peaks.now) < 2 ^ 64 }
-    ensures placed { IfOk result (λ found. shapes found.items ≡ placed (map shape peaks.now)) }
+    ensures located { IfOk result (λ found. shapes found.items ≡ located (map shape peaks.now)) }
     ensures within { IfOk result (λ found. Within (leaves (map shape peaks.now)) (shapes found.items)) }
     ensures counted { IfOk result (λ found. length found.items ≡ length peaks.now) }
 {
     let mut found = Vec::new(alloc);
-    append_placed(&mut found, peaks)?;
+    let mut start = 0;
+    for index in (0..peaks.len()).rev() {
+        let tree = &peaks[index];
+        found.push((start, tree))?;
+        start += leaf_count_of(tree);
+    }
     Ok(found)
 }

@@ -10,7 +10,8 @@ fn nanoseconds(clock: &impl CpuClock) -> io::Result<u64> {
     Ok(whole.saturating_add(u64::from(time.subsec_nanos())))
 }
 
-/// The nanoseconds that the work takes, done so many times. Prints the count with a sum of the answers, and the time of one.
+/// The nanoseconds that the work takes, done so many times. Prints the count with a sum of the answers, and the time of
+/// one.
 pub fn measure<R: Print + Eprint + CpuClock, W: FnMut(u64) -> u64>(
     rt: &R,
     name: &str,

@@ -53,7 +53,7 @@ pub fn peaks(base: u64, number: u64) -> u64
     sum
 }
 
-/// The last byte of the varint of a number a little above the least one, or 0 for want of memory.
+/// The last byte of the varint of a number a little above the least one, or 0 when out of memory.
 pub fn write_varint(out: &mut Vec<u8>, least: u64, number: u64) -> u64 {
     out.clear();
     match write_number(out, least | number % 128) {

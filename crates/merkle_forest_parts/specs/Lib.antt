@@ -1,6 +1,5 @@
 pub mod Codec
-pub mod CodecLaws
-pub mod ListLaws
+pub mod Errors
+pub mod Laws
 pub mod Lists
 pub mod Varint
-pub mod VarintLaws

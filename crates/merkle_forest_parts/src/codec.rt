@@ -9,6 +9,7 @@ pub mod max_size;
 pub mod numbers;
 pub mod option;
 pub mod traits;
+pub mod undo;
 pub mod varint;
 
 pub use cursor::Cursor;
@@ -17,6 +18,7 @@ pub use fixed_bytes::FixedBytes;
 pub use list::{RangeCfg, read_count};
 pub use max_size::MaxEncodeSize;
 pub use traits::{Decode, Encode, EncodeSize, Faithful, FixedSize, Read, Write};
+pub use undo::or_undo;
 pub use varint::{UInt, number_size, read_number, write_number};
 
 #[cfg(test)]

@@ -1,4 +1,4 @@
--- Operations and their fixed spelling. A key or a value is its own spelling, a list of bytes.
+-- Operations and their fixed encoding. A key or a value is its own encoding, a list of bytes.
 use Rattle.std.specs.Prelude.{ℕ, ◌+◌, ◌-◌, ◌*◌, max, List, ◌∷◌, ◌++◌, length, replicate, Option, None, Some, option_map}
 use Rattle.std.specs.Int.{w64, to_be_bytes}
 use Rattle.state_ops.specs.declared.operation.Operation as code
@@ -10,7 +10,7 @@ pub data Operation : Type 0 where
   update : List ℕ → List ℕ → List ℕ → Operation
   commit_floor : Option (List ℕ) → ℕ → Operation
 
--- what an operation of the code says, given how its keys and its values are spelled
+-- what an operation of the code says, given how its keys and its values are encoded
 abbrev pub meaning_of : {K V : Type 0} → (K → List ℕ) → (V → List ℕ) → code.Operation K V → Operation
 meaning_of key value (Delete k) = delete (key k)
 meaning_of key value (Update u) = update (key u.key) (value u.value) (key u.next_key)
@@ -35,6 +35,6 @@ unpadded value (delete k) = 0xD1 ∷ k
 unpadded value (update k v next) = 0xD2 ∷ (k ++ v ++ next)
 unpadded value (commit_floor metadata floor) = 0xD3 ∷ (fixed_metadata value metadata ++ to_be_bytes w64 floor)
 
--- an operation's fixed spelling
+-- an operation's fixed encoding
 abbrev pub fixed_encoding : ℕ → ℕ → Operation → List ℕ
 fixed_encoding key value operation = padded (fixed_size key value) (unpadded value operation)

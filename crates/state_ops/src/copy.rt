@@ -8,9 +8,11 @@ use merkle_forest::codec::Faithful;
 use std::alloc::AllocError;
 
 impl<K: Faithful, V: Faithful> Operation<K, V> {
-    /// An operation that says the same. It fails for want of memory alone. In the Rust: `Clone::clone`, which never fails.
+    /// An operation that says the same. It fails only when out of memory.
+    /// In the Rust: `Clone::clone`, which never fails.
     pub fn try_copy(&self) -> Result<Operation<K, V>, AllocError>
-        ensures { IfOk result (λ copy. spec.meaning_of K.spelling V.spelling copy ≡ spec.meaning_of K.spelling V.spelling self.now) }
+        ensures { IfOk result (λ copy. spec.meaning_of K.encoding V.encoding copy
+            ≡ spec.meaning_of K.encoding V.encoding self.now) }
     {
         match self {
             Operation::Delete(key) => Ok(Operation::Delete(key.clone()?)),

@@ -1,6 +1,6 @@
-//! The fixed spelling of operations: all have one size.
+//! The fixed encoding of operations: all have one size.
 
-ghost use Rattle.std.specs.Prelude.{◌≡◌, ℕ, ◌++◌, replicate, OnOk, OnErr, IfOk};
+ghost use Rattle.std.specs.Prelude.{◌≡◌, ◌++◌, replicate, OnOk, OnErr, IfOk};
 ghost use Rattle.merkle_forest.specs.Codec.{Extends};
 ghost use Rattle.state_ops.specs.Operation as spec;
 
@@ -9,11 +9,12 @@ pub mod reading;
 
 use crate::key::{FixedValue, Key};
 use crate::operation::{COMMIT_CONTEXT, DELETE_CONTEXT, Operation, UPDATE_CONTEXT};
-use merkle_forest::codec::{FixedSize, Write};
+use merkle_forest::codec::{FixedSize, Write, or_undo};
 pub use reading::read_operation;
 use std::alloc::{AllocError, Global};
 
-/// The size in bytes of every operation with keys `K` and values `V`. It is wide enough for keys and values of any size.
+/// The size in bytes of every operation with keys `K` and values `V`. It is wide enough for keys and values of any
+/// size.
 /// In the Rust: `commonware_codec::FixedSize::SIZE` of an ordered operation with `FixedEncoding`, a usize.
 pub fn fixed_size<K: Key, V: FixedValue>() -> u128
     ensures { result ≡ spec.fixed_size K.SIZE V.SIZE }
@@ -26,7 +27,7 @@ pub fn fixed_size<K: Key, V: FixedValue>() -> u128
     update.max(commit.max(delete))
 }
 
-/// Appends `count` zeros. It fails for want of memory alone, and some zeros may then have been appended.
+// Appends `count` zeros. Out of memory, some of them may have been appended.
 fn write_zeros(count: u128, out: &mut Vec<u8>) -> Result<(), AllocError>
     ensures ok { OnOk result (out.new.items ≡ out.old.items ++ replicate count 0) }
     ensures err { OnErr result (Extends out.old.items out.new.items) }
@@ -37,12 +38,13 @@ fn write_zeros(count: u128, out: &mut Vec<u8>) -> Result<(), AllocError>
     Ok(())
 }
 
-/// Appends the operation without its padding. It fails for want of memory alone, and some bytes may then have been appended.
+// Appends the operation without its padding. Out of memory, some of its bytes may have been appended.
 fn write_unpadded<K: Key, V: FixedValue>(
     operation: &Operation<K, V>,
     out: &mut Vec<u8>,
 ) -> Result<(), AllocError>
-    ensures ok { OnOk result (out.new.items ≡ out.old.items ++ spec.unpadded V.SIZE (spec.meaning_of K.spelling V.spelling operation.now)) }
+    ensures ok { OnOk result (out.new.items ≡ out.old.items
+        ++ spec.unpadded V.SIZE (spec.meaning_of K.encoding V.encoding operation.now)) }
     ensures err { OnErr result (Extends out.old.items out.new.items) }
 {
     match operation {
@@ -73,13 +75,13 @@ fn write_unpadded<K: Key, V: FixedValue>(
     }
 }
 
-/// Appends the operation's fixed spelling. It fails for want of memory alone, and some bytes may then have been appended.
-/// In the Rust: `qmdb::any::operation::OperationCodec::write_operation` of `FixedEncoding`, which never fails.
-pub fn write_operation<K: Key, V: FixedValue>(
+// Appends the operation and its padding. Out of memory, some of the bytes may have been appended.
+fn write_padded<K: Key, V: FixedValue>(
     operation: &Operation<K, V>,
     out: &mut Vec<u8>,
 ) -> Result<(), AllocError>
-    ensures ok { OnOk result (out.new.items ≡ out.old.items ++ spec.fixed_encoding K.SIZE V.SIZE (spec.meaning_of K.spelling V.spelling operation.now)) }
+    ensures ok { OnOk result (out.new.items ≡ out.old.items
+        ++ spec.fixed_encoding K.SIZE V.SIZE (spec.meaning_of K.encoding V.encoding operation.now)) }
     ensures err { OnErr result (Extends out.old.items out.new.items) }
 {
     let start = out.len();
@@ -88,13 +90,28 @@ pub fn write_operation<K: Key, V: FixedValue>(
     write_zeros(fixed_size::<K, V>().saturating_sub(written), out)
 }
 
-/// The bytes of the operation's fixed spelling. It fails for want of memory alone.
+/// Appends the operation's fixed encoding. It fails only when out of memory, and `out` is then as it was.
+/// In the Rust: `qmdb::any::operation::OperationCodec::write_operation` of `FixedEncoding`, which never fails.
+pub fn write_operation<K: Key, V: FixedValue>(
+    operation: &Operation<K, V>,
+    out: &mut Vec<u8>,
+) -> Result<(), AllocError>
+    ensures ok { OnOk result (out.new.items ≡ out.old.items
+        ++ spec.fixed_encoding K.SIZE V.SIZE (spec.meaning_of K.encoding V.encoding operation.now)) }
+    ensures err { OnErr result (out.new.items ≡ out.old.items) }
+{
+    let start = out.len();
+    or_undo(write_padded(operation, out), out, start)
+}
+
+/// The bytes of the operation's fixed encoding. It fails only when out of memory.
 /// In the Rust: `commonware_codec::Encode::encode` of such an operation, which never fails.
 pub fn encode<K: Key, V: FixedValue>(
     alloc: Global,
     operation: &Operation<K, V>,
 ) -> Result<Vec<u8>, AllocError>
-    ensures { IfOk result (λ v. v.items ≡ spec.fixed_encoding K.SIZE V.SIZE (spec.meaning_of K.spelling V.spelling operation.now)) }
+    ensures { IfOk result (λ v. v.items
+        ≡ spec.fixed_encoding K.SIZE V.SIZE (spec.meaning_of K.encoding V.encoding operation.now)) }
 {
     let mut out = Vec::new(alloc);
     write_operation(operation, &mut out)?;
@@ -115,7 +132,7 @@ mod tests {
     }
 
     #[test]
-    fn spells_each_operation(rt: HostRuntime) -> Result<(), Fail> {
+    fn encodes_each_operation(rt: HostRuntime) -> Result<(), Fail> {
         let update: Change = Operation::Update(Ordered {
             key: key(0x61),
             value: 1,
@@ -153,7 +170,7 @@ mod tests {
     }
 
     #[test]
-    fn reads_what_is_spelled(rt: HostRuntime) -> Result<(), Fail> {
+    fn reads_what_is_encoded(rt: HostRuntime) -> Result<(), Fail> {
         let alloc = rt.alloc();
         let noted: Change = Operation::CommitFloor(Some(258), 1);
         let mut bytes = encode(alloc, &noted)?;

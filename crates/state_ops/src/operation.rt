@@ -1,12 +1,12 @@
 //! Operations.
 
-/// The tag of a delete, the first byte of its spelling. In the Rust: `qmdb::any::operation::DELETE_CONTEXT`.
+/// The tag of a delete, the first byte of its encoding. In the Rust: `qmdb::any::operation::DELETE_CONTEXT`.
 pub const DELETE_CONTEXT: u8 = 0xD1;
 
-/// The tag of an update, the first byte of its spelling. In the Rust: `qmdb::any::operation::UPDATE_CONTEXT`.
+/// The tag of an update, the first byte of its encoding. In the Rust: `qmdb::any::operation::UPDATE_CONTEXT`.
 pub const UPDATE_CONTEXT: u8 = 0xD2;
 
-/// The tag of a commit, the first byte of its spelling. In the Rust: `qmdb::any::operation::COMMIT_CONTEXT`.
+/// The tag of a commit, the first byte of its encoding. In the Rust: `qmdb::any::operation::COMMIT_CONTEXT`.
 pub const COMMIT_CONTEXT: u8 = 0xD3;
 
 /// What an update says: the key has this value, and the next key of the state follows it, or the first where none does.
@@ -28,7 +28,7 @@ pub enum Operation<K, V> {
     Delete(K),
     /// The key has this value. In the Rust: `qmdb::any::operation::Operation::Update`.
     Update(Ordered<K, V>),
-    /// A batch ends here, with its metadata and the inactivity floor, a place in the log.
+    /// A batch ends here, with its metadata and the inactivity floor, a location in the log.
     /// In the Rust: `qmdb::any::operation::Operation::CommitFloor`, whose floor is a `merkle::Location`.
     CommitFloor(Option<V>, u64),
 }

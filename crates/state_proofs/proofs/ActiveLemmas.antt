@@ -17,11 +17,13 @@ bit_set (true ∷ bits) zero is = omega (arith, div-mul-add (1 + 2 * byte_of bit
 bit_set (false ∷ bits) zero is = absurd cc
 bit_set (true ∷ bits) (suc i) is =
     let rest : (1 + 2 * byte_of bits) / 2 ^ suc i ≡ byte_of bits / 2 ^ i =
-    ap (λ n. (1 + 2 * byte_of bits) / 2 ^ n) (omega arith) ∙ sym (shr-shr (1 + 2 * byte_of bits) 1 i) ∙ ap (λ n. n / 2 ^ i) (half_of 1 (byte_of bits) (omega arith)) in
+    ap (λ n. (1 + 2 * byte_of bits) / 2 ^ n) (omega arith) ∙ sym (shr-shr (1 + 2 * byte_of bits) 1 i)
+    ∙ ap (λ n. n / 2 ^ i) (half_of 1 (byte_of bits) (omega arith)) in
     ap (λ n. n % 2) rest ∙ bit_set bits i is
 bit_set (false ∷ bits) (suc i) is =
     let rest : (0 + 2 * byte_of bits) / 2 ^ suc i ≡ byte_of bits / 2 ^ i =
-    ap (λ n. (0 + 2 * byte_of bits) / 2 ^ n) (omega arith) ∙ sym (shr-shr (0 + 2 * byte_of bits) 1 i) ∙ ap (λ n. n / 2 ^ i) (half_of 0 (byte_of bits) (omega arith)) in
+    ap (λ n. (0 + 2 * byte_of bits) / 2 ^ n) (omega arith) ∙ sym (shr-shr (0 + 2 * byte_of bits) 1 i)
+    ∙ ap (λ n. n / 2 ^ i) (half_of 0 (byte_of bits) (omega arith)) in
     ap (λ n. n % 2) rest ∙ bit_set bits i is
 
 -- parts of lists
@@ -47,53 +49,74 @@ unfolding chunk_of
 length-chunk_of zero bits = refl
 length-chunk_of (suc width) bits = ap suc (length-chunk_of width (drop 8 bits))
 
-byte_at : (width j : ℕ) (bits : List Bool) → j < width → slice_get (chunk_of width bits) j ≡ Some (byte_of (take 8 (drop (8 * j) bits)))
+byte_at : (width j : ℕ) (bits : List Bool) → j < width
+    → slice_get (chunk_of width bits) j ≡ Some (byte_of (take 8 (drop (8 * j) bits)))
 unfolding chunk_of
 byte_at zero j bits lt = absurd (omega arith)
 byte_at (suc width) zero bits lt = refl
 byte_at (suc width) (suc j) bits lt =
-    byte_at width j (drop 8 bits) (omega arith) ∙ ap (λ rest. Some (byte_of (take 8 rest))) (drop_drop (8 * j) 8 bits ∙ ap (λ n. drop n bits) (omega arith))
+    byte_at width j (drop 8 bits) (omega arith) ∙ ap (λ rest. Some (byte_of (take 8 rest))) (drop_drop (8 * j) 8 bits
+    ∙ ap (λ n. drop n bits) (omega arith))
 
-chunk_at : (width count k : ℕ) (bits : List Bool) → k < count → slice_index_or (chunks_of width count bits) k [] ≡ chunk_of width (drop (8 * width * k) bits)
+chunk_at : (width count k : ℕ) (bits : List Bool) → k < count
+    → slice_index_or (chunks_of width count bits) k [] ≡ chunk_of width (drop (8 * width * k) bits)
 unfolding chunks_of
 chunk_at width zero k bits lt = absurd (omega arith)
-chunk_at width (suc count) zero bits lt = let e : 0 ≡ 8 * width * 0 = omega arith in ap (λ n. chunk_of width (drop n bits)) e
+chunk_at width (suc count) zero bits lt = let e : 0 ≡ 8 * width * 0 = omega arith in
+    ap (λ n. chunk_of width (drop n bits)) e
 chunk_at width (suc count) (suc k) bits lt =
-    chunk_at width count k (drop (8 * width) bits) (omega arith) ∙ ap (chunk_of width) (drop_drop (8 * width * k) (8 * width) bits ∙ ap (λ n. drop n bits) (omega arith))
+    chunk_at width count k (drop (8 * width) bits) (omega arith)
+    ∙ ap (chunk_of width) (drop_drop (8 * width * k) (8 * width) bits ∙ ap (λ n. drop n bits) (omega arith))
 
--- the bit at a place of a chunk
-set_in_chunk : (width place : ℕ) (bits : List Bool) → place < 8 * width → slice_get bits place ≡ Some true → is_set (slice_get (chunk_of width bits) (place / 8)) place ≡ true
-set_in_chunk width place bits lt is =
-    let byte = byte_at width (place / 8) bits (omega arith) in
-    let here : slice_get (take 8 (drop (8 * (place / 8)) bits)) (place % 8) ≡ Some true =
-    get_take 8 (place % 8) (drop (8 * (place / 8)) bits) (omega arith) ∙ get_drop (8 * (place / 8)) (place % 8) bits ∙ ap (slice_get bits) (omega arith) ∙ is in
-    ap (λ b. is_set b place) byte ∙ eq-eqb _ 1 (bit_set (take 8 (drop (8 * (place / 8)) bits)) (place % 8) here)
+-- the bit at a bit of a chunk
+set_in_chunk : (width bit : ℕ) (bits : List Bool) → bit < 8 * width → slice_get bits bit ≡ Some true
+    → is_set (slice_get (chunk_of width bits) (bit / 8)) bit ≡ true
+set_in_chunk width bit bits lt is =
+    let byte = byte_at width (bit / 8) bits (omega arith) in
+    let here : slice_get (take 8 (drop (8 * (bit / 8)) bits)) (bit % 8) ≡ Some true =
+    get_take 8 (bit % 8) (drop (8 * (bit / 8)) bits) (omega arith) ∙ get_drop (8 * (bit / 8)) (bit % 8) bits
+    ∙ ap (slice_get bits) (omega arith) ∙ is in
+    ap (λ b. is_set b bit) byte ∙ eq-eqb _ 1 (bit_set (take 8 (drop (8 * (bit / 8)) bits)) (bit % 8) here)
 
-within_case : (n bits location : ℕ) (test : Bool) → (test ≡ true → n % bits ≡ 0) → 0 < bits → location < n → location / bits < n / bits + cond test 0 1
+within_case : (n bits location : ℕ) (test : Bool) → (test ≡ true → n % bits ≡ 0) → 0 < bits → location < n
+    → location / bits < n / bits + cond test 0 1
 within_case n bits location true whole some lt =
     let all : n / bits * bits ≡ n = omega (arith, whole refl, div-add-mod n bits) in
-    let below : location / bits < n / bits = (div-lt_iff_lt-mul {k = bits} {x = location} {y = n / bits} some).1 (omega (arith, all)) in
+    let below : location / bits < n / bits =
+    (div-lt_iff_lt-mul {k = bits} {x = location} {y = n / bits} some).1 (omega (arith, all)) in
     omega (arith, below)
 within_case n bits location false whole some lt =
-    (div-lt_iff_lt-mul {k = bits} {x = location} {y = n / bits + 1} some).1 (omega (arith, lt-mul-div-succ n {b = bits} some))
+    (div-lt_iff_lt-mul {k = bits} {x = location} {y = n / bits + 1} some).1
+    (omega (arith, lt-mul-div-succ n {b = bits} some))
 
 -- there are chunks over all locations
-pub within_chunks : (n bits location : ℕ) → 0 < bits → location < n → location / bits < n / bits + (if n % bits == 0 then 0 else 1)
+pub within_chunks : (n bits location : ℕ) → 0 < bits → location < n
+    → location / bits < n / bits + (if n % bits == 0 then 0 else 1)
 within_chunks n bits location some lt = within_case n bits location (eqb (n % bits) 0) (eqb-true (n % bits) 0) some lt
 
-pub chunk_is : (setting : Setting) (state : State) (location : ℕ) → 0 < setting.width → location < length state.operations
-    → chunk setting state (location / chunk_bits setting) ≡ chunk_of setting.width (drop (chunk_bits setting * (location / chunk_bits setting)) state.bits)
+pub chunk_is : (setting : Setting) (state : State) (location : ℕ) → 0 < setting.width
+    → location < length state.operations
+    → chunk setting state (location / chunk_bits setting)
+    ≡ chunk_of setting.width (drop (chunk_bits setting * (location / chunk_bits setting)) state.bits)
 unfolding chunks
 chunk_is setting state location some lt =
-    chunk_at setting.width (full_chunks setting state + (if next_bit setting state == 0 then 0 else 1)) (location / chunk_bits setting) state.bits
+    chunk_at setting.width (full_chunks setting state + (if next_bit setting state == 0 then 0 else 1))
+    (location / chunk_bits setting) state.bits
     (within_chunks (length state.operations) (chunk_bits setting) location (omega arith) lt)
 
-pub length-chunk : (setting : Setting) (state : State) (location : ℕ) → 0 < setting.width → location < length state.operations → length (chunk setting state (location / chunk_bits setting)) ≡ setting.width
-length-chunk setting state location some lt = ap length (chunk_is setting state location some lt) ∙ length-chunk_of setting.width (drop (chunk_bits setting * (location / chunk_bits setting)) state.bits)
+pub length-chunk : (setting : Setting) (state : State) (location : ℕ) → 0 < setting.width
+    → location < length state.operations → length (chunk setting state (location / chunk_bits setting)) ≡ setting.width
+length-chunk setting state location some lt = ap length (chunk_is setting state location some lt)
+    ∙ length-chunk_of setting.width (drop (chunk_bits setting * (location / chunk_bits setting)) state.bits)
 
-pub active_bit : (setting : Setting) (state : State) (location : ℕ) → 0 < setting.width → location < length state.operations → slice_get state.bits location ≡ Some true
-    → is_set (slice_get (chunk setting state (location / chunk_bits setting)) (location % chunk_bits setting / 8)) (location % chunk_bits setting) ≡ true
+pub active_bit : (setting : Setting) (state : State) (location : ℕ) → 0 < setting.width
+    → location < length state.operations → slice_get state.bits location ≡ Some true
+    → is_set (slice_get (chunk setting state (location / chunk_bits setting)) (location % chunk_bits setting / 8))
+    (location % chunk_bits setting) ≡ true
 active_bit setting state location some lt is =
-    ap (λ bytes. is_set (slice_get bytes (location % chunk_bits setting / 8)) (location % chunk_bits setting)) (chunk_is setting state location some lt)
-    ∙ set_in_chunk setting.width (location % chunk_bits setting) (drop (chunk_bits setting * (location / chunk_bits setting)) state.bits) (omega arith)
-    (get_drop (chunk_bits setting * (location / chunk_bits setting)) (location % chunk_bits setting) state.bits ∙ ap (slice_get state.bits) (omega arith) ∙ is)
+    ap (λ bytes. is_set (slice_get bytes (location % chunk_bits setting / 8)) (location % chunk_bits setting))
+    (chunk_is setting state location some lt)
+    ∙ set_in_chunk setting.width (location % chunk_bits setting)
+    (drop (chunk_bits setting * (location / chunk_bits setting)) state.bits) (omega arith)
+    (get_drop (chunk_bits setting * (location / chunk_bits setting)) (location % chunk_bits setting) state.bits
+    ∙ ap (slice_get state.bits) (omega arith) ∙ is)

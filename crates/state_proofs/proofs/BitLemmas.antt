@@ -24,32 +24,41 @@ pub byte_of-seven : (bits : List Bool) → length bits ≤ 7 → byte_of bits < 
 byte_of-seven bits le = omega (arith, byte_of-below bits, pow_of_seven (length bits) le)
 
 -- what follows the first of up to eight bits is below 128
-pub rest-seven : (bits : List Bool) (rest : ℕ) → 1 ≤ length bits → length bits ≤ 8 → rest ≡ byte_of (take (length bits - 1) (drop 1 bits)) → rest < 128
-rest-seven bits rest some few is = rw is (byte_of-seven (take (length bits - 1) (drop 1 bits)) (omega (arith, length-take (length bits - 1) (drop 1 bits))))
+pub rest-seven : (bits : List Bool) (rest : ℕ) → 1 ≤ length bits → length bits ≤ 8
+    → rest ≡ byte_of (take (length bits - 1) (drop 1 bits)) → rest < 128
+rest-seven bits rest some few is =
+    rw is (byte_of-seven (take (length bits - 1) (drop 1 bits))
+    (omega (arith, length-take (length bits - 1) (drop 1 bits))))
 
 -- one byte more, and the bytes that are left
-pub chunk_goes_on : (front : List ℕ) (bits : List Bool) (width i : ℕ) (total : List ℕ) → i < width → front ++ chunk_of (width - i) bits ≡ total
+pub chunk_goes_on : (front : List ℕ) (bits : List Bool) (width i : ℕ) (total : List ℕ) → i < width
+    → front ++ chunk_of (width - i) bits ≡ total
     → (front ++ byte_of (take 8 bits) ∷ []) ++ chunk_of (width - (i + 1)) (drop 8 bits) ≡ total
 unfolding chunk_of
 chunk_goes_on front bits width i total lt so_far =
     let left : width - i ≡ suc (width - (i + 1)) = omega arith in
-    append_assoc front (byte_of (take 8 bits) ∷ []) (chunk_of (width - (i + 1)) (drop 8 bits)) ∙ ap (λ n. front ++ chunk_of n bits) (sym left) ∙ so_far
+    append_assoc front (byte_of (take 8 bits) ∷ []) (chunk_of (width - (i + 1)) (drop 8 bits))
+    ∙ ap (λ n. front ++ chunk_of n bits) (sym left) ∙ so_far
 
-pub chunk_ends : (front : List ℕ) (bits : List Bool) (width i : ℕ) (total : List ℕ) → width ≤ i → front ++ chunk_of (width - i) bits ≡ total → front ≡ total
+pub chunk_ends : (front : List ℕ) (bits : List Bool) (width i : ℕ) (total : List ℕ) → width ≤ i
+    → front ++ chunk_of (width - i) bits ≡ total → front ≡ total
 unfolding chunk_of
 chunk_ends front bits width i total le so_far =
     let left : width - i ≡ 0 = omega arith in
     sym (append-nil front) ∙ ap (λ n. front ++ chunk_of n bits) (sym left) ∙ so_far
 
 -- one chunk more, and the chunks that are left
-pub chunks_go_on : (front : List (List ℕ)) (bits : List Bool) (width count i : ℕ) (total : List (List ℕ)) → i < count → front ++ chunks_of width (count - i) bits ≡ total
+pub chunks_go_on : (front : List (List ℕ)) (bits : List Bool) (width count i : ℕ) (total : List (List ℕ)) → i < count
+    → front ++ chunks_of width (count - i) bits ≡ total
     → (front ++ chunk_of width bits ∷ []) ++ chunks_of width (count - (i + 1)) (drop (8 * width) bits) ≡ total
 unfolding chunks_of
 chunks_go_on front bits width count i total lt so_far =
     let left : count - i ≡ suc (count - (i + 1)) = omega arith in
-    append_assoc front (chunk_of width bits ∷ []) (chunks_of width (count - (i + 1)) (drop (8 * width) bits)) ∙ ap (λ n. front ++ chunks_of width n bits) (sym left) ∙ so_far
+    append_assoc front (chunk_of width bits ∷ []) (chunks_of width (count - (i + 1)) (drop (8 * width) bits))
+    ∙ ap (λ n. front ++ chunks_of width n bits) (sym left) ∙ so_far
 
-pub chunks_end : (front : List (List ℕ)) (bits : List Bool) (width count i : ℕ) (total : List (List ℕ)) → count ≤ i → front ++ chunks_of width (count - i) bits ≡ total → front ≡ total
+pub chunks_end : (front : List (List ℕ)) (bits : List Bool) (width count i : ℕ) (total : List (List ℕ)) → count ≤ i
+    → front ++ chunks_of width (count - i) bits ≡ total → front ≡ total
 unfolding chunks_of
 chunks_end front bits width count i total le so_far =
     let left : count - i ≡ 0 = omega arith in

@@ -18,16 +18,23 @@ pub same_power : (a b : ℕ) → 2 ^ a ≡ 2 ^ b → a ≡ b
 same_power a b same =
     elim (cases_lt a b) [
       | inl lt ↦ absurd (omega (arith, same, pow_below a b lt))
-      | inr le ↦ (elim (cases_lt b a) [ inl lt ↦ absurd (omega (arith, same, pow_below b a lt)) | inr le' ↦ omega (arith, le, le') ])
+      | inr le ↦ (elim (cases_lt b a) [
+        | inl lt ↦ absurd (omega (arith, same, pow_below b a lt))
+        | inr le' ↦
+            omega (arith, le, le')
+      ])
     ]
 
 pub eight_times : (log : ℕ) → 2 ^ (log + 3) ≡ 8 * 2 ^ log
 eight_times log = omega (arith, pow-add 2 log 3)
 
 -- a width of 2 ^ height bits is 2 to its logarithm, and the height is 3 more
-pub height_of_log : (log width height : ℕ) → 2 ^ log ≤ width → width < 2 * 2 ^ log → 8 * width ≡ 2 ^ height → (height ≡ log + 3) × (width ≡ 2 ^ log)
+pub height_of_log : (log width height : ℕ) → 2 ^ log ≤ width → width < 2 * 2 ^ log → 8 * width ≡ 2 ^ height
+    → (height ≡ log + 3) × (width ≡ 2 ^ log)
 height_of_log log width height low high whole =
-    let some : 3 ≤ height = elim (cases_lt height 3) [ inl few ↦ absurd (omega (arith, whole, low, pow_pos log, pow_below height 3 few)) | inr le ↦ le ] in
+    let some : 3 ≤ height =
+    elim (cases_lt height 3)
+    [ inl few ↦ absurd (omega (arith, whole, low, pow_pos log, pow_below height 3 few)) | inr le ↦ le ] in
     let k : ℕ = height - 3 in
     let above : height ≡ k + 3 = omega (arith, some) in
     let power : 2 ^ height ≡ 8 * 2 ^ k = ap (λ n. 2 ^ n) above ∙ eight_times k in
@@ -42,13 +49,17 @@ height_of_log log width height low high whole =
     (omega (arith, above, same), omega (arith, whole, power, ap (λ n. 2 ^ n) same))
 
 -- what verifies does so at the one grafting height that the chunk has
-pub at_height : (rule : Rule) (hash : Hash) (root : List ℕ) (proof : Parts) (operation : List ℕ) (grafting_height : ℕ) → bits_of proof ≡ 2 ^ grafting_height → (it : Verifies rule hash root proof operation)
-    → FitsChunks hash (nodes_of_height grafting_height (forest_of rule proof.leaves)) proof
-    × (reconstructed (grafted_hashing hash grafting_height proof.chunk) hash BackwardFold rule proof.leaves proof.inactive proof.location operation proof.digests ≡ Some it.grafted_root)
+pub at_height : (rule : Rule) (hash : Hash) (root : List ℕ) (proof : Parts) (operation : List ℕ) (grafting_height : ℕ)
+    → bits_of proof ≡ 2 ^ grafting_height → (it : Verifies rule hash root proof operation)
+    → FitsChunks hash (nodes_of_height grafting_height (forest_of rule proof.range.leaves)) proof
+    × (reconstructed (grafted_hashing hash grafting_height proof.chunk) hash BackwardFold rule proof.range.leaves
+    proof.range.inactive proof.location operation proof.range.digests ≡ Some it.grafted_root)
 at_height rule hash root proof operation grafting_height whole it =
-    let same : it.grafting_height ≡ grafting_height = same_power it.grafting_height grafting_height (sym it.whole ∙ whole) in (
-      subst (λ (h : ℕ). FitsChunks hash (nodes_of_height h (forest_of rule proof.leaves)) proof) same it.fits,
-      ap (λ h. reconstructed (grafted_hashing hash h proof.chunk) hash BackwardFold rule proof.leaves proof.inactive proof.location operation proof.digests) (sym same) ∙ it.leads,
+    let same : it.grafting_height ≡ grafting_height =
+    same_power it.grafting_height grafting_height (sym it.whole ∙ whole) in (
+      subst (λ (h : ℕ). FitsChunks hash (nodes_of_height h (forest_of rule proof.range.leaves)) proof) same it.fits,
+      ap (λ h. reconstructed (grafted_hashing hash h proof.chunk) hash BackwardFold rule proof.range.leaves
+          proof.range.inactive proof.location operation proof.range.digests) (sym same) ∙ it.leads,
     )
 
 pub some_height : (width height : ℕ) → 8 * width ≡ 2 ^ height → 0 < height

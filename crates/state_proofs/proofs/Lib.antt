@@ -6,3 +6,4 @@ pub mod ActiveLemmas
 pub mod FollowLemmas
 pub mod Accepted
 pub mod HonestSizes
+pub mod Extending

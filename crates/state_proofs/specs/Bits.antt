@@ -21,7 +21,7 @@ chunks_of width (suc count) bits = chunk_of width bits ∷ chunks_of width count
 abbrev pub is_zero : List ℕ → Bool
 is_zero chunk = list_all (λ byte. byte == 0) chunk
 
--- whether the bit at a place is set in its byte, where there is that byte
+-- whether the bit at a bit is set in its byte, where there is that byte
 abbrev pub is_set : Option ℕ → ℕ → Bool
-is_set None place = false
-is_set (Some byte) place = byte / 2 ^ (place % 8) % 2 == 1
+is_set None bit = false
+is_set (Some byte) bit = byte / 2 ^ (bit % 8) % 2 == 1

@@ -4,7 +4,7 @@ use Rattle.merkle_forest.specs.declared.bagging.Bagging.TheVariants.{BackwardFol
 use Rattle.merkle_forest.specs.Forest.{Tree, Rule, forest_of}
 use Rattle.merkle_forest.specs.Hashing.{Hash, number, root_of}
 use Rattle.merkle_forest.specs.Nodes.{nodes_of_height}
-use Rattle.merkle_forest.specs.Trees.{Placed, placed, peak_digests, inactive_peaks, tree_root}
+use Rattle.merkle_forest.specs.Trees.{Located, located, peak_digests, inactive_peaks, tree_root}
 use Rattle.state_proofs.specs.Bits.{chunks_of}
 use Rattle.state_proofs.specs.Grafting.{grafted_digest, chunk_aligned_inactive_peaks}
 
@@ -33,7 +33,8 @@ next_bit setting state = length state.operations % chunk_bits setting
 
 -- all chunks, the partial one too
 unfoldable pub chunks : Setting → State → List (List ℕ)
-chunks setting state = chunks_of setting.width (full_chunks setting state + (if next_bit setting state == 0 then 0 else 1)) state.bits
+chunks setting state =
+    chunks_of setting.width (full_chunks setting state + (if next_bit setting state == 0 then 0 else 1)) state.bits
 
 abbrev pub chunk : Setting → State → ℕ → List ℕ
 chunk setting state index = slice_index_or (chunks setting state) index []
@@ -41,12 +42,13 @@ chunk setting state index = slice_index_or (chunks setting state) index []
 abbrev pub forest : Setting → State → List Tree
 forest setting state = forest_of setting.rule (length state.operations)
 
-abbrev pub peaks : Setting → State → List Placed
-peaks setting state = placed (forest setting state)
+abbrev pub peaks : Setting → State → List Located
+peaks setting state = located (forest setting state)
 
 -- the digests of the grafted tree
 unfoldable pub grafted_digests : Setting → State → ℕ → Tree → List ℕ
-grafted_digests setting state = grafted_digest setting.hash setting.grafting_height (chunk_bits setting) (chunks setting state) state.operations
+grafted_digests setting state =
+    grafted_digest setting.hash setting.grafting_height (chunk_bits setting) (chunks setting state) state.operations
 
 -- the root of the operations' tree
 unfoldable pub operations_root : Setting → State → List ℕ
@@ -60,7 +62,8 @@ grafted_inactive setting state = chunk_aligned_inactive_peaks (chunk_bits settin
 -- the root of the grafted tree
 unfoldable pub grafted_root : Setting → State → List ℕ
 grafted_root setting state =
-    root_of setting.hash BackwardFold (length state.operations) (grafted_inactive setting state) (peak_digests (grafted_digests setting state) (forest setting state))
+    root_of setting.hash BackwardFold (length state.operations) (grafted_inactive setting state)
+    (peak_digests (grafted_digests setting state) (forest setting state))
 
 -- the digest of the full chunk that isn't graftable yet, if there is one
 unfoldable pub pending_digest : Setting → State → Option (List ℕ)
@@ -86,4 +89,5 @@ canonical_string operations grafted pending next partial =
 -- the canonical root
 unfoldable pub canonical_root : Setting → State → List ℕ
 canonical_root setting state =
-    setting.hash (canonical_string (operations_root setting state) (grafted_root setting state) (pending_digest setting state) (next_bit setting state) (partial_digest setting state))
+    setting.hash (canonical_string (operations_root setting state) (grafted_root setting state)
+    (pending_digest setting state) (next_bit setting state) (partial_digest setting state))

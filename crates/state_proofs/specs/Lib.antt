@@ -1,7 +1,9 @@
 pub mod Bits
-pub mod Grafting
 pub mod Canonical
+pub mod Encoded
+pub mod Grafting
 pub mod Honest
+pub mod Laws
+pub mod ProofsCode
 pub mod Snapshot
 pub mod Verified
-pub mod VerifiedCode

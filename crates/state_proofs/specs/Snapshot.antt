@@ -6,7 +6,17 @@ use Rattle.state_proofs.specs.declared.snapshot.Snapshot.{Snapshot}
 use Rattle.state_proofs.specs.Canonical.{Setting, State}
 
 abbrev pub state_of : Snapshot → State
-state_of snapshot = record { operations = map (λ e. e.items) snapshot.operations.now; bits = snapshot.bits.now; floor = snapshot.floor }
+state_of snapshot = record {
+  operations = map (λ e. e.items) snapshot.operations.now;
+  bits =
+      snapshot.bits.now;
+  floor = snapshot.floor;
+}
 
 abbrev pub setting_of : Rule → Hash → Snapshot → Setting
-setting_of rule hash snapshot = record { rule = rule; hash = hash; width = snapshot.width; grafting_height = snapshot.grafting_height }
+setting_of rule hash snapshot = record {
+  rule = rule;
+  hash = hash;
+  width = snapshot.chunk_size.width;
+  grafting_height = snapshot.chunk_size.grafting_height;
+}

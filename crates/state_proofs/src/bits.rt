@@ -1,8 +1,13 @@
 //! Bits in chunks.
+//!
+//! Bit i of a state stands in chunk i / (8 width), and in it in byte i / 8, as bit i mod 8 from the least: with
+//! chunks of one byte the bits `1 0 0 0 0 0 0 0  1 1 0` are the chunks `01` and `03`, and the second one is partial:
+//! zeros stand for what is not there.
 
 ghost use Rattle.std.specs.Prelude.{◌≡◌, ◌<◌, ◌≤◌, ◌+◌, ◌*◌, ◌^◌, ◌++◌, [], ◌∷◌, ℕ, List, map, take, drop, length, IfOk, OnOk};
 ghost use Rattle.state_proofs.specs.Bits.{byte_of, chunk_of, chunks_of, is_zero};
 
+use crate::chunk_size::ChunkSize;
 use std::alloc::{AllocError, Global};
 
 // The byte of up to eight bits, the least first.
@@ -16,7 +21,7 @@ fn byte_from(bits: &[bool]) -> u8
     }
 }
 
-// The first `count` bits, or all where there are fewer, and the bits behind them.
+// The first `count` bits, or all where there are fewer, and the bits after them.
 fn split_front(bits: &[bool], count: usize) -> (&[bool], &[bool])
     ensures front { result.0.now ≡ take count bits.now }
     ensures back { result.1.now ≡ drop count bits.now }
@@ -28,7 +33,8 @@ fn split_front(bits: &[bool], count: usize) -> (&[bool], &[bool])
     }
 }
 
-/// A chunk of `width` bytes from the first bits: zeros where there are no more bits (own). It fails for want of memory alone.
+/// A chunk of `width` bytes from the first bits: zeros where there are no more bits (own). It fails only when out of
+/// memory.
 pub fn chunk_from(alloc: Global, width: usize, bits: &[bool]) -> Result<Vec<u8>, AllocError>
     ensures { IfOk result (λ chunk. chunk.items ≡ chunk_of width bits.now) }
 {
@@ -42,21 +48,21 @@ pub fn chunk_from(alloc: Global, width: usize, bits: &[bool]) -> Result<Vec<u8>,
     Ok(chunk)
 }
 
-/// The first `count` chunks of `width` bytes each (own). It fails for want of memory alone.
+/// The first `count` chunks (own). It fails only when out of memory.
 pub fn chunks_from(
     alloc: Global,
-    width: usize,
+    chunk_size: ChunkSize,
     count: usize,
     bits: &[bool],
 ) -> Result<Vec<Vec<u8>>, AllocError>
-    requires { 8 * width < 2 ^ 64 }
-    ensures { IfOk result (λ chunks. map (λ chunk. chunk.items) chunks.items ≡ chunks_of width count bits.now) }
+    ensures { IfOk result (λ chunks. map (λ chunk. chunk.items) chunks.items
+        ≡ chunks_of chunk_size.width count bits.now) }
 {
     let mut chunks = Vec::new(alloc);
     let mut rest = bits;
     for _ in 0..count {
-        chunks.push(chunk_from(alloc, width, rest)?)?;
-        let (_, later) = split_front(rest, 8 * width);
+        chunks.push(chunk_from(alloc, chunk_size.width, rest)?)?;
+        let (_, later) = split_front(rest, chunk_size.bits() as usize);
         rest = later;
     }
     Ok(chunks)

@@ -1,4 +1,18 @@
 //! Chunks grafted onto the tree of the operations.
+//!
+//! With chunks of one byte the grafting height is 3: over each chunk's 8 operations one node of that height stands,
+//! once it is born. Its digest is joined with the chunk, and so the root shows each bit beside its operation, for one
+//! more hash a chunk:
+//!
+//! ```text
+//!          G0             G1                        height 3: own digest joined with chunk 0, with chunk 1
+//!       ...  ...       ...  ...
+//!     op 0 .. op 7   op 8 .. op 15   op 16 .. op 18
+//!       chunk 0         chunk 1         chunk 2     the last is partial, with 3 bits
+//! ```
+//!
+//! A chunk that is full but has no node yet is pending; a family whose nodes are born at once has none. The digest of
+//! the pending chunk and of the partial one stand in the canonical string.
 
 ghost use Rattle.std.specs.Prelude.{◌≡◌, ◌<◌, ◌≤◌, ◌+◌, ◌*◌, ◌/◌, ◌^◌, ◌++◌, [], ◌∷◌, ℕ, List, map, length, IfOk, OnOk, slice_index_or};
 ghost use Rattle.merkle_forest.specs.Forest.{leaf_count, leaves};
@@ -9,6 +23,7 @@ ghost use Rattle.merkle_forest.specs.TreesCode.{shapes};
 ghost use Rattle.state_proofs.specs.Grafting.{grafted, grafted_digest, chunk_aligned_inactive_peaks};
 
 use crate::bits::is_zero_chunk;
+use crate::chunk_size::ChunkSize;
 use merkle_forest::Digest;
 use merkle_forest::forest::{Tree, height_of, leaf_count_of};
 use merkle_forest::hasher::{HashFunction, hash_leaf, hash_node};
@@ -18,7 +33,7 @@ use std::marker::PhantomData;
 /// The digest of a subtree of the grafting height with its chunk: a chunk without a set bit leaves it as it is.
 /// In the Rust: `qmdb::current::grafting::graft_chunk_digests`, over a list of chunks.
 pub fn graft<H: HashFunction>(chunk: &[u8], digest: &H::Digest) -> H::Digest
-    ensures { H.Digest.spelling result ≡ grafted H.hash_of chunk.now (H.Digest.spelling digest.now) }
+    ensures { H.Digest.encoding result ≡ grafted H.hash_of chunk.now (H.Digest.encoding digest.now) }
 {
     if is_zero_chunk(chunk) {
         return *digest;
@@ -33,21 +48,17 @@ pub struct Grafted<'a, H> {
     pub elements: &'a [Vec<u8>],
     /// The chunks of activity bits.
     pub chunks: &'a [Vec<u8>],
-    /// The height of a tree over as many operations as a chunk has bits.
-    pub grafting_height: u64,
     /// How many bits a chunk has.
-    pub bits: usize,
+    pub chunk_size: ChunkSize,
     /// The hash function.
     pub function: PhantomData<H>,
-    ghost some_bits: { 0 < bits },
 }
 
 /// The bytes of the chunk that stands over the leaf at `start`, or no byte where there is none (own).
-pub fn chunk_over<'a>(chunks: &'a [Vec<u8>], bits: usize, start: usize) -> &'a [u8]
-    requires { 0 < bits }
-    ensures { result.now ≡ slice_index_or (map (λ chunk. chunk.items) chunks.now) (start / bits) [] }
+pub fn chunk_over<'a>(chunks: &'a [Vec<u8>], chunk_size: ChunkSize, start: u64) -> &'a [u8]
+    ensures { result.now ≡ slice_index_or (map (λ chunk. chunk.items) chunks.now) (start / (8 * chunk_size.width)) [] }
 {
-    match chunks.get(start / bits) {
+    match chunks.get(chunk_size.index_of(start) as usize) {
         Some(chunk) => chunk,
         None => &[],
     }
@@ -56,7 +67,8 @@ pub fn chunk_over<'a>(chunks: &'a [Vec<u8>], bits: usize, start: usize) -> &'a [
 // The digest of a tree of the grafted tree.
 fn digest_of<H: HashFunction>(grafted: &Grafted<'_, H>, start: usize, tree: &Tree) -> H::Digest
     requires { start + leaf_count (shape tree.now) ≤ length grafted.now.elements.now }
-    ensures { H.Digest.spelling result ≡ grafted_digest H.hash_of grafted.now.grafting_height grafted.now.bits
+    ensures { H.Digest.encoding result ≡ grafted_digest H.hash_of grafted.now.chunk_size.grafting_height
+        (8 * grafted.now.chunk_size.width)
         (map (λ chunk. chunk.items) grafted.now.chunks.now) (map (λ e. e.items) grafted.now.elements.now) start (shape tree.now) }
 {
     match tree {
@@ -65,8 +77,11 @@ fn digest_of<H: HashFunction>(grafted: &Grafted<'_, H>, start: usize, tree: &Tre
             let left_digest = digest_of(grafted, start, left);
             let right_digest = digest_of(grafted, start + leaf_count_of(left), right);
             let own = hash_node::<H>(*position, &left_digest, &right_digest);
-            if height_of(tree) == grafted.grafting_height {
-                graft::<H>(chunk_over(grafted.chunks, grafted.bits, start), &own)
+            if height_of(tree) == u64::from(grafted.chunk_size.grafting_height) {
+                graft::<H>(
+                    chunk_over(grafted.chunks, grafted.chunk_size, start as u64),
+                    &own,
+                )
             } else {
                 own
             }
@@ -75,7 +90,8 @@ fn digest_of<H: HashFunction>(grafted: &Grafted<'_, H>, start: usize, tree: &Tre
 }
 
 impl<H: HashFunction> TreeDigests<H::Digest> for Grafted<'_, H> {
-    ghost digest_at = { λ g. grafted_digest H.hash_of g.grafting_height g.bits (map (λ chunk. chunk.items) g.chunks.now) (map (λ e. e.items) g.elements.now) };
+    ghost digest_at = { λ g. grafted_digest H.hash_of g.chunk_size.grafting_height (8 * g.chunk_size.width)
+        (map (λ chunk. chunk.items) g.chunks.now) (map (λ e. e.items) g.elements.now) };
 
     ghost element_count = { λ g. length g.elements.now };
 
@@ -103,37 +119,37 @@ fn nodes_of_height(level: u64, tree: &Tree) -> usize
 }
 
 /// How many chunks are graftable, counted in the peaks: each node of the grafting height is over one (own).
-pub fn graftable_count(grafting_height: u64, peaks: &[Tree]) -> usize
+pub fn graftable_count(chunk_size: ChunkSize, peaks: &[Tree]) -> usize
     requires { leaves (map shape peaks.now) < 2 ^ 64 }
-    ensures count { result ≡ nodes_of_height grafting_height (map shape peaks.now) }
+    ensures count { result ≡ nodes_of_height chunk_size.grafting_height (map shape peaks.now) }
     ensures few { result ≤ leaves (map shape peaks.now) }
 {
     match peaks {
         [] => 0,
         [peak, rest @ ..] => {
-            nodes_of_height(grafting_height, peak) + graftable_count(grafting_height, rest)
+            nodes_of_height(u64::from(chunk_size.grafting_height), peak)
+                + graftable_count(chunk_size, rest)
         }
     }
 }
 
-/// The greatest number of first peaks whose leaves all stand before the floor and of which the last one ends at a chunk's
-/// border; 0 where there is none.
+/// The greatest number of first peaks whose leaves all stand before the floor and of which the last one ends at a
+/// chunk's border; 0 where there is none.
 /// In the Rust: `qmdb::current::grafting::chunk_aligned_inactive_peaks`, from leaf count and height.
-pub fn aligned_count_of(bits: usize, floor: u64, peaks: &[(usize, &Tree)]) -> usize
-    requires some { 0 < bits }
-    requires small { Within usize.MAX (shapes peaks.now) }
-    ensures count { result ≡ chunk_aligned_inactive_peaks bits floor (shapes peaks.now) }
+pub fn aligned_count_of(chunk_size: ChunkSize, floor: u64, peaks: &[(usize, &Tree)]) -> usize
+    requires { Within usize.MAX (shapes peaks.now) }
+    ensures count { result ≡ chunk_aligned_inactive_peaks (8 * chunk_size.width) floor (shapes peaks.now) }
     ensures within { result ≤ length peaks.now }
 {
     match peaks {
         [] => 0,
         [(start, tree), rest @ ..] => {
-            let end = *start + leaf_count_of(tree);
-            if end as u64 > floor {
+            let end = (*start + leaf_count_of(tree)) as u64;
+            if end > floor {
                 return 0;
             }
-            match aligned_count_of(bits, floor, rest) {
-                0 => if end % bits == 0 { 1 } else { 0 },
+            match aligned_count_of(chunk_size, floor, rest) {
+                0 => if chunk_size.bit_of(end) == 0 { 1 } else { 0 },
                 later => later + 1,
             }
         }

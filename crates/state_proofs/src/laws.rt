@@ -1,20 +1,93 @@
 //! What holds of all honest proofs of one operation.
 
-ghost use Rattle.std.specs.Prelude.{◌≡◌, ◌<◌, ◌≤◌, ◌*◌, ◌^◌, ℕ, [], length, slice_get, slice_index_or, Some, true};
+ghost use Rattle.std.specs.Prelude.{◌≡◌, ◌<◌, ◌≤◌, ◌*◌, ◌^◌, ℕ, List, [], length, slice_get, slice_index_or, Ok, Some, true};
 ghost use Rattle.merkle_forest.specs.Hashing.{Hash};
 ghost use Rattle.state_proofs.specs.Canonical.{Setting, State, canonical_root};
-ghost use Rattle.state_proofs.specs.Honest.{honest_parts};
+ghost use Rattle.state_proofs.specs.Encoded.{Format, ShowsOperation, ShowsUpdate};
+ghost use Rattle.state_proofs.specs.Honest.{honest_parts, operation_proof, key_value_proof};
 ghost use Rattle.state_proofs.specs.Verified.{Verifies};
 
-use merkle_core::laws::honest_digests_lead_to_the_root;
-use merkle_forest::graftable::Graftable;
+use merkle_core::laws::{honest_digests_are_few, honest_digests_lead_to_the_root};
+use merkle_forest::{Graftable, HashFunction, PendingOf};
+use state_ops::Key;
 
 /// The honest proof of an active operation verifies under the canonical root of its state.
 pub fn honest_proofs_verify<F: Graftable>()
-    ensures { (hash : Hash) (width grafting_height : ℕ) (state : State) (location : ℕ) → 8 * width ≡ 2 ^ grafting_height → grafting_height ≤ 62
-        → length state.operations ≤ 2 ^ 62 → location < length state.operations → slice_get state.bits location ≡ Some true
-        → Verifies F.merge_rule hash (canonical_root (record { rule = F.merge_rule; hash = hash; width = width; grafting_height = grafting_height }) state)
-        (honest_parts (record { rule = F.merge_rule; hash = hash; width = width; grafting_height = grafting_height }) state location) (slice_index_or state.operations location []) }
+    ensures { (hash : Hash) (width grafting_height : ℕ) (state : State) (location : ℕ)
+        → 8 * width ≡ 2 ^ grafting_height → grafting_height ≤ 62 → length state.operations ≤ 2 ^ 62
+        → location < length state.operations → slice_get state.bits location ≡ Some true
+        → (let setting : Setting = record {
+          rule = F.merge_rule;
+          hash = hash;
+          width = width;
+          grafting_height =
+              grafting_height;
+        } in
+        Verifies F.merge_rule hash (canonical_root setting state) (honest_parts setting state location)
+        (slice_index_or state.operations location [])) }
 {
     honest_digests_lead_to_the_root::<F>();
+}
+
+/// The honest bytes of an active operation are those of a proof within the limits, which shows it under the canonical
+/// root.
+pub fn honest_bytes_show_the_operation<
+    F: Graftable + PendingOf<H::Digest>,
+    H: HashFunction,
+    K: Key,
+>()
+    ensures { (width grafting_height : ℕ) (state : State) (location : ℕ)
+        → 8 * width ≡ 2 ^ grafting_height → grafting_height ≤ 62 → length state.operations ≤ 2 ^ 62
+        → location < length state.operations → slice_get state.bits location ≡ Some true
+        → (let setting : Setting = record {
+          rule = F.merge_rule;
+          hash = H.hash_of;
+          width = width;
+          grafting_height =
+              grafting_height;
+        } in
+        let format : Format = record {
+          rule = F.merge_rule;
+          hash = H.hash_of;
+          width = width;
+          size = H.Digest.SIZE;
+          most = 122;
+          IsPending = F.is_pending;
+          pending = F.pending_encoding;
+          IsKey = λ key. K.after tt key ≡ Ok [];
+        } in
+        ShowsOperation format (canonical_root setting state) (slice_index_or state.operations location [])
+        (operation_proof F.pending_encoding setting state location)) }
+{
+    honest_digests_are_few::<F>();
+    honest_proofs_verify::<F>();
+}
+
+/// The honest bytes of an active update, with the next key that it names, are those of a proof within the limits, which
+/// shows it under the canonical root.
+pub fn honest_bytes_show_the_update<F: Graftable + PendingOf<H::Digest>, H: HashFunction, K: Key>()
+    ensures { (width grafting_height : ℕ) (state : State) (location : ℕ) (update : List ℕ → List ℕ) (next_key : List ℕ)
+        → 8 * width ≡ 2 ^ grafting_height → grafting_height ≤ 62 → length state.operations ≤ 2 ^ 62
+        → location < length state.operations → slice_get state.bits location ≡ Some true
+        → slice_index_or state.operations location [] ≡ update next_key → K.after tt next_key ≡ Ok []
+        → (let setting : Setting = record {
+          rule = F.merge_rule;
+          hash = H.hash_of;
+          width = width;
+          grafting_height =
+              grafting_height;
+        } in
+        let format : Format = record {
+          rule = F.merge_rule;
+          hash = H.hash_of;
+          width = width;
+          size = H.Digest.SIZE;
+          most = 122;
+          IsPending = F.is_pending;
+          pending = F.pending_encoding;
+          IsKey = λ key. K.after tt key ≡ Ok [];
+        } in
+        ShowsUpdate format (canonical_root setting state) update (key_value_proof F.pending_encoding setting state location next_key)) }
+{
+    honest_bytes_show_the_operation::<F, H, K>();
 }

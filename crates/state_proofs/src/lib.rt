@@ -1,12 +1,21 @@
-//! Activity bits grafted onto the tree of operations, canonical roots and their proofs. The crate ports parts of `qmdb::current`
-//! of commonware-storage 2026.10.0; `In the Rust` names what an item is there.
+//! Activity bits grafted onto the tree of operations, canonical roots and their proofs. The crate ports parts of
+//! `qmdb::current` of commonware-storage 2026.10.0; `In the Rust` names what an item is there.
 #![tactic(auto)]
 
 pub mod bits;
 pub mod canonical;
+pub mod chunk_size;
 pub mod grafting;
 pub mod honest;
 pub mod laws;
+pub mod operation;
+pub mod ordered;
+pub mod proof;
 pub mod seal;
 pub mod snapshot;
 pub mod verify;
+
+pub use chunk_size::ChunkSize;
+pub use ordered::KeyValueProof;
+pub use proof::RangeProof;
+pub use snapshot::Snapshot;

@@ -6,7 +6,7 @@ ghost use Rattle.state_proofs.specs.Canonical.{canonical_string};
 use merkle_forest::digest::Digest;
 use merkle_forest::hasher::HashFunction;
 
-// The digest of both roots and what stands behind them.
+// The digest of both roots and what stands after them.
 fn seal_over<H: HashFunction>(
     operations: &H::Digest,
     grafted: &H::Digest,
@@ -14,7 +14,9 @@ fn seal_over<H: HashFunction>(
     next: &[u8],
     partial: &[u8],
 ) -> H::Digest
-    ensures { H.Digest.spelling result ≡ H.hash_of (H.Digest.spelling operations.now ++ (H.Digest.spelling grafted.now ++ (pending.now ++ (next.now ++ partial.now)))) }
+    ensures { H.Digest.encoding result ≡ H.hash_of
+        (H.Digest.encoding operations.now ++ (H.Digest.encoding grafted.now ++
+        (pending.now ++ (next.now ++ partial.now)))) }
 {
     H::hash(&[
         operations.as_bytes(),
@@ -25,8 +27,8 @@ fn seal_over<H: HashFunction>(
     ])
 }
 
-/// The digest of the canonical string: the root of the operations, the grafted root, the pending chunk's digest if any, and
-/// the next bit and the partial chunk's digest if any.
+/// The digest of the canonical string: the root of the operations, the grafted root, the pending chunk's digest if any,
+/// and the next bit and the partial chunk's digest if any.
 /// In the Rust: `qmdb::current::db::combine_roots`, where the next bit and the partial chunk's digest are one pair.
 #[tactic(auto, unfolding(crate::specs::Canonical::canonical_string))]
 pub fn seal<H: HashFunction>(
@@ -36,8 +38,9 @@ pub fn seal<H: HashFunction>(
     next: u64,
     partial: &Option<H::Digest>,
 ) -> H::Digest
-    ensures { H.Digest.spelling result ≡ H.hash_of (canonical_string (H.Digest.spelling operations.now) (H.Digest.spelling grafted.now)
-        (option_map H.Digest.spelling pending.now) next (option_map H.Digest.spelling partial.now)) }
+    ensures { H.Digest.encoding result ≡ H.hash_of
+        (canonical_string (H.Digest.encoding operations.now) (H.Digest.encoding grafted.now)
+        (option_map H.Digest.encoding pending.now) next (option_map H.Digest.encoding partial.now)) }
 {
     let pending = match pending {
         Some(digest) => digest.as_bytes(),

@@ -1,7 +1,6 @@
 use super::*;
 use merkle_forest::codec::FixedBytes;
-use merkle_forest::hasher::ByteHash;
-use merkle_forest::mmr;
+use merkle_forest::{ByteHash, mmr};
 use std::alloc::Global;
 use std::test::Fail;
 
@@ -54,31 +53,32 @@ const CASES: [Case; 6] = [
 ];
 
 fn bytes_of(alloc: Global, text: &str) -> Result<Vec<u8>, Fail> {
-    let mut bytes = Vec::new(alloc);
-    for pair in text.as_bytes().chunks_exact(2) {
-        let mut byte = [0];
-        if hex::decode_to_slice(pair, &mut byte).is_ok() {
-            bytes.push(byte[0])?;
-        }
-    }
-    Ok(bytes)
+    Ok(
+        hex::decode(alloc, text.as_bytes())
+            .ok()
+            .ok_or("hexadecimal digits")?,
+    )
 }
 
-fn fixed<const M: usize>(text: &str) -> FixedBytes<M> {
+fn fixed<const M: usize>(text: &str) -> Result<FixedBytes<M>, Fail> {
     let mut bytes = [0; M];
-    let _ = hex::decode_to_slice(text.as_bytes(), &mut bytes);
-    FixedBytes::new(bytes)
+    hex::decode_to_slice(text.as_bytes(), &mut bytes)
+        .ok()
+        .ok_or("hexadecimal digits")?;
+    Ok(FixedBytes::new(bytes))
 }
 
+// What the client says of a key and a value under the case's root.
 fn says(
     alloc: Global,
     case: &Case,
     key: FixedBytes<8>,
     value: u64,
     bytes: &[u8],
-) -> Result<bool, ClientError> {
+) -> Result<bool, Fail> {
     let claim = Claim::Value { key, value };
-    check::<mmr::Family, ByteHash, FixedBytes<8>, u64, 1>(alloc, &fixed(case.root), &claim, bytes)
+    let root = fixed(case.root)?;
+    Ok(check::<mmr::Family, ByteHash, FixedBytes<8>, u64, 1>(alloc, &root, &claim, bytes)?)
 }
 
 #[test]
@@ -86,13 +86,10 @@ fn honest_proofs_show_the_value_alone(rt: HostRuntime) -> Result<(), Fail> {
     let alloc = rt.alloc();
     for case in &CASES {
         let bytes = bytes_of(alloc, case.proof)?;
-        let key = fixed(case.key);
-        assert_eq!(rt; says(alloc, case, key, case.value, &bytes), Ok(true));
-        assert_eq!(rt; says(alloc, case, key, case.value ^ 1, &bytes), Ok(false));
-        assert_eq!(rt;
-            says(alloc, case, fixed("6262626262626262"), case.value, &bytes),
-            Ok(false)
-        );
+        let key = fixed(case.key)?;
+        assert!(rt; says(alloc, case, key, case.value, &bytes)?);
+        assert!(rt; !says(alloc, case, key, case.value ^ 1, &bytes)?);
+        assert!(rt; !says(alloc, case, fixed("6262626262626262")?, case.value, &bytes)?);
     }
     Ok(())
 }
@@ -101,14 +98,14 @@ fn honest_proofs_show_the_value_alone(rt: HostRuntime) -> Result<(), Fail> {
 fn a_changed_proof_shows_nothing(rt: HostRuntime) -> Result<(), Fail> {
     let alloc = rt.alloc();
     for case in &CASES {
-        let key = fixed(case.key);
+        let key = fixed(case.key)?;
         let mut bytes = bytes_of(alloc, case.proof)?;
         for index in 0..bytes.len() {
             for bit in 0..8u32 {
                 if let Some(byte) = bytes.get_mut(index) {
                     *byte ^= 1u8 << bit;
                 }
-                assert_eq!(rt; says(alloc, case, key, case.value, &bytes), Ok(false));
+                assert!(rt; !says(alloc, case, key, case.value, &bytes)?);
                 if let Some(byte) = bytes.get_mut(index) {
                     *byte ^= 1u8 << bit;
                 }
@@ -116,11 +113,11 @@ fn a_changed_proof_shows_nothing(rt: HostRuntime) -> Result<(), Fail> {
         }
         for count in 0..bytes.len() {
             if let Some(front) = bytes.get(..count) {
-                assert_eq!(rt; says(alloc, case, key, case.value, front), Ok(false));
+                assert!(rt; !says(alloc, case, key, case.value, front)?);
             }
         }
         bytes.push(0)?;
-        assert_eq!(rt; says(alloc, case, key, case.value, &bytes), Ok(false));
+        assert!(rt; !says(alloc, case, key, case.value, &bytes)?);
     }
     Ok(())
 }
@@ -136,16 +133,16 @@ const WIDE: Case = Case {
 fn chunks_may_be_wide(rt: HostRuntime) -> Result<(), Fail> {
     let alloc = rt.alloc();
     let bytes = bytes_of(alloc, WIDE.proof)?;
-    let root: FixedBytes<32> = fixed(WIDE.root);
+    let root: FixedBytes<32> = fixed(WIDE.root)?;
     for (value, want) in [(WIDE.value, true), (WIDE.value ^ 1, false)] {
         let claim: Claim<FixedBytes<8>, u64> = Claim::Value {
-            key: fixed(WIDE.key),
+            key: fixed(WIDE.key)?,
             value,
         };
         let said = check::<mmr::Family, ByteHash, FixedBytes<8>, u64, 32>(
             alloc, &root, &claim, &bytes,
-        );
-        assert_eq!(rt; said, Ok(want));
+        )?;
+        assert_eq!(rt; said, want);
     }
     Ok(())
 }

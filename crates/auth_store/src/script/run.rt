@@ -1,8 +1,16 @@
 //! A whole run of a script.
 
-ghost use Rattle.std.specs.Prelude.{◌≡◌};
+ghost use Rattle.std.specs.Prelude.{◌≡◌, ◌⊎◌, ◌++◌, ◌∷◌, ◌↔◌, [], option_map, None, Some, Ok, codes, IfErr, IsSomeAnd, OnErr, OnOk, IfOk};
+ghost use Rattle.std.specs.Fmt.{decimal};
+ghost use Rattle.std.specs.Int.{w64, to_be_bytes};
+ghost use Rattle.std.specs.Io.KnownBytes.{Appends};
 ghost use Rattle.std.specs.IoError.{error_kind};
 ghost use Rattle.std.specs.declared.io.ErrorKind.TheVariants.{OutOfMemory};
+ghost use Rattle.auth_store.specs.Batch as words;
+ghost use Rattle.auth_store.specs.Machine.{IsStep};
+ghost use Rattle.auth_store.specs.MachineCode.{meaning_of, request_of};
+ghost use Rattle.auth_store.specs.Report.{reported};
+ghost use Rattle.auth_store.specs.ScriptRun.{Commits, Keeps, checked_line, answer_line, bytes_of, kept_of, script_machine, value_of};
 ghost use Rattle.auth_store.specs.declared.script.run.End.TheVariants as ends;
 
 use super::input::{InputError, read_script};
@@ -33,7 +41,7 @@ pub const IO_FAILED: u8 = 1;
 /// The status of a run that a bad line ended.
 pub const BAD_LINE: u8 = 2;
 
-/// The status of a run in which the script itself found no memory.
+/// The status of a run in which the script itself was out of memory.
 pub const NO_MEMORY: u8 = 3;
 
 type Keys = FixedBytes<8>;
@@ -100,7 +108,10 @@ struct Progress {
 }
 
 // Prints a value, a root or a refusal. Any other answer has no line of its own, and the line was out of place.
-fn report<W: Write>(alloc: Global, out: &mut W, answer: &ScriptAnswer) -> Result<(), End> {
+fn report<W: Write>(alloc: Global, out: &mut W, answer: &ScriptAnswer) -> Result<(), End>
+    ensures line { OnOk result (IsSomeAnd (answer_line answer.now) (λ line. Appends (W.contents out.old) (W.contents out.new) (reported line))) }
+    ensures bad { result ≡ Err End.BadLine ↔ (answer_line answer.now ≡ None) }
+{
     match answer {
         Answer::Value(Some(value)) => Ok(report_value(out, *value)?),
         Answer::Value(None) => Ok(report_none(out)?),
@@ -110,8 +121,20 @@ fn report<W: Write>(alloc: Global, out: &mut W, answer: &ScriptAnswer) -> Result
     }
 }
 
+// Prints what a check answers.
+fn report_checked<W: Write>(out: &mut W, checked: Result<bool, AllocError>) -> io::Result<()>
+    ensures { OnOk result (Appends (W.contents out.old) (W.contents out.new) (reported (checked_line checked))) }
+{
+    match checked {
+        Ok(holds) => report_check(out, holds),
+        Err(_) => report_error(out, StoreError::Memory.number()),
+    }
+}
+
 impl Progress {
-    fn new(alloc: Global) -> Progress {
+    fn new(alloc: Global) -> Progress
+        ensures { result.kept ≡ None }
+    {
         let device = PlainDevice::new(alloc);
         Progress {
             alloc,
@@ -122,7 +145,14 @@ impl Progress {
     }
 
     // Takes a step. A line that is out of place ends the run.
-    fn take(&mut self, step: Step<Keys, u64>) -> Result<ScriptAnswer, End> {
+    fn take(&mut self, step: Step<Keys, u64>) -> Result<ScriptAnswer, End>
+        ensures step { IfOk result (λ answer. IsStep script_machine self.old.session.store (request_of bytes_of value_of step)
+            (meaning_of bytes_of value_of answer) self.new.session.store) }
+        ensures bad { IfErr result (λ end. end ≡ End.BadLine) }
+        ensures unchanged { OnErr result (self.new.session.store ≡ self.old.session.store) }
+        ensures batch { self.new.batch.words.items ≡ self.old.batch.words.items }
+        ensures kept { self.new.kept ≡ self.old.kept }
+    {
         match self.session.step(step) {
             Answer::NotOpen | Answer::StillOpen => Err(End::BadLine),
             answer => Ok(answer),
@@ -140,8 +170,25 @@ impl Progress {
         }
     }
 
+    // Says in the batch that the key has this value.
+    fn put(&mut self, key: Keys, value: u64) -> Result<(), End>
+        ensures ok { OnOk result (words.meanings bytes_of value_of self.new.batch.words.items
+            ≡ words.meanings bytes_of value_of self.old.batch.words.items ++ words.put key.bytes (to_be_bytes w64 value) ∷ []) }
+        ensures err { OnErr result (self.new.batch.words.items ≡ self.old.batch.words.items) }
+        ensures memory { IfErr result (λ end. end ≡ End.Memory) }
+        ensures session { self.new.session.store ≡ self.old.session.store }
+        ensures kept { self.new.kept ≡ self.old.kept }
+    {
+        Ok(self.batch.put(key, value)?)
+    }
+
     // Commits the words so far. The batch is empty again, also after a refusal.
-    fn commit<W: Write>(&mut self, out: &mut W, metadata: Option<u64>) -> Result<(), End> {
+    fn commit<W: Write>(&mut self, out: &mut W, metadata: Option<u64>) -> Result<(), End>
+        ensures batch { self.new.batch.words.items ≡ [] }
+        ensures kept { self.new.kept ≡ self.old.kept }
+        ensures store { (self.new.session.store ≡ self.old.session.store) ⊎ Commits (words.meanings bytes_of value_of self.old.batch.words.items)
+            (option_map value_of metadata) self.old.session.store self.new.session.store }
+    {
         let batch = std::mem::replace(&mut self.batch, Batch::new(self.alloc));
         match self.take(Step::Commit(batch, metadata))? {
             Answer::Committed(_root) => match self.take(Step::Commits)? {
@@ -159,7 +206,11 @@ impl Progress {
     }
 
     // Proves a key that is there, and keeps the bytes and the root of now. A refused proof keeps the former ones.
-    fn prove<W: Write>(&mut self, out: &mut W, key: Keys) -> Result<(), End> {
+    fn prove<W: Write>(&mut self, out: &mut W, key: Keys) -> Result<(), End>
+        ensures kept { (self.new.kept ≡ self.old.kept) ⊎ Keeps self.old.session.store key.bytes (kept_of self.new.kept) }
+        ensures store { self.new.session.store ≡ self.old.session.store }
+        ensures batch { self.new.batch.words.items ≡ self.old.batch.words.items }
+    {
         let (value, bytes) = match self.take(Step::ProveKey(key))? {
             Answer::Proof(Some(KeyProof::Value(value, bytes))) => (value, bytes),
             other => return report(self.alloc, out, &other),
@@ -172,34 +223,35 @@ impl Progress {
     }
 
     // Answers the kept bytes.
-    fn proof<W: Write>(&self, out: &mut W) -> Result<(), End> {
+    fn proof<W: Write>(&self, out: &mut W) -> Result<(), End>
+        ensures bad { result ≡ Err End.BadLine ↔ (self.now.kept ≡ None) }
+    {
         let kept = self.kept.as_ref().ok_or(End::BadLine)?;
         Ok(report_proof(self.alloc, out, &kept.bytes)?)
     }
 
     // Checks the kept bytes against the kept root.
-    fn check_value<W: Write>(&self, out: &mut W, key: Keys, value: u64) -> Result<(), End> {
+    fn check_value<W: Write>(&self, out: &mut W, key: Keys, value: u64) -> Result<(), End>
+        ensures bad { result ≡ Err End.BadLine ↔ (self.now.kept ≡ None) }
+    {
         let kept = self.kept.as_ref().ok_or(End::BadLine)?;
         let claim = Claim::Value { key, value };
-        match check::<mmr::Family, ByteHash, Keys, u64, 1>(
+        let checked = check::<mmr::Family, ByteHash, Keys, u64, 1>(
             self.alloc,
             &kept.root,
             &claim,
             &kept.bytes,
-        ) {
-            Ok(holds) => report_check(out, holds)?,
-            Err(_) => report_error(out, StoreError::Memory.number())?,
-        }
-        Ok(())
+        );
+        Ok(report_checked(out, checked)?)
     }
 
-    // Takes one line behind the first one.
+    // Takes one line after the first one.
     fn step<W: Write>(&mut self, out: &mut W, line: Line) -> Result<(), End> {
         match line {
             Line::Empty => Ok(()),
             Line::New { seed: _ } => Err(End::BadLine),
             Line::Open => self.open(out),
-            Line::Put { key, value } => Ok(self.batch.put(key, value)?),
+            Line::Put { key, value } => self.put(key, value),
             Line::Commit { metadata } => self.commit(out, metadata),
             Line::Get { key } => self.ask(out, Step::Get(key)),
             Line::Root => self.ask(out, Step::Root),
@@ -229,34 +281,53 @@ fn take_line<W: Write>(
     }
 }
 
+// Ends the run at a line with this number, and answers the status. A bad line is printed first.
+fn end_run<W: Write>(out: &mut W, end: End, number: u64) -> u8
+    ensures memory { end ≡ End.Memory → result ≡ 3 }
+    ensures io { end ≡ End.Io → result ≡ 1 }
+    ensures bad { end ≡ End.BadLine → (result ≡ 1)
+        ⊎ ((result ≡ 2) × Appends (W.contents out.old) (W.contents out.new) (reported (codes "bad line " ++ decimal number))) }
+{
+    match end {
+        End::Memory => NO_MEMORY,
+        End::Io => IO_FAILED,
+        End::BadLine => match report_bad_line(out, number) {
+            Ok(()) => BAD_LINE,
+            Err(_) => IO_FAILED,
+        },
+    }
+}
+
 // Takes all lines, and answers the status.
 fn run_lines<W: Write>(alloc: Global, script: &[u8], out: &mut W) -> u8 {
     let mut progress = None;
     let mut number = 0u64;
     for text in script.split(|byte| *byte == b'\n') {
         number = number.saturating_add(1);
-        match take_line(alloc, &mut progress, out, text) {
-            Ok(()) => {}
-            Err(End::Memory) => return NO_MEMORY,
-            Err(End::Io) => return IO_FAILED,
-            Err(End::BadLine) => {
-                return match report_bad_line(out, number) {
-                    Ok(()) => BAD_LINE,
-                    Err(_) => IO_FAILED,
-                };
-            }
+        if let Err(end) = take_line(alloc, &mut progress, out, text) {
+            return end_run(out, end, number);
         }
     }
     DONE
 }
 
+// The status of a script that was not read.
+fn status_of(refused: InputError) -> u8
+    ensures memory { refused ≡ InputError.Memory → result ≡ 3 }
+    ensures read { refused ≡ InputError.Read → result ≡ 1 }
+{
+    match refused {
+        InputError::Memory => NO_MEMORY,
+        InputError::Read => IO_FAILED,
+    }
+}
+
 /// Reads the whole script, runs it line by line, and answers the status: 0 at the end of the script, 1 where reading or
-/// writing failed, 2 after a bad line, 3 where the script itself found no memory.
+/// writing failed, 2 after a bad line, 3 where the script itself was out of memory.
 pub fn run_script<R: Read, W: Write>(alloc: Global, reader: &mut R, writer: &mut W) -> u8 {
     match read_script(alloc, reader) {
         Ok(script) => run_lines(alloc, &script, writer),
-        Err(InputError::Memory) => NO_MEMORY,
-        Err(InputError::Read) => IO_FAILED,
+        Err(refused) => status_of(refused),
     }
 }
 

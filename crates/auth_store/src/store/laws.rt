@@ -1,25 +1,36 @@
 //! What holds of all stores with one history.
 
-ghost use Rattle.std.specs.Prelude.{◌≡◌, ℕ, List};
-ghost use Rattle.auth_store.specs.History.{History};
-ghost use Rattle.auth_store.specs.Proving.{honest_proof};
-ghost use Rattle.auth_store.specs.Store.{setting_of_width, root_of_history};
+ghost use Rattle.std.specs.Prelude.{◌≡◌, IsTrue, IfOk, IfErr};
 
-use merkle_forest::HashFunction;
-use merkle_forest::pending::PendingOf;
+use super::Store;
+use super::prove::KeyProof;
+use crate::error::StoreError;
+use merkle_forest::{Graftable, HashFunction, PendingOf};
 use state_ops::{FixedValue, Key};
 
-/// Two stores with the same history answer the same root and the same proof bytes.
-pub fn same_history_same_root_and_proofs<F, H, K, V, const N: usize>()
+/// Whether two stores answer the same root, and the same proof of the key or none. They do where their histories are
+/// equal. Out of memory: S4.
+pub fn same_root_and_proof<F, H, K, V, const N: usize>(
+    one: &Store<F, H, K, V, N>,
+    other: &Store<F, H, K, V, N>,
+    key: &K,
+) -> Result<bool, StoreError>
 where
-    F: PendingOf<H::Digest>,
+    F: Graftable + PendingOf<H::Digest>,
     H: HashFunction,
     K: Key,
     V: FixedValue,
-    ensures root { (one other : History) (root same : H.Digest) → one ≡ other
-        → H.Digest.spelling root ≡ root_of_history (setting_of_width F.merge_rule H.hash_of N) K.SIZE V.SIZE one
-        → H.Digest.spelling same ≡ root_of_history (setting_of_width F.merge_rule H.hash_of N) K.SIZE V.SIZE other → root ≡ same }
-    ensures proof { (one other : History) (key : List ℕ) → one ≡ other
-        → honest_proof F.pending_spelling (setting_of_width F.merge_rule H.hash_of N) K.SIZE V.SIZE one key
-        ≡ honest_proof F.pending_spelling (setting_of_width F.merge_rule H.hash_of N) K.SIZE V.SIZE other key }
-{}
+    ensures same { one.now ≡ other.now → IfOk result (λ same. IsTrue same) }
+    ensures err { IfErr result (λ e. e ≡ StoreError.Memory) }
+{
+    if one.root()? != other.root()? {
+        return Ok(false);
+    }
+    match (one.prove_key(key)?, other.prove_key(key)?) {
+        (None, None) => Ok(true),
+        (Some(KeyProof::Value(_, first)), Some(KeyProof::Value(_, second))) => {
+            Ok(first.as_slice() == second.as_slice())
+        }
+        _ => Ok(false),
+    }
+}

@@ -1,6 +1,6 @@
 //! Which operations of a log still count.
 
-ghost use Rattle.std.specs.Prelude.{◌≡◌, IfOk};
+ghost use Rattle.std.specs.Prelude.{◌≡◌, ◌≤◌, length, IfOk};
 ghost use Rattle.std.specs.List.{list_any};
 ghost use Rattle.state_ops.specs.Operation.{meaning_of};
 ghost use Rattle.auth_store_parts.specs.History as spec;
@@ -10,7 +10,7 @@ use std::alloc::{AllocError, Global};
 
 /// Whether the operation is about the key.
 fn has_key<K: Key, V: FixedValue>(key: &K, operation: &Operation<K, V>) -> bool
-    ensures { result ≡ spec.has_key (K.spelling key.now) (meaning_of K.spelling V.spelling operation.now) }
+    ensures { result ≡ spec.has_key (K.encoding key.now) (meaning_of K.encoding V.encoding operation.now) }
 {
     match operation {
         Operation::Delete(other) => key.cmp(other).is_eq(),
@@ -21,25 +21,28 @@ fn has_key<K: Key, V: FixedValue>(key: &K, operation: &Operation<K, V>) -> bool
 
 /// Whether one of the operations is about the key.
 fn any_has_key<K: Key, V: FixedValue>(key: &K, operations: &[Operation<K, V>]) -> bool
-    ensures { result ≡ list_any (λ operation. spec.has_key (K.spelling key.now) (meaning_of K.spelling V.spelling operation)) operations.now }
+    ensures { result ≡ list_any (λ operation. spec.has_key (K.encoding key.now) (meaning_of K.encoding V.encoding operation))
+        operations.now }
 {
     operations.iter().any(|operation| has_key(key, operation))
 }
 
 /// Whether one of the operations is a commit.
 fn any_is_commit<K: Key, V: FixedValue>(operations: &[Operation<K, V>]) -> bool
-    ensures { result ≡ list_any (λ operation. spec.is_commit (meaning_of K.spelling V.spelling operation)) operations.now }
+    ensures { result ≡ list_any (λ operation. spec.is_commit (meaning_of K.encoding V.encoding operation)) operations.now }
 {
     operations.iter().any(|operation| matches!(operation, Operation::CommitFloor(_, _)))
 }
 
-/// Whether the operation still counts, given the operations after it: an update whose key no later one has, or the last commit.
+/// Whether the operation still counts, given the operations after it: an update whose key no later one has, or the last
+/// commit.
 #[tactic(auto, using(crate::proofs::Mapped::any_map))]
 pub fn is_active<K: Key, V: FixedValue>(
     operation: &Operation<K, V>,
     later: &[Operation<K, V>],
 ) -> bool
-    ensures { result ≡ spec.is_active (meaning_of K.spelling V.spelling operation.now) (spec.meanings K.spelling V.spelling later.now) }
+    ensures { result ≡ spec.is_active (meaning_of K.encoding V.encoding operation.now)
+        (spec.meanings K.encoding V.encoding later.now) }
 {
     match operation {
         Operation::Delete(_) => false,
@@ -54,7 +57,8 @@ pub fn is_active_on<K: Key, V: FixedValue>(
     operation: &Operation<K, V>,
     later: &[Operation<K, V>],
 ) -> bool
-    ensures { result ≡ spec.is_active_on (K.spelling key.now) (meaning_of K.spelling V.spelling operation.now) (spec.meanings K.spelling V.spelling later.now) }
+    ensures { result ≡ spec.is_active_on (K.encoding key.now) (meaning_of K.encoding V.encoding operation.now)
+        (spec.meanings K.encoding V.encoding later.now) }
 {
     has_key(key, operation) && is_active(operation, later)
 }
@@ -64,7 +68,8 @@ fn is_active_update<K: Key, V: FixedValue>(
     operation: &Operation<K, V>,
     later: &[Operation<K, V>],
 ) -> bool
-    ensures { result ≡ spec.is_active_update (meaning_of K.spelling V.spelling operation.now) (spec.meanings K.spelling V.spelling later.now) }
+    ensures { result ≡ spec.is_active_update (meaning_of K.encoding V.encoding operation.now)
+        (spec.meanings K.encoding V.encoding later.now) }
 {
     match operation {
         Operation::Update(_) => is_active(operation, later),
@@ -72,12 +77,12 @@ fn is_active_update<K: Key, V: FixedValue>(
     }
 }
 
-/// For each operation of the log whether it still counts. It fails for want of memory alone.
+/// For each operation of the log whether it still counts. It fails only when out of memory.
 pub fn activity_bits<K: Key, V: FixedValue>(
     alloc: Global,
     operations: &[Operation<K, V>],
 ) -> Result<Vec<bool>, AllocError>
-    ensures { IfOk result (λ bits. bits.items ≡ spec.activity_bits (spec.meanings K.spelling V.spelling operations.now)) }
+    ensures { IfOk result (λ bits. bits.items ≡ spec.activity_bits (spec.meanings K.encoding V.encoding operations.now)) }
 {
     let mut bits = Vec::new(alloc);
     let mut rest = operations;
@@ -88,9 +93,10 @@ pub fn activity_bits<K: Key, V: FixedValue>(
     Ok(bits)
 }
 
-/// The floor that a commit at the end of these operations records: the place of their first update that still counts, or their number where none does.
+/// The floor that a commit at the end of these operations records: the location of their first update that still counts, or
+/// their number where none does.
 pub fn inactivity_floor<K: Key, V: FixedValue>(operations: &[Operation<K, V>]) -> u64
-    ensures { result ≡ spec.inactivity_floor (spec.meanings K.spelling V.spelling operations.now) }
+    ensures { result ≡ spec.inactivity_floor (spec.meanings K.encoding V.encoding operations.now) }
 {
     let mut rest = operations;
     while let [operation, later @ ..] = rest {
@@ -100,4 +106,19 @@ pub fn inactivity_floor<K: Key, V: FixedValue>(operations: &[Operation<K, V>]) -
         rest = later;
     }
     (operations.len() - rest.len()) as u64
+}
+
+/// The location of the active update of the key, or the number of operations where there is none.
+pub fn active_location<K: Key, V: FixedValue>(key: &K, operations: &[Operation<K, V>]) -> usize
+    ensures location { result ≡ spec.active_location (K.encoding key.now) (spec.meanings K.encoding V.encoding operations.now) }
+    ensures within { result ≤ length operations.now }
+{
+    let mut rest = operations;
+    while let [operation, later @ ..] = rest {
+        if is_active_on(key, operation, later) {
+            break;
+        }
+        rest = later;
+    }
+    operations.len() - rest.len()
 }

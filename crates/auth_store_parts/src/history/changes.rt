@@ -1,19 +1,23 @@
 //! The operations that lead from one state to another.
 
-ghost use Rattle.std.specs.Prelude.{◌≡◌, ◌++◌, ◌<◌, length, IfOk, OnOk};
+ghost use Rattle.std.specs.Prelude.{◌≡◌, ◌++◌, ◌<◌, [], length, IfOk, OnOk};
 ghost use Rattle.std.specs.Str.{bytes_eq};
+ghost use Rattle.auth_store_parts.specs.Batch as words;
+ghost use Rattle.auth_store_parts.specs.Batch.{map_after};
 ghost use Rattle.auth_store_parts.specs.Map.{state_of, next_key};
 ghost use Rattle.auth_store_parts.specs.History as spec;
 
+use super::replay::latest_map_of;
+use crate::batch::{Batch, apply_batch};
 use crate::state;
 use merkle_forest::codec::Encode;
 use state_ops::{FixedValue, Key, Operation, Ordered};
 use std::alloc::{AllocError, Global};
 use std::collections::BTreeMap;
 
-/// Whether two values have one spelling. It fails for want of memory alone.
+/// Whether two values have one encoding. It fails only when out of memory.
 fn is_same_value<V: FixedValue>(alloc: Global, value: &V, other: &V) -> Result<bool, AllocError>
-    ensures { IfOk result (λ same. same ≡ bytes_eq (V.spelling value.now) (V.spelling other.now)) }
+    ensures { IfOk result (λ same. same ≡ bytes_eq (V.encoding value.now) (V.encoding other.now)) }
 {
     let left = value.encode(alloc)?;
     let right = other.encode(alloc)?;
@@ -23,7 +27,7 @@ fn is_same_value<V: FixedValue>(alloc: Global, value: &V, other: &V) -> Result<b
 /// The least key above the key, or the least of all where none is above.
 fn next_of<'a, K: Key, V: FixedValue>(state: &'a BTreeMap<K, V>, key: &K) -> &'a K
     requires { 0 < length state.now.entries }
-    ensures { K.spelling result.now ≡ next_key (state_of K.spelling V.spelling state.now.entries) (K.spelling key.now) }
+    ensures { K.encoding result.now ≡ next_key (state_of K.encoding V.encoding state.now.entries) (K.encoding key.now) }
 {
     state::next_key(state, key).unwrap()
 }
@@ -32,12 +36,15 @@ fn next_of<'a, K: Key, V: FixedValue>(state: &'a BTreeMap<K, V>, key: &K) -> &'a
 fn is_same_next<K: Key, V: FixedValue>(old: &BTreeMap<K, V>, new: &BTreeMap<K, V>, key: &K) -> bool
     requires in_old { 0 < length old.now.entries }
     requires in_new { 0 < length new.now.entries }
-    ensures { result ≡ bytes_eq (next_key (state_of K.spelling V.spelling old.now.entries) (K.spelling key.now)) (next_key (state_of K.spelling V.spelling new.now.entries) (K.spelling key.now)) }
+    ensures { result ≡ bytes_eq
+        (next_key (state_of K.encoding V.encoding old.now.entries) (K.encoding key.now))
+        (next_key (state_of K.encoding V.encoding new.now.entries) (K.encoding key.now)) }
 {
     next_of(old, key).cmp(next_of(new, key)).is_eq()
 }
 
-/// Whether the old state has the key of the new one with the same value and the same next key. It fails for want of memory alone.
+/// Whether the old state has the key of the new one with the same value and the same next key. It fails only when out of
+/// memory.
 fn is_kept<K: Key, V: FixedValue>(
     alloc: Global,
     old: &BTreeMap<K, V>,
@@ -46,7 +53,8 @@ fn is_kept<K: Key, V: FixedValue>(
     value: &V,
 ) -> Result<bool, AllocError>
     requires { 0 < length new.now.entries }
-    ensures { IfOk result (λ kept. kept ≡ spec.is_kept (state_of K.spelling V.spelling old.now.entries) (state_of K.spelling V.spelling new.now.entries) (K.spelling key.now) (V.spelling value.now)) }
+    ensures { IfOk result (λ kept. kept ≡ spec.is_kept (state_of K.encoding V.encoding old.now.entries)
+        (state_of K.encoding V.encoding new.now.entries) (K.encoding key.now) (V.encoding value.now)) }
 {
     match state::get(old, key) {
         None => Ok(false),
@@ -54,13 +62,14 @@ fn is_kept<K: Key, V: FixedValue>(
     }
 }
 
-/// Says a delete where the new state lacks the key. It fails for want of memory alone.
+/// Appends a delete where the new state lacks the key. It fails only when out of memory.
 fn push_delete<K: Key, V: FixedValue>(
     new: &BTreeMap<K, V>,
     key: &K,
     out: &mut Vec<Operation<K, V>>,
 ) -> Result<(), AllocError>
-    ensures { OnOk result (spec.meanings K.spelling V.spelling out.new.items ≡ spec.meanings K.spelling V.spelling out.old.items ++ spec.delete_of (state_of K.spelling V.spelling new.now.entries) (K.spelling key.now)) }
+    ensures { OnOk result (spec.meanings K.encoding V.encoding out.new.items ≡ spec.meanings K.encoding V.encoding out.old.items
+        ++ spec.delete_of (state_of K.encoding V.encoding new.now.entries) (K.encoding key.now)) }
 {
     if state::get(new, key).is_some() {
         return Ok(());
@@ -68,7 +77,7 @@ fn push_delete<K: Key, V: FixedValue>(
     Ok(out.push(Operation::Delete(key.clone()?))?)
 }
 
-/// Says an update where the key isn't kept. It fails for want of memory alone.
+/// Appends an update where the key isn't kept. It fails only when out of memory.
 fn push_update<K: Key, V: FixedValue>(
     alloc: Global,
     old: &BTreeMap<K, V>,
@@ -78,7 +87,9 @@ fn push_update<K: Key, V: FixedValue>(
     out: &mut Vec<Operation<K, V>>,
 ) -> Result<(), AllocError>
     requires { 0 < length new.now.entries }
-    ensures { OnOk result (spec.meanings K.spelling V.spelling out.new.items ≡ spec.meanings K.spelling V.spelling out.old.items ++ spec.update_of (state_of K.spelling V.spelling old.now.entries) (state_of K.spelling V.spelling new.now.entries) (K.spelling key.now) (V.spelling value.now)) }
+    ensures { OnOk result (spec.meanings K.encoding V.encoding out.new.items ≡ spec.meanings K.encoding V.encoding out.old.items
+        ++ spec.update_of (state_of K.encoding V.encoding old.now.entries) (state_of K.encoding V.encoding new.now.entries)
+        (K.encoding key.now) (V.encoding value.now)) }
 {
     if is_kept(alloc, old, new, key, value)? {
         return Ok(());
@@ -91,13 +102,14 @@ fn push_update<K: Key, V: FixedValue>(
     Ok(out.push(Operation::Update(update))?)
 }
 
-/// Says a delete for each key of the old state that the new one lacks. It fails for want of memory alone.
+/// Appends a delete for each key of the old state that the new one lacks. It fails only when out of memory.
 fn push_deletes<K: Key, V: FixedValue>(
     old: &BTreeMap<K, V>,
     new: &BTreeMap<K, V>,
     out: &mut Vec<Operation<K, V>>,
 ) -> Result<(), AllocError>
-    ensures { OnOk result (spec.meanings K.spelling V.spelling out.new.items ≡ spec.meanings K.spelling V.spelling out.old.items ++ spec.deletes (state_of K.spelling V.spelling old.now.entries) (state_of K.spelling V.spelling new.now.entries)) }
+    ensures { OnOk result (spec.meanings K.encoding V.encoding out.new.items ≡ spec.meanings K.encoding V.encoding out.old.items
+        ++ spec.deletes (state_of K.encoding V.encoding old.now.entries) (state_of K.encoding V.encoding new.now.entries)) }
 {
     for (key, _) in old {
         push_delete(new, key, out)?;
@@ -105,14 +117,16 @@ fn push_deletes<K: Key, V: FixedValue>(
     Ok(())
 }
 
-/// Says an update for each key of the new state that isn't kept. It fails for want of memory alone.
+/// Appends an update for each key of the new state that isn't kept. It fails only when out of memory.
 fn push_updates<K: Key, V: FixedValue>(
     alloc: Global,
     old: &BTreeMap<K, V>,
     new: &BTreeMap<K, V>,
     out: &mut Vec<Operation<K, V>>,
 ) -> Result<(), AllocError>
-    ensures { OnOk result (spec.meanings K.spelling V.spelling out.new.items ≡ spec.meanings K.spelling V.spelling out.old.items ++ spec.updates (state_of K.spelling V.spelling new.now.entries) (state_of K.spelling V.spelling old.now.entries) (state_of K.spelling V.spelling new.now.entries)) }
+    ensures { let next = state_of K.encoding V.encoding new.now.entries in
+        OnOk result (spec.meanings K.encoding V.encoding out.new.items ≡ spec.meanings K.encoding V.encoding out.old.items
+        ++ spec.updates next (state_of K.encoding V.encoding old.now.entries) next) }
 {
     for (key, value) in new {
         push_update(alloc, old, new, key, value, out)?;
@@ -120,16 +134,32 @@ fn push_updates<K: Key, V: FixedValue>(
     Ok(())
 }
 
-/// The operations that lead from the old state to the new one, without the commit. It fails for want of memory alone.
+/// The operations that lead from the old state to the new one, without the commit. It fails only when out of memory.
 pub fn batch_operations<K: Key, V: FixedValue>(
     alloc: Global,
     old: &BTreeMap<K, V>,
     new: &BTreeMap<K, V>,
 ) -> Result<Vec<Operation<K, V>>, AllocError>
-    ensures { IfOk result (λ operations. spec.meanings K.spelling V.spelling operations.items ≡ spec.batch_operations (state_of K.spelling V.spelling old.now.entries) (state_of K.spelling V.spelling new.now.entries)) }
+    ensures { IfOk result (λ operations. spec.meanings K.encoding V.encoding operations.items
+        ≡ spec.batch_operations (state_of K.encoding V.encoding old.now.entries) (state_of K.encoding V.encoding new.now.entries)) }
 {
     let mut out = Vec::new(alloc);
     push_deletes(old, new, &mut out)?;
     push_updates(alloc, old, new, &mut out)?;
     Ok(out)
+}
+
+/// The operations that a batch adds to a log, without the commit. It fails only when out of memory.
+pub fn changes_of<K: Key, V: FixedValue>(
+    alloc: Global,
+    log: &[Operation<K, V>],
+    batch: &Batch<K, V>,
+) -> Result<Vec<Operation<K, V>>, AllocError>
+    ensures { let state = spec.replayed [] (spec.meanings K.encoding V.encoding log.now) in
+        let said = words.meanings K.encoding V.encoding batch.now.words.items in
+        IfOk result (λ added. spec.meanings K.encoding V.encoding added.items ≡ spec.batch_operations state (map_after said state)) }
+{
+    let old = latest_map_of(alloc, log)?;
+    let new = apply_batch(state::copy_of(&old)?, batch)?;
+    batch_operations(alloc, &old, &new)
 }

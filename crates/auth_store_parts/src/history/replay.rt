@@ -10,12 +10,13 @@ use state_ops::{FixedValue, Key, Operation};
 use std::alloc::{AllocError, Global};
 use std::collections::BTreeMap;
 
-/// Applies one operation to the state. It fails for want of memory alone, and the state then stays as it was.
+/// Applies one operation to the state. It fails only when out of memory, and the state then stays as it was.
 pub fn apply_operation<K: Key, V: FixedValue>(
     state: &mut BTreeMap<K, V>,
     operation: &Operation<K, V>,
 ) -> Result<(), AllocError>
-    ensures ok { OnOk result (state_of K.spelling V.spelling state.new.entries ≡ spec.after_operation (meaning_of K.spelling V.spelling operation.now) (state_of K.spelling V.spelling state.old.entries)) }
+    ensures ok { OnOk result (state_of K.encoding V.encoding state.new.entries
+        ≡ spec.after_operation (meaning_of K.encoding V.encoding operation.now) (state_of K.encoding V.encoding state.old.entries)) }
     ensures err { OnErr result (state.new.entries ≡ state.old.entries) }
 {
     match operation {
@@ -28,18 +29,17 @@ pub fn apply_operation<K: Key, V: FixedValue>(
     }
 }
 
-/// The state after all operations of a log. It fails for want of memory alone.
+/// The state after all operations of a log. It fails only when out of memory.
 pub fn latest_map_of<K: Key, V: FixedValue>(
     alloc: Global,
     operations: &[Operation<K, V>],
 ) -> Result<BTreeMap<K, V>, AllocError>
-    ensures { IfOk result (λ state. state_of K.spelling V.spelling state.entries ≡ spec.replayed [] (spec.meanings K.spelling V.spelling operations.now)) }
+    ensures { IfOk result (λ state. state_of K.encoding V.encoding state.entries
+        ≡ spec.replayed [] (spec.meanings K.encoding V.encoding operations.now)) }
 {
     let mut state = BTreeMap::new(alloc);
-    let mut rest = operations;
-    while let [operation, later @ ..] = rest {
+    for operation in operations {
         apply_operation(&mut state, operation)?;
-        rest = later;
     }
     Ok(state)
 }

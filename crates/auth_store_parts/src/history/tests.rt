@@ -1,5 +1,5 @@
 use super::*;
-use crate::batch::{Batch, apply_batch};
+use crate::batch::Batch;
 use merkle_forest::codec::FixedBytes;
 use state_ops::{Operation, Ordered};
 use std::alloc::{AllocError, Global};
@@ -31,10 +31,7 @@ fn commit(floor: u64) -> Change {
 
 /// Appends the batch with its commit.
 fn append(alloc: Global, log: &mut Vec<Change>, batch: &Batch<Key, u64>) -> Result<(), AllocError> {
-    let old = latest_map_of(alloc, log)?;
-    let mut new = latest_map_of(alloc, log)?;
-    apply_batch(&mut new, batch)?;
-    for operation in batch_operations(alloc, &old, &new)? {
+    for operation in changes_of(alloc, log, batch)? {
         log.push(operation)?;
     }
     let floor = inactivity_floor(log);
@@ -53,14 +50,14 @@ fn put(alloc: Global, log: &mut Vec<Change>, last: u8, value: u64) -> Result<(),
     append(alloc, log, &batch)
 }
 
-fn take(alloc: Global, log: &mut Vec<Change>, last: u8) -> Result<(), AllocError> {
+fn delete_key(alloc: Global, log: &mut Vec<Change>, last: u8) -> Result<(), AllocError> {
     let mut batch = Batch::new(alloc);
     batch.delete(key(last))?;
     append(alloc, log, &batch)
 }
 
 #[test]
-fn appends_and_marks(rt: HostRuntime) -> Result<(), Fail> {
+fn appends_operations_and_marks_the_active_ones(rt: HostRuntime) -> Result<(), Fail> {
     let alloc = rt.alloc();
     let mut log = first_log(alloc)?;
     put(alloc, &mut log, b'a', 1)?;
@@ -82,7 +79,7 @@ fn appends_and_marks(rt: HostRuntime) -> Result<(), Fail> {
         activity_bits(alloc, &log)?.as_slice(),
         [false, false, false, true, true, true].as_slice()
     );
-    take(alloc, &mut log, b'a')?;
+    delete_key(alloc, &mut log, b'a')?;
     assert_eq!(rt; log.len(), 9);
     assert_eq!(rt;
         &log[6..],
@@ -92,7 +89,7 @@ fn appends_and_marks(rt: HostRuntime) -> Result<(), Fail> {
         activity_bits(alloc, &log)?.as_slice(),
         [false, false, false, false, false, false, false, true, true].as_slice()
     );
-    take(alloc, &mut log, b'c')?;
+    delete_key(alloc, &mut log, b'c')?;
     assert_eq!(rt; log.len(), 11);
     assert_eq!(rt; &log[9..], [delete(b'c'), commit(10)].as_slice());
     let bits = activity_bits(alloc, &log)?;
@@ -107,12 +104,12 @@ fn appends_and_marks(rt: HostRuntime) -> Result<(), Fail> {
 }
 
 #[test]
-fn says_only_what_changes(rt: HostRuntime) -> Result<(), Fail> {
+fn a_put_of_the_value_that_is_there_adds_a_commit_alone(rt: HostRuntime) -> Result<(), Fail> {
     let alloc = rt.alloc();
     let mut log = first_log(alloc)?;
     put(alloc, &mut log, b'a', 1)?;
     put(alloc, &mut log, b'c', 3)?;
-    take(alloc, &mut log, b'a')?;
+    delete_key(alloc, &mut log, b'a')?;
     put(alloc, &mut log, b'c', 3)?;
     assert_eq!(rt; log.len(), 10);
     assert_eq!(rt; &log[9..], [commit(7)].as_slice());
@@ -128,7 +125,7 @@ fn says_only_what_changes(rt: HostRuntime) -> Result<(), Fail> {
 }
 
 #[test]
-fn last_word_wins(rt: HostRuntime) -> Result<(), Fail> {
+fn the_last_word_on_a_key_wins(rt: HostRuntime) -> Result<(), Fail> {
     let alloc = rt.alloc();
     let mut log = first_log(alloc)?;
     let mut batch = Batch::new(alloc);

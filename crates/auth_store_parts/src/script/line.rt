@@ -1,7 +1,7 @@
 //! The lines of a script.
 
 ghost use Rattle.std.specs.Prelude.{◌≡◌, MatchOption, IfSome};
-ghost use Rattle.auth_store_parts.specs.Line.{line_of, line_with_words, key_and_number, behind};
+ghost use Rattle.auth_store_parts.specs.Line.{line_of, line_with_words, key_and_number, after};
 ghost use Rattle.auth_store_parts.specs.Spelling.{Spells};
 ghost use Rattle.auth_store_parts.specs.declared.script.line.Line.{Line};
 
@@ -102,9 +102,9 @@ fn parse_key_and_number(words: &[u8]) -> Option<(FixedBytes<8>, u64)>
     Some((key, number))
 }
 
-/// What stands behind these words at the front of a line. Another line: `None`.
+/// What stands after these words at the front of a line. Another line: `None`.
 fn strip_words<'a>(line: &'a [u8], words: &[u8]) -> Option<&'a [u8]>
-    ensures { MatchOption result (behind words.now line.now ≡ None) (λ rest. behind words.now line.now ≡ Some rest.now) }
+    ensures { MatchOption result (after words.now line.now ≡ None) (λ rest. after words.now line.now ≡ Some rest.now) }
 {
     line.strip_prefix(words)
 }

@@ -45,7 +45,7 @@ pub fn report_none<W: Write>(out: &mut W) -> io::Result<()>
     out.write_all(b"none\n")
 }
 
-/// Prints `root HEX`, with the digest's bytes in lower case. Want of memory for the digits fails too.
+/// Prints `root HEX`, with the digest's bytes in lower case. Out of memory for the digits fails too.
 pub fn report_root<W: Write>(alloc: Global, out: &mut W, digest: &[u8]) -> io::Result<()>
     ensures { OnOk result (Appends (W.contents out.old) (W.contents out.new) (reported (codes "root " ++ encode_lower digest.now))) }
 {
@@ -60,7 +60,7 @@ pub fn report_present<W: Write>(out: &mut W, value: u64) -> io::Result<()>
     writeln!(out, "present {value}")
 }
 
-/// Prints `proof HEX`, with the proof's bytes in lower case. Want of memory for the digits fails too.
+/// Prints `proof HEX`, with the proof's bytes in lower case. Out of memory for the digits fails too.
 pub fn report_proof<W: Write>(alloc: Global, out: &mut W, proof: &[u8]) -> io::Result<()>
     ensures { OnOk result (Appends (W.contents out.old) (W.contents out.new) (reported (codes "proof " ++ encode_lower proof.now))) }
 {

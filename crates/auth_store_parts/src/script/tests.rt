@@ -15,7 +15,7 @@ const KEY: FixedBytes<8> = FixedBytes {
 };
 
 #[test]
-fn reads_keys(rt: HostRuntime) {
+fn reads_keys_of_16_digits_of_either_case(rt: HostRuntime) {
     assert_eq!(rt; parse_key(b"0123456789abcdef"), Some(KEY));
     assert_eq!(rt; parse_key(b"0123456789ABCDEF"), Some(KEY));
     assert_eq!(rt; parse_key(b"0123456789aBcDeF"), Some(KEY));
@@ -27,7 +27,7 @@ fn reads_keys(rt: HostRuntime) {
 }
 
 #[test]
-fn reads_numbers(rt: HostRuntime) {
+fn reads_decimal_numbers_of_64_bits(rt: HostRuntime) {
     assert_eq!(rt; parse_number(b"0"), Some(0));
     assert_eq!(rt; parse_number(b"0042"), Some(42));
     assert_eq!(rt; parse_number(b"18446744073709551615"), Some(u64::MAX));
@@ -45,7 +45,7 @@ fn reads_numbers(rt: HostRuntime) {
 }
 
 #[test]
-fn reads_lines(rt: HostRuntime) {
+fn reads_each_kind_of_line(rt: HostRuntime) {
     assert_eq!(rt; parse_line(b""), Some(Line::Empty));
     assert_eq!(rt; parse_line(b"new mmr 7"), Some(Line::New { seed: 7 }));
     assert_eq!(rt; parse_line(b"open"), Some(Line::Open));
@@ -129,7 +129,7 @@ impl Read for Dripping {
 }
 
 #[test]
-fn reads_scripts(rt: HostRuntime) -> Result<(), Fail> {
+fn reads_a_script_to_its_end_or_to_a_failed_read(rt: HostRuntime) -> Result<(), Fail> {
     let mut memory: &[u8] = b"open\nroot\n";
     let script = read_script(rt.alloc(), &mut memory)?;
     assert_eq!(rt; script.as_slice(), b"open\nroot\n".as_slice());
@@ -155,7 +155,14 @@ fn reads_scripts(rt: HostRuntime) -> Result<(), Fail> {
 }
 
 #[test]
-fn refuses_long_scripts(rt: HostRuntime) {
+fn reads_a_script_of_exactly_the_greatest_length(rt: HostRuntime) -> Result<(), Fail> {
+    let mut longest = io::repeat(b'x').take(0x100_0000);
+    assert_eq!(rt; read_script(rt.alloc(), &mut longest)?.len(), 0x100_0000);
+    Ok(())
+}
+
+#[test]
+fn refuses_a_script_of_one_byte_more(rt: HostRuntime) {
     let mut longer = io::repeat(b'x').take(0x100_0001);
     assert_eq!(rt;
         read_script(rt.alloc(), &mut longer).err(),
@@ -164,7 +171,7 @@ fn refuses_long_scripts(rt: HostRuntime) {
 }
 
 #[test]
-fn reports(rt: HostRuntime) -> Result<(), Fail> {
+fn prints_each_kind_of_answer(rt: HostRuntime) -> Result<(), Fail> {
     let mut out = Vec::new(rt.alloc());
     report_new(&mut out)?;
     report_open(&mut out, 0)?;

@@ -17,7 +17,7 @@ fn node_count_of(tree: &Tree) -> u64 {
 }
 
 #[test]
-fn leaf_positions(rt: HostRuntime) -> Result<(), Fail> {
+fn knows_the_position_of_each_leaf(rt: HostRuntime) -> Result<(), Fail> {
     for (leaves, want) in LEAF_POSITIONS.iter().enumerate() {
         let leaves = leaves as u64;
         let found = Family::location_to_position(Location::new(leaves));

@@ -4,7 +4,7 @@ use crate::codec::FixedBytes;
 use crate::forest::{Tree, grow};
 use crate::hasher::{Hasher, Standard};
 use crate::tests::hashing::hex;
-use crate::trees::{Plain, digests_of_peaks, inactive_count_of, place};
+use crate::trees::{Plain, digests_of_peaks, inactive_count_of, locate};
 use crate::{Bagging, ByteHash, mmr};
 use std::test::Fail;
 
@@ -20,10 +20,10 @@ fn append_positions(found: &mut Vec<u64>, tree: &Tree) -> Result<(), Fail> {
     }
 }
 
-// In a Merkle Mountain Range a branch is born right behind its children, so that the positions run on from 0.
+// In a Merkle Mountain Range a branch is born right after its children, so that the positions run on from 0.
 // The sizes are the known ones of the first sixteen ranges.
 #[test]
-fn grows(rt: HostRuntime) -> Result<(), Fail> {
+fn numbers_the_nodes_in_order_of_birth(rt: HostRuntime) -> Result<(), Fail> {
     let sizes = [1, 3, 4, 7, 8, 10, 11, 15, 16, 18, 19, 22, 23, 25, 26, 31];
     for leaves in 0..16 {
         let peaks = grow::<mmr::Family>(rt.alloc(), leaves as u64 + 1)?;
@@ -32,8 +32,8 @@ fn grows(rt: HostRuntime) -> Result<(), Fail> {
             append_positions(&mut found, peak)?;
         }
         assert_eq!(rt; found.len(), sizes[leaves], "at {leaves}");
-        for (place, position) in found.iter().enumerate() {
-            assert_eq!(rt; *position, place as u64, "at {leaves}");
+        for (index, position) in found.iter().enumerate() {
+            assert_eq!(rt; *position, index as u64, "at {leaves}");
         }
     }
     Ok(())
@@ -42,7 +42,7 @@ fn grows(rt: HostRuntime) -> Result<(), Fail> {
 // Made by Python's hashlib from the formats, over the elements a, b, c, d, e, f and g:
 // node(6, node(2, leaf(0), leaf(1)), node(5, leaf(3), leaf(4))), node(9, leaf(7), leaf(8)) and leaf(10) are the peaks.
 #[test]
-fn root_of_seven_leaves(rt: HostRuntime) -> Result<(), Fail> {
+fn hashes_the_root_of_seven_leaves_as_hashlib_does(rt: HostRuntime) -> Result<(), Fail> {
     let wanted = [
         (
             Bagging::ForwardFold,
@@ -84,11 +84,11 @@ fn root_of_seven_leaves(rt: HostRuntime) -> Result<(), Fail> {
 
 // The peaks of seven leaves have four, two and one of them.
 #[test]
-fn places_of_seven_leaves(rt: HostRuntime) -> Result<(), Fail> {
+fn peaks_of_seven_leaves_begin_at_0_4_and_6(rt: HostRuntime) -> Result<(), Fail> {
     let peaks = grow::<mmr::Family>(rt.alloc(), 7)?;
-    let placed = place(rt.alloc(), &peaks)?;
+    let located = locate(rt.alloc(), &peaks)?;
     let mut starts = Vec::new(rt.alloc());
-    for (start, _) in &placed {
+    for (start, _) in &located {
         starts.push(*start)?;
     }
     assert_eq!(rt; starts.as_slice(), [0, 4, 6].as_slice());
@@ -97,10 +97,10 @@ fn places_of_seven_leaves(rt: HostRuntime) -> Result<(), Fail> {
 
 // Three leaves side by side: a peak is inactive where it ends at the floor or before it.
 #[test]
-fn inactive_leaves(rt: HostRuntime) {
+fn a_peak_that_ends_at_the_floor_is_inactive(rt: HostRuntime) {
     let leaf = Tree::Leaf(0);
-    let placed = [(0, &leaf), (1, &leaf), (2, &leaf)];
-    assert_eq!(rt; inactive_count_of(0, &placed), 0);
-    assert_eq!(rt; inactive_count_of(2, &placed), 2);
-    assert_eq!(rt; inactive_count_of(9, &placed), 3);
+    let located = [(0, &leaf), (1, &leaf), (2, &leaf)];
+    assert_eq!(rt; inactive_count_of(0, &located), 0);
+    assert_eq!(rt; inactive_count_of(2, &located), 2);
+    assert_eq!(rt; inactive_count_of(9, &located), 3);
 }

@@ -1,5 +1,5 @@
-//! Digests and roots against values from outside. Those were made by Python's hashlib from the formats; in them `n(x)` is
-//! `x.to_bytes(8, "big")`, and A, B and C are 32 bytes of 1, of 2 and of 3.
+//! Digests and roots against values from outside. Those were made by Python's hashlib from the formats; in them `n(x)`
+//! is `x.to_bytes(8, "big")`, and A, B and C are 32 bytes of 1, of 2 and of 3.
 
 use crate::codec::FixedBytes;
 use crate::hasher::{Hasher, Standard, hash_leaf, hash_node};
@@ -29,10 +29,10 @@ fn hasher_fold(
     Hasher::<mmr::Family>::fold(hasher, left, right)
 }
 
-// The first is the digest of `abc` in the standard of SHA-256; the others are sha256(n(5) + b"abc"), sha256(n(6) + A + B)
-// and sha256(A + B).
+// The first is the digest of `abc` in the standard of SHA-256; the others are sha256(n(5) + b"abc"), sha256(n(6) + A +
+// B) and sha256(A + B).
 #[test]
-fn digests(rt: HostRuntime) -> Result<(), Fail> {
+fn hashes_leaves_nodes_and_folds_as_hashlib_does(rt: HostRuntime) -> Result<(), Fail> {
     let alloc = rt.alloc();
     let a = FixedBytes::new([1; 32]);
     let b = FixedBytes::new([2; 32]);
@@ -74,7 +74,7 @@ fn digests(rt: HostRuntime) -> Result<(), Fail> {
 // sha256(n(leaves) + bytes([bagging]) + (n(inactive) if inactive else b"") + bagged), where the first inactive peaks
 // are folded from the left into one item, and the items are folded from the bagging's side.
 #[test]
-fn roots(rt: HostRuntime) -> Result<(), Fail> {
+fn hashes_roots_as_hashlib_does(rt: HostRuntime) -> Result<(), Fail> {
     let peaks = [
         FixedBytes::new([1; 32]),
         FixedBytes::new([2; 32]),

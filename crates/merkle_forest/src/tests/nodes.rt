@@ -43,7 +43,7 @@ fn node_at(position: u64) -> Node
 }
 
 #[test]
-fn heights_and_births(rt: HostRuntime) {
+fn knows_height_first_leaf_birth_and_root_of_each_drawn_node(rt: HostRuntime) {
     for position in 0..15 {
         let node = node_at(position as u64);
         assert_eq!(rt; node.height, HEIGHTS[position], "at {position}");
@@ -55,7 +55,7 @@ fn heights_and_births(rt: HostRuntime) {
 
 // With chunks of four leaves the nodes at 6, 13 and 14 are the first three of the range over the chunks.
 #[test]
-fn counted_in_chunks(rt: HostRuntime) {
+fn nodes_over_chunks_are_numbered_as_nodes_over_leaves(rt: HostRuntime) {
     let nodes = [node_at(6), node_at(13), node_at(14)];
     let over_chunks = [node_at(0), node_at(1), node_at(2)];
     for (node, over) in nodes.iter().zip(&over_chunks) {
@@ -65,14 +65,16 @@ fn counted_in_chunks(rt: HostRuntime) {
 }
 
 #[test]
-fn parents(rt: HostRuntime) -> Result<(), Fail> {
+fn a_leaf_brings_a_parent_for_each_trailing_one_of_its_location(
+    rt: HostRuntime,
+) -> Result<(), Fail> {
     for (leaves, count) in [0, 1, 0, 2, 0, 1, 0, 3].iter().enumerate() {
         let mut found = 0u32;
         for height in Family::parent_heights(Location::new(leaves as u64)) {
             found = found.wrapping_add(1);
-            assert_eq!(rt; height, found, "behind {leaves}");
+            assert_eq!(rt; height, found, "after {leaves}");
         }
-        assert_eq!(rt; found, *count, "behind {leaves}");
+        assert_eq!(rt; found, *count, "after {leaves}");
     }
     Ok(())
 }
@@ -96,7 +98,7 @@ fn over_chunk(
 }
 
 #[test]
-fn maximal_nodes(rt: HostRuntime) -> Result<(), Fail> {
+fn finds_the_maximal_nodes_over_a_chunk(rt: HostRuntime) -> Result<(), Fail> {
     assert_eq!(rt;
         over_chunk(rt.alloc(), 7, 0, 2)?.as_slice(),
         [(6, 2)].as_slice()
@@ -123,7 +125,7 @@ fn maximal_nodes(rt: HostRuntime) -> Result<(), Fail> {
 }
 
 #[test]
-fn nodes_that_stand(rt: HostRuntime) {
+fn a_node_stands_once_its_last_leaf_is_there(rt: HostRuntime) {
     assert!(rt; has_node::<Family>(7, 4, 1));
     assert!(rt; !has_node::<Family>(7, 4, 2));
     assert!(rt; has_node::<Family>(8, 4, 2));

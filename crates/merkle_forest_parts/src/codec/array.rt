@@ -2,16 +2,16 @@
 
 ghost use Rattle.std.specs.Prelude.{◌≡◌, ◌++◌, ⊤, Ok, length};
 ghost use Rattle.merkle_forest_parts.specs.Codec.{after_fixed};
-ghost use Rattle.merkle_forest_parts.specs.CodecLaws.{fixed_again};
+ghost use Rattle.merkle_forest_parts.specs.Laws.Codec.{fixed_again};
 
 use super::cursor::Cursor;
 use super::error::Error;
 use super::traits::{EncodeSize, FixedSize, Read, Write};
 use std::alloc::{AllocError, Global};
 
-/// An array of bytes is spelled by its bytes.
+/// An array of bytes is encoded by its bytes.
 impl<const M: usize> Write for [u8; M] {
-    ghost spelling = { λ v. v };
+    ghost encoding = { λ v. v };
 
     ghost is_value = { λ v. length v ≡ M };
 
@@ -38,6 +38,8 @@ impl<const M: usize> Read for [u8; M] {
     type Cfg = ();
 
     ghost after = { λ _ bytes. after_fixed M bytes };
+
+    ghost may_lack = { λ _ _. ⊥ };
 
     ghost is_within = { λ _ _. ⊤ };
 

@@ -1,4 +1,4 @@
-//! A place in a slice of bytes.
+//! A reader's way through a slice of bytes.
 
 ghost use Rattle.std.specs.Prelude.{◌≡◌, ◌<◌, ◌≤◌, ◌++◌, ◌↔◌, ℕ, List, [], ◌∷◌, length, take, drop, IsTrue, Ok, Err, if◌then◌else◌, nat_lt, MatchResult, IfOk, IfErr};
 ghost use Rattle.merkle_forest_parts.specs.Codec.{Outcome, after_fixed};
@@ -42,9 +42,10 @@ impl<'a> Cursor<'a> {
         self.rest.len()
     }
 
-    /// The next `count` bytes. Where fewer are left: C1, and the place stays.
+    /// The next `count` bytes. Where fewer are left: C1, and those stay.
     pub fn take(&mut self, count: usize) -> Result<&'a [u8], Error>
-        ensures step { MatchResult result (λ bytes. after_fixed count self.old ≡ Ok self.new) (λ e. after_fixed count self.old ≡ Err e) }
+        ensures step { MatchResult result (λ bytes. after_fixed count self.old ≡ Ok self.new)
+            (λ e. after_fixed count self.old ≡ Err e) }
         ensures ok { IfOk result (λ bytes. (self.old ≡ bytes.now ++ self.new) × (length bytes.now ≡ count)) }
         ensures err { IfErr result (λ e. (e ≡ Error.EndOfBuffer) × (self.new ≡ self.old)) }
     {

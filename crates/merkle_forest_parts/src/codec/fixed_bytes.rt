@@ -2,7 +2,7 @@
 
 ghost use Rattle.std.specs.Prelude.{◌≡◌, ◌<◌, ◌^◌, ◌++◌, ◌∷◌, [], ℕ, ⊤, refl, Ok, length};
 ghost use Rattle.merkle_forest_parts.specs.Codec.{after_fixed};
-ghost use Rattle.merkle_forest_parts.specs.CodecLaws.{fixed_again};
+ghost use Rattle.merkle_forest_parts.specs.Laws.Codec.{fixed_again};
 
 use super::cursor::Cursor;
 use super::error::Error;
@@ -33,7 +33,7 @@ impl<const M: usize> FixedBytes<M> {
 }
 
 impl<const M: usize> Write for FixedBytes<M> {
-    ghost spelling = { λ v. v.bytes };
+    ghost encoding = { λ v. v.bytes };
 
     ghost is_value = { λ v. length v.bytes ≡ M };
 
@@ -64,6 +64,8 @@ impl<const M: usize> Read for FixedBytes<M> {
     type Cfg = ();
 
     ghost after = { λ _ bytes. after_fixed M bytes };
+
+    ghost may_lack = { λ _ _. ⊥ };
 
     ghost is_within = { λ _ _. ⊤ };
 

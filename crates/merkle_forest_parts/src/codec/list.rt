@@ -1,14 +1,16 @@
 //! Lists: a count as a varint, and that many items.
 
-ghost use Rattle.std.specs.Prelude.{◌≡◌, ◌<◌, ◌≤◌, ◌^◌, ◌++◌, IfOk, length};
+ghost use Rattle.std.specs.Prelude.{◌≡◌, ◌<◌, ◌≤◌, ◌^◌, ◌++◌, IfOk, OnOk, OnErr, length};
 ghost use Rattle.std.specs.List.{All};
 ghost use Rattle.merkle_forest_parts.specs.Varint.{varint, Finds};
-ghost use Rattle.merkle_forest_parts.specs.Lists.{list_spelling, bytes_spelling, AreItems, count_at, after_list, after_bytes};
-ghost use Rattle.merkle_forest_parts.specs.ListLaws.{list_again, bytes_again};
+ghost use Rattle.merkle_forest_parts.specs.Codec.{Extends};
+ghost use Rattle.merkle_forest_parts.specs.Lists.{list_encoding, bytes_encoding, AreItems, count_at, HasItems, after_list, after_bytes};
+ghost use Rattle.merkle_forest_parts.specs.Laws.Lists.{list_again, bytes_again};
 
 use super::cursor::Cursor;
 use super::error::Error;
 use super::traits::{EncodeSize, Read, Write};
+use super::undo::or_undo;
 use super::varint::{number_size, read_number, write_number};
 use crate::digest::Digest;
 use std::alloc::{AllocError, Global};
@@ -34,10 +36,10 @@ impl RangeCfg {
 }
 
 /// The count of items whose varint stands at the front. Where its bytes are missing: C1; a bad varint: C3; outside the
-/// range: C6. After a refusal the cursor's place is open.
+/// range: C6. After a refusal it is open what the cursor has left.
 pub fn read_count(cursor: &mut Cursor<'_>, range: &RangeCfg) -> Result<usize, Error>
     ensures exact { Finds cursor.new (count_at range.now.least range.now.greatest cursor.old) result }
-    ensures spelled { IfOk result (λ count. cursor.old ≡ varint count ++ cursor.new) }
+    ensures encoded { IfOk result (λ count. cursor.old ≡ varint count ++ cursor.new) }
     ensures within { IfOk result (λ count. (range.now.least ≤ count) × (count ≤ range.now.greatest)) }
 {
     let count = read_number(cursor)? as usize;
@@ -47,17 +49,36 @@ pub fn read_count(cursor: &mut Cursor<'_>, range: &RangeCfg) -> Result<usize, Er
     Ok(count)
 }
 
+// Appends the count and the digests. Out of memory, some of the bytes may have been appended.
+fn write_list<D: Digest>(digests: &[D], out: &mut Vec<u8>) -> Result<(), AllocError>
+    ensures ok { OnOk result (out.new.items ≡ out.old.items ++ list_encoding D.encoding digests.now) }
+    ensures err { OnErr result (Extends out.old.items out.new.items) }
+    ensures values { OnOk result (AreItems D.is_value digests.now) }
+{
+    write_number(out, digests.len() as u64)?;
+    for digest in digests {
+        digest.write(out)?;
+    }
+    Ok(())
+}
+
+// Appends the count and the bytes. Out of memory, those of the count may have been appended.
+fn write_bytes(bytes: &[u8], out: &mut Vec<u8>) -> Result<(), AllocError>
+    ensures ok { OnOk result (out.new.items ≡ out.old.items ++ bytes_encoding bytes.now) }
+    ensures err { OnErr result (Extends out.old.items out.new.items) }
+{
+    write_number(out, bytes.len() as u64)?;
+    out.extend_from_slice(bytes)
+}
+
 impl<D: Digest> Write for Vec<D> {
-    ghost spelling = { λ v. list_spelling D.spelling v.items };
+    ghost encoding = { λ v. list_encoding D.encoding v.items };
 
     ghost is_value = { λ v. AreItems D.is_value v.items };
 
     fn write(&self, out: &mut Vec<u8>) -> Result<(), AllocError> {
-        write_number(out, self.len() as u64)?;
-        for item in self {
-            item.write(out)?;
-        }
-        Ok(())
+        let start = out.len();
+        or_undo(write_list(self, out), out, start)
     }
 }
 
@@ -76,7 +97,10 @@ impl<D: Digest> Read for Vec<D> {
 
     ghost after = { λ cfg bytes. after_list (D.after tt) cfg.least cfg.greatest bytes };
 
-    ghost is_within = { λ cfg v. (cfg.least ≤ length v.items) × (length v.items ≤ cfg.greatest) × All (D.is_within tt) v.items };
+    ghost may_lack = { λ cfg bytes. HasItems (count_at cfg.least cfg.greatest bytes) };
+
+    ghost is_within = { λ cfg v. (cfg.least ≤ length v.items) × (length v.items ≤ cfg.greatest)
+        × All (D.is_within tt) v.items };
 
     fn read_cfg(alloc: Global, cursor: &mut Cursor<'_>, cfg: &RangeCfg) -> Result<Vec<D>, Error> {
         let count = read_count(cursor, cfg)?;
@@ -87,17 +111,19 @@ impl<D: Digest> Read for Vec<D> {
         Ok(items)
     }
 
-    ghost read_again = { λ cfg v rest values within. list_again D.spelling (D.after tt) D.is_value (D.is_within tt) (D.read_again tt) cfg.least cfg.greatest v.items rest values within.0 within.1 within.2 };
+    ghost read_again = { λ cfg v rest values within.
+        list_again D.encoding (D.after tt) D.is_value (D.is_within tt)
+        (D.read_again tt) cfg.least cfg.greatest v.items rest values within.0 within.1 within.2 };
 }
 
 impl Write for Vec<u8> {
-    ghost spelling = { λ v. bytes_spelling v.items };
+    ghost encoding = { λ v. bytes_encoding v.items };
 
     ghost is_value = { λ v. length v.items < 2 ^ 64 };
 
     fn write(&self, out: &mut Vec<u8>) -> Result<(), AllocError> {
-        write_number(out, self.len() as u64)?;
-        out.extend_from_slice(self.as_slice())
+        let start = out.len();
+        or_undo(write_bytes(self, out), out, start)
     }
 }
 
@@ -112,12 +138,17 @@ impl Read for Vec<u8> {
 
     ghost after = { λ cfg bytes. after_bytes cfg.least cfg.greatest bytes };
 
+    ghost may_lack = { λ cfg bytes. HasItems (count_at cfg.least cfg.greatest bytes) };
+
     ghost is_within = { λ cfg v. (cfg.least ≤ length v.items) × (length v.items ≤ cfg.greatest) };
 
     fn read_cfg(alloc: Global, cursor: &mut Cursor<'_>, cfg: &RangeCfg) -> Result<Vec<u8>, Error> {
         let count = read_count(cursor, cfg)?;
-        Ok(cursor.take(count)?.to_vec(alloc)?)
+        let mut bytes = Vec::new(alloc);
+        bytes.extend_from_slice(cursor.take(count)?)?;
+        Ok(bytes)
     }
 
-    ghost read_again = { λ cfg v rest value within. bytes_again cfg.least cfg.greatest v.items rest value within.0 within.1 };
+    ghost read_again = { λ cfg v rest value within.
+        bytes_again cfg.least cfg.greatest v.items rest value within.0 within.1 };
 }

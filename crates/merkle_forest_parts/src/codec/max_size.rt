@@ -1,21 +1,21 @@
-//! The greatest lengths of spellings.
+//! The greatest lengths of encodings.
 
 ghost use Rattle.std.specs.Prelude.{◌≤◌, ℕ, length};
 ghost use Rattle.std.proofs.Common.{arith};
-ghost use Rattle.merkle_forest_parts.specs.VarintLaws.{varint_at_most};
+ghost use Rattle.merkle_forest_parts.specs.Laws.Varint.{varint_at_most};
 
 use super::fixed_bytes::FixedBytes;
 use super::traits::Write;
 use super::varint::UInt;
 
-/// A type whose spellings have a greatest length. In the Rust: `commonware_codec::MaxEncodeSize`.
+/// A type whose encodings have a greatest length. In the Rust: `commonware_codec::MaxEncodeSize`.
 pub trait MaxEncodeSize: Write {
     ghost MAX_SIZE: { ℕ };
 
-    /// The greatest length of a spelling in bytes.
+    /// The greatest length of an encoding in bytes.
     const MAX_SIZE: usize;
 
-    ghost bounded: { (v : Self) → Self.is_value v → length (Self.spelling v) ≤ MAX_SIZE };
+    ghost bounded: { (v : Self) → Self.is_value v → length (Self.encoding v) ≤ MAX_SIZE };
 }
 
 impl MaxEncodeSize for bool {

@@ -4,7 +4,7 @@ ghost use Rattle.std.specs.Prelude.{◌≡◌, ◌<◌, ◌^◌, ◌++◌, ◌�
 ghost use Rattle.std.proofs.Common.{ap};
 ghost use Rattle.std.specs.Int.{w8, w16, w32, w64, to_be_bytes};
 ghost use Rattle.merkle_forest_parts.specs.Codec.{after_fixed, after_bool, bool_byte};
-ghost use Rattle.merkle_forest_parts.specs.CodecLaws.{number_again, bool_again};
+ghost use Rattle.merkle_forest_parts.specs.Laws.Codec.{number_again, bool_again};
 
 use super::cursor::Cursor;
 use super::error::Error;
@@ -12,7 +12,7 @@ use super::traits::{EncodeSize, Faithful, FixedSize, Read, Write};
 use std::alloc::{AllocError, Global};
 
 impl Write for bool {
-    ghost spelling = { bool_byte };
+    ghost encoding = { bool_byte };
 
     ghost is_value = { λ _. ⊤ };
 
@@ -40,6 +40,8 @@ impl Read for bool {
 
     ghost after = { λ _ bytes. after_bool bytes };
 
+    ghost may_lack = { λ _ _. ⊥ };
+
     ghost is_within = { λ _ _. ⊤ };
 
     fn read_cfg(_alloc: Global, cursor: &mut Cursor<'_>, _cfg: &()) -> Result<bool, Error> {
@@ -54,7 +56,7 @@ impl Read for bool {
 }
 
 impl Write for u8 {
-    ghost spelling = { λ n. to_be_bytes w8 n };
+    ghost encoding = { λ n. to_be_bytes w8 n };
 
     ghost is_value = { λ n. n < 2 ^ 8 };
 
@@ -86,6 +88,8 @@ impl Read for u8 {
 
     ghost after = { λ _ bytes. after_fixed 1 bytes };
 
+    ghost may_lack = { λ _ _. ⊥ };
+
     ghost is_within = { λ _ _. ⊤ };
 
     fn read_cfg(_alloc: Global, cursor: &mut Cursor<'_>, _cfg: &()) -> Result<u8, Error> {
@@ -97,7 +101,7 @@ impl Read for u8 {
 }
 
 impl Write for u16 {
-    ghost spelling = { λ n. to_be_bytes w16 n };
+    ghost encoding = { λ n. to_be_bytes w16 n };
 
     ghost is_value = { λ n. n < 2 ^ 16 };
 
@@ -129,6 +133,8 @@ impl Read for u16 {
 
     ghost after = { λ _ bytes. after_fixed 2 bytes };
 
+    ghost may_lack = { λ _ _. ⊥ };
+
     ghost is_within = { λ _ _. ⊤ };
 
     fn read_cfg(_alloc: Global, cursor: &mut Cursor<'_>, _cfg: &()) -> Result<u16, Error> {
@@ -140,7 +146,7 @@ impl Read for u16 {
 }
 
 impl Write for u32 {
-    ghost spelling = { λ n. to_be_bytes w32 n };
+    ghost encoding = { λ n. to_be_bytes w32 n };
 
     ghost is_value = { λ n. n < 2 ^ 32 };
 
@@ -172,6 +178,8 @@ impl Read for u32 {
 
     ghost after = { λ _ bytes. after_fixed 4 bytes };
 
+    ghost may_lack = { λ _ _. ⊥ };
+
     ghost is_within = { λ _ _. ⊤ };
 
     fn read_cfg(_alloc: Global, cursor: &mut Cursor<'_>, _cfg: &()) -> Result<u32, Error> {
@@ -183,7 +191,7 @@ impl Read for u32 {
 }
 
 impl Write for u64 {
-    ghost spelling = { λ n. to_be_bytes w64 n };
+    ghost encoding = { λ n. to_be_bytes w64 n };
 
     ghost is_value = { λ n. n < 2 ^ 64 };
 
@@ -214,6 +222,8 @@ impl Read for u64 {
     type Cfg = ();
 
     ghost after = { λ _ bytes. after_fixed 8 bytes };
+
+    ghost may_lack = { λ _ _. ⊥ };
 
     ghost is_within = { λ _ _. ⊤ };
 

@@ -1,16 +1,17 @@
 //! A value that may be there.
 
 ghost use Rattle.std.specs.Prelude.{◌≡◌, ⊤, Ok, IfSome};
-ghost use Rattle.merkle_forest_parts.specs.Codec.{option_spelling, after_option};
-ghost use Rattle.merkle_forest_parts.specs.CodecLaws.{option_again};
+ghost use Rattle.merkle_forest_parts.specs.Codec.{option_encoding, after_option, OptionLacks};
+ghost use Rattle.merkle_forest_parts.specs.Laws.Codec.{option_again};
 
 use super::cursor::Cursor;
 use super::error::Error;
 use super::traits::{EncodeSize, Read, Write};
+use super::undo::or_undo;
 use std::alloc::{AllocError, Global};
 
 impl<T: Write> Write for Option<T> {
-    ghost spelling = { option_spelling T.spelling };
+    ghost encoding = { option_encoding T.encoding };
 
     ghost is_value = { λ v. IfSome v T.is_value };
 
@@ -18,8 +19,9 @@ impl<T: Write> Write for Option<T> {
         match self {
             None => Ok(out.push(0)?),
             Some(value) => {
+                let start = out.len();
                 out.push(1)?;
-                value.write(out)
+                or_undo(value.write(out), out, start)
             }
         }
     }
@@ -39,6 +41,8 @@ impl<T: Read> Read for Option<T> {
 
     ghost after = { λ cfg bytes. after_option (T.after cfg) bytes };
 
+    ghost may_lack = { λ cfg bytes. OptionLacks (T.may_lack cfg) bytes };
+
     ghost is_within = { λ cfg v. IfSome v (T.is_within cfg) };
 
     fn read_cfg(alloc: Global, cursor: &mut Cursor<'_>, cfg: &T::Cfg) -> Result<Option<T>, Error> {
@@ -49,5 +53,6 @@ impl<T: Read> Read for Option<T> {
         }
     }
 
-    ghost read_again = { λ cfg v rest value within. option_again T.spelling (T.after cfg) T.is_value (T.is_within cfg) (T.read_again cfg) v rest value within };
+    ghost read_again = { λ cfg v rest value within.
+        option_again T.encoding (T.after cfg) T.is_value (T.is_within cfg) (T.read_again cfg) v rest value within };
 }

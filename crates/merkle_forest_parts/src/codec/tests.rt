@@ -2,15 +2,15 @@ use super::*;
 use std::test::Fail;
 
 #[test]
-fn varints(rt: HostRuntime) -> Result<(), Fail> {
-    let spelled: [(u64, &[u8]); 5] = [
+fn encodes_numbers_in_the_fewest_groups(rt: HostRuntime) -> Result<(), Fail> {
+    let encoded: [(u64, &[u8]); 5] = [
         (0, &[0]),
         (127, &[0x7f]),
         (128, &[0x80, 0x01]),
         (300, &[0xac, 0x02]),
         (u64::MAX, &[255, 255, 255, 255, 255, 255, 255, 255, 255, 1]),
     ];
-    for (number, bytes) in spelled {
+    for (number, bytes) in encoded {
         let number = UInt(number);
         assert_eq!(rt; number.encode(rt.alloc())?.as_slice(), bytes);
         assert_eq!(rt; number.encode_size(), bytes.len());
@@ -20,7 +20,7 @@ fn varints(rt: HostRuntime) -> Result<(), Fail> {
 }
 
 #[test]
-fn bad_varints(rt: HostRuntime) {
+fn refuses_long_and_unended_varints(rt: HostRuntime) {
     let faults: [(&[u8], Error); 8] = [
         (&[], Error::EndOfBuffer),
         (&[0x80], Error::EndOfBuffer),
@@ -46,7 +46,7 @@ fn bad_varints(rt: HostRuntime) {
 }
 
 #[test]
-fn lists_of_digests(rt: HostRuntime) -> Result<(), Fail> {
+fn encodes_a_list_as_its_count_and_its_items(rt: HostRuntime) -> Result<(), Fail> {
     let range = RangeCfg::new(1, 2);
     let digests = [FixedBytes::new([1, 2]), FixedBytes::new([3, 4])].to_vec(rt.alloc())?;
     let bytes: &[u8] = &[2, 1, 2, 3, 4];
@@ -58,7 +58,7 @@ fn lists_of_digests(rt: HostRuntime) -> Result<(), Fail> {
 }
 
 #[test]
-fn bad_lists(rt: HostRuntime) {
+fn refuses_a_list_for_its_first_fault_from_the_left(rt: HostRuntime) {
     let range = RangeCfg::new(1, 2);
     let most = RangeCfg::new(0, usize::MAX);
     let faults: [(&[u8], RangeCfg, Error); 5] = [
@@ -79,7 +79,7 @@ fn bad_lists(rt: HostRuntime) {
 }
 
 #[test]
-fn bytes(rt: HostRuntime) -> Result<(), Fail> {
+fn encodes_bytes_after_their_count(rt: HostRuntime) -> Result<(), Fail> {
     let range = RangeCfg::new(0, 2);
     let text = [104, 105].to_vec(rt.alloc())?;
     let bytes: &[u8] = &[2, 104, 105];
@@ -93,7 +93,7 @@ fn bytes(rt: HostRuntime) -> Result<(), Fail> {
 }
 
 #[test]
-fn arrays(rt: HostRuntime) -> Result<(), Fail> {
+fn reads_an_array_from_exactly_its_bytes(rt: HostRuntime) -> Result<(), Fail> {
     let alloc = rt.alloc();
     let bytes = [1u8, 2, 3, 4];
     assert_eq!(rt; bytes.encode(alloc)?.as_slice(), [1u8, 2, 3, 4].as_slice());
@@ -106,6 +106,30 @@ fn arrays(rt: HostRuntime) -> Result<(), Fail> {
     assert_eq!(rt;
         <[u8; 4]>::decode_cfg(alloc, &[1, 2, 3, 4, 5], &()),
         Err(Error::ExtraData)
+    );
+    Ok(())
+}
+
+#[test]
+fn encodes_an_option_after_its_flag(rt: HostRuntime) -> Result<(), Fail> {
+    let alloc = rt.alloc();
+    let seven = Some(UInt(7));
+    assert_eq!(rt; seven.encode(alloc)?.as_slice(), [1u8, 7].as_slice());
+    assert_eq!(rt; seven.encode_size(), 2);
+    assert_eq!(rt; Option::decode_cfg(alloc, &[1, 7], &())?, seven);
+    let none: Option<UInt> = Option::decode_cfg(alloc, &[0], &())?;
+    assert_eq!(rt; none, None);
+    let bad: Result<Option<UInt>, Error> = Option::decode_cfg(alloc, &[2, 7], &());
+    assert_eq!(rt; bad, Err(Error::InvalidBool));
+    Ok(())
+}
+
+#[test]
+fn prints_an_error_by_its_number(rt: HostRuntime) -> Result<(), Fail> {
+    let tag = Error::InvalidEnum(7);
+    assert_eq!(rt;
+        format!(in rt.alloc(); "{tag}")?.as_str(),
+        "C5: invalid tag 7"
     );
     Ok(())
 }

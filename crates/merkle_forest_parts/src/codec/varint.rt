@@ -1,16 +1,17 @@
-//! Numbers in base 128, each in its shortest spelling.
+//! Numbers in base 128, each in its shortest encoding.
 
 ghost use Rattle.std.specs.Prelude.{◌≡◌, ◌<◌, ◌^◌, ◌++◌, ◌∷◌, [], ⊤, IfOk, IfErr, OnOk, OnErr, length};
 ghost use Rattle.merkle_forest_parts.specs.Codec.{Extends};
 ghost use Rattle.merkle_forest_parts.specs.Varint.{varint, varint_at, after_varint, Finds};
-ghost use Rattle.merkle_forest_parts.specs.VarintLaws.{after_varint_again};
+ghost use Rattle.merkle_forest_parts.specs.Laws.Varint.{after_varint_again};
 
 use super::cursor::Cursor;
 use super::error::Error;
 use super::traits::{EncodeSize, Faithful, Read, Write};
+use super::undo::or_undo;
 use std::alloc::{AllocError, Global};
 
-/// A number that is spelled as a varint, of 1 to 10 bytes. In the Rust: `commonware_codec::varint::UInt`, of a u64.
+/// A number that is encoded as a varint, of 1 to 10 bytes. In the Rust: `commonware_codec::varint::UInt`, of a u64.
 #[derive(Clone, Copy, Debug, PartialEq, Eq, PartialOrd, Ord, Hash)]
 pub struct UInt(pub u64);
 
@@ -22,8 +23,8 @@ pub fn number_size(number: u64) -> usize
     ((bits + 6) / 7) as usize
 }
 
-/// Appends a number's varint. It fails for want of memory alone, and some bytes may then have been appended.
-pub fn write_number(out: &mut Vec<u8>, number: u64) -> Result<(), AllocError>
+// Appends a number's groups. Out of memory, some of them may have been appended.
+fn write_groups(out: &mut Vec<u8>, number: u64) -> Result<(), AllocError>
     ensures ok { OnOk result (out.new.items ≡ out.old.items ++ varint number) }
     ensures err { OnErr result (Extends out.old.items out.new.items) }
 {
@@ -35,6 +36,15 @@ pub fn write_number(out: &mut Vec<u8>, number: u64) -> Result<(), AllocError>
     Ok(out.push(rest as u8)?)
 }
 
+/// Appends a number's varint. It fails only when out of memory, and `out` is then as it was.
+pub fn write_number(out: &mut Vec<u8>, number: u64) -> Result<(), AllocError>
+    ensures ok { OnOk result (out.new.items ≡ out.old.items ++ varint number) }
+    ensures err { OnErr result (out.new.items ≡ out.old.items) }
+{
+    let start = out.len();
+    or_undo(write_groups(out, number), out, start)
+}
+
 /// The next byte. Where none is left: C1.
 fn next_byte(cursor: &mut Cursor<'_>) -> Result<u8, Error>
     ensures ok { IfOk result (λ byte. cursor.old ≡ byte ∷ cursor.new) }
@@ -44,11 +54,11 @@ fn next_byte(cursor: &mut Cursor<'_>) -> Result<u8, Error>
     Ok(bytes[0])
 }
 
-/// The number whose varint stands at the front. Where bytes are missing: C1; a long spelling, or more than 64 bits: C3.
-/// After a refusal the cursor's place is open.
+/// The number whose varint stands at the front. Where bytes are missing: C1; a long encoding, or more than 64 bits: C3.
+/// After a refusal it is open what the cursor has left.
 pub fn read_number(cursor: &mut Cursor<'_>) -> Result<u64, Error>
     ensures exact { Finds cursor.new (varint_at cursor.old) result }
-    ensures spelled { IfOk result (λ number. cursor.old ≡ varint number ++ cursor.new) }
+    ensures encoded { IfOk result (λ number. cursor.old ≡ varint number ++ cursor.new) }
 {
     let mut number = 0;
     let mut weight = 1;
@@ -70,7 +80,7 @@ pub fn read_number(cursor: &mut Cursor<'_>) -> Result<u64, Error>
 }
 
 impl Write for UInt {
-    ghost spelling = { λ v. varint v.0 };
+    ghost encoding = { λ v. varint v.0 };
 
     ghost is_value = { λ v. v.0 < 2 ^ 64 };
 
@@ -93,6 +103,8 @@ impl Read for UInt {
     type Cfg = ();
 
     ghost after = { λ _ bytes. after_varint bytes };
+
+    ghost may_lack = { λ _ _. ⊥ };
 
     ghost is_within = { λ _ _. ⊤ };
 

@@ -9,10 +9,10 @@ loop-step-init g c = (rw (c.into_iter-steps.ensures.rest, c.requires.none) (take
 
 pub loop-step-preserved : goal.loop-step-preserved
 loop-step-preserved g c = (
-  taken_next _ _ _ _ _ _ _ _ _ _ _ c.loop-step.invariant.0 (ap (requests_of g.K.Write.spelling g.V.Write.spelling) c.in-Some.ensures.items) c.step.ensures
-      (ap (meanings_of g.H.Digest.Write.spelling g.V.Write.spelling) c.note.ensures.items ∙ map-append (meaning_of g.H.Digest.Write.spelling g.V.Write.spelling) c.loop-step.answers.items _),
+  taken_next _ _ _ _ _ _ _ _ _ _ _ c.loop-step.invariant.0 (ap (requests_of g.K.Write.encoding g.V.Write.encoding) c.in-Some.ensures.items) c.step.ensures
+      (ap (meanings_of g.H.Digest.Write.encoding g.V.Write.encoding) c.note.ensures.items ∙ map-append (meaning_of g.H.Digest.Write.encoding g.V.Write.encoding) c.loop-step.answers.items _),
   omega (arith, c.in-Some.ensures.len, c.note.ensures.len, c.note.ensures.capacity, c.loop-step.invariant.1),
 )
 
 pub returns : goal.returns
-returns g c = taken_end _ _ _ _ _ _ c.loop-step.invariant.0 (ap (requests_of g.K.Write.spelling g.V.Write.spelling) (nil_from_length _ (sym c.loop-step.steps.rest.ok.0 ∙ c.in_default.ensures.cases.0)))
+returns g c = taken_end _ _ _ _ _ _ c.loop-step.invariant.0 (ap (requests_of g.K.Write.encoding g.V.Write.encoding) (nil_from_length _ (sym c.loop-step.steps.rest.ok.0 ∙ c.in_default.ensures.cases.0)))

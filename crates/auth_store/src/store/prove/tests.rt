@@ -22,7 +22,7 @@ fn opened(alloc: Global) -> Result<TestStore, StoreError> {
 // The key `0000000000000061` after {put a 1} and {put c 3}: 174 bytes, which begin with the location, the chunk, the
 // leaf count, no inactive peak and three digests.
 #[test]
-fn second_key(rt: HostRuntime) -> Result<(), Fail> {
+fn proves_a_key_after_another_commit(rt: HostRuntime) -> Result<(), Fail> {
     let alloc = rt.alloc();
     let mut store = opened(alloc)?;
     let key = FixedBytes::new([0, 0, 0, 0, 0, 0, 0, 0x61]);
@@ -44,23 +44,5 @@ fn second_key(rt: HostRuntime) -> Result<(), Fail> {
     let no = Claim::Value { key, value: 2 };
     assert!(rt; check::<mmr::Family, ByteHash, Keys, u64, 1>(alloc, &root, &yes, &bytes)?);
     assert!(rt; !check::<mmr::Family, ByteHash, Keys, u64, 1>(alloc, &root, &no, &bytes)?);
-    Ok(())
-}
-
-// The first lines of a user of this library, as the README has them.
-#[test]
-fn first_ten_lines(rt: HostRuntime) -> Result<(), Fail> {
-    let alloc = rt.alloc();
-    let mut store = opened(alloc)?;
-    let key = FixedBytes::new([0, 0, 0, 0, 0, 0, 0, 0x61]);
-    let mut batch = Batch::new(alloc);
-    batch.put(key, 1)?;
-    let root = store.commit(batch, None)?;
-    let proof = store.prove_key(&key)?.ok_or("the key is there")?;
-    let KeyProof::Value(value, bytes) = proof;
-    let claim = Claim::Value { key, value };
-    let yes = check::<mmr::Family, ByteHash, Keys, u64, 1>(alloc, &root, &claim, &bytes)?;
-    assert_eq!(rt; value, 1);
-    assert!(rt; yes);
     Ok(())
 }

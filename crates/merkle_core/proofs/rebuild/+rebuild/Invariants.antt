@@ -1,4 +1,4 @@
 use Rattle.merkle_core.proofs.rebuild.+rebuild.Given as goal
 
 abbrev pub decreases-rebuild : goal.decreases-rebuild
-decreases-rebuild g l = l.place.height
+decreases-rebuild g l = l.subtree.height

@@ -7,20 +7,27 @@ use Rattle.merkle_core.proofs.reconstruct.bag_around.Goals as goal
 
 pub returns-then-is_from_left : goal.returns-then-is_from_left
 returns-then-is_from_left g c =
-    let spelling = g.H.Digest.Write.spelling in
-    let left : (c.root_bagging.result ≡ ForwardFold) ⊎ (c.args.before < c.args.inactive) = c.if-is_from_left.ensures.0 refl in
+    let encoding = g.H.Digest.Write.encoding in
+    let left : (c.root_bagging.result ≡ ForwardFold) ⊎ (c.args.before < c.args.inactive) =
+    c.if-is_from_left.ensures.0 refl in
     let side : (g.H.Hasher.bagging_of c.args.hasher.now ≡ ForwardFold) ⊎ (c.args.before < c.args.inactive) =
     elim left [ inl is ↦ inl (sym c.root_bagging.ensures ∙ is) | inr lt ↦ inr lt ] in
     rw (c.fold_onto.ensures, c.fold_before.ensures)
-    (bag_left g.H.Hasher.hash_of (g.H.Hasher.bagging_of c.args.hasher.now) c.args.inactive c.args.before c.args.after (map spelling c.args.front.now) (spelling c.args.own) (map spelling c.args.back.now)
-    c.requires.some (length-map c.args.front.now spelling ∙ c.requires.front) (length-map c.args.back.now spelling ∙ c.requires.back) side)
+    (bag_left g.H.Hasher.hash_of (g.H.Hasher.bagging_of c.args.hasher.now) c.args.inactive c.args.before c.args.after
+    (map encoding c.args.front.now) (encoding c.args.own) (map encoding c.args.back.now)
+    c.requires.some (length-map c.args.front.now encoding ∙ c.requires.front) (length-map c.args.back.now encoding
+    ∙ c.requires.back) side)
 
 pub returns-else-is_from_left : goal.returns-else-is_from_left
 returns-else-is_from_left g c =
-    let spelling = g.H.Digest.Write.spelling in
+    let encoding = g.H.Digest.Write.encoding in
     let ne : false ≡ true → ⊥ = λ e. cc in
-    let no : (g.H.Hasher.bagging_of c.args.hasher.now ≡ ForwardFold) → ⊥ = λ is. ne (c.if-is_from_left.ensures.1 (inl (c.root_bagging.ensures ∙ is))) in
-    let le : c.args.inactive ≤ c.args.before = elim (cases_lt c.args.before c.args.inactive) [ inl lt ↦ absurd (ne (c.if-is_from_left.ensures.1 (inr lt))) | inr le' ↦ le' ] in
+    let no : (g.H.Hasher.bagging_of c.args.hasher.now ≡ ForwardFold) → ⊥ =
+    λ is. ne (c.if-is_from_left.ensures.1 (inl (c.root_bagging.ensures ∙ is))) in
+    let le : c.args.inactive ≤ c.args.before =
+    elim (cases_lt c.args.before c.args.inactive)
+    [ inl lt ↦ absurd (ne (c.if-is_from_left.ensures.1 (inr lt))) | inr le' ↦ le' ] in
     rw (c.fold_before-else-is_from_left.ensures, c.fold_onto-else-is_from_left.ensures)
-    (bag_right g.H.Hasher.hash_of (g.H.Hasher.bagging_of c.args.hasher.now) c.args.inactive c.args.before c.args.after (map spelling c.args.front.now) (spelling c.args.own) (map spelling c.args.back.now)
-    (length-map c.args.back.now spelling ∙ c.requires.back) no le)
+    (bag_right g.H.Hasher.hash_of (g.H.Hasher.bagging_of c.args.hasher.now) c.args.inactive c.args.before c.args.after
+    (map encoding c.args.front.now) (encoding c.args.own) (map encoding c.args.back.now)
+    (length-map c.args.back.now encoding ∙ c.requires.back) no le)

@@ -1,10 +1,10 @@
 use Rattle.std.proofs.Common.{◌≡◌, ◌-◌, ◌^◌, ◌≤◌, inl, inr, arith, subst, pow-suc}
 use Rattle.std.proofs.lemmas.Bool.{cases_lt, both_ways}
 use Rattle.merkle_forest.specs.Forest.{forest_of}
-use Rattle.merkle_forest.specs.ForestGrowth.{height_fits, leaves-forest_of}
+use Rattle.merkle_forest.specs.Laws.ForestGrowth.{height_fits, leaves-forest_of}
 use Rattle.merkle_forest.specs.Nodes.{HasNode}
-use Rattle.merkle_forest.specs.MmrNodes.{pow_le, pow_order}
-use Rattle.merkle_forest.specs.MaximalLaws.{leaf-stands}
+use Rattle.merkle_forest.specs.Laws.Powers.{pow_le, pow_order}
+use Rattle.merkle_forest.specs.Laws.Maximal.{leaf-stands}
 use Rattle.merkle_forest.proofs.chunk_peaks.highest_before.Goals as goal
 
 pub loop-height-init : goal.loop-height-init
@@ -12,7 +12,8 @@ loop-height-init g c =
     let found = c.ilog2-height.ensures in
     record {
       fits = omega (arith, found.power_le, c.requires.some);
-      highest = λ h stands fits. pow_order h c.ilog2-height.result (omega (arith, fits, found.next_power_gt, pow-suc 2 c.ilog2-height.result));
+      highest = λ h stands fits. pow_order h c.ilog2-height.result
+          (omega (arith, fits, found.next_power_gt, pow-suc 2 c.ilog2-height.result));
     }
 
 pub has_node-requires-clause-low : goal.has_node-requires-clause-low
@@ -22,11 +23,13 @@ pub overflow_sub-height : goal.overflow_sub-height
 overflow_sub-height g c =
     let rule = g.F.Family.merge_rule in
     let all = leaves-forest_of rule g.met.F.Family.merges_equals c.args.leaves in
-    let there : HasNode (forest_of rule c.args.leaves) c.args.first 0 = leaf-stands c.args.first (forest_of rule c.args.leaves) (omega (arith, all)) in
+    let there : HasNode (forest_of rule c.args.leaves) c.args.first 0 =
+    leaf-stands c.args.first (forest_of rule c.args.leaves) (omega (arith, all)) in
     elim (cases_lt 0 c.loop-height.height) [
       | inl some ↦ omega (arith, some)
       | inr none ↦ (let same : 0 ≡ c.loop-height.height = omega (arith, none) in
-          absurd (both_ways c.has_node.result c.loop-height-test.true (c.has_node.ensures.1 (subst (λ h. HasNode (forest_of rule c.args.leaves) c.args.first h) same there))))
+          absurd (both_ways c.has_node.result c.loop-height-test.true
+          (c.has_node.ensures.1 (subst (λ h. HasNode (forest_of rule c.args.leaves) c.args.first h) same there))))
     ]
 
 pub loop-height-smaller : goal.loop-height-smaller
@@ -43,6 +46,8 @@ loop-height-preserved g c =
           elim (cases_lt h height) [
             | inl less ↦ omega (arith, less)
             | inr same ↦ (let here : h ≡ height = omega (arith, most, same) in
-                absurd (both_ways c.has_node.result c.loop-height-test.true (c.has_node.ensures.1 (subst (λ k. HasNode (forest_of rule c.args.leaves) c.args.first k) here stands))))
+                absurd (both_ways c.has_node.result c.loop-height-test.true
+                (c.has_node.ensures.1
+                (subst (λ k. HasNode (forest_of rule c.args.leaves) c.args.first k) here stands))))
           ]);
     }

@@ -1,4 +1,4 @@
-use Rattle.merkle_forest.specs.NodeGrowth.{one-node}
+use Rattle.merkle_forest.specs.Laws.NodeGrowth.{one-node}
 use Rattle.merkle_forest.proofs.laws.one_node_a_position.Goals as goal
 
 pub returns : goal.returns

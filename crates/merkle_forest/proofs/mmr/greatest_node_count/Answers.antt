@@ -1,4 +1,4 @@
-use Rattle.merkle_forest.specs.MmrLaws.{size-limit}
+use Rattle.merkle_forest.specs.Laws.Mmr.{size-limit}
 use Rattle.merkle_forest.proofs.mmr.greatest_node_count.Goals as goal
 
 pub returns : goal.returns

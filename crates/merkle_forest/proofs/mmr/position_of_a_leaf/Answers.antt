@@ -1,4 +1,4 @@
-use Rattle.merkle_forest.specs.MmrLaws.{size-mmr}
+use Rattle.merkle_forest.specs.Laws.Mmr.{size-mmr}
 use Rattle.merkle_forest.proofs.mmr.position_of_a_leaf.Goals as goal
 
 pub returns : goal.returns

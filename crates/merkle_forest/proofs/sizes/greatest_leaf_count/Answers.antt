@@ -1,6 +1,6 @@
-use Rattle.std.proofs.Common.{◌-◌, ◌+◌, ◌/◌, ◌<◌, ◌≤◌, arith}
+use Rattle.std.proofs.Common.{◌-◌, ◌+◌, ◌/◌, ◌<◌, arith}
 use Rattle.merkle_forest.specs.Forest.{size, forest_of}
-use Rattle.merkle_forest.specs.ForestGrowth.{leaves-below}
+use Rattle.merkle_forest.specs.Laws.ForestGrowth.{leaves-below}
 use Rattle.merkle_forest.proofs.ForestLemmas.{size-none}
 use Rattle.merkle_forest.proofs.sizes.greatest_leaf_count.Goals as goal
 
@@ -20,5 +20,6 @@ loop-above-preserved g c =
       apart = omega arith;
       valid = omega arith;
       within = c.loop-above.invariant.within;
-      greatest = λ n few fits. leaves-below g.F.Family.merge_rule g.met.F.Family.merges_equals n middle c.args.nodes fits more;
+      greatest = λ n few fits.
+          leaves-below g.F.Family.merge_rule g.met.F.Family.merges_equals n middle c.args.nodes fits more;
     }

@@ -1,4 +1,4 @@
-use Rattle.std.proofs.Common.{◌≡◌, ◌<◌, ◌≤◌, ◌+◌, ◌-◌, ◌^◌, ℕ}
+use Rattle.std.proofs.Common.{◌<◌, ◌≤◌, ◌+◌, ◌-◌, ◌^◌, ℕ}
 use Rattle.merkle_forest.specs.Forest.{size, forest_of}
 use Rattle.merkle_forest.proofs.sizes.greatest_leaf_count.Given as goal
 

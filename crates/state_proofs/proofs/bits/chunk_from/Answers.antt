@@ -7,4 +7,5 @@ loop-preserved c =
     (chunk_goes_on c.loop.chunk.items c.loop.rest.now c.args.width c.loop.counter _ c.loop-test.true c.loop.invariant)
 
 pub returns : goal.returns
-returns c = chunk_ends c.loop.chunk.items c.loop.rest.now c.args.width c.loop.counter _ c.loop-test.false c.loop.invariant
+returns c = chunk_ends c.loop.chunk.items c.loop.rest.now c.args.width c.loop.counter _ c.loop-test.false
+    c.loop.invariant

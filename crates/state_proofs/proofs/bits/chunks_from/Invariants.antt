@@ -3,4 +3,5 @@ use Rattle.state_proofs.specs.Bits.{chunks_of}
 use Rattle.state_proofs.proofs.bits.chunks_from.Given as goal
 
 abbrev pub invariant-loop : goal.invariant-loop
-invariant-loop l = map (λ chunk. chunk.items) l.chunks.items ++ chunks_of l.width (l.count - l.counter) l.rest ≡ chunks_of l.width l.count l.bits
+invariant-loop l = map (λ chunk. chunk.items) l.chunks.items ++ chunks_of l.chunk_size.width
+    (l.count - l.counter) l.rest ≡ chunks_of l.chunk_size.width l.count l.bits

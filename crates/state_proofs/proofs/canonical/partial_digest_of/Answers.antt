@@ -15,9 +15,17 @@ returns g c =
     let sized = length-map c.args.snapshot.now.operations.now (λ e. e.items) in
     let found = map (λ chunk. chunk.items) c.args.chunks.now in
     let full = full_chunks setting state in
-    let some : eqb (next_bit setting state) 0 ≡ false = rw sized (ne_eqb _ _ c.if-snapshot-bits-eq0.false) in
-    let digest = rw (← sized) at c.chunk_digest.ensures.digest in
-    let there = rw (← sized) at c.chunk_digest.ensures.there.1 in
+    let some : eqb (next_bit setting state) 0 ≡ false =
+    rw sized (ne_eqb _ _ (rw c.bit_of.ensures.bit at c.if-bit_of-eq0.false)) in
+    let digest = rw (c.full_chunks-full.ensures, ← sized) at c.chunk_digest.ensures.digest in
+    let there = rw (c.full_chunks-full.ensures, ← sized) at c.chunk_digest.ensures.there.1 in
     is_partial_digest setting state _ some
-    (chunk_is g.H.Digest.Write.spelling hash found full c.chunk_digest.result (there (omega (arith, partial_stands setting state some, ap length c.requires.chunked, length-map c.args.chunks.now (λ chunk. chunk.items)))) digest
+    (chunk_is g.H.Digest.Write.encoding hash found full c.chunk_digest.result
+    (there (omega (
+      arith,
+      partial_stands setting state some,
+      ap length c.requires.chunked,
+      length-map
+          c.args.chunks.now (λ chunk. chunk.items),
+    ))) digest
     ∙ ap (λ found. Some (hash (slice_index_or found full []))) c.requires.chunked)

@@ -16,10 +16,22 @@ returns-then-graftable-full g c =
     let graftable = c.graftable_count-graftable.result in
     let found = map (λ chunk. chunk.items) c.args.chunks.now in
     let sized = length-map c.args.snapshot.now.operations.now (λ e. e.items) in
-    let full : graftable < full_chunks setting state = rw sized c.if-graftable-full.true in
-    let counts : graftable ≡ nodes_of_height setting.grafting_height (forest_of g.F.Family.merge_rule (length state.operations)) =
-    c.graftable_count-graftable.ensures.count ∙ ap (nodes_of_height setting.grafting_height) (c.requires.grown ∙ ap (forest_of g.F.Family.merge_rule) (sym sized)) in
-    let there : graftable < length c.args.chunks.now = omega (arith, full, length-chunks setting state, ap length c.requires.chunked, length-map c.args.chunks.now (λ chunk. chunk.items)) in
+    let full : graftable < full_chunks setting state =
+    rw sized (rw c.full_chunks-full.ensures at c.if-graftable-full.true) in
+    let counts : graftable ≡ nodes_of_height setting.grafting_height
+    (forest_of g.F.Family.merge_rule (length state.operations)) =
+    c.graftable_count-graftable.ensures.count ∙ ap (nodes_of_height setting.grafting_height) (c.requires.grown
+    ∙ ap (forest_of g.F.Family.merge_rule) (sym sized)) in
+    let there : graftable < length c.args.chunks.now =
+    omega (
+      arith,
+      full,
+      length-chunks setting state,
+      ap length c.requires.chunked,
+      length-map c.args.chunks.now
+          (λ chunk. chunk.items),
+    ) in
     is_pending_digest setting state graftable _ counts full
-    (chunk_is g.H.Digest.Write.spelling hash found graftable c.chunk_digest.result (c.chunk_digest.ensures.there.1 there) c.chunk_digest.ensures.digest
+    (chunk_is g.H.Digest.Write.encoding hash found graftable c.chunk_digest.result
+    (c.chunk_digest.ensures.there.1 there) c.chunk_digest.ensures.digest
     ∙ ap (λ found. Some (hash (slice_index_or found graftable []))) c.requires.chunked)

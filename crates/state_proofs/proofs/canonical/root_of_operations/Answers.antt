@@ -12,10 +12,16 @@ pub returns : goal.returns
 returns g c =
     let sized = sym (length-map c.args.snapshot.now.operations.now (λ e. e.items)) in
     let hash = g.H.HashFunction.hash_of in
-    is_operations_root (setting_of g.F.Family.merge_rule hash c.args.snapshot.now) (state_of c.args.snapshot.now) c.new-hasher.result.bagging (length c.args.snapshot.now.operations.now) c.inactive_count_of-inactive.result
-    (map shape c.args.trees.now) (shapes c.in_ok-peaks.peaks.items) (map g.H.Digest.Write.spelling c.deref-2.result.now) (g.H.Digest.Write.spelling c.unwrap.result)
+    is_operations_root (setting_of g.F.Family.merge_rule hash c.args.snapshot.now)
+    (state_of c.args.snapshot.now) c.new-hasher.result.bagging
+    (length c.args.snapshot.now.operations.now) c.inactive_count_of-inactive.result
+    (map shape c.args.trees.now) (shapes c.in_ok-peaks.peaks.items)
+    (map g.H.Digest.Write.encoding c.deref-2.result.now) (g.H.Digest.Write.encoding c.unwrap.result)
     c.new-hasher.ensures
-    (c.requires.grown ∙ ap (forest_of g.F.Family.merge_rule) sized) c.in_ok-peaks.ensures.placed
-    (c.inactive_count_of-inactive.ensures.count ∙ ap (λ peaks. inactive_peaks c.args.snapshot.now.floor (shapes peaks)) c.deref.ensures.value)
-    (ap (map g.H.Digest.Write.spelling) c.deref-2.ensures.value ∙ c.in_ok-digests.ensures.digests ∙ ap (λ es. peak_digests (plain_digest hash (map (λ e. e.items) es)) (map shape c.args.trees.now)) c.new-plain.ensures)
+    (c.requires.grown ∙ ap (forest_of g.F.Family.merge_rule) sized) c.in_ok-peaks.ensures.located
+    (c.inactive_count_of-inactive.ensures.count
+    ∙ ap (λ peaks. inactive_peaks c.args.snapshot.now.floor (shapes peaks)) c.deref.ensures.value)
+    (ap (map g.H.Digest.Write.encoding) c.deref-2.ensures.value ∙ c.in_ok-digests.ensures.digests
+    ∙ ap (λ es. peak_digests (plain_digest hash (map (λ e. e.items) es)) (map shape c.args.trees.now))
+    c.new-plain.ensures)
     sized (search (rules, c.unwrap.ensures, c.root.ensures.root, c.new-leaves.ensures))

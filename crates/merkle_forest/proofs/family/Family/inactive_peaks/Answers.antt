@@ -1,14 +1,19 @@
-use Rattle.std.proofs.Common.{◌≡◌, ◌≤◌, sym, ◌∙◌, ap, arith}
-use Rattle.merkle_forest.specs.Forest.{size, forest_of}
-use Rattle.merkle_forest.specs.ForestGrowth.{size-le}
-use Rattle.merkle_forest.specs.Trees.{placed, inactive_peaks as inactive_count_of}
+use Rattle.std.proofs.Common.{◌≡◌, ◌≤◌, ◌∙◌, ap, arith}
+use Rattle.merkle_forest.specs.Forest.{forest_of}
+use Rattle.merkle_forest.specs.Laws.ForestGrowth.{size-le}
+use Rattle.merkle_forest.specs.Trees.{located, inactive_peaks as inactive_count_of}
 use Rattle.merkle_forest.proofs.family.Family.inactive_peaks.Goals as goal
 
 pub returns : goal.returns
 returns g c n few is =
     let rule = g.Self.Family.merge_rule in
-    let most : n ≤ c.greatest_leaf_count.result = c.greatest_leaf_count.ensures.greatest n few (omega (arith, is, c.as_u64.ensures)) in
-    let least : c.greatest_leaf_count.result ≤ n = size-le rule g.met.Self.Family.merges_equals c.greatest_leaf_count.result n (omega (arith, is, c.as_u64.ensures, c.greatest_leaf_count.ensures.within)) in
+    let most : n ≤ c.greatest_leaf_count.result =
+    c.greatest_leaf_count.ensures.greatest n few (omega (arith, is, c.as_u64.ensures)) in
+    let least : c.greatest_leaf_count.result ≤ n =
+    size-le rule g.met.Self.Family.merges_equals c.greatest_leaf_count.result n
+    (omega (arith, is, c.as_u64.ensures, c.greatest_leaf_count.ensures.within)) in
     let found : c.greatest_leaf_count.result ≡ n = omega arith in
-    c.inactive_count.ensures ∙ ap (λ floor. inactive_count_of floor (placed (forest_of rule c.greatest_leaf_count.result))) c.as_u64-2.ensures
-    ∙ ap (λ k. inactive_count_of c.args.floor (placed (forest_of rule k))) found
+    c.inactive_count.ensures
+    ∙ ap (λ floor. inactive_count_of floor (located (forest_of rule c.greatest_leaf_count.result)))
+    c.as_u64-2.ensures
+    ∙ ap (λ k. inactive_count_of c.args.floor (located (forest_of rule k))) found

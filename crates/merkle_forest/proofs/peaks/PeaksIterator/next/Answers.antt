@@ -1,39 +1,58 @@
-use Rattle.std.proofs.Common.{◌≡◌, ◌<◌, ◌≤◌, ◌+◌, ◌*◌, ◌^◌, ◌%◌, List, [], ◌∷◌, length, map, sym, ◌∙◌, ap, arith}
+use Rattle.std.proofs.Common.{◌≡◌, ◌+◌, ◌*◌, ◌^◌, ◌%◌, [], ◌∷◌, length, map, sym, ◌∙◌, ap, arith}
 use Rattle.merkle_forest.specs.Forest.{forest_of}
-use Rattle.merkle_forest.specs.ForestGrowth.{leaves-forest_of}
-use Rattle.merkle_forest.specs.Peaks.{place_of, places_from}
-use Rattle.merkle_forest.specs.PeakLaws.{IsStep, step, cut-begins, placed_from-end}
+use Rattle.merkle_forest.specs.Laws.ForestGrowth.{leaves-forest_of}
+use Rattle.merkle_forest.specs.Peaks.{position_and_height, positions_from}
+use Rattle.merkle_forest.specs.Laws.Peaks.{step, cut-begins, located_from-end}
 use Rattle.merkle_forest.proofs.peaks.PeaksIterator.next.Goals as goal
 
 pub returns-then-self-clause-steps : goal.returns-then-self-clause-steps
 returns-then-self-clause-steps g c =
-    let none : places_from c.self.inside.next (forest_of g.F.Family.merge_rule c.self.inside.leaves) ≡ [] =
-    ap (map place_of) (placed_from-end (forest_of g.F.Family.merge_rule c.self.inside.leaves) c.self.inside.next (omega (arith, leaves-forest_of g.F.Family.merge_rule g.met.F.Family.merges_equals c.self.inside.leaves))) in
+    let none : positions_from c.self.inside.next (forest_of g.F.Family.merge_rule c.self.inside.leaves) ≡ [] =
+    ap (map position_and_height) (located_from-end
+    (forest_of g.F.Family.merge_rule c.self.inside.leaves) c.self.inside.next
+    (omega (arith, leaves-forest_of g.F.Family.merge_rule g.met.F.Family.merges_equals c.self.inside.leaves))) in
     (sym c.self.view_is ∙ none, sym c.self.view_is ∙ none)
 
 pub peak_from-position-requires-clause-begins : goal.peak_from-position-requires-clause-begins
 peak_from-position-requires-clause-begins g c =
     cut-begins c.self.inside.next (forest_of g.F.Family.merge_rule c.self.inside.leaves) c.self.invariant.1
-    (omega (arith, c.if-self.false, leaves-forest_of g.F.Family.merge_rule g.met.F.Family.merges_equals c.self.inside.leaves))
+    (omega (
+      arith,
+      c.if-self.false,
+      leaves-forest_of g.F.Family.merge_rule g.met.F.Family.merges_equals
+          c.self.inside.leaves,
+    ))
 
 pub overflow_shl-self : goal.overflow_shl-self
 overflow_shl-self g c =
-    (step g.F.Family.merge_rule g.met.F.Family.merges_equals c.self.inside.leaves c.self.inside.next c.peak_from-position.result.0 c.peak_from-position.result.1 c.self.invariant.0 c.self.invariant.1 c.if-self.false c.peak_from-position.ensures).low
+    (step g.F.Family.merge_rule g.met.F.Family.merges_equals c.self.inside.leaves c.self.inside.next
+    c.peak_from-position.result.0 c.peak_from-position.result.1 c.self.invariant.0 c.self.invariant.1 c.if-self.false
+    c.peak_from-position.ensures).low
 
 pub overflow_add-self : goal.overflow_add-self
 overflow_add-self g c =
-    let it = step g.F.Family.merge_rule g.met.F.Family.merges_equals c.self.inside.leaves c.self.inside.next c.peak_from-position.result.0 c.peak_from-position.result.1 c.self.invariant.0 c.self.invariant.1 c.if-self.false c.peak_from-position.ensures in
+    let it = step g.F.Family.merge_rule g.met.F.Family.merges_equals c.self.inside.leaves c.self.inside.next
+    c.peak_from-position.result.0 c.peak_from-position.result.1 c.self.invariant.0 c.self.invariant.1
+    c.if-self.false c.peak_from-position.ensures in
     omega (arith, it.fits, c.self.invariant.0)
 
 pub invariant_of-self : goal.invariant_of-self
 invariant_of-self g c =
-    let it = step g.F.Family.merge_rule g.met.F.Family.merges_equals c.self.inside.leaves c.self.inside.next c.peak_from-position.result.0 c.peak_from-position.result.1 c.self.invariant.0 c.self.invariant.1 c.if-self.false c.peak_from-position.ensures in
+    let it = step g.F.Family.merge_rule g.met.F.Family.merges_equals c.self.inside.leaves c.self.inside.next
+    c.peak_from-position.result.0 c.peak_from-position.result.1 c.self.invariant.0 c.self.invariant.1
+    c.if-self.false c.peak_from-position.ensures in
     (c.self.invariant.0, it.cut)
 
 pub returns-clause-steps : goal.returns-clause-steps
 returns-clause-steps g c =
-    let it = step g.F.Family.merge_rule g.met.F.Family.merges_equals c.self.inside.leaves c.self.inside.next c.peak_from-position.result.0 c.peak_from-position.result.1 c.self.invariant.0 c.self.invariant.1 c.if-self.false c.peak_from-position.ensures in
-    sym c.self.view_is ∙ it.places ∙ ap (λ p. (p, c.peak_from-position.result.1) ∷ places_from (c.self.inside.next + 1 * 2 ^ c.peak_from-position.result.1 % 2 ^ 64) (forest_of g.F.Family.merge_rule c.self.inside.leaves)) (sym c.new.ensures)
+    let it = step g.F.Family.merge_rule g.met.F.Family.merges_equals c.self.inside.leaves c.self.inside.next
+    c.peak_from-position.result.0 c.peak_from-position.result.1 c.self.invariant.0 c.self.invariant.1
+    c.if-self.false c.peak_from-position.ensures in
+    sym c.self.view_is ∙ it.positions
+    ∙ ap (λ p. (p, c.peak_from-position.result.1) ∷ positions_from
+    (c.self.inside.next + 1 * 2 ^ c.peak_from-position.result.1 % 2 ^ 64)
+    (forest_of g.F.Family.merge_rule c.self.inside.leaves)) (sym c.new.ensures)
 
 pub returns-clause-goes : goal.returns-clause-goes
-returns-clause-goes g c = let shorter = ap length (returns-clause-steps g c) in record { on = λ _. (tt, tt, omega (arith, shorter)); keeps = tt; rests = λ _. tt }
+returns-clause-goes g c = let shorter = ap length (returns-clause-steps g c) in
+    record { on = λ _. (tt, tt, omega (arith, shorter)); keeps = tt; rests = λ _. tt }

@@ -1,5 +1,5 @@
 use Rattle.std.proofs.Common.{sym}
-use Rattle.merkle_forest_parts.specs.VarintLaws.{varint_length}
+use Rattle.merkle_forest_parts.specs.Laws.Varint.{varint_length}
 use Rattle.merkle_forest_parts.proofs.codec.varint.number_size.Goals as goal
 
 pub returns : goal.returns

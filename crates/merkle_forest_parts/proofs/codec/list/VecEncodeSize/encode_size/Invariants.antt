@@ -4,4 +4,6 @@ use Rattle.merkle_forest_parts.specs.Varint.{varint}
 use Rattle.merkle_forest_parts.proofs.codec.list.VecEncodeSize.encode_size.Given as goal
 
 abbrev pub invariant-loop-item : goal.invariant-loop-item
-invariant-loop-item g l = l.size ≡ length (varint (length l.item-items)) + length (flat_map g.D.Write.spelling (take l.item-index l.item-items))
+invariant-loop-item g l =
+    l.size ≡ length (varint (length l.item-items)) + length
+    (flat_map g.D.Write.encoding (take l.item-index l.item-items))

@@ -1,0 +1,14 @@
+use Rattle.std.proofs.Common.{◌≡◌, ◌+◌, ◌≤◌, length}
+use Rattle.auth_store_parts.specs.History as spec
+use Rattle.auth_store_parts.proofs.history.activity.active_location.Given as goal
+
+abbrev pub invariant-loop-rest : goal.invariant-loop-rest
+invariant-loop-rest g l =
+    let key = g.K.Write.encoding l.key in
+    record {
+      within : length l.rest ≤ length l.operations;
+      location : spec.active_location key (spec.meanings g.K.Write.encoding g.V.Write.encoding l.rest) + length l.operations ≡ spec.active_location key (spec.meanings g.K.Write.encoding g.V.Write.encoding l.operations) + length l.rest;
+    }
+
+abbrev pub decreases-loop-rest : goal.decreases-loop-rest
+decreases-loop-rest g l = length l.rest

@@ -1,0 +1,4 @@
+-- What holds of the definitions: lemmas, which a reader need not believe.
+pub mod Lookups
+pub mod Logs
+pub mod Actives

@@ -1,0 +1,21 @@
+-- What follows from the definitions. No reader has to believe it.
+pub use Rattle.merkle_forest_parts.specs.Laws.Codec
+pub use Rattle.merkle_forest_parts.specs.Laws.Lists
+pub use Rattle.merkle_forest_parts.specs.Laws.Varint
+pub mod ForestGrowth
+pub mod Hash
+pub mod Maximal
+pub mod MaximalMeaning
+pub mod Mmr
+pub mod MmrBirths
+pub mod MmrCounts
+pub mod MmrNodes
+pub mod MmrParents
+pub mod NodeGrowth
+pub mod Nodes
+pub mod Parents
+pub mod Peaks
+pub mod Powers
+pub mod RootLengths
+pub mod Rules
+pub mod Trees

@@ -1,0 +1,4 @@
+-- What follows from the definitions. No reader has to believe it.
+pub mod Codec
+pub mod Lists
+pub mod Varint

@@ -1,0 +1,5 @@
+-- Lemmas that crates above cite, and the laws of the traits.
+pub mod Encoded
+pub mod Once
+pub mod Reading
+pub mod Showing

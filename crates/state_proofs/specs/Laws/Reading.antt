@@ -1,0 +1,103 @@
+-- Proofs that the code holds are within the limits, and are read again.
+use Rattle.std.proofs.Common.{◌≡◌, ℕ, ◌^◌, ◌<◌, ◌≤◌, List, ◌++◌, length, map, Option, Some, None, Ok, append_assoc, arith}
+use Rattle.std.specs.Prelude.{IfSome, option_map}
+use Rattle.std.proofs.lemmas.List.{length-map}
+use Rattle.merkle_forest.specs.Codec.{Outcome}
+use Rattle.merkle_forest.specs.Lists.{AreItems}
+use Rattle.merkle_core.specs.Laws.Proofs.{all_sized}
+use Rattle.state_proofs.specs.declared.operation.Proof.{Proof}
+use Rattle.state_proofs.specs.declared.proof.RangeProof.{RangeProof}
+use Rattle.state_proofs.specs.Encoded.{range_proof_encoding, operation_proof_encoding, key_value_proof_encoding, after_range_proof, after_operation_proof, after_key_value_proof, FitsRange, Fits}
+use Rattle.state_proofs.specs.Laws.Encoded.{Grammar, range_again, operation_again, range_within, operation_within}
+use Rattle.state_proofs.specs.ProofsCode.{range_parts_of, parts_of}
+
+some_sized : {D : Type 0} (encoding : D → List ℕ) (is_value : D → Type 0) (size : ℕ) (digest : Option D)
+    → ((d : D) → is_value d → length (encoding d) ≡ size) → IfSome digest is_value
+    → IfSome (option_map encoding digest) (λ bytes. length bytes ≡ size)
+some_sized encoding is_value size None sized value = tt
+some_sized encoding is_value size (Some d) sized value = sized d value
+
+-- the values of a proof over a range, from those of digests and of what is held of the pending one
+abbrev pub IsRangeValue : {F D P : Type 0} → (D → Type 0) → (P → Type 0) → RangeProof F D P → Type 0
+IsRangeValue is_value is_held p =
+    ((p.proof.leaves < 2 ^ 64) × (p.proof.inactive_peaks < 2 ^ 64) × AreItems is_value p.proof.digests.items)
+    × is_held p.pending_chunk_digest × IfSome p.partial_chunk_digest is_value × is_value p.ops_root
+
+abbrev pub IsRangeWithin : {F D P : Type 0} → ℕ → RangeProof F D P → Type 0
+IsRangeWithin most p = (p.proof.leaves ≤ 2 ^ 62) × (length p.proof.digests.items ≤ most)
+
+module _ {D P : Type 0} (encoding : D → List ℕ) (is_value : D → Type 0) (size : ℕ) (sized : (d : D) → is_value d
+    → length (encoding d) ≡ size)
+    (held : P → Option (List ℕ)) (is_held : P → Type 0) (IsPending : Option (List ℕ) → Type 0) (holds : (p : P)
+    → is_held p → IsPending (held p)) where
+  pub range_fits : {F : Type 0} (most : ℕ) (p : RangeProof F D P) → IsRangeValue is_value is_held p
+      → IsRangeWithin most p
+      → FitsRange IsPending size most (range_parts_of encoding held p)
+  range_fits most p value within = record {
+    leaves = within.0;
+    inactive = value.0.1;
+    few = omega (arith, length-map p.proof.digests.items encoding, within.1);
+    digests = all_sized encoding is_value size p.proof.digests.items sized value.0.2.1;
+    pending = holds p.pending_chunk_digest value.1;
+    partial = some_sized encoding is_value size p.partial_chunk_digest sized value.2;
+    operations_root = sized p.ops_root value.3;
+  }
+
+  pub parts_fit : {F : Type 0} (width most : ℕ) (p : Proof F D P)
+      → (p.loc < 2 ^ 64) × IsRangeValue is_value is_held p.range_proof
+      → (p.loc ≤ 2 ^ 62) × (length p.chunk.items ≡ width) × IsRangeWithin most p.range_proof
+      → Fits IsPending width size most (parts_of encoding held p)
+  parts_fit width most p value within = record {
+    location = within.0;
+    chunk = within.1;
+    range = range_fits most p.range_proof value.1 within.2;
+  }
+
+  module _ (digest after : List ℕ → Outcome) (pending : Option (List ℕ)
+      → List ℕ) (grammar : Grammar digest after IsPending pending size) where
+    -- a proof over a range is read again
+    pub read_range_again : {F : Type 0} (most : ℕ) (p : RangeProof F D P) (rest : List ℕ)
+        → IsRangeValue is_value is_held p → IsRangeWithin most p
+        → after_range_proof digest after most (range_proof_encoding pending (range_parts_of encoding held p) ++ rest)
+        ≡ Ok rest
+    read_range_again most p rest value within =
+        range_again digest after IsPending pending size most grammar (range_parts_of encoding held p) rest
+        (omega (arith, length-map p.proof.digests.items encoding, value.0.2.0)) (range_fits most p value within)
+
+    -- so is a proof of one operation
+    pub read_operation_again : {F : Type 0} (width most : ℕ) (p : Proof F D P) (rest : List ℕ)
+        → (p.loc < 2 ^ 64) × IsRangeValue is_value is_held p.range_proof
+        → (p.loc ≤ 2 ^ 62) × (length p.chunk.items ≡ width) × IsRangeWithin most p.range_proof
+        → after_operation_proof digest after width most
+        (operation_proof_encoding pending (parts_of encoding held p) ++ rest) ≡ Ok rest
+    read_operation_again width most p rest value within =
+        operation_again digest after IsPending pending size most grammar width (parts_of encoding held p) rest
+        (omega (arith, length-map p.range_proof.proof.digests.items encoding, value.1.0.2.0))
+        (parts_fit width most p value within)
+
+    -- what is read of the parts of a value is within the limits
+    pub read_operation_fits : {F : Type 0} (width most : ℕ) (p : Proof F D P) (rest new : List ℕ)
+        → (p.loc < 2 ^ 64) × IsRangeValue is_value is_held p.range_proof → length p.chunk.items ≡ width
+        → after_operation_proof digest after width most
+        (operation_proof_encoding pending (parts_of encoding held p) ++ rest) ≡ Ok new
+        → Fits IsPending width size most (parts_of encoding held p)
+    read_operation_fits width most p rest new value chunk read =
+        let count = length-map p.range_proof.proof.digests.items encoding in
+        let it = operation_within digest after IsPending pending size most grammar width
+        (parts_of encoding held p) rest new value.0 chunk
+        value.1.0.0 value.1.0.1 (omega (arith, count, value.1.0.2.0)) read in
+        parts_fit width most p value (it.0, chunk, (it.1.0, omega (arith, count, it.1.1)))
+
+    -- so is the proof of an update with its next key
+    pub read_key_value_again : {F : Type 0} (key : List ℕ
+        → Outcome) (width most : ℕ) (p : Proof F D P) (next_key rest : List ℕ)
+        → (p.loc < 2 ^ 64) × IsRangeValue is_value is_held p.range_proof
+        → (p.loc ≤ 2 ^ 62) × (length p.chunk.items ≡ width) × IsRangeWithin most p.range_proof
+        → key (next_key ++ rest) ≡ Ok rest
+        → after_key_value_proof digest after key width most
+        (key_value_proof_encoding pending (parts_of encoding held p) next_key ++ rest) ≡ Ok rest
+    read_key_value_again key width most p next_key rest value within again =
+        rw (
+          append_assoc (operation_proof_encoding pending (parts_of encoding held p)) next_key rest,
+          read_operation_again width most p (next_key ++ rest) value within,
+        ) again

@@ -1,0 +1,198 @@
+//! Proofs of a key's value.
+
+ghost use Rattle.std.specs.Prelude.{◌≡◌, ◌⊎◌, ◌↔◌, ◌++◌, [], false, IsTrue, IsErr, IfOk, length, Ok, OnOk, OnErr};
+ghost use Rattle.merkle_forest.specs.Codec.{Extends, LacksAfter, Reads};
+ghost use Rattle.state_ops.specs.Operation.{fixed_encoding, update};
+ghost use Rattle.state_proofs.specs.Encoded.{key_value_proof_encoding, after_operation_proof, after_key_value_proof, Format, OperationProofLacks, ShowsUpdate};
+ghost use Rattle.state_proofs.specs.ProofsCode.{parts_of};
+ghost use Rattle.state_proofs.specs.Verified.{Verifies};
+
+use crate::operation;
+use merkle_core::MAX_PROOF_DIGESTS_PER_ELEMENT;
+use merkle_forest::codec::{Cursor, EncodeSize, Error, Read, Write, or_undo};
+use merkle_forest::{Digest, Graftable, HashFunction, PendingOf};
+use state_ops::fixed::encode;
+use state_ops::{FixedValue, Key, Operation, Ordered};
+use std::alloc::{AllocError, Global};
+
+/// A proof that a key has a value in a state: the proof of the key's active update, and the next key
+/// that the update names. Its encoding is these in order. Reading takes what the proof's reading and a key's take.
+/// In the Rust: `qmdb::current::ordered::proof::KeyValueProof`.
+#[derive(Debug, PartialEq, Eq, Drop)]
+pub struct KeyValueProof<F: PendingOf<D>, K: Key, D: Digest> {
+    /// The proof of the key's update.
+    pub proof: operation::Proof<F, D>,
+    /// The next key that the update names.
+    pub next_key: K,
+}
+
+// Appends the encoding. Out of memory, some of its bytes may have been appended.
+fn write_parts<F: PendingOf<D>, K: Key, D: Digest>(
+    proof: &KeyValueProof<F, K, D>,
+    out: &mut Vec<u8>,
+) -> Result<(), AllocError>
+    ensures ok { OnOk result (out.new.items ≡ out.old.items
+        ++ key_value_proof_encoding F.pending_encoding (parts_of D.encoding F.held proof.now.proof)
+        (K.encoding proof.now.next_key)) }
+    ensures err { OnErr result (Extends out.old.items out.new.items) }
+    ensures proof { OnOk result (⟦<operation::Proof<F, D> as Write>⟧.is_value proof.now.proof) }
+    ensures key { OnOk result (K.is_value proof.now.next_key) }
+{
+    proof.proof.write(out)?;
+    proof.next_key.write(out)
+}
+
+impl<F: PendingOf<D>, K: Key, D: Digest> Write for KeyValueProof<F, K, D> {
+    ghost encoding = { λ p. key_value_proof_encoding F.pending_encoding (parts_of D.encoding F.held p.proof)
+        (K.encoding p.next_key) };
+
+    ghost is_value = { λ p. ⟦<operation::Proof<F, D> as Write>⟧.is_value p.proof × K.is_value p.next_key };
+
+    fn write(&self, out: &mut Vec<u8>) -> Result<(), AllocError> {
+        let start = out.len();
+        or_undo(write_parts(self, out), out, start)
+    }
+}
+
+impl<F: PendingOf<D>, K: Key + EncodeSize, D: Digest> EncodeSize for KeyValueProof<F, K, D> {
+    fn encode_size(&self) -> usize {
+        self.proof.encode_size() + self.next_key.encode_size()
+    }
+}
+
+impl<F: PendingOf<D>, K: Key, D: Digest> Read for KeyValueProof<F, K, D> {
+    ghost use Rattle.state_proofs.specs.Laws.Reading.{read_key_value_again};
+
+    type Cfg = ((usize, usize), ());
+
+    ghost after = { λ cfg bytes. after_key_value_proof (D.after tt) F.pending_after
+        (K.after tt) cfg.0.0 cfg.0.1 bytes };
+
+    ghost may_lack = { λ cfg bytes. OperationProofLacks cfg.0.0 cfg.0.1 bytes
+        ⊎ LacksAfter (after_operation_proof (D.after tt) F.pending_after cfg.0.0 cfg.0.1 bytes) (K.may_lack tt) };
+
+    ghost is_within = { λ cfg p. ⟦<operation::Proof<F, D> as Read>⟧.is_within cfg.0 p.proof
+        × K.is_within tt p.next_key };
+
+    fn read_cfg(
+        alloc: Global,
+        cursor: &mut Cursor<'_>,
+        cfg: &((usize, usize), ()),
+    ) -> Result<KeyValueProof<F, K, D>, Error>
+        ensures read { Reads ⟦<KeyValueProof<F, K, D> as Write>⟧.encoding cursor.old cursor.new
+            (after_key_value_proof (D.after tt) F.pending_after (K.after tt) cfg.now.0.0 cfg.now.0.1 cursor.old)
+            (OperationProofLacks cfg.now.0.0 cfg.now.0.1 cursor.old
+            ⊎ LacksAfter (after_operation_proof (D.after tt) F.pending_after cfg.now.0.0 cfg.now.0.1 cursor.old)
+            (K.may_lack tt)) result }
+        ensures value { IfOk result ⟦<KeyValueProof<F, K, D> as Write>⟧.is_value }
+        ensures chunk { IfOk result (λ proof. length proof.proof.chunk.items ≡ cfg.now.0.0) }
+    {
+        let (limits, _) = cfg;
+        let proof = operation::Proof::read_cfg(alloc, cursor, limits)?;
+        let next_key = K::read_cfg(alloc, cursor, &())?;
+        Ok(KeyValueProof { proof, next_key })
+    }
+
+    ghost read_again = { λ cfg p rest value within.
+        read_key_value_again D.encoding D.is_value D.SIZE D.sized F.held F.Pending.is_value
+        F.is_pending F.pending_value (D.after tt) F.pending_after F.pending_encoding
+        (record { any = D.any_bytes; again = F.pending_again; once = F.pending_once }) (K.after tt) cfg.0.0 cfg.0.1 p.proof (K.encoding p.next_key) rest
+        value.0 within.0 (K.read_again tt p.next_key rest value.1 within.1) };
+}
+
+// The encoded update that gives the key this value, before this next key. It fails only when out of memory.
+fn encoded_update<K: Key, V: FixedValue>(
+    alloc: Global,
+    key: &K,
+    value: &V,
+    next_key: &K,
+) -> Result<Vec<u8>, AllocError>
+    ensures { IfOk result (λ bytes. bytes.items
+        ≡ fixed_encoding K.SIZE V.SIZE (update (K.encoding key.now) (V.encoding value.now) (K.encoding next_key.now))) }
+{
+    let update = Operation::Update(Ordered {
+        key: key.clone()?,
+        value: value.clone()?,
+        next_key: next_key.clone()?,
+    });
+    encode(alloc, &update)
+}
+
+impl<F: Graftable + PendingOf<D>, K: Key, D: Digest> KeyValueProof<F, K, D> {
+    /// Whether the proof shows that the key has the value in the state of this root. It fails only when out of memory.
+    /// In the Rust: `qmdb::current::ordered::proof::KeyValueProof::verify`, which never fails.
+    pub fn verify<H: HashFunction<Digest = D>, V: FixedValue>(
+        &self,
+        alloc: Global,
+        root: &D,
+        key: &K,
+        value: &V,
+    ) -> Result<bool, AllocError>
+        ensures { let operation = fixed_encoding K.SIZE V.SIZE
+            (update (K.encoding key.now) (V.encoding value.now) (K.encoding self.now.next_key)) in
+            IfOk result (λ yes. IsTrue yes ↔ Verifies F.merge_rule H.hash_of (D.encoding root.now)
+            (parts_of D.encoding F.held self.now.proof) operation) }
+    {
+        let operation = encoded_update(alloc, key, value, &self.next_key)?;
+        Ok(self.proof.verify::<H>(root, &operation))
+    }
+}
+
+// What a proof that could not be read shows: nothing. Out of memory it is not known.
+fn refused(e: Error) -> Result<bool, AllocError>
+    ensures ok { IfOk result (λ yes. (yes ≡ false) × (e ≡ Error.Memory → ⊥)) }
+    ensures err { IsErr result ↔ (e ≡ Error.Memory) }
+{
+    match e {
+        Error::Memory => Err(AllocError),
+        Error::EndOfBuffer
+        | Error::ExtraData
+        | Error::InvalidVarint
+        | Error::InvalidBool
+        | Error::InvalidEnum(_)
+        | Error::InvalidLength
+        | Error::Invalid => Ok(false),
+    }
+}
+
+/// Whether the bytes are those of a proof, of at most 122 digests and with a chunk of so many bytes, that shows that
+/// the key has the value in the state of this root: what is no proof, or has bytes after it, shows nothing. It fails
+/// only when out of memory (own).
+pub fn shows_value<F, H, K, V>(
+    alloc: Global,
+    width: usize,
+    root: &H::Digest,
+    key: &K,
+    value: &V,
+    bytes: &[u8],
+) -> Result<bool, AllocError>
+where
+    F: Graftable + PendingOf<H::Digest>,
+    H: HashFunction,
+    K: Key,
+    V: FixedValue,
+    ensures { let format : Format = record {
+      rule = F.merge_rule;
+      hash = H.hash_of;
+      width = width;
+      size = H.Digest.SIZE;
+      most = 122;
+      IsPending = F.is_pending;
+      pending = F.pending_encoding;
+      IsKey = λ next_key. K.after tt next_key ≡ Ok [];
+    } in
+        IfOk result (λ yes. IsTrue yes ↔ ShowsUpdate format (H.Digest.encoding root.now)
+        (λ next_key. fixed_encoding K.SIZE V.SIZE (update (K.encoding key.now) (V.encoding value.now) next_key)) bytes.now) }
+{
+    let limits = ((width, MAX_PROOF_DIGESTS_PER_ELEMENT), ());
+    let mut cursor = Cursor::new(bytes);
+    match KeyValueProof::<F, K, H::Digest>::read_cfg(alloc, &mut cursor, &limits) {
+        Err(e) => refused(e),
+        Ok(proof) => {
+            if !cursor.is_empty() {
+                return Ok(false);
+            }
+            proof.verify::<H, V>(alloc, root, key, value)
+        }
+    }
+}
