@@ -3,4 +3,3 @@ pub mod Stores
 pub mod Runs
 pub mod Honest
 pub mod Widths
-pub mod Showing

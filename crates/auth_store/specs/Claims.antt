@@ -3,7 +3,7 @@ use Rattle.std.specs.Prelude.{◌≡◌, ℕ, List, Option, Some}
 use Rattle.merkle_forest.specs.Forest.{Rule}
 use Rattle.merkle_forest.specs.Hashing.{Hash}
 use Rattle.state_ops.specs.Operation.{fixed_encoding, update}
-use Rattle.state_proofs.specs.Encoded.{Format, ShowsUpdate}
+use Rattle.state_proofs.specs.Encoded.{Format, format_of, ShowsUpdate}
 use Rattle.auth_store.specs.History.{History, latest_map}
 use Rattle.auth_store.specs.Map.{value_at}
 
@@ -26,7 +26,7 @@ pub record Terms : Type 1 where
 -- are one.
 abbrev pub terms : Rule → Hash → ℕ → ℕ → (Option (List ℕ) → Type 0) → (Option (List ℕ) → List ℕ) → (List ℕ → Type 0) → ℕ → ℕ → Terms
 terms rule hash width size IsPending pending IsKey key_size value_size = record {
-  format = record { rule = rule; hash = hash; width = width; size = size; most = 122; IsPending = IsPending; pending = pending; IsKey = IsKey };
+  format = format_of rule hash width size IsPending pending IsKey;
   key_size = key_size;
   value_size = value_size;
 }

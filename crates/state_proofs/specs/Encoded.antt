@@ -56,6 +56,19 @@ pub record Format : Type 1 where
   pub pending : Option (List ℕ) → List ℕ
   pub IsKey : List ℕ → Type 0
 
+-- the format of a family's trees, a hash function, chunks of `width` bytes and digests of `size`, of which a proof has up to 122
+abbrev pub format_of : Rule → Hash → ℕ → ℕ → (Option (List ℕ) → Type 0) → (Option (List ℕ) → List ℕ) → (List ℕ → Type 0) → Format
+format_of rule hash width size IsPending pending IsKey = record {
+  rule = rule;
+  hash = hash;
+  width = width;
+  size = size;
+  most = 122;
+  IsPending = IsPending;
+  pending = pending;
+  IsKey = IsKey;
+}
+
 -- the parts are within the limits of a proof over a range: a digest has `size` bytes, and there are up to `most`
 pub record FitsRange (IsPending : Option (List ℕ) → Type 0) (size most : ℕ) (proof : RangeParts) : Type 0 where
   pub leaves : proof.leaves ≤ 2 ^ 62

@@ -3,7 +3,7 @@
 ghost use Rattle.std.specs.Prelude.{◌≡◌, ◌<◌, ◌≤◌, ◌*◌, ◌^◌, ℕ, List, [], length, slice_get, slice_index_or, Ok, Some, true};
 ghost use Rattle.merkle_forest.specs.Hashing.{Hash};
 ghost use Rattle.state_proofs.specs.Canonical.{Setting, State, canonical_root};
-ghost use Rattle.state_proofs.specs.Encoded.{Format, ShowsOperation, ShowsUpdate};
+ghost use Rattle.state_proofs.specs.Encoded.{format_of, ShowsOperation, ShowsUpdate};
 ghost use Rattle.state_proofs.specs.Honest.{honest_parts, operation_proof, key_value_proof};
 ghost use Rattle.state_proofs.specs.Verified.{Verifies};
 
@@ -46,16 +46,8 @@ pub fn honest_bytes_show_the_operation<
           grafting_height =
               grafting_height;
         } in
-        let format : Format = record {
-          rule = F.merge_rule;
-          hash = H.hash_of;
-          width = width;
-          size = H.Digest.SIZE;
-          most = 122;
-          IsPending = F.is_pending;
-          pending = F.pending_encoding;
-          IsKey = λ key. K.after tt key ≡ Ok [];
-        } in
+        let is_key = λ (key : List ℕ). K.after tt key ≡ Ok [] in
+        let format = format_of F.merge_rule H.hash_of width H.Digest.SIZE F.is_pending F.pending_encoding is_key in
         ShowsOperation format (canonical_root setting state) (slice_index_or state.operations location [])
         (operation_proof F.pending_encoding setting state location)) }
 {
@@ -77,16 +69,8 @@ pub fn honest_bytes_show_the_update<F: Graftable + PendingOf<H::Digest>, H: Hash
           grafting_height =
               grafting_height;
         } in
-        let format : Format = record {
-          rule = F.merge_rule;
-          hash = H.hash_of;
-          width = width;
-          size = H.Digest.SIZE;
-          most = 122;
-          IsPending = F.is_pending;
-          pending = F.pending_encoding;
-          IsKey = λ key. K.after tt key ≡ Ok [];
-        } in
+        let is_key = λ (key : List ℕ). K.after tt key ≡ Ok [] in
+        let format = format_of F.merge_rule H.hash_of width H.Digest.SIZE F.is_pending F.pending_encoding is_key in
         ShowsUpdate format (canonical_root setting state) update (key_value_proof F.pending_encoding setting state location next_key)) }
 {
     honest_bytes_show_the_operation::<F, H, K>();

@@ -1,9 +1,9 @@
 //! Proofs of a key's value.
 
-ghost use Rattle.std.specs.Prelude.{◌≡◌, ◌⊎◌, ◌↔◌, ◌++◌, [], false, IsTrue, IsErr, IfOk, length, Ok, OnOk, OnErr};
+ghost use Rattle.std.specs.Prelude.{◌≡◌, ◌⊎◌, ◌↔◌, ◌++◌, ℕ, List, [], false, IsTrue, IsErr, IfOk, length, Ok, OnOk, OnErr};
 ghost use Rattle.merkle_forest.specs.Codec.{Extends, LacksAfter, Reads};
 ghost use Rattle.state_ops.specs.Operation.{fixed_encoding, update};
-ghost use Rattle.state_proofs.specs.Encoded.{key_value_proof_encoding, after_operation_proof, after_key_value_proof, Format, OperationProofLacks, ShowsUpdate};
+ghost use Rattle.state_proofs.specs.Encoded.{key_value_proof_encoding, after_operation_proof, after_key_value_proof, format_of, OperationProofLacks, ShowsUpdate};
 ghost use Rattle.state_proofs.specs.ProofsCode.{parts_of};
 ghost use Rattle.state_proofs.specs.Verified.{Verifies};
 
@@ -171,16 +171,8 @@ where
     H: HashFunction,
     K: Key,
     V: FixedValue,
-    ensures { let format : Format = record {
-      rule = F.merge_rule;
-      hash = H.hash_of;
-      width = width;
-      size = H.Digest.SIZE;
-      most = 122;
-      IsPending = F.is_pending;
-      pending = F.pending_encoding;
-      IsKey = λ next_key. K.after tt next_key ≡ Ok [];
-    } in
+    ensures { let is_key = λ (key : List ℕ). K.after tt key ≡ Ok [] in
+        let format = format_of F.merge_rule H.hash_of width H.Digest.SIZE F.is_pending F.pending_encoding is_key in
         IfOk result (λ yes. IsTrue yes ↔ ShowsUpdate format (H.Digest.encoding root.now)
         (λ next_key. fixed_encoding K.SIZE V.SIZE (update (K.encoding key.now) (V.encoding value.now) next_key)) bytes.now) }
 {

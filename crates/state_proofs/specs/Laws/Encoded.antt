@@ -22,6 +22,16 @@ pub record Grammar (digest held : List ℕ → Outcome) (IsPending : Option (Lis
   pub once : (d e : Option (List ℕ)) (rest more : List ℕ) → IsPending d → IsPending e
       → pending d ++ rest ≡ pending e ++ more → (d ≡ e) × (rest ≡ more)
 
+-- the grammar of these three laws
+pub grammar_of : {digest held : List ℕ → Outcome} {IsPending : Option (List ℕ) → Type 0}
+    {pending : Option (List ℕ) → List ℕ} {size : ℕ}
+    → ((bytes : List ℕ) → digest bytes ≡ after_fixed size bytes)
+    → ((d : Option (List ℕ)) (rest : List ℕ) → IsPending d → held (pending d ++ rest) ≡ Ok rest)
+    → ((d e : Option (List ℕ)) (rest more : List ℕ) → IsPending d → IsPending e
+      → pending d ++ rest ≡ pending e ++ more → (d ≡ e) × (rest ≡ more))
+    → Grammar digest held IsPending pending size
+grammar_of any again once = record { any = any; again = again; once = once }
+
 within_all : (v : Option (List ℕ)) → IfSome v (λ d. Unit {0})
 within_all None = tt
 within_all (Some d) = tt

@@ -2,8 +2,8 @@ use Rattle.std.proofs.Common.{◌≡◌, ◌<◌, ◌^◌, ◌++◌, List, ℕ, 
 use Rattle.merkle_forest.specs.Codec.{Outcome, ◌>>=◌}
 use Rattle.merkle_forest.specs.Laws.Lists.{bind_ok}
 use Rattle.state_ops.specs.Operation.{update, fixed_encoding}
-use Rattle.state_proofs.specs.Encoded.{Format, Fits, ShowsUpdate, operation_proof_encoding, key_value_proof_encoding, after_operation_proof, after_key_value_proof}
-use Rattle.state_proofs.specs.Laws.Encoded.{Grammar}
+use Rattle.state_proofs.specs.Encoded.{Format, format_of, Fits, ShowsUpdate, operation_proof_encoding, key_value_proof_encoding, after_operation_proof, after_key_value_proof}
+use Rattle.state_proofs.specs.Laws.Encoded.{Grammar, grammar_of}
 use Rattle.state_proofs.specs.Laws.Reading.{read_operation_fits}
 use Rattle.state_proofs.specs.Laws.Showing.{shows_read, shows_exactly, refuses_none, refused_shows, answered_alike}
 use Rattle.state_proofs.specs.ProofsCode.{parts_of}
@@ -12,27 +12,15 @@ use Rattle.state_proofs.proofs.ordered.shows_value.Goals as goal
 
 pub returns-in-Err : goal.returns-in-Err
 returns-in-Err g c =
-    let format : Format = record {
-      rule = g.F.Family.merge_rule;
-      hash = g.H.HashFunction.hash_of;
-      width = c.args.width;
-      size = g.H.Digest.FixedSize.SIZE;
-      most = 122;
-      IsPending = g.F.PendingOf.is_pending;
-      pending = g.F.PendingOf.pending_encoding;
-      IsKey = λ next_key. g.K.Read.after tt next_key ≡ Ok [];
-    } in
+    let format : Format = format_of g.F.Family.merge_rule g.H.HashFunction.hash_of c.args.width
+    g.H.Digest.FixedSize.SIZE g.F.PendingOf.is_pending g.F.PendingOf.pending_encoding
+    (λ next_key. g.K.Read.after tt next_key ≡ Ok []) in
     let update_of : List ℕ → List ℕ = λ next_key.
     fixed_encoding g.K.FixedSize.SIZE g.V.FixedSize.SIZE
     (update (g.K.Write.encoding c.args.key.now) (g.V.Write.encoding c.args.value.now) next_key) in
     let grammar : Grammar (g.H.Digest.Read.after tt) g.F.PendingOf.pending_after g.F.PendingOf.is_pending
-    g.F.PendingOf.pending_encoding g.H.Digest.FixedSize.SIZE =
-    record {
-      any = g.met.H.Digest.Digest.any_bytes;
-      again = g.met.F.PendingOf.pending_again;
-      once =
-          g.met.F.PendingOf.pending_once;
-    } in
+    g.F.PendingOf.pending_encoding g.H.Digest.FixedSize.SIZE = grammar_of
+    g.met.H.Digest.Digest.any_bytes g.met.F.PendingOf.pending_again g.met.F.PendingOf.pending_once in
     refused_shows (ShowsUpdate format (g.H.Digest.Write.encoding c.args.root.now) update_of c.args.bytes.now)
     c.in-Err.e c.refused.result c.refused.ensures.ok (λ it.
     let read = shows_read format (omega arith) (g.H.Digest.Read.after tt) g.F.PendingOf.pending_after
@@ -44,27 +32,15 @@ returns-in-Err g c =
 
 pub returns-then-not-is_empty : goal.returns-then-not-is_empty
 returns-then-not-is_empty g c =
-    let format : Format = record {
-      rule = g.F.Family.merge_rule;
-      hash = g.H.HashFunction.hash_of;
-      width = c.args.width;
-      size = g.H.Digest.FixedSize.SIZE;
-      most = 122;
-      IsPending = g.F.PendingOf.is_pending;
-      pending = g.F.PendingOf.pending_encoding;
-      IsKey = λ next_key. g.K.Read.after tt next_key ≡ Ok [];
-    } in
+    let format : Format = format_of g.F.Family.merge_rule g.H.HashFunction.hash_of c.args.width
+    g.H.Digest.FixedSize.SIZE g.F.PendingOf.is_pending g.F.PendingOf.pending_encoding
+    (λ next_key. g.K.Read.after tt next_key ≡ Ok []) in
     let update_of : List ℕ → List ℕ = λ next_key.
     fixed_encoding g.K.FixedSize.SIZE g.V.FixedSize.SIZE
     (update (g.K.Write.encoding c.args.key.now) (g.V.Write.encoding c.args.value.now) next_key) in
     let grammar : Grammar (g.H.Digest.Read.after tt) g.F.PendingOf.pending_after g.F.PendingOf.is_pending
-    g.F.PendingOf.pending_encoding g.H.Digest.FixedSize.SIZE =
-    record {
-      any = g.met.H.Digest.Digest.any_bytes;
-      again = g.met.F.PendingOf.pending_again;
-      once =
-          g.met.F.PendingOf.pending_once;
-    } in (
+    g.F.PendingOf.pending_encoding g.H.Digest.FixedSize.SIZE = grammar_of
+    g.met.H.Digest.Digest.any_bytes g.met.F.PendingOf.pending_again g.met.F.PendingOf.pending_once in (
       λ e. absurd cc,
       λ it.
           let read = shows_read format (omega arith) (g.H.Digest.Read.after tt) g.F.PendingOf.pending_after
@@ -76,16 +52,9 @@ returns-then-not-is_empty g c =
 
 pub returns-else-not-is_empty : goal.returns-else-not-is_empty
 returns-else-not-is_empty g c =
-    let format : Format = record {
-      rule = g.F.Family.merge_rule;
-      hash = g.H.HashFunction.hash_of;
-      width = c.args.width;
-      size = g.H.Digest.FixedSize.SIZE;
-      most = 122;
-      IsPending = g.F.PendingOf.is_pending;
-      pending = g.F.PendingOf.pending_encoding;
-      IsKey = λ next_key. g.K.Read.after tt next_key ≡ Ok [];
-    } in
+    let format : Format = format_of g.F.Family.merge_rule g.H.HashFunction.hash_of c.args.width
+    g.H.Digest.FixedSize.SIZE g.F.PendingOf.is_pending g.F.PendingOf.pending_encoding
+    (λ next_key. g.K.Read.after tt next_key ≡ Ok []) in
     let update_of : List ℕ → List ℕ = λ next_key.
     fixed_encoding g.K.FixedSize.SIZE g.V.FixedSize.SIZE
     (update (g.K.Write.encoding c.args.key.now) (g.V.Write.encoding c.args.value.now) next_key) in
@@ -93,13 +62,8 @@ returns-else-not-is_empty g c =
     let held : List ℕ → Outcome = g.F.PendingOf.pending_after in
     let key : List ℕ → Outcome = g.K.Read.after tt in
     let grammar : Grammar digest held g.F.PendingOf.is_pending g.F.PendingOf.pending_encoding
-    g.H.Digest.FixedSize.SIZE =
-    record {
-      any = g.met.H.Digest.Digest.any_bytes;
-      again = g.met.F.PendingOf.pending_again;
-      once =
-          g.met.F.PendingOf.pending_once;
-    } in
+    g.H.Digest.FixedSize.SIZE = grammar_of
+    g.met.H.Digest.Digest.any_bytes g.met.F.PendingOf.pending_again g.met.F.PendingOf.pending_once in
     let root : List ℕ = g.H.Digest.Write.encoding c.args.root.now in
     let proof : Parts = parts_of g.H.Digest.Write.encoding g.F.PendingOf.held c.in-Ok.proof.proof in
     let next : List ℕ = g.K.Write.encoding c.in-Ok.proof.next_key in
