@@ -19,19 +19,23 @@ on_err (Err e) P p = p
 pub front-append : (old now more : List Operation) → now ≡ old ++ more → take (length old) now ≡ old
 front-append old now more is = ap (take (length old)) is ∙ take-append_seam old more
 
-pub front-append_twice : (old now whole more last : List Operation) → now ≡ old ++ more → whole ≡ now ++ last → take (length old) whole ≡ old
+pub front-append_twice : (old now whole more last : List Operation) → now ≡ old ++ more → whole ≡ now ++ last
+    → take (length old) whole ≡ old
 front-append_twice old now whole more last now-is is =
     front-append old whole (more ++ last) (is ∙ (ap (λ l. l ++ last) now-is ∙ append_assoc old more last))
 
 -- how long a log is with changes and a commit at its end
-pub committed_length : (log changes whole : List Operation) (metadata : Option (List ℕ)) → whole ≡ log ++ with_commit log changes metadata → length whole ≡ length log + length changes + 1
+pub committed_length : (log changes whole : List Operation) (metadata : Option (List ℕ))
+    → whole ≡ log ++ with_commit log changes metadata → length whole ≡ length log + length changes + 1
 committed_length log changes whole metadata is =
-    let long : length (with_commit log changes metadata) ≡ length changes + 1 = length-append changes (commit_floor metadata (inactivity_floor (log ++ changes)) ∷ []) in
+    let long : length (with_commit log changes metadata) ≡ length changes + 1 = length-append changes
+        (commit_floor metadata (inactivity_floor (log ++ changes)) ∷ []) in
     omega (arith, ap length is, length-append log (with_commit log changes metadata), long)
 
 -- changes with a commit after them that records the floor of all
 pub committed : (log changes now whole : List Operation) (metadata : Option (List ℕ)) (floor : ℕ) → now ≡ log ++ changes
-    → floor ≡ inactivity_floor now → whole ≡ now ++ commit_floor metadata floor ∷ [] → whole ≡ log ++ with_commit log changes metadata
+    → floor ≡ inactivity_floor now → whole ≡ now ++ commit_floor metadata floor ∷ []
+        → whole ≡ log ++ with_commit log changes metadata
 committed log changes now whole metadata floor now-is floor-is is =
     is ∙ (ap (λ l. l ++ commit_floor metadata floor ∷ []) now-is
     ∙ (append_assoc log changes (commit_floor metadata floor ∷ [])
@@ -39,7 +43,8 @@ committed log changes now whole metadata floor now-is floor-is is =
 
 module _ (setting : Setting) (key value : ℕ) where
   -- the commits of a log of few operations are few
-  pub commits_few : (log : List Operation) (count last : ℕ) (digest written : List ℕ) → Keeps setting key value log count last digest written → count < 2 ^ 62
+  pub commits_few : (log : List Operation) (count last : ℕ) (digest written : List ℕ)
+      → Keeps setting key value log count last digest written → count < 2 ^ 62
   commits_few log count last digest written keeps =
       let shorter = length-log_of (history_of log) in
       let sized = ap length keeps.whole in
@@ -48,40 +53,52 @@ module _ (setting : Setting) (key value : ℕ) where
   -- the log leads to the latest state
   pub latest_kept : (log : List Operation) (count last : ℕ) (digest written : List ℕ)
       → Keeps setting key value log count last digest written → replayed [] log ≡ latest_map (history_of log)
-  latest_kept log count last digest written keeps = ap (replayed []) keeps.whole ∙ replayed-log_of (history_of log) keeps.states
+  latest_kept log count last digest written keeps = ap (replayed []) keeps.whole
+      ∙ replayed-log_of (history_of log) keeps.states
 
   -- the next log is that of the history with one commit more
-  pub next_log : (words : List Word) (metadata : Option (List ℕ)) (log : List Operation) (count last : ℕ) (digest written : List ℕ)
+  pub next_log : (words : List Word) (metadata : Option (List ℕ)) (log : List Operation) (count last : ℕ)
+      (digest written : List ℕ)
       → Keeps setting key value log count last digest written
-      → log ++ with_commit log (batch_operations (replayed [] log) (map_after words (replayed [] log))) metadata ≡ log_of (commit_after words metadata (history_of log))
+      → log ++ with_commit log (batch_operations (replayed [] log) (map_after words (replayed [] log))) metadata ≡
+          log_of (commit_after words metadata (history_of log))
   next_log words metadata log count last digest written keeps =
-      ap (λ state. log ++ with_commit log (batch_operations state (map_after words state)) metadata) (latest_kept log count last digest written keeps)
-      ∙ ap (λ l. l ++ with_commit l (batch_operations (latest_map (history_of log)) (map_after words (latest_map (history_of log)))) metadata) keeps.whole
+      ap (λ state. log ++ with_commit log (batch_operations state (map_after words state)) metadata)
+          (latest_kept log count last digest written keeps)
+      ∙ ap (λ l. l ++ with_commit l (batch_operations (latest_map (history_of log))
+          (map_after words (latest_map (history_of log)))) metadata) keeps.whole
 
-  states_after : (words : List Word) (metadata : Option (List ℕ)) (h : History) → AreStates h → AreStates (commit_after words metadata h)
+  states_after : (words : List Word) (metadata : Option (List ℕ)) (h : History) → AreStates h
+      → AreStates (commit_after words metadata h)
   states_after words metadata h states = (IsState-map_after words (latest_map h) (IsState-latest_map h states), states)
 
   -- it stands for that history
-  pub next_stands : (words : List Word) (metadata : Option (List ℕ)) (log next : List Operation) (count last : ℕ) (digest written : List ℕ)
+  pub next_stands : (words : List Word) (metadata : Option (List ℕ)) (log next : List Operation) (count last : ℕ)
+      (digest written : List ℕ)
       → Keeps setting key value log count last digest written
       → next ≡ log ++ with_commit log (batch_operations (replayed [] log) (map_after words (replayed [] log))) metadata
       → history_of next ≡ commit_after words metadata (history_of log)
   next_stands words metadata log next count last digest written keeps is =
       ap history_of (is ∙ next_log words metadata log count last digest written keeps)
-      ∙ history_of-log_of (commit_after words metadata (history_of log)) (states_after words metadata (history_of log) keeps.states)
+      ∙ history_of-log_of (commit_after words metadata (history_of log))
+          (states_after words metadata (history_of log) keeps.states)
 
-  pub next_keeps : (words : List Word) (metadata : Option (List ℕ)) (log changes next : List Operation) (count last floor : ℕ) (digest root written now : List ℕ)
+  pub next_keeps : (words : List Word) (metadata : Option (List ℕ)) (log changes next : List Operation)
+      (count last floor : ℕ) (digest root written now : List ℕ)
       → Keeps setting key value log count last digest written
       → changes ≡ batch_operations (replayed [] log) (map_after words (replayed [] log))
       → next ≡ log ++ with_commit log changes metadata → floor ≡ last_floor next → length next ≤ 2 ^ 62
       → root ≡ canonical_root setting (state_of_log key value next)
       → now ≡ written ++ log_bytes key value (with_commit log changes metadata)
       → Keeps setting key value next (count + 1) floor root now
-  next_keeps words metadata log changes next count last floor digest root written now keeps changes-is is floor-is few root-is now-is =
+  next_keeps words metadata log changes next count last floor digest root written now keeps changes-is is floor-is few
+      root-is now-is =
       let h : History = history_of log in
-      let whole : next ≡ log ++ with_commit log (batch_operations (replayed [] log) (map_after words (replayed [] log))) metadata =
+      let whole : next ≡ log ++ with_commit log (batch_operations (replayed [] log) (map_after words (replayed [] log)))
+          metadata =
       is ∙ ap (λ c. log ++ with_commit log c metadata) changes-is in
-      let stands : history_of next ≡ commit_after words metadata h = next_stands words metadata log next count last digest written keeps whole in
+      let stands : history_of next ≡ commit_after words metadata h = next_stands words metadata log next count last
+          digest written keeps whole in
       let sized : length (history_of next) ≡ length h + 1 = ap length stands ∙ omega arith in
       record {
         states = subst AreStates (sym stands) (states_after words metadata h keeps.states);
@@ -91,12 +108,15 @@ module _ (setting : Setting) (key value : ℕ) where
         few = few;
         root = root-is;
         bytes = now-is ∙ (ap (λ b. b ++ log_bytes key value (with_commit log changes metadata)) keeps.bytes
-            ∙ (sym (flat_map-append (fixed_encoding key value) log (with_commit log changes metadata)) ∙ ap (log_bytes key value) (sym is)));
+            ∙ (sym (flat_map-append (fixed_encoding key value) log (with_commit log changes metadata))
+                ∙ ap (log_bytes key value) (sym is)));
       }
 
   -- the first log: a commit of nothing
-  pub first_keeps : (log : List Operation) (floor : ℕ) (root written : List ℕ) → log ≡ log_of [] → floor ≡ last_floor log
-      → root ≡ canonical_root setting (state_of_log key value log) → written ≡ log_bytes key value log → Keeps setting key value log 0 floor root written
+  pub first_keeps : (log : List Operation) (floor : ℕ) (root written : List ℕ) → log ≡ log_of []
+      → floor ≡ last_floor log
+      → root ≡ canonical_root setting (state_of_log key value log) → written ≡ log_bytes key value log
+          → Keeps setting key value log 0 floor root written
   first_keeps log floor root written is floor-is root-is written-is =
       let none : history_of log ≡ [] = ap history_of is in
       record {
@@ -110,10 +130,12 @@ module _ (setting : Setting) (key value : ℕ) where
       }
 
   -- how long the next log is
-  pub next_length : (words : List Word) (metadata : Option (List ℕ)) (log changes : List Operation) (count last : ℕ) (digest written : List ℕ)
+  pub next_length : (words : List Word) (metadata : Option (List ℕ)) (log changes : List Operation) (count last : ℕ)
+      (digest written : List ℕ)
       → Keeps setting key value log count last digest written
       → changes ≡ batch_operations (replayed [] log) (map_after words (replayed [] log))
       → length (log_of (commit_after words metadata (history_of log))) ≡ length log + length changes + 1
   next_length words metadata log changes count last digest written keeps changes-is =
       committed_length log changes (log_of (commit_after words metadata (history_of log))) metadata
-      (sym (ap (λ c. log ++ with_commit log c metadata) changes-is ∙ next_log words metadata log count last digest written keeps))
+      (sym (ap (λ c. log ++ with_commit log c metadata) changes-is
+          ∙ next_log words metadata log count last digest written keeps))

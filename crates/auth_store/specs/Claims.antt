@@ -24,7 +24,8 @@ pub record Terms : Type 1 where
 -- The terms of a family's trees, a hash function, chunks of `width` bytes and digests of `size`, of which a proof has
 -- up to 122; the family says which pending digests a proof may hold and how they are encoded, the keys which bytes
 -- are one.
-abbrev pub terms : Rule → Hash → ℕ → ℕ → (Option (List ℕ) → Type 0) → (Option (List ℕ) → List ℕ) → (List ℕ → Type 0) → ℕ → ℕ → Terms
+abbrev pub terms : Rule → Hash → ℕ → ℕ → (Option (List ℕ) → Type 0) → (Option (List ℕ) → List ℕ) → (List ℕ → Type 0) → ℕ
+    → ℕ → Terms
 terms rule hash width size IsPending pending IsKey key_size value_size = record {
   format = format_of rule hash width size IsPending pending IsKey;
   key_size = key_size;
@@ -34,4 +35,5 @@ terms rule hash width size IsPending pending IsKey key_size value_size = record 
 -- The bytes show the claim under this root. That a key has a value is shown by a proof of the update that says so.
 abbrev pub Shows : Terms → Claim → List ℕ → List ℕ → Type 0
 Shows terms (has_value key value) root bytes =
-    ShowsUpdate terms.format root (λ next_key. fixed_encoding terms.key_size terms.value_size (update key value next_key)) bytes
+    ShowsUpdate terms.format root (λ next_key. fixed_encoding terms.key_size terms.value_size
+        (update key value next_key)) bytes

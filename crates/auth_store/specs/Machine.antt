@@ -20,7 +20,8 @@ pub record Machine : Type 0 where
   pub value_size : ℕ
 
 abbrev pub machine : Rule → Hash → (Option (List ℕ) → List ℕ) → ℕ → ℕ → ℕ → Machine
-machine rule hash pending width key value = record { setting = setting_of_width rule hash width; pending = pending; key_size = key; value_size = value }
+machine rule hash pending width key value = record { setting = setting_of_width rule hash width; pending = pending;
+    key_size = key; value_size = value }
 
 -- the history of the open store, where one is open
 abbrev pub State : Type 0
@@ -53,7 +54,8 @@ pub data Answer : Type 0 where
 
 -- the key's value with its honest proof, where the latest map has the key
 abbrev pub proof_of : Machine → History → List ℕ → Option (List ℕ × List ℕ)
-proof_of m history key = option_map (λ v. (v, honest_proof m.pending m.setting m.key_size m.value_size history key)) (value_at (latest_map history) key)
+proof_of m history key = option_map (λ v. (v, honest_proof m.pending m.setting m.key_size m.value_size history key))
+    (value_at (latest_map history) key)
 
 -- the history after a request to an open store
 abbrev pub history_after : Request → History → History
@@ -63,7 +65,8 @@ history_after _ history = history
 -- what an open store with this history answers
 abbrev pub answer_of : Machine → Request → History → Answer
 answer_of m ask_open history = still_open
-answer_of m (ask_commit words metadata) history = committed (root_of_history m.setting m.key_size m.value_size (commit_after words metadata history))
+answer_of m (ask_commit words metadata) history = committed (root_of_history m.setting m.key_size m.value_size
+    (commit_after words metadata history))
 answer_of m (ask_get key) history = value (value_at (latest_map history) key)
 answer_of m ask_root history = root_is (root_of_history m.setting m.key_size m.value_size history)
 answer_of m ask_commits history = commits_are (length history)
@@ -124,7 +127,8 @@ abbrev pub IsRun : Machine → State → List Request → List Answer → State 
 IsRun m state [] [] last = last ≡ state
 IsRun m state [] (answer ∷ answers) last = ⊥
 IsRun m state (request ∷ requests) [] last = ⊥
-IsRun m state (request ∷ requests) (answer ∷ answers) last = (next : State) × IsStep m state request answer next × IsRun m next requests answers last
+IsRun m state (request ∷ requests) (answer ∷ answers) last = (next : State) × IsStep m state request answer next
+    × IsRun m next requests answers last
 
 -- what is written of a state: nothing, or the bytes of the history's log
 abbrev pub written_of : ℕ → ℕ → State → List ℕ

@@ -12,7 +12,8 @@ use Rattle.auth_store.specs.declared.session.Answer.TheVariants as answers
 -- what a step asks, given how keys and values are encoded
 abbrev pub request_of : {K V : Type 0} → (K → List ℕ) → (V → List ℕ) → Step K V → Request
 request_of key value (Open sizes) = ask_open
-request_of key value (Commit batch metadata) = ask_commit (meanings key value batch.words.items) (option_map value metadata)
+request_of key value (Commit batch metadata) = ask_commit (meanings key value batch.words.items)
+    (option_map value metadata)
 request_of key value (Get k) = ask_get (key k)
 request_of key value Root = ask_root
 request_of key value Commits = ask_commits

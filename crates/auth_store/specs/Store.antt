@@ -24,7 +24,8 @@ grafting_height width = trailing_zeros w64 (8 * width)
 
 -- the setting of chunks of this width: 8 times the width is 2 to the grafting height
 abbrev pub setting_of_width : Rule → Hash → ℕ → Setting
-setting_of_width rule hash width = record { rule = rule; hash = hash; width = width; grafting_height = grafting_height width }
+setting_of_width rule hash width = record { rule = rule; hash = hash; width = width; grafting_height = grafting_height
+    width }
 
 -- the fixed encodings of a log's operations, from the sizes of keys and of values
 abbrev pub encodings : ℕ → ℕ → List Operation → List (List ℕ)
@@ -36,7 +37,8 @@ log_bytes key value log = flat_map (fixed_encoding key value) log
 
 -- what is hashed of a log
 abbrev pub state_of_log : ℕ → ℕ → List Operation → State
-state_of_log key value log = record { operations = encodings key value log; bits = activity_bits log; floor = last_floor log }
+state_of_log key value log = record { operations = encodings key value log; bits = activity_bits log; floor = last_floor
+    log }
 
 -- the floor that the last commit of the history's log records
 abbrev pub floor_of : History → ℕ
@@ -52,10 +54,12 @@ root_of_history setting key value history = canonical_root setting (state_of_his
 
 -- the history with the commit of a batch
 abbrev pub commit_after : List Word → Option (List ℕ) → History → History
-commit_after words metadata history = record { map = map_after words (latest_map history); metadata = metadata } ∷ history
+commit_after words metadata history = record { map = map_after words (latest_map history); metadata = metadata } ∷
+    history
 
 -- what a store keeps of a history: its log, the number of commits and the last floor, the root, and the written bytes
-pub record Keeps (setting : Setting) (key value : ℕ) (log : List Operation) (count last : ℕ) (digest written : List ℕ) : Type 0 where
+pub record Keeps (setting : Setting) (key value : ℕ) (log : List Operation) (count last : ℕ) (digest written : List ℕ) :
+    Type 0 where
   pub states : AreStates (history_of log)
   pub whole : log ≡ log_of (history_of log)
   pub commits : count ≡ length (history_of log)

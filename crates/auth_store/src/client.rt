@@ -1,8 +1,8 @@
 //! The light client: it checks claims about a state against the state's root.
 
 ghost use Rattle.std.specs.Prelude.{◌≡◌, ◌↔◌, [], ℕ, List, Ok, IfOk, IsTrue};
-ghost use Rattle.auth_store.specs.Claims.{Shows, terms};
-ghost use Rattle.auth_store.specs.ClaimsCode.{claim_of};
+ghost use Rattle.auth_store.specs.Claims.{terms};
+ghost use Rattle.auth_store.specs.ClaimsCode.{ShowsClaim};
 
 pub mod laws;
 
@@ -33,8 +33,8 @@ where
     V: FixedValue,
     ensures { let is_key = λ (key : List ℕ). K.after tt key ≡ Ok [] in
         let terms = terms F.merge_rule H.hash_of N H.Digest.SIZE F.is_pending F.pending_encoding is_key K.SIZE V.SIZE in
-        let said = claim_of K.encoding V.encoding claim.now in
-        IfOk result (λ yes. IsTrue yes ↔ Shows terms said (H.Digest.encoding root.now) bytes.now) }
+        IfOk result (λ yes. IsTrue yes
+        ↔ ShowsClaim K.encoding V.encoding terms claim.now (H.Digest.encoding root.now) bytes.now) }
 {
     match claim {
         Claim::Value { key, value } => shows_value::<F, H, K, V>(alloc, N, root, key, value, bytes),

@@ -34,7 +34,8 @@ where
     requires none { answers.old.items ≡ [] }
     requires room { vec_len answers.old + vec_len steps ≤ vec_capacity answers.old }
     ensures { IsRun (machine F.merge_rule H.hash_of F.pending_encoding N K.SIZE V.SIZE) session.old.store
-        (requests_of K.encoding V.encoding steps.items) (meanings_of H.Digest.encoding V.encoding answers.new.items) session.new.store }
+        (requests_of K.encoding V.encoding steps.items) (meanings_of H.Digest.encoding V.encoding answers.new.items)
+            session.new.store }
 {
     let mut steps = steps.into_iter();
     while let Some(step) = steps.next() {
@@ -54,8 +55,10 @@ where
     H: HashFunction,
     K: Key,
     V: FixedValue,
-    ensures ran { IfOk result (λ answers. IsRun (machine F.merge_rule H.hash_of F.pending_encoding N K.SIZE V.SIZE) session.old.store
-        (requests_of K.encoding V.encoding steps.items) (meanings_of H.Digest.encoding V.encoding answers.items) session.new.store) }
+    ensures ran { IfOk result (λ answers. IsRun (machine F.merge_rule H.hash_of F.pending_encoding N K.SIZE V.SIZE)
+        session.old.store
+        (requests_of K.encoding V.encoding steps.items) (meanings_of H.Digest.encoding V.encoding answers.items)
+            session.new.store) }
     ensures err { OnErr result (session.new.store ≡ session.old.store) }
 {
     let mut answers = Vec::with_capacity(alloc, steps.len())?;

@@ -131,7 +131,8 @@ impl<F: Family, H: HashFunction, K: Key, V: FixedValue, const N: usize> Store<F,
         ensures err { OnErr result (self.new ≡ self.old) }
         ensures refused { let said = words.meanings K.encoding V.encoding batch.words.items in
             let next = commit_after said (option_map V.encoding metadata) self.old in
-            IfErr result (λ e. (e ≡ StoreError.Memory) ⊎ ((e ≡ StoreError.NumberEnded) × (2 ^ 62 < length (spec.log_of next)))) }
+            IfErr result (λ e. (e ≡ StoreError.Memory) ⊎ ((e ≡ StoreError.NumberEnded)
+                × (2 ^ 62 < length (spec.log_of next)))) }
     {
         let changes = history::changes_of(self.alloc, self.log.operations(), &batch)?;
         if changes.len() as u64 >= MAX_OPERATIONS - self.log.len() as u64 {
@@ -165,7 +166,8 @@ impl<F: Family, H: HashFunction, K: Key, V: FixedValue, const N: usize> Store<F,
 
     /// The root of the history. It never refuses.
     pub fn root(&self) -> Result<H::Digest, StoreError>
-        ensures { IsOkAnd result (λ root. H.Digest.encoding root ≡ root_of_history (setting_of_width F.merge_rule H.hash_of N) K.SIZE V.SIZE self.now) }
+        ensures { IsOkAnd result (λ root. H.Digest.encoding root ≡ root_of_history
+            (setting_of_width F.merge_rule H.hash_of N) K.SIZE V.SIZE self.now) }
     {
         Ok(self.root)
     }

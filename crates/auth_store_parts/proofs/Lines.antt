@@ -41,12 +41,14 @@ pub number_none : (text : List ℕ) → (IsNumber text → ⊥) → number_of te
 unfolding number_of
 number_none text h = ap (λ b. cond b (Some (decimal_value text)) None) (otherwise _ (λ t. h (passes_number text t)))
 
-pub key_some : (text : List ℕ) (key : FixedBytes 8) → IsKey text → decode_of text ≡ Ok key.bytes → key_of text ≡ Some key
+pub key_some : (text : List ℕ) (key : FixedBytes 8) → IsKey text → decode_of text ≡ Ok key.bytes
+    → key_of text ≡ Some key
 unfolding key_of
 key_some text key is decoded =
     ap (λ b. cond b (key_from (decode_of text)) None) ((Decides-eqb (length text) 16).1 is.0) ∙ ap key_from decoded
 
-undecoded : (text : List ℕ) (decoded : Result (List ℕ) FromHexError) → decode_of text ≡ decoded → (IsKey text → ⊥) → length text ≡ 16 → key_from decoded ≡ None
+undecoded : (text : List ℕ) (decoded : Result (List ℕ) FromHexError) → decode_of text ≡ decoded → (IsKey text → ⊥)
+    → length text ≡ 16 → key_from decoded ≡ None
 undecoded text (Err e) is h sized = refl
 undecoded text (Ok bytes) is h sized = absurd (h (sized, (decode_of-ok text bytes is).1))
 
@@ -68,7 +70,8 @@ after-append [] rest = refl
 after-append (c ∷ words) rest =
     ap (λ b. cond b (after words (words ++ rest)) None) ((Decides-eqb c c).1 refl) ∙ after-append words rest
 
-one_more : (b c : ℕ) (text words rest : List ℕ) (o : Option (List ℕ)) → (o ≡ Some rest → text ≡ words ++ rest) → (t : Bool) → (t ≡ true → b ≡ c) → cond t o None ≡ Some rest → b ∷ text ≡ c ∷ (words ++ rest)
+one_more : (b c : ℕ) (text words rest : List ℕ) (o : Option (List ℕ)) → (o ≡ Some rest → text ≡ words ++ rest)
+    → (t : Bool) → (t ≡ true → b ≡ c) → cond t o None ≡ Some rest → b ∷ text ≡ c ∷ (words ++ rest)
 one_more b c text words rest o more true same h = let head = same refl in let tail = more h in cc
 one_more b c text words rest o more false same h = cc
 
@@ -86,6 +89,8 @@ never (Some x) h = absurd (h x refl)
 pub after-none : (words text : List ℕ) → ((rest : List ℕ) → text ≢ words ++ rest) → after words text ≡ None
 after-none words text h = never (after words text) (λ rest found. h rest (after-some words text rest found))
 
-pub after_is : (words text : List ℕ) (r : Option (Bor (List ℕ))) → MatchOption r ((rest : List ℕ) → text ≢ words ++ rest) (λ x. text ≡ words ++ x.now) → MatchOption r (after words text ≡ None) (λ x. after words text ≡ Some x.now)
+pub after_is : (words text : List ℕ) (r : Option (Bor (List ℕ)))
+    → MatchOption r ((rest : List ℕ) → text ≢ words ++ rest) (λ x. text ≡ words ++ x.now)
+        → MatchOption r (after words text ≡ None) (λ x. after words text ≡ Some x.now)
 after_is words text None h = after-none words text h
 after_is words text (Some x) h = ap (after words) h ∙ after-append words x.now

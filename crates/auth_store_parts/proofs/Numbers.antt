@@ -10,11 +10,13 @@ decimal_value_after-le n [] = omega arith
 decimal_value_after-le n (c ∷ cs) = let more = decimal_value_after-le (n * 10 + (c - 48)) cs in omega arith
 
 -- one more digit
-pub decimal_value_after-step : (n i : ℕ) (cs : List ℕ) → i < length cs → decimal_value_after n (drop i cs) ≡ decimal_value_after (n * 10 + (get_or cs i 0 - 48)) (drop (i + 1) cs)
+pub decimal_value_after-step : (n i : ℕ) (cs : List ℕ) → i < length cs
+    → decimal_value_after n (drop i cs) ≡ decimal_value_after (n * 10 + (get_or cs i 0 - 48)) (drop (i + 1) cs)
 decimal_value_after-step n i cs h = rw (add-one, drop-cons cs i 0) refl
 
 -- a value that passes a limit with the next digit passes it with all digits
-pub decimal_value_after-past : (n i limit : ℕ) (cs : List ℕ) → i < length cs → limit ≤ n * 10 + (get_or cs i 0 - 48) → limit ≤ decimal_value_after n (drop i cs)
+pub decimal_value_after-past : (n i limit : ℕ) (cs : List ℕ) → i < length cs → limit ≤ n * 10 + (get_or cs i 0 - 48)
+    → limit ≤ decimal_value_after n (drop i cs)
 decimal_value_after-past n i limit cs h past =
     let step = decimal_value_after-step n i cs h in
     let more = decimal_value_after-le (n * 10 + (get_or cs i 0 - 48)) (drop (i + 1) cs) in

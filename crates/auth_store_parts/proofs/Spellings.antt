@@ -34,9 +34,11 @@ numbered key number = ◌>>=◌ {B = FixedBytes 8 × ℕ} number (λ m. Some (ke
 
 -- a key and the number of the digits
 abbrev paired : Option (List ℕ) → Option (FixedBytes 8) → Option (FixedBytes 8 × ℕ)
-paired digits key = ◌>>=◌ {B = FixedBytes 8 × ℕ} digits (λ ds. ◌>>=◌ {B = FixedBytes 8 × ℕ} key (λ x. numbered x (number_of ds)))
+paired digits key = ◌>>=◌ {B = FixedBytes 8 × ℕ} digits (λ ds. ◌>>=◌ {B = FixedBytes 8 × ℕ} key
+    (λ x. numbered x (number_of ds)))
 
-joined : (d : Option (List ℕ)) (k : Option (FixedBytes 8)) (digits : List ℕ) (key : FixedBytes 8) (n : ℕ) → d ≡ Some digits → k ≡ Some key → number_of digits ≡ Some n → paired d k ≡ Some (key, n)
+joined : (d : Option (List ℕ)) (k : Option (FixedBytes 8)) (digits : List ℕ) (key : FixedBytes 8) (n : ℕ)
+    → d ≡ Some digits → k ≡ Some key → number_of digits ≡ Some n → paired d k ≡ Some (key, n)
 joined d k digits key n p q r =
     ap (λ o. paired o k) p ∙ ap (λ o. paired (Some digits) o) q ∙ ap (numbered key) r
 
@@ -56,28 +58,34 @@ unfolding after
 spelled_is_read Empty text h = ap line_of h
 spelled_is_read (New seed) text h = ap line_of h.1 ∙ ap (λ o. o >>= λ n. Some (New n)) (number_read seed h.0 h.2)
 spelled_is_read Open text h = ap line_of h
-spelled_is_read (Put key value) text h = ap line_of h.1 ∙ ap (λ o. o >>= λ p. Some (Put p.0 p.1)) (both_read key value h.0 h.2)
+spelled_is_read (Put key value) text h = ap line_of h.1 ∙ ap (λ o. o >>= λ p. Some (Put p.0 p.1))
+    (both_read key value h.0 h.2)
 spelled_is_read (Commit None) text h = ap line_of h
-spelled_is_read (Commit (Some metadata)) text h = ap line_of h.1 ∙ ap (λ o. o >>= λ n. Some (Commit (Some n))) (number_read metadata h.0 h.2)
+spelled_is_read (Commit (Some metadata)) text h = ap line_of h.1
+    ∙ ap (λ o. o >>= λ n. Some (Commit (Some n))) (number_read metadata h.0 h.2)
 spelled_is_read (Get key) text h = ap line_of h.1 ∙ ap (λ o. o >>= λ k. Some (Get k)) (key_read key h.0 h.2)
 spelled_is_read Root text h = ap line_of h
 spelled_is_read (Prove key) text h = ap line_of h.1 ∙ ap (λ o. o >>= λ k. Some (Prove k)) (key_read key h.0 h.2)
 spelled_is_read Proof text h = ap line_of h
-spelled_is_read (CheckValue key value) text h = ap line_of h.1 ∙ ap (λ o. o >>= λ p. Some (CheckValue p.0 p.1)) (both_read key value h.0 h.2)
+spelled_is_read (CheckValue key value) text h = ap line_of h.1
+    ∙ ap (λ o. o >>= λ p. Some (CheckValue p.0 p.1)) (both_read key value h.0 h.2)
 
 -- ---- a line that is read is spelled
 
 number_spelled : (n : ℕ) (text : List ℕ) → number_of text ≡ Some n → SpellsNumber n text
 unfolding number_of
 number_spelled n text h =
-    let step : (b : Bool) → (b ≡ true → IsNumber text) → cond b (Some (decimal_value text)) None ≡ Some n → SpellsNumber n text =
-    λ b passes found. elim b as (λ v. (v ≡ true → IsNumber text) → cond v (Some (decimal_value text)) None ≡ Some n → SpellsNumber n text) [
+    let step : (b : Bool) → (b ≡ true → IsNumber text) → cond b (Some (decimal_value text)) None ≡ Some n
+        → SpellsNumber n text =
+    λ b passes found. elim b as (λ v. (v ≡ true → IsNumber text) → cond v (Some (decimal_value text)) None ≡ Some n
+        → SpellsNumber n text) [
       | true ↦ λ p f. (p refl, ap (λ o. unwrap_or o 0) f)
       | false ↦ λ p f. absurd (cc f)
     ] passes found
     in step (is_number text) (passes_number text) h
 
-key_spelled_from : (key : FixedBytes 8) (text : List ℕ) → length text ≡ 16 → (decoded : Result (List ℕ) FromHexError) → decode_of text ≡ decoded → key_from decoded ≡ Some key → SpellsKey key text
+key_spelled_from : (key : FixedBytes 8) (text : List ℕ) → length text ≡ 16 → (decoded : Result (List ℕ) FromHexError)
+    → decode_of text ≡ decoded → key_from decoded ≡ Some key → SpellsKey key text
 key_spelled_from key text sized (Err e) is h = absurd (cc h)
 key_spelled_from key text sized (Ok bytes) is h =
     let same : bytes ≡ key.bytes = ap (λ (o : Option (FixedBytes 8)). (unwrap_or o key).bytes) h in
@@ -86,18 +94,23 @@ key_spelled_from key text sized (Ok bytes) is h =
 key_spelled : (key : FixedBytes 8) (text : List ℕ) → key_of text ≡ Some key → SpellsKey key text
 unfolding key_of
 key_spelled key text h =
-    let step : (b : Bool) → (b ≡ true → length text ≡ 16) → cond b (key_from (decode_of text)) None ≡ Some key → SpellsKey key text =
-    λ b sized found. elim b as (λ v. (v ≡ true → length text ≡ 16) → cond v (key_from (decode_of text)) None ≡ Some key → SpellsKey key text) [
+    let step : (b : Bool) → (b ≡ true → length text ≡ 16) → cond b (key_from (decode_of text)) None ≡ Some key
+        → SpellsKey key text =
+    λ b sized found. elim b as (λ v. (v ≡ true → length text ≡ 16) → cond v (key_from (decode_of text)) None ≡ Some key
+        → SpellsKey key text) [
       | true ↦ λ s f. key_spelled_from key text (s refl) _ refl f
       | false ↦ λ s f. absurd (cc f)
     ] sized found
     in step (eqb (length text) 16) ((Decides-eqb (length text) 16).0) h
 
-last_part : (key : FixedBytes 8) (p : FixedBytes 8 × ℕ) (o : Option ℕ) → numbered key o ≡ Some p → (o ≡ Some p.1) × (key ≡ p.0)
+last_part : (key : FixedBytes 8) (p : FixedBytes 8 × ℕ) (o : Option ℕ) → numbered key o ≡ Some p → (o ≡ Some p.1)
+    × (key ≡ p.0)
 last_part key p None h = absurd (cc h)
-last_part key p (Some m) h = (ap (λ (q : Option (FixedBytes 8 × ℕ)). Some ((unwrap_or q p).1)) h, ap (λ (q : Option (FixedBytes 8 × ℕ)). (unwrap_or q p).0) h)
+last_part key p (Some m) h = (ap (λ (q : Option (FixedBytes 8 × ℕ)). Some ((unwrap_or q p).1)) h, ap
+    (λ (q : Option (FixedBytes 8 × ℕ)). (unwrap_or q p).0) h)
 
-parted : (d : Option (List ℕ)) (k : Option (FixedBytes 8)) (p : FixedBytes 8 × ℕ) → paired d k ≡ Some p → (digits : List ℕ) × (d ≡ Some digits) × (k ≡ Some p.0) × (number_of digits ≡ Some p.1)
+parted : (d : Option (List ℕ)) (k : Option (FixedBytes 8)) (p : FixedBytes 8 × ℕ) → paired d k ≡ Some p
+    → (digits : List ℕ) × (d ≡ Some digits) × (k ≡ Some p.0) × (number_of digits ≡ Some p.1)
 parted None k p h = absurd (cc h)
 parted (Some digits) None p h = absurd (cc h)
 parted (Some digits) (Some key) p h =
@@ -110,41 +123,53 @@ both_spelled p text h =
     let parts = parted (after (codes " ") (drop 16 text)) (key_of (take 16 text)) p h in
     let back : drop 16 text ≡ codes " " ++ parts.0 = after-some (codes " ") (drop 16 text) parts.0 parts.1 in
     let whole : text ≡ (take 16 text ++ codes " ") ++ parts.0 =
-    sym (take-append-drop 16 text) ∙ ap (λ l. take 16 text ++ l) back ∙ sym (append_assoc (take 16 text) (codes " ") parts.0) in
+    sym (take-append-drop 16 text) ∙ ap (λ l. take 16 text ++ l) back
+        ∙ sym (append_assoc (take 16 text) (codes " ") parts.0) in
     (take 16 text, key_spelled p.0 (take 16 text) parts.2, (parts.0, whole, number_spelled p.1 parts.0 parts.3))
 
-all_found : (words text : List ℕ) (line asked : Line) (other : Option Line) → Spells line words → (other ≡ Some asked → Spells asked text) → is_all words text line other ≡ Some asked → Spells asked text
+all_found : (words text : List ℕ) (line asked : Line) (other : Option Line) → Spells line words
+    → (other ≡ Some asked → Spells asked text) → is_all words text line other ≡ Some asked → Spells asked text
 all_found words text line asked other spelled later h =
     let same = bytes_decides text words in
-    elim (bytes_eq text words) as (λ b. (b ≡ true → text ≡ words) → cond b (Some line) other ≡ Some asked → Spells asked text) [
-      | true ↦ λ s f. let is : line ≡ asked = ap (λ o. unwrap_or o line) f in subst (λ l. Spells l text) is (subst (Spells line) (sym (s refl)) spelled)
+    elim (bytes_eq text words) as (λ b. (b ≡ true → text ≡ words) → cond b (Some line) other ≡ Some asked
+        → Spells asked text) [
+      | true ↦ λ s f. let is : line ≡ asked = ap (λ o. unwrap_or o line) f in subst (λ l. Spells l text) is
+          (subst (Spells line) (sym (s refl)) spelled)
       | false ↦ λ s f. later f
     ] same.0 h
 
-begins_found : {X : Type 0} (words text : List ℕ) (asked : Line) (value : List ℕ → Option X) (line : X → Line) (other : Option Line)
+begins_found : {X : Type 0} (words text : List ℕ) (asked : Line) (value : List ℕ → Option X) (line : X → Line)
+    (other : Option Line)
     → ((rest : List ℕ) (x : X) → text ≡ words ++ rest → value rest ≡ Some x → Spells (line x) text)
     → (other ≡ Some asked → Spells asked text)
     → begins (after words text) (λ rest. value rest >>= λ x. Some (line x)) other ≡ Some asked → Spells asked text
 begins_found {X} words text asked value line other spelled later h =
-    let arms : (o : Option (List ℕ)) → after words text ≡ o → begins o (λ rest. value rest >>= λ x. Some (line x)) other ≡ Some asked → Spells asked text =
-    λ o. elim o as (λ o'. after words text ≡ o' → begins o' (λ rest. value rest >>= λ x. Some (line x)) other ≡ Some asked → Spells asked text) [
+    let arms : (o : Option (List ℕ)) → after words text ≡ o → begins o (λ rest. value rest >>= λ x. Some (line x))
+        other ≡ Some asked → Spells asked text =
+    λ o. elim o as (λ o'. after words text ≡ o' → begins o' (λ rest. value rest >>= λ x. Some (line x)) other ≡ Some
+        asked → Spells asked text) [
       | None ↦ λ e f. later f
       | Some rest ↦ λ e f.
-          let value_arms : (v : Option X) → value rest ≡ v → (v >>= λ x. Some (line x)) ≡ Some asked → Spells asked text =
+          let value_arms : (v : Option X) → value rest ≡ v → (v >>= λ x. Some (line x)) ≡ Some asked
+              → Spells asked text =
           λ v. elim v as (λ v'. value rest ≡ v' → (v' >>= λ x. Some (line x)) ≡ Some asked → Spells asked text) [
             | None ↦ λ ev g. absurd (cc g)
-            | Some x ↦ λ ev g. let is : line x ≡ asked = ap (λ o. unwrap_or o asked) g in subst (λ l. Spells l text) is (spelled rest x (after-some words text rest e) ev)
+            | Some x ↦ λ ev g. let is : line x ≡ asked = ap (λ o. unwrap_or o asked) g in subst (λ l. Spells l text) is
+                (spelled rest x (after-some words text rest e) ev)
           ] in value_arms (value rest) refl f
     ] in arms (after words text) refl h
 
 words_spelled : (text : List ℕ) (asked : Line) → line_with_words text ≡ Some asked → Spells asked text
 words_spelled text asked =
     begins_found (codes "new mmr ") text asked number_of New _ (λ rest n e f. (rest, e, number_spelled n rest f))
-    (begins_found (codes "put ") text asked key_and_number (λ p. Put p.0 p.1) _ (λ rest p e f. (rest, e, both_spelled p rest f))
-    (begins_found (codes "commit ") text asked number_of (λ n. Commit (Some n)) _ (λ rest n e f. (rest, e, number_spelled n rest f))
+    (begins_found (codes "put ") text asked key_and_number (λ p. Put p.0 p.1) _
+        (λ rest p e f. (rest, e, both_spelled p rest f))
+    (begins_found (codes "commit ") text asked number_of (λ n. Commit (Some n)) _
+        (λ rest n e f. (rest, e, number_spelled n rest f))
     (begins_found (codes "get ") text asked key_of Get _ (λ rest k e f. (rest, e, key_spelled k rest f))
     (begins_found (codes "prove ") text asked key_of Prove _ (λ rest k e f. (rest, e, key_spelled k rest f))
-    (begins_found (codes "check value ") text asked key_and_number (λ p. CheckValue p.0 p.1) None (λ rest p e f. (rest, e, both_spelled p rest f))
+    (begins_found (codes "check value ") text asked key_and_number (λ p. CheckValue p.0 p.1) None
+        (λ rest p e f. (rest, e, both_spelled p rest f))
     (λ h. absurd (cc h)))))))
 
 pub read_is_spelled : (text : List ℕ) (asked : Line) → line_of text ≡ Some asked → Spells asked text

@@ -146,8 +146,10 @@ replayed state (operation ∷ operations) = replayed (after_operation operation 
 abbrev pub history_from : Map → History → List Operation → History
 history_from state history [] = history
 history_from state history (delete key ∷ operations) = history_from (without_key state key) history operations
-history_from state history (update key value next ∷ operations) = history_from (with_entry state key value) history operations
-history_from state history (commit_floor metadata floor ∷ operations) = history_from state (record { map = state; metadata = metadata } ∷ history) operations
+history_from state history (update key value next ∷ operations) = history_from (with_entry state key value) history
+    operations
+history_from state history (commit_floor metadata floor ∷ operations) = history_from state
+    (record { map = state; metadata = metadata } ∷ history) operations
 
 -- the history that a log stands for: its first operation is no commit of the history
 abbrev pub history_of : List Operation → History

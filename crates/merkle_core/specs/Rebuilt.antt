@@ -10,6 +10,9 @@ pub record Hashing : Type 0 where
   pub node_of : ℕ → List ℕ → List ℕ → List ℕ
   pub over : ℕ → List ℕ → List ℕ
 
+abbrev pub hashing_of : (ℕ → List ℕ → List ℕ) → (ℕ → List ℕ → List ℕ → List ℕ) → (ℕ → List ℕ → List ℕ) → Hashing
+hashing_of of_leaf of_node over = record { leaf_of = of_leaf; node_of = of_node; over = over }
+
 -- the last digest, and the digests before it
 abbrev pub last_of : List (List ℕ) → Option (List ℕ)
 last_of digests = slice_get digests (length digests - 1)

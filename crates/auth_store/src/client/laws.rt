@@ -19,7 +19,8 @@ where
     H: HashFunction,
     K: Key,
     V: FixedValue,
-    ensures { (history : History) (claim : Claim) → IsChunkWidth N → AreStates history → length (log_of history) ≤ 2 ^ 62
+    ensures { (history : History) (claim : Claim) → IsChunkWidth N → AreStates history
+        → length (log_of history) ≤ 2 ^ 62
         → IsTrueOf claim history → K.after tt (next_key (latest_map history) (claimed_key claim)) ≡ Ok []
         → (let is_key = λ (key : List ℕ). K.after tt key ≡ Ok [] in
         let setting = setting_of_width F.merge_rule H.hash_of N in

@@ -24,7 +24,8 @@ impl<K: Key, V: FixedValue> Model for Log<K, V> {
 
     ghost view = { λ log. meanings K.encoding V.encoding log.operations.items };
 
-    ghost invariant = { λ log. map (λ e. e.items) log.encodings.items ≡ spec.encodings K.SIZE V.SIZE (meanings K.encoding V.encoding log.operations.items) };
+    ghost invariant = { λ log. map (λ e. e.items) log.encodings.items ≡ spec.encodings K.SIZE V.SIZE
+        (meanings K.encoding V.encoding log.operations.items) };
 }
 
 /// The fixed encodings of the operations. It fails only when out of memory.

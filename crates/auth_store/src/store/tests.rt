@@ -12,11 +12,24 @@ const SIZES: Sizes = Sizes {
     replay_buffer: 1024,
 };
 
-/// The root of the empty history.
-const EMPTY: [u8; 32] = [
-    0xc5, 0x3c, 0x02, 0x16, 0x71, 0xc9, 0x91, 0x85, 0x72, 0xa3, 0xd8, 0x61, 0x8b, 0xec, 0xb5, 0xae,
-    0xbd, 0xf3, 0x3a, 0x76, 0x9b, 0x5b, 0xec, 0xc4, 0xca, 0x71, 0x63, 0x48, 0x2b, 0xf9, 0x74, 0x8d,
+/// The roots that a program made apart from this code has for the empty history and after each batch of
+/// `has_the_roots_that_were_computed_apart`.
+const ROOTS: [&str; 8] = [
+    "c53c021671c9918572a3d8618becb5aebdf33a769b5becc4ca7163482bf9748d",
+    "978115ad5af77723c820f767c65a3a12219bad5f806468c6a5e13f1ab0e5b5cb",
+    "0e030b135bbce1a71fecb7434a111c7beb7fcee05ac32e38aff4b0665dcbfa1c",
+    "5013160962ac5acdadeabcea399a78abb66450c3b923c8a6f033f88c34aa0bf6",
+    "86e471cfbad6f6c701406295420cc1b8a288fb3786a10fc2f149175e896eef23",
+    "fbcfb1cea779fe05327b74c5ac07be09cb824814e0c93a074d9547252a37059e",
+    "16e665e4cd79fefe588b9803a276514b0f31d32898dcde1237481771360f74d5",
+    "63be5a087da622bc75dc7b29335c83d6536f285908d8c40c17f20347637d91a4",
 ];
+
+const FF: Name = FixedBytes { bytes: [0, 0, 0, 0, 0, 0, 0, 0xff] };
+
+const ONE_00: Name = FixedBytes { bytes: [0, 0, 0, 0, 0, 0, 1, 0] };
+
+const LAST: Name = FixedBytes { bytes: [0xff; 8] };
 
 fn key(high: u8, low: u8) -> Name {
     FixedBytes::new([0, 0, 0, 0, 0, 0, high, low])
@@ -27,6 +40,30 @@ fn open(alloc: Global) -> Result<Small, StoreError> {
     Ok(Store::open(alloc, device, PlainCache::new(), SIZES)?)
 }
 
+/// The digits of the store's root.
+fn hex_root(alloc: Global, store: &Small) -> Result<String, StoreError> {
+    Ok(hex::encode(alloc, store.root()?.as_bytes())?)
+}
+
+/// Commits these puts, and after them deletes of these keys.
+fn commit(
+    alloc: Global,
+    store: &mut Small,
+    puts: &[(Name, u64)],
+    deletes: &[Name],
+    metadata: Option<u64>,
+) -> Result<(), StoreError> {
+    let mut batch = Batch::new(alloc);
+    for (key, value) in puts {
+        batch.put(*key, *value)?;
+    }
+    for key in deletes {
+        batch.delete(*key)?;
+    }
+    store.commit(batch, metadata)?;
+    Ok(())
+}
+
 #[test]
 fn an_opened_store_is_empty(rt: HostRuntime) -> Result<(), Fail> {
     let store = open(rt.alloc())?;
@@ -34,7 +71,7 @@ fn an_opened_store_is_empty(rt: HostRuntime) -> Result<(), Fail> {
     assert_eq!(rt; store.floor()?, 0);
     assert_eq!(rt; store.len()?, 1);
     assert_eq!(rt; store.get(&key(0, 1))?, None);
-    assert_eq!(rt; store.root()?, FixedBytes::new(EMPTY));
+    assert_eq!(rt; hex_root(rt.alloc(), &store)?.as_str(), ROOTS[0]);
     Ok(())
 }
 
@@ -71,5 +108,49 @@ fn refusals_have_their_numbers_and_texts(rt: HostRuntime) -> Result<(), Fail> {
     };
     let not_opened = format!(in alloc; "{refused}")?;
     assert_eq!(rt; not_opened.as_str(), "S4: out of memory");
+    Ok(())
+}
+
+#[test]
+fn has_the_roots_that_were_computed_apart(rt: HostRuntime) -> Result<(), Fail> {
+    let alloc = rt.alloc();
+    let mut store = open(alloc)?;
+    commit(alloc, &mut store, &[], &[], None)?;
+    assert_eq!(rt; hex_root(alloc, &store)?.as_str(), ROOTS[1]);
+    commit(alloc, &mut store, &[(ONE_00, 2)], &[], None)?;
+    assert_eq!(rt; hex_root(alloc, &store)?.as_str(), ROOTS[2]);
+    commit(alloc, &mut store, &[], &[], None)?;
+    assert_eq!(rt; hex_root(alloc, &store)?.as_str(), ROOTS[3]);
+    let puts = [
+        (ONE_00, 7383976807972800068),
+        (LAST, 2216117075407898749),
+        (FF, u64::MAX),
+        (ONE_00, 2),
+    ];
+    commit(alloc, &mut store, &puts, &[], None)?;
+    assert_eq!(rt; hex_root(alloc, &store)?.as_str(), ROOTS[4]);
+    let puts = [(FF, 0), (FF, 9707888342978710211), (ONE_00, 0), (FF, 0)];
+    commit(alloc, &mut store, &puts, &[], Some(1))?;
+    assert_eq!(rt; hex_root(alloc, &store)?.as_str(), ROOTS[5]);
+    commit(alloc, &mut store, &[(FF, 1), (ONE_00, 0)], &[], Some(1))?;
+    assert_eq!(rt; hex_root(alloc, &store)?.as_str(), ROOTS[6]);
+    let absent = FixedBytes::new(*b"no entry");
+    let deletes = [FF, ONE_00, absent, LAST];
+    commit(alloc, &mut store, &[], &deletes, Some(u64::MAX))?;
+    assert_eq!(rt; hex_root(alloc, &store)?.as_str(), ROOTS[7]);
+    assert_eq!(rt; store.len()?, 18);
+    assert_eq!(rt; store.floor()?, 17);
+    assert_eq!(rt; store.get(&LAST)?, None);
+    Ok(())
+}
+
+#[test]
+fn chunk_widths_are_the_powers_of_two_up_to_4096(rt: HostRuntime) -> Result<(), Fail> {
+    for height in 0..13u32 {
+        assert_eq!(rt; is_chunk_width(1 << height), true);
+        assert_eq!(rt; is_chunk_width(3 << height), false);
+    }
+    assert_eq!(rt; is_chunk_width(0), false);
+    assert_eq!(rt; is_chunk_width(8192), false);
     Ok(())
 }

@@ -20,7 +20,8 @@ replayed-append s (delete k ∷ xs) ys = replayed-append (without_key s k) xs ys
 replayed-append s (update k v n ∷ xs) ys = replayed-append (with_entry s k v) xs ys
 replayed-append s (commit_floor m f ∷ xs) ys = replayed-append s xs ys
 
-history_from-append : (s : Map) (h : History) (xs ys : List Operation) → history_from s h (xs ++ ys) ≡ history_from (replayed s xs) (history_from s h xs) ys
+history_from-append : (s : Map) (h : History) (xs ys : List Operation)
+    → history_from s h (xs ++ ys) ≡ history_from (replayed s xs) (history_from s h xs) ys
 history_from-append s h [] ys = refl
 history_from-append s h (delete k ∷ xs) ys = history_from-append (without_key s k) h xs ys
 history_from-append s h (update k v n ∷ xs) ys = history_from-append (with_entry s k v) h xs ys
@@ -38,14 +39,17 @@ history_from-deletes (e ∷ es) new s h =
 history_from-updates : (es old new s : Map) (h : History) → history_from s h (updates es old new) ≡ h
 history_from-updates [] old new s h = refl
 history_from-updates (e ∷ es) old new s h =
-    elim (is_kept old new e.0 e.1) as (λ b. history_from s h (cond b [] (update e.0 e.1 (next_key new e.0) ∷ []) ++ updates es old new) ≡ h) [
+    elim (is_kept old new e.0 e.1) as (λ b. history_from s h
+        (cond b [] (update e.0 e.1 (next_key new e.0) ∷ []) ++ updates es old new) ≡ h) [
       | true ↦ history_from-updates es old new s h
       | false ↦ history_from-updates es old new (with_entry s e.0 e.1) h
     ]
 
 history_from-batch : (old new s : Map) (h : History) → history_from s h (batch_operations old new) ≡ h
 history_from-batch old new s h =
-    history_from-append s h (deletes old new) (updates new old new) ∙ (history_from-updates new old new (replayed s (deletes old new)) (history_from s h (deletes old new)) ∙ history_from-deletes old new s h)
+    history_from-append s h (deletes old new) (updates new old new)
+        ∙ (history_from-updates new old new (replayed s (deletes old new)) (history_from s h (deletes old new))
+            ∙ history_from-deletes old new s h)
 
 -- states stay states
 IsState-deletes : (es new s : Map) → IsState s → IsState (replayed s (deletes es new))
@@ -59,13 +63,15 @@ IsState-deletes (e ∷ es) new s h =
 IsState-updates : (es old new s : Map) → IsState s → IsState (replayed s (updates es old new))
 IsState-updates [] old new s h = h
 IsState-updates (e ∷ es) old new s h =
-    elim (is_kept old new e.0 e.1) as (λ b. IsState (replayed s (cond b [] (update e.0 e.1 (next_key new e.0) ∷ []) ++ updates es old new))) [
+    elim (is_kept old new e.0 e.1) as (λ b. IsState (replayed s
+        (cond b [] (update e.0 e.1 (next_key new e.0) ∷ []) ++ updates es old new))) [
       | true ↦ IsState-updates es old new s h
       | false ↦ IsState-updates es old new (with_entry s e.0 e.1) (IsState-with_entry s e.0 e.1 h)
     ]
 
 pub differ : (f : List ℕ → Bool) (q k : List ℕ) (a b : Bool) → f q ≡ a → f k ≡ b → (a ≡ b → ⊥) → same q k ≡ false
-differ f q k a b at_q at_k apart = ⊎_elim (λ t. absurd (apart (sym at_q ∙ (ap f (exact q k t) ∙ at_k)))) (λ e. e) (cases_Bool (same q k))
+differ f q k a b at_q at_k apart = ⊎_elim (λ t. absurd (apart (sym at_q ∙ (ap f (exact q k t) ∙ at_k)))) (λ e. e)
+    (cases_Bool (same q k))
 
 pub true_false : true ≡ false → ⊥
 true_false e = cc
@@ -74,11 +80,13 @@ pub false_true : false ≡ true → ⊥
 false_true e = cc
 
 -- deletes leave the keys of the new state as they are
-deletes_keep : (es new s : Map) (q : List ℕ) → IsState s → is_some (value_at new q) ≡ true → value_at (replayed s (deletes es new)) q ≡ value_at s q
+deletes_keep : (es new s : Map) (q : List ℕ) → IsState s → is_some (value_at new q) ≡ true
+    → value_at (replayed s (deletes es new)) q ≡ value_at s q
 deletes_keep [] new s q h has = refl
 deletes_keep (e ∷ es) new s q h has =
     ⊎_elim
-    (λ t. ap (λ b. value_at (replayed s (cond b [] (delete e.0 ∷ []) ++ deletes es new)) q) t ∙ deletes_keep es new s q h has)
+    (λ t. ap (λ b. value_at (replayed s (cond b [] (delete e.0 ∷ []) ++ deletes es new)) q) t
+        ∙ deletes_keep es new s q h has)
     (λ f. ap (λ b. value_at (replayed s (cond b [] (delete e.0 ∷ []) ++ deletes es new)) q) f
     ∙ (deletes_keep es new (without_key s e.0) q (IsState-without_key s e.0 h) has
     ∙ (value_at-without_key s e.0 q h
@@ -86,12 +94,14 @@ deletes_keep (e ∷ es) new s q h has =
     (cases_Bool (is_some (value_at new e.0)))
 
 -- and take out the others
-deletes_drop : (es new s : Map) (q : List ℕ) → IsState s → is_some (value_at new q) ≡ false → (value_at es q ≡ None → value_at s q ≡ None) → value_at (replayed s (deletes es new)) q ≡ None
+deletes_drop : (es new s : Map) (q : List ℕ) → IsState s → is_some (value_at new q) ≡ false
+    → (value_at es q ≡ None → value_at s q ≡ None) → value_at (replayed s (deletes es new)) q ≡ None
 deletes_drop [] new s q h lacks gone = gone refl
 deletes_drop (e ∷ es) new s q h lacks gone =
     ⊎_elim
     (λ t. ap (λ b. value_at (replayed s (cond b [] (delete e.0 ∷ []) ++ deletes es new)) q) t
-    ∙ deletes_drop es new s q h lacks (λ none. gone (ap (λ b. cond b (Some e.1) (value_at es q)) (differ (λ x. is_some (value_at new x)) q e.0 false true lacks t false_true) ∙ none)))
+    ∙ deletes_drop es new s q h lacks (λ none. gone (ap (λ b. cond b (Some e.1) (value_at es q))
+        (differ (λ x. is_some (value_at new x)) q e.0 false true lacks t false_true) ∙ none)))
     (λ f. ap (λ b. value_at (replayed s (cond b [] (delete e.0 ∷ []) ++ deletes es new)) q) f
     ∙ deletes_drop es new (without_key s e.0) q (IsState-without_key s e.0 h) lacks
     (λ none. value_at-without_key s e.0 q h ∙ ⊎_elim
@@ -105,13 +115,16 @@ passed_by true v r e = absurd (cc)
 passed_by false v r e = (refl, e)
 
 -- updates leave the keys that they don't name as they are
-updates_keep : (es old new s : Map) (q : List ℕ) → value_at es q ≡ None → value_at (replayed s (updates es old new)) q ≡ value_at s q
+updates_keep : (es old new s : Map) (q : List ℕ) → value_at es q ≡ None
+    → value_at (replayed s (updates es old new)) q ≡ value_at s q
 updates_keep [] old new s q none = refl
 updates_keep (e ∷ es) old new s q none =
     let away = passed_by (same q e.0) e.1 (value_at es q) none in
-    elim (is_kept old new e.0 e.1) as (λ b. value_at (replayed s (cond b [] (update e.0 e.1 (next_key new e.0) ∷ []) ++ updates es old new)) q ≡ value_at s q) [
+    elim (is_kept old new e.0 e.1) as (λ b. value_at (replayed s
+        (cond b [] (update e.0 e.1 (next_key new e.0) ∷ []) ++ updates es old new)) q ≡ value_at s q) [
       | true ↦ updates_keep es old new s q away.1
-      | false ↦ updates_keep es old new (with_entry s e.0 e.1) q away.1 ∙ (value_at-with_entry s e.0 e.1 q ∙ ap (λ b. cond b (Some e.1) (value_at s q)) away.0)
+      | false ↦ updates_keep es old new (with_entry s e.0 e.1) q away.1
+          ∙ (value_at-with_entry s e.0 e.1 q ∙ ap (λ b. cond b (Some e.1) (value_at s q)) away.0)
     ]
 
 pub equal_bytes : (x y : List ℕ) → bytes_eq x y ≡ true → x ≡ y
@@ -120,10 +133,12 @@ equal_bytes x y e = exact x y (is_eq-slice_cmp x y ∙ e)
 pub kept_value : (o : Option (List ℕ)) (v : List ℕ) (b : Bool) → (is_value o v && b) ≡ true → o ≡ Some v
 kept_value None v b e = absurd (cc)
 kept_value (Some w) v b e =
-    ⊎_elim (λ t. ap (λ x. Some x) (equal_bytes w v t)) (λ f. absurd (false_true (sym (ap (λ x. x && b) f) ∙ e))) (cases_Bool (bytes_eq w v))
+    ⊎_elim (λ t. ap (λ x. Some x) (equal_bytes w v t)) (λ f. absurd (false_true (sym (ap (λ x. x && b) f) ∙ e)))
+        (cases_Bool (bytes_eq w v))
 
 -- and give the others their values
-updates_set : (es old new s : Map) (q v : List ℕ) → IsState es → value_at es q ≡ Some v → value_at s q ≡ value_at old q → value_at (replayed s (updates es old new)) q ≡ Some v
+updates_set : (es old new s : Map) (q v : List ℕ) → IsState es → value_at es q ≡ Some v → value_at s q ≡ value_at old q
+    → value_at (replayed s (updates es old new)) q ≡ Some v
 updates_set [] old new s q v h at is_old = absurd (cc)
 updates_set (e ∷ es) old new s q v h at is_old =
     ⊎_elim
@@ -131,24 +146,32 @@ updates_set (e ∷ es) old new s q v h at is_old =
     let value : Some e.1 ≡ Some v = sym (ap (λ b. cond b (Some e.1) (value_at es q)) here) ∙ at in
     let later : value_at es q ≡ None = ap (value_at es) (exact q e.0 here) ∙ none_later e es h in
     ⊎_elim
-    (λ (kept : is_kept old new e.0 e.1 ≡ true). ap (λ b. value_at (replayed s (cond b [] (update e.0 e.1 (next_key new e.0) ∷ []) ++ updates es old new)) q) kept
-    ∙ (updates_keep es old new s q later ∙ (is_old ∙ (ap (value_at old) (exact q e.0 here) ∙ (kept_value (value_at old e.0) e.1 (bytes_eq (next_key old e.0) (next_key new e.0)) kept ∙ value)))))
-    (λ (changed : is_kept old new e.0 e.1 ≡ false). ap (λ b. value_at (replayed s (cond b [] (update e.0 e.1 (next_key new e.0) ∷ []) ++ updates es old new)) q) changed
-    ∙ (updates_keep es old new (with_entry s e.0 e.1) q later ∙ (value_at-with_entry s e.0 e.1 q ∙ (ap (λ b. cond b (Some e.1) (value_at s q)) here ∙ value))))
+    (λ (kept : is_kept old new e.0 e.1 ≡ true). ap (λ b. value_at
+        (replayed s (cond b [] (update e.0 e.1 (next_key new e.0) ∷ []) ++ updates es old new)) q) kept
+    ∙ (updates_keep es old new s q later ∙ (is_old ∙ (ap (value_at old) (exact q e.0 here)
+        ∙ (kept_value (value_at old e.0) e.1 (bytes_eq (next_key old e.0) (next_key new e.0)) kept ∙ value)))))
+    (λ (changed : is_kept old new e.0 e.1 ≡ false). ap (λ b. value_at
+        (replayed s (cond b [] (update e.0 e.1 (next_key new e.0) ∷ []) ++ updates es old new)) q) changed
+    ∙ (updates_keep es old new (with_entry s e.0 e.1) q later
+        ∙ (value_at-with_entry s e.0 e.1 q ∙ (ap (λ b. cond b (Some e.1) (value_at s q)) here ∙ value))))
     (cases_Bool (is_kept old new e.0 e.1)))
     (λ (away : same q e.0 ≡ false).
     let rest : value_at es q ≡ Some v = sym (ap (λ b. cond b (Some e.1) (value_at es q)) away) ∙ at in
-    let held : value_at (with_entry s e.0 e.1) q ≡ value_at old q = value_at-with_entry s e.0 e.1 q ∙ (ap (λ b. cond b (Some e.1) (value_at s q)) {x = same q e.0} {y = false} away ∙ is_old) in
-    elim (is_kept old new e.0 e.1) as (λ b. value_at (replayed s (cond b [] (update e.0 e.1 (next_key new e.0) ∷ []) ++ updates es old new)) q ≡ Some v) [
+    let held : value_at (with_entry s e.0 e.1) q ≡ value_at old q = value_at-with_entry s e.0 e.1 q
+        ∙ (ap (λ b. cond b (Some e.1) (value_at s q)) {x = same q e.0} {y = false} away ∙ is_old) in
+    elim (is_kept old new e.0 e.1) as (λ b. value_at (replayed s
+        (cond b [] (update e.0 e.1 (next_key new e.0) ∷ []) ++ updates es old new)) q ≡ Some v) [
       | true ↦ updates_set es old new s q v (IsState-tail e es h) rest is_old
       | false ↦ updates_set es old new (with_entry s e.0 e.1) q v (IsState-tail e es h) rest held
     ])
     (cases_Bool (same q e.0))
 
 -- what a key has after a batch
-value_at-batch : (old new : Map) (q : List ℕ) (at : Option (List ℕ)) → IsState old → IsState new → value_at new q ≡ at → value_at (replayed (replayed old (deletes old new)) (updates new old new)) q ≡ at
+value_at-batch : (old new : Map) (q : List ℕ) (at : Option (List ℕ)) → IsState old → IsState new → value_at new q ≡ at
+    → value_at (replayed (replayed old (deletes old new)) (updates new old new)) q ≡ at
 value_at-batch old new q None h i is =
-    updates_keep new old new (replayed old (deletes old new)) q is ∙ deletes_drop old new old q h (ap is_some is) (λ none. none)
+    updates_keep new old new (replayed old (deletes old new)) q is
+        ∙ deletes_drop old new old q h (ap is_some is) (λ none. none)
 value_at-batch old new q (Some v) h i is =
     updates_set new old new (replayed old (deletes old new)) q v i is (deletes_keep old new old q h (ap is_some is))
 
@@ -156,9 +179,11 @@ value_at-batch old new q (Some v) h i is =
 pub replayed-batch : (old new : Map) → IsState old → IsState new → replayed old (batch_operations old new) ≡ new
 replayed-batch old new h i =
     replayed-append old (deletes old new) (updates new old new)
-    ∙ same_entries key_order nat_list_cmp_total exact_bytes (replayed (replayed old (deletes old new)) (updates new old new)) new
+    ∙ same_entries key_order nat_list_cmp_total exact_bytes (replayed (replayed old (deletes old new))
+        (updates new old new)) new
     (IsState-updates new old new (replayed old (deletes old new)) (IsState-deletes old new old h)) i
-    (λ q. sym (value_at-find q (replayed (replayed old (deletes old new)) (updates new old new))) ∙ (value_at-batch old new q (value_at new q) h i refl ∙ value_at-find q new))
+    (λ q. sym (value_at-find q (replayed (replayed old (deletes old new)) (updates new old new)))
+        ∙ (value_at-batch old new q (value_at new q) h i refl ∙ value_at-find q new))
 
 -- a log after its first operation
 abbrev log_tail : History → List Operation
@@ -167,28 +192,33 @@ log_tail (c ∷ h) = log_tail h ++ with_commit (log_of h) (batch_operations (lat
 
 log_of-tail : (h : History) → log_of h ≡ commit_floor None 0 ∷ log_tail h
 log_of-tail [] = refl
-log_of-tail (c ∷ h) = ap (λ l. l ++ with_commit (log_of h) (batch_operations (latest_map h) c.map) c.metadata) (log_of-tail h)
+log_of-tail (c ∷ h) = ap (λ l. l ++ with_commit (log_of h) (batch_operations (latest_map h) c.map) c.metadata)
+    (log_of-tail h)
 
 pub IsState-latest_map : (h : History) → AreStates h → IsState (latest_map h)
 IsState-latest_map [] s = tt
 IsState-latest_map (c ∷ h) s = s.0
 
-tail_stands : (h : History) → AreStates h → (history_from [] [] (log_tail h) ≡ h) × (replayed [] (log_tail h) ≡ latest_map h)
+tail_stands : (h : History) → AreStates h → (history_from [] [] (log_tail h) ≡ h)
+    × (replayed [] (log_tail h) ≡ latest_map h)
 tail_stands [] s = (refl, refl)
 tail_stands (c ∷ h) s =
     let earlier = tail_stands h s.1 in
     let ops : List Operation = batch_operations (latest_map h) c.map in
     let last : List Operation = commit_floor c.metadata (inactivity_floor (log_of h ++ ops)) ∷ [] in
-    let regrouped : log_tail h ++ (ops ++ last) ≡ (log_tail h ++ ops) ++ last = sym (append_assoc (log_tail h) ops last) in
+    let regrouped : log_tail h ++ (ops ++ last) ≡ (log_tail h ++ ops)
+        ++ last = sym (append_assoc (log_tail h) ops last) in
     let state : replayed [] (log_tail h ++ ops) ≡ c.map =
     replayed-append [] (log_tail h) ops
     ∙ (ap (λ x. replayed x ops) earlier.1 ∙ replayed-batch (latest_map h) c.map (IsState-latest_map h s.1) s.0) in
     let past : history_from [] [] (log_tail h ++ ops) ≡ h =
     history_from-append [] [] (log_tail h) ops
-    ∙ (history_from-batch (latest_map h) c.map (replayed [] (log_tail h)) (history_from [] [] (log_tail h)) ∙ earlier.0) in (
+    ∙ (history_from-batch (latest_map h) c.map (replayed [] (log_tail h)) (history_from [] [] (log_tail h))
+        ∙ earlier.0) in (
       ap (history_from [] []) regrouped
           ∙ (history_from-append [] [] (log_tail h ++ ops) last
-          ∙ (ap (λ x. record { map = x; metadata = c.metadata } ∷ history_from [] [] (log_tail h ++ ops)) state ∙ ap (λ x. c ∷ x) past)),
+          ∙ (ap (λ x. record { map = x; metadata = c.metadata } ∷ history_from [] [] (log_tail h ++ ops)) state
+              ∙ ap (λ x. c ∷ x) past)),
       ap (replayed []) regrouped ∙ (replayed-append [] (log_tail h ++ ops) last ∙ state),
     )
 
@@ -209,14 +239,16 @@ length-log_of [] = omega arith
 length-log_of (c ∷ h) = let earlier = length-log_of h in simp length-append (omega arith)
 
 -- a commit at the end of operations is their last
-pub floor_after-append : (floor recorded : ℕ) (metadata : Option (List ℕ)) (xs : List Operation) → floor_after floor (xs ++ commit_floor metadata recorded ∷ []) ≡ recorded
+pub floor_after-append : (floor recorded : ℕ) (metadata : Option (List ℕ)) (xs : List Operation)
+    → floor_after floor (xs ++ commit_floor metadata recorded ∷ []) ≡ recorded
 floor_after-append floor recorded metadata [] = refl
 floor_after-append floor recorded metadata (delete k ∷ xs) = floor_after-append floor recorded metadata xs
 floor_after-append floor recorded metadata (update k v n ∷ xs) = floor_after-append floor recorded metadata xs
 floor_after-append floor recorded metadata (commit_floor m f ∷ xs) = floor_after-append f recorded metadata xs
 
 -- the floor that a commit after some operations records is that of the log with them
-pub last_floor-with_commit : (log changes : List Operation) (metadata : Option (List ℕ)) → last_floor (log ++ with_commit log changes metadata) ≡ inactivity_floor (log ++ changes)
+pub last_floor-with_commit : (log changes : List Operation) (metadata : Option (List ℕ))
+    → last_floor (log ++ with_commit log changes metadata) ≡ inactivity_floor (log ++ changes)
 last_floor-with_commit log changes metadata =
     ap last_floor (sym (append_assoc log changes (commit_floor metadata (inactivity_floor (log ++ changes)) ∷ [])))
     ∙ floor_after-append 0 (inactivity_floor (log ++ changes)) metadata (log ++ changes)

@@ -50,22 +50,28 @@ value_at-find q (e ∷ s) = ap (λ r. cond (same q e.0) (Some e.1) r) (value_at-
 with_entry-put : (s : Map) (k v : List ℕ) → with_entry s k v ≡ put key_order k v s
 with_entry-put [] k v = refl
 with_entry-put (e ∷ s) k v =
-    elim (key_order k e.0) as (λ o. match_ordering o ((k, v) ∷ e ∷ s) ((e.0, v) ∷ s) (e ∷ with_entry s k v) ≡ by_order o ((k, v) ∷ e ∷ s) ((e.0, v) ∷ s) (e ∷ put key_order k v s)) [
+    elim (key_order k e.0) as (λ o. match_ordering o ((k, v) ∷ e ∷ s) ((e.0, v) ∷ s) (e ∷ with_entry s k v) ≡ by_order o
+        ((k, v) ∷ e ∷ s) ((e.0, v) ∷ s) (e ∷ put key_order k v s)) [
       | Less ↦ refl
       | Equal ↦ refl
       | Greater ↦ ap (λ r. e ∷ r) (with_entry-put s k v)
     ]
 
 pub IsState-with_entry : (s : Map) (k v : List ℕ) → IsState s → IsState (with_entry s k v)
-IsState-with_entry s k v h = subst IsState (sym (with_entry-put s k v)) (is_sorted-put key_order nat_list_cmp_total k v s h)
+IsState-with_entry s k v h = subst IsState (sym (with_entry-put s k v))
+    (is_sorted-put key_order nat_list_cmp_total k v s h)
 
-pub value_at-with_entry : (s : Map) (k v q : List ℕ) → value_at (with_entry s k v) q ≡ cond (same q k) (Some v) (value_at s q)
+pub value_at-with_entry : (s : Map) (k v q : List ℕ) → value_at (with_entry s k v) q ≡ cond (same q k) (Some v)
+    (value_at s q)
 value_at-with_entry s k v q =
-    value_at-find q (with_entry s k v) ∙ (ap (find key_order q) (with_entry-put s k v) ∙ (find-put key_order nat_list_cmp_total q k v s ∙ ap (λ r. cond (same q k) (Some v) r) (sym (value_at-find q s))))
+    value_at-find q (with_entry s k v) ∙ (ap (find key_order q) (with_entry-put s k v)
+        ∙ (find-put key_order nat_list_cmp_total q k v s ∙ ap (λ r. cond (same q k) (Some v) r)
+            (sym (value_at-find q s))))
 
 below_none : (x : List ℕ) (s : Map) → T (below_all key_order x s) → value_at s x ≡ None
 below_none x [] h = refl
-below_none x (e ∷ s) h = ap (λ b. cond b (Some e.1) (value_at s x)) (apart (key_order x e.0) (first _ _ h)) ∙ below_none x s (second (is_lt (key_order x e.0)) _ h)
+below_none x (e ∷ s) h = ap (λ b. cond b (Some e.1) (value_at s x)) (apart (key_order x e.0) (first _ _ h))
+    ∙ below_none x s (second (is_lt (key_order x e.0)) _ h)
 
 -- the first key is not among the later ones
 pub none_later : (e : List ℕ × List ℕ) (s : Map) → IsState (e ∷ s) → value_at s e.0 ≡ None
@@ -74,7 +80,8 @@ none_later e s h = below_none e.0 s (first _ _ h)
 pub IsState-tail : (e : List ℕ × List ℕ) (s : Map) → IsState (e ∷ s) → IsState s
 IsState-tail e s h = second (below_all key_order e.0 s) _ h
 
-below-without_key : (x : List ℕ) (s : Map) (k : List ℕ) → T (below_all key_order x s) → T (below_all key_order x (without_key s k))
+below-without_key : (x : List ℕ) (s : Map) (k : List ℕ) → T (below_all key_order x s)
+    → T (below_all key_order x (without_key s k))
 below-without_key x [] k h = tt
 below-without_key x (e ∷ s) k h =
     elim (same k e.0) as (λ b. T (below_all key_order x (cond b s (e ∷ without_key s k)))) [
@@ -90,24 +97,30 @@ IsState-without_key (e ∷ s) k h =
       | false ↦ both _ _ (below-without_key e.0 s k (first _ _ h)) (IsState-without_key s k (IsState-tail e s h))
     ]
 
-removed_here : (a b : Bool) (r : Option (List ℕ)) (v : List ℕ) → b ≡ a → (a ≡ true → r ≡ None) → r ≡ cond a None (cond b (Some v) r)
+removed_here : (a b : Bool) (r : Option (List ℕ)) (v : List ℕ) → b ≡ a → (a ≡ true → r ≡ None)
+    → r ≡ cond a None (cond b (Some v) r)
 removed_here true b r v e none = none refl
 removed_here false true r v e none = cc
 removed_here false false r v e none = refl
 
-removed_later : (a b : Bool) (r : Option (List ℕ)) (v : List ℕ) → (a ≡ true → b ≡ true → ⊥) → cond b (Some v) (cond a None r) ≡ cond a None (cond b (Some v) r)
+removed_later : (a b : Bool) (r : Option (List ℕ)) (v : List ℕ) → (a ≡ true → b ≡ true → ⊥)
+    → cond b (Some v) (cond a None r) ≡ cond a None (cond b (Some v) r)
 removed_later true true r v differ = absurd (differ refl refl)
 removed_later true false r v differ = refl
 removed_later false b r v differ = refl
 
-pub value_at-without_key : (s : Map) (k q : List ℕ) → IsState s → value_at (without_key s k) q ≡ cond (same q k) None (value_at s q)
-value_at-without_key [] k q h = elim (same q k) as (λ b. ◌≡◌ {A = Option (List ℕ)} None (cond b None None)) [ true ↦ refl | false ↦ refl ]
+pub value_at-without_key : (s : Map) (k q : List ℕ) → IsState s
+    → value_at (without_key s k) q ≡ cond (same q k) None (value_at s q)
+value_at-without_key [] k q h = elim (same q k) as (λ b. ◌≡◌ {A = Option (List ℕ)} None (cond b None None))
+    [ true ↦ refl | false ↦ refl ]
 value_at-without_key (e ∷ s) k q h =
     ⊎_elim
     (λ t. let is : k ≡ e.0 = exact k e.0 t in
     ap (λ b. value_at (cond b s (e ∷ without_key s k)) q) t
-    ∙ removed_here (same q k) (same q e.0) (value_at s q) e.1 (ap (same q) (sym is)) (λ at. ap (value_at s) (exact q k at ∙ is) ∙ none_later e s h))
+    ∙ removed_here (same q k) (same q e.0) (value_at s q) e.1 (ap (same q) (sym is))
+        (λ at. ap (value_at s) (exact q k at ∙ is) ∙ none_later e s h))
     (λ f. ap (λ b. value_at (cond b s (e ∷ without_key s k)) q) f
     ∙ (ap (λ r. cond (same q e.0) (Some e.1) r) (value_at-without_key s k q (IsState-tail e s h))
-    ∙ removed_later (same q k) (same q e.0) (value_at s q) e.1 (λ a b. let both : same k e.0 ≡ true = ap (λ x. same x e.0) (sym (exact q k a)) ∙ b in cc)))
+    ∙ removed_later (same q k) (same q e.0) (value_at s q) e.1
+        (λ a b. let both : same k e.0 ≡ true = ap (λ x. same x e.0) (sym (exact q k a)) ∙ b in cc)))
     (cases_Bool (same k e.0))

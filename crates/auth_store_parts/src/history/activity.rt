@@ -21,7 +21,8 @@ fn has_key<K: Key, V: FixedValue>(key: &K, operation: &Operation<K, V>) -> bool
 
 /// Whether one of the operations is about the key.
 fn any_has_key<K: Key, V: FixedValue>(key: &K, operations: &[Operation<K, V>]) -> bool
-    ensures { result ≡ list_any (λ operation. spec.has_key (K.encoding key.now) (meaning_of K.encoding V.encoding operation))
+    ensures { result ≡ list_any (λ operation. spec.has_key (K.encoding key.now)
+        (meaning_of K.encoding V.encoding operation))
         operations.now }
 {
     operations.iter().any(|operation| has_key(key, operation))
@@ -29,7 +30,8 @@ fn any_has_key<K: Key, V: FixedValue>(key: &K, operations: &[Operation<K, V>]) -
 
 /// Whether one of the operations is a commit.
 fn any_is_commit<K: Key, V: FixedValue>(operations: &[Operation<K, V>]) -> bool
-    ensures { result ≡ list_any (λ operation. spec.is_commit (meaning_of K.encoding V.encoding operation)) operations.now }
+    ensures { result ≡ list_any (λ operation. spec.is_commit (meaning_of K.encoding V.encoding operation))
+        operations.now }
 {
     operations.iter().any(|operation| matches!(operation, Operation::CommitFloor(_, _)))
 }
@@ -82,7 +84,8 @@ pub fn activity_bits<K: Key, V: FixedValue>(
     alloc: Global,
     operations: &[Operation<K, V>],
 ) -> Result<Vec<bool>, AllocError>
-    ensures { IfOk result (λ bits. bits.items ≡ spec.activity_bits (spec.meanings K.encoding V.encoding operations.now)) }
+    ensures { IfOk result (λ bits. bits.items
+        ≡ spec.activity_bits (spec.meanings K.encoding V.encoding operations.now)) }
 {
     let mut bits = Vec::new(alloc);
     let mut rest = operations;
@@ -110,7 +113,8 @@ pub fn inactivity_floor<K: Key, V: FixedValue>(operations: &[Operation<K, V>]) -
 
 /// The location of the active update of the key, or the number of operations where there is none.
 pub fn active_location<K: Key, V: FixedValue>(key: &K, operations: &[Operation<K, V>]) -> usize
-    ensures location { result ≡ spec.active_location (K.encoding key.now) (spec.meanings K.encoding V.encoding operations.now) }
+    ensures location { result ≡ spec.active_location (K.encoding key.now)
+        (spec.meanings K.encoding V.encoding operations.now) }
     ensures within { result ≤ length operations.now }
 {
     let mut rest = operations;

@@ -68,7 +68,8 @@ fn push_delete<K: Key, V: FixedValue>(
     key: &K,
     out: &mut Vec<Operation<K, V>>,
 ) -> Result<(), AllocError>
-    ensures { OnOk result (spec.meanings K.encoding V.encoding out.new.items ≡ spec.meanings K.encoding V.encoding out.old.items
+    ensures { OnOk result (spec.meanings K.encoding V.encoding out.new.items ≡ spec.meanings K.encoding V.encoding
+        out.old.items
         ++ spec.delete_of (state_of K.encoding V.encoding new.now.entries) (K.encoding key.now)) }
 {
     if state::get(new, key).is_some() {
@@ -87,8 +88,10 @@ fn push_update<K: Key, V: FixedValue>(
     out: &mut Vec<Operation<K, V>>,
 ) -> Result<(), AllocError>
     requires { 0 < length new.now.entries }
-    ensures { OnOk result (spec.meanings K.encoding V.encoding out.new.items ≡ spec.meanings K.encoding V.encoding out.old.items
-        ++ spec.update_of (state_of K.encoding V.encoding old.now.entries) (state_of K.encoding V.encoding new.now.entries)
+    ensures { OnOk result (spec.meanings K.encoding V.encoding out.new.items ≡ spec.meanings K.encoding V.encoding
+        out.old.items
+        ++ spec.update_of (state_of K.encoding V.encoding old.now.entries)
+            (state_of K.encoding V.encoding new.now.entries)
         (K.encoding key.now) (V.encoding value.now)) }
 {
     if is_kept(alloc, old, new, key, value)? {
@@ -108,8 +111,10 @@ fn push_deletes<K: Key, V: FixedValue>(
     new: &BTreeMap<K, V>,
     out: &mut Vec<Operation<K, V>>,
 ) -> Result<(), AllocError>
-    ensures { OnOk result (spec.meanings K.encoding V.encoding out.new.items ≡ spec.meanings K.encoding V.encoding out.old.items
-        ++ spec.deletes (state_of K.encoding V.encoding old.now.entries) (state_of K.encoding V.encoding new.now.entries)) }
+    ensures { OnOk result (spec.meanings K.encoding V.encoding out.new.items ≡ spec.meanings K.encoding V.encoding
+        out.old.items
+        ++ spec.deletes (state_of K.encoding V.encoding old.now.entries)
+            (state_of K.encoding V.encoding new.now.entries)) }
 {
     for (key, _) in old {
         push_delete(new, key, out)?;
@@ -125,7 +130,8 @@ fn push_updates<K: Key, V: FixedValue>(
     out: &mut Vec<Operation<K, V>>,
 ) -> Result<(), AllocError>
     ensures { let next = state_of K.encoding V.encoding new.now.entries in
-        OnOk result (spec.meanings K.encoding V.encoding out.new.items ≡ spec.meanings K.encoding V.encoding out.old.items
+        OnOk result (spec.meanings K.encoding V.encoding out.new.items ≡ spec.meanings K.encoding V.encoding
+            out.old.items
         ++ spec.updates next (state_of K.encoding V.encoding old.now.entries) next) }
 {
     for (key, value) in new {
@@ -141,7 +147,8 @@ pub fn batch_operations<K: Key, V: FixedValue>(
     new: &BTreeMap<K, V>,
 ) -> Result<Vec<Operation<K, V>>, AllocError>
     ensures { IfOk result (λ operations. spec.meanings K.encoding V.encoding operations.items
-        ≡ spec.batch_operations (state_of K.encoding V.encoding old.now.entries) (state_of K.encoding V.encoding new.now.entries)) }
+        ≡ spec.batch_operations (state_of K.encoding V.encoding old.now.entries)
+            (state_of K.encoding V.encoding new.now.entries)) }
 {
     let mut out = Vec::new(alloc);
     push_deletes(old, new, &mut out)?;
@@ -157,7 +164,8 @@ pub fn changes_of<K: Key, V: FixedValue>(
 ) -> Result<Vec<Operation<K, V>>, AllocError>
     ensures { let state = spec.replayed [] (spec.meanings K.encoding V.encoding log.now) in
         let said = words.meanings K.encoding V.encoding batch.now.words.items in
-        IfOk result (λ added. spec.meanings K.encoding V.encoding added.items ≡ spec.batch_operations state (map_after said state)) }
+        IfOk result (λ added. spec.meanings K.encoding V.encoding added.items ≡ spec.batch_operations state
+            (map_after said state)) }
 {
     let old = latest_map_of(alloc, log)?;
     let new = apply_batch(state::copy_of(&old)?, batch)?;

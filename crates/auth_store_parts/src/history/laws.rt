@@ -30,7 +30,8 @@ pub fn one_commit_a_batch()
 
 /// A key whose value and next key stay gets no operation, and none that is absent before and after.
 pub fn kept_keys_get_no_operation()
-    ensures kept { (old new : Map) (key value : List ℕ) → IsState new → value_at new key ≡ Some value → is_kept old new key value ≡ true
+    ensures kept { (old new : Map) (key value : List ℕ) → IsState new → value_at new key ≡ Some value
+        → is_kept old new key value ≡ true
         → list_any (has_key key) (batch_operations old new) ≡ false }
     ensures absent { (old new : Map) (key : List ℕ) → value_at old key ≡ None → value_at new key ≡ None
         → list_any (has_key key) (batch_operations old new) ≡ false }

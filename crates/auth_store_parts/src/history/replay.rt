@@ -16,7 +16,8 @@ pub fn apply_operation<K: Key, V: FixedValue>(
     operation: &Operation<K, V>,
 ) -> Result<(), AllocError>
     ensures ok { OnOk result (state_of K.encoding V.encoding state.new.entries
-        ≡ spec.after_operation (meaning_of K.encoding V.encoding operation.now) (state_of K.encoding V.encoding state.old.entries)) }
+        ≡ spec.after_operation (meaning_of K.encoding V.encoding operation.now)
+            (state_of K.encoding V.encoding state.old.entries)) }
     ensures err { OnErr result (state.new.entries ≡ state.old.entries) }
 {
     match operation {

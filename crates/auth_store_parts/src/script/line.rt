@@ -45,7 +45,8 @@ pub fn parse_line(line: &[u8]) -> Option<Line>
 
 /// An empty line or a line of one word. Another line: `None`.
 fn parse_word(line: &[u8]) -> Option<Line>
-    ensures { MatchOption result (line_of line.now ≡ line_with_words line.now) (λ asked. line_of line.now ≡ Some asked) }
+    ensures { MatchOption result (line_of line.now ≡ line_with_words line.now)
+        (λ asked. line_of line.now ≡ Some asked) }
 {
     match line {
         b"" => Some(Line::Empty),
@@ -58,7 +59,8 @@ fn parse_word(line: &[u8]) -> Option<Line>
 }
 
 /// A line of more than one word.
-#[tactic(auto, using(crate::proofs::Lines::number_some, crate::proofs::Lines::number_none, crate::proofs::Lines::key_some, crate::proofs::Lines::key_none))]
+#[tactic(auto, using(crate::proofs::Lines::number_some, crate::proofs::Lines::number_none,
+    crate::proofs::Lines::key_some, crate::proofs::Lines::key_none))]
 fn parse_words(line: &[u8]) -> Option<Line>
     ensures { result ≡ line_with_words line.now }
 {
@@ -88,7 +90,8 @@ fn parse_words(line: &[u8]) -> Option<Line>
 }
 
 /// A key, a space and a number.
-#[tactic(auto, using(crate::proofs::Lines::number_some, crate::proofs::Lines::number_none, crate::proofs::Lines::key_some, crate::proofs::Lines::key_none), unfolding(crate::specs::Line::key_and_number))]
+#[tactic(auto, using(crate::proofs::Lines::number_some, crate::proofs::Lines::number_none,
+    crate::proofs::Lines::key_some, crate::proofs::Lines::key_none), unfolding(crate::specs::Line::key_and_number))]
 fn parse_key_and_number(words: &[u8]) -> Option<(FixedBytes<8>, u64)>
     ensures { result ≡ key_and_number words.now }
 {

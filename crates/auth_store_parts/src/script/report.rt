@@ -19,21 +19,24 @@ pub fn report_new<W: Write>(out: &mut W) -> io::Result<()>
 
 /// Prints `open N`.
 pub fn report_open<W: Write>(out: &mut W, count: u64) -> io::Result<()>
-    ensures { OnOk result (Appends (W.contents out.old) (W.contents out.new) (reported (codes "open " ++ decimal count))) }
+    ensures { OnOk result (Appends (W.contents out.old) (W.contents out.new)
+        (reported (codes "open " ++ decimal count))) }
 {
     writeln!(out, "open {count}")
 }
 
 /// Prints `commit N`.
 pub fn report_commit<W: Write>(out: &mut W, count: u64) -> io::Result<()>
-    ensures { OnOk result (Appends (W.contents out.old) (W.contents out.new) (reported (codes "commit " ++ decimal count))) }
+    ensures { OnOk result (Appends (W.contents out.old) (W.contents out.new)
+        (reported (codes "commit " ++ decimal count))) }
 {
     writeln!(out, "commit {count}")
 }
 
 /// Prints `value V`.
 pub fn report_value<W: Write>(out: &mut W, value: u64) -> io::Result<()>
-    ensures { OnOk result (Appends (W.contents out.old) (W.contents out.new) (reported (codes "value " ++ decimal value))) }
+    ensures { OnOk result (Appends (W.contents out.old) (W.contents out.new)
+        (reported (codes "value " ++ decimal value))) }
 {
     writeln!(out, "value {value}")
 }
@@ -47,7 +50,8 @@ pub fn report_none<W: Write>(out: &mut W) -> io::Result<()>
 
 /// Prints `root HEX`, with the digest's bytes in lower case. Out of memory for the digits fails too.
 pub fn report_root<W: Write>(alloc: Global, out: &mut W, digest: &[u8]) -> io::Result<()>
-    ensures { OnOk result (Appends (W.contents out.old) (W.contents out.new) (reported (codes "root " ++ encode_lower digest.now))) }
+    ensures { OnOk result (Appends (W.contents out.old) (W.contents out.new)
+        (reported (codes "root " ++ encode_lower digest.now))) }
 {
     let digits = hex::encode(alloc, digest)?;
     writeln!(out, "root {digits}")
@@ -55,14 +59,16 @@ pub fn report_root<W: Write>(alloc: Global, out: &mut W, digest: &[u8]) -> io::R
 
 /// Prints `present V`.
 pub fn report_present<W: Write>(out: &mut W, value: u64) -> io::Result<()>
-    ensures { OnOk result (Appends (W.contents out.old) (W.contents out.new) (reported (codes "present " ++ decimal value))) }
+    ensures { OnOk result (Appends (W.contents out.old) (W.contents out.new)
+        (reported (codes "present " ++ decimal value))) }
 {
     writeln!(out, "present {value}")
 }
 
 /// Prints `proof HEX`, with the proof's bytes in lower case. Out of memory for the digits fails too.
 pub fn report_proof<W: Write>(alloc: Global, out: &mut W, proof: &[u8]) -> io::Result<()>
-    ensures { OnOk result (Appends (W.contents out.old) (W.contents out.new) (reported (codes "proof " ++ encode_lower proof.now))) }
+    ensures { OnOk result (Appends (W.contents out.old) (W.contents out.new)
+        (reported (codes "proof " ++ encode_lower proof.now))) }
 {
     let digits = hex::encode(alloc, proof)?;
     writeln!(out, "proof {digits}")
@@ -70,7 +76,8 @@ pub fn report_proof<W: Write>(alloc: Global, out: &mut W, proof: &[u8]) -> io::R
 
 /// Prints `yes` or `no`.
 pub fn report_check<W: Write>(out: &mut W, holds: bool) -> io::Result<()>
-    ensures { OnOk result (Appends (W.contents out.old) (W.contents out.new) (reported (if holds then codes "yes" else codes "no"))) }
+    ensures { OnOk result (Appends (W.contents out.old) (W.contents out.new)
+        (reported (if holds then codes "yes" else codes "no"))) }
 {
     if holds {
         out.write_all(b"yes\n")
@@ -88,7 +95,8 @@ pub fn report_error<W: Write>(out: &mut W, code: &str) -> io::Result<()>
 
 /// Prints `bad line N`, with the line's number from 1.
 pub fn report_bad_line<W: Write>(out: &mut W, number: u64) -> io::Result<()>
-    ensures { OnOk result (Appends (W.contents out.old) (W.contents out.new) (reported (codes "bad line " ++ decimal number))) }
+    ensures { OnOk result (Appends (W.contents out.old) (W.contents out.new)
+        (reported (codes "bad line " ++ decimal number))) }
 {
     writeln!(out, "bad line {number}")
 }

@@ -190,3 +190,12 @@ fn prints_each_kind_of_answer(rt: HostRuntime) -> Result<(), Fail> {
     assert_eq!(rt; out.as_slice(), lines.as_slice());
     Ok(())
 }
+
+#[test]
+fn prints_why_a_script_was_not_read(rt: HostRuntime) -> Result<(), Fail> {
+    let memory = format!(in rt.alloc(); "{}", InputError::Memory)?;
+    assert_eq!(rt; memory.as_str(), "out of memory");
+    let read = format!(in rt.alloc(); "{}", InputError::Read)?;
+    assert_eq!(rt; read.as_str(), "the script cannot be read");
+    Ok(())
+}

@@ -134,7 +134,8 @@ pub fn read_operation<K: Key, V: FixedValue>(
     ensures { Reads (λ o. spec.fixed_encoding K.SIZE V.SIZE (spec.meaning_of K.encoding V.encoding o)) cursor.old
         cursor.new
         (grammar.after_operation (K.after tt) (V.after tt) K.SIZE V.SIZE cursor.old)
-        (grammar.OperationLacks (K.after tt) (V.after tt) (K.may_lack tt) (V.may_lack tt) K.SIZE V.SIZE cursor.old) result }
+        (grammar.OperationLacks (K.after tt) (V.after tt) (K.may_lack tt) (V.may_lack tt) K.SIZE V.SIZE cursor.old)
+            result }
 {
     let size = fixed_size::<K, V>();
     if (cursor.remaining() as u128) < size {

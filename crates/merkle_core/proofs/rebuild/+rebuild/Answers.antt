@@ -1,18 +1,13 @@
 use Rattle.std.proofs.Common.{Bool, Some, None, subst, ◌∙◌, ap}
 use Rattle.std.specs.Prelude.{option_map}
-use Rattle.merkle_core.specs.Rebuilt.{Hashing, IsChildOver}
+use Rattle.merkle_core.specs.Rebuilt.{Hashing, hashing_of, IsChildOver}
 use Rattle.merkle_core.proofs.Rebuilds.{over_left, over_right, joined_is}
 use Rattle.merkle_core.proofs.rebuild.+rebuild.Goals as goal
 
 pub returns-in_err-own : goal.returns-in_err-own
 returns-in_err-own g t c node tree =
     let at = c.child_over-is_left.result.1 in
-    let hashing : Hashing = record {
-      leaf_of = g.H.Hasher.leaf_of;
-      node_of = g.H.Hasher.node_of;
-      over =
-          g.O.Overlay.over c.args.over.now;
-    } in
+    let hashing : Hashing = hashing_of g.H.Hasher.leaf_of g.H.Hasher.node_of (g.O.Overlay.over c.args.over.now) in
     let Over : Bool → Type 0 =
     λ b. IsChildOver g.F.Family.merge_rule c.args.location c.args.subtree.first node b at.first at.position
     at.height in
@@ -26,12 +21,7 @@ returns-in_err-own g t c node tree =
 pub returns-in_ok-own : goal.returns-in_ok-own
 returns-in_ok-own g t c node tree =
     let at = c.child_over-is_left.result.1 in
-    let hashing : Hashing = record {
-      leaf_of = g.H.Hasher.leaf_of;
-      node_of = g.H.Hasher.node_of;
-      over =
-          g.O.Overlay.over c.args.over.now;
-    } in
+    let hashing : Hashing = hashing_of g.H.Hasher.leaf_of g.H.Hasher.node_of (g.O.Overlay.over c.args.over.now) in
     let Over : Bool → Type 0 =
     λ b. IsChildOver g.F.Family.merge_rule c.args.location c.args.subtree.first node b at.first at.position
     at.height in
@@ -48,12 +38,7 @@ returns-in_ok-own g t c node tree =
 pub returns-in_err-own-2 : goal.returns-in_err-own-2
 returns-in_err-own-2 g t c node tree =
     let at = c.child_over-is_left.result.1 in
-    let hashing : Hashing = record {
-      leaf_of = g.H.Hasher.leaf_of;
-      node_of = g.H.Hasher.node_of;
-      over =
-          g.O.Overlay.over c.args.over.now;
-    } in
+    let hashing : Hashing = hashing_of g.H.Hasher.leaf_of g.H.Hasher.node_of (g.O.Overlay.over c.args.over.now) in
     let Over : Bool → Type 0 =
     λ b. IsChildOver g.F.Family.merge_rule c.args.location c.args.subtree.first node b at.first at.position
     at.height in
@@ -67,12 +52,7 @@ returns-in_err-own-2 g t c node tree =
 pub returns-in_ok-own-2 : goal.returns-in_ok-own-2
 returns-in_ok-own-2 g t c node tree =
     let at = c.child_over-is_left.result.1 in
-    let hashing : Hashing = record {
-      leaf_of = g.H.Hasher.leaf_of;
-      node_of = g.H.Hasher.node_of;
-      over =
-          g.O.Overlay.over c.args.over.now;
-    } in
+    let hashing : Hashing = hashing_of g.H.Hasher.leaf_of g.H.Hasher.node_of (g.O.Overlay.over c.args.over.now) in
     let Over : Bool → Type 0 =
     λ b. IsChildOver g.F.Family.merge_rule c.args.location c.args.subtree.first node b at.first at.position
     at.height in

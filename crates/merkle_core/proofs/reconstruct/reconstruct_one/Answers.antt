@@ -3,7 +3,7 @@ use Rattle.std.specs.Prelude.{option_map}
 use Rattle.merkle_forest.specs.Forest.{forest_of}
 use Rattle.merkle_forest.specs.Trees.{located}
 use Rattle.merkle_forest.specs.Hashing.{root_string}
-use Rattle.merkle_core.specs.Rebuilt.{Hashing}
+use Rattle.merkle_core.specs.Rebuilt.{Hashing, hashing_of}
 use Rattle.merkle_core.specs.Reconstructed.{digests_before, digests_after, root_around}
 use Rattle.merkle_core.proofs.Reconstructs.{too_large, outside, few_peaks, of_code, count_peaks}
 use Rattle.merkle_core.proofs.reconstruct.reconstruct_one.Goals as goal
@@ -11,12 +11,7 @@ use Rattle.merkle_core.proofs.reconstruct.reconstruct_one.Goals.{then-leaves-gt-
 
 pub returns-then-leaves-gt-MAX_LEAVES : goal.returns-then-leaves-gt-MAX_LEAVES
 returns-then-leaves-gt-MAX_LEAVES g c =
-    let hashing : Hashing = record {
-      leaf_of = g.H.Hasher.leaf_of;
-      node_of = g.H.Hasher.node_of;
-      over =
-          g.O.Overlay.over c.args.over.now;
-    } in
+    let hashing : Hashing = hashing_of g.H.Hasher.leaf_of g.H.Hasher.node_of (g.O.Overlay.over c.args.over.now) in
     let it = c.args.proof.now in
     elim c.then-leaves-gt-MAX_LEAVES.branch [
       | then-leaves-gt-MAX_LEAVES-via-then-leaves-gt-MAX_LEAVES w ↦
@@ -31,12 +26,7 @@ returns-then-leaves-gt-MAX_LEAVES g c =
 
 pub returns-then-inactive-peak : goal.returns-then-inactive-peak
 returns-then-inactive-peak g c =
-    let hashing : Hashing = record {
-      leaf_of = g.H.Hasher.leaf_of;
-      node_of = g.H.Hasher.node_of;
-      over =
-          g.O.Overlay.over c.args.over.now;
-    } in
+    let hashing : Hashing = hashing_of g.H.Hasher.leaf_of g.H.Hasher.node_of (g.O.Overlay.over c.args.over.now) in
     let it = c.args.proof.now in
     let at = c.peak_over-peak.result in
     let over = rw (c.as_u64-leaves.ensures, c.as_u64-at.ensures) at c.peak_over-peak.ensures.over in
@@ -49,12 +39,7 @@ returns-then-inactive-peak g c =
 
 pub returns-in_err-own : goal.returns-in_err-own
 returns-in_err-own g c =
-    let hashing : Hashing = record {
-      leaf_of = g.H.Hasher.leaf_of;
-      node_of = g.H.Hasher.node_of;
-      over =
-          g.O.Overlay.over c.args.over.now;
-    } in
+    let hashing : Hashing = hashing_of g.H.Hasher.leaf_of g.H.Hasher.node_of (g.O.Overlay.over c.args.over.now) in
     let it = c.args.proof.now in
     let at = c.peak_over-peak.result in
     let over = rw (c.as_u64-leaves.ensures, c.as_u64-at.ensures) at c.peak_over-peak.ensures.over in
@@ -79,12 +64,7 @@ returns-in_err-own g c =
 pub returns : goal.returns
 unfolding root_around
 returns g c =
-    let hashing : Hashing = record {
-      leaf_of = g.H.Hasher.leaf_of;
-      node_of = g.H.Hasher.node_of;
-      over =
-          g.O.Overlay.over c.args.over.now;
-    } in
+    let hashing : Hashing = hashing_of g.H.Hasher.leaf_of g.H.Hasher.node_of (g.O.Overlay.over c.args.over.now) in
     let it = c.args.proof.now in
     let at = c.peak_over-peak.result in
     let over = rw (c.as_u64-leaves.ensures, c.as_u64-at.ensures) at c.peak_over-peak.ensures.over in

@@ -6,7 +6,8 @@ use Rattle.state_ops.specs.Operation.{fixed_encoding}
 use Rattle.auth_store.proofs.store.log.Log.bytes_after.Goals as goal
 
 -- lists of the same pieces are one list when joined
-flat_map-same : {X Y : Type 0} (f : X → List ℕ) (h : Y → List ℕ) (xs : List X) (ys : List Y) → map f xs ≡ map h ys → flat_map f xs ≡ flat_map h ys
+flat_map-same : {X Y : Type 0} (f : X → List ℕ) (h : Y → List ℕ) (xs : List X) (ys : List Y) → map f xs ≡ map h ys
+    → flat_map f xs ≡ flat_map h ys
 flat_map-same f h [] [] same = refl
 flat_map-same f h [] (y ∷ ys) same = absurd cc
 flat_map-same f h (x ∷ xs) [] same = absurd cc
@@ -22,9 +23,12 @@ take_rest n xs = rw (← length-drop n xs) (take-length (drop n xs))
 pub returns : goal.returns
 returns g c =
     let encoding = fixed_encoding g.K.FixedSize.SIZE g.V.FixedSize.SIZE in
-    let same = flat_map-same (λ e. e.items) encoding (drop c.args.count c.self.inside.encodings.items) (drop c.args.count c.args.self.now)
+    let same = flat_map-same (λ e. e.items) encoding (drop c.args.count c.self.inside.encodings.items)
+        (drop c.args.count c.args.self.now)
     (sym (drop-map (λ e. e.items) c.args.count c.self.inside.encodings.items)
-    ∙ (ap (drop c.args.count) (c.self.invariant ∙ ap (map encoding) c.self.view_is) ∙ drop-map encoding c.args.count c.args.self.now)) in
-    let whole : take (length c.self.inside.encodings.items - c.args.count) (drop c.args.count c.self.inside.encodings.items) ≡ drop c.args.count c.self.inside.encodings.items =
+    ∙ (ap (drop c.args.count) (c.self.invariant ∙ ap (map encoding) c.self.view_is)
+        ∙ drop-map encoding c.args.count c.args.self.now)) in
+    let whole : take (length c.self.inside.encodings.items - c.args.count)
+        (drop c.args.count c.self.inside.encodings.items) ≡ drop c.args.count c.self.inside.encodings.items =
     take_rest c.args.count c.self.inside.encodings.items in
     rw same at (rw whole at (rw c.deref.ensures.value at c.joined.ensures))
