@@ -58,9 +58,9 @@ proof_of m history key = option_map (λ v. (v, honest_proof m.pending m.setting 
     (value_at (latest_map history) key)
 
 -- the history after a request to an open store
-abbrev pub history_after : Request → History → History
-history_after (ask_commit words metadata) history = commit_after words metadata history
-history_after _ history = history
+abbrev pub next_history : Request → History → History
+next_history (ask_commit words metadata) history = commit_after words metadata history
+next_history _ history = history
 
 -- what an open store with this history answers
 abbrev pub answer_of : Machine → Request → History → Answer
@@ -85,9 +85,9 @@ answered m request None = if is_open request then opened else not_open
 answered m request (Some history) = answer_of m request history
 
 -- the state after it: an opened store has the empty history
-abbrev pub after : Request → State → State
-after request None = if is_open request then Some [] else None
-after request (Some history) = Some (history_after request history)
+abbrev pub next_state : Request → State → State
+next_state request None = if is_open request then Some [] else None
+next_state request (Some history) = Some (next_history request history)
 
 -- a batch is committed only where the log then has at most 2^62 operations
 abbrev pub HasRoom : Request → History → Type 0
@@ -109,7 +109,7 @@ MayLackMemory _ = ⊥
 -- which refusals an open store may answer: out of memory, or a log that would pass 2^62 operations
 abbrev pub MayRefuse : Request → History → StoreError → Type 0
 MayRefuse request history Memory = MayLackMemory request
-MayRefuse request history NumberEnded = 2 ^ 62 < length (log_of (history_after request history))
+MayRefuse request history NumberEnded = 2 ^ 62 < length (log_of (next_history request history))
 
 -- the refusals that a request may meet: a closed session may lack the memory to open
 abbrev pub IsRefusal : Request → State → StoreError → Type 0
@@ -119,7 +119,7 @@ IsRefusal request (Some history) error = MayRefuse request history error
 -- One step: the answer without a refusal, within the limit; or a refusal that changes nothing.
 abbrev pub IsStep : Machine → State → Request → Answer → State → Type 0
 IsStep m state request answer next =
-    ((answer ≡ answered m request state) × (next ≡ after request state) × KeepsLimit request state)
+    ((answer ≡ answered m request state) × (next ≡ next_state request state) × KeepsLimit request state)
     ⊎ ((error : StoreError) × (answer ≡ refused error) × (next ≡ state) × IsRefusal request state error)
 
 -- A run: an answer for each request, one step after the other.

@@ -1,7 +1,7 @@
 //! Steps of a session, one after the other.
 
 ghost use Rattle.std.specs.Prelude.{◌≡◌, [], None, IfOk, IfErr, OnOk, OnErr};
-ghost use Rattle.auth_store.specs.Machine.{HasRoom, IsStep, MayRefuse, answer_of, ask_open, history_after, machine, written_of};
+ghost use Rattle.auth_store.specs.Machine.{HasRoom, IsStep, MayRefuse, answer_of, ask_open, next_history, machine, written_of};
 ghost use Rattle.auth_store.specs.MachineCode.{request_of, meaning_of};
 ghost use Rattle.auth_store.specs.Store.{IsChunkWidth};
 
@@ -73,7 +73,7 @@ fn attempt<
     ensures ok { let m = machine F.merge_rule H.hash_of F.pending_encoding N K.SIZE V.SIZE in
         IfOk result (λ answer. meaning_of H.Digest.encoding V.encoding answer
         ≡ answer_of m (request_of K.encoding V.encoding step) store.old) }
-    ensures next { OnOk result (store.new ≡ history_after (request_of K.encoding V.encoding step) store.old) }
+    ensures next { OnOk result (store.new ≡ next_history (request_of K.encoding V.encoding step) store.old) }
     ensures room { OnOk result (HasRoom (request_of K.encoding V.encoding step) store.old) }
     ensures err { OnErr result (store.new ≡ store.old) }
     ensures refused { IfErr result (MayRefuse (request_of K.encoding V.encoding step) store.old) }
