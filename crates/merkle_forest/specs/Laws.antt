@@ -6,6 +6,11 @@ pub mod ForestGrowth
 pub mod Hash
 pub mod Maximal
 pub mod MaximalMeaning
+pub mod Mmb
+pub mod MmbCounts
+pub mod MmbNodes
+pub mod MmbParents
+pub mod MmbPositions
 pub mod Mmr
 pub mod MmrBirths
 pub mod MmrCounts
