@@ -20,6 +20,7 @@ pub mod NodeGrowth
 pub mod Nodes
 pub mod Parents
 pub mod Peaks
+pub mod Pending
 pub mod Powers
 pub mod RootLengths
 pub mod Rules
