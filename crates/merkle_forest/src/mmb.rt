@@ -25,8 +25,8 @@
 //! there is one peak more. So n leaves have floor(log2(n + 1)) peaks, and as many nodes less than 2n: there the next
 //! leaf stands.
 
-ghost use Rattle.std.specs.Prelude.{◌≡◌, ◌≤◌, ◌<◌, ◌+◌, ◌*◌, ◌-◌, ◌^◌, ℕ};
-ghost use Rattle.merkle_forest.specs.Forest.{mmb_rule, size, forest_of};
+ghost use Rattle.std.specs.Prelude.{◌≡◌, ◌≤◌, ◌<◌, ◌+◌, ◌*◌, ◌-◌, ◌/◌, ◌%◌, ◌^◌, ◌∷◌, [], ℕ, length, map, slice_get, Some};
+ghost use Rattle.merkle_forest.specs.Forest.{leaf, branch, height, size, mmb_rule, forest_of};
 ghost use Rattle.merkle_forest.specs.Nodes.{IsSize, StandsAt, IsFirstLeaf};
 ghost use Rattle.merkle_forest.specs.Laws.Rules.{mmb_merges_equals};
 ghost use Rattle.merkle_forest.specs.Mmb.{birth, leaf_position, root_position};
@@ -177,6 +177,20 @@ pub fn position_of_a_leaf()
 /// The forest of `MAX_LEAVES` leaves has 2^63 - 62 nodes.
 pub fn greatest_node_count()
     ensures { size (forest_of mmb_rule MAX_LEAVES) ≡ 2 ^ 63 - 62 }
+{}
+
+/// There are floor(log2(n + 1)) peaks of n leaves. At an index, counted from the right, the peak is as high as the index,
+/// or one higher where n + 1 has a 1 there in binary.
+pub fn heights_of_the_peaks()
+    ensures count { (n k : ℕ) → 2 ^ k ≤ n + 1 → n + 1 < 2 ^ (k + 1) → length (forest_of mmb_rule n) ≡ k }
+    ensures heights { (n index h : ℕ) → slice_get (map height (forest_of mmb_rule n)) index ≡ Some h
+        → h ≡ index + (n + 1) / 2 ^ index % 2 }
+{}
+
+/// The forest of five leaves is a leaf at 6 beside the branch at 7 over the other four.
+pub fn belt_of_five_leaves()
+    ensures { forest_of mmb_rule 5
+        ≡ leaf 6 ∷ branch 7 (branch 2 (leaf 0) (leaf 1)) (branch 5 (leaf 3) (leaf 4)) ∷ [] }
 {}
 
 /// The peaks of a Merkle Mountain Belt from left to right: the position and the height of each.

@@ -5,7 +5,9 @@ use Rattle.std.proofs.lemmas.Nat.{pow_pos}
 use Rattle.std.specs.Option.{option_map, option_map_or}
 use Rattle.merkle_forest.specs.Forest.{Tree, leaf, branch, height, leaf_count, size, leaves, merged, peaks_after_merges, with_leaf, forest_of, first_pair_from, mmb_rule}
 use Rattle.merkle_forest.specs.Laws.Rules.{mmb_merges_equals}
-use Rattle.merkle_forest.specs.Laws.ForestGrowth.{size-twice, leaves-forest_of}
+use Rattle.std.specs.Prelude.{slice_get}
+use Rattle.std.proofs.Math.Nat.{div-div-eq-div-mul}
+use Rattle.merkle_forest.specs.Laws.ForestGrowth.{size-twice, leaves-forest_of, some_number}
 use Rattle.merkle_forest.specs.Laws.Powers.{pow_order}
 use Rattle.merkle_forest.specs.Mmb.{leaf_position, root_position, mmb_tree, IsBelt}
 
@@ -190,13 +192,21 @@ pub exponent-same : (a b m : ℕ) → 2 ^ a ≤ m → m < 2 ^ suc a → 2 ^ b �
 exponent-same a b m low_a high_a low_b high_b =
     le_antisymm (pow_order a b (omega (arith, low_a, high_b))) (pow_order b a (omega (arith, low_b, high_a)))
 
+-- the peaks are as many as the greatest k for which 2 ^ k is at most n + 1
+pub length-log : (n k : ℕ) → 2 ^ k ≤ n + 1 → n + 1 < 2 ^ suc k → length (forest_of mmb_rule n) ≡ k
+length-log n k low high =
+    let it = length-belt 0 (suc n) (forest_of mmb_rule n) (forest_of-belt n) in
+    exponent-same (length (forest_of mmb_rule n)) k (suc n) it.0 it.1 (omega (arith, low)) (omega (arith, high))
+
 -- the position of the leaf after n leaves, by the greatest k for which 2 ^ k is at most n + 1
 pub size-mmb : (n k : ℕ) → 2 ^ k ≤ n + 1 → n + 1 < 2 ^ suc k → leaf_position n + k ≡ 2 * n
 size-mmb n k low high =
-    let it = length-belt 0 (suc n) (forest_of mmb_rule n) (forest_of-belt n) in
-    let same : length (forest_of mmb_rule n) ≡ k =
-    exponent-same (length (forest_of mmb_rule n)) k (suc n) it.0 it.1 (omega (arith, low)) (omega (arith, high)) in
-    omega (arith, same, size-twice (forest_of mmb_rule n), leaves-forest_of mmb_rule mmb_merges_equals n)
+    omega (
+      arith,
+      length-log n k low high,
+      size-twice (forest_of mmb_rule n),
+      leaves-forest_of mmb_rule mmb_merges_equals n,
+    )
 
 pub size-log : (n k : ℕ) → 2 ^ k ≤ n + 1 → n + 1 < 2 * 2 ^ k → leaf_position n + k ≡ 2 * n
 size-log n k low high = size-mmb n k low (omega (arith, high, pow-suc 2 k))
@@ -208,3 +218,31 @@ size-most n = omega (arith, size-twice (forest_of mmb_rule n), leaves-forest_of 
 -- the greatest node count
 pub size-limit : leaf_position (2 ^ 62) ≡ 2 ^ 63 - 62
 size-limit = omega (arith, size-mmb (2 ^ 62) 62 (omega arith) (omega arith))
+
+-- as the two digits of 5 + 1 after the highest tell, there are two peaks, of heights 0 and 1 + 1
+pub five-leaves : forest_of mmb_rule 5
+    ≡ leaf 6 ∷ branch 7 (branch 2 (leaf 0) (leaf 1)) (branch 5 (leaf 3) (leaf 4)) ∷ []
+unfolding forest_of peaks_after_merges
+five-leaves = refl
+
+heights-belt : (i index m h : ℕ) (peaks : List Tree) → IsBelt index m peaks → slice_get (map height peaks) i ≡ Some h
+    → h ≡ index + i + m / 2 ^ i % 2
+heights-belt i index m h [] belt is = absurd cc
+heights-belt zero index m h (t ∷ ts) belt is =
+    let high : height t ≡ index + m % 2 = ap height belt.0 ∙ height-mmb_tree (index + m % 2) (leaves ts) in
+    omega (arith, some_number (height t) h is, high)
+heights-belt (suc i) index m h (t ∷ ts) belt is =
+    let rest = heights-belt i (suc index) (m / 2) h ts belt.1 is in
+    let double : 2 * 2 ^ i ≡ 2 ^ suc i = omega (arith, pow-suc 2 i) in
+    let digits : m / 2 / 2 ^ i ≡ m / 2 ^ suc i = div-div-eq-div-mul m 2 (2 ^ i) ∙ ap (λ d. m / d) double in
+    let digit : m / 2 / 2 ^ i % 2 ≡ m / 2 ^ suc i % 2 = ap (λ d. d % 2) digits in
+    omega (arith, rest, digit)
+
+-- and the one at index i from the right is i high, or one higher where the digit at i is 1
+pub heights-mmb : (n i h : ℕ) → slice_get (map height (forest_of mmb_rule n)) i ≡ Some h
+    → h ≡ i + (n + 1) / 2 ^ i % 2
+heights-mmb n i h is =
+    let it = heights-belt i 0 (suc n) h (forest_of mmb_rule n) (forest_of-belt n) is in
+    let next : suc n ≡ n + 1 = omega arith in
+    let digit : suc n / 2 ^ i % 2 ≡ (n + 1) / 2 ^ i % 2 = ap (λ m. m / 2 ^ i % 2) next in
+    omega (arith, it, digit)
