@@ -179,8 +179,8 @@ pub fn greatest_node_count()
     ensures { size (forest_of mmb_rule MAX_LEAVES) ≡ 2 ^ 63 - 62 }
 {}
 
-/// There are floor(log2(n + 1)) peaks of n leaves. At an index, counted from the right, the peak is as high as the index,
-/// or one higher where n + 1 has a 1 there in binary.
+/// The forest of n leaves has floor(log2(n + 1)) peaks. The one at an index, counted from the right, is as high as the
+/// index, or one higher where n + 1 has a 1 there in binary.
 pub fn heights_of_the_peaks()
     ensures count { (n k : ℕ) → 2 ^ k ≤ n + 1 → n + 1 < 2 ^ (k + 1) → length (forest_of mmb_rule n) ≡ k }
     ensures heights { (n index h : ℕ) → slice_get (map height (forest_of mmb_rule n)) index ≡ Some h

@@ -76,7 +76,8 @@ fn a_leaf_brings_one_parent_or_none(rt: HostRuntime) -> Result<(), Fail> {
     Ok(())
 }
 
-// The belt of 11 leaves, as it is drawn with its positions: of the node at each, height, first leaf, birth and children.
+// The belt of 11 leaves, as it is drawn with its positions: heights, first leaves and births of the nodes at 0 to 18,
+// and of each branch the position and those of its children.
 const HEIGHTS: [u32; 19] = [0, 0, 1, 0, 0, 1, 0, 2, 0, 1, 0, 0, 1, 0, 2, 0, 1, 0, 3];
 
 const FIRST_LEAVES: [u64; 19] = [0, 1, 0, 2, 3, 2, 4, 0, 5, 4, 6, 7, 6, 8, 4, 9, 8, 10, 0];
