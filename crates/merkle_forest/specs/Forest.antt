@@ -1,6 +1,6 @@
 -- The forest that grows leaf by leaf, and what is read off it.
 use Rattle.std.specs.Prelude.{◌≡◌, ℕ, zero, suc, ◌+◌, ◌==◌, if◌then◌else◌, List, [], ◌∷◌, ◌++◌, length, map, take, drop, slice_get, Option, Some, None}
-use Rattle.std.specs.Option.{option_map_or}
+use Rattle.std.specs.Option.{option_map, option_map_or}
 
 -- a leaf at its position, or a branch at its position over the tree to its left and the one to its right
 pub data Tree : Type 0 where
@@ -67,6 +67,20 @@ forest_of rule (suc n) = with_leaf rule (forest_of rule n)
 abbrev pub mmr_rule : Rule
 mmr_rule merges (a ∷ b ∷ heights) = if a == b then Some 0 else None
 mmr_rule merges heights = None
+
+-- the least index at which two neighbours have equal heights, of a list that begins with this height
+abbrev pub first_pair_from : ℕ → List ℕ → Option ℕ
+first_pair_from a [] = None
+first_pair_from a (b ∷ heights) = if a == b then Some 0 else option_map (λ index. suc index) (first_pair_from b heights)
+
+abbrev pub first_pair : List ℕ → Option ℕ
+first_pair [] = None
+first_pair (a ∷ heights) = first_pair_from a heights
+
+-- MMB: once for each leaf, the rightmost two neighbours of equal heights merge
+abbrev pub mmb_rule : Rule
+mmb_rule zero heights = first_pair heights
+mmb_rule (suc merges) heights = None
 
 -- an index at which two neighbours have equal heights
 abbrev pub IsPairOfEquals : List ℕ → ℕ → Type 0

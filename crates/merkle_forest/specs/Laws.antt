@@ -6,6 +6,11 @@ pub mod ForestGrowth
 pub mod Hash
 pub mod Maximal
 pub mod MaximalMeaning
+pub mod Mmb
+pub mod MmbCounts
+pub mod MmbNodes
+pub mod MmbParents
+pub mod MmbPositions
 pub mod Mmr
 pub mod MmrBirths
 pub mod MmrCounts
@@ -15,6 +20,7 @@ pub mod NodeGrowth
 pub mod Nodes
 pub mod Parents
 pub mod Peaks
+pub mod Pending
 pub mod Powers
 pub mod RootLengths
 pub mod Rules

@@ -6,6 +6,7 @@ pub mod Forest
 pub mod Hashing
 pub mod Laws
 pub mod Maximal
+pub mod Mmb
 pub mod Mmr
 pub mod Nodes
 pub mod Peaks

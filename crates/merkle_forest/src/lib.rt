@@ -13,6 +13,7 @@ pub mod hasher;
 pub mod laws;
 pub mod location;
 pub mod location_range;
+pub mod mmb;
 pub mod mmr;
 pub mod parent_heights;
 pub mod peaks;

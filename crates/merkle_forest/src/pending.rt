@@ -1,19 +1,21 @@
 //! What a proof holds of the digest of a chunk that is full and not yet graftable.
 //!
 //! A chunk of leaves is full when its last leaf is there, and graftable when the node over it is born. Where a family's
-//! nodes are born with their last leaf no full chunk is pending, and a proof has nothing to hold.
+//! nodes are born with their last leaf no full chunk is pending, and a proof has nothing to hold. Where they are born
+//! later, a proof holds the digest of the one that is pending, if any.
 
 ghost use Rattle.std.specs.Prelude.{◌≡◌, ◌<◌, ◌≤◌, ◌/◌, ◌^◌, ◌++◌, ◌↔◌, ℕ, List, [], length, Option, Some, None, Ok, IsSome, IfSome, option_map, refl, ⊤};
 ghost use Rattle.std.proofs.Common.{sym, ◌∙◌};
-ghost use Rattle.merkle_forest_parts.specs.Codec.{Outcome};
+ghost use Rattle.merkle_forest_parts.specs.Codec.{Outcome, after_fixed, after_option, option_encoding};
 ghost use Rattle.merkle_forest.specs.Forest.{forest_of};
 ghost use Rattle.merkle_forest.specs.Laws.MmrCounts.{all-mmr};
+ghost use Rattle.merkle_forest.specs.Laws.Pending.{encoded-pending, read-pending, value-pending, never-lacks_pending, same-pending, again-pending, once-pending};
 ghost use Rattle.merkle_forest.specs.Nodes.{nodes_of_height};
 
 use crate::codec::{Cursor, EncodeSize, Error, Read, Write};
 use crate::digest::Digest;
 use crate::family::Family;
-use crate::mmr;
+use crate::{mmb, mmr};
 use std::alloc::{AllocError, Global};
 use std::fmt::Debug;
 
@@ -158,4 +160,53 @@ impl<D: Digest> PendingOf<D> for mmr::Family {
     ghost none_pending = { refl };
 
     ghost some_pending = { λ leaves height _ _ _ _ more _. absurd (all-mmr leaves height more) };
+}
+
+/// A proof over a Merkle Mountain Belt holds the digest of the pending chunk, or that none is pending.
+impl<D: Digest> PendingOf<D> for mmb::Family {
+    type Pending = Option<D>;
+
+    ghost is_pending = { λ digest. IfSome digest (λ bytes. length bytes ≡ D.SIZE) };
+
+    ghost pending_encoding = { option_encoding (λ bytes. bytes) };
+
+    ghost pending_after = { after_option (after_fixed D.SIZE) };
+
+    ghost held = { option_map D.encoding };
+
+    fn hold(digest: Option<D>) -> Option<Option<D>>
+        ensures held { IfSome result (λ pending. option_map D.encoding pending ≡ option_map D.encoding digest) }
+        ensures some { IsSome result ↔ IfSome (option_map D.encoding digest) (λ bytes. length bytes ≡ D.SIZE) }
+    {
+        match digest {
+            None => Some(None),
+            Some(digest) => {
+                // that it has `SIZE` bytes is known of the bytes that it shows
+                let _bytes = digest.as_bytes();
+                Some(Some(digest))
+            }
+        }
+    }
+
+    fn digest_of(pending: &Option<D>) -> Option<D> {
+        *pending
+    }
+
+    ghost pending_encoded = { encoded-pending D.encoding };
+
+    ghost pending_read = { read-pending D.SIZE (D.after tt) D.any_bytes };
+
+    ghost pending_value = { value-pending D.SIZE D.encoding D.is_value D.sized };
+
+    ghost pending_never_lacks = { never-lacks_pending (D.may_lack tt) D.never_lacks };
+
+    ghost pending_same = { same-pending D.encoding D.same_bytes };
+
+    ghost pending_again = { again-pending D.SIZE };
+
+    ghost pending_once = { once-pending D.SIZE };
+
+    ghost none_pending = { tt };
+
+    ghost some_pending = { λ _ _ _ _ _ _ _ sized. sized };
 }

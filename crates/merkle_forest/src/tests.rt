@@ -119,3 +119,19 @@ fn a_range_holds_no_pending_digest(rt: HostRuntime) -> Result<(), Fail> {
     assert_eq!(rt; Unused::decode_cfg(rt.alloc(), &[], &())?, Unused);
     Ok(())
 }
+
+#[test]
+fn a_belt_holds_the_pending_digest_if_any(rt: HostRuntime) -> Result<(), Fail> {
+    let digest = codec::FixedBytes::new([7, 8]);
+    let held = mmb::Family::hold(Some(digest));
+    assert_eq!(rt; held, Some(Some(digest)));
+    assert_eq!(rt; mmb::Family::digest_of(&Some(digest)), Some(digest));
+    assert_eq!(rt;
+        Some(digest).encode(rt.alloc())?.as_slice(),
+        [1, 7, 8].as_slice()
+    );
+    let nothing: Option<codec::FixedBytes<2>> = None;
+    assert_eq!(rt; mmb::Family::hold(nothing), Some(None));
+    assert_eq!(rt; mmb::Family::digest_of(&nothing), None);
+    Ok(())
+}

@@ -14,7 +14,7 @@ use Rattle.merkle_forest.specs.Laws.MmrBirths.{birth-mmr}
 use Rattle.merkle_forest.specs.Laws.Parents.{get-range, length-range}
 
 -- a number whose lowest t digits are ones
-low-ones : (t n : ℕ) → ((i : ℕ) → i < t → bit_at n i ≡ 1) → n % 2 ^ t ≡ 2 ^ t - 1
+pub low-ones : (t n : ℕ) → ((i : ℕ) → i < t → bit_at n i ≡ 1) → n % 2 ^ t ≡ 2 ^ t - 1
 low-ones zero n set = omega arith
 low-ones (suc t) n set =
     let split : n % 2 ^ suc t ≡ n / 2 ^ t % 2 * 2 ^ t + n % 2 ^ t = ap (λ k. n % 2 ^ k) (omega arith)

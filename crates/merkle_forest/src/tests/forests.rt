@@ -1,11 +1,11 @@
-//! Forests of Merkle Mountain Ranges against counts and roots from outside.
+//! Grown forests of both families against counts, positions and roots from outside.
 
 use crate::codec::FixedBytes;
 use crate::forest::{Tree, grow};
 use crate::hasher::{Hasher, Standard};
 use crate::tests::hashing::hex;
 use crate::trees::{Plain, digests_of_peaks, inactive_count_of, locate};
-use crate::{Bagging, ByteHash, mmr};
+use crate::{Bagging, ByteHash, mmb, mmr};
 use std::test::Fail;
 
 // Appends the positions of a tree's nodes, those of the children before that of the branch.
@@ -36,6 +36,24 @@ fn numbers_the_nodes_in_order_of_birth(rt: HostRuntime) -> Result<(), Fail> {
             assert_eq!(rt; *position, index as u64, "at {leaves}");
         }
     }
+    Ok(())
+}
+
+// The trees of the belt that is drawn in `mmb`, from left to right, children before their branch.
+#[test]
+fn grows_the_drawn_belt(rt: HostRuntime) -> Result<(), Fail> {
+    let peaks = grow::<mmb::Family>(rt.alloc(), 11)?;
+    let mut found = Vec::new(rt.alloc());
+    for peak in peaks.iter().rev() {
+        append_positions(&mut found, peak)?;
+    }
+    assert_eq!(rt;
+        found.as_slice(),
+        [
+            0, 1, 2, 3, 4, 5, 7, 6, 8, 9, 10, 11, 12, 14, 18, 13, 15, 16, 17
+        ]
+        .as_slice()
+    );
     Ok(())
 }
 
@@ -77,6 +95,38 @@ fn hashes_the_root_of_seven_leaves_as_hashlib_does(rt: HostRuntime) -> Result<()
         let hasher: Standard<ByteHash> = Standard::new(bagging);
         let seven = mmr::Location::new(7);
         let found = hasher.root(seven, inactive, &digests)?;
+        assert_eq!(rt; hex(rt.alloc(), &found)?.as_str(), text, "at {inactive}");
+    }
+    Ok(())
+}
+
+// Made by Python's hashlib likewise. In a belt the peaks are
+// node(7, node(2, leaf(0), leaf(1)), node(5, leaf(3), leaf(4))), node(9, leaf(6), leaf(8)) and leaf(10).
+#[test]
+fn hashes_the_root_of_a_belt_as_hashlib_does(rt: HostRuntime) -> Result<(), Fail> {
+    let wanted = [
+        (
+            Bagging::ForwardFold,
+            0,
+            "b49f3fc23e8e15beb0280cd79d6ffe6bdabb431c592c21081e27470d7c64a255",
+        ),
+        (
+            Bagging::BackwardFold,
+            2,
+            "a53cc645e92d09c69b67a1771e4cb0e779a9239ba3abdd73705ce35835a8175f",
+        ),
+    ];
+    let mut elements = Vec::new(rt.alloc());
+    for byte in b"abcdefg" {
+        elements.push([*byte].to_vec(rt.alloc())?)?;
+    }
+    let peaks = grow::<mmb::Family>(rt.alloc(), 7)?;
+    assert_eq!(rt; elements.len(), 7);
+    let plain: Plain<ByteHash> = Plain::new(&elements);
+    let digests: Vec<FixedBytes<32>> = digests_of_peaks(rt.alloc(), &plain, &peaks)?;
+    for (bagging, inactive, text) in wanted {
+        let hasher: Standard<ByteHash> = Standard::new(bagging);
+        let found = hasher.root(mmb::Location::new(7), inactive, &digests)?;
         assert_eq!(rt; hex(rt.alloc(), &found)?.as_str(), text, "at {inactive}");
     }
     Ok(())
