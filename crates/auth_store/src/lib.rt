@@ -13,7 +13,7 @@ pub use auth_store_parts::{Batch, Word, batch, history, state};
 pub use client::{Claim, check};
 pub use error::StoreError;
 pub use merkle_forest::codec::FixedBytes;
-pub use merkle_forest::{ByteHash, mmr};
+pub use merkle_forest::{ByteHash, mmb, mmr};
 pub use plain::{PlainCache, PlainDevice, Sizes};
 pub use session::{Answer, Session, Step};
 pub use store::prove::KeyProof;

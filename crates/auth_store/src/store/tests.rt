@@ -1,6 +1,6 @@
 use super::*;
 use merkle_forest::codec::FixedBytes;
-use merkle_forest::{ByteHash, mmr};
+use merkle_forest::{ByteHash, Graftable, PendingOf, mmb, mmr};
 use std::test::Fail;
 
 type Name = FixedBytes<8>;
@@ -12,9 +12,9 @@ const SIZES: Sizes = Sizes {
     replay_buffer: 1024,
 };
 
-/// The roots that a program made apart from this code has for the empty history and after each batch of
-/// `has_the_roots_that_were_computed_apart`.
-const ROOTS: [&str; 8] = [
+/// The roots that a program made apart from this code has for the empty history and after each batch of `has_roots`, over
+/// a Merkle Mountain Range with chunks of one byte.
+const RANGE_ROOTS: [&str; 8] = [
     "c53c021671c9918572a3d8618becb5aebdf33a769b5becc4ca7163482bf9748d",
     "978115ad5af77723c820f767c65a3a12219bad5f806468c6a5e13f1ab0e5b5cb",
     "0e030b135bbce1a71fecb7434a111c7beb7fcee05ac32e38aff4b0665dcbfa1c",
@@ -23,6 +23,30 @@ const ROOTS: [&str; 8] = [
     "fbcfb1cea779fe05327b74c5ac07be09cb824814e0c93a074d9547252a37059e",
     "16e665e4cd79fefe588b9803a276514b0f31d32898dcde1237481771360f74d5",
     "63be5a087da622bc75dc7b29335c83d6536f285908d8c40c17f20347637d91a4",
+];
+
+/// The same over a Merkle Mountain Belt.
+const BELT_ROOTS: [&str; 8] = [
+    "c53c021671c9918572a3d8618becb5aebdf33a769b5becc4ca7163482bf9748d",
+    "978115ad5af77723c820f767c65a3a12219bad5f806468c6a5e13f1ab0e5b5cb",
+    "179d81e32898afef89761c69cc8a0fbad8f9bdf2632c863c12f5060fb205bb56",
+    "9ceda0dcea82a57b9009262c8903ba342a398ae9fe866132bad57cdf9d70c805",
+    "115afa36abbb8b8e2ed271b3eeff30cca741b5f8e219bd138aaa41f16785592b",
+    "ea8b358f824a7b3608ade3616c6c9484c628fa2e372c25235de20fafe0b74551",
+    "e608271974dc6b341d0c0381a8e1bdd731ae45d456c9d2154e00b95ba166e8f2",
+    "77a9f5cd4ec30069aa0b25f8facd4f9b469653eca366f91efa1b9d15016429b2",
+];
+
+/// The same over a Merkle Mountain Belt with chunks of 32 bytes.
+const WIDE_BELT_ROOTS: [&str; 8] = [
+    "a26d7590d2b6fa9a4648d8e9ac833ed2701c24d4c226f3c604b2047a1d93d065",
+    "71d9d1bd21c223d0374442bf609271b6d5d08cee4a9117c04ae604fe99ab1379",
+    "6fd170dd5ed6b0ee104ba456d91e1768d5cd35aa4c7e1624ce18602fad3a460f",
+    "e9e01ae68bea9ab780631169009614dbc5f778b2e526571cfca18b08d9e2b26e",
+    "10188d64494aa3286f45946d8954fb668272ad7cc447e9b2e614de45dd6d81f4",
+    "0dc33f1e40b61bfd8a28710b510e34a6afefbda743e0ca3da4ef44f6e51bef02",
+    "4cb0fadb5aa305fc0610d2ae45689acf6430f6b5e7ea4ea92a5e82496aecd382",
+    "eba06cf440432779d70d3df6d447f604f9659f169759a5d5adbedf3f91da11c7",
 ];
 
 const FF: Name = FixedBytes { bytes: [0, 0, 0, 0, 0, 0, 0, 0xff] };
@@ -40,15 +64,19 @@ fn open(alloc: Global) -> Result<Small, StoreError> {
     Ok(Store::open(alloc, device, PlainCache::new(), SIZES)?)
 }
 
-/// The digits of the store's root.
-fn hex_root(alloc: Global, store: &Small) -> Result<String, StoreError> {
-    Ok(hex::encode(alloc, store.root()?.as_bytes())?)
+/// Whether the store's root has these digits.
+fn has_root<F: Graftable + PendingOf<FixedBytes<32>>, const N: usize>(
+    alloc: Global,
+    store: &Store<F, ByteHash, Name, u64, N>,
+    digits: &str,
+) -> Result<bool, StoreError> {
+    Ok(hex::encode(alloc, store.root()?.as_bytes())?.as_str() == digits)
 }
 
 /// Commits these puts, and after them deletes of these keys.
-fn commit(
+fn commit<F: Graftable + PendingOf<FixedBytes<32>>, const N: usize>(
     alloc: Global,
-    store: &mut Small,
+    store: &mut Store<F, ByteHash, Name, u64, N>,
     puts: &[(Name, u64)],
     deletes: &[Name],
     metadata: Option<u64>,
@@ -71,7 +99,7 @@ fn an_opened_store_is_empty(rt: HostRuntime) -> Result<(), Fail> {
     assert_eq!(rt; store.floor()?, 0);
     assert_eq!(rt; store.len()?, 1);
     assert_eq!(rt; store.get(&key(0, 1))?, None);
-    assert_eq!(rt; hex_root(rt.alloc(), &store)?.as_str(), ROOTS[0]);
+    assert_eq!(rt; has_root(rt.alloc(), &store, RANGE_ROOTS[0])?, true);
     Ok(())
 }
 
@@ -111,16 +139,20 @@ fn refusals_have_their_numbers_and_texts(rt: HostRuntime) -> Result<(), Fail> {
     Ok(())
 }
 
-#[test]
-fn has_the_roots_that_were_computed_apart(rt: HostRuntime) -> Result<(), Fail> {
-    let alloc = rt.alloc();
-    let mut store = open(alloc)?;
+/// Whether an empty store has the first of these roots, and the next one after each batch: batches that say nothing, one
+/// that says a key twice, and one that deletes all keys and an absent one.
+fn has_roots<F: Graftable + PendingOf<FixedBytes<32>>, const N: usize>(
+    alloc: Global,
+    mut store: Store<F, ByteHash, Name, u64, N>,
+    roots: &[&str; 8],
+) -> Result<bool, StoreError> {
+    let mut holds = has_root(alloc, &store, roots[0])?;
     commit(alloc, &mut store, &[], &[], None)?;
-    assert_eq!(rt; hex_root(alloc, &store)?.as_str(), ROOTS[1]);
+    holds &= has_root(alloc, &store, roots[1])?;
     commit(alloc, &mut store, &[(ONE_00, 2)], &[], None)?;
-    assert_eq!(rt; hex_root(alloc, &store)?.as_str(), ROOTS[2]);
+    holds &= has_root(alloc, &store, roots[2])?;
     commit(alloc, &mut store, &[], &[], None)?;
-    assert_eq!(rt; hex_root(alloc, &store)?.as_str(), ROOTS[3]);
+    holds &= has_root(alloc, &store, roots[3])?;
     let puts = [
         (ONE_00, 7383976807972800068),
         (LAST, 2216117075407898749),
@@ -128,19 +160,37 @@ fn has_the_roots_that_were_computed_apart(rt: HostRuntime) -> Result<(), Fail> {
         (ONE_00, 2),
     ];
     commit(alloc, &mut store, &puts, &[], None)?;
-    assert_eq!(rt; hex_root(alloc, &store)?.as_str(), ROOTS[4]);
+    holds &= has_root(alloc, &store, roots[4])?;
     let puts = [(FF, 0), (FF, 9707888342978710211), (ONE_00, 0), (FF, 0)];
     commit(alloc, &mut store, &puts, &[], Some(1))?;
-    assert_eq!(rt; hex_root(alloc, &store)?.as_str(), ROOTS[5]);
+    holds &= has_root(alloc, &store, roots[5])?;
     commit(alloc, &mut store, &[(FF, 1), (ONE_00, 0)], &[], Some(1))?;
-    assert_eq!(rt; hex_root(alloc, &store)?.as_str(), ROOTS[6]);
+    holds &= has_root(alloc, &store, roots[6])?;
     let absent = FixedBytes::new(*b"no entry");
     let deletes = [FF, ONE_00, absent, LAST];
     commit(alloc, &mut store, &[], &deletes, Some(u64::MAX))?;
-    assert_eq!(rt; hex_root(alloc, &store)?.as_str(), ROOTS[7]);
-    assert_eq!(rt; store.len()?, 18);
-    assert_eq!(rt; store.floor()?, 17);
-    assert_eq!(rt; store.get(&LAST)?, None);
+    holds &= has_root(alloc, &store, roots[7])?;
+    Ok(holds && store.len()? == 18 && store.floor()? == 17 && store.get(&LAST)?.is_none())
+}
+
+#[test]
+fn has_the_roots_that_were_computed_apart(rt: HostRuntime) -> Result<(), Fail> {
+    let alloc = rt.alloc();
+    assert_eq!(rt; has_roots(alloc, open(alloc)?, &RANGE_ROOTS)?, true);
+    Ok(())
+}
+
+#[test]
+fn has_the_roots_of_belts_that_were_computed_apart(rt: HostRuntime) -> Result<(), Fail> {
+    let alloc = rt.alloc();
+    let device = PlainDevice::new(alloc);
+    let store: Store<mmb::Family, ByteHash, Name, u64, 1> =
+        Store::open(alloc, device, PlainCache::new(), SIZES)?;
+    assert_eq!(rt; has_roots(alloc, store, &BELT_ROOTS)?, true);
+    let device = PlainDevice::new(alloc);
+    let store: Store<mmb::Family, ByteHash, Name, u64, 32> =
+        Store::open(alloc, device, PlainCache::new(), SIZES)?;
+    assert_eq!(rt; has_roots(alloc, store, &WIDE_BELT_ROOTS)?, true);
     Ok(())
 }
 
