@@ -3,3 +3,4 @@ pub mod Stores
 pub mod Runs
 pub mod Honest
 pub mod Widths
+pub mod ScriptLines

@@ -12,4 +12,4 @@ pub mod Machine
 pub mod MachineCode
 pub mod Claims
 pub mod ClaimsCode
-pub mod ScriptRun
+pub mod ScriptLines
