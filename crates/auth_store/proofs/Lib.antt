@@ -4,3 +4,4 @@ pub mod Runs
 pub mod Honest
 pub mod Widths
 pub mod ScriptLines
+pub mod ScriptRuns

@@ -13,3 +13,4 @@ pub mod MachineCode
 pub mod Claims
 pub mod ClaimsCode
 pub mod ScriptLines
+pub mod ScriptRun

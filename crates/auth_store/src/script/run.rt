@@ -1,15 +1,17 @@
 //! A whole run of a script.
 
-ghost use Rattle.std.specs.Prelude.{◌≡◌, ◌<◌, ◌^◌, ◌⊎◌, ◌++◌, ◌↔◌, [], false, option_map, None, Some, Ok, codes, IfErr, IsSome, IsSomeAnd, OnErr, OnOk, IfOk};
+ghost use Rattle.std.specs.Prelude.{◌≡◌, ◌<◌, ◌≤◌, ◌^◌, ◌⊎◌, ◌++◌, ◌∷◌, ◌↔◌, [], false, length, option_map, MatchOption, IfSome, None, Some, Ok, codes, IfErr, IsSome, IsSomeAnd, OnErr, OnOk, IfOk};
 ghost use Rattle.std.specs.Fmt.{decimal};
 ghost use Rattle.std.specs.Io.KnownBytes.{Appends};
 ghost use Rattle.std.specs.IoError.{error_kind};
 ghost use Rattle.std.specs.declared.io.ErrorKind.TheVariants.{OutOfMemory};
 ghost use Rattle.auth_store.specs.Batch as words;
+ghost use Rattle.auth_store.specs.Line.{line_of};
 ghost use Rattle.auth_store.specs.Machine.{IsStep, is_open, proof};
 ghost use Rattle.auth_store.specs.MachineCode.{meaning_of, request_of};
 ghost use Rattle.auth_store.specs.Report.{reported};
 ghost use Rattle.auth_store.specs.ScriptLines.{IsMisplaced, IsNoProof, IsOpenAnd, IsOutOfPlace, Prints, Takes, answer_line, bytes_of, checked_line, kept_of, new_progress, progress_of, proof_and_root, script_machine, value_of, with_state};
+ghost use Rattle.auth_store.specs.ScriptRun.{Ends, IsBadLine, StopsAt, TakesLine, lines_of};
 ghost use Rattle.auth_store.specs.Store.{commit_after};
 ghost use Rattle.auth_store.specs.declared.script.run.End.TheVariants as ends;
 
@@ -327,7 +329,12 @@ fn take_line<W: Write>(
     progress: &mut Option<Progress>,
     out: &mut W,
     text: &[u8],
-) -> Result<(), End> {
+) -> Result<(), End>
+    ensures ok { OnOk result (Prints (W.contents out.old) (W.contents out.new) (λ printed.
+        TakesLine (option_map progress_of progress.old) (line_of text.now) printed (option_map progress_of progress.new))) }
+    ensures bad { IfErr result (λ end. end ≡ End.BadLine → IsBadLine (option_map progress_of progress.old) (line_of text.now)
+        × Appends (W.contents out.old) (W.contents out.new) []) }
+{
     let line = parse_line(text).ok_or(End::BadLine)?;
     match (progress.as_mut(), line) {
         (Some(progress), line) => progress.step(out, line),
@@ -357,15 +364,35 @@ fn end_run<W: Write>(out: &mut W, end: End, number: u64) -> u8
     }
 }
 
+// The first line of a text, and what stands after its newline, if it has one.
+fn cut_line(text: &[u8]) -> (&[u8], Option<&[u8]>)
+    ensures cut { MatchOption result.1 (lines_of text.now ≡ result.0.now ∷ [])
+        (λ rest. lines_of text.now ≡ result.0.now ∷ lines_of rest.now) }
+    ensures shorter { IfSome result.1 (λ rest. length rest.now < length text.now) }
+{
+    match text.iter().position(|byte| *byte == b'\n') {
+        Some(end) => (&text[..end], Some(&text[end + 1..])),
+        None => (text, None),
+    }
+}
+
 // Takes all lines, and answers the status.
-fn run_lines<W: Write>(alloc: Global, script: &[u8], out: &mut W) -> u8 {
+fn run_lines<W: Write>(alloc: Global, script: &[u8], out: &mut W) -> u8
+    requires { length script.now ≤ 2 ^ 24 }
+    ensures done { result ≡ 0 → Prints (W.contents out.old) (W.contents out.new) (Ends script.now) }
+    ensures bad { result ≡ 2 → Prints (W.contents out.old) (W.contents out.new) (StopsAt script.now) }
+    ensures status { result ≤ 3 }
+{
     let mut progress = None;
     let mut number = 0u64;
-    for text in script.split(|byte| *byte == b'\n') {
-        number = number.saturating_add(1);
-        if let Err(end) = take_line(alloc, &mut progress, out, text) {
+    let mut left = Some(script);
+    while let Some(text) = left {
+        let (line, rest) = cut_line(text);
+        number += 1;
+        if let Err(end) = take_line(alloc, &mut progress, out, line) {
             return end_run(out, end, number);
         }
+        left = rest;
     }
     DONE
 }
@@ -383,7 +410,11 @@ fn status_of(refused: InputError) -> u8
 
 /// Reads the whole script, runs it line by line, and answers the status: 0 at the end of the script, 1 where reading or
 /// writing failed, 2 after a bad line, 3 where the script itself was out of memory.
-pub fn run_script<R: Read, W: Write>(alloc: Global, reader: &mut R, writer: &mut W) -> u8 {
+pub fn run_script<R: Read, W: Write>(alloc: Global, reader: &mut R, writer: &mut W) -> u8
+    ensures done { result ≡ 0 → IfSome (R.remaining reader.old) (λ script. Prints (W.contents writer.old) (W.contents writer.new) (Ends script)) }
+    ensures bad { result ≡ 2 → IfSome (R.remaining reader.old) (λ script. Prints (W.contents writer.old) (W.contents writer.new) (StopsAt script)) }
+    ensures status { result ≤ 3 }
+{
     match read_script(alloc, reader) {
         Ok(script) => run_lines(alloc, &script, writer),
         Err(refused) => status_of(refused),
