@@ -3,3 +3,5 @@ pub mod Stores
 pub mod Runs
 pub mod Honest
 pub mod Widths
+pub mod ScriptLines
+pub mod ScriptRuns

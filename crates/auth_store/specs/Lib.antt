@@ -12,4 +12,5 @@ pub mod Machine
 pub mod MachineCode
 pub mod Claims
 pub mod ClaimsCode
+pub mod ScriptLines
 pub mod ScriptRun

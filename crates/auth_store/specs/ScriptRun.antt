@@ -1,61 +1,57 @@
--- What a run of a script keeps and prints.
-use Rattle.std.specs.Prelude.{◌≡◌, ℕ, ◌++◌, Bool, if◌then◌else◌, List, [], codes, Option, None, Some, Result, Ok, Err, option_map}
+-- What a whole run of a script prints.
+use Rattle.std.specs.Prelude.{◌≡◌, ◌+◌, ◌==◌, ℕ, ◌++◌, ◌∷◌, List, [], codes, length, Option, None, Some, if◌then◌else◌}
 use Rattle.std.specs.Fmt.{decimal}
-use Rattle.std.specs.Int.{w64, to_be_bytes}
-use Rattle.hex.specs.Hex.{encode_lower}
-use Rattle.merkle_forest.specs.declared.codec.fixed_bytes.FixedBytes.{FixedBytes}
-use Rattle.merkle_forest.specs.Forest.{mmr_rule}
-use Rattle.sha2.specs.Sha256.{sha256}
-use Rattle.auth_store.specs.declared.error.StoreError.{StoreError}
-use Rattle.auth_store.specs.declared.error.StoreError.TheVariants.{NumberEnded, Memory}
-use Rattle.auth_store.specs.declared.session.Answer.{Answer}
-use Rattle.auth_store.specs.declared.session.Answer.TheVariants as answers
-use Rattle.auth_store.specs.declared.script.run.Kept.{Kept}
-use Rattle.auth_store.specs.Batch.{Word}
-use Rattle.auth_store.specs.History.{History}
-use Rattle.auth_store.specs.Machine.{Machine, State, machine}
-use Rattle.auth_store.specs.Proving.{honest_proof}
-use Rattle.auth_store.specs.Store.{commit_after, root_of_history}
+use Rattle.auth_store_parts.specs.declared.script.line.Line.{Line}
+use Rattle.auth_store_parts.specs.declared.script.line.Line.TheVariants.{Empty, New}
+use Rattle.auth_store.specs.Line.{line_of}
+use Rattle.auth_store.specs.Report.{reported}
+use Rattle.auth_store.specs.ScriptLines.{Progress, Takes, IsOutOfPlace, new_progress}
 
--- the encoding of a key or of a digest
-abbrev pub bytes_of : {M : ℕ} → FixedBytes M → List ℕ
-bytes_of fixed = fixed.bytes
+-- A line that is taken in a run. The first that isn't empty begins it, and before it nothing is made; a text that spells
+-- no line is never taken.
+abbrev pub TakesLine : Option Progress → Option Line → List ℕ → Option Progress → Type 0
+TakesLine now None printed next = ⊥
+TakesLine (Some now) (Some line) printed next = (later : Progress) × (next ≡ Some later) × Takes now line printed later
+TakesLine None (Some Empty) printed next = (printed ≡ []) × (next ≡ None)
+TakesLine None (Some (New seed)) printed next = (printed ≡ reported (codes "new")) × (next ≡ Some new_progress)
+TakesLine None (Some line) printed next = ⊥
 
--- the encoding of a value
-abbrev pub value_of : ℕ → List ℕ
-value_of value = to_be_bytes w64 value
+-- A line that ends a run: it is of another form or out of place. Before the run begins each is, but an empty one or `new`.
+abbrev pub IsBadLine : Option Progress → Option Line → Type 0
+IsBadLine now None = Unit {0}
+IsBadLine (Some now) (Some line) = IsOutOfPlace now line
+IsBadLine None (Some Empty) = ⊥
+IsBadLine None (Some (New seed)) = ⊥
+IsBadLine None (Some line) = Unit {0}
 
--- a refusal's short name
-abbrev pub refusal_name : StoreError → List ℕ
-refusal_name NumberEnded = codes "S3"
-refusal_name Memory = codes "S4"
+-- lines that are taken, one after the other, and all that they print
+abbrev pub HasTaken : Option Progress → List (List ℕ) → List ℕ → Option Progress → Type 0
+HasTaken first [] printed last = (printed ≡ []) × (last ≡ first)
+HasTaken first (text ∷ texts) printed last = (next : Option Progress) × (line rest : List ℕ) × (printed ≡ line ++ rest)
+    × TakesLine first (line_of text) line next × HasTaken next texts rest last
 
--- the line that says an answer, where it has one of its own
-abbrev pub answer_line : Answer (FixedBytes 32) ℕ → Option (List ℕ)
-answer_line (answers.Value (Some value)) = Some (codes "value " ++ decimal value)
-answer_line (answers.Value None) = Some (codes "none")
-answer_line (answers.Root root) = Some (codes "root " ++ encode_lower root.bytes)
-answer_line (answers.Refused error) = Some (codes "error " ++ refusal_name error)
-answer_line _ = None
+-- with this byte at the front of the first line
+abbrev pub with_byte : ℕ → List (List ℕ) → List (List ℕ)
+with_byte b [] = (b ∷ []) ∷ []
+with_byte b (line ∷ lines) = (b ∷ line) ∷ lines
 
--- the line that says what a check answers: it is only refused where it is out of memory
-abbrev pub checked_line : {E : Type 0} → Result Bool E → List ℕ
-checked_line (Ok holds) = if holds then codes "yes" else codes "no"
-checked_line (Err e) = codes "error S4"
+-- the lines of a script: what stands between newline bytes
+abbrev pub lines_of : List ℕ → List (List ℕ)
+lines_of [] = [] ∷ []
+lines_of (b ∷ text) = if b == 10 then ([] ∷ lines_of text) else with_byte b (lines_of text)
 
--- the kept bytes of a proof, and the root of the moment at which it was made
-abbrev pub kept_of : Option Kept → Option (List ℕ × List ℕ)
-kept_of kept = option_map (λ k. (k.bytes.items, k.root.bytes)) kept
+-- all lines are taken
+abbrev pub Ends : List ℕ → List ℕ → Type 0
+Ends script printed = (last : Option Progress) × HasTaken None (lines_of script) printed last
 
--- the machine of the script: an MMR, SHA-256, chunks of one byte, keys and values of eight
-abbrev pub script_machine : Machine
-script_machine = machine mmr_rule sha256 (λ _. []) 1 8 8
-
--- what a proved key leaves of an open store: the honest bytes, and the root of that moment
-abbrev pub Keeps : State → List ℕ → Option (List ℕ × List ℕ) → Type 0
-Keeps state key kept = (history : History) × (state ≡ Some history)
-    × (kept ≡ Some (honest_proof (λ _. []) script_machine.setting 8 8 history key, root_of_history script_machine.setting 8 8 history))
-
--- an open store commits these words
-abbrev pub Commits : List Word → Option (List ℕ) → State → State → Type 0
-Commits words metadata state next = (history : History) × (state ≡ Some history) × (next ≡ Some (commit_after words metadata history))
+-- some lines are taken, and the next is bad: its number is printed last, counted from 1
+pub record StopsAt (script printed : List ℕ) : Type 0 where
+  pub before : List (List ℕ)
+  pub text : List ℕ
+  pub later : List (List ℕ)
+  pub now : Option Progress
+  pub said : List ℕ
+  pub lines : lines_of script ≡ before ++ text ∷ later
+  pub taken : HasTaken None before said now
+  pub bad : IsBadLine now (line_of text)
+  pub is : printed ≡ said ++ reported (codes "bad line " ++ decimal (length before + 1))
