@@ -32,9 +32,14 @@ pub taken_more : (first : Option Progress) (texts : List (List ℕ)) (text said 
     → HasTaken first texts said now → TakesLine now (line_of text) line next → HasTaken first (texts ++ text ∷ []) (said ++ line) next
 taken_more first [] text said line now next taken takes =
     (next, line, [], ap (λ s. s ++ line) taken.0 ∙ sym (append-nil line), subst (λ n. TakesLine n (line_of text) line next) taken.1 takes, (refl, refl))
-taken_more first (t ∷ texts) text said line now next taken takes =
-    (taken.0, taken.1, taken.2 ++ line, ap (λ s. s ++ line) taken.3 ∙ append_assoc taken.1 taken.2 line, taken.4,
-    taken_more taken.0 texts text taken.2 line now next taken.5 takes)
+taken_more first (t ∷ texts) text said line now next taken takes = (
+  taken.0,
+  taken.1,
+  taken.2 ++ line,
+  ap (λ s. s ++ line) taken.3 ∙ append_assoc taken.1 taken.2 line,
+  taken.4,
+  taken_more taken.0 texts text taken.2 line now next taken.5 takes,
+)
 
 -- ---- a script's first line
 
@@ -103,8 +108,11 @@ taken_next script text line rest number a b c now next taken cut takes = record 
   before = taken.before ++ line ∷ [];
   lines = taken.lines ∙ ap (λ l. taken.before ++ l) (left_after text line rest cut) ∙ sym (append_assoc taken.before (line ∷ []) (lines_left (text_of rest)));
   count = ap (λ n. n + 1) taken.count ∙ sym (length-append taken.before (line ∷ []));
-  taken = (taken.taken.0 ++ takes.0, Appends-trans a b c taken.taken.0 takes.0 taken.taken.1 takes.1,
-    taken_more None taken.before line taken.taken.0 takes.0 now next taken.taken.2 takes.2);
+  taken = (
+    taken.taken.0 ++ takes.0,
+    Appends-trans a b c taken.taken.0 takes.0 taken.taken.1 takes.1,
+    taken_more None taken.before line taken.taken.0 takes.0 now next taken.taken.2 takes.2,
+  );
 }
 
 -- there are few lines
@@ -132,18 +140,21 @@ pub stops : (script text line : List ℕ) (rest : Option (Bor (List ℕ))) (numb
     → IsBadLine now (line_of line) × Appends b c [] → Appends c d (reported (codes "bad line " ++ decimal (number + 1))) → Prints a d (StopsAt script)
 stops script text line rest number a b c d now taken cut bad told =
     let said = reported (codes "bad line " ++ decimal (number + 1)) in
-    let before = taken.taken in
-    (before.0 ++ said, Appends-trans a b d before.0 said before.1 (Appends-trans b c d [] said bad.1 told), record {
-      before = taken.before;
-      text = line;
-      later = lines_left (text_of rest);
-      now = now;
-      said = before.0;
-      lines = taken.lines ∙ ap (λ l. taken.before ++ l) (left_after text line rest cut);
-      taken = before.2;
-      bad = bad.0;
-      is = ap (λ (n : ℕ). before.0 ++ reported (codes "bad line " ++ decimal (n + 1))) taken.count;
-    })
+    let before = taken.taken in (
+      before.0 ++ said,
+      Appends-trans a b d before.0 said before.1 (Appends-trans b c d [] said bad.1 told),
+      record {
+        before = taken.before;
+        text = line;
+        later = lines_left (text_of rest);
+        now = now;
+        said = before.0;
+        lines = taken.lines ∙ ap (λ l. taken.before ++ l) (left_after text line rest cut);
+        taken = before.2;
+        bad = bad.0;
+        is = ap (λ (n : ℕ). before.0 ++ reported (codes "bad line " ++ decimal (n + 1))) taken.count;
+      },
+    )
 
 ended_bad : (result : ℕ) (Said : Type 0) → (result ≡ 1) ⊎ ((result ≡ 2) × Said)
     → (result ≡ 0 → ⊥) × (result ≡ 2 → (ends.BadLine ≡ ends.BadLine) × Said) × (result ≤ 3)
