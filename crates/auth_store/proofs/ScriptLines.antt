@@ -183,9 +183,20 @@ proves (Some history) words kept key number bytes digest first second next a b f
     let under = rooted history digest second (subst (λ (s : State). IsStep script_machine s ask_root (root_is digest) second) step.1 root) in
     let keep : State → List ℕ → List ℕ → Progress = λ s proved root. made s words (Some (proved, root)) in
     let next_is : next ≡ keep (Some history) honest (script_root history) =
-    is ∙ ap (λ (s : State). keep s bytes digest) under.1 ∙ ap (λ (p : List ℕ). keep (Some history) p digest) held.1 ∙ ap (keep (Some history) honest) under.0 in
-    (_, said, (history, refl, inl (told.0, held.0, next_is,
-      ap (λ (n : ℕ). reported (codes "present " ++ decimal n)) (sym (from_be_bytes-to_be_bytes_8 number few)))))
+    is ∙ ap (λ (s : State). keep s bytes digest) under.1 ∙ ap (λ (p : List ℕ). keep (Some history) p digest) held.1 ∙ ap (keep (Some history) honest) under.0 in (
+      _,
+      said,
+      (
+        history,
+        refl,
+        inl (
+          told.0,
+          held.0,
+          next_is,
+          ap (λ (n : ℕ). reported (codes "present " ++ decimal n)) (sym (from_be_bytes-to_be_bytes_8 number few)),
+        ),
+      ),
+    )
 proves (Some history) words kept key number bytes digest first second next a b few (inr step) placed root is said =
     let told : List ℕ × List ℕ = (to_be_bytes w64 number, bytes) in
     absurd (let e : proof (Some told) ≡ refused step.0 = step.1 in cc)

@@ -1,6 +1,7 @@
 -- What a whole run of a script prints.
-use Rattle.std.specs.Prelude.{◌≡◌, ◌+◌, ◌==◌, ℕ, ◌++◌, ◌∷◌, List, [], codes, length, Option, None, Some, if◌then◌else◌}
+use Rattle.std.specs.Prelude.{◌≡◌, ◌+◌, ◌==◌, ℕ, ◌++◌, ◌∷◌, List, [], codes, length, Option, None, Some}
 use Rattle.std.specs.Fmt.{decimal}
+use Rattle.std.specs.List.{slice_split}
 use Rattle.auth_store_parts.specs.declared.script.line.Line.{Line}
 use Rattle.auth_store_parts.specs.declared.script.line.Line.TheVariants.{Empty, New}
 use Rattle.auth_store.specs.Line.{line_of}
@@ -30,15 +31,9 @@ HasTaken first [] printed last = (printed ≡ []) × (last ≡ first)
 HasTaken first (text ∷ texts) printed last = (next : Option Progress) × (line rest : List ℕ) × (printed ≡ line ++ rest)
     × TakesLine first (line_of text) line next × HasTaken next texts rest last
 
--- with this byte at the front of the first line
-abbrev pub with_byte : ℕ → List (List ℕ) → List (List ℕ)
-with_byte b [] = (b ∷ []) ∷ []
-with_byte b (line ∷ lines) = (b ∷ line) ∷ lines
-
 -- the lines of a script: what stands between newline bytes
 abbrev pub lines_of : List ℕ → List (List ℕ)
-lines_of [] = [] ∷ []
-lines_of (b ∷ text) = if b == 10 then ([] ∷ lines_of text) else with_byte b (lines_of text)
+lines_of script = slice_split (λ byte. byte == 10) script
 
 -- all lines are taken
 abbrev pub Ends : List ℕ → List ℕ → Type 0

@@ -1,6 +1,6 @@
 //! A whole run of a script.
 
-ghost use Rattle.std.specs.Prelude.{◌≡◌, ◌<◌, ◌≤◌, ◌^◌, ◌⊎◌, ◌++◌, ◌∷◌, ◌↔◌, [], false, length, option_map, MatchOption, IfSome, None, Some, Ok, codes, IfErr, IsSome, IsSomeAnd, OnErr, OnOk, IfOk};
+ghost use Rattle.std.specs.Prelude.{◌≡◌, ◌<◌, ◌≤◌, ◌^◌, ◌⊎◌, ◌++◌, ◌∷◌, ◌==◌, ◌↔◌, [], false, length, option_map, position, MatchOption, IfSome, None, Some, Ok, codes, IfErr, IsSome, IsSomeAnd, OnErr, OnOk, IfOk};
 ghost use Rattle.std.specs.Fmt.{decimal};
 ghost use Rattle.std.specs.Io.KnownBytes.{Appends};
 ghost use Rattle.std.specs.IoError.{error_kind};
@@ -364,13 +364,20 @@ fn end_run<W: Write>(out: &mut W, end: End, number: u64) -> u8
     }
 }
 
+// Where the first newline stands.
+fn newline(text: &[u8]) -> Option<usize>
+    ensures { result ≡ position (λ byte. byte == 10) text.now }
+{
+    text.iter().position(|byte| *byte == b'\n')
+}
+
 // The first line of a text, and what stands after its newline, if it has one.
 fn cut_line(text: &[u8]) -> (&[u8], Option<&[u8]>)
     ensures cut { MatchOption result.1 (lines_of text.now ≡ result.0.now ∷ [])
         (λ rest. lines_of text.now ≡ result.0.now ∷ lines_of rest.now) }
     ensures shorter { IfSome result.1 (λ rest. length rest.now < length text.now) }
 {
-    match text.iter().position(|byte| *byte == b'\n') {
+    match newline(text) {
         Some(end) => (&text[..end], Some(&text[end + 1..])),
         None => (text, None),
     }

@@ -21,15 +21,15 @@ returns-in_default-clause-ok g c =
     ∙ ap (λ items. made later (meanings bytes_of value_of items) now.kept) c.new.ensures in
     on_ok_weaker c.report-in_default.result
     (not_committed now.state now.words now.kept metadata later answer (progress_of c.take.new.self) _ _
-      (subst (λ (w : List Word). IsStep script_machine now.state (ask_commit w metadata) answer later) words c.in_ok-other.ensures.step)
-      c.in_ok-other.ensures.placed empty)
+    (subst (λ (w : List Word). IsStep script_machine now.state (ask_commit w metadata) answer later) words c.in_ok-other.ensures.step)
+    c.in_ok-other.ensures.placed empty)
     c.report-in_default.ensures.line
 
 pub returns-in_default-clause-bad : goal.returns-in_default-clause-bad
 returns-in_default-clause-bad g c =
     bad_where c.report-in_default.result _ (λ bad. absurd
     (commit_has_line c.args.self.now.session.store c.take.new.self.session.store
-      (meanings bytes_of value_of c.replace-batch.result.words.items) (option_map value_of c.args.metadata) (meaning_of bytes_of value_of c.in_ok-other.other)
-      c.in_ok-other.ensures.step c.in_ok-other.ensures.placed
-      (λ root is. let there = committed_where bytes_of value_of c.in_ok-other.other root is in c.in_default.not-Committed there.0 there.1)
-      (c.report-in_default.ensures.bad.0 bad)))
+    (meanings bytes_of value_of c.replace-batch.result.words.items) (option_map value_of c.args.metadata) (meaning_of bytes_of value_of c.in_ok-other.other)
+    c.in_ok-other.ensures.step c.in_ok-other.ensures.placed
+    (λ root is. let there = committed_where bytes_of value_of c.in_ok-other.other root is in c.in_default.not-Committed there.0 there.1)
+    (c.report-in_default.ensures.bad.0 bad)))

@@ -16,7 +16,8 @@ returns-in_default-clause-ok g c = let h = c.in_ok-other.ensures in let a = c.re
 
 pub returns-in_default-clause-bad : goal.returns-in_default-clause-bad
 returns-in_default-clause-bad g c =
-    bad_where c.report-in_default.result _ (λ bad.
-    (opened_already c.args.self.now.session.store c.take.new.self.session.store (meaning_of bytes_of value_of c.in_ok-other.other) c.in_ok-other.ensures.step
-      (λ is. c.in_default.not-Opened (opened_where bytes_of value_of c.in_ok-other.other is)) (c.report-in_default.ensures.bad.0 bad),
-    c.report-in_default.ensures.quiet bad))
+    bad_where c.report-in_default.result _ (λ bad. (
+      opened_already c.args.self.now.session.store c.take.new.self.session.store (meaning_of bytes_of value_of c.in_ok-other.other) c.in_ok-other.ensures.step
+          (λ is. c.in_default.not-Opened (opened_where bytes_of value_of c.in_ok-other.other is)) (c.report-in_default.ensures.bad.0 bad),
+      c.report-in_default.ensures.quiet bad,
+    ))

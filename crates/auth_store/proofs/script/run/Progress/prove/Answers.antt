@@ -12,27 +12,29 @@ returns-in-Err-clause-ok g c =
     let answer : Answer = meaning_of bytes_of value_of c.in-Err.other in
     on_ok_weaker c.report.result
     (not_proved now.state now.words now.kept c.args.key.bytes c.take.new.self.session.store answer (progress_of c.take.new.self) _ _
-      (subst (λ (a : Answer). IsStep script_machine now.state (ask_proof c.args.key.bytes) a c.take.new.self.session.store) (sym c.in-Err.ensures.other.0) c.in_ok-take.ensures.step)
-      c.in_ok-take.ensures.placed c.in_ok-take.ensures.rest)
+    (subst (λ (a : Answer). IsStep script_machine now.state (ask_proof c.args.key.bytes) a c.take.new.self.session.store) (sym c.in-Err.ensures.other.0) c.in_ok-take.ensures.step)
+    c.in_ok-take.ensures.placed c.in_ok-take.ensures.rest)
     c.report.ensures.line
 
 pub returns-in-Err-clause-bad : goal.returns-in-Err-clause-bad
 returns-in-Err-clause-bad g c =
     let there = c.in-Err.ensures.other in
-    bad_where c.report.result _ (λ bad. (inr
-      (absent c.args.self.now.session.store c.take.new.self.session.store c.args.key.bytes (meaning_of bytes_of value_of c.in_ok-take.field-0)
-        c.in_ok-take.ensures.step c.in_ok-take.ensures.placed there.1 (ap answer_line (sym there.0) ∙ c.report.ensures.bad.0 bad)),
-    c.report.ensures.quiet bad))
+    bad_where c.report.result _ (λ bad. (
+      inr
+          (absent c.args.self.now.session.store c.take.new.self.session.store c.args.key.bytes (meaning_of bytes_of value_of c.in_ok-take.field-0)
+          c.in_ok-take.ensures.step c.in_ok-take.ensures.placed there.1 (ap answer_line (sym there.0) ∙ c.report.ensures.bad.0 bad)),
+      c.report.ensures.quiet bad,
+    ))
 
 pub returns-in_default-clause-ok : goal.returns-in_default-clause-ok
 returns-in_default-clause-ok g c =
     let now = progress_of c.args.self.now in
     on_ok_weaker c.report-in_default.result
     (root_refused now.state now.words now.kept c.args.key.bytes c.take.new.self.session.store c.take-2.new.self.session.store
-      (meaning_of bytes_of value_of c.in_ok-take.field-0) (meaning_of bytes_of value_of c.in_ok-other.other) (progress_of c.take-2.new.self) _ _
-      c.in_ok-take.ensures.step c.in_ok-take.ensures.placed c.in_ok-other.ensures.step
-      (λ digest is. let there = root_where bytes_of value_of c.in_ok-other.other digest is in c.in_default.not-Root there.0 there.1)
-      (c.in_ok-other.ensures.rest ∙ ap (λ p. made c.take-2.new.self.session.store p.words p.kept) c.in_ok-take.ensures.rest))
+    (meaning_of bytes_of value_of c.in_ok-take.field-0) (meaning_of bytes_of value_of c.in_ok-other.other) (progress_of c.take-2.new.self) _ _
+    c.in_ok-take.ensures.step c.in_ok-take.ensures.placed c.in_ok-other.ensures.step
+    (λ digest is. let there = root_where bytes_of value_of c.in_ok-other.other digest is in c.in_default.not-Root there.0 there.1)
+    (c.in_ok-other.ensures.rest ∙ ap (λ p. made c.take-2.new.self.session.store p.words p.kept) c.in_ok-take.ensures.rest))
     c.report-in_default.ensures.line
 
 pub returns-clause-ok : goal.returns-clause-ok
