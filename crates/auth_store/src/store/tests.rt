@@ -12,8 +12,8 @@ const SIZES: Sizes = Sizes {
     replay_buffer: 1024,
 };
 
-/// The roots that a program made apart from this code has for the empty history and after each batch of `has_roots`, over
-/// a Merkle Mountain Range with chunks of one byte.
+/// The roots that a program made apart from this code has for the empty history and after each batch of `BATCHES`, over a
+/// Merkle Mountain Range with chunks of one byte.
 const RANGE_ROOTS: [&str; 8] = [
     "c53c021671c9918572a3d8618becb5aebdf33a769b5becc4ca7163482bf9748d",
     "978115ad5af77723c820f767c65a3a12219bad5f806468c6a5e13f1ab0e5b5cb",
@@ -54,6 +54,33 @@ const FF: Name = FixedBytes { bytes: [0, 0, 0, 0, 0, 0, 0, 0xff] };
 const ONE_00: Name = FixedBytes { bytes: [0, 0, 0, 0, 0, 0, 1, 0] };
 
 const LAST: Name = FixedBytes { bytes: [0xff; 8] };
+
+const ABSENT: Name = FixedBytes { bytes: *b"no entry" };
+
+/// Batches that say nothing, that say one key twice, and one that deletes all keys and an absent one: the puts, the deletes
+/// after them, and the metadata.
+const BATCHES: [(&[(Name, u64)], &[Name], Option<u64>); 7] = [
+    (&[], &[], None),
+    (&[(ONE_00, 2)], &[], None),
+    (&[], &[], None),
+    (
+        &[
+            (ONE_00, 7383976807972800068),
+            (LAST, 2216117075407898749),
+            (FF, u64::MAX),
+            (ONE_00, 2),
+        ],
+        &[],
+        None,
+    ),
+    (
+        &[(FF, 0), (FF, 9707888342978710211), (ONE_00, 0), (FF, 0)],
+        &[],
+        Some(1),
+    ),
+    (&[(FF, 1), (ONE_00, 0)], &[], Some(1)),
+    (&[], &[FF, ONE_00, ABSENT, LAST], Some(u64::MAX)),
+];
 
 fn key(high: u8, low: u8) -> Name {
     FixedBytes::new([0, 0, 0, 0, 0, 0, high, low])
@@ -139,37 +166,17 @@ fn refusals_have_their_numbers_and_texts(rt: HostRuntime) -> Result<(), Fail> {
     Ok(())
 }
 
-/// Whether an empty store has the first of these roots, and the next one after each batch: batches that say nothing, one
-/// that says a key twice, and one that deletes all keys and an absent one.
+/// Whether an empty store has the first of these roots, and the next one after each batch.
 fn has_roots<F: Graftable + PendingOf<FixedBytes<32>>, const N: usize>(
     alloc: Global,
     mut store: Store<F, ByteHash, Name, u64, N>,
     roots: &[&str; 8],
 ) -> Result<bool, StoreError> {
     let mut holds = has_root(alloc, &store, roots[0])?;
-    commit(alloc, &mut store, &[], &[], None)?;
-    holds &= has_root(alloc, &store, roots[1])?;
-    commit(alloc, &mut store, &[(ONE_00, 2)], &[], None)?;
-    holds &= has_root(alloc, &store, roots[2])?;
-    commit(alloc, &mut store, &[], &[], None)?;
-    holds &= has_root(alloc, &store, roots[3])?;
-    let puts = [
-        (ONE_00, 7383976807972800068),
-        (LAST, 2216117075407898749),
-        (FF, u64::MAX),
-        (ONE_00, 2),
-    ];
-    commit(alloc, &mut store, &puts, &[], None)?;
-    holds &= has_root(alloc, &store, roots[4])?;
-    let puts = [(FF, 0), (FF, 9707888342978710211), (ONE_00, 0), (FF, 0)];
-    commit(alloc, &mut store, &puts, &[], Some(1))?;
-    holds &= has_root(alloc, &store, roots[5])?;
-    commit(alloc, &mut store, &[(FF, 1), (ONE_00, 0)], &[], Some(1))?;
-    holds &= has_root(alloc, &store, roots[6])?;
-    let absent = FixedBytes::new(*b"no entry");
-    let deletes = [FF, ONE_00, absent, LAST];
-    commit(alloc, &mut store, &[], &deletes, Some(u64::MAX))?;
-    holds &= has_root(alloc, &store, roots[7])?;
+    for ((puts, deletes, metadata), root) in BATCHES.iter().zip(&roots[1..]) {
+        commit(alloc, &mut store, puts, deletes, *metadata)?;
+        holds &= has_root(alloc, &store, root)?;
+    }
     Ok(holds && store.len()? == 18 && store.floor()? == 17 && store.get(&LAST)?.is_none())
 }
 

@@ -266,8 +266,8 @@ fn each_end_has_its_status(rt: HostRuntime) {
 fn refusals_are_printed_by_their_numbers(rt: HostRuntime) -> Result<(), Fail> {
     let mut out = Vec::new(rt.alloc());
     let alloc = rt.alloc();
-    assert!(rt; report(alloc, &mut out, &Answer::Refused(StoreError::NumberEnded)).is_ok());
-    assert!(rt; report(alloc, &mut out, &Answer::Refused(StoreError::Memory)).is_ok());
+    assert!(rt; report(alloc, &mut out, Answer::Refused(StoreError::NumberEnded)).is_ok());
+    assert!(rt; report(alloc, &mut out, Answer::Refused(StoreError::Memory)).is_ok());
     report_checked(&mut out, Err(AllocError))?;
     assert_eq!(rt;
         out.as_slice(),
