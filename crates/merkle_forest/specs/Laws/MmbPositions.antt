@@ -4,7 +4,7 @@ use Rattle.std.proofs.lemmas.Nat.{pow_pos, div-mul-add, shl_whole}
 use Rattle.merkle_forest.specs.Forest.{Tree, leaf, branch, position, height, leaves, forest_of, mmb_rule}
 use Rattle.merkle_forest.specs.Laws.Rules.{mmb_merges_equals}
 use Rattle.merkle_forest.specs.Laws.ForestGrowth.{size-twice, leaves-forest_of, size-le}
-use Rattle.merkle_forest.specs.Nodes.{IsNodeAt, IsPeakAt, IsSize, IsBranchOf, StandsAt, IsFirstLeaf, IsSubtree, IsPositionOfNode}
+use Rattle.merkle_forest.specs.Nodes.{IsNodeAt, IsPeakAt, IsSize, IsBranchOf, StandsAt, IsFirstLeaf, IsSubtree}
 use Rattle.merkle_forest.specs.Laws.Nodes.{peak-node, node-leaves}
 use Rattle.merkle_forest.specs.Laws.Powers.{pow_order}
 use Rattle.merkle_forest.specs.Mmb.{leaf_position, birth, root_position, mmb_tree}
@@ -228,8 +228,3 @@ children-mmb p h location left right it is_first =
       some = omega (arith, it.high);
       low = omega (arith, low-birth location node.high (2 ^ 62) (omega arith) born, parts.0);
     }
-
--- in every forest the node has that position
-pub position-mmb : (first h : ℕ) → IsPositionOfNode mmb_rule first h (root_position first h)
-position-mmb first h n node few stands high = ap (root_position first) high
-    ∙ sym (node_position-mmb n first node stands)
