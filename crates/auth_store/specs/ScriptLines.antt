@@ -36,6 +36,7 @@ pub record Progress : Type 0 where
 abbrev pub new_progress : Progress
 new_progress = record { state = None; words = []; kept = None }
 
+-- the same with another state, with other words, or with another proof
 abbrev pub with_state : State → Progress → Progress
 with_state state now = record { state = state; words = now.words; kept = now.kept }
 
@@ -59,7 +60,11 @@ kept_of kept = option_map (λ k. (k.bytes.items, k.root.bytes)) kept
 
 -- what the code has made
 abbrev pub progress_of : code.Progress → Progress
-progress_of p = record { state = p.session.store; words = meanings bytes_of value_of p.batch.words.items; kept = kept_of p.kept }
+progress_of p = record {
+  state = p.session.store;
+  words = meanings bytes_of value_of p.batch.words.items;
+  kept = kept_of p.kept;
+}
 
 -- the machine of the script: an MMR, SHA-256, chunks of one byte, keys and values of eight
 abbrev pub script_machine : Machine
@@ -113,7 +118,8 @@ IsNoProof _ = Unit {0}
 
 -- a refusal that the request may meet is printed
 abbrev pub Refuses : Request → State → List ℕ → Type 0
-Refuses request state printed = (error : StoreError) × IsRefusal request state error × (printed ≡ reported (refusal_line error))
+Refuses request state printed =
+    (error : StoreError) × IsRefusal request state error × (printed ≡ reported (refusal_line error))
 
 -- the line that says what a check answers: it is only refused where it is out of memory
 abbrev pub checked_line : {E : Type 0} → Result Bool E → List ℕ
@@ -153,7 +159,8 @@ CommitsWords now metadata printed next = IsOpenAnd now.state (λ history.
 abbrev pub Proves : Progress → List ℕ → List ℕ → Progress → Type 0
 Proves now key printed next = IsOpenAnd now.state (λ history.
     ((bytes : List ℕ) × (value_at (latest_map history) key ≡ Some bytes)
-    × (next ≡ with_kept (Some (proof_and_root history key)) now) × (printed ≡ reported (codes "present " ++ spelled bytes)))
+    × (next ≡ with_kept (Some (proof_and_root history key)) now)
+    × (printed ≡ reported (codes "present " ++ spelled bytes)))
     ⊎ ((next ≡ now) × Refuses (ask_proof key) now.state printed))
 
 -- a proof is kept, and this holds of its bytes and its root; nothing changes
@@ -177,7 +184,8 @@ Takes now (Prove key) printed next = Proves now key.bytes printed next
 Takes now Proof printed next =
     UsesKept now (λ bytes root. printed ≡ reported (codes "proof " ++ encode_lower bytes)) next
 Takes now (CheckValue key number) printed next =
-    UsesKept now (λ bytes root. Checks (Shows script_terms (has_value key.bytes (value_of number)) root bytes) printed) next
+    let claim = has_value key.bytes (value_of number) in
+    UsesKept now (λ bytes root. Checks (Shows script_terms claim root bytes) printed) next
 
 -- ---- a line that stands where it may not
 

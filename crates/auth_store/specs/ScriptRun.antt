@@ -8,8 +8,8 @@ use Rattle.auth_store.specs.Line.{line_of}
 use Rattle.auth_store.specs.Report.{reported}
 use Rattle.auth_store.specs.ScriptLines.{Progress, Takes, IsOutOfPlace, new_progress}
 
--- A line that is taken in a run. The first that isn't empty begins it, and before it nothing is made; a text that spells
--- no line is never taken.
+-- A line that is taken in a run. The first that isn't empty begins it, and before it nothing is made. A text that
+-- spells no line is never taken.
 abbrev pub TakesLine : Option Progress → Option Line → List ℕ → Option Progress → Type 0
 TakesLine now None printed next = ⊥
 TakesLine (Some now) (Some line) printed next = (later : Progress) × (next ≡ Some later) × Takes now line printed later
@@ -17,7 +17,8 @@ TakesLine None (Some Empty) printed next = (printed ≡ []) × (next ≡ None)
 TakesLine None (Some (New seed)) printed next = (printed ≡ reported (codes "new")) × (next ≡ Some new_progress)
 TakesLine None (Some line) printed next = ⊥
 
--- A line that ends a run: it is of another form or out of place. Before the run begins each is, but an empty one or `new`.
+-- A line that ends a run: it is of another form or out of place. Before the run begins each is, but an empty one or
+-- `new`.
 abbrev pub IsBadLine : Option Progress → Option Line → Type 0
 IsBadLine now None = Unit {0}
 IsBadLine (Some now) (Some line) = IsOutOfPlace now line

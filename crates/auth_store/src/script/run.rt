@@ -83,7 +83,8 @@ impl<T: Drop> From<AllocFailed<T>> for End {
 }
 
 impl From<io::Error> for End {
-    ghost from_gives = { λ e end. (error_kind e ≡ OutOfMemory → end ≡ ends.Memory) × ((error_kind e ≡ OutOfMemory → ⊥) → end ≡ ends.Io) };
+    ghost from_gives = { λ e end. (error_kind e ≡ OutOfMemory → end ≡ ends.Memory)
+        × ((error_kind e ≡ OutOfMemory → ⊥) → end ≡ ends.Io) };
 
     fn from(e: io::Error) -> End {
         match e.kind() {
@@ -163,9 +164,10 @@ impl Progress {
 
     // Takes a step. A line that is out of place ends the run.
     fn take(&mut self, step: Step<Keys, u64>) -> Result<ScriptAnswer, End>
-        ensures step { IfOk result (λ answer. IsStep script_machine self.old.session.store (request_of bytes_of value_of step)
-            (meaning_of bytes_of value_of answer) self.new.session.store) }
-        ensures placed { OnOk result (is_open (request_of bytes_of value_of step) ≡ false → IsSome self.old.session.store) }
+        ensures step { IfOk result (λ answer. IsStep script_machine self.old.session.store
+            (request_of bytes_of value_of step) (meaning_of bytes_of value_of answer) self.new.session.store) }
+        ensures placed { OnOk result (is_open (request_of bytes_of value_of step) ≡ false
+            → IsSome self.old.session.store) }
         ensures misplaced { OnErr result (IsMisplaced (request_of bytes_of value_of step) self.old.session.store) }
         ensures bad { IfErr result (λ end. end ≡ End.BadLine) }
         ensures unchanged { OnErr result (self.new.session.store ≡ self.old.session.store) }
@@ -210,7 +212,8 @@ impl Progress {
     fn commit<W: Write>(&mut self, out: &mut W, metadata: Option<u64>) -> Result<(), End>
         ensures ok { OnOk result (Prints (W.contents out.old) (W.contents out.new) (λ printed.
             Takes (progress_of self.old) (Line.Commit metadata) printed (progress_of self.new))) }
-        ensures bad { IfErr result (λ end. end ≡ End.BadLine → IsOutOfPlace (progress_of self.old) (Line.Commit metadata)
+        ensures bad { IfErr result (λ end. end ≡ End.BadLine
+            → IsOutOfPlace (progress_of self.old) (Line.Commit metadata)
             × Appends (W.contents out.old) (W.contents out.new) []) }
         ensures batch { self.new.batch.words.items ≡ [] }
         ensures kept { self.new.kept ≡ self.old.kept }
@@ -257,7 +260,8 @@ impl Progress {
         ensures bad { IfErr result (λ end. end ≡ End.BadLine → IsOutOfPlace (progress_of self.old) (Line.Prove key)
             × Appends (W.contents out.old) (W.contents out.new) []) }
         ensures kept { (self.new.kept ≡ self.old.kept)
-            ⊎ IsOpenAnd self.old.session.store (λ history. kept_of self.new.kept ≡ Some (proof_and_root history key.bytes)) }
+            ⊎ IsOpenAnd self.old.session.store (λ history.
+            kept_of self.new.kept ≡ Some (proof_and_root history key.bytes)) }
         ensures store { self.new.session.store ≡ self.old.session.store }
         ensures batch { self.new.batch.words.items ≡ self.old.batch.words.items }
     {
@@ -287,7 +291,8 @@ impl Progress {
     fn check_value<W: Write>(&self, out: &mut W, key: Keys, value: u64) -> Result<(), End>
         ensures ok { OnOk result (Prints (W.contents out.old) (W.contents out.new) (λ printed.
             Takes (progress_of self.now) (Line.CheckValue key value) printed (progress_of self.now))) }
-        ensures bad { IfErr result (λ end. end ≡ End.BadLine → IsOutOfPlace (progress_of self.now) (Line.CheckValue key value)
+        ensures bad { IfErr result (λ end. end ≡ End.BadLine
+            → IsOutOfPlace (progress_of self.now) (Line.CheckValue key value)
             × Appends (W.contents out.old) (W.contents out.new) []) }
     {
         let kept = self.kept.as_ref().ok_or(End::BadLine)?;
@@ -331,8 +336,10 @@ fn take_line<W: Write>(
     text: &[u8],
 ) -> Result<(), End>
     ensures ok { OnOk result (Prints (W.contents out.old) (W.contents out.new) (λ printed.
-        TakesLine (option_map progress_of progress.old) (line_of text.now) printed (option_map progress_of progress.new))) }
-    ensures bad { IfErr result (λ end. end ≡ End.BadLine → IsBadLine (option_map progress_of progress.old) (line_of text.now)
+        TakesLine (option_map progress_of progress.old) (line_of text.now) printed
+        (option_map progress_of progress.new))) }
+    ensures bad { IfErr result (λ end. end ≡ End.BadLine
+        → IsBadLine (option_map progress_of progress.old) (line_of text.now)
         × Appends (W.contents out.old) (W.contents out.new) []) }
 {
     let line = parse_line(text).ok_or(End::BadLine)?;
@@ -352,7 +359,8 @@ fn end_run<W: Write>(out: &mut W, end: End, number: u64) -> u8
     ensures memory { end ≡ End.Memory → result ≡ 3 }
     ensures io { end ≡ End.Io → result ≡ 1 }
     ensures bad { end ≡ End.BadLine → (result ≡ 1)
-        ⊎ ((result ≡ 2) × Appends (W.contents out.old) (W.contents out.new) (reported (codes "bad line " ++ decimal number))) }
+        ⊎ ((result ≡ 2) × Appends (W.contents out.old) (W.contents out.new)
+        (reported (codes "bad line " ++ decimal number))) }
 {
     match end {
         End::Memory => NO_MEMORY,
@@ -418,8 +426,10 @@ fn status_of(refused: InputError) -> u8
 /// Reads the whole script, runs it line by line, and answers the status: 0 at the end of the script, 1 where reading or
 /// writing failed, 2 after a bad line, 3 where the script itself was out of memory.
 pub fn run_script<R: Read, W: Write>(alloc: Global, reader: &mut R, writer: &mut W) -> u8
-    ensures done { result ≡ 0 → IfSome (R.remaining reader.old) (λ script. Prints (W.contents writer.old) (W.contents writer.new) (Ends script)) }
-    ensures bad { result ≡ 2 → IfSome (R.remaining reader.old) (λ script. Prints (W.contents writer.old) (W.contents writer.new) (StopsAt script)) }
+    ensures done { result ≡ 0 → IfSome (R.remaining reader.old) (λ script.
+        Prints (W.contents writer.old) (W.contents writer.new) (Ends script)) }
+    ensures bad { result ≡ 2 → IfSome (R.remaining reader.old) (λ script.
+        Prints (W.contents writer.old) (W.contents writer.new) (StopsAt script)) }
     ensures status { result ≤ 3 }
 {
     match read_script(alloc, reader) {

@@ -10,7 +10,8 @@ returns-in-Some-clause-cut c =
     let rest = drop (c.in-Some.end + 1) text in
     let whole : length rest ≤ length text - (c.in-Some.end + 1) = omega (arith, length-drop (c.in-Some.end + 1) text) in
     cut_at text c.in-Some.end (sym c.in-Some.ensures)
-    ∙ ap (λ left. take c.in-Some.end text ∷ lines_of left) (sym (take_all (length text - (c.in-Some.end + 1)) rest whole))
+    ∙ ap (λ left. take c.in-Some.end text ∷ lines_of left) (sym
+    (take_all (length text - (c.in-Some.end + 1)) rest whole))
 
 pub returns-in-None-clause-cut : goal.returns-in-None-clause-cut
 returns-in-None-clause-cut c = cut_none c.args.text.now (sym c.in-None.ensures)

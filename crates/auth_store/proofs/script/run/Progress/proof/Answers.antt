@@ -9,7 +9,8 @@ use Rattle.auth_store.proofs.script.run.Progress.proof.Goals as goal
 pub returns-clause-ok : goal.returns-clause-ok
 returns-clause-ok g c =
     let kept = c.in_ok-kept.kept.now in
-    let there : c.args.self.now.kept ≡ Some kept = sym c.as_ref.ensures.value ∙ ap option_copied c.in_ok-kept.ensures.ok_part in (
+    let there : c.args.self.now.kept ≡ Some kept = sym c.as_ref.ensures.value
+    ∙ ap option_copied c.in_ok-kept.ensures.ok_part in (
       _,
       c.in_ok-report_proof.ensures,
       (
