@@ -5,3 +5,4 @@ pub mod Files
 pub mod FilesCode
 pub mod Names
 pub mod Headers
+pub mod Refusals
