@@ -2,3 +2,5 @@ pub mod Crc
 pub mod DrawLemmas
 pub mod Zeros
 pub mod Rooms
+pub mod Torn
+pub mod Created

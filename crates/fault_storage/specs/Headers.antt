@@ -1,6 +1,6 @@
 -- The headers of files. A created file begins with a region of its layout; what a crash leaves of a region that was being written is
 -- a beginning of it, followed by zeros. A header that is read has to pass its checks, in their order.
-use Rattle.std.specs.Prelude.{◌≡◌, ℕ, ◌-◌, ◌<◌, ◌≤◌, ◌^◌, ◌==◌, ◌&&◌, nat_le, Bool, true, if◌then◌else◌, Option, Some, None, is_some, unwrap_or, List, [], ◌∷◌, ◌++◌, length, take, drop, replicate}
+use Rattle.std.specs.Prelude.{◌≡◌, ℕ, ◌-◌, ◌<◌, ◌≤◌, ◌^◌, ◌==◌, ◌&&◌, ◌⊎◌, nat_le, Bool, true, if◌then◌else◌, Option, Some, None, is_some, unwrap_or, List, [], ◌∷◌, ◌++◌, length, take, drop, replicate, slice_index}
 use Rattle.std.specs.Int.{w16, w32, to_be_bytes, from_be_bytes}
 use Rattle.std.specs.Str.{bytes_eq}
 use Rattle.fault_storage.specs.declared.header.Layout.{Layout}
@@ -46,6 +46,23 @@ pub record IsTornCreation (bytes : List ℕ) : Type 0 where
   pub few : length bytes ≤ 4096
   pub is : bytes ≡ take count (created V1 version) ++ replicate (length bytes - count) 0
   pub unfinished : (other : ℕ) → other < 2 ^ 16 → bytes ≡ created V1 other → ⊥
+
+-- what a crash in the creation of a file may leave of it: of a V0 header, which is written at once, all or nothing
+abbrev pub IsInterrupted : Layout → List ℕ → Type 0
+IsInterrupted V0 bytes = ⊥
+IsInterrupted V1 bytes = IsTornCreation bytes
+
+-- a file of this size has no header yet: it is under 8 bytes, or what a crash in the creation of a V1 file left
+abbrev pub IsUnmade : List ℕ → ℕ → Type 0
+IsUnmade bytes size = (size < 8) ⊎ ((size ≤ 4096) × IsTornCreation bytes)
+
+-- the first twelve bytes of a V1 region
+abbrev pub front : ℕ → List ℕ
+front version = prelude V1 version ++ to_be_bytes w32 (crc32 (prelude V1 version))
+
+-- the blob version that a beginning of a header says, with zeros for what is missing
+abbrev pub version_in : List ℕ → ℕ
+version_in bytes = from_be_bytes w16 (slice_index bytes 6 ∷ slice_index bytes 7 ∷ [])
 
 -- the layout whose headers begin with these four bytes
 abbrev pub layout_with : List ℕ → Option Layout

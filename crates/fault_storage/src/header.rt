@@ -8,10 +8,10 @@
 //! A V0 header is written at once; the region of V1 fills a page, so that a crash in its creation leaves a beginning of it and zeros,
 //! which is told from a header that was changed since.
 
-ghost use Rattle.std.specs.Prelude.{◌≡◌, ◌≤◌, ◌<◌, ◌++◌, min, nat_lt, nat_le, length, take, drop, replicate, if◌then◌else◌, IfOk, IfSome, IfNone, MatchResult, IsTrue, ◌↔◌};
+ghost use Rattle.std.specs.Prelude.{◌≡◌, ◌≢◌, ℕ, ◌≤◌, ◌<◌, ◌++◌, min, nat_lt, nat_le, length, take, drop, replicate, if◌then◌else◌, IfOk, IfErr, IfSome, IfNone, MatchResult, IsTrue, ◌↔◌, EachIndex, slice_index};
 ghost use Rattle.std.specs.Int.{w32, to_be_bytes};
 ghost use Rattle.fault_storage.specs.Crc32.{crc32};
-ghost use Rattle.fault_storage.specs.Headers.{magic_of, layout_number, data_offset_of, prelude, created, layout_with, is_among, is_version, has_region, has_checksum, header_of, first_fault, header_checks, file_checks, resolved_of};
+ghost use Rattle.fault_storage.specs.Headers.{IsTornCreation, IsInterrupted, IsUnmade, front, version_in, magic_of, layout_number, data_offset_of, prelude, created, layout_with, is_among, is_version, has_region, has_checksum, header_of, first_fault, header_checks, file_checks, resolved_of};
 
 use crate::checksum::{Checksum, Crc32};
 use crate::error::HeaderError;
@@ -60,6 +60,18 @@ impl Layout {
             return Some(Layout::V1);
         }
         None
+    }
+
+    /// Whether a crash in the creation of a file of this layout may have left these bytes, which are all of it: for V1 a beginning of
+    /// its region, followed by zeros, that is no whole one; for V0 never.
+    /// In the Rust: `commonware_runtime::storage::Layout::interrupted_creation`.
+    pub fn interrupted_creation(self, bytes: &[u8]) -> bool
+        ensures { IsTrue result ↔ IsInterrupted self bytes.now }
+    {
+        match self {
+            Layout::V0 => false,
+            Layout::V1 => is_torn_creation(bytes),
+        }
     }
 
     /// Where the data of a file begin: at byte 8 or 4096.
@@ -141,6 +153,61 @@ fn prelude_of(layout: Layout, version: u16) -> [u8; 8]
     let [e, f] = layout.layout_version().to_be_bytes();
     let [g, h] = version.to_be_bytes();
     [a, b, c, d, e, f, g, h]
+}
+
+// The first twelve bytes of a region of layout V1.
+fn checked_front(version: u16) -> [u8; 12]
+    ensures { result ≡ front version }
+{
+    let prelude = prelude_of(Layout::V1, version);
+    let [a, b, c, d, e, f, g, h] = prelude;
+    let [i, j, k, l] = Crc32::checksum(&prelude).to_be_bytes();
+    [a, b, c, d, e, f, g, h, i, j, k, l]
+}
+
+// The blob version that a beginning of a header says, with zeros for what is missing.
+fn version_said(bytes: &[u8]) -> u16
+    ensures { result ≡ version_in bytes.now }
+{
+    u16::from_be_bytes([
+        bytes.get(6).copied().unwrap_or(0),
+        bytes.get(7).copied().unwrap_or(0),
+    ])
+}
+
+// How many first bytes are those of the front.
+fn matching(bytes: &[u8], front: &[u8; 12]) -> usize
+    ensures within { (result ≤ length bytes.now) × (result ≤ 12) }
+    ensures same { (k : ℕ) → k < result → slice_index bytes.now k ≡ slice_index front.now k }
+    ensures all { result < length bytes.now → result < 12 → slice_index bytes.now result ≢ slice_index front.now result }
+{
+    for index in 0..bytes.len().min(12) {
+        if bytes[index] != front[index] {
+            return index;
+        }
+    }
+    bytes.len().min(12)
+}
+
+// Whether all bytes are zero.
+fn are_zeros(bytes: &[u8]) -> bool
+    ensures { IsTrue result ↔ EachIndex bytes.now (λ k. slice_index bytes.now k ≡ 0) }
+{
+    bytes.iter().all(|byte| *byte == 0)
+}
+
+// Whether the bytes are a beginning of a region of layout V1, followed by zeros, and no whole one.
+fn is_torn_creation(bytes: &[u8]) -> bool
+    ensures { IsTrue result ↔ IsTornCreation bytes.now }
+{
+    if bytes.len() > 4096 {
+        return false;
+    }
+    let matching = matching(bytes, &checked_front(version_said(bytes)));
+    if matching == 0 || !are_zeros(&bytes[matching..]) {
+        return false;
+    }
+    matching < 12 || bytes.len() < 4096
 }
 
 // The region of layout V1, from its first eight bytes. It fails only when out of memory.
@@ -295,4 +362,28 @@ impl Header {
             data_offset: layout.data_offset(),
         })
     }
+}
+
+/// What a file of this size shows, of which these are the first `resolve_len` bytes. None: it has no header yet, since it is under 8
+/// bytes or a crash cut its creation short in layout V1. Else it names the first check that fails, of H1 to H6 in their order.
+/// In the Rust: `commonware_runtime::storage::resolve`.
+pub fn resolve(
+    bytes: &[u8],
+    size: u64,
+    layouts: Layouts,
+    versions: Versions,
+) -> Result<Option<Resolved>, HeaderError>
+    requires { length bytes.now ≡ (if nat_le size 4096 then size else 12) }
+    ensures none { (result ≡ Ok None) ↔ IsUnmade bytes.now size }
+    ensures shown { IfOk result (λ found. IfSome found (λ shown. (first_fault (file_checks layouts versions bytes.now size) ≡ None) × (shown ≡ resolved_of bytes.now size))) }
+    ensures refused { IfErr result (λ fault. first_fault (file_checks layouts versions bytes.now size) ≡ Some fault) }
+{
+    if Header::missing(size) {
+        return Ok(None);
+    }
+    if size <= 4096 && Layout::V1.interrupted_creation(bytes) {
+        return Ok(None);
+    }
+    let shown = Header::parse(bytes, size, layouts, versions)?;
+    Ok(Some(shown))
 }

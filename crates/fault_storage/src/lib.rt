@@ -7,6 +7,7 @@ pub mod draws;
 pub mod error;
 pub mod file;
 pub mod header;
+pub mod laws;
 pub mod overlay;
 pub mod partition;
 pub mod probability;
@@ -14,7 +15,8 @@ pub mod replay;
 
 pub use checksum::{Checksum, Crc32};
 pub use draws::PartialWriteMode;
-pub use error::Error;
+pub use error::{Call, Error, HeaderError};
+pub use header::{Header, Layout, Layouts, Resolved, Versions, resolve};
 pub use partition::validate_partition_name;
 pub use probability::Probability;
 
