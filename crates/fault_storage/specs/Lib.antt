@@ -6,3 +6,4 @@ pub mod FilesCode
 pub mod Names
 pub mod Headers
 pub mod Refusals
+pub mod Opens

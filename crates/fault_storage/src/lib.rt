@@ -8,10 +8,12 @@ pub mod error;
 pub mod file;
 pub mod header;
 pub mod laws;
+pub mod opens;
 pub mod overlay;
 pub mod partition;
 pub mod probability;
 pub mod replay;
+pub mod storage;
 
 pub use checksum::{Checksum, Crc32};
 pub use draws::PartialWriteMode;
