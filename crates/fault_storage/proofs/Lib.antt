@@ -2,5 +2,6 @@ pub mod Crc
 pub mod DrawLemmas
 pub mod Zeros
 pub mod Rooms
+pub mod Settling
 pub mod Torn
 pub mod Created

@@ -7,3 +7,4 @@ pub mod Names
 pub mod Headers
 pub mod Refusals
 pub mod Opens
+pub mod Settings

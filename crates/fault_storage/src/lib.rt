@@ -2,7 +2,9 @@
 //! 2026.10.0; `In the Rust` names what an item is there.
 #![tactic(auto)]
 
+pub mod blob_file;
 pub mod checksum;
+pub mod config;
 pub mod draws;
 pub mod error;
 pub mod file;
@@ -16,11 +18,14 @@ pub mod replay;
 pub mod storage;
 
 pub use checksum::{Checksum, Crc32};
+pub use config::{Config, ResizeConfig, WriteConfig};
 pub use draws::PartialWriteMode;
 pub use error::{Call, Error, HeaderError};
 pub use header::{Header, Layout, Layouts, Resolved, Versions, resolve};
+pub use opens::{BlobName, OpenBlob, Opens};
 pub use partition::validate_partition_name;
 pub use probability::Probability;
+pub use storage::{Opened, Storage};
 
 #[cfg(test)]
 mod tests;

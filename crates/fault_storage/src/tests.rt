@@ -3,14 +3,14 @@
 ghost use Rattle.std.specs.Prelude.{ℕ, ◌+◌, ◌%◌, ◌^◌, ◌<◌, length};
 ghost use Rattle.rand_core.specs.Steps.{stream_of, steps_u64_low};
 
+use crate::blob_file::BlobFile;
 use crate::checksum::{Checksum, Crc32};
 use crate::draws::{PartialWriteMode, draw_kept_bytes, draw_length_between};
 use crate::error::Error;
-use crate::file::{BlobFile, Mutation, Written};
+use crate::file::{Mutation, Written};
 use crate::header::{Layout, created_region};
 use crate::partition::validate_partition_name;
 use crate::probability::Probability;
-use crate::replay::{crashed_bytes_of, durable_bytes_of};
 use rand_core::utils::NextWord;
 use rand_core::{Rng, utils};
 use std::alloc::{AllocError, Global};
@@ -242,34 +242,26 @@ fn written(alloc: Global, offset: usize, bytes: &[u8]) -> Result<Written, AllocE
 }
 
 // Four durable bytes, a plain write at 4, and a synced one at 8.
-fn gap(alloc: Global, retention: Probability) -> Result<BlobFile, AllocError> {
-    let mut log = Vec::new(alloc);
+fn gap(alloc: Global, retention: Probability) -> Result<BlobFile, Fail> {
+    let mut file = BlobFile::new(alloc, b"\x01\x02\x03\x04".to_vec(alloc)?);
     let plain = written(alloc, 4, b"\xaa\xbb")?;
-    log.push(Mutation::Plain(plain, PartialWriteMode::Subset, retention))?;
+    file.issue(Mutation::Plain(plain, PartialWriteMode::Subset, retention))?;
     let synced = written(alloc, 8, b"\xcc\xdd")?;
-    log.push(Mutation::Fixed(synced, [true, true].to_vec(alloc)?))?;
-    Ok(BlobFile {
-        base: b"\x01\x02\x03\x04".to_vec(alloc)?,
-        log,
-    })
+    file.issue(Mutation::Fixed(synced, [true, true].to_vec(alloc)?))?;
+    Ok(file)
 }
 
 #[test]
 fn fills_a_gap_with_zeros_and_keeps_an_earlier_write_open(rt: HostRuntime) -> Result<(), Fail> {
     let alloc = rt.alloc();
-    let dropped = gap(alloc, Probability::ZERO)?;
     let without = b"\x01\x02\x03\x04\0\0\0\0\xcc\xdd".as_slice();
-    assert_eq!(rt; durable_bytes_of(alloc, &dropped)?.as_slice(), without);
-    assert_eq!(rt;
-        crashed_bytes_of(alloc, &dropped, &mut Upward(0))?.as_slice(),
-        without
-    );
-    let kept = gap(alloc, Probability::ONE)?;
     let with = b"\x01\x02\x03\x04\xaa\xbb\0\0\xcc\xdd".as_slice();
-    assert_eq!(rt; durable_bytes_of(alloc, &kept)?.as_slice(), without);
-    assert_eq!(rt;
-        crashed_bytes_of(alloc, &kept, &mut Upward(0))?.as_slice(),
-        with
-    );
+    for (retention, left) in [(Probability::ZERO, without), (Probability::ONE, with)] {
+        let mut file = gap(alloc, retention)?;
+        assert_eq!(rt; file.durable(alloc)?.as_slice(), without);
+        file.settle_next(&mut Upward(0));
+        file.settle_next(&mut Upward(0));
+        assert_eq!(rt; file.durable(alloc)?.as_slice(), left);
+    }
     Ok(())
 }
