@@ -8,3 +8,4 @@ pub mod Headers
 pub mod Refusals
 pub mod Opens
 pub mod Settings
+pub mod Stores

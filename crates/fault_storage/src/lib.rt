@@ -10,12 +10,14 @@ pub mod error;
 pub mod file;
 pub mod header;
 pub mod laws;
+pub mod memory;
 pub mod opens;
 pub mod overlay;
 pub mod partition;
 pub mod probability;
 pub mod replay;
 pub mod storage;
+pub mod stored;
 
 pub use checksum::{Checksum, Crc32};
 pub use config::{Config, ResizeConfig, WriteConfig};
