@@ -5,4 +5,5 @@ pub mod Rooms
 pub mod Settling
 pub mod Places
 pub mod Torn
+pub mod Overlays
 pub mod Created

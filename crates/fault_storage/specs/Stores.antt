@@ -1,10 +1,11 @@
 -- A store of files. Its files stand in the order of their names; each has a number of its own, so that a value of a blob that is gone
 -- finds no file. The order of issue is kept over all files: a number for each mutation that is not settled.
-use Rattle.std.specs.Prelude.{◌≡◌, ℕ, ◌+◌, ◌<◌, ◌==◌, Bool, true, false, not, if◌then◌else◌, List, [], ◌∷◌, ◌++◌, length, filter, slice_index_or, slice_set}
+use Rattle.std.specs.Prelude.{◌≡◌, ℕ, ◌+◌, ◌<◌, ◌==◌, nat_le, Bool, true, false, not, if◌then◌else◌, List, [], ◌∷◌, ◌++◌, length, take, drop, replicate, filter, slice_index_or, slice_set}
 use Rattle.std.specs.List.{list_any}
 use Rattle.rand_core.specs.Stream.{Stream}
 use Rattle.fault_storage.specs.declared.stored.StoredFile.{StoredFile}
-use Rattle.fault_storage.specs.Files.{Mutation, File, durable_bytes, settled}
+use Rattle.fault_storage.specs.Draws.{Mode, Rate, prefix}
+use Rattle.fault_storage.specs.Files.{Mutation, written, fixed, resized_to, File, durable_bytes, with_bytes, with_kept, resized, settled}
 
 -- a store: the names of its partitions, its files, the numbers of the files whose mutations were issued, and the next number
 pub record Store : Type 0 where
@@ -88,3 +89,33 @@ crashed_files files (number ∷ later) words =
 abbrev pub crashed_store : Store → Stream → Store × Stream
 crashed_store store words =
     let left = crashed_files store.files store.order words in (record store { files = left.0; order = [] }, left.1)
+
+-- the handle with other live bytes
+abbrev pub showing : List ℕ → Handle → Handle
+showing live handle = record handle { live = live }
+
+-- the bytes of a blob from an offset on are there, so many of them
+abbrev pub has_bytes : Handle → ℕ → ℕ → Bool
+has_bytes handle offset count = nat_le (handle.offset + offset + count) (length handle.live)
+
+abbrev pub bytes_at : Handle → ℕ → ℕ → List ℕ
+bytes_at handle offset count = take count (drop (handle.offset + offset) handle.live)
+
+-- a plain write: the bytes are live at once, and a crash chooses of them
+abbrev pub plain_write : ℕ → List ℕ → Mode → Rate → Handle → Store → Handle × Store
+plain_write offset bytes mode rate handle store = let at = handle.offset + offset in
+    (showing (with_bytes at bytes handle.live) handle, issued handle.number (written at bytes mode rate) store)
+
+-- a write of which these bytes are durable at once, and live
+abbrev pub fixed_write : ℕ → List ℕ → List Bool → Handle → Store → Handle × Store
+fixed_write offset bytes kept handle store = let at = handle.offset + offset in
+    (showing (with_kept at bytes kept handle.live) handle, issued handle.number (fixed at bytes kept) store)
+
+-- a write that is synced: all of its bytes
+abbrev pub synced_write : ℕ → List ℕ → Handle → Store → Handle × Store
+synced_write offset bytes handle store = fixed_write offset bytes (replicate (length bytes) true) handle store
+
+-- a resize: live at once, and a crash chooses whether it is kept
+abbrev pub resizing : ℕ → Rate → Handle → Store → Handle × Store
+resizing size rate handle store = let all = handle.offset + size in
+    (showing (resized all handle.live) handle, issued handle.number (resized_to all rate) store)

@@ -1,11 +1,17 @@
 //! The store in memory.
 
-ghost use Rattle.std.specs.Prelude.{◌≡◌, ℕ, [], false, true, OnOk, OnErr, MatchOption, List};
+ghost use Rattle.std.specs.Prelude.{◌≡◌, ℕ, ◌+◌, ◌-◌, ◌^◌, ◌<◌, ◌≤◌, ◌⊎◌, ◌↔◌, [], false, true, Err, IfOk, IfErr, OnOk, OnErr, MatchOption, List, length};
 ghost use Rattle.std.specs.List.{list_any};
+ghost use Rattle.fault_storage.specs.DrawsCode.{rate_of, mode_of};
+ghost use Rattle.fault_storage.specs.Files.{written, fixed, resized_to, with_bytes, with_kept, resized};
 ghost use Rattle.fault_storage.specs.FilesCode.{mutation_of};
-ghost use Rattle.fault_storage.specs.Stores.{Store, IsPlace, has_number, is_there, issued, published, without, changed, with_issued, settled_at, settled_in, crashed_files, crashed_store};
+ghost use Rattle.fault_storage.specs.Stores.{Store, Handle, showing, has_bytes, bytes_at, IsPlace, has_number, is_there, issued, published, without, changed, with_issued, settled_at, settled_in, crashed_files, crashed_store};
 
-use crate::file::Mutation;
+use crate::draws::PartialWriteMode;
+use crate::error::Error;
+use crate::file::{Mutation, Written};
+use crate::overlay::{put_bytes, put_kept, resize};
+use crate::probability::Probability;
 use crate::stored::StoredFile;
 use rand_core::Rng;
 use std::alloc::{AllocError, Global};
@@ -144,11 +150,161 @@ impl Storage {
         publish_in(&mut self.files, number, bytes);
     }
 
+    // What is allocated for the store's blobs.
+    fn allocator(&self) -> Global {
+        self.alloc
+    }
+
     // A crash: settles all mutations, in the order of issue.
     fn settle_all<R: Rng>(&mut self, rng: &mut R)
         ensures { (self.new, R.stream rng.new) ≡ crashed_store self.old (R.stream rng.old) }
     {
         settle_turns(&mut self.files, &self.order, rng);
         self.order.clear();
+    }
+}
+
+/// Whether a write is durable at once. In the Rust: `commonware_runtime::WriteMode`.
+#[derive(Clone, Copy, Debug, PartialEq, Eq)]
+pub enum WriteMode {
+    /// It is durable after the next sync.
+    Plain,
+    /// It is durable at once, and it alone.
+    Sync,
+}
+
+/// A blob of the store that is open. Its live bytes are its own: the store learns of them by a sync, and of each write and resize when
+/// it is issued. In the Rust: `commonware_runtime::storage::memory::Blob`.
+#[derive(Debug, Drop)]
+pub struct Blob {
+    number: u64,
+    offset: usize,
+    live: Vec<u8>,
+}
+
+impl Model for Blob {
+    ghost Value = { Handle };
+
+    ghost view = { λ it. record { number = it.number; offset = it.offset; live = it.live.items } };
+}
+
+// The place behind so many bytes from an offset on, where the data begin at `start`. None: it would pass a u64.
+fn end_of(start: usize, offset: u64, count: usize) -> Option<usize>
+    ensures { MatchOption result (2 ^ 64 ≤ start + offset + count) (λ end. end ≡ start + offset + count) }
+{
+    start.checked_add(offset as usize)?.checked_add(count)
+}
+
+impl Blob {
+    /// So many bytes from an offset on. F7: they are not all there; F9. In the Rust: `commonware_runtime::Blob::read_at`.
+    pub fn read_at(&self, storage: &Storage, offset: u64, count: usize) -> Result<Vec<u8>, Error>
+        ensures ok { IfOk result (λ bytes. (has_bytes self.now offset count ≡ true) × (bytes.items ≡ bytes_at self.now offset count)) }
+        ensures err { IfErr result (λ e. ((e ≡ Error.BlobInsufficientLength) × (has_bytes self.now offset count ≡ false)) ⊎ ((e ≡ Error.Memory) × (has_bytes self.now offset count ≡ true))) }
+    {
+        let Some(end) = end_of(self.offset, offset, count) else {
+            return Err(Error::BlobInsufficientLength);
+        };
+        if end > self.live.len() {
+            return Err(Error::BlobInsufficientLength);
+        }
+        let bytes = self.live[end - count..end].to_vec(storage.allocator())?;
+        Ok(bytes)
+    }
+
+    /// Reads into the buffer from an offset on, and fills it. F7, and it stays as it is: not all bytes are there.
+    /// In the Rust: `commonware_runtime::Blob::read_at_buf`.
+    pub fn read_at_buf(&self, offset: u64, buffer: &mut [u8]) -> Result<(), Error>
+        ensures ok { OnOk result ((has_bytes self.now offset (length buffer.old) ≡ true) × (buffer.new ≡ bytes_at self.now offset (length buffer.old))) }
+        ensures err { IfErr result (λ e. (e ≡ Error.BlobInsufficientLength) × (has_bytes self.now offset (length buffer.old) ≡ false) × (buffer.new ≡ buffer.old)) }
+    {
+        let Some(end) = end_of(self.offset, offset, buffer.len()) else {
+            return Err(Error::BlobInsufficientLength);
+        };
+        if end > self.live.len() {
+            return Err(Error::BlobInsufficientLength);
+        }
+        buffer.copy_from_slice(&self.live[end - buffer.len()..end]);
+        Ok(())
+    }
+
+    // A plain write, of which a crash keeps bytes by this mode and rate.
+    fn write_plain(
+        &mut self,
+        storage: &mut Storage,
+        end: usize,
+        bytes: &[u8],
+        mode: PartialWriteMode,
+        retention: Probability,
+    ) -> Result<(), AllocError>
+        requires { length bytes.now ≤ end }
+        ensures ok { OnOk result ((self.new ≡ showing (with_bytes (end - length bytes.now) bytes.now self.old.live) self.old) × (storage.new ≡ issued self.old.number (written (end - length bytes.now) bytes.now (mode_of mode) (rate_of retention)) storage.old)) }
+        ensures err { OnErr result ((self.new ≡ self.old) × (storage.new ≡ storage.old)) }
+    {
+        let at = end - bytes.len();
+        let copy = bytes.to_vec(storage.allocator())?;
+        self.live.reserve(end.saturating_sub(self.live.len()))?;
+        let written = Written {
+            offset: at,
+            bytes: copy,
+        };
+        storage.issue(self.number, Mutation::Plain(written, mode, retention))?;
+        put_bytes(&mut self.live, at, bytes);
+        Ok(())
+    }
+
+    // A write of which these bytes are durable at once.
+    fn write_fixed(
+        &mut self,
+        storage: &mut Storage,
+        end: usize,
+        bytes: &[u8],
+        kept: &[bool],
+    ) -> Result<(), AllocError>
+        requires { length bytes.now ≤ end }
+        ensures ok { OnOk result ((self.new ≡ showing (with_kept (end - length bytes.now) bytes.now kept.now self.old.live) self.old) × (storage.new ≡ issued self.old.number (fixed (end - length bytes.now) bytes.now kept.now) storage.old)) }
+        ensures err { OnErr result ((self.new ≡ self.old) × (storage.new ≡ storage.old)) }
+    {
+        let at = end - bytes.len();
+        let copy = bytes.to_vec(storage.allocator())?;
+        let choice = kept.to_vec(storage.allocator())?;
+        self.live.reserve(end.saturating_sub(self.live.len()))?;
+        let written = Written {
+            offset: at,
+            bytes: copy,
+        };
+        storage.issue(self.number, Mutation::Fixed(written, choice))?;
+        put_kept(&mut self.live, at, bytes, kept);
+        Ok(())
+    }
+
+    // A resize of the whole file, which a crash keeps by this rate.
+    fn resize_all(
+        &mut self,
+        storage: &mut Storage,
+        size: usize,
+        retention: Probability,
+    ) -> Result<(), AllocError>
+        ensures ok { OnOk result ((self.new ≡ showing (resized size self.old.live) self.old) × (storage.new ≡ issued self.old.number (resized_to size (rate_of retention)) storage.old)) }
+        ensures err { OnErr result ((self.new ≡ self.old) × (storage.new ≡ storage.old)) }
+    {
+        self.live.reserve(size.saturating_sub(self.live.len()))?;
+        storage.issue(self.number, Mutation::ResizedTo(size, retention))?;
+        resize(&mut self.live, size);
+        Ok(())
+    }
+
+    /// Makes the live bytes durable. F1: the blob is gone; F9. In the Rust: `commonware_runtime::Blob::sync`.
+    pub fn sync(&self, storage: &mut Storage) -> Result<(), Error>
+        ensures ok { OnOk result ((is_there self.now.number storage.old ≡ true) × (storage.new ≡ published self.now.number self.now.live storage.old)) }
+        ensures err { OnErr result (storage.new ≡ storage.old) }
+        ensures gone { (result ≡ Err Error.BlobMissing) ↔ (is_there self.now.number storage.old ≡ false) }
+        ensures refused { IfErr result (λ e. (e ≡ Error.BlobMissing) ⊎ (e ≡ Error.Memory)) }
+    {
+        if !storage.has(self.number) {
+            return Err(Error::BlobMissing);
+        }
+        let bytes = self.live.to_vec(storage.allocator())?;
+        storage.publish(self.number, bytes);
+        Ok(())
     }
 }
