@@ -5,18 +5,20 @@ use Rattle.std.proofs.lemmas.Bool.{false≢true}
 use Rattle.std.proofs.lemmas.List.{get_or_read, set_split, set-get_or}
 use Rattle.fault_storage.specs.declared.stored.StoredFile.{StoredFile}
 use Rattle.fault_storage.specs.Files.{File}
-use Rattle.fault_storage.specs.Stores.{IsPlace, file_with, changed}
+use Rattle.fault_storage.specs.Stores.{IsPlace, file_with, number_with, changed}
 
 pub place-found : (test : StoredFile → Bool) (files : List StoredFile) (place : ℕ) (stored : StoredFile) → place < length files → stored ≡ get_or files place stored → test stored ≡ true
     → list_any test (drop place files) ≡ list_any test files → file_with test (drop place files) ≡ file_with test files
-    → ((change : File → File) → take place files ++ changed test change (drop place files) ≡ changed test change files) → IsPlace test files place
-place-found test files place stored lt is passes some same changes =
+    → number_with test (drop place files) ≡ number_with test files → ((change : File → File) → take place files ++ changed test change (drop place files) ≡ changed test change files) → IsPlace test files place
+place-found test files place stored lt is passes some same counted changes =
     let first : drop place files ≡ stored ∷ drop (suc place) files = drop-cons files place stored lt ∙ ap (λ s. s ∷ drop (suc place) files) (sym is) in
     record {
       within = lt;
       some = sym some ∙ ap (list_any test) first ∙ ap (λ b. b || list_any test (drop (suc place) files)) passes;
       is = λ d. sym same ∙ ap (file_with test) first ∙ ap (λ b. cond b stored.file (file_with test (drop (suc place) files))) passes
           ∙ ap (λ s. s.file) (get_or_read files place stored lt is d);
+      number = λ d. sym counted ∙ ap (number_with test) first ∙ ap (λ b. cond b stored.number (number_with test (drop (suc place) files))) passes
+          ∙ ap (λ s. s.number) (get_or_read files place stored lt is d);
       change = λ change d. sym (changes change) ∙ ap (λ l. take place files ++ changed test change l) first
           ∙ ap (λ b. take place files ++ cond b (record stored { file = change stored.file } ∷ drop (suc place) files) (stored ∷ changed test change (drop (suc place) files))) passes
           ∙ sym (set_split files place (record stored { file = change stored.file }) lt)

@@ -9,3 +9,4 @@ pub mod Refusals
 pub mod Opens
 pub mod Settings
 pub mod Stores
+pub mod Directory

@@ -2,6 +2,8 @@
 use Rattle.std.specs.Prelude.{◌≡◌, ℕ, Bool, not, ◌&&◌, Option, Some, None, List, filter}
 use Rattle.std.specs.List.{list_any}
 use Rattle.std.specs.Str.{bytes_eq}
+use Rattle.std.specs.Ordering.{nat_cmp, is_lt, ordering_then}
+use Rattle.std.specs.Cmp.Lexicographic.{slice_cmp}
 
 abbrev pub Name : Type 0
 Name = List ℕ × List ℕ
@@ -22,3 +24,7 @@ is_held partition (Some name) names = is_open partition name names
 -- the names that stay open where one is closed
 abbrev pub closed : Name → List Name → List Name
 closed name names = filter (λ other. not (is_name name.0 name.1 other)) names
+
+-- a name stands before another: by its partition, then by itself
+abbrev pub is_before : Name → Name → Bool
+is_before one other = is_lt (ordering_then (slice_cmp nat_cmp one.0 other.0) (slice_cmp nat_cmp one.1 other.1))

@@ -1,11 +1,8 @@
 -- The settings that nothing was said of.
 use Rattle.std.specs.Prelude.{◌≡◌, ℕ}
 use Rattle.fault_storage.specs.declared.config.Config.{Config}
-use Rattle.fault_storage.specs.Draws.{Rate, prefix}
+use Rattle.fault_storage.specs.Draws.{prefix, never}
 use Rattle.fault_storage.specs.DrawsCode.{rate_of, mode_of}
-
-abbrev pub never : Rate
-never = record { numerator = 0; denominator = 1 }
 
 -- nothing fails, and of what is not durable a crash keeps at most a beginning of each write
 pub record IsDefault (config : Config) : Type 0 where

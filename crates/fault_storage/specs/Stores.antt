@@ -4,7 +4,9 @@ use Rattle.std.specs.Prelude.{◌≡◌, ℕ, ◌+◌, ◌<◌, ◌==◌, nat_le
 use Rattle.std.specs.List.{list_any}
 use Rattle.rand_core.specs.Stream.{Stream}
 use Rattle.fault_storage.specs.declared.stored.StoredFile.{StoredFile}
-use Rattle.fault_storage.specs.Draws.{Mode, Rate, prefix}
+use Rattle.fault_storage.specs.declared.storage.WriteMode.{WriteMode}
+use Rattle.fault_storage.specs.declared.storage.WriteMode.TheVariants.{Plain, Sync}
+use Rattle.fault_storage.specs.Draws.{Mode, Rate, prefix, never}
 use Rattle.fault_storage.specs.Files.{Mutation, written, fixed, resized_to, File, durable_bytes, with_bytes, with_kept, resized, settled}
 
 -- a store: the names of its partitions, its files, the numbers of the files whose mutations were issued, and the next number
@@ -28,6 +30,11 @@ abbrev pub file_with : (StoredFile → Bool) → List StoredFile → File
 file_with test [] = record { base = []; log = [] }
 file_with test (stored ∷ later) = if test stored then stored.file else file_with test later
 
+-- its number
+abbrev pub number_with : (StoredFile → Bool) → List StoredFile → ℕ
+number_with test [] = 0
+number_with test (stored ∷ later) = if test stored then stored.number else number_with test later
+
 -- the files with the first that passes changed
 abbrev pub changed : (StoredFile → Bool) → (File → File) → List StoredFile → List StoredFile
 changed test change [] = []
@@ -38,6 +45,7 @@ pub record IsPlace (test : StoredFile → Bool) (files : List StoredFile) (place
   pub within : place < length files
   pub some : list_any test files ≡ true
   pub is : (d : StoredFile) → file_with test files ≡ (slice_index_or files place d).file
+  pub number : (d : StoredFile) → number_with test files ≡ (slice_index_or files place d).number
   pub change : (change : File → File) (d : StoredFile)
       → changed test change files ≡ slice_set files place (record (slice_index_or files place d) { file = change (slice_index_or files place d).file })
 
@@ -119,3 +127,8 @@ synced_write offset bytes handle store = fixed_write offset bytes (replicate (le
 abbrev pub resizing : ℕ → Rate → Handle → Store → Handle × Store
 resizing size rate handle store = let all = handle.offset + size in
     (showing (resized all handle.live) handle, issued handle.number (resized_to all rate) store)
+
+-- a write to a store in memory: of a plain one a crash keeps a beginning
+abbrev pub memory_write : WriteMode → ℕ → List ℕ → Handle → Store → Handle × Store
+memory_write Plain offset bytes handle store = plain_write offset bytes prefix never handle store
+memory_write Sync offset bytes handle store = synced_write offset bytes handle store

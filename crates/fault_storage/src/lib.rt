@@ -5,6 +5,7 @@
 pub mod blob_file;
 pub mod checksum;
 pub mod config;
+pub mod directory;
 pub mod draws;
 pub mod error;
 pub mod file;
@@ -27,7 +28,7 @@ pub use header::{Header, Layout, Layouts, Resolved, Versions, resolve};
 pub use opens::{BlobName, OpenBlob, Opens};
 pub use partition::validate_partition_name;
 pub use probability::Probability;
-pub use storage::{Opened, Storage};
+pub use storage::{Opened, Storage, WriteMode};
 
 #[cfg(test)]
 mod tests;

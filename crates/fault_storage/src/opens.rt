@@ -2,7 +2,7 @@
 
 ghost use Rattle.std.specs.Prelude.{◌≡◌, ℕ, ◌++◌, ◌∷◌, [], true, false, List, Err, Ok, IfOk, IfErr, MatchResult, ◌⊎◌, option_map};
 ghost use Rattle.std.specs.Str.{bytes_eq};
-ghost use Rattle.fault_storage.specs.Opens.{Name, is_name, is_open, is_held, closed};
+ghost use Rattle.fault_storage.specs.Opens.{Name, is_before, is_name, is_open, is_held, closed};
 
 use crate::error::Error;
 use crate::header::Versions;
@@ -34,18 +34,35 @@ impl BlobName {
         })
     }
 
-    // Whether it is a name of the partition.
-    fn is_in(&self, partition: &str) -> bool
+    /// Whether it is a name of the partition.
+    pub fn is_in(&self, partition: &str) -> bool
         ensures { result ≡ bytes_eq self.now.0 partition.now }
     {
         self.partition.as_str() == partition
     }
 
-    // Whether it is this name.
-    fn is(&self, partition: &str, name: &[u8]) -> bool
+    /// Whether it is this name.
+    pub fn is(&self, partition: &str, name: &[u8]) -> bool
         ensures { result ≡ is_name partition.now name.now self.now }
     {
         self.partition.as_str() == partition && self.name.as_slice() == name
+    }
+
+    /// A copy of the name without its partition. It fails only when out of memory.
+    pub fn copy_name(&self, alloc: Global) -> Result<Vec<u8>, AllocError>
+        ensures { IfOk result (λ name. name.items ≡ self.now.1) }
+    {
+        self.name.to_vec(alloc)
+    }
+
+    /// Whether it stands before the other in byte order, partitions first.
+    pub fn is_before(&self, other: &BlobName) -> bool
+        ensures { result ≡ is_before self.now other.now }
+    {
+        self.partition
+            .cmp(&other.partition)
+            .then(self.name.cmp(&other.name))
+            .is_lt()
     }
 
     // Whether it is the other name.

@@ -19,6 +19,15 @@ pub struct Opened<B> {
     pub version: u16,
 }
 
+/// Whether a write is durable at once. In the Rust: `commonware_runtime::WriteMode`.
+#[derive(Clone, Copy, Debug, PartialEq, Eq)]
+pub enum WriteMode {
+    /// It is durable after the next sync.
+    Plain,
+    /// It is durable at once, and it alone.
+    Sync,
+}
+
 /// A store of blobs by partition and name. In the Rust: `commonware_runtime::Storage`.
 pub trait Storage {
     /// Its blobs.
