@@ -1,5 +1,5 @@
 -- The files of a store by their names, in byte order: partitions first, then names, shorter ones before their continuations.
-use Rattle.std.specs.Prelude.{◌≡◌, ℕ, ◌+◌, ◌-◌, ◌⊎◌, nat_le, Bool, true, false, not, if◌then◌else◌, Option, Some, None, List, [], ◌∷◌, ◌++◌, length, take, filter, map}
+use Rattle.std.specs.Prelude.{◌≡◌, ℕ, ◌+◌, ◌-◌, ◌^◌, ◌⊎◌, nat_le, Bool, true, false, not, if◌then◌else◌, Option, Some, None, Result, MatchResult, List, [], ◌∷◌, ◌++◌, length, take, filter, map}
 use Rattle.std.specs.List.{list_any}
 use Rattle.std.specs.Str.{bytes_eq}
 use Rattle.fault_storage.specs.declared.stored.StoredFile.{StoredFile}
@@ -9,7 +9,8 @@ use Rattle.fault_storage.specs.declared.header.Versions.{Versions}
 use Rattle.fault_storage.specs.declared.error.HeaderError.{HeaderError}
 use Rattle.fault_storage.specs.declared.header.Layout.TheVariants.{V0, V1}
 use Rattle.fault_storage.specs.declared.error.Error.{Error}
-use Rattle.fault_storage.specs.declared.error.Error.TheVariants.{BlobMissing, PartitionMissing, PartitionNameInvalid}
+use Rattle.fault_storage.specs.declared.error.Error.TheVariants.{BlobMissing, PartitionMissing, PartitionNameInvalid, Header, NumberEnded, Memory}
+use Rattle.fault_storage.specs.declared.storage.Opened.{Opened}
 use Rattle.fault_storage.specs.Names.{is_partition_name}
 use Rattle.fault_storage.specs.Files.{durable_bytes}
 use Rattle.fault_storage.specs.Headers.{created, IsUnmade, first_fault, file_checks, resolved_of}
@@ -111,3 +112,26 @@ handle_in partition name files = record {
 
 abbrev pub fault_in : List ℕ → List ℕ → Versions → List StoredFile → Option HeaderError
 fault_in partition name versions files = let bytes = durable_in partition name files in first_fault (file_checks both_layouts versions (front_of bytes) (length bytes))
+
+-- what an opening gives of a blob that is there, or that it creates, and why it is refused
+abbrev pub MemoryOpens : Store → List ℕ → List ℕ → Versions → Result (Opened Handle) Error → Store → Type 0
+MemoryOpens old partition name versions result new = MatchResult result
+    (λ opened. (is_partition_name partition ≡ true)
+      × (((list_any (has_name partition name) old.files ≡ true) × (fault_in partition name versions old.files ≡ None)
+          × (opened ≡ record { blob = handle_in partition name old.files; size = (shown_in partition name old.files).size; version = (shown_in partition name old.files).version })
+          × (new ≡ old))
+        ⊎ (IsMissing partition name old.files
+          × (opened ≡ record { blob = new_handle old.next versions; size = 0; version = versions.greatest })
+          × (new ≡ placed partition name (created V0 versions.greatest) old))))
+    (λ e. (new ≡ old)
+      × (((e ≡ PartitionNameInvalid) × (is_partition_name partition ≡ false))
+        ⊎ ((fault : HeaderError) × (e ≡ Header fault) × (fault_in partition name versions old.files ≡ Some fault))
+        ⊎ ((e ≡ NumberEnded) × (old.next ≡ 2 ^ 64 - 1))
+        ⊎ (e ≡ Memory)))
+
+-- what a removal gives
+abbrev pub MemoryRemoves : Store → List ℕ → Option (List ℕ) → Result Unit Error → Store → Type 0
+MemoryRemoves old partition None result new =
+    MatchResult result (λ _. new ≡ removed_partition partition old) (λ e. (new ≡ old) × LacksPartition partition old e)
+MemoryRemoves old partition (Some name) result new =
+    MatchResult result (λ _. (new ≡ removed partition name old) × (list_any (has_name partition name) old.files ≡ true)) (λ e. (new ≡ old) × LacksName partition name old e)

@@ -8,6 +8,7 @@ pub mod config;
 pub mod directory;
 pub mod draws;
 pub mod error;
+pub mod faulty;
 pub mod file;
 pub mod header;
 pub mod laws;

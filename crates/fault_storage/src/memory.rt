@@ -9,7 +9,7 @@ ghost use Rattle.fault_storage.specs.Names.{is_partition_name};
 ghost use Rattle.fault_storage.specs.declared.error.HeaderError.{HeaderError};
 ghost use Rattle.fault_storage.specs.declared.header.Layout.TheVariants.{V0};
 ghost use Rattle.fault_storage.specs.Headers.{created};
-ghost use Rattle.fault_storage.specs.Directory.{IsMissing, fault_in, handle_in, shown_in, new_handle, has_name, has_partition, names_in, placed, admitted, removed, removed_partition, LacksName, LacksPartition};
+ghost use Rattle.fault_storage.specs.Directory.{MemoryOpens, MemoryRemoves, IsMissing, fault_in, handle_in, shown_in, new_handle, has_name, has_partition, names_in, placed, admitted, removed, removed_partition, LacksName, LacksPartition};
 ghost use Rattle.fault_storage.specs.Draws.{never};
 ghost use Rattle.fault_storage.specs.Stores.{Store, Handle, memory_write, fixed_write, resizing, showing, has_bytes, bytes_at, IsPlace, has_number, is_there, issued, published, without, changed, with_issued, settled_at, settled_in, crashed_files, crashed_store};
 
@@ -352,12 +352,40 @@ impl Storage {
         })
     }
 
-    // A crash: settles all mutations, in the order of issue.
-    fn settle_all<R: Rng>(&mut self, rng: &mut R)
+    /// Settles all mutations, as a crash does, in the order of issue.
+    pub fn settle_all<R: Rng>(&mut self, rng: &mut R)
         ensures { (self.new, R.stream rng.new) ≡ crashed_store self.old (R.stream rng.old) }
     {
         settle_turns(&mut self.files, &self.order, rng);
         self.order.clear();
+    }
+}
+
+impl crate::storage::Storage for Storage {
+    type Blob = Blob;
+
+    ghost opens = { MemoryOpens };
+
+    ghost removes = { MemoryRemoves };
+
+    fn open_versioned(
+        &mut self,
+        partition: &str,
+        name: &[u8],
+        versions: Versions,
+    ) -> Result<Opened<Blob>, Error> {
+        validate_partition_name(partition)?;
+        if let Some(opened) = self.find_blob(partition, name, versions)? {
+            return Ok(opened);
+        }
+        self.create_blob(partition, name, versions)
+    }
+
+    fn remove(&mut self, partition: &str, name: Option<&[u8]>) -> Result<(), Error> {
+        match name {
+            Some(name) => self.remove_blob(partition, name),
+            None => self.remove_all(partition),
+        }
     }
 }
 
@@ -572,6 +600,26 @@ impl Blob {
         Ok(())
     }
 
+    /// A copy of the live bytes, those of the header first. It fails only when out of memory.
+    pub fn copy_live(&self, storage: &Storage) -> Result<Vec<u8>, AllocError>
+        ensures { IfOk result (λ bytes. bytes.items ≡ self.now.live) }
+    {
+        self.live.to_vec(storage.allocator())
+    }
+
+    /// Makes a copy of the live bytes durable. F1: the blob is gone.
+    pub fn publish(&self, storage: &mut Storage, bytes: Vec<u8>) -> Result<(), Error>
+        requires { bytes.items ≡ self.now.live }
+        ensures ok { OnOk result ((is_there self.now.number storage.old ≡ true) × (storage.new ≡ published self.now.number self.now.live storage.old)) }
+        ensures err { IfErr result (λ e. (e ≡ Error.BlobMissing) × (is_there self.now.number storage.old ≡ false) × (storage.new ≡ storage.old)) }
+    {
+        if !storage.has(self.number) {
+            return Err(Error::BlobMissing);
+        }
+        storage.publish(self.number, bytes);
+        Ok(())
+    }
+
     /// Makes the live bytes durable. F1: the blob is gone; F9. In the Rust: `commonware_runtime::Blob::sync`.
     pub fn sync(&self, storage: &mut Storage) -> Result<(), Error>
         ensures ok { OnOk result ((is_there self.now.number storage.old ≡ true) × (storage.new ≡ published self.now.number self.now.live storage.old)) }
@@ -582,7 +630,7 @@ impl Blob {
         if !storage.has(self.number) {
             return Err(Error::BlobMissing);
         }
-        let bytes = self.live.to_vec(storage.allocator())?;
+        let bytes = self.copy_live(storage)?;
         storage.publish(self.number, bytes);
         Ok(())
     }
