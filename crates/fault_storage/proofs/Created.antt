@@ -29,7 +29,7 @@ passes layouts versions V1 version small among accepted =
     let sum = to_be_bytes w32 (crc32 (prelude V1 version)) in
     let checked : bytes_eq sum sum ≡ true = (bytes_eq-Decides sum sum).1 refl in
     skip (is_among layouts V1) LayoutNotAllowed ((bytes_eq sum sum, Checksum) ∷ (version_check, BlobVersion) ∷ []) among
-        (skip (bytes_eq sum sum) Checksum ((version_check, BlobVersion) ∷ []) checked (skip version_check BlobVersion [] said refl))
+    (skip (bytes_eq sum sum) Checksum ((version_check, BlobVersion) ∷ []) checked (skip version_check BlobVersion [] said refl))
 
 pub shows : (layout : Layout) (version : ℕ) → version < 2 ^ 16
     → resolved_of (created layout version) (data_offset_of layout) ≡ record { size = 0; version = version; data_offset = data_offset_of layout }

@@ -21,7 +21,7 @@ front offset end file le =
     let near : length (take offset (grown offset file)) ≡ offset = length-take-le offset (grown offset file) (omega (arith, length-grown offset file)) in
     ext_get_or 0 (take offset (grown end file)) (take offset (grown offset file)) (far ∙ sym near)
     (λ i lt. get_or-take offset (grown end file) i 0 (omega (arith, far, lt)) ∙ grown-at end file i
-        ∙ sym (get_or-take offset (grown offset file) i 0 (omega (arith, far, lt)) ∙ grown-at offset file i))
+    ∙ sym (get_or-take offset (grown offset file) i 0 (omega (arith, far, lt)) ∙ grown-at offset file i))
 
 back : (end : ℕ) (file : List ℕ) → drop end (grown end file) ≡ drop end file
 back end file = elim (cases_lt end (length file)) [

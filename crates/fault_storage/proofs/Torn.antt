@@ -165,7 +165,7 @@ torn-made bytes k small few some m zeros unfinished = record {
   few = few;
   is = begun bytes (version_in bytes) k few m zeros;
   unfinished = λ other other_small is. let whole : (k ≡ 12) × (length bytes ≡ 4096) = whole-matches bytes other k other_small is m in
-  elim unfinished [ inl short ↦ omega (arith, whole.0, short) | inr short ↦ omega (arith, whole.1, short) ];
+      elim unfinished [ inl short ↦ omega (arith, whole.0, short) | inr short ↦ omega (arith, whole.1, short) ];
 }
 
 -- a region whose front matches is not whole only where it ends early
@@ -178,10 +178,10 @@ torn-short bytes t k small m long = elim (cases_lt (length bytes) 4096) [
       let front_few : k ≤ 12 = m.few in
       let page : length bytes ≡ 4096 = omega (arith, few, le) in
       absurd (t.unfinished (version_in bytes) small (ext_get_or 0 bytes (created V1 (version_in bytes)) (page ∙ sym (length-created (version_in bytes)))
-          (λ i lt. elim (cases_lt i k) [
-            | inl first ↦ m.same i first ∙ sym (region-at (version_in bytes) i (omega (arith, first, front_few)))
-            | inr later ↦ torn-zeros bytes t k m i later ∙ sym (region-past (version_in bytes) i (omega (arith, later, long)))
-          ])))
+      (λ i lt. elim (cases_lt i k) [
+        | inl first ↦ m.same i first ∙ sym (region-at (version_in bytes) i (omega (arith, first, front_few)))
+        | inr later ↦ torn-zeros bytes t k m i later ∙ sym (region-past (version_in bytes) i (omega (arith, later, long)))
+      ])))
 ]
 
 -- what is zero from a place on

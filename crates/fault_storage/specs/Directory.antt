@@ -117,17 +117,17 @@ fault_in partition name versions files = let bytes = durable_in partition name f
 abbrev pub MemoryOpens : Store → List ℕ → List ℕ → Versions → Result (Opened Handle) Error → Store → Type 0
 MemoryOpens old partition name versions result new = MatchResult result
     (λ opened. (is_partition_name partition ≡ true)
-      × (((list_any (has_name partition name) old.files ≡ true) × (fault_in partition name versions old.files ≡ None)
-          × (opened ≡ record { blob = handle_in partition name old.files; size = (shown_in partition name old.files).size; version = (shown_in partition name old.files).version })
-          × (new ≡ old))
-        ⊎ (IsMissing partition name old.files
-          × (opened ≡ record { blob = new_handle old.next versions; size = 0; version = versions.greatest })
-          × (new ≡ placed partition name (created V0 versions.greatest) old))))
+    × (((list_any (has_name partition name) old.files ≡ true) × (fault_in partition name versions old.files ≡ None)
+    × (opened ≡ record { blob = handle_in partition name old.files; size = (shown_in partition name old.files).size; version = (shown_in partition name old.files).version })
+    × (new ≡ old))
+    ⊎ (IsMissing partition name old.files
+    × (opened ≡ record { blob = new_handle old.next versions; size = 0; version = versions.greatest })
+    × (new ≡ placed partition name (created V0 versions.greatest) old))))
     (λ e. (new ≡ old)
-      × (((e ≡ PartitionNameInvalid) × (is_partition_name partition ≡ false))
-        ⊎ ((fault : HeaderError) × (e ≡ Header fault) × (fault_in partition name versions old.files ≡ Some fault))
-        ⊎ ((e ≡ NumberEnded) × (old.next ≡ 2 ^ 64 - 1))
-        ⊎ (e ≡ Memory)))
+    × (((e ≡ PartitionNameInvalid) × (is_partition_name partition ≡ false))
+    ⊎ ((fault : HeaderError) × (e ≡ Header fault) × (fault_in partition name versions old.files ≡ Some fault))
+    ⊎ ((e ≡ NumberEnded) × (old.next ≡ 2 ^ 64 - 1))
+    ⊎ (e ≡ Memory)))
 
 -- what a removal gives
 abbrev pub MemoryRemoves : Store → List ℕ → Option (List ℕ) → Result Unit Error → Store → Type 0

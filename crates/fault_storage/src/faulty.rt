@@ -6,12 +6,12 @@
 //!
 //! A call that answers F8 or F9 has taken no word and changed nothing. The draw comes before every other check of the store.
 
-ghost use Rattle.std.specs.Prelude.{◌≡◌, ◌≢◌, ◌+◌, ◌-◌, ◌^◌, ◌<◌, ◌⊎◌, Err, Ok, IfOk, IfErr, OnOk, OnErr, true, false, if◌then◌else◌};
+ghost use Rattle.std.specs.Prelude.{◌≡◌, ◌≢◌, ◌+◌, ◌-◌, ◌^◌, ◌<◌, ◌⊎◌, Err, Ok, IfOk, IfErr, OnOk, OnErr, map, true, false, if◌then◌else◌};
 ghost use Rattle.std.specs.List.{list_any};
 ghost use Rattle.fault_storage.specs.Draws.{sample};
 ghost use Rattle.fault_storage.specs.DrawsCode.{rate_of};
 ghost use Rattle.fault_storage.specs.Stores.{is_there, published, crashed_store, has_bytes, bytes_at};
-ghost use Rattle.fault_storage.specs.Directory.{has_name, admitted, LacksName};
+ghost use Rattle.fault_storage.specs.Directory.{has_name, names_in, admitted, LacksName};
 
 use crate::config::Config;
 use crate::error::{Call, Error};
@@ -112,18 +112,86 @@ impl<R: Rng> Storage<memory::Storage, R> {
     }
 }
 
+impl<R: Rng> Storage<memory::Storage, R> {
+    /// The names of the partition's blobs in byte order. F8: the count of faults has ended; F9; F6; F3, F2.
+    /// In the Rust: `commonware_runtime::Storage::scan`.
+    pub fn scan(&mut self, partition: &str) -> Result<Vec<Vec<u8>>, Error>
+        ensures ended { self.old.injections ≡ 2 ^ 64 - 1 → result ≡ Err Error.NumberEnded }
+        ensures unmade { (result ≡ Err Error.NumberEnded) ⊎ (result ≡ Err Error.Memory) → (R.stream self.new.rng ≡ R.stream self.old.rng) × (self.new.injections ≡ self.old.injections) }
+        ensures drawn { result ≢ Err Error.NumberEnded → result ≢ Err Error.Memory → R.stream self.new.rng ≡ (sample (rate_of self.old.config.scan) (R.stream self.old.rng)).1 }
+        ensures injected { result ≢ Err Error.NumberEnded → result ≢ Err Error.Memory → (sample (rate_of self.old.config.scan) (R.stream self.old.rng)).0 ≡ true → (result ≡ Err (Error.Injected Call.Scan)) × (self.new.injections ≡ self.old.injections + 1) }
+        ensures counted { result ≢ Err (Error.Injected Call.Scan) → self.new.injections ≡ self.old.injections }
+        ensures ok { IfOk result (λ names. ((sample (rate_of self.old.config.scan) (R.stream self.old.rng)).0 ≡ false) × (map (λ name. name.items) names.items ≡ names_in partition.now self.old.inner.files)) }
+        ensures rest { (self.new.inner ≡ self.old.inner) × (self.new.config ≡ self.old.config) }
+    {
+        if self.injections == u64::MAX {
+            return Err(Error::NumberEnded);
+        }
+        let names = self.inner.scan(partition);
+        if matches!(names, Err(Error::Memory)) {
+            return Err(Error::Memory);
+        }
+        if self.injects(self.config.scan) {
+            return Err(Error::Injected(Call::Scan));
+        }
+        names
+    }
+}
+
 /// A blob of a store that fails. In the Rust: `commonware_runtime::storage::faulty::Blob`.
 #[derive(Debug, Drop)]
 pub struct Blob<B> {
     inner: B,
 }
 
+impl<B> Blob<B> {
+    /// A blob of the store below, under the settings of the store that fails (own).
+    pub fn new(inner: B) -> Blob<B>
+        ensures { result ≡ record { inner = inner } }
+    {
+        Blob { inner }
+    }
+
+    /// The blob of the store below.
+    pub fn inner(&self) -> &B
+        ensures { result.now ≡ self.now.inner }
+    {
+        &self.inner
+    }
+}
+
 impl Blob<memory::Blob> {
-    /// Makes the live bytes durable. F8: the count of faults has ended; F9; F6, and nothing is published; F1: the blob is gone.
-    pub fn sync<R: Rng>(
+    /// So many bytes from an offset on. F8: the count of faults has ended; F9; F6; F7: they are not all there.
+    pub fn read_at<R: Rng>(
         &self,
         storage: &mut Storage<memory::Storage, R>,
-    ) -> Result<(), Error>
+        offset: u64,
+        count: usize,
+    ) -> Result<Vec<u8>, Error>
+        ensures ended { storage.old.injections ≡ 2 ^ 64 - 1 → result ≡ Err Error.NumberEnded }
+        ensures unmade { (result ≡ Err Error.NumberEnded) ⊎ (result ≡ Err Error.Memory) → (R.stream storage.new.rng ≡ R.stream storage.old.rng) × (storage.new.injections ≡ storage.old.injections) }
+        ensures drawn { result ≢ Err Error.NumberEnded → result ≢ Err Error.Memory → R.stream storage.new.rng ≡ (sample (rate_of storage.old.config.read) (R.stream storage.old.rng)).1 }
+        ensures injected { result ≢ Err Error.NumberEnded → result ≢ Err Error.Memory → (sample (rate_of storage.old.config.read) (R.stream storage.old.rng)).0 ≡ true → (result ≡ Err (Error.Injected Call.Read)) × (storage.new.injections ≡ storage.old.injections + 1) }
+        ensures counted { result ≢ Err (Error.Injected Call.Read) → storage.new.injections ≡ storage.old.injections }
+        ensures ok { IfOk result (λ bytes. ((sample (rate_of storage.old.config.read) (R.stream storage.old.rng)).0 ≡ false) × (has_bytes self.now.inner offset count ≡ true) × (bytes.items ≡ bytes_at self.now.inner offset count)) }
+        ensures short { result ≡ Err Error.BlobInsufficientLength → has_bytes self.now.inner offset count ≡ false }
+        ensures rest { (storage.new.inner ≡ storage.old.inner) × (storage.new.config ≡ storage.old.config) }
+    {
+        if storage.injections == u64::MAX {
+            return Err(Error::NumberEnded);
+        }
+        let bytes = self.inner.read_at(&storage.inner, offset, count);
+        if matches!(bytes, Err(Error::Memory)) {
+            return Err(Error::Memory);
+        }
+        if storage.injects(storage.config.read) {
+            return Err(Error::Injected(Call::Read));
+        }
+        bytes
+    }
+
+    /// Makes the live bytes durable. F8: the count of faults has ended; F9; F6, and nothing is published; F1: the blob is gone.
+    pub fn sync<R: Rng>(&self, storage: &mut Storage<memory::Storage, R>) -> Result<(), Error>
         ensures ended { storage.old.injections ≡ 2 ^ 64 - 1 → result ≡ Err Error.NumberEnded }
         ensures unmade { result ≡ Err Error.NumberEnded ⊎ result ≡ Err Error.Memory → (storage.new.inner ≡ storage.old.inner) × (R.stream storage.new.rng ≡ R.stream storage.old.rng) × (storage.new.injections ≡ storage.old.injections) }
         ensures drawn { result ≢ Err Error.NumberEnded → result ≢ Err Error.Memory → R.stream storage.new.rng ≡ (sample (rate_of storage.old.config.sync) (R.stream storage.old.rng)).1 }

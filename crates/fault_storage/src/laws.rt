@@ -11,5 +11,4 @@ pub fn created_is_parsed(layouts: Layouts, versions: Versions)
     requires versions { versions.least ≤ versions.greatest }
     ensures passes { first_fault (file_checks layouts versions (created layouts.greatest versions.greatest) (data_offset_of layouts.greatest)) ≡ None }
     ensures shows { resolved_of (created layouts.greatest versions.greatest) (data_offset_of layouts.greatest) ≡ record { size = 0; version = versions.greatest; data_offset = data_offset_of layouts.greatest } }
-{
-}
+{}

@@ -14,11 +14,11 @@ ghost use Rattle.fault_storage.specs.Draws.{never};
 ghost use Rattle.fault_storage.specs.Stores.{Store, Handle, memory_write, fixed_write, resizing, showing, has_bytes, bytes_at, IsPlace, has_number, is_there, issued, published, without, changed, with_issued, settled_at, settled_in, crashed_files, crashed_store};
 
 use crate::blob_file::BlobFile;
-use crate::draws::PartialWriteMode;
 use crate::directory::{
-    PartitionName, durable_of, has_partition, names_in, place_of_name, publish_name, put_in_order, remove_files, remove_name,
-    remove_partition,
+    PartitionName, durable_of, has_partition, names_in, place_of_name, publish_name, put_in_order,
+    remove_files, remove_name, remove_partition,
 };
+use crate::draws::PartialWriteMode;
 use crate::error::Error;
 use crate::file::{Mutation, Written};
 use crate::header::{Header, Layout, Layouts, Versions, resolve};
@@ -61,11 +61,7 @@ fn place_of(files: &[StoredFile], number: u64) -> Option<usize>
 }
 
 // Issues the mutation of the file with this number, where it is there. It fails only when out of memory, and then nothing is changed.
-fn issue_in(
-    files: &mut Vec<StoredFile>,
-    number: u64,
-    mutation: Mutation,
-) -> Result<(), AllocError>
+fn issue_in(files: &mut Vec<StoredFile>, number: u64, mutation: Mutation) -> Result<(), AllocError>
     ensures ok { OnOk result (files.new.items ≡ changed (has_number number) (with_issued (mutation_of mutation)) files.old.items) }
     ensures err { OnErr result (files.new.items ≡ files.old.items) }
 {

@@ -199,7 +199,11 @@ impl Opens {
         ensures { self.new ≡ closed open.name self.old }
     {
         let OpenBlob { opened, name } = open;
-        let Opened { blob, size, version } = opened;
+        let Opened {
+            blob,
+            size,
+            version,
+        } = opened;
         self.forget(&name);
     }
 }

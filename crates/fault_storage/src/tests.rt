@@ -5,12 +5,15 @@ ghost use Rattle.rand_core.specs.Steps.{stream_of, steps_u64_low};
 
 use crate::blob_file::BlobFile;
 use crate::checksum::{Checksum, Crc32};
+use crate::config::Config;
 use crate::draws::{PartialWriteMode, draw_kept_bytes, draw_length_between};
-use crate::error::Error;
+use crate::error::{Error, HeaderError};
 use crate::file::{Mutation, Written};
-use crate::header::{Layout, created_region};
+use crate::header::{Layout, Layouts, Resolved, Versions, created_region, resolve};
 use crate::partition::validate_partition_name;
 use crate::probability::Probability;
+use crate::storage::{Storage, WriteMode};
+use crate::{faulty, memory};
 use rand_core::utils::NextWord;
 use rand_core::{Rng, utils};
 use std::alloc::{AllocError, Global};
@@ -262,6 +265,446 @@ fn fills_a_gap_with_zeros_and_keeps_an_earlier_write_open(rt: HostRuntime) -> Re
         file.settle_next(&mut Upward(0));
         file.settle_next(&mut Upward(0));
         assert_eq!(rt; file.durable(alloc)?.as_slice(), left);
+    }
+    Ok(())
+}
+
+// What the bytes, which are a whole file, show.
+fn resolved(
+    bytes: &[u8],
+    least: Layout,
+    greatest: Layout,
+    versions: Versions,
+) -> Result<Option<Resolved>, HeaderError>
+    requires { length bytes.now < 4097 }
+{
+    resolve(
+        bytes,
+        bytes.len() as u64,
+        Layouts { least, greatest },
+        versions,
+    )
+}
+
+#[test]
+fn resolves_short_files(rt: HostRuntime) {
+    assert_eq!(rt;
+        resolved(
+            b"",
+            Layout::V0,
+            Layout::V1,
+            Versions {
+                least: 0,
+                greatest: 7
+            }
+        ),
+        Ok(None)
+    );
+    assert_eq!(rt; Layout::V1.interrupted_creation(b""), false);
+    assert_eq!(rt;
+        resolved(
+            b"",
+            Layout::V1,
+            Layout::V1,
+            Versions {
+                least: 0,
+                greatest: 7
+            }
+        ),
+        Ok(None)
+    );
+    assert_eq!(rt; Layout::V1.interrupted_creation(b""), false);
+    assert_eq!(rt;
+        resolved(
+            b"",
+            Layout::V0,
+            Layout::V1,
+            Versions {
+                least: 0,
+                greatest: 65535
+            }
+        ),
+        Ok(None)
+    );
+    assert_eq!(rt; Layout::V1.interrupted_creation(b""), false);
+    assert_eq!(rt;
+        resolved(
+            b"\x43",
+            Layout::V0,
+            Layout::V0,
+            Versions {
+                least: 0,
+                greatest: 7
+            }
+        ),
+        Ok(None)
+    );
+    assert_eq!(rt; Layout::V1.interrupted_creation(b"\x43"), true);
+    assert_eq!(rt;
+        resolved(
+            b"\x43\x57\x49\x43\x00\x00\x00\x05",
+            Layout::V0,
+            Layout::V0,
+            Versions {
+                least: 0,
+                greatest: 7
+            }
+        ),
+        Ok(Some(Resolved {
+            size: 0,
+            version: 5,
+            data_offset: 8
+        }))
+    );
+    assert_eq!(rt;
+        Layout::V1.interrupted_creation(b"\x43\x57\x49\x43\x00\x00\x00\x05"),
+        false
+    );
+    assert_eq!(rt;
+        resolved(
+            b"\x43\x57\x49\x43\x00\x00\x00\x05",
+            Layout::V0,
+            Layout::V1,
+            Versions {
+                least: 6,
+                greatest: 9
+            }
+        ),
+        Err(HeaderError::BlobVersion)
+    );
+    assert_eq!(rt;
+        Layout::V1.interrupted_creation(b"\x43\x57\x49\x43\x00\x00\x00\x05"),
+        false
+    );
+    assert_eq!(rt;
+        resolved(
+            b"\x43\x57\x49\x43\x00\x00\x00\x05\x01\x02",
+            Layout::V0,
+            Layout::V1,
+            Versions {
+                least: 0,
+                greatest: 7
+            }
+        ),
+        Ok(Some(Resolved {
+            size: 2,
+            version: 5,
+            data_offset: 8
+        }))
+    );
+    assert_eq!(rt;
+        Layout::V1.interrupted_creation(b"\x43\x57\x49\x43\x00\x00\x00\x05\x01\x02"),
+        false
+    );
+    assert_eq!(rt;
+        resolved(
+            b"\x43\x57\x49\x43\x00\x00\x00\x05\x01\x02",
+            Layout::V1,
+            Layout::V1,
+            Versions {
+                least: 0,
+                greatest: 7
+            }
+        ),
+        Err(HeaderError::LayoutNotAllowed)
+    );
+    assert_eq!(rt;
+        Layout::V1.interrupted_creation(b"\x43\x57\x49\x43\x00\x00\x00\x05\x01\x02"),
+        false
+    );
+    assert_eq!(rt;
+        resolved(
+            b"\x43\x57\x49\x43\x00\x00\x00\x05\x01\x02",
+            Layout::V0,
+            Layout::V1,
+            Versions {
+                least: 0,
+                greatest: 65535
+            }
+        ),
+        Ok(Some(Resolved {
+            size: 2,
+            version: 5,
+            data_offset: 8
+        }))
+    );
+    assert_eq!(rt;
+        Layout::V1.interrupted_creation(b"\x43\x57\x49\x43\x00\x00\x00\x05\x01\x02"),
+        false
+    );
+    assert_eq!(rt;
+        resolved(
+            b"\x00\x00\x00\x00\x00\x00\x00\x00",
+            Layout::V0,
+            Layout::V1,
+            Versions {
+                least: 0,
+                greatest: 7
+            }
+        ),
+        Err(HeaderError::Magic)
+    );
+    assert_eq!(rt;
+        Layout::V1.interrupted_creation(b"\x00\x00\x00\x00\x00\x00\x00\x00"),
+        false
+    );
+    assert_eq!(rt;
+        resolved(
+            b"\x00\x00\x00\x00\x00\x00\x00\x00",
+            Layout::V1,
+            Layout::V1,
+            Versions {
+                least: 0,
+                greatest: 7
+            }
+        ),
+        Err(HeaderError::Magic)
+    );
+    assert_eq!(rt;
+        Layout::V1.interrupted_creation(b"\x00\x00\x00\x00\x00\x00\x00\x00"),
+        false
+    );
+    assert_eq!(rt;
+        resolved(
+            b"\x00\x00\x00\x00\x00\x00\x00\x00",
+            Layout::V0,
+            Layout::V1,
+            Versions {
+                least: 0,
+                greatest: 65535
+            }
+        ),
+        Err(HeaderError::Magic)
+    );
+    assert_eq!(rt;
+        Layout::V1.interrupted_creation(b"\x00\x00\x00\x00\x00\x00\x00\x00"),
+        false
+    );
+    assert_eq!(rt;
+        resolved(
+            b"\x61\x62\x63\x64\x65\x66\x67\x68",
+            Layout::V0,
+            Layout::V0,
+            Versions {
+                least: 0,
+                greatest: 7
+            }
+        ),
+        Err(HeaderError::Magic)
+    );
+    assert_eq!(rt;
+        Layout::V1.interrupted_creation(b"\x61\x62\x63\x64\x65\x66\x67\x68"),
+        false
+    );
+    assert_eq!(rt;
+        resolved(
+            b"\x43\x57\x49\x31\x00\x01\x00\x05\xe1\xfc\x99\x74\x01",
+            Layout::V0,
+            Layout::V1,
+            Versions {
+                least: 0,
+                greatest: 7
+            }
+        ),
+        Err(HeaderError::Short)
+    );
+    assert_eq!(rt;
+        Layout::V1.interrupted_creation(b"\x43\x57\x49\x31\x00\x01\x00\x05\xe1\xfc\x99\x74\x01"),
+        false
+    );
+    assert_eq!(rt;
+        resolved(
+            b"\x43\x57\x49\x31\x00\x01\x00\x05\xe1\xfc\x99\x74\x01",
+            Layout::V1,
+            Layout::V1,
+            Versions {
+                least: 0,
+                greatest: 7
+            }
+        ),
+        Err(HeaderError::Short)
+    );
+    assert_eq!(rt;
+        Layout::V1.interrupted_creation(b"\x43\x57\x49\x31\x00\x01\x00\x05\xe1\xfc\x99\x74\x01"),
+        false
+    );
+    assert_eq!(rt;
+        resolved(
+            b"\x43\x57\x49\x31\x00\x01\x00\x05\xe1\xfc\x99\x74\x01",
+            Layout::V0,
+            Layout::V1,
+            Versions {
+                least: 0,
+                greatest: 65535
+            }
+        ),
+        Err(HeaderError::Short)
+    );
+    assert_eq!(rt;
+        Layout::V1.interrupted_creation(b"\x43\x57\x49\x31\x00\x01\x00\x05\xe1\xfc\x99\x74\x01"),
+        false
+    );
+    assert_eq!(rt;
+        resolved(
+            b"\x43\x57\x49\x43\x00\x01\x00\x05",
+            Layout::V0,
+            Layout::V0,
+            Versions {
+                least: 0,
+                greatest: 7
+            }
+        ),
+        Err(HeaderError::LayoutVersion)
+    );
+    assert_eq!(rt;
+        Layout::V1.interrupted_creation(b"\x43\x57\x49\x43\x00\x01\x00\x05"),
+        false
+    );
+    assert_eq!(rt;
+        resolved(
+            b"\x43\x57\x49\x43\x00\x01\x00\x05",
+            Layout::V0,
+            Layout::V1,
+            Versions {
+                least: 6,
+                greatest: 9
+            }
+        ),
+        Err(HeaderError::LayoutVersion)
+    );
+    assert_eq!(rt;
+        Layout::V1.interrupted_creation(b"\x43\x57\x49\x43\x00\x01\x00\x05"),
+        false
+    );
+    assert_eq!(rt;
+        resolved(
+            b"\x43\x57\x49\x43\x00\x00\x00\x00",
+            Layout::V0,
+            Layout::V1,
+            Versions {
+                least: 0,
+                greatest: 7
+            }
+        ),
+        Ok(Some(Resolved {
+            size: 0,
+            version: 0,
+            data_offset: 8
+        }))
+    );
+    assert_eq!(rt;
+        Layout::V1.interrupted_creation(b"\x43\x57\x49\x43\x00\x00\x00\x00"),
+        false
+    );
+    assert_eq!(rt;
+        resolved(
+            b"\x43\x57\x49\x43\x00\x00\x00\x00",
+            Layout::V1,
+            Layout::V1,
+            Versions {
+                least: 0,
+                greatest: 7
+            }
+        ),
+        Err(HeaderError::LayoutNotAllowed)
+    );
+    assert_eq!(rt;
+        Layout::V1.interrupted_creation(b"\x43\x57\x49\x43\x00\x00\x00\x00"),
+        false
+    );
+    assert_eq!(rt;
+        resolved(
+            b"\x43\x57\x49\x43\x00\x00\x00\x00",
+            Layout::V0,
+            Layout::V1,
+            Versions {
+                least: 0,
+                greatest: 65535
+            }
+        ),
+        Ok(Some(Resolved {
+            size: 0,
+            version: 0,
+            data_offset: 8
+        }))
+    );
+    assert_eq!(rt;
+        Layout::V1.interrupted_creation(b"\x43\x57\x49\x43\x00\x00\x00\x00"),
+        false
+    );
+    assert_eq!(rt;
+        resolved(
+            b"\x43\x57\x49\x43\xff\xff\x00\x05",
+            Layout::V0,
+            Layout::V0,
+            Versions {
+                least: 0,
+                greatest: 7
+            }
+        ),
+        Err(HeaderError::LayoutVersion)
+    );
+    assert_eq!(rt;
+        Layout::V1.interrupted_creation(b"\x43\x57\x49\x43\xff\xff\x00\x05"),
+        false
+    );
+    assert_eq!(rt;
+        resolved(
+            b"\x43\x57\x49\x43\xff\xff\x00\x05",
+            Layout::V0,
+            Layout::V1,
+            Versions {
+                least: 6,
+                greatest: 9
+            }
+        ),
+        Err(HeaderError::LayoutVersion)
+    );
+    assert_eq!(rt;
+        Layout::V1.interrupted_creation(b"\x43\x57\x49\x43\xff\xff\x00\x05"),
+        false
+    );
+}
+
+#[test]
+fn keeps_a_synced_write_past_a_plain_one(rt: HostRuntime) -> Result<(), Fail> {
+    let alloc = rt.alloc();
+    for (word, left) in [
+        (
+            0,
+            b"CWIC\0\0\0\0\x01\x02\x03\x04\0\0\0\0\xcc\xdd".as_slice(),
+        ),
+        (
+            2,
+            b"CWIC\0\0\0\0\x01\x02\x03\x04\xaa\xbb\0\0\xcc\xdd".as_slice(),
+        ),
+    ] {
+        let mut storage = memory::Storage::new(alloc);
+        let versions = Versions {
+            least: 0,
+            greatest: 0,
+        };
+        let mut blob = storage.open_versioned("p", b"n", versions)?.blob;
+        storage.admit("p", b"n")?;
+        blob.write_at(&mut storage, 0, b"\x01\x02\x03\x04", WriteMode::Plain)?;
+        blob.sync(&mut storage)?;
+        blob.write_at(&mut storage, 4, b"\xaa\xbb", WriteMode::Plain)?;
+        blob.write_at(&mut storage, 8, b"\xcc\xdd", WriteMode::Sync)?;
+        let mut faulty = faulty::Storage::new(storage, Upward(word), Config::default());
+        faulty.crash();
+        faulty.crash();
+        assert_eq!(rt; faulty.injections(), 0);
+        let mut storage = faulty.into_inner();
+        let shown = storage.open_versioned("p", b"n", versions)?.blob;
+        assert_eq!(rt; shown.copy_live(&storage)?.as_slice(), left);
+        assert_eq!(rt;
+            shown.read_at(&storage, 0, 4)?.as_slice(),
+            b"\x01\x02\x03\x04".as_slice()
+        );
+        assert_eq!(rt;
+            shown.read_at(&storage, 8, 3),
+            Err(Error::BlobInsufficientLength)
+        );
     }
     Ok(())
 }

@@ -31,20 +31,21 @@ torn bytes k version said small few some m zeros =
 pub returns-then-matching-eq0 : goal.returns-then-matching-eq0
 returns-then-matching-eq0 c =
     let m = found c.args.bytes.now c.checked_front.result c.version_said.result c.matching-matching.result c.version_said.ensures c.checked_front.ensures
-        c.matching-matching.ensures.within c.matching-matching.ensures.same c.matching-matching.ensures.all in
-    (λ yes. absurd (false≢true yes), λ t. elim c.then-matching-eq0.branch [
-      | then-matching-eq0-via-then-matching-eq0 w ↦
-          let some : 0 < c.matching-matching.result = torn-some c.args.bytes.now t c.matching-matching.result m in
-          absurd (omega (arith, some, w.if-matching-eq0.true))
-      | then-matching-eq0-via-else-matching-eq0+then-not-are_zeros w ↦
-          absurd (not_torn c.args.bytes.now c.matching-matching.result w.are_zeros.result m w.are_zeros.ensures.1 w.if-not-are_zeros.true t)
-    ])
+    c.matching-matching.ensures.within c.matching-matching.ensures.same c.matching-matching.ensures.all in (
+      λ yes. absurd (false≢true yes),
+      λ t. elim c.then-matching-eq0.branch [
+        | then-matching-eq0-via-then-matching-eq0 w ↦
+            let some : 0 < c.matching-matching.result = torn-some c.args.bytes.now t c.matching-matching.result m in
+            absurd (omega (arith, some, w.if-matching-eq0.true))
+        | then-matching-eq0-via-else-matching-eq0+then-not-are_zeros w ↦
+            absurd (not_torn c.args.bytes.now c.matching-matching.result w.are_zeros.result m w.are_zeros.ensures.1 w.if-not-are_zeros.true t)
+      ],
+    )
 
 pub returns-then-matching-lt12 : goal.returns-then-matching-lt12
 returns-then-matching-lt12 c =
     let m = found c.args.bytes.now c.checked_front.result c.version_said.result c.matching-matching.result c.version_said.ensures c.checked_front.ensures
-        c.matching-matching.ensures.within c.matching-matching.ensures.same c.matching-matching.ensures.all in
-    (
+    c.matching-matching.ensures.within c.matching-matching.ensures.same c.matching-matching.ensures.all in (
       λ yes. torn c.args.bytes.now c.matching-matching.result c.version_said.result c.version_said.ensures (omega arith) (omega arith) c.if-matching-eq0.false m
           (c.are_zeros.ensures.0 c.if-not-are_zeros.false) (inl c.if-matching-lt12.true),
       λ t. lt-ltb c.matching-matching.result 12 c.if-matching-lt12.true,
@@ -53,8 +54,7 @@ returns-then-matching-lt12 c =
 pub returns-else-matching-lt12 : goal.returns-else-matching-lt12
 returns-else-matching-lt12 c =
     let m = found c.args.bytes.now c.checked_front.result c.version_said.result c.matching-matching.result c.version_said.ensures c.checked_front.ensures
-        c.matching-matching.ensures.within c.matching-matching.ensures.same c.matching-matching.ensures.all in
-    (
+    c.matching-matching.ensures.within c.matching-matching.ensures.same c.matching-matching.ensures.all in (
       λ yes. torn c.args.bytes.now c.matching-matching.result c.version_said.result c.version_said.ensures (omega arith) (omega arith) c.if-matching-eq0.false m
           (c.are_zeros.ensures.0 c.if-not-are_zeros.false) (inr (ltb-true (length c.args.bytes.now) 4096 yes)),
       λ t. lt-ltb (length c.args.bytes.now) 4096 (torn-short c.args.bytes.now t c.matching-matching.result (omega (arith, c.version_said.ensures)) m (omega arith)),

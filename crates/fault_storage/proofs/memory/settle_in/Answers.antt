@@ -21,4 +21,4 @@ settling number shown files next place stored file words after same at is drawn 
 pub returns-in-Some : goal.returns-in-Some
 returns-in-Some g c =
     settling c.args.number c.deref.result.now c.args.files.now.items c.args.files.now.items c.in-Some.place c.index_mut.result.now c.settle_next.new.self (g.R.Rng.stream c.args.rng.now)
-        (g.R.Rng.stream c.settle_next.new.rng) c.deref.ensures.value c.in-Some.ensures c.index_mut.ensures.value c.settle_next.ensures
+    (g.R.Rng.stream c.settle_next.new.rng) c.deref.ensures.value c.in-Some.ensures c.index_mut.ensures.value c.settle_next.ensures

@@ -29,7 +29,7 @@ returns-then-is_empty g c =
 pub invariant_of-self : goal.invariant_of-self
 invariant_of-self g c =
     rest c.self.inside.log.items c.let_first_go.new.log.items (vec_capacity c.self.inside.base) (vec_capacity c.apply_drawn.new.bytes) (vec_capacity c.self.inside.choice)
-        (vec_capacity c.apply_drawn.new.choice) c.let_first_go.ensures c.apply_drawn.ensures.capacity c.apply_drawn.ensures.choice_capacity c.self.invariant
+    (vec_capacity c.apply_drawn.new.choice) c.let_first_go.ensures c.apply_drawn.ensures.capacity c.apply_drawn.ensures.choice_capacity c.self.invariant
 
 settling : (base next : List ℕ) (log left : List code.Mutation) (here : code.Mutation) (words after : Stream) (file : File)
     → record { base = base; log = log_of log } ≡ file → 0 < length log → here ≡ get_or log 0 here
@@ -44,4 +44,4 @@ settling base next log left here words after file view some is applies draws lea
 pub returns : goal.returns
 returns g c =
     settling c.self.inside.base.items c.apply_drawn.new.bytes.items c.self.inside.log.items c.let_first_go.new.log.items c.index.result.now (g.R.Rng.stream c.args.rng.now)
-        (g.R.Rng.stream c.apply_drawn.new.rng) c.args.self.now c.self.view_is (search rules) (search rules) c.apply_drawn.ensures.applied c.apply_drawn.ensures.words c.let_first_go.ensures
+    (g.R.Rng.stream c.apply_drawn.new.rng) c.args.self.now c.self.view_is (search rules) (search rules) c.apply_drawn.ensures.applied c.apply_drawn.ensures.words c.let_first_go.ensures
