@@ -110,14 +110,14 @@ impl Opens {
     fn is_open(&self, partition: &str, name: &[u8]) -> bool
         ensures { result ≡ is_open partition.now name.now self.now }
     {
-        self.names.iter().any(|open| open.is(partition, name))
+        self.names.iter().any(|other| other.is(partition, name))
     }
 
     // Whether a name of the partition is open.
     fn has_open(&self, partition: &str) -> bool
         ensures { result ≡ is_held partition.now None self.now }
     {
-        self.names.iter().any(|open| open.is_in(partition))
+        self.names.iter().any(|other| other.is_in(partition))
     }
 
     // Takes the name from those that are open.
@@ -195,10 +195,10 @@ impl Opens {
     }
 
     /// Closes the blob: its name may be opened again. In the Rust its handle is dropped.
-    pub fn close<B: Drop>(&mut self, open: OpenBlob<B>)
-        ensures { self.new ≡ closed open.name self.old }
+    pub fn close<B: Drop>(&mut self, spent: OpenBlob<B>)
+        ensures { self.new ≡ closed spent.name self.old }
     {
-        let OpenBlob { opened, name } = open;
+        let OpenBlob { opened, name } = spent;
         let Opened {
             blob,
             size,

@@ -9,7 +9,7 @@ use crate::error::Error;
 use crate::header::Versions;
 
 /// A blob that was opened.
-#[derive(Debug)]
+#[derive(Debug, Drop)]
 pub struct Opened<B> {
     /// The blob.
     pub blob: B,

@@ -288,382 +288,93 @@ fn resolved(
 
 #[test]
 fn resolves_short_files(rt: HostRuntime) {
-    assert_eq!(rt;
-        resolved(
-            b"",
+    for (bytes, least, greatest, versions, expected, is_torn) in [
+        (
+            b"".as_slice(),
             Layout::V0,
             Layout::V1,
-            Versions {
-                least: 0,
-                greatest: 7
-            }
+            (0u16, 7u16),
+            Ok(None),
+            false,
         ),
-        Ok(None)
-    );
-    assert_eq!(rt; Layout::V1.interrupted_creation(b""), false);
-    assert_eq!(rt;
-        resolved(
-            b"",
-            Layout::V1,
-            Layout::V1,
-            Versions {
-                least: 0,
-                greatest: 7
-            }
-        ),
-        Ok(None)
-    );
-    assert_eq!(rt; Layout::V1.interrupted_creation(b""), false);
-    assert_eq!(rt;
-        resolved(
-            b"",
-            Layout::V0,
-            Layout::V1,
-            Versions {
-                least: 0,
-                greatest: 65535
-            }
-        ),
-        Ok(None)
-    );
-    assert_eq!(rt; Layout::V1.interrupted_creation(b""), false);
-    assert_eq!(rt;
-        resolved(
-            b"\x43",
+        (
+            b"\x43".as_slice(),
             Layout::V0,
             Layout::V0,
-            Versions {
-                least: 0,
-                greatest: 7
-            }
+            (0u16, 7u16),
+            Ok(None),
+            true,
         ),
-        Ok(None)
-    );
-    assert_eq!(rt; Layout::V1.interrupted_creation(b"\x43"), true);
-    assert_eq!(rt;
-        resolved(
-            b"\x43\x57\x49\x43\x00\x00\x00\x05",
-            Layout::V0,
-            Layout::V0,
-            Versions {
-                least: 0,
-                greatest: 7
-            }
-        ),
-        Ok(Some(Resolved {
-            size: 0,
-            version: 5,
-            data_offset: 8
-        }))
-    );
-    assert_eq!(rt;
-        Layout::V1.interrupted_creation(b"\x43\x57\x49\x43\x00\x00\x00\x05"),
-        false
-    );
-    assert_eq!(rt;
-        resolved(
-            b"\x43\x57\x49\x43\x00\x00\x00\x05",
+        (
+            b"\x43\x57\x49\x43\x00\x00\x00".as_slice(),
             Layout::V0,
             Layout::V1,
-            Versions {
-                least: 6,
-                greatest: 9
-            }
+            (0u16, 7u16),
+            Ok(None),
+            false,
         ),
-        Err(HeaderError::BlobVersion)
-    );
-    assert_eq!(rt;
-        Layout::V1.interrupted_creation(b"\x43\x57\x49\x43\x00\x00\x00\x05"),
-        false
-    );
-    assert_eq!(rt;
-        resolved(
-            b"\x43\x57\x49\x43\x00\x00\x00\x05\x01\x02",
+        (
+            b"\x43\x57\x49\x43\x00\x00\x00\x05".as_slice(),
             Layout::V0,
             Layout::V1,
-            Versions {
-                least: 0,
-                greatest: 7
-            }
+            (6u16, 9u16),
+            Err(HeaderError::BlobVersion),
+            false,
         ),
-        Ok(Some(Resolved {
-            size: 2,
-            version: 5,
-            data_offset: 8
-        }))
-    );
-    assert_eq!(rt;
-        Layout::V1.interrupted_creation(b"\x43\x57\x49\x43\x00\x00\x00\x05\x01\x02"),
-        false
-    );
-    assert_eq!(rt;
-        resolved(
-            b"\x43\x57\x49\x43\x00\x00\x00\x05\x01\x02",
-            Layout::V1,
-            Layout::V1,
-            Versions {
-                least: 0,
-                greatest: 7
-            }
-        ),
-        Err(HeaderError::LayoutNotAllowed)
-    );
-    assert_eq!(rt;
-        Layout::V1.interrupted_creation(b"\x43\x57\x49\x43\x00\x00\x00\x05\x01\x02"),
-        false
-    );
-    assert_eq!(rt;
-        resolved(
-            b"\x43\x57\x49\x43\x00\x00\x00\x05\x01\x02",
+        (
+            b"\x43\x57\x49\x43\x00\x00\x00\x05\x01\x02".as_slice(),
             Layout::V0,
             Layout::V1,
-            Versions {
-                least: 0,
-                greatest: 65535
-            }
+            (0u16, 7u16),
+            Ok(Some(Resolved {
+                size: 2,
+                version: 5,
+                data_offset: 8,
+            })),
+            false,
         ),
-        Ok(Some(Resolved {
-            size: 2,
-            version: 5,
-            data_offset: 8
-        }))
-    );
-    assert_eq!(rt;
-        Layout::V1.interrupted_creation(b"\x43\x57\x49\x43\x00\x00\x00\x05\x01\x02"),
-        false
-    );
-    assert_eq!(rt;
-        resolved(
-            b"\x00\x00\x00\x00\x00\x00\x00\x00",
-            Layout::V0,
-            Layout::V1,
-            Versions {
-                least: 0,
-                greatest: 7
-            }
-        ),
-        Err(HeaderError::Magic)
-    );
-    assert_eq!(rt;
-        Layout::V1.interrupted_creation(b"\x00\x00\x00\x00\x00\x00\x00\x00"),
-        false
-    );
-    assert_eq!(rt;
-        resolved(
-            b"\x00\x00\x00\x00\x00\x00\x00\x00",
+        (
+            b"\x43\x57\x49\x43\x00\x00\x00\x05\x01\x02".as_slice(),
             Layout::V1,
             Layout::V1,
-            Versions {
-                least: 0,
-                greatest: 7
-            }
+            (0u16, 7u16),
+            Err(HeaderError::LayoutNotAllowed),
+            false,
         ),
-        Err(HeaderError::Magic)
-    );
-    assert_eq!(rt;
-        Layout::V1.interrupted_creation(b"\x00\x00\x00\x00\x00\x00\x00\x00"),
-        false
-    );
-    assert_eq!(rt;
-        resolved(
-            b"\x00\x00\x00\x00\x00\x00\x00\x00",
+        (
+            b"\x00\x00\x00\x00\x00\x00\x00\x00".as_slice(),
             Layout::V0,
             Layout::V1,
-            Versions {
-                least: 0,
-                greatest: 65535
-            }
+            (0u16, 7u16),
+            Err(HeaderError::Magic),
+            false,
         ),
-        Err(HeaderError::Magic)
-    );
-    assert_eq!(rt;
-        Layout::V1.interrupted_creation(b"\x00\x00\x00\x00\x00\x00\x00\x00"),
-        false
-    );
-    assert_eq!(rt;
-        resolved(
-            b"\x61\x62\x63\x64\x65\x66\x67\x68",
-            Layout::V0,
-            Layout::V0,
-            Versions {
-                least: 0,
-                greatest: 7
-            }
-        ),
-        Err(HeaderError::Magic)
-    );
-    assert_eq!(rt;
-        Layout::V1.interrupted_creation(b"\x61\x62\x63\x64\x65\x66\x67\x68"),
-        false
-    );
-    assert_eq!(rt;
-        resolved(
-            b"\x43\x57\x49\x31\x00\x01\x00\x05\xe1\xfc\x99\x74\x01",
-            Layout::V0,
-            Layout::V1,
-            Versions {
-                least: 0,
-                greatest: 7
-            }
-        ),
-        Err(HeaderError::Short)
-    );
-    assert_eq!(rt;
-        Layout::V1.interrupted_creation(b"\x43\x57\x49\x31\x00\x01\x00\x05\xe1\xfc\x99\x74\x01"),
-        false
-    );
-    assert_eq!(rt;
-        resolved(
-            b"\x43\x57\x49\x31\x00\x01\x00\x05\xe1\xfc\x99\x74\x01",
+        (
+            b"\x43\x57\x49\x31\x00\x01\x00\x05".as_slice(),
             Layout::V1,
             Layout::V1,
-            Versions {
-                least: 0,
-                greatest: 7
-            }
+            (0u16, 7u16),
+            Ok(None),
+            true,
         ),
-        Err(HeaderError::Short)
-    );
-    assert_eq!(rt;
-        Layout::V1.interrupted_creation(b"\x43\x57\x49\x31\x00\x01\x00\x05\xe1\xfc\x99\x74\x01"),
-        false
-    );
-    assert_eq!(rt;
-        resolved(
-            b"\x43\x57\x49\x31\x00\x01\x00\x05\xe1\xfc\x99\x74\x01",
+        (
+            b"\x43\x57\x49\x31\x00\x01\x00\x05\xe1\xfc\x99\x74\x01".as_slice(),
             Layout::V0,
             Layout::V1,
-            Versions {
-                least: 0,
-                greatest: 65535
-            }
+            (0u16, 65535u16),
+            Err(HeaderError::Short),
+            false,
         ),
-        Err(HeaderError::Short)
-    );
-    assert_eq!(rt;
-        Layout::V1.interrupted_creation(b"\x43\x57\x49\x31\x00\x01\x00\x05\xe1\xfc\x99\x74\x01"),
-        false
-    );
-    assert_eq!(rt;
-        resolved(
-            b"\x43\x57\x49\x43\x00\x01\x00\x05",
-            Layout::V0,
-            Layout::V0,
-            Versions {
-                least: 0,
-                greatest: 7
-            }
-        ),
-        Err(HeaderError::LayoutVersion)
-    );
-    assert_eq!(rt;
-        Layout::V1.interrupted_creation(b"\x43\x57\x49\x43\x00\x01\x00\x05"),
-        false
-    );
-    assert_eq!(rt;
-        resolved(
-            b"\x43\x57\x49\x43\x00\x01\x00\x05",
-            Layout::V0,
-            Layout::V1,
-            Versions {
-                least: 6,
-                greatest: 9
-            }
-        ),
-        Err(HeaderError::LayoutVersion)
-    );
-    assert_eq!(rt;
-        Layout::V1.interrupted_creation(b"\x43\x57\x49\x43\x00\x01\x00\x05"),
-        false
-    );
-    assert_eq!(rt;
-        resolved(
-            b"\x43\x57\x49\x43\x00\x00\x00\x00",
-            Layout::V0,
-            Layout::V1,
-            Versions {
-                least: 0,
-                greatest: 7
-            }
-        ),
-        Ok(Some(Resolved {
-            size: 0,
-            version: 0,
-            data_offset: 8
-        }))
-    );
-    assert_eq!(rt;
-        Layout::V1.interrupted_creation(b"\x43\x57\x49\x43\x00\x00\x00\x00"),
-        false
-    );
-    assert_eq!(rt;
-        resolved(
-            b"\x43\x57\x49\x43\x00\x00\x00\x00",
-            Layout::V1,
-            Layout::V1,
-            Versions {
-                least: 0,
-                greatest: 7
-            }
-        ),
-        Err(HeaderError::LayoutNotAllowed)
-    );
-    assert_eq!(rt;
-        Layout::V1.interrupted_creation(b"\x43\x57\x49\x43\x00\x00\x00\x00"),
-        false
-    );
-    assert_eq!(rt;
-        resolved(
-            b"\x43\x57\x49\x43\x00\x00\x00\x00",
-            Layout::V0,
-            Layout::V1,
-            Versions {
-                least: 0,
-                greatest: 65535
-            }
-        ),
-        Ok(Some(Resolved {
-            size: 0,
-            version: 0,
-            data_offset: 8
-        }))
-    );
-    assert_eq!(rt;
-        Layout::V1.interrupted_creation(b"\x43\x57\x49\x43\x00\x00\x00\x00"),
-        false
-    );
-    assert_eq!(rt;
-        resolved(
-            b"\x43\x57\x49\x43\xff\xff\x00\x05",
-            Layout::V0,
-            Layout::V0,
-            Versions {
-                least: 0,
-                greatest: 7
-            }
-        ),
-        Err(HeaderError::LayoutVersion)
-    );
-    assert_eq!(rt;
-        Layout::V1.interrupted_creation(b"\x43\x57\x49\x43\xff\xff\x00\x05"),
-        false
-    );
-    assert_eq!(rt;
-        resolved(
-            b"\x43\x57\x49\x43\xff\xff\x00\x05",
-            Layout::V0,
-            Layout::V1,
-            Versions {
-                least: 6,
-                greatest: 9
-            }
-        ),
-        Err(HeaderError::LayoutVersion)
-    );
-    assert_eq!(rt;
-        Layout::V1.interrupted_creation(b"\x43\x57\x49\x43\xff\xff\x00\x05"),
-        false
-    );
+    ] {
+        let (low, high) = versions;
+        let accepted = Versions {
+            least: low,
+            greatest: high,
+        };
+        assert_eq!(rt; Layout::V1.interrupted_creation(bytes), is_torn);
+        assert!(rt; bytes.len() < 4097);
+        assert_eq!(rt; resolved(bytes, least, greatest, accepted), expected);
+    }
 }
 
 #[test]
