@@ -1,5 +1,5 @@
 -- A file that is grown before bytes are laid over it.
-use Rattle.std.proofs.Common.{◌≡◌, ◌≤◌, ◌+◌, ◌-◌, ◌++◌, ℕ, [], List, length, take, drop, replicate, get_or, inl, inr, ap, sym, refl, ◌∙◌, arith}
+use Rattle.std.proofs.Common.{◌≡◌, ◌≤◌, ◌+◌, ◌-◌, ◌++◌, ℕ, List, length, take, drop, replicate, get_or, inl, inr, ap, sym, refl, ◌∙◌, arith}
 use Rattle.std.proofs.lemmas.Bool.{cases_lt}
 use Rattle.std.proofs.lemmas.List.{append-nil, length-append, length-replicate, length-take-le, get_or_append_left, get_or-append_right, get_or_past, get_or-take, drop_all, ext_get_or}
 use Rattle.fault_storage.specs.Files.{grown, with_bytes}

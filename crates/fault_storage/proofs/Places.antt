@@ -1,5 +1,5 @@
 -- The first file that passes, by its place.
-use Rattle.std.proofs.Common.{◌≡◌, ◌<◌, ◌+◌, ◌∷◌, ◌++◌, [], ℕ, suc, Bool, true, false, cond, ◌||◌, List, length, take, drop, set, get_or, drop-cons, ap, sym, refl, subst, ◌∙◌, arith}
+use Rattle.std.proofs.Common.{◌≡◌, ◌<◌, ◌∷◌, ◌++◌, [], ℕ, suc, Bool, true, false, cond, ◌||◌, List, length, take, drop, set, get_or, drop-cons, ap, sym, refl, subst, ◌∙◌}
 use Rattle.std.specs.List.{list_any}
 use Rattle.std.proofs.lemmas.Bool.{false≢true}
 use Rattle.std.proofs.lemmas.List.{get_or_read, set_split, set-get_or}

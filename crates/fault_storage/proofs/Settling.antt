@@ -1,8 +1,8 @@
 -- The first mutation of a log.
-use Rattle.std.proofs.Common.{◌≡◌, ◌<◌, ◌+◌, ◌∷◌, [], ℕ, suc, List, length, drop, get_or, drop-cons, ap, sym, refl, ◌∙◌, arith}
+use Rattle.std.proofs.Common.{◌≡◌, ◌<◌, ◌∷◌, [], ℕ, List, length, drop, get_or, drop-cons, ap, sym, refl, ◌∙◌}
 use Rattle.rand_core.specs.Stream.{Stream}
 use Rattle.fault_storage.specs.declared.file.Mutation as code
-use Rattle.fault_storage.specs.Files.{File, applied, drawn_choice, settled}
+use Rattle.fault_storage.specs.Files.{applied, drawn_choice, settled}
 use Rattle.fault_storage.specs.FilesCode.{mutation_of, log_of}
 
 pub settled-first : (base : List ℕ) (log : List code.Mutation) (here : code.Mutation) (words : Stream) → 0 < length log → here ≡ get_or log 0 here

@@ -1,5 +1,5 @@
 -- The settings that nothing was said of.
-use Rattle.std.specs.Prelude.{◌≡◌, ℕ}
+use Rattle.std.specs.Prelude.{◌≡◌}
 use Rattle.fault_storage.specs.declared.config.Config.{Config}
 use Rattle.fault_storage.specs.Draws.{prefix, never}
 use Rattle.fault_storage.specs.DrawsCode.{rate_of, mode_of}

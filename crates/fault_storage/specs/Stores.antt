@@ -1,13 +1,13 @@
 -- A store of files. Its files stand in the order of their names; each has a number of its own, so that a value of a blob that is gone
 -- finds no file. The order of issue is kept over all files: a number for each mutation that is not settled.
-use Rattle.std.specs.Prelude.{◌≡◌, ℕ, ◌+◌, ◌<◌, ◌==◌, nat_le, Bool, true, false, not, if◌then◌else◌, List, [], ◌∷◌, ◌++◌, length, take, drop, replicate, filter, slice_index_or, slice_set}
+use Rattle.std.specs.Prelude.{◌≡◌, ℕ, ◌+◌, ◌<◌, ◌==◌, nat_le, Bool, true, not, if◌then◌else◌, List, [], ◌∷◌, ◌++◌, length, take, drop, replicate, filter, slice_index_or, slice_set}
 use Rattle.std.specs.List.{list_any}
 use Rattle.rand_core.specs.Stream.{Stream}
 use Rattle.fault_storage.specs.declared.stored.StoredFile.{StoredFile}
 use Rattle.fault_storage.specs.declared.storage.WriteMode.{WriteMode}
 use Rattle.fault_storage.specs.declared.storage.WriteMode.TheVariants.{Plain, Sync}
 use Rattle.fault_storage.specs.Draws.{Mode, Rate, prefix, never}
-use Rattle.fault_storage.specs.Files.{Mutation, written, fixed, resized_to, File, durable_bytes, with_bytes, with_kept, resized, settled}
+use Rattle.fault_storage.specs.Files.{Mutation, written, fixed, resized_to, File, with_bytes, with_kept, resized, settled}
 
 -- a store: the names of its partitions, its files, the numbers of the files whose mutations were issued, and the next number
 pub record Store : Type 0 where

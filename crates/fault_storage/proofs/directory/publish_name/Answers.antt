@@ -1,4 +1,4 @@
-use Rattle.std.proofs.Common.{rules, ap, sym, refl, ◌∙◌}
+use Rattle.std.proofs.Common.{rules, sym}
 use Rattle.fault_storage.specs.Stores.{settled_at}
 use Rattle.fault_storage.specs.Directory.{has_name}
 use Rattle.fault_storage.proofs.Places.{written-at, changed-none}

@@ -1,4 +1,4 @@
-use Rattle.std.proofs.Common.{rules, ap, sym, refl, ◌∙◌}
+use Rattle.std.proofs.Common.{rules, sym}
 use Rattle.fault_storage.specs.FilesCode.{mutation_of}
 use Rattle.fault_storage.specs.Stores.{has_number, with_issued}
 use Rattle.fault_storage.proofs.Places.{written-at, changed-none}

@@ -1,4 +1,4 @@
-use Rattle.std.proofs.Common.{rules, arith}
+use Rattle.std.proofs.Common.{rules}
 use Rattle.fault_storage.specs.Stores.{has_number}
 use Rattle.fault_storage.proofs.Places.{place-found}
 use Rattle.fault_storage.proofs.memory.place_of.Goals as goal

@@ -1,4 +1,4 @@
-use Rattle.std.proofs.Common.{rules, ap, sym, refl, ◌∙◌}
+use Rattle.std.proofs.Common.{rules, sym}
 use Rattle.fault_storage.specs.Stores.{has_number, settled_at}
 use Rattle.fault_storage.proofs.Places.{written-at, changed-none}
 use Rattle.fault_storage.proofs.memory.publish_in.Goals as goal

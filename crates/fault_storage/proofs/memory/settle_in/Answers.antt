@@ -1,5 +1,4 @@
-use Rattle.std.proofs.Common.{◌≡◌, ℕ, rules, set, get_or, Bool, true, cond, List, ap, sym, refl, subst, ◌∙◌}
-use Rattle.std.specs.List.{list_any}
+use Rattle.std.proofs.Common.{◌≡◌, ℕ, set, get_or, cond, List, ap, sym, subst, ◌∙◌}
 use Rattle.rand_core.specs.Stream.{Stream}
 use Rattle.fault_storage.specs.declared.stored.StoredFile.{StoredFile}
 use Rattle.fault_storage.specs.Files.{File, settled}

@@ -1,4 +1,4 @@
-use Rattle.std.proofs.Common.{rules, ◌≡◌, ◌++◌, ◌+◌, length, take, drop, ap, ◌∙◌}
+use Rattle.std.proofs.Common.{rules, ◌++◌, ◌+◌, length, take, drop, ap, ◌∙◌}
 use Rattle.std.proofs.lemmas.List.{take_at}
 use Rattle.fault_storage.proofs.Overlays.{laid-over}
 use Rattle.fault_storage.proofs.overlay.put_bytes.Goals as goal
