@@ -7,6 +7,9 @@ pub record Rate : Type 0 where
   pub numerator : ℕ
   pub denominator : ℕ
 
+abbrev pub never : Rate
+never = record { numerator = 0; denominator = 1 }
+
 -- zero or one by its value: nothing is left to a word
 abbrev pub is_certain : Rate → Bool
 is_certain rate = (rate.numerator == 0) || (rate.numerator == rate.denominator)

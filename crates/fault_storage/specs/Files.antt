@@ -70,6 +70,18 @@ crashed base [] words = (base, words)
 crashed base (mutation ∷ later) words =
     let drawn = drawn_choice mutation words in crashed (applied drawn.0 mutation base) later drawn.1
 
+-- a file: a base, and its uncut log
+pub record File : Type 0 where
+  pub base : List ℕ
+  pub log : List Mutation
+
+-- the first mutation of a log by a choice that is drawn, and the words left
+unfoldable pub settled : File → Stream → File × Stream
+settled file words = elim file.log [
+  | [] ↦ (file, words)
+  | mutation ∷ later ↦ let drawn = drawn_choice mutation words in (record { base = applied drawn.0 mutation file.base; log = later }, drawn.1)
+]
+
 -- a file of this size has room for what the mutation writes
 abbrev pub HasRoomFor : ℕ → Mutation → Type 0
 HasRoomFor size (written offset bytes mode rate) = offset + length bytes ≤ size

@@ -5,3 +5,8 @@ pub mod Files
 pub mod FilesCode
 pub mod Names
 pub mod Headers
+pub mod Refusals
+pub mod Opens
+pub mod Settings
+pub mod Stores
+pub mod Directory

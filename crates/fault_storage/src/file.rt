@@ -38,12 +38,3 @@ pub enum Mutation {
     /// A resize to this length: a crash keeps it by this retention rate.
     ResizedTo(usize, Probability),
 }
-
-/// A file: a base and the mutations since.
-#[derive(Debug, Drop)]
-pub struct BlobFile {
-    /// What was durable at the last published sync, admission or crash, else at creation.
-    pub base: Vec<u8>,
-    /// The mutations since, in the order of issue.
-    pub log: Vec<Mutation>,
-}

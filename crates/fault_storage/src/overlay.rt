@@ -1,6 +1,6 @@
 //! Bytes laid over a file.
 
-ghost use Rattle.std.specs.Prelude.{◌≡◌, ◌<◌, ◌≤◌, ◌+◌, ◌-◌, ◌++◌, ◌∷◌, [], length, if◌then◌else◌};
+ghost use Rattle.std.specs.Prelude.{◌≡◌, ◌^◌, ◌<◌, ◌≤◌, ◌+◌, ◌-◌, ◌++◌, ◌∷◌, [], length, take, drop, if◌then◌else◌};
 ghost use Rattle.std.specs.Vec.{vec_len, vec_capacity};
 ghost use Rattle.fault_storage.specs.Files.{grown, resized, with_bytes, with_kept};
 
@@ -60,6 +60,24 @@ pub fn put_kept(file: &mut Vec<u8>, offset: usize, bytes: &[u8], kept: &[bool])
     for index in 0..bytes.len().min(kept.len()) {
         put_if(file, offset + index, bytes[index], kept[index]);
     }
+}
+
+// Lays the bytes over others, which reach as far.
+fn overwrite(file: &mut [u8], offset: usize, bytes: &[u8])
+    requires { offset + length bytes.now ≤ length file.old }
+    ensures { file.new ≡ take offset file.old ++ (bytes.now ++ drop (offset + length bytes.now) file.old) }
+{
+    file[offset..offset + bytes.len()].copy_from_slice(bytes);
+}
+
+/// Lays the bytes over the file at an offset, with zeros in a gap before them. There is room for them.
+pub fn put_bytes(file: &mut Vec<u8>, offset: usize, bytes: &[u8])
+    requires fits { offset + length bytes.now < 2 ^ 64 }
+    requires room { offset + length bytes.now ≤ vec_capacity file.old }
+    ensures put { file.new.items ≡ with_bytes offset bytes.now file.old.items }
+{
+    grow(file, offset + bytes.len());
+    overwrite(file, offset, bytes);
 }
 
 /// Cuts the file to a size, or grows it to that by zeros. There is room for them.

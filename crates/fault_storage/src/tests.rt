@@ -3,14 +3,17 @@
 ghost use Rattle.std.specs.Prelude.{ℕ, ◌+◌, ◌%◌, ◌^◌, ◌<◌, length};
 ghost use Rattle.rand_core.specs.Steps.{stream_of, steps_u64_low};
 
+use crate::blob_file::BlobFile;
 use crate::checksum::{Checksum, Crc32};
+use crate::config::Config;
 use crate::draws::{PartialWriteMode, draw_kept_bytes, draw_length_between};
-use crate::error::Error;
-use crate::file::{BlobFile, Mutation, Written};
-use crate::header::{Layout, created_region};
+use crate::error::{Error, HeaderError};
+use crate::file::{Mutation, Written};
+use crate::header::{Layout, Layouts, Resolved, Versions, created_region, resolve};
 use crate::partition::validate_partition_name;
 use crate::probability::Probability;
-use crate::replay::{crashed_bytes_of, durable_bytes_of};
+use crate::storage::{Storage, WriteMode};
+use crate::{faulty, memory};
 use rand_core::utils::NextWord;
 use rand_core::{Rng, utils};
 use std::alloc::{AllocError, Global};
@@ -242,34 +245,177 @@ fn written(alloc: Global, offset: usize, bytes: &[u8]) -> Result<Written, AllocE
 }
 
 // Four durable bytes, a plain write at 4, and a synced one at 8.
-fn gap(alloc: Global, retention: Probability) -> Result<BlobFile, AllocError> {
-    let mut log = Vec::new(alloc);
+fn gap(alloc: Global, retention: Probability) -> Result<BlobFile, Fail> {
+    let mut file = BlobFile::new(alloc, b"\x01\x02\x03\x04".to_vec(alloc)?);
     let plain = written(alloc, 4, b"\xaa\xbb")?;
-    log.push(Mutation::Plain(plain, PartialWriteMode::Subset, retention))?;
+    file.issue(Mutation::Plain(plain, PartialWriteMode::Subset, retention))?;
     let synced = written(alloc, 8, b"\xcc\xdd")?;
-    log.push(Mutation::Fixed(synced, [true, true].to_vec(alloc)?))?;
-    Ok(BlobFile {
-        base: b"\x01\x02\x03\x04".to_vec(alloc)?,
-        log,
-    })
+    file.issue(Mutation::Fixed(synced, [true, true].to_vec(alloc)?))?;
+    Ok(file)
 }
 
 #[test]
 fn fills_a_gap_with_zeros_and_keeps_an_earlier_write_open(rt: HostRuntime) -> Result<(), Fail> {
     let alloc = rt.alloc();
-    let dropped = gap(alloc, Probability::ZERO)?;
     let without = b"\x01\x02\x03\x04\0\0\0\0\xcc\xdd".as_slice();
-    assert_eq!(rt; durable_bytes_of(alloc, &dropped)?.as_slice(), without);
-    assert_eq!(rt;
-        crashed_bytes_of(alloc, &dropped, &mut Upward(0))?.as_slice(),
-        without
-    );
-    let kept = gap(alloc, Probability::ONE)?;
     let with = b"\x01\x02\x03\x04\xaa\xbb\0\0\xcc\xdd".as_slice();
-    assert_eq!(rt; durable_bytes_of(alloc, &kept)?.as_slice(), without);
-    assert_eq!(rt;
-        crashed_bytes_of(alloc, &kept, &mut Upward(0))?.as_slice(),
-        with
-    );
+    for (retention, left) in [(Probability::ZERO, without), (Probability::ONE, with)] {
+        let mut file = gap(alloc, retention)?;
+        assert_eq!(rt; file.durable(alloc)?.as_slice(), without);
+        file.settle_next(&mut Upward(0));
+        file.settle_next(&mut Upward(0));
+        assert_eq!(rt; file.durable(alloc)?.as_slice(), left);
+    }
+    Ok(())
+}
+
+// What the bytes, which are a whole file, show.
+fn resolved(
+    bytes: &[u8],
+    least: Layout,
+    greatest: Layout,
+    versions: Versions,
+) -> Result<Option<Resolved>, HeaderError>
+    requires { length bytes.now < 4097 }
+{
+    resolve(
+        bytes,
+        bytes.len() as u64,
+        Layouts { least, greatest },
+        versions,
+    )
+}
+
+#[test]
+fn resolves_short_files(rt: HostRuntime) {
+    for (bytes, least, greatest, versions, expected, is_torn) in [
+        (
+            b"".as_slice(),
+            Layout::V0,
+            Layout::V1,
+            (0u16, 7u16),
+            Ok(None),
+            false,
+        ),
+        (
+            b"\x43".as_slice(),
+            Layout::V0,
+            Layout::V0,
+            (0u16, 7u16),
+            Ok(None),
+            true,
+        ),
+        (
+            b"\x43\x57\x49\x43\x00\x00\x00".as_slice(),
+            Layout::V0,
+            Layout::V1,
+            (0u16, 7u16),
+            Ok(None),
+            false,
+        ),
+        (
+            b"\x43\x57\x49\x43\x00\x00\x00\x05".as_slice(),
+            Layout::V0,
+            Layout::V1,
+            (6u16, 9u16),
+            Err(HeaderError::BlobVersion),
+            false,
+        ),
+        (
+            b"\x43\x57\x49\x43\x00\x00\x00\x05\x01\x02".as_slice(),
+            Layout::V0,
+            Layout::V1,
+            (0u16, 7u16),
+            Ok(Some(Resolved {
+                size: 2,
+                version: 5,
+                data_offset: 8,
+            })),
+            false,
+        ),
+        (
+            b"\x43\x57\x49\x43\x00\x00\x00\x05\x01\x02".as_slice(),
+            Layout::V1,
+            Layout::V1,
+            (0u16, 7u16),
+            Err(HeaderError::LayoutNotAllowed),
+            false,
+        ),
+        (
+            b"\x00\x00\x00\x00\x00\x00\x00\x00".as_slice(),
+            Layout::V0,
+            Layout::V1,
+            (0u16, 7u16),
+            Err(HeaderError::Magic),
+            false,
+        ),
+        (
+            b"\x43\x57\x49\x31\x00\x01\x00\x05".as_slice(),
+            Layout::V1,
+            Layout::V1,
+            (0u16, 7u16),
+            Ok(None),
+            true,
+        ),
+        (
+            b"\x43\x57\x49\x31\x00\x01\x00\x05\xe1\xfc\x99\x74\x01".as_slice(),
+            Layout::V0,
+            Layout::V1,
+            (0u16, 65535u16),
+            Err(HeaderError::Short),
+            false,
+        ),
+    ] {
+        let (low, high) = versions;
+        let accepted = Versions {
+            least: low,
+            greatest: high,
+        };
+        assert_eq!(rt; Layout::V1.interrupted_creation(bytes), is_torn);
+        assert!(rt; bytes.len() < 4097);
+        assert_eq!(rt; resolved(bytes, least, greatest, accepted), expected);
+    }
+}
+
+#[test]
+fn keeps_a_synced_write_past_a_plain_one(rt: HostRuntime) -> Result<(), Fail> {
+    let alloc = rt.alloc();
+    for (word, left) in [
+        (
+            0,
+            b"CWIC\0\0\0\0\x01\x02\x03\x04\0\0\0\0\xcc\xdd".as_slice(),
+        ),
+        (
+            2,
+            b"CWIC\0\0\0\0\x01\x02\x03\x04\xaa\xbb\0\0\xcc\xdd".as_slice(),
+        ),
+    ] {
+        let mut storage = memory::Storage::new(alloc);
+        let versions = Versions {
+            least: 0,
+            greatest: 0,
+        };
+        let mut blob = storage.open_versioned("p", b"n", versions)?.blob;
+        storage.admit("p", b"n")?;
+        blob.write_at(&mut storage, 0, b"\x01\x02\x03\x04", WriteMode::Plain)?;
+        blob.sync(&mut storage)?;
+        blob.write_at(&mut storage, 4, b"\xaa\xbb", WriteMode::Plain)?;
+        blob.write_at(&mut storage, 8, b"\xcc\xdd", WriteMode::Sync)?;
+        let mut faulty = faulty::Storage::new(storage, Upward(word), Config::default());
+        faulty.crash();
+        faulty.crash();
+        assert_eq!(rt; faulty.injections(), 0);
+        let mut storage = faulty.into_inner();
+        let shown = storage.open_versioned("p", b"n", versions)?.blob;
+        assert_eq!(rt; shown.copy_live(&storage)?.as_slice(), left);
+        assert_eq!(rt;
+            shown.read_at(&storage, 0, 4)?.as_slice(),
+            b"\x01\x02\x03\x04".as_slice()
+        );
+        assert_eq!(rt;
+            shown.read_at(&storage, 8, 3),
+            Err(Error::BlobInsufficientLength)
+        );
+    }
     Ok(())
 }

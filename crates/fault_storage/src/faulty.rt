@@ -1,0 +1,213 @@
+//! The store that fails as its settings say, over the store in memory.
+//!
+//! ```text
+//!   a call    count full: F8 -> room for all that it may do: F9 -> draw: F6 -> the store in memory answers
+//! ```
+//!
+//! A call that answers F8 or F9 has taken no word and changed nothing. The draw comes before every other check of the store.
+
+ghost use Rattle.std.specs.Prelude.{◌≡◌, ◌≢◌, ◌+◌, ◌-◌, ◌^◌, ◌<◌, ◌⊎◌, Err, Ok, IfOk, IfErr, OnOk, OnErr, map, true, false, if◌then◌else◌};
+ghost use Rattle.std.specs.List.{list_any};
+ghost use Rattle.fault_storage.specs.Draws.{sample};
+ghost use Rattle.fault_storage.specs.DrawsCode.{rate_of};
+ghost use Rattle.fault_storage.specs.Stores.{is_there, published, crashed_store, has_bytes, bytes_at};
+ghost use Rattle.fault_storage.specs.Directory.{has_name, names_in, admitted, LacksName};
+
+use crate::config::Config;
+use crate::error::{Call, Error};
+use crate::memory;
+use crate::probability::Probability;
+use rand_core::Rng;
+
+/// A store that fails. In the Rust: `commonware_runtime::storage::faulty::Storage`.
+#[derive(Debug, Drop)]
+pub struct Storage<S, R> {
+    inner: S,
+    rng: R,
+    config: Config,
+    injections: u64,
+}
+
+impl<S: Drop, R: Drop> Storage<S, R> {
+    /// A store over another, with these words and settings.
+    pub fn new(inner: S, rng: R, config: Config) -> Storage<S, R>
+        ensures { result ≡ record { inner = inner; rng = rng; config = config; injections = 0 } }
+    {
+        Storage {
+            inner,
+            rng,
+            config,
+            injections: 0,
+        }
+    }
+
+    /// The store below.
+    pub fn inner(&self) -> &S
+        ensures { result.now ≡ self.now.inner }
+    {
+        &self.inner
+    }
+
+    /// The store below, taken out.
+    pub fn into_inner(self) -> S
+        ensures { result ≡ self.inner }
+    {
+        self.inner
+    }
+
+    /// The settings.
+    pub fn config(&self) -> Config
+        ensures { result ≡ self.now.config }
+    {
+        self.config
+    }
+
+    /// Other settings from now on (in the Rust a reference for writing).
+    pub fn set_config(&mut self, config: Config)
+        ensures { self.new ≡ record self.old { config = config } }
+    {
+        self.config = config;
+    }
+
+    /// How many faults were injected (own).
+    pub fn injections(&self) -> u64
+        ensures { result ≡ self.now.injections }
+    {
+        self.injections
+    }
+}
+
+impl<R: Rng> Storage<memory::Storage, R> {
+    // Whether a fault is injected into a call: a draw by the rate, and where it is, the count rises.
+    fn injects(&mut self, rate: Probability) -> bool
+        requires { self.old.injections < 2 ^ 64 - 1 }
+        ensures drawn { (result, R.stream self.new.rng) ≡ sample (rate_of rate) (R.stream self.old.rng) }
+        ensures count { self.new.injections ≡ (if result then self.old.injections + 1 else self.old.injections) }
+        ensures rest { (self.new.inner ≡ self.old.inner) × (self.new.config ≡ self.old.config) }
+    {
+        let is_injected = rate.sample(&mut self.rng);
+        if is_injected {
+            self.injections += 1;
+        }
+        is_injected
+    }
+
+    /// A crash: of what is not durable it leaves what is drawn, in the order of issue. It takes no memory.
+    /// In the Rust: `commonware_runtime::storage::faulty::Storage::crash`.
+    pub fn crash(&mut self)
+        ensures store { (self.new.inner, R.stream self.new.rng) ≡ crashed_store self.old.inner (R.stream self.old.rng) }
+        ensures rest { (self.new.injections ≡ self.old.injections) × (self.new.config ≡ self.old.config) }
+    {
+        self.inner.settle_all(&mut self.rng);
+    }
+
+    /// Makes what is durable of the file the base, and forgets its other mutations: what an opening showed stays. F3, F2, F1, F9; no
+    /// word is taken. In the Rust: `commonware_runtime::storage::faulty::Storage::admit`.
+    pub fn admit(&mut self, partition: &str, name: &[u8]) -> Result<(), Error>
+        ensures ok { OnOk result ((list_any (has_name partition.now name.now) self.old.inner.files ≡ true) × (self.new.inner ≡ admitted partition.now name.now self.old.inner)) }
+        ensures err { IfErr result (λ e. (self.new.inner ≡ self.old.inner) × (LacksName partition.now name.now self.old.inner e ⊎ (e ≡ Error.Memory))) }
+        ensures rest { (R.stream self.new.rng ≡ R.stream self.old.rng) × (self.new.injections ≡ self.old.injections) × (self.new.config ≡ self.old.config) }
+    {
+        self.inner.admit(partition, name)
+    }
+}
+
+impl<R: Rng> Storage<memory::Storage, R> {
+    /// The names of the partition's blobs in byte order. F8: the count of faults has ended; F9; F6; F3, F2.
+    /// In the Rust: `commonware_runtime::Storage::scan`.
+    pub fn scan(&mut self, partition: &str) -> Result<Vec<Vec<u8>>, Error>
+        ensures ended { self.old.injections ≡ 2 ^ 64 - 1 → result ≡ Err Error.NumberEnded }
+        ensures unmade { (result ≡ Err Error.NumberEnded) ⊎ (result ≡ Err Error.Memory) → (R.stream self.new.rng ≡ R.stream self.old.rng) × (self.new.injections ≡ self.old.injections) }
+        ensures drawn { result ≢ Err Error.NumberEnded → result ≢ Err Error.Memory → R.stream self.new.rng ≡ (sample (rate_of self.old.config.scan) (R.stream self.old.rng)).1 }
+        ensures injected { result ≢ Err Error.NumberEnded → result ≢ Err Error.Memory → (sample (rate_of self.old.config.scan) (R.stream self.old.rng)).0 ≡ true → (result ≡ Err (Error.Injected Call.Scan)) × (self.new.injections ≡ self.old.injections + 1) }
+        ensures counted { result ≢ Err (Error.Injected Call.Scan) → self.new.injections ≡ self.old.injections }
+        ensures ok { IfOk result (λ names. ((sample (rate_of self.old.config.scan) (R.stream self.old.rng)).0 ≡ false) × (map (λ name. name.items) names.items ≡ names_in partition.now self.old.inner.files)) }
+        ensures rest { (self.new.inner ≡ self.old.inner) × (self.new.config ≡ self.old.config) }
+    {
+        if self.injections == u64::MAX {
+            return Err(Error::NumberEnded);
+        }
+        let names = self.inner.scan(partition);
+        if matches!(names, Err(Error::Memory)) {
+            return Err(Error::Memory);
+        }
+        if self.injects(self.config.scan) {
+            return Err(Error::Injected(Call::Scan));
+        }
+        names
+    }
+}
+
+/// A blob of a store that fails. In the Rust: `commonware_runtime::storage::faulty::Blob`.
+#[derive(Debug, Drop)]
+pub struct Blob<B> {
+    inner: B,
+}
+
+impl<B> Blob<B> {
+    /// A blob of the store below, under the settings of the store that fails (own).
+    pub fn new(inner: B) -> Blob<B>
+        ensures { result ≡ record { inner = inner } }
+    {
+        Blob { inner }
+    }
+
+    /// The blob of the store below.
+    pub fn inner(&self) -> &B
+        ensures { result.now ≡ self.now.inner }
+    {
+        &self.inner
+    }
+}
+
+impl Blob<memory::Blob> {
+    /// So many bytes from an offset on. F8: the count of faults has ended; F9; F6; F7: they are not all there.
+    pub fn read_at<R: Rng>(
+        &self,
+        storage: &mut Storage<memory::Storage, R>,
+        offset: u64,
+        count: usize,
+    ) -> Result<Vec<u8>, Error>
+        ensures ended { storage.old.injections ≡ 2 ^ 64 - 1 → result ≡ Err Error.NumberEnded }
+        ensures unmade { (result ≡ Err Error.NumberEnded) ⊎ (result ≡ Err Error.Memory) → (R.stream storage.new.rng ≡ R.stream storage.old.rng) × (storage.new.injections ≡ storage.old.injections) }
+        ensures drawn { result ≢ Err Error.NumberEnded → result ≢ Err Error.Memory → R.stream storage.new.rng ≡ (sample (rate_of storage.old.config.read) (R.stream storage.old.rng)).1 }
+        ensures injected { result ≢ Err Error.NumberEnded → result ≢ Err Error.Memory → (sample (rate_of storage.old.config.read) (R.stream storage.old.rng)).0 ≡ true → (result ≡ Err (Error.Injected Call.Read)) × (storage.new.injections ≡ storage.old.injections + 1) }
+        ensures counted { result ≢ Err (Error.Injected Call.Read) → storage.new.injections ≡ storage.old.injections }
+        ensures ok { IfOk result (λ bytes. ((sample (rate_of storage.old.config.read) (R.stream storage.old.rng)).0 ≡ false) × (has_bytes self.now.inner offset count ≡ true) × (bytes.items ≡ bytes_at self.now.inner offset count)) }
+        ensures short { result ≡ Err Error.BlobInsufficientLength → has_bytes self.now.inner offset count ≡ false }
+        ensures rest { (storage.new.inner ≡ storage.old.inner) × (storage.new.config ≡ storage.old.config) }
+    {
+        if storage.injections == u64::MAX {
+            return Err(Error::NumberEnded);
+        }
+        let bytes = self.inner.read_at(&storage.inner, offset, count);
+        if matches!(bytes, Err(Error::Memory)) {
+            return Err(Error::Memory);
+        }
+        if storage.injects(storage.config.read) {
+            return Err(Error::Injected(Call::Read));
+        }
+        bytes
+    }
+
+    /// Makes the live bytes durable. F8: the count of faults has ended; F9; F6, and nothing is published; F1: the blob is gone.
+    pub fn sync<R: Rng>(&self, storage: &mut Storage<memory::Storage, R>) -> Result<(), Error>
+        ensures ended { storage.old.injections ≡ 2 ^ 64 - 1 → result ≡ Err Error.NumberEnded }
+        ensures unmade { result ≡ Err Error.NumberEnded ⊎ result ≡ Err Error.Memory → (storage.new.inner ≡ storage.old.inner) × (R.stream storage.new.rng ≡ R.stream storage.old.rng) × (storage.new.injections ≡ storage.old.injections) }
+        ensures drawn { result ≢ Err Error.NumberEnded → result ≢ Err Error.Memory → R.stream storage.new.rng ≡ (sample (rate_of storage.old.config.sync) (R.stream storage.old.rng)).1 }
+        ensures injected { result ≢ Err Error.NumberEnded → result ≢ Err Error.Memory → (sample (rate_of storage.old.config.sync) (R.stream storage.old.rng)).0 ≡ true → (result ≡ Err (Error.Injected Call.Sync)) × (storage.new.injections ≡ storage.old.injections + 1) × (storage.new.inner ≡ storage.old.inner) }
+        ensures counted { result ≢ Err (Error.Injected Call.Sync) → storage.new.injections ≡ storage.old.injections }
+        ensures ok { OnOk result ((sample (rate_of storage.old.config.sync) (R.stream storage.old.rng)).0 ≡ false × (is_there self.now.inner.number storage.old.inner ≡ true) × (storage.new.inner ≡ published self.now.inner.number self.now.inner.live storage.old.inner)) }
+        ensures gone { result ≡ Err Error.BlobMissing → (is_there self.now.inner.number storage.old.inner ≡ false) × (storage.new.inner ≡ storage.old.inner) }
+        ensures config { storage.new.config ≡ storage.old.config }
+    {
+        if storage.injections == u64::MAX {
+            return Err(Error::NumberEnded);
+        }
+        let bytes = self.inner.copy_live(&storage.inner)?;
+        if storage.injects(storage.config.sync) {
+            return Err(Error::Injected(Call::Sync));
+        }
+        self.inner.publish(&mut storage.inner, bytes)
+    }
+}
