@@ -14,34 +14,43 @@ use Rattle.std.specs.Prelude.{IfSome, unwrap_or}
 pub kept_entry : (setting : Setting) (key_size value_size : ℕ) (log : List Operation) (count last : ℕ)
     (digest written q : List ℕ)
     → Keeps setting key_size value_size log count last digest written
-        → active_update q log ≡ entry_of (latest_map (history_of log)) q
+    → active_update q log ≡ entry_of (latest_map (history_of log)) q
 kept_entry setting key_size value_size log count last digest written q keeps = ap (active_update q) keeps.whole
     ∙ active_update-log_of q (history_of log) keeps.states
 
 -- a value with the proof of the update of a key in a log
 abbrev pub shown : (Option (List ℕ) → List ℕ) → Setting → ℕ → ℕ → List ℕ → List Operation → List ℕ × List ℕ → List ℕ
     × List ℕ
-shown pending setting key_size value_size q log u = (u.0, key_value_proof pending setting
-    (state_of_log key_size value_size log) (active_location q log) u.1)
+shown pending setting key_size value_size q log u = (
+  u.0,
+  key_value_proof pending setting
+      (state_of_log key_size value_size log) (active_location q log) u.1,
+)
 
 -- the honest proof of a key, from what a store keeps
 pub honest_found : (pending : Option (List ℕ) → List ℕ) (setting : Setting) (key_size value_size : ℕ)
     (log : List Operation) (count last : ℕ) (digest written q : List ℕ)
     → Keeps setting key_size value_size log count last digest written
     → option_map (shown pending setting key_size value_size q log) (active_update q log)
-    ≡ option_map {U = List ℕ × List ℕ} (λ value. (value, honest_proof pending setting key_size value_size
-        (history_of log) q)) (value_at (latest_map (history_of log)) q)
+    ≡ option_map {U = List ℕ × List ℕ} (λ value. (
+      value,
+      honest_proof pending setting key_size value_size
+          (history_of log) q,
+    )) (value_at (latest_map (history_of log)) q)
 honest_found pending setting key_size value_size log count last digest written q keeps =
     ap (option_map (shown pending setting key_size value_size q log))
-        (kept_entry setting key_size value_size log count last digest written q keeps)
+    (kept_entry setting key_size value_size log count last digest written q keeps)
     ∙ (ap (λ l. option_map {U = List ℕ × List ℕ} (shown pending setting key_size value_size q l)
-        (entry_of (latest_map (history_of log)) q)) keeps.whole
+    (entry_of (latest_map (history_of log)) q)) keeps.whole
     ∙ each (value_at (latest_map (history_of log)) q))
   where
     each : (at : Option (List ℕ)) → option_map (shown pending setting key_size value_size q (log_of (history_of log)))
         (option_map {U = List ℕ × List ℕ} (λ value. (value, next_key (latest_map (history_of log)) q)) at)
-        ≡ option_map {U = List ℕ × List ℕ} (λ value. (value, honest_proof pending setting key_size value_size
-            (history_of log) q)) at
+        ≡ option_map {U = List ℕ × List ℕ} (λ value. (
+          value,
+          honest_proof pending setting key_size value_size
+              (history_of log) q,
+        )) at
     each None = refl
     each (Some v) = refl
 
@@ -49,7 +58,7 @@ honest_found pending setting key_size value_size log count last digest written q
 pub of_next_key : {X Y : Type 0} (R : List ℕ → Type 0) (parts : X → Y) (shown_as : List ℕ × List ℕ → Y)
     (found : Option X) (u : Option (List ℕ × List ℕ)) (state : Map) (q : List ℕ)
     → u ≡ entry_of state q → option_map parts found ≡ option_map shown_as u → IfSome found (λ _. IfSome u (λ x. R x.1))
-        → IfSome found (λ _. R (next_key state q))
+    → IfSome found (λ _. R (next_key state q))
 of_next_key R parts shown_as None u state q is same holds = tt
 of_next_key {X} {Y} R parts shown_as (Some p) u state q is same holds = there (value_at state q) is
   where
@@ -73,5 +82,5 @@ shown_all parts (Some p) (Some value) proof R Shows holds is each =
 pub same_state : (operations encoded : List (List ℕ)) (bits signs : List Bool) (floor last : ℕ) → operations ≡ encoded
     → bits ≡ signs → floor ≡ last
     → (let state : State = record { operations = operations; bits = bits; floor = floor } in let other : State =
-        record { operations = encoded; bits = signs; floor = last } in state ≡ other)
+    record { operations = encoded; bits = signs; floor = last } in state ≡ other)
 same_state operations encoded bits signs floor last p q r = λ i. record { operations = p i; bits = q i; floor = r i }

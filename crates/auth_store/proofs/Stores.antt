@@ -29,13 +29,13 @@ pub committed_length : (log changes whole : List Operation) (metadata : Option (
     → whole ≡ log ++ with_commit log changes metadata → length whole ≡ length log + length changes + 1
 committed_length log changes whole metadata is =
     let long : length (with_commit log changes metadata) ≡ length changes + 1 = length-append changes
-        (commit_floor metadata (inactivity_floor (log ++ changes)) ∷ []) in
+    (commit_floor metadata (inactivity_floor (log ++ changes)) ∷ []) in
     omega (arith, ap length is, length-append log (with_commit log changes metadata), long)
 
 -- changes with a commit after them that records the floor of all
 pub committed : (log changes now whole : List Operation) (metadata : Option (List ℕ)) (floor : ℕ) → now ≡ log ++ changes
     → floor ≡ inactivity_floor now → whole ≡ now ++ commit_floor metadata floor ∷ []
-        → whole ≡ log ++ with_commit log changes metadata
+    → whole ≡ log ++ with_commit log changes metadata
 committed log changes now whole metadata floor now-is floor-is is =
     is ∙ (ap (λ l. l ++ commit_floor metadata floor ∷ []) now-is
     ∙ (append_assoc log changes (commit_floor metadata floor ∷ [])
@@ -61,12 +61,12 @@ module _ (setting : Setting) (key value : ℕ) where
       (digest written : List ℕ)
       → Keeps setting key value log count last digest written
       → log ++ with_commit log (batch_operations (replayed [] log) (map_after words (replayed [] log))) metadata ≡
-          log_of (commit_after words metadata (history_of log))
+      log_of (commit_after words metadata (history_of log))
   next_log words metadata log count last digest written keeps =
       ap (λ state. log ++ with_commit log (batch_operations state (map_after words state)) metadata)
-          (latest_kept log count last digest written keeps)
+      (latest_kept log count last digest written keeps)
       ∙ ap (λ l. l ++ with_commit l (batch_operations (latest_map (history_of log))
-          (map_after words (latest_map (history_of log)))) metadata) keeps.whole
+      (map_after words (latest_map (history_of log)))) metadata) keeps.whole
 
   states_after : (words : List Word) (metadata : Option (List ℕ)) (h : History) → AreStates h
       → AreStates (commit_after words metadata h)
@@ -81,7 +81,7 @@ module _ (setting : Setting) (key value : ℕ) where
   next_stands words metadata log next count last digest written keeps is =
       ap history_of (is ∙ next_log words metadata log count last digest written keeps)
       ∙ history_of-log_of (commit_after words metadata (history_of log))
-          (states_after words metadata (history_of log) keeps.states)
+      (states_after words metadata (history_of log) keeps.states)
 
   pub next_keeps : (words : List Word) (metadata : Option (List ℕ)) (log changes next : List Operation)
       (count last floor : ℕ) (digest root written now : List ℕ)
@@ -95,10 +95,10 @@ module _ (setting : Setting) (key value : ℕ) where
       root-is now-is =
       let h : History = history_of log in
       let whole : next ≡ log ++ with_commit log (batch_operations (replayed [] log) (map_after words (replayed [] log)))
-          metadata =
+      metadata =
       is ∙ ap (λ c. log ++ with_commit log c metadata) changes-is in
       let stands : history_of next ≡ commit_after words metadata h = next_stands words metadata log next count last
-          digest written keeps whole in
+      digest written keeps whole in
       let sized : length (history_of next) ≡ length h + 1 = ap length stands ∙ omega arith in
       record {
         states = subst AreStates (sym stands) (states_after words metadata h keeps.states);
@@ -109,14 +109,14 @@ module _ (setting : Setting) (key value : ℕ) where
         root = root-is;
         bytes = now-is ∙ (ap (λ b. b ++ log_bytes key value (with_commit log changes metadata)) keeps.bytes
             ∙ (sym (flat_map-append (fixed_encoding key value) log (with_commit log changes metadata))
-                ∙ ap (log_bytes key value) (sym is)));
+            ∙ ap (log_bytes key value) (sym is)));
       }
 
   -- the first log: a commit of nothing
   pub first_keeps : (log : List Operation) (floor : ℕ) (root written : List ℕ) → log ≡ log_of []
       → floor ≡ last_floor log
       → root ≡ canonical_root setting (state_of_log key value log) → written ≡ log_bytes key value log
-          → Keeps setting key value log 0 floor root written
+      → Keeps setting key value log 0 floor root written
   first_keeps log floor root written is floor-is root-is written-is =
       let none : history_of log ≡ [] = ap history_of is in
       record {
@@ -138,4 +138,4 @@ module _ (setting : Setting) (key value : ℕ) where
   next_length words metadata log changes count last digest written keeps changes-is =
       committed_length log changes (log_of (commit_after words metadata (history_of log))) metadata
       (sym (ap (λ c. log ++ with_commit log c metadata) changes-is
-          ∙ next_log words metadata log count last digest written keeps))
+      ∙ next_log words metadata log count last digest written keeps))

@@ -11,8 +11,11 @@ use Rattle.auth_store.specs.Store.{IsChunkWidth, grafting_height}
 pub pow_same : (g h : ℕ) → 2 ^ g ≡ 2 ^ h → g ≡ h
 pow_same g h same = elim (cases_lt g h) [
   | inl less ↦ absurd (omega (arith, same, pow_below g h less))
-  | inr least ↦ elim (cases_lt h g) [ inl more ↦ absurd (omega (arith, same, pow_below h g more)) | inr most ↦ omega
-      (arith, least, most) ]
+  | inr least ↦ elim (cases_lt h g) [
+    | inl more ↦ absurd (omega (arith, same, pow_below h g more))
+    | inr most ↦ omega
+        (arith, least, most)
+  ]
 ]
 
 -- the bits of a chunk are a power of two, 2^62 at most
@@ -35,11 +38,37 @@ widths = 1 ∷ 2 ∷ 4 ∷ 8 ∷ 16 ∷ 32 ∷ 64 ∷ 128 ∷ 256 ∷ 512 ∷ 10
 
 powers : Each IsWhole widths
 unfolding lib.Count.count_trailing_zeros
-powers =
-    ((refl, lit≤ tt), ((refl, lit≤ tt), ((refl, lit≤ tt), ((refl, lit≤ tt),
-        ((refl, lit≤ tt), ((refl, lit≤ tt), ((refl, lit≤ tt),
-            ((refl, lit≤ tt), ((refl, lit≤ tt), ((refl, lit≤ tt),
-            ((refl, lit≤ tt), ((refl, lit≤ tt), ((refl, lit≤ tt), tt)))))))))))))
+powers = (
+  (refl, lit≤ tt),
+  (
+    (refl, lit≤ tt),
+    (
+      (refl, lit≤ tt),
+      (
+        (refl, lit≤ tt),
+        (
+          (refl, lit≤ tt),
+          (
+            (refl, lit≤ tt),
+            (
+              (refl, lit≤ tt),
+              (
+                (refl, lit≤ tt),
+                (
+                  (refl, lit≤ tt),
+                  (
+                    (refl, lit≤ tt),
+                    ((refl, lit≤ tt), ((refl, lit≤ tt), ((refl, lit≤ tt), tt))),
+                  ),
+                ),
+              ),
+            ),
+          ),
+        ),
+      ),
+    ),
+  ),
+)
 
 pub width_is_whole : (width : ℕ) → IsChunkWidth width → IsWhole width
 width_is_whole width is = any_of IsWhole width widths powers is

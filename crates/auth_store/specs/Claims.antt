@@ -36,4 +36,4 @@ terms rule hash width size IsPending pending IsKey key_size value_size = record 
 abbrev pub Shows : Terms → Claim → List ℕ → List ℕ → Type 0
 Shows terms (has_value key value) root bytes =
     ShowsUpdate terms.format root (λ next_key. fixed_encoding terms.key_size terms.value_size
-        (update key value next_key)) bytes
+    (update key value next_key)) bytes

@@ -20,8 +20,12 @@ pub record Machine : Type 0 where
   pub value_size : ℕ
 
 abbrev pub machine : Rule → Hash → (Option (List ℕ) → List ℕ) → ℕ → ℕ → ℕ → Machine
-machine rule hash pending width key value = record { setting = setting_of_width rule hash width; pending = pending;
-    key_size = key; value_size = value }
+machine rule hash pending width key value = record {
+  setting = setting_of_width rule hash width;
+  pending = pending;
+  key_size = key;
+  value_size = value;
+}
 
 -- the history of the open store, where one is open
 abbrev pub State : Type 0

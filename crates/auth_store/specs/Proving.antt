@@ -12,7 +12,7 @@ use Rattle.auth_store.specs.Store.{state_of_history}
 abbrev pub honest_proof : (Option (List ℕ) → List ℕ) → Setting → ℕ → ℕ → History → List ℕ → List ℕ
 honest_proof pending setting key_size value_size history key =
     key_value_proof pending setting (state_of_history key_size value_size history)
-        (active_location key (log_of history)) (next_key (latest_map history) key)
+    (active_location key (log_of history)) (next_key (latest_map history) key)
 
 -- the key that a claim is about
 abbrev pub claimed_key : Claim → List ℕ

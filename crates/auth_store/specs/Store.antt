@@ -24,8 +24,13 @@ grafting_height width = trailing_zeros w64 (8 * width)
 
 -- the setting of chunks of this width: 8 times the width is 2 to the grafting height
 abbrev pub setting_of_width : Rule → Hash → ℕ → Setting
-setting_of_width rule hash width = record { rule = rule; hash = hash; width = width; grafting_height = grafting_height
-    width }
+setting_of_width rule hash width = record {
+  rule = rule;
+  hash = hash;
+  width = width;
+  grafting_height = grafting_height
+      width;
+}
 
 -- the fixed encodings of a log's operations, from the sizes of keys and of values
 abbrev pub encodings : ℕ → ℕ → List Operation → List (List ℕ)
@@ -37,8 +42,12 @@ log_bytes key value log = flat_map (fixed_encoding key value) log
 
 -- what is hashed of a log
 abbrev pub state_of_log : ℕ → ℕ → List Operation → State
-state_of_log key value log = record { operations = encodings key value log; bits = activity_bits log; floor = last_floor
-    log }
+state_of_log key value log = record {
+  operations = encodings key value log;
+  bits = activity_bits log;
+  floor = last_floor
+      log;
+}
 
 -- the floor that the last commit of the history's log records
 abbrev pub floor_of : History → ℕ

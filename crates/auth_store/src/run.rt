@@ -35,7 +35,7 @@ where
     requires room { vec_len answers.old + vec_len steps ≤ vec_capacity answers.old }
     ensures { IsRun (machine F.merge_rule H.hash_of F.pending_encoding N K.SIZE V.SIZE) session.old.store
         (requests_of K.encoding V.encoding steps.items) (meanings_of H.Digest.encoding V.encoding answers.new.items)
-            session.new.store }
+        session.new.store }
 {
     let mut steps = steps.into_iter();
     while let Some(step) = steps.next() {
@@ -58,7 +58,7 @@ where
     ensures ran { IfOk result (λ answers. IsRun (machine F.merge_rule H.hash_of F.pending_encoding N K.SIZE V.SIZE)
         session.old.store
         (requests_of K.encoding V.encoding steps.items) (meanings_of H.Digest.encoding V.encoding answers.items)
-            session.new.store) }
+        session.new.store) }
     ensures err { OnErr result (session.new.store ≡ session.old.store) }
 {
     let mut answers = Vec::with_capacity(alloc, steps.len())?;

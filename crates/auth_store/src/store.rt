@@ -132,7 +132,7 @@ impl<F: Family, H: HashFunction, K: Key, V: FixedValue, const N: usize> Store<F,
         ensures refused { let said = words.meanings K.encoding V.encoding batch.words.items in
             let next = commit_after said (option_map V.encoding metadata) self.old in
             IfErr result (λ e. (e ≡ StoreError.Memory) ⊎ ((e ≡ StoreError.NumberEnded)
-                × (2 ^ 62 < length (spec.log_of next)))) }
+            × (2 ^ 62 < length (spec.log_of next)))) }
     {
         let changes = history::changes_of(self.alloc, self.log.operations(), &batch)?;
         if changes.len() as u64 >= MAX_OPERATIONS - self.log.len() as u64 {

@@ -29,17 +29,17 @@ deletes_no_commit : (es new : Map) → list_any is_commit (deletes es new) ≡ f
 deletes_no_commit [] new = refl
 deletes_no_commit (e ∷ es) new = elim (is_some (value_at new e.0)) as
     (λ b. list_any is_commit (cond b [] (delete e.0 ∷ []) ++ deletes es new) ≡ false) [
-  | true ↦ deletes_no_commit es new
-  | false ↦ deletes_no_commit es new
-]
+      | true ↦ deletes_no_commit es new
+      | false ↦ deletes_no_commit es new
+    ]
 
 updates_no_commit : (es old new : Map) → list_any is_commit (updates es old new) ≡ false
 updates_no_commit [] old new = refl
 updates_no_commit (e ∷ es) old new = elim (is_kept old new e.0 e.1) as
     (λ b. list_any is_commit (cond b [] (update e.0 e.1 (next_key new e.0) ∷ []) ++ updates es old new) ≡ false) [
-  | true ↦ updates_no_commit es old new
-  | false ↦ updates_no_commit es old new
-]
+      | true ↦ updates_no_commit es old new
+      | false ↦ updates_no_commit es old new
+    ]
 
 pub no_commit : (old new : Map) → list_any is_commit (batch_operations old new) ≡ false
 no_commit old new = any-append is_commit (deletes old new) (updates new old new) (deletes_no_commit old new)
@@ -64,14 +64,14 @@ commits_counted (commit ∷ history) =
     let operations : List Operation = batch_operations (latest_map history) commit.map in
     let last : List Operation = commit_floor commit.metadata (inactivity_floor (before ++ operations)) ∷ [] in
     let whole : filter is_commit (before ++ (operations ++ last)) ≡ filter is_commit before
-        ++ (filter is_commit operations ++ last) =
+    ++ (filter is_commit operations ++ last) =
     filter-append is_commit before (operations ++ last)
     ∙ ap (λ kept. filter is_commit before ++ kept) (filter-append is_commit operations last) in
     let none : filter is_commit operations ≡ [] = none_kept operations (no_commit (latest_map history) commit.map) in
     let long : length (filter is_commit before ++ last) ≡ length (filter is_commit before) + 1 = length-append
-        (filter is_commit before) last in
+    (filter is_commit before) last in
     ap length (whole ∙ ap (λ kept. filter is_commit before ++ (kept ++ last)) none)
-        ∙ (long ∙ omega (arith, commits_counted history))
+    ∙ (long ∙ omega (arith, commits_counted history))
 
 -- a key of the new state isn't deleted
 deletes_not : (q : List ℕ) (es new : Map) → is_some (value_at new q) ≡ true
@@ -82,7 +82,7 @@ deletes_not q (e ∷ es) new has =
     (λ t. ap (λ b. list_any (has_key q) (cond b [] (delete e.0 ∷ []) ++ deletes es new)) t ∙ deletes_not q es new has)
     (λ f. ap (λ b. list_any (has_key q) (cond b [] (delete e.0 ∷ []) ++ deletes es new)) f
     ∙ (ap (λ b. b || list_any (has_key q) (deletes es new)) (differ (λ x. is_some (value_at new x)) q e.0 true false has
-        f true_false) ∙ deletes_not q es new has))
+    f true_false) ∙ deletes_not q es new has))
     (cases_Bool (is_some (value_at new e.0)))
 
 -- nor one that the old state lacks
@@ -91,7 +91,7 @@ deletes_none q [] new none = refl
 deletes_none q (e ∷ es) new none =
     let away = passed_by (same q e.0) e.1 (value_at es q) none in
     elim (is_some (value_at new e.0)) as (λ b. list_any (has_key q) (cond b [] (delete e.0 ∷ []) ++ deletes es new) ≡
-        false) [
+    false) [
       | true ↦ deletes_none q es new away.1
       | false ↦ ap (λ b. b || list_any (has_key q) (deletes es new)) away.0 ∙ deletes_none q es new away.1
     ]
@@ -103,7 +103,7 @@ updates_none q [] old new none = refl
 updates_none q (e ∷ es) old new none =
     let away = passed_by (same q e.0) e.1 (value_at es q) none in
     elim (is_kept old new e.0 e.1) as (λ b. list_any (has_key q)
-        (cond b [] (update e.0 e.1 (next_key new e.0) ∷ []) ++ updates es old new) ≡ false) [
+    (cond b [] (update e.0 e.1 (next_key new e.0) ∷ []) ++ updates es old new) ≡ false) [
       | true ↦ updates_none q es old new away.1
       | false ↦ ap (λ b. b || list_any (has_key q) (updates es old new)) away.0 ∙ updates_none q es old new away.1
     ]
@@ -119,13 +119,13 @@ updates_not q v (e ∷ es) old new h at kept =
     let value : Some e.1 ≡ Some v = sym (ap (λ b. cond b (Some e.1) (value_at es q)) here) ∙ at in
     let own : e.1 ≡ v = ap (λ (o : Option (List ℕ)). unwrap_or o v) value in
     let stays : is_kept old new e.0 e.1 ≡ true = ap (λ k. is_kept old new k e.1) (sym is)
-        ∙ (ap (is_kept old new q) own ∙ kept) in
+    ∙ (ap (is_kept old new q) own ∙ kept) in
     ap (λ b. list_any (has_key q) (cond b [] (update e.0 e.1 (next_key new e.0) ∷ []) ++ updates es old new)) stays
     ∙ updates_none q es old new (ap (value_at es) is ∙ none_later e es h))
     (λ (away : same q e.0 ≡ false).
     let rest : value_at es q ≡ Some v = sym (ap (λ b. cond b (Some e.1) (value_at es q)) away) ∙ at in
     elim (is_kept old new e.0 e.1) as (λ b. list_any (has_key q)
-        (cond b [] (update e.0 e.1 (next_key new e.0) ∷ []) ++ updates es old new) ≡ false) [
+    (cond b [] (update e.0 e.1 (next_key new e.0) ∷ []) ++ updates es old new) ≡ false) [
       | true ↦ updates_not q v es old new (IsState-tail e es h) rest kept
       | false ↦ ap (λ b. b || list_any (has_key q) (updates es old new)) away
           ∙ updates_not q v es old new (IsState-tail e es h) rest kept
@@ -136,10 +136,10 @@ pub kept_untouched : (old new : Map) (q v : List ℕ) → IsState new → value_
     → list_any (has_key q) (batch_operations old new) ≡ false
 kept_untouched old new q v h at kept =
     any-append (has_key q) (deletes old new) (updates new old new) (deletes_not q old new (ap is_some at))
-        (updates_not q v new old new h at kept)
+    (updates_not q v new old new h at kept)
 
 pub absent_untouched : (old new : Map) (q : List ℕ) → value_at old q ≡ None → value_at new q ≡ None
     → list_any (has_key q) (batch_operations old new) ≡ false
 absent_untouched old new q before after =
     any-append (has_key q) (deletes old new) (updates new old new) (deletes_none q old new before)
-        (updates_none q new old new after)
+    (updates_none q new old new after)

@@ -91,6 +91,6 @@ after-none words text h = never (after words text) (λ rest found. h rest (after
 
 pub after_is : (words text : List ℕ) (r : Option (Bor (List ℕ)))
     → MatchOption r ((rest : List ℕ) → text ≢ words ++ rest) (λ x. text ≡ words ++ x.now)
-        → MatchOption r (after words text ≡ None) (λ x. after words text ≡ Some x.now)
+    → MatchOption r (after words text ≡ None) (λ x. after words text ≡ Some x.now)
 after_is words text None h = after-none words text h
 after_is words text (Some x) h = ap (after words) h ∙ after-append words x.now

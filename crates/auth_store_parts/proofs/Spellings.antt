@@ -76,9 +76,9 @@ number_spelled : (n : ℕ) (text : List ℕ) → number_of text ≡ Some n → S
 unfolding number_of
 number_spelled n text h =
     let step : (b : Bool) → (b ≡ true → IsNumber text) → cond b (Some (decimal_value text)) None ≡ Some n
-        → SpellsNumber n text =
+    → SpellsNumber n text =
     λ b passes found. elim b as (λ v. (v ≡ true → IsNumber text) → cond v (Some (decimal_value text)) None ≡ Some n
-        → SpellsNumber n text) [
+    → SpellsNumber n text) [
       | true ↦ λ p f. (p refl, ap (λ o. unwrap_or o 0) f)
       | false ↦ λ p f. absurd (cc f)
     ] passes found
@@ -95,9 +95,9 @@ key_spelled : (key : FixedBytes 8) (text : List ℕ) → key_of text ≡ Some ke
 unfolding key_of
 key_spelled key text h =
     let step : (b : Bool) → (b ≡ true → length text ≡ 16) → cond b (key_from (decode_of text)) None ≡ Some key
-        → SpellsKey key text =
+    → SpellsKey key text =
     λ b sized found. elim b as (λ v. (v ≡ true → length text ≡ 16) → cond v (key_from (decode_of text)) None ≡ Some key
-        → SpellsKey key text) [
+    → SpellsKey key text) [
       | true ↦ λ s f. key_spelled_from key text (s refl) _ refl f
       | false ↦ λ s f. absurd (cc f)
     ] sized found
@@ -106,8 +106,11 @@ key_spelled key text h =
 last_part : (key : FixedBytes 8) (p : FixedBytes 8 × ℕ) (o : Option ℕ) → numbered key o ≡ Some p → (o ≡ Some p.1)
     × (key ≡ p.0)
 last_part key p None h = absurd (cc h)
-last_part key p (Some m) h = (ap (λ (q : Option (FixedBytes 8 × ℕ)). Some ((unwrap_or q p).1)) h, ap
-    (λ (q : Option (FixedBytes 8 × ℕ)). (unwrap_or q p).0) h)
+last_part key p (Some m) h = (
+  ap (λ (q : Option (FixedBytes 8 × ℕ)). Some ((unwrap_or q p).1)) h,
+  ap
+      (λ (q : Option (FixedBytes 8 × ℕ)). (unwrap_or q p).0) h,
+)
 
 parted : (d : Option (List ℕ)) (k : Option (FixedBytes 8)) (p : FixedBytes 8 × ℕ) → paired d k ≡ Some p
     → (digits : List ℕ) × (d ≡ Some digits) × (k ≡ Some p.0) × (number_of digits ≡ Some p.1)
@@ -124,7 +127,7 @@ both_spelled p text h =
     let back : drop 16 text ≡ codes " " ++ parts.0 = after-some (codes " ") (drop 16 text) parts.0 parts.1 in
     let whole : text ≡ (take 16 text ++ codes " ") ++ parts.0 =
     sym (take-append-drop 16 text) ∙ ap (λ l. take 16 text ++ l) back
-        ∙ sym (append_assoc (take 16 text) (codes " ") parts.0) in
+    ∙ sym (append_assoc (take 16 text) (codes " ") parts.0) in
     (take 16 text, key_spelled p.0 (take 16 text) parts.2, (parts.0, whole, number_spelled p.1 parts.0 parts.3))
 
 all_found : (words text : List ℕ) (line asked : Line) (other : Option Line) → Spells line words
@@ -132,7 +135,7 @@ all_found : (words text : List ℕ) (line asked : Line) (other : Option Line) �
 all_found words text line asked other spelled later h =
     let same = bytes_decides text words in
     elim (bytes_eq text words) as (λ b. (b ≡ true → text ≡ words) → cond b (Some line) other ≡ Some asked
-        → Spells asked text) [
+    → Spells asked text) [
       | true ↦ λ s f. let is : line ≡ asked = ap (λ o. unwrap_or o line) f in subst (λ l. Spells l text) is
           (subst (Spells line) (sym (s refl)) spelled)
       | false ↦ λ s f. later f
@@ -145,13 +148,13 @@ begins_found : {X : Type 0} (words text : List ℕ) (asked : Line) (value : List
     → begins (after words text) (λ rest. value rest >>= λ x. Some (line x)) other ≡ Some asked → Spells asked text
 begins_found {X} words text asked value line other spelled later h =
     let arms : (o : Option (List ℕ)) → after words text ≡ o → begins o (λ rest. value rest >>= λ x. Some (line x))
-        other ≡ Some asked → Spells asked text =
+    other ≡ Some asked → Spells asked text =
     λ o. elim o as (λ o'. after words text ≡ o' → begins o' (λ rest. value rest >>= λ x. Some (line x)) other ≡ Some
-        asked → Spells asked text) [
+    asked → Spells asked text) [
       | None ↦ λ e f. later f
       | Some rest ↦ λ e f.
           let value_arms : (v : Option X) → value rest ≡ v → (v >>= λ x. Some (line x)) ≡ Some asked
-              → Spells asked text =
+          → Spells asked text =
           λ v. elim v as (λ v'. value rest ≡ v' → (v' >>= λ x. Some (line x)) ≡ Some asked → Spells asked text) [
             | None ↦ λ ev g. absurd (cc g)
             | Some x ↦ λ ev g. let is : line x ≡ asked = ap (λ o. unwrap_or o asked) g in subst (λ l. Spells l text) is
@@ -163,13 +166,13 @@ words_spelled : (text : List ℕ) (asked : Line) → line_with_words text ≡ So
 words_spelled text asked =
     begins_found (codes "new mmr ") text asked number_of New _ (λ rest n e f. (rest, e, number_spelled n rest f))
     (begins_found (codes "put ") text asked key_and_number (λ p. Put p.0 p.1) _
-        (λ rest p e f. (rest, e, both_spelled p rest f))
+    (λ rest p e f. (rest, e, both_spelled p rest f))
     (begins_found (codes "commit ") text asked number_of (λ n. Commit (Some n)) _
-        (λ rest n e f. (rest, e, number_spelled n rest f))
+    (λ rest n e f. (rest, e, number_spelled n rest f))
     (begins_found (codes "get ") text asked key_of Get _ (λ rest k e f. (rest, e, key_spelled k rest f))
     (begins_found (codes "prove ") text asked key_of Prove _ (λ rest k e f. (rest, e, key_spelled k rest f))
     (begins_found (codes "check value ") text asked key_and_number (λ p. CheckValue p.0 p.1) None
-        (λ rest p e f. (rest, e, both_spelled p rest f))
+    (λ rest p e f. (rest, e, both_spelled p rest f))
     (λ h. absurd (cc h)))))))
 
 pub read_is_spelled : (text : List ℕ) (asked : Line) → line_of text ≡ Some asked → Spells asked text

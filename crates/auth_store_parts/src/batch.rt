@@ -80,7 +80,7 @@ pub fn apply_batch<K: Key, V: FixedValue>(
 ) -> Result<BTreeMap<K, V>, AllocError>
     ensures { IfOk result (λ after. state_of K.encoding V.encoding after.entries
         ≡ map_after (meanings K.encoding V.encoding batch.now.words.items)
-            (state_of K.encoding V.encoding state.entries)) }
+        (state_of K.encoding V.encoding state.entries)) }
 {
     let mut after = state;
     for word in &batch.words {

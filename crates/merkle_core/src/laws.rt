@@ -22,8 +22,8 @@ pub fn honest_digests_lead_to_the_root<F: Family>()
         → FollowsIn hashing digest F.merge_rule leaves location element
         → reconstructed hashing hash bagging F.merge_rule leaves inactive location element
         (range_digests hash digest bagging location (location + 1)
-            (take inactive (located (forest_of F.merge_rule leaves)))
-                (drop inactive (located (forest_of F.merge_rule leaves))))
+        (take inactive (located (forest_of F.merge_rule leaves)))
+        (drop inactive (located (forest_of F.merge_rule leaves))))
         ≡ Some (root_of hash bagging leaves inactive (peak_digests digest (forest_of F.merge_rule leaves))) }
 {}
 

@@ -70,7 +70,7 @@ fn digest_of<H: HashFunction>(grafted: &Grafted<'_, H>, start: usize, tree: &Tre
     ensures { H.Digest.encoding result ≡ grafted_digest H.hash_of grafted.now.chunk_size.grafting_height
         (8 * grafted.now.chunk_size.width)
         (map (λ chunk. chunk.items) grafted.now.chunks.now) (map (λ e. e.items) grafted.now.elements.now) start
-            (shape tree.now) }
+        (shape tree.now) }
 {
     match tree {
         Tree::Leaf(position) => hash_leaf::<H>(*position, &grafted.elements[start]),

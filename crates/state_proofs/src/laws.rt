@@ -72,7 +72,7 @@ pub fn honest_bytes_show_the_update<F: Graftable + PendingOf<H::Digest>, H: Hash
         let is_key = λ (key : List ℕ). K.after tt key ≡ Ok [] in
         let format = format_of F.merge_rule H.hash_of width H.Digest.SIZE F.is_pending F.pending_encoding is_key in
         ShowsUpdate format (canonical_root setting state) update
-            (key_value_proof F.pending_encoding setting state location next_key)) }
+        (key_value_proof F.pending_encoding setting state location next_key)) }
 {
     honest_bytes_show_the_operation::<F, H, K>();
 }

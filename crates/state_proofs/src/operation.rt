@@ -111,8 +111,7 @@ impl<F: PendingOf<D>, D: Digest> Read for Proof<F, D> {
     ghost read_again = { λ cfg p rest value within.
         read_operation_again D.encoding D.is_value D.SIZE D.sized F.held F.Pending.is_value
         F.is_pending F.pending_value (D.after tt) F.pending_after F.pending_encoding
-        (record { any = D.any_bytes; again = F.pending_again; once = F.pending_once }) cfg.0 cfg.1 p rest value within
-            };
+        (record { any = D.any_bytes; again = F.pending_again; once = F.pending_once }) cfg.0 cfg.1 p rest value within };
 }
 
 impl<F: Graftable + PendingOf<D>, D: Digest> Proof<F, D> {

@@ -97,7 +97,7 @@ impl<F: PendingOf<D>, K: Key, D: Digest> Read for KeyValueProof<F, K, D> {
         read_key_value_again D.encoding D.is_value D.SIZE D.sized F.held F.Pending.is_value
         F.is_pending F.pending_value (D.after tt) F.pending_after F.pending_encoding
         (record { any = D.any_bytes; again = F.pending_again; once = F.pending_once }) (K.after tt) cfg.0.0 cfg.0.1
-            p.proof (K.encoding p.next_key) rest
+        p.proof (K.encoding p.next_key) rest
         value.0 within.0 (K.read_again tt p.next_key rest value.1 within.1) };
 }
 
@@ -176,7 +176,7 @@ where
         let format = format_of F.merge_rule H.hash_of width H.Digest.SIZE F.is_pending F.pending_encoding is_key in
         IfOk result (λ yes. IsTrue yes ↔ ShowsUpdate format (H.Digest.encoding root.now)
         (λ next_key. fixed_encoding K.SIZE V.SIZE (update (K.encoding key.now) (V.encoding value.now) next_key))
-            bytes.now) }
+        bytes.now) }
 {
     let limits = ((width, MAX_PROOF_DIGESTS_PER_ELEMENT), ());
     let mut cursor = Cursor::new(bytes);

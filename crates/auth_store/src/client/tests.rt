@@ -1,6 +1,6 @@
 use super::*;
 use merkle_forest::codec::FixedBytes;
-use merkle_forest::{ByteHash, mmr};
+use merkle_forest::{ByteHash, mmb, mmr};
 use std::alloc::Global;
 use std::test::Fail;
 
@@ -52,6 +52,22 @@ const CASES: [Case; 6] = [
     },
 ];
 
+/// The same over a Merkle Mountain Belt.
+const BELT_CASES: [Case; 2] = [
+    Case {
+        key: "0000000000000062",
+        value: 18446744073709551615,
+        root: "9b7684bba80eaff2e70da67933ee3df698d838cf0f0c07f3cfda18b90f026f4c",
+        proof: "090e0c01030d441e937cd95340446cf7f83e7c96c910248c5b83b078e402241154cc53804f9fa9a8f452f1bf8ab2ca2f820c21aecc7fd7c550c657b1cfecd897ee5526b6e8c9696ef93a19e7b134f8116ce90ce24555d03d7293157390c1aa9180ff61fa3500014d7b3ef7300acf70c892d8327db8272f54434adbc61a4e130a563cb59a0d0f4774f61304eceba3987232f291db04de8ea062d2e5cbf761b2ac2df37547b88963400712c2b1a8358f",
+    },
+    Case {
+        key: "400712c2b1a8358f",
+        value: 1,
+        root: "9b7684bba80eaff2e70da67933ee3df698d838cf0f0c07f3cfda18b90f026f4c",
+        proof: "0a0e0c01030d441e937cd95340446cf7f83e7c96c910248c5b83b078e402241154cc53804fbb3e6ab91f2f441aa96141687fad709fd5ce36a1cf6ea643353887aae944448f0ac8954ea5f22933c4bfd69627191d3af3abd160f56459b342c71880134acddb00014d7b3ef7300acf70c892d8327db8272f54434adbc61a4e130a563cb59a0d0f4774f61304eceba3987232f291db04de8ea062d2e5cbf761b2ac2df37547b889630000000000000062",
+    },
+];
+
 fn bytes_of(alloc: Global, text: &str) -> Result<Vec<u8>, Fail> {
     Ok(
         hex::decode(alloc, text.as_bytes())
@@ -69,7 +85,7 @@ fn fixed<const M: usize>(text: &str) -> Result<FixedBytes<M>, Fail> {
 }
 
 // What the client says of a key and a value under the case's root.
-fn says(
+fn says<F: Graftable + PendingOf<FixedBytes<32>>>(
     alloc: Global,
     case: &Case,
     key: FixedBytes<8>,
@@ -78,18 +94,31 @@ fn says(
 ) -> Result<bool, Fail> {
     let claim = Claim::Value { key, value };
     let root = fixed(case.root)?;
-    Ok(check::<mmr::Family, ByteHash, FixedBytes<8>, u64, 1>(alloc, &root, &claim, bytes)?)
+    Ok(check::<F, ByteHash, FixedBytes<8>, u64, 1>(alloc, &root, &claim, bytes)?)
+}
+
+/// Whether the case's proof shows its value, and neither another value nor that of another key.
+fn shows_the_value_alone<F: Graftable + PendingOf<FixedBytes<32>>>(
+    alloc: Global,
+    case: &Case,
+) -> Result<bool, Fail> {
+    let bytes = bytes_of(alloc, case.proof)?;
+    let key = fixed(case.key)?;
+    let other = fixed("6262626262626262")?;
+    Ok(
+        says::<F>(alloc, case, key, case.value, &bytes)?
+            && !says::<F>(alloc, case, key, case.value ^ 1, &bytes)?
+            && !says::<F>(alloc, case, other, case.value, &bytes)?,
+    )
 }
 
 #[test]
 fn honest_proofs_show_the_value_alone(rt: HostRuntime) -> Result<(), Fail> {
-    let alloc = rt.alloc();
     for case in &CASES {
-        let bytes = bytes_of(alloc, case.proof)?;
-        let key = fixed(case.key)?;
-        assert!(rt; says(alloc, case, key, case.value, &bytes)?);
-        assert!(rt; !says(alloc, case, key, case.value ^ 1, &bytes)?);
-        assert!(rt; !says(alloc, case, fixed("6262626262626262")?, case.value, &bytes)?);
+        assert!(rt; shows_the_value_alone::<mmr::Family>(rt.alloc(), case)?);
+    }
+    for case in &BELT_CASES {
+        assert!(rt; shows_the_value_alone::<mmb::Family>(rt.alloc(), case)?);
     }
     Ok(())
 }
@@ -105,7 +134,7 @@ fn a_changed_proof_shows_nothing(rt: HostRuntime) -> Result<(), Fail> {
                 if let Some(byte) = bytes.get_mut(index) {
                     *byte ^= 1u8 << bit;
                 }
-                assert!(rt; !says(alloc, case, key, case.value, &bytes)?);
+                assert!(rt; !says::<mmr::Family>(alloc, case, key, case.value, &bytes)?);
                 if let Some(byte) = bytes.get_mut(index) {
                     *byte ^= 1u8 << bit;
                 }
@@ -113,11 +142,11 @@ fn a_changed_proof_shows_nothing(rt: HostRuntime) -> Result<(), Fail> {
         }
         for count in 0..bytes.len() {
             if let Some(front) = bytes.get(..count) {
-                assert!(rt; !says(alloc, case, key, case.value, front)?);
+                assert!(rt; !says::<mmr::Family>(alloc, case, key, case.value, front)?);
             }
         }
         bytes.push(0)?;
-        assert!(rt; !says(alloc, case, key, case.value, &bytes)?);
+        assert!(rt; !says::<mmr::Family>(alloc, case, key, case.value, &bytes)?);
     }
     Ok(())
 }

@@ -122,7 +122,7 @@ impl<
             ≡ option_map (λ value. (value, proof)) (value_at (spec.latest_map self.now) (K.encoding key.now))) }
         ensures shown { let is_key = λ (key : List ℕ). K.after tt key ≡ Ok [] in
             let terms = terms F.merge_rule H.hash_of N H.Digest.SIZE F.is_pending F.pending_encoding is_key K.SIZE
-                V.SIZE in
+            V.SIZE in
             let root = root_of_history (setting_of_width F.merge_rule H.hash_of N) K.SIZE V.SIZE self.now in
             IfOk result (λ found. IfSome (option_map (parts_of V.encoding) found)
             (λ proof. Shows terms (has_value (K.encoding key.now) proof.0) root proof.1)) }

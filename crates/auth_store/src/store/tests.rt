@@ -49,13 +49,19 @@ const WIDE_BELT_ROOTS: [&str; 8] = [
     "eba06cf440432779d70d3df6d447f604f9659f169759a5d5adbedf3f91da11c7",
 ];
 
-const FF: Name = FixedBytes { bytes: [0, 0, 0, 0, 0, 0, 0, 0xff] };
+const FF: Name = FixedBytes {
+    bytes: [0, 0, 0, 0, 0, 0, 0, 0xff],
+};
 
-const ONE_00: Name = FixedBytes { bytes: [0, 0, 0, 0, 0, 0, 1, 0] };
+const ONE_00: Name = FixedBytes {
+    bytes: [0, 0, 0, 0, 0, 0, 1, 0],
+};
 
 const LAST: Name = FixedBytes { bytes: [0xff; 8] };
 
-const ABSENT: Name = FixedBytes { bytes: *b"no entry" };
+const ABSENT: Name = FixedBytes {
+    bytes: *b"no entry",
+};
 
 /// Batches that say nothing, that say one key twice, and one that deletes all keys and an absent one: the puts, the deletes
 /// after them, and the metadata.
@@ -191,12 +197,20 @@ fn has_the_roots_that_were_computed_apart(rt: HostRuntime) -> Result<(), Fail> {
 fn has_the_roots_of_belts_that_were_computed_apart(rt: HostRuntime) -> Result<(), Fail> {
     let alloc = rt.alloc();
     let device = PlainDevice::new(alloc);
-    let store: Store<mmb::Family, ByteHash, Name, u64, 1> =
-        Store::open(alloc, device, PlainCache::new(), SIZES)?;
+    let store: Store<mmb::Family, ByteHash, Name, u64, 1> = Store::open(
+        alloc,
+        device,
+        PlainCache::new(),
+        SIZES,
+    )?;
     assert_eq!(rt; has_roots(alloc, store, &BELT_ROOTS)?, true);
     let device = PlainDevice::new(alloc);
-    let store: Store<mmb::Family, ByteHash, Name, u64, 32> =
-        Store::open(alloc, device, PlainCache::new(), SIZES)?;
+    let store: Store<mmb::Family, ByteHash, Name, u64, 32> = Store::open(
+        alloc,
+        device,
+        PlainCache::new(),
+        SIZES,
+    )?;
     assert_eq!(rt; has_roots(alloc, store, &WIDE_BELT_ROOTS)?, true);
     Ok(())
 }

@@ -35,11 +35,11 @@ said-deletes-kept q [] new found has = refl
 said-deletes-kept q (e ∷ es) new found has =
     ⊎_elim
     (λ t. ap (λ b. said q found (cond b [] (delete e.0 ∷ []) ++ deletes es new)) t
-        ∙ said-deletes-kept q es new found has)
+    ∙ said-deletes-kept q es new found has)
     (λ f. ap (λ b. said q found (cond b [] (delete e.0 ∷ []) ++ deletes es new)) f
     ∙ (ap (λ b. said q (cond b None found) (deletes es new))
-        (differ (λ x. is_some (value_at new x)) q e.0 true false has f true_false)
-            ∙ said-deletes-kept q es new found has))
+    (differ (λ x. is_some (value_at new x)) q e.0 true false has f true_false)
+    ∙ said-deletes-kept q es new found has))
     (cases_Bool (is_some (value_at new e.0)))
 
 -- and say of the others that they are gone
@@ -50,7 +50,7 @@ said-deletes-gone q (e ∷ es) new found lacks gone =
     ⊎_elim
     (λ t. ap (λ b. said q found (cond b [] (delete e.0 ∷ []) ++ deletes es new)) t
     ∙ said-deletes-gone q es new found lacks (λ none. gone (ap (λ b. cond b (Some e.1) (value_at es q))
-        (differ (λ x. is_some (value_at new x)) q e.0 false true lacks t false_true) ∙ none)))
+    (differ (λ x. is_some (value_at new x)) q e.0 false true lacks t false_true) ∙ none)))
     (λ f. ap (λ b. said q found (cond b [] (delete e.0 ∷ []) ++ deletes es new)) f
     ∙ said-deletes-gone q es new (cond (same q e.0) None found) lacks
     (λ none. ⊎_elim
@@ -66,7 +66,7 @@ said-updates-other q [] old new found none = refl
 said-updates-other q (e ∷ es) old new found none =
     let away = passed_by (same q e.0) e.1 (value_at es q) none in
     elim (is_kept old new e.0 e.1) as (λ b. said q found (cond b [] (update e.0 e.1 (next_key new e.0) ∷ [])
-        ++ updates es old new) ≡ found) [
+    ++ updates es old new) ≡ found) [
       | true ↦ said-updates-other q es old new found away.1
       | false ↦ ap (λ b. said q (cond b (Some (e.1, next_key new e.0)) found) (updates es old new)) away.0
           ∙ said-updates-other q es old new found away.1
@@ -83,9 +83,9 @@ said-updates q v (e ∷ es) old new found h at =
     let value : e.1 ≡ v = ap (λ o. unwrap_or o []) (sym (ap (λ b. cond b (Some e.1) (value_at es q)) here) ∙ at) in
     let later : value_at es q ≡ None = ap (value_at es) is ∙ none_later e es h in
     let step : said q found (cond (is_kept old new e.0 e.1) [] (update e.0 e.1 (next_key new e.0) ∷ [])
-        ++ updates es old new) ≡ cond (is_kept old new e.0 e.1) found (Some (e.1, next_key new e.0)) =
+    ++ updates es old new) ≡ cond (is_kept old new e.0 e.1) found (Some (e.1, next_key new e.0)) =
     elim (is_kept old new e.0 e.1) as (λ b. said q found (cond b [] (update e.0 e.1 (next_key new e.0) ∷ [])
-        ++ updates es old new) ≡ cond b found (Some (e.1, next_key new e.0))) [
+    ++ updates es old new) ≡ cond b found (Some (e.1, next_key new e.0))) [
       | true ↦ said-updates-other q es old new found later
       | false ↦ ap (λ b. said q (cond b (Some (e.1, next_key new e.0)) found) (updates es old new)) here
           ∙ said-updates-other q es old new (Some (e.1, next_key new e.0)) later
@@ -96,7 +96,7 @@ said-updates q v (e ∷ es) old new found h at =
     (λ (away : same q e.0 ≡ false).
     let rest : value_at es q ≡ Some v = sym (ap (λ b. cond b (Some e.1) (value_at es q)) away) ∙ at in
     elim (is_kept old new e.0 e.1) as (λ b. said q found (cond b [] (update e.0 e.1 (next_key new e.0) ∷ [])
-        ++ updates es old new) ≡ cond (is_kept old new q v) found (Some (v, next_key new q))) [
+    ++ updates es old new) ≡ cond (is_kept old new q v) found (Some (v, next_key new q))) [
       | true ↦ said-updates q v es old new found (IsState-tail e es h) rest
       | false ↦ ap (λ b. said q (cond b (Some (e.1, next_key new e.0)) found) (updates es old new)) away
           ∙ said-updates q v es old new found (IsState-tail e es h) rest
@@ -111,7 +111,7 @@ second_true false b h = absurd (cc)
 said-kept : (q v : List ℕ) (old new : Map) → is_kept old new q v ≡ true → entry_of old q ≡ Some (v, next_key new q)
 said-kept q v old new kept =
     let value : value_at old q ≡ Some v = kept_value (value_at old q) v (bytes_eq (next_key old q) (next_key new q))
-        kept in
+    kept in
     let next : next_key old q ≡ next_key new q = equal_bytes _ _ (second_true _ _ kept) in
     ap (option_map (λ w. (w, next_key old q))) value ∙ ap (λ n. Some (v, n)) next
 
@@ -121,14 +121,14 @@ said-batch q old new None i is =
     said-append q (entry_of old q) (deletes old new) (updates new old new)
     ∙ (said-updates-other q new old new (said q (entry_of old q) (deletes old new)) is
     ∙ said-deletes-gone q old new (entry_of old q) (ap is_some is)
-        (λ none. ap (option_map (λ value. (value, next_key old q))) none))
+    (λ none. ap (option_map (λ value. (value, next_key old q))) none))
 said-batch q old new (Some v) i is =
     said-append q (entry_of old q) (deletes old new) (updates new old new)
     ∙ (ap (λ found. said q found (updates new old new)) (said-deletes-kept q old new (entry_of old q) (ap is_some is))
     ∙ (said-updates q v new old new (entry_of old q) i is
     ∙ ⊎_elim
     (λ (kept : is_kept old new q v ≡ true). ap (λ b. cond b (entry_of old q) (Some (v, next_key new q))) kept
-        ∙ said-kept q v old new kept)
+    ∙ said-kept q v old new kept)
     (λ (changed : is_kept old new q v ≡ false). ap (λ b. cond b (entry_of old q) (Some (v, next_key new q))) changed)
     (cases_Bool (is_kept old new q v))))
 
@@ -140,7 +140,7 @@ said-log q (c ∷ h) s =
     said-append q None (log_of h) (ops ++ last)
     ∙ (ap (λ found. said q found (ops ++ last)) (said-log q h s.1)
     ∙ (said-append q (entry_of (latest_map h) q) ops last ∙ said-batch q (latest_map h) c.map (value_at c.map q) s.0
-        refl))
+    refl))
 
 later_get : (op : Operation) (later : List Operation) (n : ℕ) → slice_get (op ∷ later) (n + 1) ≡ slice_get later n
 later_get op later n = simp unary_clauses refl
@@ -151,7 +151,7 @@ none_active q [] h = refl
 none_active q (op ∷ later) h =
     let parts = neither (has_key q op) (list_any (has_key q) later) h in
     ap (λ b. update_fields (slice_get (op ∷ later) (cond (b && is_active op later) 0 (active_location q later + 1))))
-        parts.0 ∙ (ap update_fields (later_get op later (active_location q later)) ∙ none_active q later parts.1)
+    parts.0 ∙ (ap update_fields (later_get op later (active_location q later)) ∙ none_active q later parts.1)
   where
     neither : (a b : Bool) → (a || b) ≡ false → (a ≡ false) × (b ≡ false)
     neither true b h = absurd (cc)
@@ -177,9 +177,9 @@ said-active : (q : List ℕ) (found : Named) (log : List Operation)
 said-active q found [] = refl
 said-active q found (delete k ∷ later) =
     let inactive : update_fields (slice_get (delete k ∷ later)
-        (cond (same q k && false) 0 (active_location q later + 1))) ≡ active_update q later =
+    (cond (same q k && false) 0 (active_location q later + 1))) ≡ active_update q later =
     elim (same q k) as (λ b. update_fields (slice_get (delete k ∷ later)
-        (cond (b && false) 0 (active_location q later + 1))) ≡ active_update q later) [
+    (cond (b && false) 0 (active_location q later + 1))) ≡ active_update q later) [
       | true ↦ ap update_fields (later_get (delete k) later (active_location q later))
       | false ↦ ap update_fields (later_get (delete k) later (active_location q later))
     ] in
@@ -189,27 +189,27 @@ said-active q found (delete k ∷ later) =
 said-active q found (update k v n ∷ later) =
     let own : Bool = list_any (has_key k) later in
     let counts : update_fields (slice_get (update k v n ∷ later)
-        (cond (same q k && not own) 0 (active_location q later + 1))) ≡ cond (same q k && not own) (Some (v, n))
-            (active_update q later) =
+    (cond (same q k && not own) 0 (active_location q later + 1))) ≡ cond (same q k && not own) (Some (v, n))
+    (active_update q later) =
     elim (same q k && not own) as (λ b. update_fields (slice_get (update k v n ∷ later)
-        (cond b 0 (active_location q later + 1))) ≡ cond b (Some (v, n)) (active_update q later)) [
+    (cond b 0 (active_location q later + 1))) ≡ cond b (Some (v, n)) (active_update q later)) [
       | true ↦ refl
       | false ↦ ap update_fields (later_get (update k v n) later (active_location q later))
     ] in
     said-active q (cond (same q k) (Some (v, n)) found) later
     ∙ (picked (same q k) (list_any (has_key q) later) own (active_update q later) found (Some (v, n))
-        (λ t. ap (λ x. list_any (has_key x) later) (sym (exact q k t)))
+    (λ t. ap (λ x. list_any (has_key x) later) (sym (exact q k t)))
     ∙ ap (λ u. cond (same q k || list_any (has_key q) later) u found) (sym counts))
 said-active q found (commit_floor m f ∷ later) =
     said-active q found later ∙ ap (λ u. cond (list_any (has_key q) later) u found)
-        (sym (ap update_fields (later_get (commit_floor m f) later (active_location q later))))
+    (sym (ap update_fields (later_get (commit_floor m f) later (active_location q later))))
 
 -- the active update of a key names what the latest state has there, and its next key
 pub active_update-log_of : (q : List ℕ) (h : History) → AreStates h
     → active_update q (log_of h) ≡ entry_of (latest_map h) q
 active_update-log_of q h s =
     let same_update : cond (list_any (has_key q) (log_of h)) (active_update q (log_of h)) None ≡ active_update q
-        (log_of h) =
+    (log_of h) =
     ⊎_elim
     (λ t. ap (λ b. cond b (active_update q (log_of h)) None) t)
     (λ f. ap (λ b. cond b (active_update q (log_of h)) None) f ∙ sym (none_active q (log_of h) f))
@@ -239,7 +239,7 @@ both_true false b h = absurd (cc)
 
 stands_here : (q k v n : List ℕ) (later : List Operation) (u : List ℕ × List ℕ)
     → is_active_on q (update k v n) later ≡ true → active_update q (update k v n ∷ later) ≡ Some u
-        → StandsAt q (update k v n ∷ later) u
+    → StandsAt q (update k v n ∷ later) u
 stands_here q k v n later u on is =
     let parts = both_true (same q k) (is_active (update k v n) later) on in
     let here : active_location q (update k v n ∷ later) ≡ 0 = ap (λ b. cond b 0 (active_location q later + 1)) on in
@@ -249,7 +249,7 @@ stands_here q k v n later u on is =
     record {
       update_at = ap (slice_get (update k v n ∷ later)) here
           ∙ (ap (λ x. Some (update x v n)) (sym (exact q k parts.0))
-              ∙ (ap (λ x. Some (update q x n)) value ∙ ap (λ x. Some (update q u.0 x)) next));
+          ∙ (ap (λ x. Some (update q x n)) value ∙ ap (λ x. Some (update q u.0 x)) next));
       bit_at = ap (slice_get (is_active (update k v n) later ∷ activity_bits later)) here ∙ ap Some parts.1;
     }
 
@@ -258,21 +258,21 @@ pub active_stands : (q : List ℕ) (log : List Operation) (u : List ℕ × List 
 active_stands q [] u is = absurd (cc)
 active_stands q (delete k ∷ later) u is =
     let off : is_active_on q (delete k) later ≡ false = elim (same q k) as (λ b. (b && false) ≡ false)
-        [ true ↦ refl | false ↦ refl ] in
+    [ true ↦ refl | false ↦ refl ] in
     stands_later q (delete k) later u off (active_stands q later u (sym (passed q (delete k) later off) ∙ is))
 active_stands q (update k v n ∷ later) u is =
     ⊎_elim
     (λ on. stands_here q k v n later u on is)
     (λ off. stands_later q (update k v n) later u off (active_stands q later u
-        (sym (passed q (update k v n) later off) ∙ is)))
+    (sym (passed q (update k v n) later off) ∙ is)))
     (cases_Bool (is_active_on q (update k v n) later))
 active_stands q (commit_floor m f ∷ later) u is =
     stands_later q (commit_floor m f) later u refl (active_stands q later u
-        (sym (passed q (commit_floor m f) later refl) ∙ is))
+    (sym (passed q (commit_floor m f) later refl) ∙ is))
 
 -- what a store proves of a key that is there stands in its log
 pub StandsAt-log_of : (q v : List ℕ) (h : History) → AreStates h → value_at (latest_map h) q ≡ Some v
     → StandsAt q (log_of h) (v, next_key (latest_map h) q)
 StandsAt-log_of q v h states at =
     active_stands q (log_of h) (v, next_key (latest_map h) q)
-        (active_update-log_of q h states ∙ ap (option_map (λ value. (value, next_key (latest_map h) q))) at)
+    (active_update-log_of q h states ∙ ap (option_map (λ value. (value, next_key (latest_map h) q))) at)

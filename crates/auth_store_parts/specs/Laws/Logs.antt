@@ -40,7 +40,7 @@ history_from-updates : (es old new s : Map) (h : History) → history_from s h (
 history_from-updates [] old new s h = refl
 history_from-updates (e ∷ es) old new s h =
     elim (is_kept old new e.0 e.1) as (λ b. history_from s h
-        (cond b [] (update e.0 e.1 (next_key new e.0) ∷ []) ++ updates es old new) ≡ h) [
+    (cond b [] (update e.0 e.1 (next_key new e.0) ∷ []) ++ updates es old new) ≡ h) [
       | true ↦ history_from-updates es old new s h
       | false ↦ history_from-updates es old new (with_entry s e.0 e.1) h
     ]
@@ -48,8 +48,8 @@ history_from-updates (e ∷ es) old new s h =
 history_from-batch : (old new s : Map) (h : History) → history_from s h (batch_operations old new) ≡ h
 history_from-batch old new s h =
     history_from-append s h (deletes old new) (updates new old new)
-        ∙ (history_from-updates new old new (replayed s (deletes old new)) (history_from s h (deletes old new))
-            ∙ history_from-deletes old new s h)
+    ∙ (history_from-updates new old new (replayed s (deletes old new)) (history_from s h (deletes old new))
+    ∙ history_from-deletes old new s h)
 
 -- states stay states
 IsState-deletes : (es new s : Map) → IsState s → IsState (replayed s (deletes es new))
@@ -64,7 +64,7 @@ IsState-updates : (es old new s : Map) → IsState s → IsState (replayed s (up
 IsState-updates [] old new s h = h
 IsState-updates (e ∷ es) old new s h =
     elim (is_kept old new e.0 e.1) as (λ b. IsState (replayed s
-        (cond b [] (update e.0 e.1 (next_key new e.0) ∷ []) ++ updates es old new))) [
+    (cond b [] (update e.0 e.1 (next_key new e.0) ∷ []) ++ updates es old new))) [
       | true ↦ IsState-updates es old new s h
       | false ↦ IsState-updates es old new (with_entry s e.0 e.1) (IsState-with_entry s e.0 e.1 h)
     ]
@@ -86,7 +86,7 @@ deletes_keep [] new s q h has = refl
 deletes_keep (e ∷ es) new s q h has =
     ⊎_elim
     (λ t. ap (λ b. value_at (replayed s (cond b [] (delete e.0 ∷ []) ++ deletes es new)) q) t
-        ∙ deletes_keep es new s q h has)
+    ∙ deletes_keep es new s q h has)
     (λ f. ap (λ b. value_at (replayed s (cond b [] (delete e.0 ∷ []) ++ deletes es new)) q) f
     ∙ (deletes_keep es new (without_key s e.0) q (IsState-without_key s e.0 h) has
     ∙ (value_at-without_key s e.0 q h
@@ -101,7 +101,7 @@ deletes_drop (e ∷ es) new s q h lacks gone =
     ⊎_elim
     (λ t. ap (λ b. value_at (replayed s (cond b [] (delete e.0 ∷ []) ++ deletes es new)) q) t
     ∙ deletes_drop es new s q h lacks (λ none. gone (ap (λ b. cond b (Some e.1) (value_at es q))
-        (differ (λ x. is_some (value_at new x)) q e.0 false true lacks t false_true) ∙ none)))
+    (differ (λ x. is_some (value_at new x)) q e.0 false true lacks t false_true) ∙ none)))
     (λ f. ap (λ b. value_at (replayed s (cond b [] (delete e.0 ∷ []) ++ deletes es new)) q) f
     ∙ deletes_drop es new (without_key s e.0) q (IsState-without_key s e.0 h) lacks
     (λ none. value_at-without_key s e.0 q h ∙ ⊎_elim
@@ -121,7 +121,7 @@ updates_keep [] old new s q none = refl
 updates_keep (e ∷ es) old new s q none =
     let away = passed_by (same q e.0) e.1 (value_at es q) none in
     elim (is_kept old new e.0 e.1) as (λ b. value_at (replayed s
-        (cond b [] (update e.0 e.1 (next_key new e.0) ∷ []) ++ updates es old new)) q ≡ value_at s q) [
+    (cond b [] (update e.0 e.1 (next_key new e.0) ∷ []) ++ updates es old new)) q ≡ value_at s q) [
       | true ↦ updates_keep es old new s q away.1
       | false ↦ updates_keep es old new (with_entry s e.0 e.1) q away.1
           ∙ (value_at-with_entry s e.0 e.1 q ∙ ap (λ b. cond b (Some e.1) (value_at s q)) away.0)
@@ -134,7 +134,7 @@ pub kept_value : (o : Option (List ℕ)) (v : List ℕ) (b : Bool) → (is_value
 kept_value None v b e = absurd (cc)
 kept_value (Some w) v b e =
     ⊎_elim (λ t. ap (λ x. Some x) (equal_bytes w v t)) (λ f. absurd (false_true (sym (ap (λ x. x && b) f) ∙ e)))
-        (cases_Bool (bytes_eq w v))
+    (cases_Bool (bytes_eq w v))
 
 -- and give the others their values
 updates_set : (es old new s : Map) (q v : List ℕ) → IsState es → value_at es q ≡ Some v → value_at s q ≡ value_at old q
@@ -147,20 +147,20 @@ updates_set (e ∷ es) old new s q v h at is_old =
     let later : value_at es q ≡ None = ap (value_at es) (exact q e.0 here) ∙ none_later e es h in
     ⊎_elim
     (λ (kept : is_kept old new e.0 e.1 ≡ true). ap (λ b. value_at
-        (replayed s (cond b [] (update e.0 e.1 (next_key new e.0) ∷ []) ++ updates es old new)) q) kept
+    (replayed s (cond b [] (update e.0 e.1 (next_key new e.0) ∷ []) ++ updates es old new)) q) kept
     ∙ (updates_keep es old new s q later ∙ (is_old ∙ (ap (value_at old) (exact q e.0 here)
-        ∙ (kept_value (value_at old e.0) e.1 (bytes_eq (next_key old e.0) (next_key new e.0)) kept ∙ value)))))
+    ∙ (kept_value (value_at old e.0) e.1 (bytes_eq (next_key old e.0) (next_key new e.0)) kept ∙ value)))))
     (λ (changed : is_kept old new e.0 e.1 ≡ false). ap (λ b. value_at
-        (replayed s (cond b [] (update e.0 e.1 (next_key new e.0) ∷ []) ++ updates es old new)) q) changed
+    (replayed s (cond b [] (update e.0 e.1 (next_key new e.0) ∷ []) ++ updates es old new)) q) changed
     ∙ (updates_keep es old new (with_entry s e.0 e.1) q later
-        ∙ (value_at-with_entry s e.0 e.1 q ∙ (ap (λ b. cond b (Some e.1) (value_at s q)) here ∙ value))))
+    ∙ (value_at-with_entry s e.0 e.1 q ∙ (ap (λ b. cond b (Some e.1) (value_at s q)) here ∙ value))))
     (cases_Bool (is_kept old new e.0 e.1)))
     (λ (away : same q e.0 ≡ false).
     let rest : value_at es q ≡ Some v = sym (ap (λ b. cond b (Some e.1) (value_at es q)) away) ∙ at in
     let held : value_at (with_entry s e.0 e.1) q ≡ value_at old q = value_at-with_entry s e.0 e.1 q
-        ∙ (ap (λ b. cond b (Some e.1) (value_at s q)) {x = same q e.0} {y = false} away ∙ is_old) in
+    ∙ (ap (λ b. cond b (Some e.1) (value_at s q)) {x = same q e.0} {y = false} away ∙ is_old) in
     elim (is_kept old new e.0 e.1) as (λ b. value_at (replayed s
-        (cond b [] (update e.0 e.1 (next_key new e.0) ∷ []) ++ updates es old new)) q ≡ Some v) [
+    (cond b [] (update e.0 e.1 (next_key new e.0) ∷ []) ++ updates es old new)) q ≡ Some v) [
       | true ↦ updates_set es old new s q v (IsState-tail e es h) rest is_old
       | false ↦ updates_set es old new (with_entry s e.0 e.1) q v (IsState-tail e es h) rest held
     ])
@@ -171,7 +171,7 @@ value_at-batch : (old new : Map) (q : List ℕ) (at : Option (List ℕ)) → IsS
     → value_at (replayed (replayed old (deletes old new)) (updates new old new)) q ≡ at
 value_at-batch old new q None h i is =
     updates_keep new old new (replayed old (deletes old new)) q is
-        ∙ deletes_drop old new old q h (ap is_some is) (λ none. none)
+    ∙ deletes_drop old new old q h (ap is_some is) (λ none. none)
 value_at-batch old new q (Some v) h i is =
     updates_set new old new (replayed old (deletes old new)) q v i is (deletes_keep old new old q h (ap is_some is))
 
@@ -180,10 +180,10 @@ pub replayed-batch : (old new : Map) → IsState old → IsState new → replaye
 replayed-batch old new h i =
     replayed-append old (deletes old new) (updates new old new)
     ∙ same_entries key_order nat_list_cmp_total exact_bytes (replayed (replayed old (deletes old new))
-        (updates new old new)) new
+    (updates new old new)) new
     (IsState-updates new old new (replayed old (deletes old new)) (IsState-deletes old new old h)) i
     (λ q. sym (value_at-find q (replayed (replayed old (deletes old new)) (updates new old new)))
-        ∙ (value_at-batch old new q (value_at new q) h i refl ∙ value_at-find q new))
+    ∙ (value_at-batch old new q (value_at new q) h i refl ∙ value_at-find q new))
 
 -- a log after its first operation
 abbrev log_tail : History → List Operation
@@ -207,18 +207,18 @@ tail_stands (c ∷ h) s =
     let ops : List Operation = batch_operations (latest_map h) c.map in
     let last : List Operation = commit_floor c.metadata (inactivity_floor (log_of h ++ ops)) ∷ [] in
     let regrouped : log_tail h ++ (ops ++ last) ≡ (log_tail h ++ ops)
-        ++ last = sym (append_assoc (log_tail h) ops last) in
+    ++ last = sym (append_assoc (log_tail h) ops last) in
     let state : replayed [] (log_tail h ++ ops) ≡ c.map =
     replayed-append [] (log_tail h) ops
     ∙ (ap (λ x. replayed x ops) earlier.1 ∙ replayed-batch (latest_map h) c.map (IsState-latest_map h s.1) s.0) in
     let past : history_from [] [] (log_tail h ++ ops) ≡ h =
     history_from-append [] [] (log_tail h) ops
     ∙ (history_from-batch (latest_map h) c.map (replayed [] (log_tail h)) (history_from [] [] (log_tail h))
-        ∙ earlier.0) in (
+    ∙ earlier.0) in (
       ap (history_from [] []) regrouped
           ∙ (history_from-append [] [] (log_tail h ++ ops) last
           ∙ (ap (λ x. record { map = x; metadata = c.metadata } ∷ history_from [] [] (log_tail h ++ ops)) state
-              ∙ ap (λ x. c ∷ x) past)),
+          ∙ ap (λ x. c ∷ x) past)),
       ap (replayed []) regrouped ∙ (replayed-append [] (log_tail h ++ ops) last ∙ state),
     )
 

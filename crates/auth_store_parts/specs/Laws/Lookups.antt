@@ -51,7 +51,7 @@ with_entry-put : (s : Map) (k v : List ℕ) → with_entry s k v ≡ put key_ord
 with_entry-put [] k v = refl
 with_entry-put (e ∷ s) k v =
     elim (key_order k e.0) as (λ o. match_ordering o ((k, v) ∷ e ∷ s) ((e.0, v) ∷ s) (e ∷ with_entry s k v) ≡ by_order o
-        ((k, v) ∷ e ∷ s) ((e.0, v) ∷ s) (e ∷ put key_order k v s)) [
+    ((k, v) ∷ e ∷ s) ((e.0, v) ∷ s) (e ∷ put key_order k v s)) [
       | Less ↦ refl
       | Equal ↦ refl
       | Greater ↦ ap (λ r. e ∷ r) (with_entry-put s k v)
@@ -65,8 +65,8 @@ pub value_at-with_entry : (s : Map) (k v q : List ℕ) → value_at (with_entry 
     (value_at s q)
 value_at-with_entry s k v q =
     value_at-find q (with_entry s k v) ∙ (ap (find key_order q) (with_entry-put s k v)
-        ∙ (find-put key_order nat_list_cmp_total q k v s ∙ ap (λ r. cond (same q k) (Some v) r)
-            (sym (value_at-find q s))))
+    ∙ (find-put key_order nat_list_cmp_total q k v s ∙ ap (λ r. cond (same q k) (Some v) r)
+    (sym (value_at-find q s))))
 
 below_none : (x : List ℕ) (s : Map) → T (below_all key_order x s) → value_at s x ≡ None
 below_none x [] h = refl
@@ -118,9 +118,9 @@ value_at-without_key (e ∷ s) k q h =
     (λ t. let is : k ≡ e.0 = exact k e.0 t in
     ap (λ b. value_at (cond b s (e ∷ without_key s k)) q) t
     ∙ removed_here (same q k) (same q e.0) (value_at s q) e.1 (ap (same q) (sym is))
-        (λ at. ap (value_at s) (exact q k at ∙ is) ∙ none_later e s h))
+    (λ at. ap (value_at s) (exact q k at ∙ is) ∙ none_later e s h))
     (λ f. ap (λ b. value_at (cond b s (e ∷ without_key s k)) q) f
     ∙ (ap (λ r. cond (same q e.0) (Some e.1) r) (value_at-without_key s k q (IsState-tail e s h))
     ∙ removed_later (same q k) (same q e.0) (value_at s q) e.1
-        (λ a b. let both : same k e.0 ≡ true = ap (λ x. same x e.0) (sym (exact q k a)) ∙ b in cc)))
+    (λ a b. let both : same k e.0 ≡ true = ap (λ x. same x e.0) (sym (exact q k a)) ∙ b in cc)))
     (cases_Bool (same k e.0))

@@ -91,7 +91,7 @@ fn push_update<K: Key, V: FixedValue>(
     ensures { OnOk result (spec.meanings K.encoding V.encoding out.new.items ≡ spec.meanings K.encoding V.encoding
         out.old.items
         ++ spec.update_of (state_of K.encoding V.encoding old.now.entries)
-            (state_of K.encoding V.encoding new.now.entries)
+        (state_of K.encoding V.encoding new.now.entries)
         (K.encoding key.now) (V.encoding value.now)) }
 {
     if is_kept(alloc, old, new, key, value)? {
@@ -114,7 +114,7 @@ fn push_deletes<K: Key, V: FixedValue>(
     ensures { OnOk result (spec.meanings K.encoding V.encoding out.new.items ≡ spec.meanings K.encoding V.encoding
         out.old.items
         ++ spec.deletes (state_of K.encoding V.encoding old.now.entries)
-            (state_of K.encoding V.encoding new.now.entries)) }
+        (state_of K.encoding V.encoding new.now.entries)) }
 {
     for (key, _) in old {
         push_delete(new, key, out)?;
@@ -131,7 +131,7 @@ fn push_updates<K: Key, V: FixedValue>(
 ) -> Result<(), AllocError>
     ensures { let next = state_of K.encoding V.encoding new.now.entries in
         OnOk result (spec.meanings K.encoding V.encoding out.new.items ≡ spec.meanings K.encoding V.encoding
-            out.old.items
+        out.old.items
         ++ spec.updates next (state_of K.encoding V.encoding old.now.entries) next) }
 {
     for (key, value) in new {
@@ -148,7 +148,7 @@ pub fn batch_operations<K: Key, V: FixedValue>(
 ) -> Result<Vec<Operation<K, V>>, AllocError>
     ensures { IfOk result (λ operations. spec.meanings K.encoding V.encoding operations.items
         ≡ spec.batch_operations (state_of K.encoding V.encoding old.now.entries)
-            (state_of K.encoding V.encoding new.now.entries)) }
+        (state_of K.encoding V.encoding new.now.entries)) }
 {
     let mut out = Vec::new(alloc);
     push_deletes(old, new, &mut out)?;
@@ -165,7 +165,7 @@ pub fn changes_of<K: Key, V: FixedValue>(
     ensures { let state = spec.replayed [] (spec.meanings K.encoding V.encoding log.now) in
         let said = words.meanings K.encoding V.encoding batch.now.words.items in
         IfOk result (λ added. spec.meanings K.encoding V.encoding added.items ≡ spec.batch_operations state
-            (map_after said state)) }
+        (map_after said state)) }
 {
     let old = latest_map_of(alloc, log)?;
     let new = apply_batch(state::copy_of(&old)?, batch)?;

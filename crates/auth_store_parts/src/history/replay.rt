@@ -17,7 +17,7 @@ pub fn apply_operation<K: Key, V: FixedValue>(
 ) -> Result<(), AllocError>
     ensures ok { OnOk result (state_of K.encoding V.encoding state.new.entries
         ≡ spec.after_operation (meaning_of K.encoding V.encoding operation.now)
-            (state_of K.encoding V.encoding state.old.entries)) }
+        (state_of K.encoding V.encoding state.old.entries)) }
     ensures err { OnErr result (state.new.entries ≡ state.old.entries) }
 {
     match operation {

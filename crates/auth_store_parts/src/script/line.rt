@@ -59,8 +59,7 @@ fn parse_word(line: &[u8]) -> Option<Line>
 }
 
 /// A line of more than one word.
-#[tactic(auto, using(crate::proofs::Lines::number_some, crate::proofs::Lines::number_none,
-    crate::proofs::Lines::key_some, crate::proofs::Lines::key_none))]
+#[tactic(auto, using(crate::proofs::Lines::number_some, crate::proofs::Lines::number_none, crate::proofs::Lines::key_some, crate::proofs::Lines::key_none))]
 fn parse_words(line: &[u8]) -> Option<Line>
     ensures { result ≡ line_with_words line.now }
 {
@@ -90,8 +89,7 @@ fn parse_words(line: &[u8]) -> Option<Line>
 }
 
 /// A key, a space and a number.
-#[tactic(auto, using(crate::proofs::Lines::number_some, crate::proofs::Lines::number_none,
-    crate::proofs::Lines::key_some, crate::proofs::Lines::key_none), unfolding(crate::specs::Line::key_and_number))]
+#[tactic(auto, using(crate::proofs::Lines::number_some, crate::proofs::Lines::number_none, crate::proofs::Lines::key_some, crate::proofs::Lines::key_none), unfolding(crate::specs::Line::key_and_number))]
 fn parse_key_and_number(words: &[u8]) -> Option<(FixedBytes<8>, u64)>
     ensures { result ≡ key_and_number words.now }
 {

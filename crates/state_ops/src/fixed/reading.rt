@@ -135,7 +135,7 @@ pub fn read_operation<K: Key, V: FixedValue>(
         cursor.new
         (grammar.after_operation (K.after tt) (V.after tt) K.SIZE V.SIZE cursor.old)
         (grammar.OperationLacks (K.after tt) (V.after tt) (K.may_lack tt) (V.may_lack tt) K.SIZE V.SIZE cursor.old)
-            result }
+        result }
 {
     let size = fixed_size::<K, V>();
     if (cursor.remaining() as u128) < size {

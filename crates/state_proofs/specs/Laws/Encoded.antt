@@ -28,7 +28,7 @@ pub grammar_of : {digest held : List ℕ → Outcome} {IsPending : Option (List 
     → ((bytes : List ℕ) → digest bytes ≡ after_fixed size bytes)
     → ((d : Option (List ℕ)) (rest : List ℕ) → IsPending d → held (pending d ++ rest) ≡ Ok rest)
     → ((d e : Option (List ℕ)) (rest more : List ℕ) → IsPending d → IsPending e
-      → pending d ++ rest ≡ pending e ++ more → (d ≡ e) × (rest ≡ more))
+    → pending d ++ rest ≡ pending e ++ more → (d ≡ e) × (rest ≡ more))
     → Grammar digest held IsPending pending size
 grammar_of any again once = record { any = any; again = again; once = once }
 

@@ -5,15 +5,18 @@ use Rattle.auth_store.proofs.Runs.{taken_none, taken_next, taken_end}
 use Rattle.auth_store.proofs.run.take_steps.Goals as goal
 
 pub loop-step-init : goal.loop-step-init
-loop-step-init g c = (rw (c.into_iter-steps.ensures.rest, c.requires.none) (taken_none _ _ _), omega
-    (arith, c.into_iter-steps.ensures.len, c.requires.room))
+loop-step-init g c = (
+  rw (c.into_iter-steps.ensures.rest, c.requires.none) (taken_none _ _ _),
+  omega
+      (arith, c.into_iter-steps.ensures.len, c.requires.room),
+)
 
 pub loop-step-preserved : goal.loop-step-preserved
 loop-step-preserved g c = (
   taken_next _ _ _ _ _ _ _ _ _ _ _ c.loop-step.invariant.0 (ap (requests_of g.K.Write.encoding g.V.Write.encoding)
       c.in-Some.ensures.items) c.step.ensures
       (ap (meanings_of g.H.Digest.Write.encoding g.V.Write.encoding) c.note.ensures.items
-          ∙ map-append (meaning_of g.H.Digest.Write.encoding g.V.Write.encoding) c.loop-step.answers.items _),
+      ∙ map-append (meaning_of g.H.Digest.Write.encoding g.V.Write.encoding) c.loop-step.answers.items _),
   omega (arith, c.in-Some.ensures.len, c.note.ensures.len, c.note.ensures.capacity, c.loop-step.invariant.1),
 )
 

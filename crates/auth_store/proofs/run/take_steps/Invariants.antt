@@ -9,9 +9,9 @@ use Rattle.auth_store.proofs.run.take_steps.Given as goal
 abbrev pub invariant-loop-step : goal.invariant-loop-step
 invariant-loop-step g l =
     Taken (machine g.F.Family.merge_rule g.H.HashFunction.hash_of g.F.PendingOf.pending_encoding g.row.N
-        g.K.FixedSize.SIZE g.V.FixedSize.SIZE) l.fn.session.store
+    g.K.FixedSize.SIZE g.V.FixedSize.SIZE) l.fn.session.store
     (requests_of g.K.Write.encoding g.V.Write.encoding l.fn.steps.items)
-        (requests_of g.K.Write.encoding g.V.Write.encoding (into_iter_items l.steps))
+    (requests_of g.K.Write.encoding g.V.Write.encoding (into_iter_items l.steps))
     (meanings_of g.H.Digest.Write.encoding g.V.Write.encoding l.answers.items) l.session.store
     × (vec_len l.answers + into_iter_len l.steps ≤ vec_capacity l.answers)
 

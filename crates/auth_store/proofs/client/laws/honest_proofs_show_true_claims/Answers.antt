@@ -20,9 +20,9 @@ returns g c history (has_value key value) is_width states few holds is_key =
     let stands = StandsAt-log_of key value history states holds in
     let whole = width_is_whole g.row.N is_width in
     let count : length (state_of_history g.K.FixedSize.SIZE g.V.FixedSize.SIZE history).operations ≡ length log =
-        length-map log encoding in
+    length-map log encoding in
     c.honest_bytes_show_the_update.ensures g.row.N (grafting_height g.row.N)
-        (state_of_history g.K.FixedSize.SIZE g.V.FixedSize.SIZE history) location
+    (state_of_history g.K.FixedSize.SIZE g.V.FixedSize.SIZE history) location
     (λ n. encoding (update key value n)) next whole.0 whole.1 (omega (arith, count, few))
-        (omega (arith, count, slice_get_within log location (update key value next) stands.update_at))
+    (omega (arith, count, slice_get_within log location (update key value next) stands.update_at))
     stands.bit_at (encoding_at encoding log location (update key value next) stands.update_at) is_key

@@ -17,7 +17,7 @@ returns-then-len-clause-refused g c =
     let said = words.meanings g.K.Write.encoding g.V.Write.encoding c.args.batch.words.items in
     let noted = option_map g.V.Write.encoding c.args.metadata in
     let long = next_length _ _ _ said noted c.self.inside.log
-        (spec.meanings g.K.Write.encoding g.V.Write.encoding c.in_ok-changes.changes.items) _ _ _ _ c.self.invariant.1
+    (spec.meanings g.K.Write.encoding g.V.Write.encoding c.in_ok-changes.changes.items) _ _ _ _ c.self.invariant.1
     (rw c.operations.ensures at c.in_ok-changes.ensures) in
     let count = length-map c.in_ok-changes.changes.items (meaning_of g.K.Write.encoding g.V.Write.encoding) in
     let seen = ap (λ (old : History). length (log_of (commit_after said noted old))) c.self.view_is in
@@ -33,7 +33,7 @@ invariant_of-self-2 g c =
       next_keeps _ _ _ (words.meanings g.K.Write.encoding g.V.Write.encoding c.args.batch.words.items)
           (option_map g.V.Write.encoding c.args.metadata) c.self.inside.log
           changes c.append_commit.new.log _ _ _ _ _ _ _ c.self.invariant.1
-              (rw c.operations.ensures at c.in_ok-changes.ensures) c.in_ok-floor.ensures.log c.in_ok-floor.ensures.floor
+          (rw c.operations.ensures at c.in_ok-changes.ensures) c.in_ok-floor.ensures.log c.in_ok-floor.ensures.floor
           few c.in_ok-floor.ensures.root c.in_ok-floor.ensures.written,
     )
 
@@ -44,14 +44,14 @@ returns-clause-ok g c =
     let changes = rw c.operations.ensures at c.in_ok-changes.ensures in
     next_stands _ _ _ said noted c.self.inside.log c.append_commit.new.log _ _ _ _ c.self.invariant.1
     (c.in_ok-floor.ensures.log ∙ ap (λ l. c.self.inside.log ++ spec.with_commit c.self.inside.log l noted) changes)
-        ∙ ap (commit_after said noted) c.self.view_is
+    ∙ ap (commit_after said noted) c.self.view_is
 
 pub returns-clause-root : goal.returns-clause-root
 returns-clause-root g c =
     let keeps = (invariant_of-self-2 g c).1 in
     keeps.root ∙ ap (λ (log : List Operation). canonical_root
-        (setting_of_width g.F.Family.merge_rule g.H.HashFunction.hash_of g.row.N)
-            (state_of_log g.K.FixedSize.SIZE g.V.FixedSize.SIZE log)) keeps.whole
+    (setting_of_width g.F.Family.merge_rule g.H.HashFunction.hash_of g.row.N)
+    (state_of_log g.K.FixedSize.SIZE g.V.FixedSize.SIZE log)) keeps.whole
 
 pub returns-clause-within : goal.returns-clause-within
 returns-clause-within g c =

@@ -9,42 +9,42 @@ use Rattle.auth_store.proofs.store.commit.try_commit.Goals as goal
 pub returns-in_err-push-clause-front : goal.returns-in_err-push-clause-front
 returns-in_err-push-clause-front g c =
     on_err c.from_residual-in_err-push.result _ (front-append _ _ _
-        (c.in_err-push.ensures.err ∙ c.in_ok-append.ensures.ok))
+    (c.in_err-push.ensures.err ∙ c.in_ok-append.ensures.ok))
 
 pub root_of_log-requires-clause-last : goal.root_of_log-requires-clause-last
 root_of_log-requires-clause-last g c = sym (ap last_floor c.in_ok-push.ensures.ok
     ∙ floor_after-append 0 c.inactivity_floor-floor.result (option_map g.V.Write.encoding c.args.metadata)
-        c.append.new.self)
+    c.append.new.self)
 
 pub returns-in_err-root-clause-front : goal.returns-in_err-root-clause-front
 returns-in_err-root-clause-front g c =
     on_err c.from_residual-in_err-root.result _ (front-append_twice c.args.log.now c.append.new.self c.push.new.self _ _
-        c.in_ok-append.ensures.ok c.in_ok-push.ensures.ok)
+    c.in_ok-append.ensures.ok c.in_ok-push.ensures.ok)
 
 pub returns-in_err-bytes-clause-front : goal.returns-in_err-bytes-clause-front
 returns-in_err-bytes-clause-front g c =
     on_err c.from_residual-in_err-bytes.result _ (front-append_twice c.args.log.now c.append.new.self c.push.new.self _
-        _ c.in_ok-append.ensures.ok c.in_ok-push.ensures.ok)
+    _ c.in_ok-append.ensures.ok c.in_ok-push.ensures.ok)
 
 pub returns-in_err-append-2-clause-front : goal.returns-in_err-append-2-clause-front
 returns-in_err-append-2-clause-front g c =
     on_err c.from_residual-in_err-append-2.result _ (front-append_twice c.args.log.now c.append.new.self c.push.new.self
-        _ _ c.in_ok-append.ensures.ok c.in_ok-push.ensures.ok)
+    _ _ c.in_ok-append.ensures.ok c.in_ok-push.ensures.ok)
 
 pub returns-clause-floor : goal.returns-clause-floor
 returns-clause-floor g c = sym (ap last_floor c.in_ok-push.ensures.ok
     ∙ floor_after-append 0 c.inactivity_floor-floor.result (option_map g.V.Write.encoding c.args.metadata)
-        c.append.new.self)
+    c.append.new.self)
 
 pub returns-clause-written : goal.returns-clause-written
 returns-clause-written g c =
     let old = c.args.log.now in
     let next = with_commit old (meanings g.K.Write.encoding g.V.Write.encoding c.args.changes.items)
-        (option_map g.V.Write.encoding c.args.metadata) in
+    (option_map g.V.Write.encoding c.args.metadata) in
     let whole : c.push.new.self ≡ old ++ next = committed _ _ _ _ _ _ c.in_ok-append.ensures.ok
-        (c.inactivity_floor-floor.ensures ∙ ap inactivity_floor c.operations.ensures) c.in_ok-push.ensures.ok in
+    (c.inactivity_floor-floor.ensures ∙ ap inactivity_floor c.operations.ensures) c.in_ok-push.ensures.ok in
     let start : drop c.len-start.result c.push.new.self ≡ next = ap (drop c.len-start.result) whole
-        ∙ (ap (λ n. drop n (old ++ next)) c.len-start.ensures ∙ drop-append_seam old next) in
+    ∙ (ap (λ n. drop n (old ++ next)) c.len-start.ensures ∙ drop-append_seam old next) in
     c.in_ok-append-2.ensures.ok
     ∙ ap (λ bytes. c.args.device.now.bytes.items ++ bytes) (c.deref.ensures.value
-        ∙ (c.in_ok-bytes.ensures ∙ ap (log_bytes g.K.FixedSize.SIZE g.V.FixedSize.SIZE) start))
+    ∙ (c.in_ok-bytes.ensures ∙ ap (log_bytes g.K.FixedSize.SIZE g.V.FixedSize.SIZE) start))

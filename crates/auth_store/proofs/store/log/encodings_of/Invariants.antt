@@ -6,4 +6,4 @@ use Rattle.auth_store.proofs.store.log.encodings_of.Given as goal
 abbrev pub invariant-loop-operation : goal.invariant-loop-operation
 invariant-loop-operation g l =
     map (λ e. e.items) l.encoded.items ≡ encodings g.K.FixedSize.SIZE g.V.FixedSize.SIZE
-        (meanings g.K.Write.encoding g.V.Write.encoding (take l.operation-index l.operations))
+    (meanings g.K.Write.encoding g.V.Write.encoding (take l.operation-index l.operations))

@@ -15,7 +15,7 @@ returns-clause-next g c =
     let copied = g.met.K.Faithful.copied c.args.next_key.now c.in_ok-clone.field-0 c.in_ok-clone.ensures.cases in
     ap (g.K.Read.after tt) (sym copied ∙ sym (append-nil key))
     ∙ g.met.K.Read.read_again tt c.in_ok-clone.field-0 [] c.in_ok-write.ensures.value.1
-        (g.met.K.Key.within c.in_ok-clone.field-0)
+    (g.met.K.Key.within c.in_ok-clone.field-0)
 
 pub returns-clause-bytes : goal.returns-clause-bytes
 returns-clause-bytes g c =
@@ -28,15 +28,15 @@ returns-clause-bytes g c =
     let setting : setting_of g.F.Family.merge_rule g.H.HashFunction.hash_of snapshot ≡ wanted = cc in
     let seen = c.snapshot_of-snapshot.ensures in
     let state : state_of snapshot ≡ logged = same_state _ _ _ _ _ _
-        (ap (map (λ e. e.items)) seen.operations ∙ c.encodings.ensures)
+    (ap (map (λ e. e.items)) seen.operations ∙ c.encodings.ensures)
     (seen.bits ∙ (c.deref.ensures.value ∙ (c.in_ok-bits.ensures ∙ ap activity_bits c.operations.ensures)))
-        (seen.floor ∙ c.requires.last) in
+    (seen.floor ∙ c.requires.last) in
     c.in_ok-write.ensures.ok
     ∙ (ap (λ start. start ++ key_value_proof_encoding pending
-        (parts_of g.H.Digest.Write.encoding g.F.PendingOf.held c.in_ok-honest_proof.field-0) key)
-            c.new-bytes.ensures.items
+    (parts_of g.H.Digest.Write.encoding g.F.PendingOf.held c.in_ok-honest_proof.field-0) key)
+    c.new-bytes.ensures.items
     ∙ (ap (λ parts. key_value_proof_encoding pending parts key) c.in_ok-honest_proof.ensures
     ∙ (ap (λ (s : Setting). key_value_proof_encoding pending (honest_parts s (state_of snapshot) c.args.location) key)
-        setting
+    setting
     ∙ (ap (λ (s : State). key_value_proof_encoding pending (honest_parts wanted s c.args.location) key) state
     ∙ ap (λ (k : List ℕ). key_value_proof_encoding pending (honest_parts wanted logged c.args.location) k) copied))))

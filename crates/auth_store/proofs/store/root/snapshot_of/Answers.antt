@@ -9,4 +9,4 @@ pub returns-clause-height : goal.returns-clause-height
 returns-clause-height g c =
     let wide = rw c.unwrap.ensures at c.new.ensures.some in
     height_is g.row.N c.unwrap.result.grafting_height c.requires.width
-        (ap (λ w. 8 * w) (sym wide) ∙ c.unwrap.result.whole)
+    (ap (λ w. 8 * w) (sym wide) ∙ c.unwrap.result.whole)

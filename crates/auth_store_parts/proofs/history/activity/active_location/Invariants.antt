@@ -9,7 +9,7 @@ invariant-loop-rest g l =
       within : length l.rest ≤ length l.operations;
       location : spec.active_location key (spec.meanings g.K.Write.encoding g.V.Write.encoding l.rest) + length
           l.operations ≡ spec.active_location key (spec.meanings g.K.Write.encoding g.V.Write.encoding l.operations) +
-              length l.rest;
+          length l.rest;
     }
 
 abbrev pub decreases-loop-rest : goal.decreases-loop-rest

@@ -6,6 +6,6 @@ use Rattle.auth_store_parts.proofs.history.changes.push_deletes.Given as goal
 abbrev pub invariant-loop-key : goal.invariant-loop-key
 invariant-loop-key g l = spec.meanings g.K.Write.encoding g.V.Write.encoding l.out.items
     ++ spec.deletes (state_of g.K.Write.encoding g.V.Write.encoding l.key-iterator)
-        (state_of g.K.Write.encoding g.V.Write.encoding l.new.entries) ≡ spec.meanings g.K.Write.encoding
-        g.V.Write.encoding l.fn.out.items ++ spec.deletes (state_of g.K.Write.encoding g.V.Write.encoding l.old.entries)
-        (state_of g.K.Write.encoding g.V.Write.encoding l.new.entries)
+    (state_of g.K.Write.encoding g.V.Write.encoding l.new.entries) ≡ spec.meanings g.K.Write.encoding
+    g.V.Write.encoding l.fn.out.items ++ spec.deletes (state_of g.K.Write.encoding g.V.Write.encoding l.old.entries)
+    (state_of g.K.Write.encoding g.V.Write.encoding l.new.entries)

@@ -6,5 +6,5 @@ use Rattle.auth_store_parts.proofs.history.replay.latest_map_of.Given as goal
 abbrev pub invariant-loop-operation : goal.invariant-loop-operation
 invariant-loop-operation g l =
     spec.replayed (state_of g.K.Write.encoding g.V.Write.encoding l.state.entries)
-        (spec.meanings g.K.Write.encoding g.V.Write.encoding (drop l.operation-index l.operations))
+    (spec.meanings g.K.Write.encoding g.V.Write.encoding (drop l.operation-index l.operations))
     ≡ spec.replayed [] (spec.meanings g.K.Write.encoding g.V.Write.encoding l.operations)

@@ -17,14 +17,14 @@ pub returns-clause-found : goal.returns-clause-found
 returns-clause-found c =
     let key = IsOk-decode_sized c.args.text.now 8 in
     let decoded : is_ok (decode_sized c.args.text.now 8) ≡ is_some c.ok.result = decides _ _ _
-        c.decode_to_slice.ensures.value ∙ sym c.ok.ensures.variant in
+    c.decode_to_slice.ensures.value ∙ sym c.ok.ensures.variant in
     (λ h. key.0 (decoded ∙ ap is_some c.in_ok-ok.was), λ h. refl)
 
 pub returns-in_err-ok-clause-found : goal.returns-in_err-ok-clause-found
 returns-in_err-ok-clause-found c =
     let key = IsOk-decode_sized c.args.text.now 8 in
     let decoded : is_ok (decode_sized c.args.text.now 8) ≡ is_some c.ok.result = decides _ _ _
-        c.decode_to_slice.ensures.value ∙ sym c.ok.ensures.variant in
+    c.decode_to_slice.ensures.value ∙ sym c.ok.ensures.variant in
     let none : is_some c.from_residual.result ≡ false = ap is_some c.from_residual.ensures in
     let undecoded : is_ok (decode_sized c.args.text.now 8) ≡ false = decoded ∙ ap is_some c.in_err-ok.was in
     (λ h. absurd (clash _ h none), λ h. absurd (clash _ (key.1 h) undecoded))

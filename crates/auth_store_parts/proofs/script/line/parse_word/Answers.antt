@@ -7,5 +7,5 @@ pub returns-in-commit : goal.returns-in-commit
 returns-in-commit c =
     let is : c.args.line.now ≡ codes "commit" =
     text_from_reads c.args.line.now (codes "commit") (omega arith)
-        (omega arith, (omega arith, (omega arith, (omega arith, (omega arith, (omega arith, tt))))))
+    (omega arith, (omega arith, (omega arith, (omega arith, (omega arith, (omega arith, tt))))))
     in ap line_of is

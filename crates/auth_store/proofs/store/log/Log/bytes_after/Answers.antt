@@ -24,11 +24,11 @@ pub returns : goal.returns
 returns g c =
     let encoding = fixed_encoding g.K.FixedSize.SIZE g.V.FixedSize.SIZE in
     let same = flat_map-same (λ e. e.items) encoding (drop c.args.count c.self.inside.encodings.items)
-        (drop c.args.count c.args.self.now)
+    (drop c.args.count c.args.self.now)
     (sym (drop-map (λ e. e.items) c.args.count c.self.inside.encodings.items)
     ∙ (ap (drop c.args.count) (c.self.invariant ∙ ap (map encoding) c.self.view_is)
-        ∙ drop-map encoding c.args.count c.args.self.now)) in
+    ∙ drop-map encoding c.args.count c.args.self.now)) in
     let whole : take (length c.self.inside.encodings.items - c.args.count)
-        (drop c.args.count c.self.inside.encodings.items) ≡ drop c.args.count c.self.inside.encodings.items =
+    (drop c.args.count c.self.inside.encodings.items) ≡ drop c.args.count c.self.inside.encodings.items =
     take_rest c.args.count c.self.inside.encodings.items in
     rw same at (rw whole at (rw c.deref.ensures.value at c.joined.ensures))

@@ -9,7 +9,7 @@ pub returns : goal.returns
 returns g c =
     ap (meanings g.K.Write.encoding g.V.Write.encoding) c.truncate.ensures.items
     ∙ (sym (take-map (meaning_of g.K.Write.encoding g.V.Write.encoding) c.args.count c.self.inside.operations.items)
-        ∙ ap (take c.args.count) c.self.view_is)
+    ∙ ap (take c.args.count) c.self.view_is)
 
 pub invariant_of-self : goal.invariant_of-self
 invariant_of-self g c =
@@ -17,4 +17,4 @@ invariant_of-self g c =
     ∙ (sym (take-map (λ e. e.items) c.args.count c.self.inside.encodings.items)
     ∙ (ap (take c.args.count) c.self.invariant
     ∙ (simp take-map (ap (λ operations. encodings g.K.FixedSize.SIZE g.V.FixedSize.SIZE
-        (meanings g.K.Write.encoding g.V.Write.encoding operations)) (sym c.truncate.ensures.items)))))
+    (meanings g.K.Write.encoding g.V.Write.encoding operations)) (sym c.truncate.ensures.items)))))
