@@ -6,12 +6,13 @@
 //!
 //! A call that answers F8 or F9 has taken no word and changed nothing. The draw comes before every other check of the store.
 
-ghost use Rattle.std.specs.Prelude.{◌≡◌, ◌≢◌, ◌+◌, ◌-◌, ◌^◌, ◌<◌, ◌⊎◌, Err, Ok, IfOk, IfErr, OnOk, OnErr, map, true, false, if◌then◌else◌};
+ghost use Rattle.std.specs.Prelude.{◌≡◌, ◌+◌, ◌-◌, ◌^◌, ◌<◌, ◌⊎◌, Err, Ok, IfErr, OnOk, true, if◌then◌else◌};
 ghost use Rattle.std.specs.List.{list_any};
 ghost use Rattle.fault_storage.specs.Draws.{sample};
 ghost use Rattle.fault_storage.specs.DrawsCode.{rate_of};
-ghost use Rattle.fault_storage.specs.Stores.{is_there, published, crashed_store, has_bytes, bytes_at};
-ghost use Rattle.fault_storage.specs.Directory.{has_name, names_in, admitted, LacksName};
+ghost use Rattle.fault_storage.specs.Stores.{published, crashed_store};
+ghost use Rattle.fault_storage.specs.Directory.{has_name, admitted, LacksName, MemoryScans, MemoryReads, MemorySyncs};
+ghost use Rattle.fault_storage.specs.Faults.{IsFaultyCall};
 
 use crate::config::Config;
 use crate::error::{Call, Error};
@@ -116,13 +117,7 @@ impl<R: Rng> Storage<memory::Storage, R> {
     /// The names of the partition's blobs in byte order. F8: the count of faults has ended; F9; F6; F3, F2.
     /// In the Rust: `commonware_runtime::Storage::scan`.
     pub fn scan(&mut self, partition: &str) -> Result<Vec<Vec<u8>>, Error>
-        ensures ended { self.old.injections ≡ 2 ^ 64 - 1 → result ≡ Err Error.NumberEnded }
-        ensures unmade { (result ≡ Err Error.NumberEnded) ⊎ (result ≡ Err Error.Memory) → (R.stream self.new.rng ≡ R.stream self.old.rng) × (self.new.injections ≡ self.old.injections) }
-        ensures drawn { result ≢ Err Error.NumberEnded → result ≢ Err Error.Memory → R.stream self.new.rng ≡ (sample (rate_of self.old.config.scan) (R.stream self.old.rng)).1 }
-        ensures injected { result ≢ Err Error.NumberEnded → result ≢ Err Error.Memory → (sample (rate_of self.old.config.scan) (R.stream self.old.rng)).0 ≡ true → (result ≡ Err (Error.Injected Call.Scan)) × (self.new.injections ≡ self.old.injections + 1) }
-        ensures counted { result ≢ Err (Error.Injected Call.Scan) → self.new.injections ≡ self.old.injections }
-        ensures ok { IfOk result (λ names. ((sample (rate_of self.old.config.scan) (R.stream self.old.rng)).0 ≡ false) × (map (λ name. name.items) names.items ≡ names_in partition.now self.old.inner.files)) }
-        ensures rest { (self.new.inner ≡ self.old.inner) × (self.new.config ≡ self.old.config) }
+        ensures { IsFaultyCall (R.stream) Call.Scan self.old.config.scan (MemoryScans partition.now) self.old result self.new }
     {
         if self.injections == u64::MAX {
             return Err(Error::NumberEnded);
@@ -168,14 +163,7 @@ impl Blob<memory::Blob> {
         offset: u64,
         count: usize,
     ) -> Result<Vec<u8>, Error>
-        ensures ended { storage.old.injections ≡ 2 ^ 64 - 1 → result ≡ Err Error.NumberEnded }
-        ensures unmade { (result ≡ Err Error.NumberEnded) ⊎ (result ≡ Err Error.Memory) → (R.stream storage.new.rng ≡ R.stream storage.old.rng) × (storage.new.injections ≡ storage.old.injections) }
-        ensures drawn { result ≢ Err Error.NumberEnded → result ≢ Err Error.Memory → R.stream storage.new.rng ≡ (sample (rate_of storage.old.config.read) (R.stream storage.old.rng)).1 }
-        ensures injected { result ≢ Err Error.NumberEnded → result ≢ Err Error.Memory → (sample (rate_of storage.old.config.read) (R.stream storage.old.rng)).0 ≡ true → (result ≡ Err (Error.Injected Call.Read)) × (storage.new.injections ≡ storage.old.injections + 1) }
-        ensures counted { result ≢ Err (Error.Injected Call.Read) → storage.new.injections ≡ storage.old.injections }
-        ensures ok { IfOk result (λ bytes. ((sample (rate_of storage.old.config.read) (R.stream storage.old.rng)).0 ≡ false) × (has_bytes self.now.inner offset count ≡ true) × (bytes.items ≡ bytes_at self.now.inner offset count)) }
-        ensures short { result ≡ Err Error.BlobInsufficientLength → has_bytes self.now.inner offset count ≡ false }
-        ensures rest { (storage.new.inner ≡ storage.old.inner) × (storage.new.config ≡ storage.old.config) }
+        ensures { IsFaultyCall (R.stream) Call.Read storage.old.config.read (MemoryReads self.now.inner offset count) storage.old result storage.new }
     {
         if storage.injections == u64::MAX {
             return Err(Error::NumberEnded);
@@ -192,22 +180,19 @@ impl Blob<memory::Blob> {
 
     /// Makes the live bytes durable. F8: the count of faults has ended; F9; F6, and nothing is published; F1: the blob is gone.
     pub fn sync<R: Rng>(&self, storage: &mut Storage<memory::Storage, R>) -> Result<(), Error>
-        ensures ended { storage.old.injections ≡ 2 ^ 64 - 1 → result ≡ Err Error.NumberEnded }
-        ensures unmade { result ≡ Err Error.NumberEnded ⊎ result ≡ Err Error.Memory → (storage.new.inner ≡ storage.old.inner) × (R.stream storage.new.rng ≡ R.stream storage.old.rng) × (storage.new.injections ≡ storage.old.injections) }
-        ensures drawn { result ≢ Err Error.NumberEnded → result ≢ Err Error.Memory → R.stream storage.new.rng ≡ (sample (rate_of storage.old.config.sync) (R.stream storage.old.rng)).1 }
-        ensures injected { result ≢ Err Error.NumberEnded → result ≢ Err Error.Memory → (sample (rate_of storage.old.config.sync) (R.stream storage.old.rng)).0 ≡ true → (result ≡ Err (Error.Injected Call.Sync)) × (storage.new.injections ≡ storage.old.injections + 1) × (storage.new.inner ≡ storage.old.inner) }
-        ensures counted { result ≢ Err (Error.Injected Call.Sync) → storage.new.injections ≡ storage.old.injections }
-        ensures ok { OnOk result ((sample (rate_of storage.old.config.sync) (R.stream storage.old.rng)).0 ≡ false × (is_there self.now.inner.number storage.old.inner ≡ true) × (storage.new.inner ≡ published self.now.inner.number self.now.inner.live storage.old.inner)) }
-        ensures gone { result ≡ Err Error.BlobMissing → (is_there self.now.inner.number storage.old.inner ≡ false) × (storage.new.inner ≡ storage.old.inner) }
-        ensures config { storage.new.config ≡ storage.old.config }
+        ensures { IsFaultyCall (R.stream) Call.Sync storage.old.config.sync (MemorySyncs self.now.inner) storage.old result storage.new }
     {
         if storage.injections == u64::MAX {
             return Err(Error::NumberEnded);
         }
-        let bytes = self.inner.copy_live(&storage.inner)?;
+        let live = self.inner.copy_live(&storage.inner)?;
         if storage.injects(storage.config.sync) {
             return Err(Error::Injected(Call::Sync));
         }
-        self.inner.publish(&mut storage.inner, bytes)
+        let Some(bytes) = live else {
+            return Err(Error::BlobMissing);
+        };
+        self.inner.publish(&mut storage.inner, bytes);
+        Ok(())
     }
 }

@@ -1,6 +1,6 @@
 //! The store in memory.
 
-ghost use Rattle.std.specs.Prelude.{◌≡◌, ℕ, ◌+◌, ◌-◌, ◌^◌, ◌<◌, ◌≤◌, ◌⊎◌, ◌↔◌, [], false, true, Err, IfOk, IfErr, IfNone, IfSome, None, Some, OnOk, OnErr, MatchOption, List, filter, map, length};
+ghost use Rattle.std.specs.Prelude.{◌≡◌, ◌+◌, ◌-◌, ◌^◌, ◌<◌, ◌≤◌, ◌⊎◌, ◌↔◌, [], false, true, Err, IfOk, IfErr, IfNone, IfSome, None, Some, OnOk, OnErr, MatchOption, filter, length};
 ghost use Rattle.std.specs.List.{list_any};
 ghost use Rattle.fault_storage.specs.DrawsCode.{rate_of, mode_of};
 ghost use Rattle.fault_storage.specs.Files.{written, fixed, resized_to, with_bytes, with_kept, resized};
@@ -9,7 +9,7 @@ ghost use Rattle.fault_storage.specs.Names.{is_partition_name};
 ghost use Rattle.fault_storage.specs.declared.error.HeaderError.{HeaderError};
 ghost use Rattle.fault_storage.specs.declared.header.Layout.TheVariants.{V0};
 ghost use Rattle.fault_storage.specs.Headers.{created};
-ghost use Rattle.fault_storage.specs.Directory.{MemoryOpens, MemoryRemoves, IsMissing, fault_in, handle_in, shown_in, new_handle, has_name, has_partition, names_in, placed, admitted, removed, removed_partition, LacksName, LacksPartition};
+ghost use Rattle.fault_storage.specs.Directory.{MemoryOpens, MemoryRemoves, MemoryScans, MemoryReads, MemorySyncs, IsMissing, fault_in, handle_in, shown_in, new_handle, has_name, has_partition, names_in, placed, admitted, removed, removed_partition, LacksName, LacksPartition};
 ghost use Rattle.fault_storage.specs.Draws.{never};
 ghost use Rattle.fault_storage.specs.Stores.{Store, Handle, memory_write, fixed_write, resizing, showing, has_bytes, bytes_at, IsPlace, has_number, is_there, issued, published, without, changed, with_issued, settled_at, settled_in, crashed_files, crashed_store};
 
@@ -179,10 +179,7 @@ impl Storage {
     /// The names of the partition's blobs in byte order. F3, F2 (there is no such partition), F9.
     /// In the Rust: `commonware_runtime::Storage::scan`.
     pub fn scan(&self, partition: &str) -> Result<Vec<Vec<u8>>, Error>
-        ensures ok { IfOk result (λ names. (is_partition_name partition.now ≡ true) × (has_partition partition.now self.now.partitions ≡ true) × (map (λ name. name.items) names.items ≡ names_in partition.now self.now.files)) }
-        ensures invalid { (result ≡ Err Error.PartitionNameInvalid) ↔ (is_partition_name partition.now ≡ false) }
-        ensures missing { (result ≡ Err Error.PartitionMissing) ↔ ((is_partition_name partition.now ≡ true) × (has_partition partition.now self.now.partitions ≡ false)) }
-        ensures refused { IfErr result (λ e. (e ≡ Error.PartitionNameInvalid) ⊎ (e ≡ Error.PartitionMissing) ⊎ (e ≡ Error.Memory)) }
+        ensures { MemoryScans partition.now self.now result self.now }
     {
         self.find_partition(partition)?;
         let names = names_in(self.alloc, &self.files, partition)?;
@@ -410,8 +407,7 @@ fn end_of(start: usize, offset: u64, count: usize) -> Option<usize>
 impl Blob {
     /// So many bytes from an offset on. F7: they are not all there; F9. In the Rust: `commonware_runtime::Blob::read_at`.
     pub fn read_at(&self, storage: &Storage, offset: u64, count: usize) -> Result<Vec<u8>, Error>
-        ensures ok { IfOk result (λ bytes. (has_bytes self.now offset count ≡ true) × (bytes.items ≡ bytes_at self.now offset count)) }
-        ensures err { IfErr result (λ e. ((e ≡ Error.BlobInsufficientLength) × (has_bytes self.now offset count ≡ false)) ⊎ ((e ≡ Error.Memory) × (has_bytes self.now offset count ≡ true))) }
+        ensures { MemoryReads self.now offset count storage.now result storage.now }
     {
         let Some(end) = end_of(self.offset, offset, count) else {
             return Err(Error::BlobInsufficientLength);
@@ -596,37 +592,32 @@ impl Blob {
         Ok(())
     }
 
-    /// A copy of the live bytes, those of the header first. It fails only when out of memory.
-    pub fn copy_live(&self, storage: &Storage) -> Result<Vec<u8>, AllocError>
-        ensures { IfOk result (λ bytes. bytes.items ≡ self.now.live) }
-    {
-        self.live.to_vec(storage.allocator())
-    }
-
-    /// Makes a copy of the live bytes durable. F1: the blob is gone.
-    pub fn publish(&self, storage: &mut Storage, bytes: Vec<u8>) -> Result<(), Error>
-        requires { bytes.items ≡ self.now.live }
-        ensures ok { OnOk result ((is_there self.now.number storage.old ≡ true) × (storage.new ≡ published self.now.number self.now.live storage.old)) }
-        ensures err { IfErr result (λ e. (e ≡ Error.BlobMissing) × (is_there self.now.number storage.old ≡ false) × (storage.new ≡ storage.old)) }
+    /// A copy of the live bytes, those of the header first. None: the blob is gone. It fails only when out of memory.
+    pub fn copy_live(&self, storage: &Storage) -> Result<Option<Vec<u8>>, AllocError>
+        ensures ok { IfOk result (λ live. MatchOption live (is_there self.now.number storage.now ≡ false) (λ bytes. (is_there self.now.number storage.now ≡ true) × (bytes.items ≡ self.now.live))) }
+        ensures err { OnErr result (is_there self.now.number storage.now ≡ true) }
     {
         if !storage.has(self.number) {
-            return Err(Error::BlobMissing);
+            return Ok(None);
         }
+        let bytes = self.live.to_vec(storage.allocator())?;
+        Ok(Some(bytes))
+    }
+
+    /// Makes the bytes of the blob's file durable.
+    pub fn publish(&self, storage: &mut Storage, bytes: Vec<u8>)
+        ensures { storage.new ≡ published self.now.number bytes.items storage.old }
+    {
         storage.publish(self.number, bytes);
-        Ok(())
     }
 
     /// Makes the live bytes durable. F1: the blob is gone; F9. In the Rust: `commonware_runtime::Blob::sync`.
     pub fn sync(&self, storage: &mut Storage) -> Result<(), Error>
-        ensures ok { OnOk result ((is_there self.now.number storage.old ≡ true) × (storage.new ≡ published self.now.number self.now.live storage.old)) }
-        ensures err { OnErr result (storage.new ≡ storage.old) }
-        ensures gone { (result ≡ Err Error.BlobMissing) ↔ (is_there self.now.number storage.old ≡ false) }
-        ensures refused { IfErr result (λ e. (e ≡ Error.BlobMissing) ⊎ (e ≡ Error.Memory)) }
+        ensures { MemorySyncs self.now storage.old result storage.new }
     {
-        if !storage.has(self.number) {
+        let Some(bytes) = self.copy_live(storage)? else {
             return Err(Error::BlobMissing);
-        }
-        let bytes = self.copy_live(storage)?;
+        };
         storage.publish(self.number, bytes);
         Ok(())
     }
