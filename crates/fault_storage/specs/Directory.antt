@@ -131,6 +131,12 @@ MemoryOpens old partition name versions result new = MatchResult result
     ⊎ ((e ≡ NumberEnded) × (old.next ≡ 2 ^ 64 - 1))
     ⊎ (e ≡ Memory)))
 
+-- what the making of a file anew gives: its number
+abbrev pub MemoryPlaces : List ℕ → List ℕ → List ℕ → Store → Result ℕ Error → Store → Type 0
+MemoryPlaces partition name bytes old result new = MatchResult result
+    (λ number. (number ≡ old.next) × (new ≡ placed partition name bytes old))
+    (λ e. (new ≡ old) × (((e ≡ NumberEnded) × (old.next ≡ 2 ^ 64 - 1)) ⊎ (e ≡ Memory)))
+
 -- what a listing gives, and why it is refused
 abbrev pub MemoryScans : List ℕ → Store → Result (Vec (Vec ℕ Global) Global) Error → Store → Type 0
 MemoryScans partition old result new = (new ≡ old) × MatchResult result
@@ -143,6 +149,15 @@ abbrev pub MemoryReads : Handle → ℕ → ℕ → Store → Result (Vec ℕ Gl
 MemoryReads handle offset count old result new = (new ≡ old) × MatchResult result
     (λ bytes. (has_bytes handle offset count ≡ true) × (bytes.items ≡ bytes_at handle offset count))
     (λ e. ((e ≡ BlobInsufficientLength) × (has_bytes handle offset count ≡ false)) ⊎ ((e ≡ Memory) × (has_bytes handle offset count ≡ true)))
+
+-- what a read into a buffer makes of it
+abbrev pub Fills : Handle → ℕ → List ℕ → List ℕ → Result Unit Error → Type 0
+Fills handle offset buffer filled result = MatchResult result
+    (λ _. (has_bytes handle offset (length buffer) ≡ true) × (filled ≡ bytes_at handle offset (length buffer)))
+    (λ e. (e ≡ BlobInsufficientLength) × (has_bytes handle offset (length buffer) ≡ false) × (filled ≡ buffer))
+
+abbrev pub MemoryFills : Handle → ℕ → List ℕ → List ℕ → Store → Result Unit Error → Store → Type 0
+MemoryFills handle offset buffer filled old result new = (new ≡ old) × Fills handle offset buffer filled result
 
 -- what a sync makes durable: the live bytes
 abbrev pub MemorySyncs : Handle → Store → Result Unit Error → Store → Type 0

@@ -6,18 +6,21 @@
 //!
 //! A call that answers F8 or F9 has taken no word and changed nothing. The draw comes before every other check of the store.
 
-ghost use Rattle.std.specs.Prelude.{◌≡◌, ◌+◌, ◌-◌, ◌^◌, ◌<◌, ◌⊎◌, Err, Ok, IfErr, OnOk, true, if◌then◌else◌};
+ghost use Rattle.std.specs.Prelude.{◌≡◌, ◌+◌, ◌-◌, ◌^◌, ◌<◌, ◌⊎◌, Err, Ok, IfErr, OnOk, OnErr, true, if◌then◌else◌};
 ghost use Rattle.std.specs.List.{list_any};
 ghost use Rattle.fault_storage.specs.Draws.{sample};
 ghost use Rattle.fault_storage.specs.DrawsCode.{rate_of};
-ghost use Rattle.fault_storage.specs.Stores.{published, crashed_store};
-ghost use Rattle.fault_storage.specs.Directory.{has_name, admitted, LacksName, MemoryScans, MemoryReads, MemorySyncs};
-ghost use Rattle.fault_storage.specs.Faults.{IsFaultyCall};
+ghost use Rattle.fault_storage.specs.Stores.{without_retired, published, crashed_store};
+ghost use Rattle.fault_storage.specs.Directory.{has_name, admitted, LacksName, MemoryRemoves, MemoryScans, MemoryReads, MemoryFills, MemorySyncs};
+ghost use Rattle.fault_storage.specs.declared.error.Call.TheVariants.{Open, Remove};
+ghost use Rattle.fault_storage.specs.Faults.{IsFaultyCall, FaultyOpens, unwrapped};
 
 use crate::config::Config;
 use crate::error::{Call, Error};
+use crate::header::Versions;
 use crate::memory;
 use crate::probability::Probability;
+use crate::storage::Opened;
 use rand_core::Rng;
 
 /// A store that fails. In the Rust: `commonware_runtime::storage::faulty::Storage`.
@@ -88,9 +91,17 @@ impl<R: Rng> Storage<memory::Storage, R> {
     {
         let is_injected = rate.sample(&mut self.rng);
         if is_injected {
-            self.injections += 1;
+            self.count_fault();
         }
         is_injected
+    }
+
+    // One more fault was injected.
+    fn count_fault(&mut self)
+        requires { self.old.injections < 2 ^ 64 - 1 }
+        ensures { self.new ≡ record self.old { injections = self.old.injections + 1 } }
+    {
+        self.injections += 1;
     }
 
     /// A crash: of what is not durable it leaves what is drawn, in the order of issue. It takes no memory.
@@ -100,6 +111,14 @@ impl<R: Rng> Storage<memory::Storage, R> {
         ensures rest { (self.new.injections ≡ self.old.injections) × (self.new.config ≡ self.old.config) }
     {
         self.inner.settle_all(&mut self.rng);
+    }
+
+    /// Forgets what is kept of files that are gone: their turns at a crash, which they no longer take.
+    /// In the Rust: `commonware_runtime::storage::faulty::Storage::remove_retired`.
+    pub fn remove_retired(&mut self)
+        ensures { self.new ≡ record self.old { inner = without_retired self.old.inner } }
+    {
+        self.inner.remove_retired();
     }
 
     /// Makes what is durable of the file the base, and forgets its other mutations: what an opening showed stays. F3, F2, F1, F9; no
@@ -130,6 +149,62 @@ impl<R: Rng> Storage<memory::Storage, R> {
             return Err(Error::Injected(Call::Scan));
         }
         names
+    }
+}
+
+impl<R: Rng> crate::storage::Storage for Storage<memory::Storage, R> {
+    type Blob = Blob<memory::Blob>;
+
+    ghost opens = { λ old partition name versions result new. IsFaultyCall (R.stream) Open old.config.«open» (FaultyOpens partition name versions) old result new };
+
+    ghost removes = { λ old partition name result new. IsFaultyCall (R.stream) Remove old.config.remove (λ below. MemoryRemoves below partition name) old result new };
+
+    fn open_versioned(
+        &mut self,
+        partition: &str,
+        name: &[u8],
+        versions: Versions,
+    ) -> Result<Opened<Blob<memory::Blob>>, Error> {
+        if self.injections == u64::MAX {
+            return Err(Error::NumberEnded);
+        }
+        let opened = self
+            .inner
+            .open_unless(&mut self.rng, self.config.open, partition, name, versions);
+        match opened {
+            Ok(opened) => Ok(wrap(opened)),
+            Err(Error::Injected(call)) => {
+                self.count_fault();
+                Err(Error::Injected(call))
+            }
+            Err(e) => Err(e),
+        }
+    }
+
+    fn remove(&mut self, partition: &str, name: Option<&[u8]>) -> Result<(), Error> {
+        if self.injections == u64::MAX {
+            return Err(Error::NumberEnded);
+        }
+        if self.injects(self.config.remove) {
+            return Err(Error::Injected(Call::Remove));
+        }
+        self.inner.remove(partition, name)
+    }
+}
+
+// The blob of the store below as one of the store that fails.
+fn wrap(opened: Opened<memory::Blob>) -> Opened<Blob<memory::Blob>>
+    ensures { unwrapped result ≡ opened }
+{
+    let Opened {
+        blob,
+        size,
+        version,
+    } = opened;
+    Opened {
+        blob: Blob::new(blob),
+        size,
+        version,
     }
 }
 
@@ -176,6 +251,26 @@ impl Blob<memory::Blob> {
             return Err(Error::Injected(Call::Read));
         }
         bytes
+    }
+
+    /// Reads into the buffer from an offset on, and fills it; refused, it stays as it is. F8: the count of faults has ended; F6; F7: the
+    /// bytes are not all there.
+    pub fn read_at_buf<R: Rng>(
+        &self,
+        storage: &mut Storage<memory::Storage, R>,
+        offset: u64,
+        buffer: &mut [u8],
+    ) -> Result<(), Error>
+        ensures call { IsFaultyCall (R.stream) Call.Read storage.old.config.read (MemoryFills self.now.inner offset buffer.old buffer.new) storage.old result storage.new }
+        ensures kept { OnErr result (buffer.new ≡ buffer.old) }
+    {
+        if storage.injections == u64::MAX {
+            return Err(Error::NumberEnded);
+        }
+        if storage.injects(storage.config.read) {
+            return Err(Error::Injected(Call::Read));
+        }
+        self.inner.read_at_buf(offset, buffer)
     }
 
     /// Makes the live bytes durable. F8: the count of faults has ended; F9; F6, and nothing is published; F1: the blob is gone.
