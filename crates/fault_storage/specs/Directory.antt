@@ -140,7 +140,8 @@ MemoryPlaces partition name bytes old result new = MatchResult result
 -- what a listing gives, and why it is refused
 abbrev pub MemoryScans : List ℕ → Store → Result (Vec (Vec ℕ Global) Global) Error → Store → Type 0
 MemoryScans partition old result new = (new ≡ old) × MatchResult result
-    (λ names. (is_partition_name partition ≡ true) × (has_partition partition old.partitions ≡ true) × (map (λ name. name.items) names.items ≡ names_in partition old.files))
+    (λ names. (is_partition_name partition ≡ true) × (has_partition partition old.partitions ≡ true)
+    × (map (λ name. name.items) names.items ≡ names_in partition old.files))
     (λ e. LacksPartition partition old e
     ⊎ ((e ≡ Memory) × (is_partition_name partition ≡ true) × (has_partition partition old.partitions ≡ true)))
 
@@ -148,7 +149,8 @@ MemoryScans partition old result new = (new ≡ old) × MatchResult result
 abbrev pub MemoryReads : Handle → ℕ → ℕ → Store → Result (Vec ℕ Global) Error → Store → Type 0
 MemoryReads handle offset count old result new = (new ≡ old) × MatchResult result
     (λ bytes. (has_bytes handle offset count ≡ true) × (bytes.items ≡ bytes_at handle offset count))
-    (λ e. ((e ≡ BlobInsufficientLength) × (has_bytes handle offset count ≡ false)) ⊎ ((e ≡ Memory) × (has_bytes handle offset count ≡ true)))
+    (λ e. ((e ≡ BlobInsufficientLength) × (has_bytes handle offset count ≡ false))
+    ⊎ ((e ≡ Memory) × (has_bytes handle offset count ≡ true)))
 
 -- what a read into a buffer makes of it
 abbrev pub Fills : Handle → ℕ → List ℕ → List ℕ → Result Unit Error → Type 0
@@ -163,7 +165,8 @@ MemoryFills handle offset buffer filled old result new = (new ≡ old) × Fills 
 abbrev pub MemorySyncs : Handle → Store → Result Unit Error → Store → Type 0
 MemorySyncs handle old result new = MatchResult result
     (λ _. (is_there handle.number old ≡ true) × (new ≡ published handle.number handle.live old))
-    (λ e. (new ≡ old) × (((e ≡ BlobMissing) × (is_there handle.number old ≡ false)) ⊎ ((e ≡ Memory) × (is_there handle.number old ≡ true))))
+    (λ e. (new ≡ old) × (((e ≡ BlobMissing) × (is_there handle.number old ≡ false))
+    ⊎ ((e ≡ Memory) × (is_there handle.number old ≡ true))))
 
 -- what a removal gives
 abbrev pub MemoryRemoves : Store → List ℕ → Option (List ℕ) → Result Unit Error → Store → Type 0

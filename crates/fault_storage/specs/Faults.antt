@@ -18,7 +18,8 @@ use Rattle.fault_storage.specs.DrawsCode.{rate_of}
 abbrev pub IsNotMade : {T : Type 0} → Result T Error → Type 0
 IsNotMade result = (result ≡ Err NumberEnded) ⊎ (result ≡ Err Memory)
 
--- A call of a store beside a generator. Refused as not made it takes no word; else one draw decides whether the store answers.
+-- A call of a store beside a generator. Refused as not made it takes no word; else one draw decides whether a fault is injected or
+-- the store answers.
 abbrev pub IsDrawnCall : {S R T : Type 0} → (R → Stream) → Call → Probability → (S → Result T Error → S → Type 0)
     → S → R → Result T Error → S → R → Type 0
 IsDrawnCall stream call rate Answers old rng result new left = let drawn = sample (rate_of rate) (stream rng) in
@@ -26,8 +27,8 @@ IsDrawnCall stream call rate Answers old rng result new left = let drawn = sampl
     ⊎ ((drawn.0 ≡ true) × (result ≡ Err (Injected call)) × (new ≡ old) × (stream left ≡ drawn.1))
     ⊎ ((drawn.0 ≡ false) × (IsNotMade result → ⊥) × Answers old result new × (stream left ≡ drawn.1))
 
--- A call that may fail. Where the count of faults has ended, it is not made; nor where the store below refuses it so: no word is taken.
--- Else one draw decides: it injects a fault, which is counted, and the store below stays, or that store answers.
+-- A call that may fail. Where the count of faults has ended, it is not made; nor where the store below refuses it so: no word is
+-- taken. Else one draw decides: it injects a fault, which is counted, and the store below stays, or that store answers.
 abbrev pub IsFaultyCall : {S R T : Type 0} → (R → Stream) → Call → Probability → (S → Result T Error → S → Type 0)
     → Storage S R → Result T Error → Storage S R → Type 0
 IsFaultyCall stream call rate Answers old result new = let drawn = sample (rate_of rate) (stream old.rng) in
