@@ -7,3 +7,4 @@ pub mod Places
 pub mod Torn
 pub mod Overlays
 pub mod Created
+pub mod Fronts

@@ -2,6 +2,8 @@
 use Rattle.std.specs.Prelude.{◌≡◌, ℕ, ◌+◌, ◌-◌, ◌^◌, ◌⊎◌, nat_le, Bool, true, false, not, if◌then◌else◌, Option, Some, None, Result, MatchResult, List, [], ◌∷◌, ◌++◌, length, take, filter, map}
 use Rattle.std.specs.List.{list_any}
 use Rattle.std.specs.Str.{bytes_eq}
+use Rattle.std.specs.declared.vec.Vec.{Vec}
+use Rattle.std.specs.declared.alloc.Global.{Global}
 use Rattle.fault_storage.specs.declared.stored.StoredFile.{StoredFile}
 use Rattle.fault_storage.specs.declared.header.Layouts.{Layouts}
 use Rattle.fault_storage.specs.declared.header.Resolved.{Resolved}
@@ -9,13 +11,13 @@ use Rattle.fault_storage.specs.declared.header.Versions.{Versions}
 use Rattle.fault_storage.specs.declared.error.HeaderError.{HeaderError}
 use Rattle.fault_storage.specs.declared.header.Layout.TheVariants.{V0, V1}
 use Rattle.fault_storage.specs.declared.error.Error.{Error}
-use Rattle.fault_storage.specs.declared.error.Error.TheVariants.{BlobMissing, PartitionMissing, PartitionNameInvalid, Header, NumberEnded, Memory}
+use Rattle.fault_storage.specs.declared.error.Error.TheVariants.{BlobInsufficientLength, BlobMissing, PartitionMissing, PartitionNameInvalid, Header, NumberEnded, Memory}
 use Rattle.fault_storage.specs.declared.storage.Opened.{Opened}
 use Rattle.fault_storage.specs.Names.{is_partition_name}
 use Rattle.fault_storage.specs.Files.{durable_bytes}
 use Rattle.fault_storage.specs.Headers.{created, IsUnmade, first_fault, file_checks, resolved_of}
 use Rattle.fault_storage.specs.Opens.{is_before, is_name}
-use Rattle.fault_storage.specs.Stores.{Store, Handle, file_with, number_with, changed, without, settled_at}
+use Rattle.fault_storage.specs.Stores.{Store, Handle, file_with, number_with, changed, without, settled_at, has_bytes, bytes_at, is_there, published}
 
 abbrev pub has_name : List ℕ → List ℕ → StoredFile → Bool
 has_name partition name stored = is_name partition name stored.name
@@ -128,6 +130,43 @@ MemoryOpens old partition name versions result new = MatchResult result
     ⊎ ((fault : HeaderError) × (e ≡ Header fault) × (fault_in partition name versions old.files ≡ Some fault))
     ⊎ ((e ≡ NumberEnded) × (old.next ≡ 2 ^ 64 - 1))
     ⊎ (e ≡ Memory)))
+
+-- what the making of a file anew gives: its number
+abbrev pub MemoryPlaces : List ℕ → List ℕ → List ℕ → Store → Result ℕ Error → Store → Type 0
+MemoryPlaces partition name bytes old result new = MatchResult result
+    (λ number. (number ≡ old.next) × (new ≡ placed partition name bytes old))
+    (λ e. (new ≡ old) × (((e ≡ NumberEnded) × (old.next ≡ 2 ^ 64 - 1)) ⊎ (e ≡ Memory)))
+
+-- what a listing gives, and why it is refused
+abbrev pub MemoryScans : List ℕ → Store → Result (Vec (Vec ℕ Global) Global) Error → Store → Type 0
+MemoryScans partition old result new = (new ≡ old) × MatchResult result
+    (λ names. (is_partition_name partition ≡ true) × (has_partition partition old.partitions ≡ true)
+    × (map (λ name. name.items) names.items ≡ names_in partition old.files))
+    (λ e. LacksPartition partition old e
+    ⊎ ((e ≡ Memory) × (is_partition_name partition ≡ true) × (has_partition partition old.partitions ≡ true)))
+
+-- what a read gives
+abbrev pub MemoryReads : Handle → ℕ → ℕ → Store → Result (Vec ℕ Global) Error → Store → Type 0
+MemoryReads handle offset count old result new = (new ≡ old) × MatchResult result
+    (λ bytes. (has_bytes handle offset count ≡ true) × (bytes.items ≡ bytes_at handle offset count))
+    (λ e. ((e ≡ BlobInsufficientLength) × (has_bytes handle offset count ≡ false))
+    ⊎ ((e ≡ Memory) × (has_bytes handle offset count ≡ true)))
+
+-- what a read into a buffer makes of it
+abbrev pub Fills : Handle → ℕ → List ℕ → List ℕ → Result Unit Error → Type 0
+Fills handle offset buffer filled result = MatchResult result
+    (λ _. (has_bytes handle offset (length buffer) ≡ true) × (filled ≡ bytes_at handle offset (length buffer)))
+    (λ e. (e ≡ BlobInsufficientLength) × (has_bytes handle offset (length buffer) ≡ false) × (filled ≡ buffer))
+
+abbrev pub MemoryFills : Handle → ℕ → List ℕ → List ℕ → Store → Result Unit Error → Store → Type 0
+MemoryFills handle offset buffer filled old result new = (new ≡ old) × Fills handle offset buffer filled result
+
+-- what a sync makes durable: the live bytes
+abbrev pub MemorySyncs : Handle → Store → Result Unit Error → Store → Type 0
+MemorySyncs handle old result new = MatchResult result
+    (λ _. (is_there handle.number old ≡ true) × (new ≡ published handle.number handle.live old))
+    (λ e. (new ≡ old) × (((e ≡ BlobMissing) × (is_there handle.number old ≡ false))
+    ⊎ ((e ≡ Memory) × (is_there handle.number old ≡ true))))
 
 -- what a removal gives
 abbrev pub MemoryRemoves : Store → List ℕ → Option (List ℕ) → Result Unit Error → Store → Type 0

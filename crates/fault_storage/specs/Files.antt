@@ -1,6 +1,6 @@
 -- A file is a base and one uncut log of mutations in the order of issue. What is durable is the base with the fixed mutations
 -- alone; what a crash leaves is the base with all of them, the others by choices that are drawn.
-use Rattle.std.specs.Prelude.{ℕ, ◌+◌, ◌-◌, ◌≤◌, Bool, true, false, if◌then◌else◌, List, [], ◌∷◌, ◌++◌, length, take, drop, replicate}
+use Rattle.std.specs.Prelude.{ℕ, ⊤, ◌+◌, ◌-◌, ◌≤◌, Bool, true, false, if◌then◌else◌, List, [], ◌∷◌, ◌++◌, length, take, drop, replicate}
 use Rattle.rand_core.specs.Stream.{Stream}
 use Rattle.fault_storage.specs.Draws.{Rate, Mode, sample, kept_bytes}
 
@@ -69,6 +69,17 @@ unfoldable pub crashed : List ℕ → List Mutation → Stream → List ℕ × S
 crashed base [] words = (base, words)
 crashed base (mutation ∷ later) words =
     let drawn = drawn_choice mutation words in crashed (applied drawn.0 mutation base) later drawn.1
+
+-- a mutation changes none of so many first bytes
+abbrev pub IsPast : ℕ → Mutation → Type 0
+IsPast size (written offset bytes mode rate) = size ≤ offset
+IsPast size (fixed offset bytes kept) = size ≤ offset
+IsPast size (resized_to length_asked rate) = size ≤ length_asked
+
+-- and none of a log does
+abbrev pub ArePast : ℕ → List Mutation → Type 0
+ArePast size [] = ⊤
+ArePast size (mutation ∷ later) = IsPast size mutation × ArePast size later
 
 -- a file: a base, and its uncut log
 pub record File : Type 0 where

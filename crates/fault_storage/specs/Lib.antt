@@ -10,3 +10,4 @@ pub mod Opens
 pub mod Settings
 pub mod Stores
 pub mod Directory
+pub mod Faults

@@ -74,6 +74,10 @@ issued number mutation store =
 abbrev pub without : ℕ → List ℕ → List ℕ
 without number order = filter (λ other. not (other == number)) order
 
+-- without the turns of files that are gone
+abbrev pub without_retired : Store → Store
+without_retired store = record store { order = filter (λ number. is_there number store) store.order }
+
 -- bytes that are published are the base of their file, whose log is empty
 abbrev pub published : ℕ → List ℕ → Store → Store
 published number bytes store = record store {

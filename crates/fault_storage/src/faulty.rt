@@ -6,17 +6,21 @@
 //!
 //! A call that answers F8 or F9 has taken no word and changed nothing. The draw comes before every other check of the store.
 
-ghost use Rattle.std.specs.Prelude.{◌≡◌, ◌≢◌, ◌+◌, ◌-◌, ◌^◌, ◌<◌, ◌⊎◌, Err, Ok, IfOk, IfErr, OnOk, OnErr, map, true, false, if◌then◌else◌};
+ghost use Rattle.std.specs.Prelude.{◌≡◌, ◌+◌, ◌-◌, ◌^◌, ◌<◌, ◌⊎◌, Err, Ok, IfErr, OnOk, OnErr, true, if◌then◌else◌};
 ghost use Rattle.std.specs.List.{list_any};
 ghost use Rattle.fault_storage.specs.Draws.{sample};
 ghost use Rattle.fault_storage.specs.DrawsCode.{rate_of};
-ghost use Rattle.fault_storage.specs.Stores.{is_there, published, crashed_store, has_bytes, bytes_at};
-ghost use Rattle.fault_storage.specs.Directory.{has_name, names_in, admitted, LacksName};
+ghost use Rattle.fault_storage.specs.Stores.{without_retired, published, crashed_store};
+ghost use Rattle.fault_storage.specs.Directory.{has_name, admitted, LacksName, MemoryRemoves, MemoryScans, MemoryReads, MemoryFills, MemorySyncs};
+ghost use Rattle.fault_storage.specs.declared.error.Call.TheVariants.{Open, Remove};
+ghost use Rattle.fault_storage.specs.Faults.{IsFaultyCall, FaultyOpens, unwrapped};
 
 use crate::config::Config;
 use crate::error::{Call, Error};
+use crate::header::Versions;
 use crate::memory;
 use crate::probability::Probability;
+use crate::storage::Opened;
 use rand_core::Rng;
 
 /// A store that fails. In the Rust: `commonware_runtime::storage::faulty::Storage`.
@@ -87,9 +91,17 @@ impl<R: Rng> Storage<memory::Storage, R> {
     {
         let is_injected = rate.sample(&mut self.rng);
         if is_injected {
-            self.injections += 1;
+            self.count_fault();
         }
         is_injected
+    }
+
+    // One more fault was injected.
+    fn count_fault(&mut self)
+        requires { self.old.injections < 2 ^ 64 - 1 }
+        ensures { self.new ≡ record self.old { injections = self.old.injections + 1 } }
+    {
+        self.injections += 1;
     }
 
     /// A crash: of what is not durable it leaves what is drawn, in the order of issue. It takes no memory.
@@ -99,6 +111,14 @@ impl<R: Rng> Storage<memory::Storage, R> {
         ensures rest { (self.new.injections ≡ self.old.injections) × (self.new.config ≡ self.old.config) }
     {
         self.inner.settle_all(&mut self.rng);
+    }
+
+    /// Forgets what is kept of files that are gone: their turns at a crash, which they no longer take.
+    /// In the Rust: `commonware_runtime::storage::faulty::Storage::remove_retired`.
+    pub fn remove_retired(&mut self)
+        ensures { self.new ≡ record self.old { inner = without_retired self.old.inner } }
+    {
+        self.inner.remove_retired();
     }
 
     /// Makes what is durable of the file the base, and forgets its other mutations: what an opening showed stays. F3, F2, F1, F9; no
@@ -116,13 +136,7 @@ impl<R: Rng> Storage<memory::Storage, R> {
     /// The names of the partition's blobs in byte order. F8: the count of faults has ended; F9; F6; F3, F2.
     /// In the Rust: `commonware_runtime::Storage::scan`.
     pub fn scan(&mut self, partition: &str) -> Result<Vec<Vec<u8>>, Error>
-        ensures ended { self.old.injections ≡ 2 ^ 64 - 1 → result ≡ Err Error.NumberEnded }
-        ensures unmade { (result ≡ Err Error.NumberEnded) ⊎ (result ≡ Err Error.Memory) → (R.stream self.new.rng ≡ R.stream self.old.rng) × (self.new.injections ≡ self.old.injections) }
-        ensures drawn { result ≢ Err Error.NumberEnded → result ≢ Err Error.Memory → R.stream self.new.rng ≡ (sample (rate_of self.old.config.scan) (R.stream self.old.rng)).1 }
-        ensures injected { result ≢ Err Error.NumberEnded → result ≢ Err Error.Memory → (sample (rate_of self.old.config.scan) (R.stream self.old.rng)).0 ≡ true → (result ≡ Err (Error.Injected Call.Scan)) × (self.new.injections ≡ self.old.injections + 1) }
-        ensures counted { result ≢ Err (Error.Injected Call.Scan) → self.new.injections ≡ self.old.injections }
-        ensures ok { IfOk result (λ names. ((sample (rate_of self.old.config.scan) (R.stream self.old.rng)).0 ≡ false) × (map (λ name. name.items) names.items ≡ names_in partition.now self.old.inner.files)) }
-        ensures rest { (self.new.inner ≡ self.old.inner) × (self.new.config ≡ self.old.config) }
+        ensures { IsFaultyCall (R.stream) Call.Scan self.old.config.scan (MemoryScans partition.now) self.old result self.new }
     {
         if self.injections == u64::MAX {
             return Err(Error::NumberEnded);
@@ -135,6 +149,62 @@ impl<R: Rng> Storage<memory::Storage, R> {
             return Err(Error::Injected(Call::Scan));
         }
         names
+    }
+}
+
+impl<R: Rng> crate::storage::Storage for Storage<memory::Storage, R> {
+    type Blob = Blob<memory::Blob>;
+
+    ghost opens = { λ old partition name versions result new. IsFaultyCall (R.stream) Open old.config.«open» (FaultyOpens partition name versions) old result new };
+
+    ghost removes = { λ old partition name result new. IsFaultyCall (R.stream) Remove old.config.remove (λ below. MemoryRemoves below partition name) old result new };
+
+    fn open_versioned(
+        &mut self,
+        partition: &str,
+        name: &[u8],
+        versions: Versions,
+    ) -> Result<Opened<Blob<memory::Blob>>, Error> {
+        if self.injections == u64::MAX {
+            return Err(Error::NumberEnded);
+        }
+        let opened = self
+            .inner
+            .open_unless(&mut self.rng, self.config.open, partition, name, versions);
+        match opened {
+            Ok(opened) => Ok(wrap(opened)),
+            Err(Error::Injected(call)) => {
+                self.count_fault();
+                Err(Error::Injected(call))
+            }
+            Err(e) => Err(e),
+        }
+    }
+
+    fn remove(&mut self, partition: &str, name: Option<&[u8]>) -> Result<(), Error> {
+        if self.injections == u64::MAX {
+            return Err(Error::NumberEnded);
+        }
+        if self.injects(self.config.remove) {
+            return Err(Error::Injected(Call::Remove));
+        }
+        self.inner.remove(partition, name)
+    }
+}
+
+// The blob of the store below as one of the store that fails.
+fn wrap(opened: Opened<memory::Blob>) -> Opened<Blob<memory::Blob>>
+    ensures { unwrapped result ≡ opened }
+{
+    let Opened {
+        blob,
+        size,
+        version,
+    } = opened;
+    Opened {
+        blob: Blob::new(blob),
+        size,
+        version,
     }
 }
 
@@ -168,14 +238,7 @@ impl Blob<memory::Blob> {
         offset: u64,
         count: usize,
     ) -> Result<Vec<u8>, Error>
-        ensures ended { storage.old.injections ≡ 2 ^ 64 - 1 → result ≡ Err Error.NumberEnded }
-        ensures unmade { (result ≡ Err Error.NumberEnded) ⊎ (result ≡ Err Error.Memory) → (R.stream storage.new.rng ≡ R.stream storage.old.rng) × (storage.new.injections ≡ storage.old.injections) }
-        ensures drawn { result ≢ Err Error.NumberEnded → result ≢ Err Error.Memory → R.stream storage.new.rng ≡ (sample (rate_of storage.old.config.read) (R.stream storage.old.rng)).1 }
-        ensures injected { result ≢ Err Error.NumberEnded → result ≢ Err Error.Memory → (sample (rate_of storage.old.config.read) (R.stream storage.old.rng)).0 ≡ true → (result ≡ Err (Error.Injected Call.Read)) × (storage.new.injections ≡ storage.old.injections + 1) }
-        ensures counted { result ≢ Err (Error.Injected Call.Read) → storage.new.injections ≡ storage.old.injections }
-        ensures ok { IfOk result (λ bytes. ((sample (rate_of storage.old.config.read) (R.stream storage.old.rng)).0 ≡ false) × (has_bytes self.now.inner offset count ≡ true) × (bytes.items ≡ bytes_at self.now.inner offset count)) }
-        ensures short { result ≡ Err Error.BlobInsufficientLength → has_bytes self.now.inner offset count ≡ false }
-        ensures rest { (storage.new.inner ≡ storage.old.inner) × (storage.new.config ≡ storage.old.config) }
+        ensures { IsFaultyCall (R.stream) Call.Read storage.old.config.read (MemoryReads self.now.inner offset count) storage.old result storage.new }
     {
         if storage.injections == u64::MAX {
             return Err(Error::NumberEnded);
@@ -190,24 +253,41 @@ impl Blob<memory::Blob> {
         bytes
     }
 
-    /// Makes the live bytes durable. F8: the count of faults has ended; F9; F6, and nothing is published; F1: the blob is gone.
-    pub fn sync<R: Rng>(&self, storage: &mut Storage<memory::Storage, R>) -> Result<(), Error>
-        ensures ended { storage.old.injections ≡ 2 ^ 64 - 1 → result ≡ Err Error.NumberEnded }
-        ensures unmade { result ≡ Err Error.NumberEnded ⊎ result ≡ Err Error.Memory → (storage.new.inner ≡ storage.old.inner) × (R.stream storage.new.rng ≡ R.stream storage.old.rng) × (storage.new.injections ≡ storage.old.injections) }
-        ensures drawn { result ≢ Err Error.NumberEnded → result ≢ Err Error.Memory → R.stream storage.new.rng ≡ (sample (rate_of storage.old.config.sync) (R.stream storage.old.rng)).1 }
-        ensures injected { result ≢ Err Error.NumberEnded → result ≢ Err Error.Memory → (sample (rate_of storage.old.config.sync) (R.stream storage.old.rng)).0 ≡ true → (result ≡ Err (Error.Injected Call.Sync)) × (storage.new.injections ≡ storage.old.injections + 1) × (storage.new.inner ≡ storage.old.inner) }
-        ensures counted { result ≢ Err (Error.Injected Call.Sync) → storage.new.injections ≡ storage.old.injections }
-        ensures ok { OnOk result ((sample (rate_of storage.old.config.sync) (R.stream storage.old.rng)).0 ≡ false × (is_there self.now.inner.number storage.old.inner ≡ true) × (storage.new.inner ≡ published self.now.inner.number self.now.inner.live storage.old.inner)) }
-        ensures gone { result ≡ Err Error.BlobMissing → (is_there self.now.inner.number storage.old.inner ≡ false) × (storage.new.inner ≡ storage.old.inner) }
-        ensures config { storage.new.config ≡ storage.old.config }
+    /// Reads into the buffer from an offset on, and fills it; refused, it stays as it is. F8: the count of faults has ended; F6; F7: the
+    /// bytes are not all there.
+    pub fn read_at_buf<R: Rng>(
+        &self,
+        storage: &mut Storage<memory::Storage, R>,
+        offset: u64,
+        buffer: &mut [u8],
+    ) -> Result<(), Error>
+        ensures call { IsFaultyCall (R.stream) Call.Read storage.old.config.read (MemoryFills self.now.inner offset buffer.old buffer.new) storage.old result storage.new }
+        ensures kept { OnErr result (buffer.new ≡ buffer.old) }
     {
         if storage.injections == u64::MAX {
             return Err(Error::NumberEnded);
         }
-        let bytes = self.inner.copy_live(&storage.inner)?;
+        if storage.injects(storage.config.read) {
+            return Err(Error::Injected(Call::Read));
+        }
+        self.inner.read_at_buf(offset, buffer)
+    }
+
+    /// Makes the live bytes durable. F8: the count of faults has ended; F9; F6, and nothing is published; F1: the blob is gone.
+    pub fn sync<R: Rng>(&self, storage: &mut Storage<memory::Storage, R>) -> Result<(), Error>
+        ensures { IsFaultyCall (R.stream) Call.Sync storage.old.config.sync (MemorySyncs self.now.inner) storage.old result storage.new }
+    {
+        if storage.injections == u64::MAX {
+            return Err(Error::NumberEnded);
+        }
+        let live = self.inner.copy_live(&storage.inner)?;
         if storage.injects(storage.config.sync) {
             return Err(Error::Injected(Call::Sync));
         }
-        self.inner.publish(&mut storage.inner, bytes)
+        let Some(bytes) = live else {
+            return Err(Error::BlobMissing);
+        };
+        self.inner.publish(&mut storage.inner, bytes);
+        Ok(())
     }
 }

@@ -1,7 +1,8 @@
 //! The store in memory.
 
-ghost use Rattle.std.specs.Prelude.{◌≡◌, ℕ, ◌+◌, ◌-◌, ◌^◌, ◌<◌, ◌≤◌, ◌⊎◌, ◌↔◌, [], false, true, Err, IfOk, IfErr, IfNone, IfSome, None, Some, OnOk, OnErr, MatchOption, List, filter, map, length};
+ghost use Rattle.std.specs.Prelude.{◌≡◌, not, MatchResult, Ok, ◌+◌, ◌-◌, ◌^◌, ◌<◌, ◌≤◌, ◌⊎◌, ◌↔◌, [], false, true, Err, IfOk, IfErr, IfNone, IfSome, None, Some, OnOk, OnErr, MatchOption, filter, length};
 ghost use Rattle.std.specs.List.{list_any};
+ghost use Rattle.std.specs.Vec.{vec_len, vec_capacity};
 ghost use Rattle.fault_storage.specs.DrawsCode.{rate_of, mode_of};
 ghost use Rattle.fault_storage.specs.Files.{written, fixed, resized_to, with_bytes, with_kept, resized};
 ghost use Rattle.fault_storage.specs.FilesCode.{mutation_of};
@@ -9,9 +10,10 @@ ghost use Rattle.fault_storage.specs.Names.{is_partition_name};
 ghost use Rattle.fault_storage.specs.declared.error.HeaderError.{HeaderError};
 ghost use Rattle.fault_storage.specs.declared.header.Layout.TheVariants.{V0};
 ghost use Rattle.fault_storage.specs.Headers.{created};
-ghost use Rattle.fault_storage.specs.Directory.{MemoryOpens, MemoryRemoves, IsMissing, fault_in, handle_in, shown_in, new_handle, has_name, has_partition, names_in, placed, admitted, removed, removed_partition, LacksName, LacksPartition};
+ghost use Rattle.fault_storage.specs.Faults.{IsDrawnCall};
+ghost use Rattle.fault_storage.specs.Directory.{in_order, with_partition, MemoryOpens, MemoryPlaces, MemoryRemoves, MemoryScans, MemoryReads, Fills, MemorySyncs, IsMissing, fault_in, handle_in, shown_in, new_handle, has_name, has_partition, names_in, placed, admitted, removed, removed_partition, LacksName, LacksPartition};
 ghost use Rattle.fault_storage.specs.Draws.{never};
-ghost use Rattle.fault_storage.specs.Stores.{Store, Handle, memory_write, fixed_write, resizing, showing, has_bytes, bytes_at, IsPlace, has_number, is_there, issued, published, without, changed, with_issued, settled_at, settled_in, crashed_files, crashed_store};
+ghost use Rattle.fault_storage.specs.Stores.{Store, Handle, memory_write, fixed_write, resizing, showing, IsPlace, has_number, is_there, without_retired, issued, published, without, changed, with_issued, settled_at, settled_in, crashed_files, crashed_store};
 
 use crate::blob_file::BlobFile;
 use crate::directory::{
@@ -19,7 +21,7 @@ use crate::directory::{
     remove_files, remove_name, remove_partition,
 };
 use crate::draws::PartialWriteMode;
-use crate::error::Error;
+use crate::error::{Call, Error};
 use crate::file::{Mutation, Written};
 use crate::header::{Header, Layout, Layouts, Versions, resolve};
 use crate::opens::BlobName;
@@ -112,6 +114,36 @@ fn keep_turns(order: &mut Vec<u64>, files: &[StoredFile])
     order.retain(|number| has_file(files, *number));
 }
 
+// Puts the file in its place in order, and takes those away that have the name. There is room for it.
+fn replace_file(files: &mut Vec<StoredFile>, partition: &str, name: &[u8], stored: StoredFile)
+    requires { vec_len files.old < vec_capacity files.old }
+    ensures { files.new.items ≡ in_order stored (filter (λ other. not (has_name partition.now name.now other)) files.old.items) }
+{
+    remove_name(files, partition, name);
+    put_in_order(files, stored);
+}
+
+// Notes the partition where it is not there. There is room for it.
+fn note_partition(partitions: &mut Vec<PartitionName>, partition: &str, noted: PartitionName)
+    requires room { vec_len partitions.old < vec_capacity partitions.old }
+    requires name { noted ≡ partition.now }
+    ensures { partitions.new.items ≡ with_partition partition.now partitions.old.items }
+{
+    if !has_partition(partitions, partition) {
+        let _ = partitions.push(noted);
+    }
+}
+
+// The next number, which is given once.
+fn take_number(next: &mut u64) -> u64
+    requires { next.old < 2 ^ 64 - 1 }
+    ensures { (result ≡ next.old) × (next.new ≡ next.old + 1) }
+{
+    let number = *next;
+    *next += 1;
+    number
+}
+
 // Whether there is a file with this number.
 fn has_file(files: &[StoredFile], number: u64) -> bool
     ensures { result ≡ list_any (has_number number) files.now }
@@ -171,7 +203,7 @@ impl Storage {
     /// Forgets what is kept of files that are gone: their turns at a crash, which they no longer take.
     /// In the Rust: `commonware_runtime::storage::faulty::Storage::remove_retired`.
     pub fn remove_retired(&mut self)
-        ensures { self.new ≡ record self.old { order = filter (λ number. is_there number self.old) self.old.order } }
+        ensures { self.new ≡ without_retired self.old }
     {
         keep_turns(&mut self.order, &self.files);
     }
@@ -179,10 +211,7 @@ impl Storage {
     /// The names of the partition's blobs in byte order. F3, F2 (there is no such partition), F9.
     /// In the Rust: `commonware_runtime::Storage::scan`.
     pub fn scan(&self, partition: &str) -> Result<Vec<Vec<u8>>, Error>
-        ensures ok { IfOk result (λ names. (is_partition_name partition.now ≡ true) × (has_partition partition.now self.now.partitions ≡ true) × (map (λ name. name.items) names.items ≡ names_in partition.now self.now.files)) }
-        ensures invalid { (result ≡ Err Error.PartitionNameInvalid) ↔ (is_partition_name partition.now ≡ false) }
-        ensures missing { (result ≡ Err Error.PartitionMissing) ↔ ((is_partition_name partition.now ≡ true) × (has_partition partition.now self.now.partitions ≡ false)) }
-        ensures refused { IfErr result (λ e. (e ≡ Error.PartitionNameInvalid) ⊎ (e ≡ Error.PartitionMissing) ⊎ (e ≡ Error.Memory)) }
+        ensures { MemoryScans partition.now self.now result self.now }
     {
         self.find_partition(partition)?;
         let names = names_in(self.alloc, &self.files, partition)?;
@@ -227,8 +256,7 @@ impl Storage {
 
     // Makes a file anew under the name, with the next number. F8, F9.
     fn place_file(&mut self, partition: &str, name: &[u8], base: Vec<u8>) -> Result<u64, Error>
-        ensures ok { IfOk result (λ number. (number ≡ self.old.next) × (self.new ≡ placed partition.now name.now base.items self.old)) }
-        ensures err { IfErr result (λ e. (self.new ≡ self.old) × (((e ≡ Error.NumberEnded) × (self.old.next ≡ 2 ^ 64 - 1)) ⊎ (e ≡ Error.Memory))) }
+        ensures { MemoryPlaces partition.now name.now base.items self.old result self.new }
     {
         if self.next == u64::MAX {
             return Err(Error::NumberEnded);
@@ -242,14 +270,40 @@ impl Storage {
             number: self.next,
             file: BlobFile::new(self.alloc, base),
         };
-        remove_name(&mut self.files, partition, name);
-        put_in_order(&mut self.files, stored);
-        if !has_partition(&self.partitions, partition) {
-            let _ = self.partitions.push(noted_partition);
+        replace_file(&mut self.files, partition, name, stored);
+        note_partition(&mut self.partitions, partition, noted_partition);
+        Ok(take_number(&mut self.next))
+    }
+
+    // Makes a file anew as `place_file` does, where one draw does not come true: it comes after room was found. F8, F9, F6.
+    fn place_file_unless<R: Rng>(
+        &mut self,
+        rng: &mut R,
+        rate: Probability,
+        partition: &str,
+        name: &[u8],
+        base: Vec<u8>,
+    ) -> Result<u64, Error>
+        ensures { IsDrawnCall (R.stream) Call.Open rate (MemoryPlaces partition.now name.now base.items) self.old rng.old result self.new rng.new }
+    {
+        if self.next == u64::MAX {
+            return Err(Error::NumberEnded);
         }
-        let number = self.next;
-        self.next += 1;
-        Ok(number)
+        let noted = BlobName::new(self.alloc, partition, name)?;
+        let noted_partition = PartitionName::new(self.alloc, partition)?;
+        self.files.reserve(1)?;
+        self.partitions.reserve(1)?;
+        if rate.sample(rng) {
+            return Err(Error::Injected(Call::Open));
+        }
+        let stored = StoredFile {
+            name: noted,
+            number: self.next,
+            file: BlobFile::new(self.alloc, base),
+        };
+        replace_file(&mut self.files, partition, name, stored);
+        note_partition(&mut self.partitions, partition, noted_partition);
+        Ok(take_number(&mut self.next))
     }
 
     /// Makes the bytes the durable file of this name, in place of one that had it: values of that one are of a blob that is gone. F3,
@@ -283,6 +337,21 @@ impl Storage {
         forget_turns(&mut self.order, durable.number);
         publish_name(&mut self.files, partition, name, durable.bytes);
         Ok(())
+    }
+
+    // The blob of this name, or None where it has no header yet. F3, F5, F9.
+    fn look_up(
+        &self,
+        partition: &str,
+        name: &[u8],
+        versions: Versions,
+    ) -> Result<Option<Opened<Blob>>, Error>
+        ensures none { IfOk result (λ found. (is_partition_name partition.now ≡ true) × IfNone found (IsMissing partition.now name.now self.now.files)) }
+        ensures some { IfOk result (λ found. IfSome found (λ opened. MemoryOpens self.now partition.now name.now versions (Ok opened) self.now)) }
+        ensures err { IfErr result (λ e. MemoryOpens self.now partition.now name.now versions (Err e) self.now × ((e ≡ Error.NumberEnded) → ⊥)) }
+    {
+        validate_partition_name(partition)?;
+        self.find_blob(partition, name, versions)
     }
 
     // The blob of this name, or None where it has no header yet. F5, F9.
@@ -348,6 +417,64 @@ impl Storage {
         })
     }
 
+    // Creates the blob as `create_blob` does, where one draw does not come true. F8, F9, F6.
+    fn create_blob_unless<R: Rng>(
+        &mut self,
+        rng: &mut R,
+        rate: Probability,
+        partition: &str,
+        name: &[u8],
+        versions: Versions,
+    ) -> Result<Opened<Blob>, Error>
+        ensures { IsDrawnCall (R.stream) Call.Open rate (λ below result after. MatchResult result
+            (λ opened. (opened ≡ record { blob = new_handle below.next versions; size = 0; version = versions.greatest }) × (after ≡ placed partition.now name.now (created V0 versions.greatest) below))
+            (λ e. (after ≡ below) × (((e ≡ Error.NumberEnded) × (below.next ≡ 2 ^ 64 - 1)) ⊎ (e ≡ Error.Memory))))
+            self.old rng.old result self.new rng.new }
+    {
+        let layouts = Layouts {
+            least: Layout::V0,
+            greatest: Layout::V0,
+        };
+        let (region, version) = Header::create(self.alloc, layouts, versions)?;
+        let live = region.to_vec(self.alloc)?;
+        let number = self.place_file_unless(rng, rate, partition, name, region)?;
+        Ok(Opened {
+            blob: Blob {
+                number,
+                offset: 8,
+                live,
+            },
+            size: 0,
+            version,
+        })
+    }
+
+    /// Opens the blob of this name as `open_versioned` does, where one draw does not come true: it comes after room was found for all.
+    /// F8, F9; F6; F3, F5.
+    pub fn open_unless<R: Rng>(
+        &mut self,
+        rng: &mut R,
+        rate: Probability,
+        partition: &str,
+        name: &[u8],
+        versions: Versions,
+    ) -> Result<Opened<Blob>, Error>
+        ensures { IsDrawnCall (R.stream) Call.Open rate (λ below. MemoryOpens below partition.now name.now versions) self.old rng.old result self.new rng.new }
+    {
+        let found = match self.look_up(partition, name, versions) {
+            Ok(None) => {
+                return self.create_blob_unless(rng, rate, partition, name, versions);
+            }
+            Err(Error::Memory) => return Err(Error::Memory),
+            Ok(Some(opened)) => Ok(opened),
+            Err(e) => Err(e),
+        };
+        if rate.sample(rng) {
+            return Err(Error::Injected(Call::Open));
+        }
+        found
+    }
+
     /// Settles all mutations, as a crash does, in the order of issue.
     pub fn settle_all<R: Rng>(&mut self, rng: &mut R)
         ensures { (self.new, R.stream rng.new) ≡ crashed_store self.old (R.stream rng.old) }
@@ -370,8 +497,7 @@ impl crate::storage::Storage for Storage {
         name: &[u8],
         versions: Versions,
     ) -> Result<Opened<Blob>, Error> {
-        validate_partition_name(partition)?;
-        if let Some(opened) = self.find_blob(partition, name, versions)? {
+        if let Some(opened) = self.look_up(partition, name, versions)? {
             return Ok(opened);
         }
         self.create_blob(partition, name, versions)
@@ -410,8 +536,7 @@ fn end_of(start: usize, offset: u64, count: usize) -> Option<usize>
 impl Blob {
     /// So many bytes from an offset on. F7: they are not all there; F9. In the Rust: `commonware_runtime::Blob::read_at`.
     pub fn read_at(&self, storage: &Storage, offset: u64, count: usize) -> Result<Vec<u8>, Error>
-        ensures ok { IfOk result (λ bytes. (has_bytes self.now offset count ≡ true) × (bytes.items ≡ bytes_at self.now offset count)) }
-        ensures err { IfErr result (λ e. ((e ≡ Error.BlobInsufficientLength) × (has_bytes self.now offset count ≡ false)) ⊎ ((e ≡ Error.Memory) × (has_bytes self.now offset count ≡ true))) }
+        ensures { MemoryReads self.now offset count storage.now result storage.now }
     {
         let Some(end) = end_of(self.offset, offset, count) else {
             return Err(Error::BlobInsufficientLength);
@@ -426,8 +551,7 @@ impl Blob {
     /// Reads into the buffer from an offset on, and fills it. F7, and it stays as it is: not all bytes are there.
     /// In the Rust: `commonware_runtime::Blob::read_at_buf`.
     pub fn read_at_buf(&self, offset: u64, buffer: &mut [u8]) -> Result<(), Error>
-        ensures ok { OnOk result ((has_bytes self.now offset (length buffer.old) ≡ true) × (buffer.new ≡ bytes_at self.now offset (length buffer.old))) }
-        ensures err { IfErr result (λ e. (e ≡ Error.BlobInsufficientLength) × (has_bytes self.now offset (length buffer.old) ≡ false) × (buffer.new ≡ buffer.old)) }
+        ensures { Fills self.now offset buffer.old buffer.new result }
     {
         let Some(end) = end_of(self.offset, offset, buffer.len()) else {
             return Err(Error::BlobInsufficientLength);
@@ -596,37 +720,32 @@ impl Blob {
         Ok(())
     }
 
-    /// A copy of the live bytes, those of the header first. It fails only when out of memory.
-    pub fn copy_live(&self, storage: &Storage) -> Result<Vec<u8>, AllocError>
-        ensures { IfOk result (λ bytes. bytes.items ≡ self.now.live) }
-    {
-        self.live.to_vec(storage.allocator())
-    }
-
-    /// Makes a copy of the live bytes durable. F1: the blob is gone.
-    pub fn publish(&self, storage: &mut Storage, bytes: Vec<u8>) -> Result<(), Error>
-        requires { bytes.items ≡ self.now.live }
-        ensures ok { OnOk result ((is_there self.now.number storage.old ≡ true) × (storage.new ≡ published self.now.number self.now.live storage.old)) }
-        ensures err { IfErr result (λ e. (e ≡ Error.BlobMissing) × (is_there self.now.number storage.old ≡ false) × (storage.new ≡ storage.old)) }
+    /// A copy of the live bytes, those of the header first. None: the blob is gone. It fails only when out of memory.
+    pub fn copy_live(&self, storage: &Storage) -> Result<Option<Vec<u8>>, AllocError>
+        ensures ok { IfOk result (λ live. MatchOption live (is_there self.now.number storage.now ≡ false) (λ bytes. (is_there self.now.number storage.now ≡ true) × (bytes.items ≡ self.now.live))) }
+        ensures err { OnErr result (is_there self.now.number storage.now ≡ true) }
     {
         if !storage.has(self.number) {
-            return Err(Error::BlobMissing);
+            return Ok(None);
         }
+        let bytes = self.live.to_vec(storage.allocator())?;
+        Ok(Some(bytes))
+    }
+
+    /// Makes the bytes of the blob's file durable.
+    pub fn publish(&self, storage: &mut Storage, bytes: Vec<u8>)
+        ensures { storage.new ≡ published self.now.number bytes.items storage.old }
+    {
         storage.publish(self.number, bytes);
-        Ok(())
     }
 
     /// Makes the live bytes durable. F1: the blob is gone; F9. In the Rust: `commonware_runtime::Blob::sync`.
     pub fn sync(&self, storage: &mut Storage) -> Result<(), Error>
-        ensures ok { OnOk result ((is_there self.now.number storage.old ≡ true) × (storage.new ≡ published self.now.number self.now.live storage.old)) }
-        ensures err { OnErr result (storage.new ≡ storage.old) }
-        ensures gone { (result ≡ Err Error.BlobMissing) ↔ (is_there self.now.number storage.old ≡ false) }
-        ensures refused { IfErr result (λ e. (e ≡ Error.BlobMissing) ⊎ (e ≡ Error.Memory)) }
+        ensures { MemorySyncs self.now storage.old result storage.new }
     {
-        if !storage.has(self.number) {
+        let Some(bytes) = self.copy_live(storage)? else {
             return Err(Error::BlobMissing);
-        }
-        let bytes = self.copy_live(storage)?;
+        };
         storage.publish(self.number, bytes);
         Ok(())
     }

@@ -7,7 +7,7 @@ use crate::blob_file::BlobFile;
 use crate::checksum::{Checksum, Crc32};
 use crate::config::Config;
 use crate::draws::{PartialWriteMode, draw_kept_bytes, draw_length_between};
-use crate::error::{Error, HeaderError};
+use crate::error::{Call, Error, HeaderError};
 use crate::file::{Mutation, Written};
 use crate::header::{Layout, Layouts, Resolved, Versions, created_region, resolve};
 use crate::partition::validate_partition_name;
@@ -407,7 +407,7 @@ fn keeps_a_synced_write_past_a_plain_one(rt: HostRuntime) -> Result<(), Fail> {
         assert_eq!(rt; faulty.injections(), 0);
         let mut storage = faulty.into_inner();
         let shown = storage.open_versioned("p", b"n", versions)?.blob;
-        assert_eq!(rt; shown.copy_live(&storage)?.as_slice(), left);
+        assert_eq!(rt; shown.copy_live(&storage)?.as_deref(), Some(left));
         assert_eq!(rt;
             shown.read_at(&storage, 0, 4)?.as_slice(),
             b"\x01\x02\x03\x04".as_slice()
@@ -417,5 +417,55 @@ fn keeps_a_synced_write_past_a_plain_one(rt: HostRuntime) -> Result<(), Fail> {
             Err(Error::BlobInsufficientLength)
         );
     }
+    Ok(())
+}
+
+#[test]
+fn counts_each_fault(rt: HostRuntime) -> Result<(), Error> {
+    let alloc = rt.alloc();
+    let versions = Versions {
+        least: 0,
+        greatest: 0,
+    };
+    let store = memory::Storage::new(alloc);
+    let mut storage = faulty::Storage::new(store, Upward(1), Config::default());
+    let opened = storage.open_versioned("p", b"n", versions)?;
+    assert_eq!(rt; opened.size, 0);
+    let blob = opened.blob;
+    blob.sync(&mut storage)?;
+    let mut buffer = [7];
+    blob.read_at_buf(&mut storage, 0, &mut buffer[..0])?;
+    assert_eq!(rt; blob.read_at(&mut storage, 0, 0)?.len(), 0);
+    assert_eq!(rt; storage.scan("p")?.len(), 1);
+    storage.set_config(
+        Config::default()
+            .open(Probability::ONE)
+            .read(Probability::ONE)
+            .sync(Probability::ONE)
+            .scan(Probability::ONE)
+            .remove(Probability::ONE),
+    );
+    assert_eq!(rt;
+        blob.read_at_buf(&mut storage, 0, &mut buffer),
+        Err(Error::Injected(Call::Read))
+    );
+    assert_eq!(rt;
+        blob.read_at(&mut storage, 0, 0).err(),
+        Some(Error::Injected(Call::Read))
+    );
+    assert_eq!(rt; blob.sync(&mut storage), Err(Error::Injected(Call::Sync)));
+    assert_eq!(rt; storage.scan("p").err(), Some(Error::Injected(Call::Scan)));
+    assert_eq!(rt;
+        storage.remove("p", None),
+        Err(Error::Injected(Call::Remove))
+    );
+    let refused = storage.open_versioned("q", b"n", versions);
+    assert!(rt; matches!(refused, Err(Error::Injected(Call::Open))));
+    assert_eq!(rt; storage.injections(), 6);
+    storage.set_config(Config::default());
+    storage.remove("p", Some(b"n".as_slice()))?;
+    storage.remove_retired();
+    assert_eq!(rt; blob.sync(&mut storage), Err(Error::BlobMissing));
+    assert_eq!(rt; storage.injections(), 6);
     Ok(())
 }
