@@ -4,6 +4,7 @@ pub use Rattle.merkle_forest_parts.specs.Laws.Lists
 pub use Rattle.merkle_forest_parts.specs.Laws.Varint
 pub mod ForestGrowth
 pub mod Hash
+pub mod Matching
 pub mod Maximal
 pub mod MaximalMeaning
 pub mod Mmb

@@ -5,6 +5,7 @@ pub mod Errors
 pub mod Forest
 pub mod Hashing
 pub mod Laws
+pub mod Made
 pub mod Maximal
 pub mod Mmb
 pub mod Mmr
