@@ -8,3 +8,6 @@ pub mod Splits
 pub mod Bags
 pub mod Accepted
 pub mod Short
+pub mod OneRead
+pub mod OneBag
+pub mod OneRoot

@@ -1,8 +1,11 @@
 pub mod Followed
 pub mod Laws
+pub mod MadeRoots
+pub mod MadeTrees
 pub mod Proofs
 pub mod Ranges
 pub mod RangesCode
 pub mod Rebuilt
 pub mod Reconstructed
+pub mod Soundness
 pub mod Walked

@@ -1,14 +1,19 @@
-//! What holds of all proofs of one element.
+//! What holds of all proofs.
 
-ghost use Rattle.std.specs.Prelude.{◌≡◌, ◌<◌, ◌≤◌, ◌+◌, ◌^◌, ℕ, List, length, take, drop, Some};
+ghost use Rattle.std.specs.Prelude.{◌≡◌, ◌<◌, ◌≤◌, ◌+◌, ◌^◌, ℕ, List, length, take, drop, Some, IfSome, IsSomeAnd};
+ghost use Rattle.std.specs.List.{All};
 ghost use Rattle.merkle_forest.specs.declared.bagging.Bagging.{Bagging};
 ghost use Rattle.merkle_forest.specs.Forest.{forest_of};
 ghost use Rattle.merkle_forest.specs.Hashing.{Hash, root_of};
-ghost use Rattle.merkle_forest.specs.Trees.{located, peak_digests};
+ghost use Rattle.merkle_forest.specs.Made.{value};
+ghost use Rattle.merkle_forest.specs.Trees.{located, peak_digests, tree_root};
 ghost use Rattle.merkle_core.specs.Followed.{FollowsIn};
+ghost use Rattle.merkle_core.specs.MadeRoots.{Naming};
+ghost use Rattle.merkle_core.specs.MadeTrees.{Over};
 ghost use Rattle.merkle_core.specs.Ranges.{Digests, range_digests};
 ghost use Rattle.merkle_core.specs.Rebuilt.{Hashing};
 ghost use Rattle.merkle_core.specs.Reconstructed.{reconstructed};
+ghost use Rattle.merkle_core.specs.Soundness.{RangeClaim, claimed_root, IsSound, Makes, list_root, one_root};
 
 use merkle_forest::family::Family;
 use merkle_forest::graftable::Graftable;
@@ -34,4 +39,34 @@ pub fn honest_digests_are_few<F: Graftable>()
         → length (range_digests hash digest bagging location (location + 1)
         (take inactive (located (forest_of F.merge_rule leaves)))
         (drop inactive (located (forest_of F.merge_rule leaves)))) ≤ 122 }
+{}
+
+/// The root of the tree over a list is the value of the term that is made of the list.
+pub fn roots_are_values_of_what_is_made<F: Family>()
+    ensures { (hash : Hash) (bagging : Bagging) (elements : List (List ℕ)) (inactive : ℕ)
+        → value hash (list_root bagging F.merge_rule elements inactive)
+        ≡ tree_root hash bagging F.merge_rule elements inactive }
+{}
+
+/// Where a proof of a range leads to the root of a list, what it claims is true of the list, or the strings hashed for
+/// the list and those rebuilt from the proof have a collision: at one site two strings differ that have one digest.
+pub fn claims_are_true_or_strings_collide<F: Family>()
+    ensures { (hash : Hash) (size : ℕ) (bagging : Bagging) (elements : List (List ℕ)) (inactive : ℕ)
+        (claim : RangeClaim)
+        → ((bytes : List ℕ) → length (hash bytes) ≡ size)
+        → All (λ digest. length digest ≡ size) claim.digests
+        → length elements ≤ 2 ^ 62 → inactive < 2 ^ 64
+        → IfSome (claimed_root bagging F.merge_rule claim)
+        (IsSound hash bagging F.merge_rule elements inactive claim) }
+{}
+
+/// Where a root is reconstructed from one element, it is the value of the term that is read of the proof: so is what
+/// `reconstruct_one` gives.
+pub fn reconstructed_is_read<F: Family>()
+    ensures { (hashing : Hashing) (hash : Hash) (names : Naming) (over : Over) (bagging : Bagging)
+        (leaves inactive location : ℕ) (element : List ℕ) (digests : List (List ℕ)) (root : List ℕ)
+        → Makes hashing hash over
+        → reconstructed hashing hash bagging F.merge_rule leaves inactive location element digests ≡ Some root
+        → IsSomeAnd (one_root names over bagging F.merge_rule leaves inactive location element digests)
+        (λ made. value hash made ≡ root) }
 {}

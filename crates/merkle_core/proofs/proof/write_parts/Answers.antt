@@ -1,4 +1,3 @@
-use Rattle.std.proofs.Common.{◌≡◌, ◌++◌, List, ℕ, Result, Ok, Err, append_assoc, map}
 use Rattle.merkle_core.specs.Laws.Proofs.{parts_written}
 use Rattle.merkle_core.proofs.proof.write_parts.Goals as goal
 

@@ -1,4 +1,4 @@
-use Rattle.std.proofs.Common.{◌∙◌, arith}
+use Rattle.std.proofs.Common.{arith}
 use Rattle.merkle_core.specs.Laws.Proofs.{length-proof}
 use Rattle.merkle_core.proofs.proof.ProofEncodeSize.encode_size.Goals as goal
 
