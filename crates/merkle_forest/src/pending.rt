@@ -9,7 +9,7 @@ ghost use Rattle.std.proofs.Common.{sym, ◌∙◌};
 ghost use Rattle.merkle_forest_parts.specs.Codec.{Outcome, after_fixed, after_option, option_encoding};
 ghost use Rattle.merkle_forest.specs.Forest.{forest_of};
 ghost use Rattle.merkle_forest.specs.Laws.MmrCounts.{all-mmr};
-ghost use Rattle.merkle_forest.specs.Laws.Pending.{encoded-pending, read-pending, value-pending, never-lacks_pending, same-pending, again-pending, once-pending};
+ghost use Rattle.merkle_forest.specs.Laws.Pending.{encoded-pending, read-pending, value-pending, never-lacks_pending, same-pending, again-pending, once-pending, sized-none};
 ghost use Rattle.merkle_forest.specs.Nodes.{nodes_of_height};
 
 use crate::codec::{Cursor, EncodeSize, Error, Read, Write};
@@ -70,6 +70,10 @@ pub trait PendingOf<D: Digest>: Family {
     /// One encoding stands for one digest, and does not begin another encoding.
     ghost pending_once: { (digest other : Option (List ℕ)) (rest more : List ℕ) → is_pending digest → is_pending other
         → pending_encoding digest ++ rest ≡ pending_encoding other ++ more → (digest ≡ other) × (rest ≡ more) };
+
+    /// A digest that a proof may hold has `SIZE` bytes.
+    ghost pending_sized: { (digest : Option (List ℕ)) → is_pending digest
+        → IfSome digest (λ bytes. length bytes ≡ D.SIZE) };
 
     /// A proof may hold no digest.
     ghost none_pending: { is_pending None };
@@ -157,6 +161,8 @@ impl<D: Digest> PendingOf<D> for mmr::Family {
 
     ghost pending_once = { λ _ _ _ _ is was same. (is ∙ sym was, same) };
 
+    ghost pending_sized = { sized-none D.SIZE };
+
     ghost none_pending = { refl };
 
     ghost some_pending = { λ leaves height _ _ _ _ more _. absurd (all-mmr leaves height more) };
@@ -205,6 +211,8 @@ impl<D: Digest> PendingOf<D> for mmb::Family {
     ghost pending_again = { again-pending D.SIZE };
 
     ghost pending_once = { once-pending D.SIZE };
+
+    ghost pending_sized = { λ _ sized. sized };
 
     ghost none_pending = { tt };
 

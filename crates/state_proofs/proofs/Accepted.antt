@@ -154,7 +154,7 @@ leads setting state location pairs law aligned whole few within =
     (chunks setting state) state.operations (length state.operations) location whole
     (aligned (length state.operations)))
 
-index-few : (n bits location : ℕ) → 0 < bits → location < n → location / bits ≤ n / bits
+pub index-few : (n bits location : ℕ) → 0 < bits → location < n → location / bits ≤ n / bits
 index-few n bits location some lt =
     let below : location / bits < n / bits + 1 =
     (div-lt_iff_lt-mul {k = bits} {x = location} {y = n / bits + 1} some).1

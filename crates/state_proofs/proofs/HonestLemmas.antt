@@ -1,14 +1,11 @@
 -- Honest proofs, from what the code computes.
-use Rattle.std.proofs.Common.{◌≡◌, ℕ, ◌+◌, ◌/◌, List, ◌++◌, length, take, drop, Option, append_assoc, refl, ◌∙◌, ap}
-use Rattle.merkle_forest.specs.Codec.{option_encoding}
-use Rattle.merkle_forest.specs.Varint.{varint}
-use Rattle.merkle_core.specs.Proofs.{proof_encoding}
+use Rattle.std.proofs.Common.{◌≡◌, ℕ, List, take, drop, refl, ◌∙◌}
 use Rattle.merkle_forest.specs.declared.bagging.Bagging.{Bagging}
 use Rattle.merkle_forest.specs.declared.bagging.Bagging.TheVariants.{BackwardFold}
 use Rattle.merkle_forest.specs.Forest.{Tree}
 use Rattle.merkle_forest.specs.Trees.{Located, located}
 use Rattle.merkle_core.specs.Ranges.{range_digests}
-use Rattle.state_proofs.specs.Canonical.{Setting, State, chunk_bits, chunk, operations_root, pending_digest, partial_digest, grafted_digests, grafted_inactive, forest, peaks}
+use Rattle.state_proofs.specs.Canonical.{Setting, State, chunk_bits, grafted_digests, grafted_inactive, forest, peaks}
 use Rattle.state_proofs.specs.Grafting.{chunk_aligned_inactive_peaks}
 use Rattle.state_proofs.specs.Honest.{grafted_range}
 

@@ -7,3 +7,4 @@ pub mod FollowLemmas
 pub mod Accepted
 pub mod HonestSizes
 pub mod Extending
+pub mod YesIsTrue

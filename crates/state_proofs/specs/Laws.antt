@@ -1,5 +1,8 @@
 -- Lemmas that crates above cite, and the laws of the traits.
 pub mod Encoded
+pub mod MadeCanonical
+pub mod MadeGrafted
+pub mod MadeStates
 pub mod Once
 pub mod Reading
 pub mod Showing

@@ -4,6 +4,9 @@ pub mod Encoded
 pub mod Grafting
 pub mod Honest
 pub mod Laws
+pub mod MadeCanonical
+pub mod MadeGrafted
+pub mod MadeStates
 pub mod ProofsCode
 pub mod Snapshot
 pub mod Verified

@@ -1,13 +1,17 @@
-//! What holds of all honest proofs of one operation.
+//! What holds of all proofs of one operation.
 
-ghost use Rattle.std.specs.Prelude.{◌≡◌, ◌<◌, ◌≤◌, ◌*◌, ◌^◌, ℕ, List, [], length, slice_get, slice_index_or, Ok, Some, true};
+ghost use Rattle.std.specs.Prelude.{◌≡◌, ◌<◌, ◌≤◌, ◌*◌, ◌^◌, ◌⊎◌, ℕ, List, [], length, slice_get, slice_index_or, Ok, Some, true};
 ghost use Rattle.merkle_forest.specs.Hashing.{Hash};
+ghost use Rattle.merkle_forest.specs.Made.{Collision};
 ghost use Rattle.state_proofs.specs.Canonical.{Setting, State, canonical_root};
 ghost use Rattle.state_proofs.specs.Encoded.{format_of, ShowsOperation, ShowsUpdate};
 ghost use Rattle.state_proofs.specs.Honest.{honest_parts, operation_proof, key_value_proof};
-ghost use Rattle.state_proofs.specs.Verified.{Verifies};
+ghost use Rattle.state_proofs.specs.MadeStates.{HasActive, HasDigestsOf, hashed_strings, rebuilt_strings};
+ghost use Rattle.state_proofs.specs.Verified.{Parts, Verifies};
 
-use merkle_core::laws::{honest_digests_are_few, honest_digests_lead_to_the_root};
+use merkle_core::laws::{
+    honest_digests_are_few, honest_digests_lead_to_the_root, reconstructed_is_read,
+};
 use merkle_forest::{Graftable, HashFunction, PendingOf};
 use state_ops::Key;
 
@@ -75,4 +79,25 @@ pub fn honest_bytes_show_the_update<F: Graftable + PendingOf<H::Digest>, H: Hash
         (key_value_proof F.pending_encoding setting state location next_key)) }
 {
     honest_bytes_show_the_operation::<F, H, K>();
+}
+
+/// Where a proof of one operation verifies under the canonical root of a state, the operation stands at its location in
+/// the state and is active there, or the strings hashed for the state and those rebuilt from the proof have a
+/// collision: at one site two strings differ that have one digest. So it is with digests of 32 bytes.
+pub fn verified_operations_are_active_or_strings_collide<F: Graftable>()
+    ensures { (hash : Hash) (width grafting_height : ℕ) (state : State) (proof : Parts) (operation : List ℕ)
+        → ((bytes : List ℕ) → length (hash bytes) ≡ 32) → 8 * width ≡ 2 ^ grafting_height → grafting_height ≤ 62
+        → length state.operations ≤ 2 ^ 62 → length proof.chunk ≡ width → HasDigestsOf 32 proof.range
+        → (let setting : Setting = record {
+          rule = F.merge_rule;
+          hash = hash;
+          width = width;
+          grafting_height =
+              grafting_height;
+        } in
+        Verifies F.merge_rule hash (canonical_root setting state) proof operation
+        → HasActive state proof.location operation
+        ⊎ Collision hash (hashed_strings setting state) (rebuilt_strings setting proof operation)) }
+{
+    reconstructed_is_read::<F>();
 }

@@ -34,7 +34,7 @@ module _ (Told : ℕ → ℕ → Type 0) (claimed real : Elements) (start stop :
   abbrev pub AgreesIn : Located → Type 0
   AgreesIn peak = AgreeOver Told claimed real start stop peak.0 peak.1
 
-  all_parts : (front back : List Located) → AllByRecursion AgreesIn (front ++ back) → AllByRecursion AgreesIn front × AllByRecursion AgreesIn back
+  pub all_parts : (front back : List Located) → AllByRecursion AgreesIn (front ++ back) → AllByRecursion AgreesIn front × AllByRecursion AgreesIn back
   all_parts [] back all = (tt, all)
   all_parts (peak ∷ front) back all = let rest = all_parts front back all.1 in ((all.0, rest.0), rest.1)
 

@@ -23,6 +23,10 @@ pub value-pending : {D : Type 0} (size : ℕ) (encoding : D → List ℕ) (is_va
 value-pending size encoding is_value sized None value = tt
 value-pending size encoding is_value sized (Some digest) value = sized digest value
 
+pub sized-none : (size : ℕ) (digest : Option (List ℕ)) → digest ≡ None → IfSome digest (λ bytes. length bytes ≡ size)
+sized-none size None is = tt
+sized-none size (Some digest) is = absurd cc
+
 pub never-lacks_pending : (lacks : List ℕ → Type 0) → ((rest : List ℕ) → lacks rest → ⊥) → (bytes : List ℕ)
     → OptionLacks lacks bytes → ⊥
 never-lacks_pending lacks never [] it = it

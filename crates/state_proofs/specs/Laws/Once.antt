@@ -1,5 +1,5 @@
 -- The bytes of a proof stand for one proof.
-use Rattle.std.proofs.Common.{◌≡◌, ℕ, ◌^◌, ◌<◌, ◌≤◌, List, [], ◌∷◌, ◌++◌, length, Option, Some, None, Ok, refl, sym, ◌∙◌, ap, append_assoc, arith}
+use Rattle.std.proofs.Common.{◌≡◌, ℕ, ◌^◌, ◌<◌, List, [], ◌∷◌, ◌++◌, length, Option, Some, None, refl, sym, ◌∙◌, ap, append_assoc, arith}
 use Rattle.std.specs.Prelude.{IfSome}
 use Rattle.std.specs.List.{All, flat_map}
 use Rattle.std.proofs.lemmas.List.Elements.{All-head, All-tail}
@@ -8,8 +8,7 @@ use Rattle.merkle_forest.specs.Laws.Codec.{fixed_again, option_again, one_encodi
 use Rattle.merkle_forest.specs.Laws.Varint.{after_varint_again, varint_same}
 use Rattle.merkle_forest.specs.Lists.{list_encoding}
 use Rattle.merkle_forest.specs.Varint.{varint, after_varint}
-use Rattle.merkle_core.specs.Proofs.{proof_encoding}
-use Rattle.state_proofs.specs.Encoded.{range_proof_encoding, operation_proof_encoding, key_value_proof_encoding, FitsRange, Fits}
+use Rattle.state_proofs.specs.Encoded.{range_proof_encoding, key_value_proof_encoding, FitsRange, Fits}
 use Rattle.state_proofs.specs.Verified.{RangeParts, Parts}
 
 within_all : (v : Option (List ℕ)) → IfSome v (λ d. Unit {0})

@@ -1,5 +1,5 @@
 -- Proofs that the code holds are within the limits, and are read again.
-use Rattle.std.proofs.Common.{◌≡◌, ℕ, ◌^◌, ◌<◌, ◌≤◌, List, ◌++◌, length, map, Option, Some, None, Ok, append_assoc, arith}
+use Rattle.std.proofs.Common.{◌≡◌, ℕ, ◌^◌, ◌<◌, ◌≤◌, List, ◌++◌, length, Option, Some, None, Ok, append_assoc, arith}
 use Rattle.std.specs.Prelude.{IfSome, option_map}
 use Rattle.std.proofs.lemmas.List.{length-map}
 use Rattle.merkle_forest.specs.Codec.{Outcome}
@@ -8,7 +8,7 @@ use Rattle.merkle_core.specs.Laws.Proofs.{all_sized}
 use Rattle.state_proofs.specs.declared.operation.Proof.{Proof}
 use Rattle.state_proofs.specs.declared.proof.RangeProof.{RangeProof}
 use Rattle.state_proofs.specs.Encoded.{range_proof_encoding, operation_proof_encoding, key_value_proof_encoding, after_range_proof, after_operation_proof, after_key_value_proof, FitsRange, Fits}
-use Rattle.state_proofs.specs.Laws.Encoded.{Grammar, range_again, operation_again, range_within, operation_within}
+use Rattle.state_proofs.specs.Laws.Encoded.{Grammar, range_again, operation_again, operation_within}
 use Rattle.state_proofs.specs.ProofsCode.{range_parts_of, parts_of}
 
 some_sized : {D : Type 0} (encoding : D → List ℕ) (is_value : D → Type 0) (size : ℕ) (digest : Option D)

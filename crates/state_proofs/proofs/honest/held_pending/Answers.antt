@@ -1,4 +1,4 @@
-use Rattle.std.proofs.Common.{◌≡◌, ◌≤◌, ◌^◌, length, sym, subst, arith}
+use Rattle.std.proofs.Common.{◌≤◌, ◌^◌, length, sym, subst, arith}
 use Rattle.std.proofs.lemmas.List.{length-map}
 use Rattle.state_proofs.specs.Snapshot.{state_of, setting_of}
 use Rattle.state_proofs.proofs.HonestSizes.{may_hold}

@@ -1,8 +1,8 @@
-use Rattle.std.proofs.Common.{◌≡◌, ◌<◌, ◌^◌, ◌++◌, List, ℕ, [], IsTrue, Ok, refl, ap, sym, subst, ◌∙◌, append-nil, append_assoc, arith}
+use Rattle.std.proofs.Common.{◌≡◌, ◌++◌, List, ℕ, [], Ok, refl, ap, sym, ◌∙◌, append-nil, arith}
 use Rattle.merkle_forest.specs.Codec.{Outcome, ◌>>=◌}
 use Rattle.merkle_forest.specs.Laws.Lists.{bind_ok}
 use Rattle.state_ops.specs.Operation.{update, fixed_encoding}
-use Rattle.state_proofs.specs.Encoded.{Format, format_of, Fits, ShowsUpdate, operation_proof_encoding, key_value_proof_encoding, after_operation_proof, after_key_value_proof}
+use Rattle.state_proofs.specs.Encoded.{Format, format_of, ShowsUpdate, operation_proof_encoding, after_operation_proof, after_key_value_proof}
 use Rattle.state_proofs.specs.Laws.Encoded.{Grammar, grammar_of}
 use Rattle.state_proofs.specs.Laws.Reading.{read_operation_fits}
 use Rattle.state_proofs.specs.Laws.Showing.{shows_read, shows_exactly, refuses_none, refused_shows, answered_alike}
