@@ -1,5 +1,5 @@
 -- The active update of a key names its value and its next key in the latest state.
-use Rattle.std.proofs.Common.{◌≡◌, ℕ, ◌+◌, Bool, true, false, cond, ◌&&◌, not, List, [], ◌∷◌, ◌++◌, Option, None, Some, option_map, refl, ap, sym, ◌∙◌, ⊎_elim}
+use Rattle.std.proofs.Common.{◌≡◌, ℕ, zero, suc, ◌+◌, Bool, true, false, cond, ◌&&◌, not, List, [], ◌∷◌, ◌++◌, Option, None, Some, option_map, refl, ap, sym, ◌∙◌, ⊎_elim}
 use Rattle.std.specs.Prelude.{is_some, slice_get, unwrap_or, ◌||◌}
 use Rattle.std.specs.Str.{bytes_eq}
 use Rattle.std.specs.List.{list_any}
@@ -8,7 +8,7 @@ use Rattle.std.proofs.lemmas.Bool.{cases_Bool}
 use Rattle.state_ops.specs.Operation.{Operation, delete, update, commit_floor}
 use Rattle.auth_store_parts.specs.Map.{Map, value_at, next_key, entry_of}
 use Rattle.auth_store_parts.specs.History.{History, latest_map, has_key, is_active, is_active_on, activity_bits, is_kept, deletes, updates, batch_operations, inactivity_floor, log_of, active_location, update_fields, active_update, IsState, AreStates, StandsAt}
-use Rattle.auth_store_parts.specs.Laws.Lookups.{same, exact, none_later, IsState-tail}
+use Rattle.auth_store_parts.specs.Laws.Lookups.{same, same_self, exact, none_later, IsState-tail}
 use Rattle.auth_store_parts.specs.Laws.Logs.{differ, true_false, false_true, passed_by, equal_bytes, kept_value}
 
 abbrev Named : Type 0
@@ -276,3 +276,56 @@ pub StandsAt-log_of : (q v : List ℕ) (h : History) → AreStates h → value_a
 StandsAt-log_of q v h states at =
     active_stands q (log_of h) (v, next_key (latest_map h) q)
     (active_update-log_of q h states ∙ ap (option_map (λ value. (value, next_key (latest_map h) q))) at)
+
+both_hold : (a b : Bool) → a ≡ true → b ≡ true → (a && b) ≡ true
+both_hold a b one other = rw (one, other) refl
+
+names_it : (q v n : List ℕ) (log : List Operation) (location : ℕ) → slice_get log location ≡ Some (update q v n)
+    → list_any (has_key q) log ≡ true
+names_it q v n [] location is = absurd (cc)
+names_it q v n (op ∷ later) zero is =
+    let here : op ≡ update q v n = cc in
+    rw (ap (has_key q) here ∙ same_self q) refl
+names_it q v n (op ∷ later) (suc location) is = or_later (has_key q op) (list_any (has_key q) later) (names_it q v n later location is)
+  where
+    or_later : (a b : Bool) → b ≡ true → (a || b) ≡ true
+    or_later true b h = refl
+    or_later false b h = h
+
+-- an operation before one that is about the key doesn't count for it
+not_yet : (q : List ℕ) (op : Operation) (later : List Operation) → list_any (has_key q) later ≡ true
+    → is_active_on q op later ≡ false
+not_yet q (delete k) later named = elim (same q k) as (λ b. (b && false) ≡ false) [ true ↦ refl | false ↦ refl ]
+not_yet q (update k v n) later named =
+    ⊎_elim
+    (λ here. let key : list_any (has_key k) later ≡ true = ap (λ x. list_any (has_key x) later) (sym (exact q k here)) ∙ named in
+    rw (here, key) refl)
+    (λ away. ap (λ b. b && not (list_any (has_key k) later)) away)
+    (cases_Bool (same q k))
+not_yet q (commit_floor m f) later named = refl
+
+-- an active update of a key in a log is the one that counts for the key
+pub active_update-active : (q v n : List ℕ) (log : List Operation) (location : ℕ)
+    → slice_get log location ≡ Some (update q v n) → slice_get (activity_bits log) location ≡ Some true
+    → active_update q log ≡ Some (v, n)
+active_update-active q v n [] location at bit = absurd (cc)
+active_update-active q v n (op ∷ later) zero at bit =
+    let here : op ≡ update q v n = cc in
+    let active : is_active op later ≡ true = cc in
+    let on : is_active_on q op later ≡ true = both_hold (has_key q op) (is_active op later) (ap (has_key q) here ∙ same_self q) active in
+    ap (λ b. update_fields (slice_get (op ∷ later) (cond b 0 (active_location q later + 1)))) on ∙ ap (λ o. update_fields (Some o)) here
+active_update-active q v n (op ∷ later) (suc location) at bit =
+    passed q op later (not_yet q op later (names_it q v n later location at)) ∙ active_update-active q v n later location at bit
+
+-- an active update in the log of a history is the key's value in the latest state
+pub latest-active : (q v n : List ℕ) (h : History) (location : ℕ) → AreStates h
+    → slice_get (log_of h) location ≡ Some (update q v n) → slice_get (activity_bits (log_of h)) location ≡ Some true
+    → value_at (latest_map h) q ≡ Some v
+latest-active q v n h location states at bit =
+    first_part (value_at (latest_map h) q) v n (next_key (latest_map h) q)
+    (sym (active_update-log_of q h states) ∙ active_update-active q v n (log_of h) location at bit)
+  where
+    first_part : (found : Option (List ℕ)) (v n m : List ℕ) → option_map {U = List ℕ × List ℕ} (λ value. (value, m)) found ≡ Some (v, n) → found ≡ Some v
+    first_part None v n m is = absurd (cc)
+    first_part (Some w) v n m is = let whole : Some (w, m) ≡ Some (v, n) = is in
+        ap (λ (o : Option (List ℕ × List ℕ)). Some (unwrap_or o (v, n)).0) whole
