@@ -5,3 +5,4 @@ pub mod Honest
 pub mod Widths
 pub mod ScriptLines
 pub mod ScriptRuns
+pub mod Sound

@@ -14,3 +14,4 @@ pub mod Claims
 pub mod ClaimsCode
 pub mod ScriptLines
 pub mod ScriptRun
+pub mod Soundness
