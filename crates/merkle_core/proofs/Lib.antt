@@ -11,3 +11,6 @@ pub mod Short
 pub mod OneRead
 pub mod OneBag
 pub mod OneRoot
+pub mod OneEach
+pub mod OneEachBag
+pub mod OneEachRoot

@@ -2,6 +2,7 @@ pub mod Followed
 pub mod Laws
 pub mod MadeRoots
 pub mod MadeTrees
+pub mod OneEach
 pub mod Proofs
 pub mod Ranges
 pub mod RangesCode

@@ -6,9 +6,9 @@ use Rattle.merkle_forest.specs.declared.bagging.Bagging.{Bagging}
 use Rattle.merkle_forest.specs.declared.bagging.Bagging.TheVariants.{ForwardFold, BackwardFold}
 use Rattle.merkle_forest.specs.Forest.{Rule, forest_of}
 use Rattle.merkle_forest.specs.Hashing.{number, domain_of, inactive_count}
+use Rattle.merkle_forest.specs.Made.{Site, Made, bytes, both, hashed}
 use Rattle.merkle_forest.specs.Trees.{Located, located}
 use Rattle.merkle_core.specs.Ranges.{meets, is_before, is_after}
-use Rattle.merkle_forest.specs.Made.{Site, Made, bytes, both, hashed}
 use Rattle.merkle_core.specs.MadeTrees.{Over, Elements, made_tree, given, read_tree}
 
 -- the sites of a tree's root and of its folds
@@ -20,14 +20,15 @@ pub record Naming : Type 0 where
 abbrev pub folded : Naming → ℕ → ℕ → Made → Made → Made
 folded names a b x y = hashed (names.fold_site a b) [] (both x y)
 
+-- a peak
 abbrev pub made_peak : Over → Elements → Located → Made
 made_peak over elements peak = made_tree over elements peak.0 peak.1
 
 -- peaks from the one numbered n up to the last one, folded from the right
 abbrev pub made_back : Naming → Over → Elements → ℕ → ℕ → Located → List Located → Made
 made_back names over elements last n peak [] = made_peak over elements peak
-made_back names over elements last n peak (next ∷ peaks) = folded names n last (made_peak over elements peak) (made_back names over elements last
-    (suc n) next peaks)
+made_back names over elements last n peak (next ∷ peaks) =
+    folded names n last (made_peak over elements peak) (made_back names over elements last (suc n) next peaks)
 
 -- What is folded so far, from the peaks before the one numbered n, and the peaks from there on, of which so many are folded onto it
 -- singly, from the left
@@ -48,6 +49,7 @@ abbrev pub from_left : Bagging → ℕ → ℕ → ℕ
 from_left ForwardFold inactive peaks = peaks
 from_left BackwardFold inactive peaks = inactive
 
+-- the peaks of so many leaves
 abbrev pub peaks_of : Rule → ℕ → List Located
 peaks_of rule leaves = located (forest_of rule leaves)
 
@@ -57,29 +59,35 @@ bag_of names over elements bagging inactive peaks = made_bag names over elements
 
 -- the root's string, over a bag: leaf count, bagging, count of inactive peaks, and the bag
 abbrev pub root_made : Naming → Bagging → ℕ → ℕ → Made → Made
-root_made names bagging leaves inactive bag = hashed names.root_site [] (both (bytes (number leaves)) (both (bytes
-    (domain_of bagging ∷ inactive_count inactive)) bag))
+root_made names bagging leaves inactive bag =
+    hashed names.root_site []
+    (both (bytes (number leaves)) (both (bytes (domain_of bagging ∷ inactive_count inactive)) bag))
 
 -- the root of the tree of so many leaves
 abbrev pub made_root : Naming → Over → Elements → Bagging → Rule → ℕ → ℕ → Made
-made_root names over elements bagging rule leaves inactive = root_made names bagging leaves inactive (bag_of names over elements bagging inactive
-    (peaks_of rule leaves))
+made_root names over elements bagging rule leaves inactive =
+    root_made names bagging leaves inactive (bag_of names over elements bagging inactive (peaks_of rule leaves))
 
 -- outer and inner digests
 abbrev pub Streams : Type 0
 Streams = List (List ℕ) × List (List ℕ)
 
+-- what is read, and the digests that are left
 abbrev pub Bagged : Type 0
 Bagged = Option (Made × Streams)
 
+-- the first outer digest
 abbrev pub given_outer : Streams → Bagged
 given_outer streams = option_map (λ x. (x.0, (x.1, streams.1))) (given streams.0)
 
+-- a peak: read where it meets the range, else given
 abbrev pub read_peak : Over → Elements → ℕ → ℕ → Located → Streams → Bagged
 read_peak over elements start stop peak streams =
-    if meets start stop peak then option_map (λ x. (x.0, (streams.0, x.1)))
-    (read_tree over elements start stop peak.0 peak.1 streams.1) else given_outer streams
+    if meets start stop peak
+    then option_map (λ x. (x.0, (streams.0, x.1))) (read_tree over elements start stop peak.0 peak.1 streams.1)
+    else given_outer streams
 
+-- peaks folded from the right: where all stand after the range they are given as one
 abbrev pub read_back : Naming → Over → Elements → ℕ → ℕ → ℕ → ℕ → Located → List Located → Streams → Bagged
 read_back names over elements start stop last n peak [] streams = read_peak over elements start stop peak streams
 read_back names over elements start stop last n peak (next ∷ peaks) streams =
@@ -87,6 +95,7 @@ read_back names over elements start stop last n peak (next ∷ peaks) streams =
     else option_and_then (λ x. option_map (λ y. (folded names n last x.0 y.0, y.1)) (read_back names over elements start stop last (suc n) next peaks x.1))
     (read_peak over elements start stop peak streams)
 
+-- what is folded so far, and the peaks from the one numbered n on
 abbrev pub read_onto : Naming → Over → Elements → ℕ → ℕ → ℕ → ℕ → ℕ → Made → List Located → Streams → Bagged
 read_onto names over elements start stop last inactive n first [] streams = Some (first, streams)
 read_onto names over elements start stop last zero n first (peak ∷ peaks) streams =
@@ -95,7 +104,7 @@ read_onto names over elements start stop last (suc inactive) n first (peak ∷ p
     option_and_then (λ x. read_onto names over elements start stop last inactive (suc n) (folded names 1 n first x.0) peaks x.1)
     (read_peak over elements start stop peak streams)
 
--- the peaks before the range that are folded from the left are given as one
+-- what is given for the peaks before the range that are folded from the left, all as one, and the peaks from the one numbered n on
 abbrev pub read_group : Naming → Over → Elements → ℕ → ℕ → ℕ → ℕ → ℕ → Made → List Located → Streams → Bagged
 read_group names over elements start stop last inactive n first [] streams = Some (first, streams)
 read_group names over elements start stop last zero n first (peak ∷ peaks) streams =
@@ -104,6 +113,7 @@ read_group names over elements start stop last (suc inactive) n first (peak ∷ 
     if is_before start peak then read_group names over elements start stop last inactive (suc n) first peaks streams
     else read_onto names over elements start stop last (suc inactive) n first (peak ∷ peaks) streams
 
+-- all peaks as one
 abbrev pub read_bag : Naming → Over → Elements → ℕ → ℕ → ℕ → ℕ → List Located → Streams → Bagged
 read_bag names over elements start stop last inactive [] streams = None
 read_bag names over elements start stop last zero (peak ∷ peaks) streams = read_back names over elements start stop last 1 peak peaks streams

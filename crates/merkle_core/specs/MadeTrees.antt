@@ -2,8 +2,8 @@
 use Rattle.std.specs.Prelude.{ℕ, ◌+◌, ◌-◌, if◌then◌else◌, List, [], ◌∷◌, Option, None, Some, option_map, option_and_then, slice_index_or}
 use Rattle.merkle_forest.specs.Forest.{Tree, leaf, branch, height, leaf_count}
 use Rattle.merkle_forest.specs.Hashing.{number}
-use Rattle.merkle_core.specs.Ranges.{meets}
 use Rattle.merkle_forest.specs.Made.{at_plain, Made, bytes, both, hashed}
+use Rattle.merkle_core.specs.Ranges.{meets}
 
 -- how a branch's string is hashed: from the location of its first leaf, its height, its position and the string
 abbrev pub Over : Type 0
@@ -25,9 +25,11 @@ from start elements location = slice_index_or elements (location - start) []
 abbrev pub whole : List (List ℕ) → Elements
 whole elements location = slice_index_or elements location []
 
+-- a leaf, of its position and its element
 abbrev pub leaf_made : ℕ → List ℕ → Made
 leaf_made p element = hashed (at_plain p) [] (both (bytes (number p)) (bytes element))
 
+-- a branch, of its position and its children
 abbrev pub branch_made : Over → ℕ → ℕ → ℕ → Made → Made → Made
 branch_made over at high p left right = over at high p (both (bytes (number p)) (both left right))
 

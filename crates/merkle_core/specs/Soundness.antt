@@ -1,15 +1,16 @@
 -- A plain tree: the list, what a proof claims, and what follows where the proof leads to the list's root.
-use Rattle.std.specs.Prelude.{◌≡◌, ◌⊎◌, ℕ, ◌+◌, ◌<◌, List, [], length, Option, slice_index_or}
+use Rattle.std.specs.Prelude.{◌≡◌, ◌⊎◌, ℕ, ◌+◌, ◌<◌, ◌≤◌, List, [], length, Option, slice_index_or}
 use Rattle.merkle_forest.specs.declared.bagging.Bagging.{Bagging}
 use Rattle.merkle_forest.specs.Forest.{Rule, forest_of}
 use Rattle.merkle_forest.specs.Hashing.{Hash}
 use Rattle.merkle_forest.specs.Made.{at_tree_root, at_fold, Made, value, Strings, strings, Collision}
+use Rattle.merkle_forest.specs.Trees.{located}
 use Rattle.merkle_core.specs.MadeTrees.{Over, Elements, from, whole, plain_over, leaf_made, branch_made}
 use Rattle.merkle_core.specs.MadeRoots.{Naming, made_root, read_root}
 use Rattle.merkle_core.specs.Rebuilt.{Hashing}
 use Rattle.merkle_core.specs.Reconstructed.{peaks_before, peaks_after, digests_before, digests_after}
-use Rattle.merkle_forest.specs.Trees.{located}
 
+-- the sites of a tree alone
 abbrev pub plain_names : Naming
 plain_names = record { root_site = at_tree_root; fold_site = at_fold }
 
@@ -32,10 +33,11 @@ claimed_root bagging rule claim =
     read_root plain_names plain_over bagging rule claim.leaves claim.inactive claim.start (claim.start + length claim.elements)
     (from claim.start claim.elements) claim.outer claim.digests
 
--- the claim is true of this list: so many leaves and inactive peaks, and these elements from `start` on
+-- the claim is true of this list: so many leaves and inactive peaks, and these elements from `start` on, within the list
 pub record IsTrueOf (elements : List (List ℕ)) (inactive : ℕ) (claim : RangeClaim) : Type 0 where
   pub leaf_count : claim.leaves ≡ length elements
   pub inactive_count : claim.inactive ≡ inactive
+  pub within : claim.start + length claim.elements ≤ length elements
   pub stands : (i : ℕ) → i < length claim.elements → slice_index_or claim.elements i [] ≡ slice_index_or elements (claim.start + i) []
 
 -- the strings hashed for the list, and those that the proof and its claim are rebuilt by

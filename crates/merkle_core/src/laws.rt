@@ -5,15 +5,16 @@ ghost use Rattle.std.specs.List.{All};
 ghost use Rattle.merkle_forest.specs.declared.bagging.Bagging.{Bagging};
 ghost use Rattle.merkle_forest.specs.Forest.{forest_of};
 ghost use Rattle.merkle_forest.specs.Hashing.{Hash, root_of};
-ghost use Rattle.merkle_forest.specs.Made.{value};
+ghost use Rattle.merkle_forest.specs.Made.{value, strings};
 ghost use Rattle.merkle_forest.specs.Trees.{located, peak_digests, tree_root};
 ghost use Rattle.merkle_core.specs.Followed.{FollowsIn};
 ghost use Rattle.merkle_core.specs.MadeRoots.{Naming};
 ghost use Rattle.merkle_core.specs.MadeTrees.{Over};
+ghost use Rattle.merkle_core.specs.OneEach.{OneEach};
 ghost use Rattle.merkle_core.specs.Ranges.{Digests, range_digests};
 ghost use Rattle.merkle_core.specs.Rebuilt.{Hashing};
 ghost use Rattle.merkle_core.specs.Reconstructed.{reconstructed};
-ghost use Rattle.merkle_core.specs.Soundness.{RangeClaim, claimed_root, IsSound, Makes, list_root, one_root};
+ghost use Rattle.merkle_core.specs.Soundness.{RangeClaim, claimed_root, hashed_strings, IsSound, Makes, list_root, one_root};
 
 use merkle_forest::family::Family;
 use merkle_forest::graftable::Graftable;
@@ -69,4 +70,12 @@ pub fn reconstructed_is_read<F: Family>()
         → reconstructed hashing hash bagging F.merge_rule leaves inactive location element digests ≡ Some root
         → IsSomeAnd (one_root names over bagging F.merge_rule leaves inactive location element digests)
         (λ made. value hash made ≡ root) }
+{}
+
+/// At each site one string is hashed for a list, and one when a root is rebuilt from a proof of a range.
+pub fn each_site_has_one_string<F: Family>()
+    ensures hashed { (hash : Hash) (bagging : Bagging) (elements : List (List ℕ)) (inactive : ℕ)
+        → OneEach (hashed_strings hash bagging F.merge_rule elements inactive) }
+    ensures rebuilt { (hash : Hash) (bagging : Bagging) (claim : RangeClaim)
+        → IfSome (claimed_root bagging F.merge_rule claim) (λ made. OneEach (strings hash made)) }
 {}

@@ -76,6 +76,7 @@ module _ (hash : Hash) (size : ℕ) (hash_sized : (xs : List ℕ) → length (ha
   true_of told = record {
     leaf_count = told.leaf_count;
     inactive_count = told.inactive_count;
+    within = omega (arith, told.within, told.leaf_count);
     stands = λ i below.
         ap (λ k. slice_index_or claim.elements k []) (omega arith)
         ∙ agree_in NothingTold (from claim.start claim.elements) (whole elements) claim.start (claim.start + length claim.elements)
