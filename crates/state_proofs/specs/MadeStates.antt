@@ -1,28 +1,29 @@
 -- The canonical root of a state as it is made, and as a proof of one operation leads to it.
 --
--- The strings of the two terms stand at the same sites: of eight operations with chunks of four bits, and of a proof of
--- operation 2 with the digests x and y,
+-- Both terms have their strings at the same sites. Of eight operations, and of a proof of operation 2 that holds the digests x, y
+-- and z, were chunks of four bits (none has fewer than eight):
 --
---                 at_canonical                                      at_canonical
---        /             |            \                      /             |            \
---   operations      grafted       pending ..          a digest        grafted       a digest, or the chunk
---        |             |                                                 |
---   at_operations   at_grafted_root                                  at_grafted_root
---        ..            |                                                 |
---                   at_joined 14                                      at_joined 14
---                   /          \                                      /          \
---            at_joined 6    at_joined 13                       at_joined 6        y
---            /        \       ..                               /        \
---        chunk 0   at_plain 6                              the chunk   at_plain 6
---                  /        \                                          /        \
---            at_plain 2   at_plain 5                                  x      at_plain 5
+--                  at_canonical                                     at_canonical
+--         /             |            \                      /            |            \
+--   at_operations_root  |       at_pending ..         a digest           |       a digest, or the chunk
+--         ..     at_grafted_root                                  at_grafted_root
+--                       |                                                |
+--                  at_joined 14                                     at_joined 14
+--                  /          \                                     /          \
+--           at_joined 6    at_joined 13                      at_joined 6        z
+--            /       \         ..                             /       \
+--        chunk 0   at_plain 6                         the chunk   at_plain 6
+--                  /        \                                     /        \
+--            at_plain 2   at_plain 5                             x      at_plain 5
+--               ..         /      \                                      /      \
+--                    at_plain 3  at_plain 4                        at_plain 3    y
 --
 -- A chunk without a set bit is not joined in: there the string of at_plain 6 stands at at_joined 6 too.
 use Rattle.std.specs.Prelude.{◌≡◌, ℕ, ◌%◌, ◌==◌, ◌&&◌, nat_lt, nat_le, Bool, true, if◌then◌else◌, List, length, Option, None, Some, option_map, slice_get, IfSome}
 use Rattle.std.specs.List.{All}
 use Rattle.merkle_forest.specs.declared.bagging.Bagging.TheVariants.{BackwardFold}
-use Rattle.merkle_forest.specs.Made.{at_operations_root, at_fold, at_pending, at_partial, Made, bytes, Strings, strings}
 use Rattle.merkle_forest.specs.Forest.{forest_of}
+use Rattle.merkle_forest.specs.Made.{at_operations_root, at_fold, at_pending, at_partial, Made, bytes, Strings, strings}
 use Rattle.merkle_forest.specs.Nodes.{nodes_of_height}
 use Rattle.merkle_forest.specs.Trees.{inactive_peaks}
 use Rattle.merkle_core.specs.MadeTrees.{Elements, whole, plain_over}
@@ -33,6 +34,7 @@ use Rattle.state_proofs.specs.MadeCanonical.{if_made, canonical_made, chunk_made
 use Rattle.state_proofs.specs.MadeGrafted.{chunk_at, grafted_over, grafted_names}
 use Rattle.state_proofs.specs.Verified.{RangeParts, Parts, bits_of, full_of, index_of}
 
+-- the sites of the operations' tree
 abbrev pub operations_names : Naming
 operations_names = record { root_site = at_operations_root; fold_site = at_fold }
 
