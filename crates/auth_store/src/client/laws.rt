@@ -61,3 +61,21 @@ where
 {
     verified_operations_are_active_or_strings_collide::<F>();
 }
+
+/// Bytes that show one claim under two roots are rebuilt to the same strings: the bytes and the claim tell which.
+pub fn rebuilt_strings_are_of_the_bytes<F, H, K, V, const N: usize>()
+where
+    F: Graftable + PendingOf<H::Digest>,
+    H: HashFunction,
+    K: Key,
+    V: FixedValue,
+    ensures { (claim : code.Claim K V) (root other bytes : List ℕ)
+        → (let is_key = λ (key : List ℕ). K.after tt key ≡ Ok [] in
+        let setting = setting_of_width F.merge_rule H.hash_of N in
+        let terms = terms F.merge_rule H.hash_of N H.Digest.SIZE F.is_pending F.pending_encoding is_key K.SIZE V.SIZE in
+        let update = λ (next_key : List ℕ).
+        fixed_encoding K.SIZE V.SIZE (claimed_update K.encoding V.encoding claim next_key) in
+        (shown : ShowsClaim K.encoding V.encoding terms claim root bytes)
+        (again : ShowsClaim K.encoding V.encoding terms claim other bytes)
+        → rebuilt_strings setting update shown ≡ rebuilt_strings setting update again) }
+{}
