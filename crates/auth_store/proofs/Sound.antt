@@ -1,12 +1,12 @@
 -- An active operation that is encoded as an update is that update, and says what the key has.
-use Rattle.std.proofs.Common.{◌≡◌, ℕ, zero, suc, Bool, true, false, cond, List, [], ◌∷◌, ◌++◌, length, drop, map, replicate, Option, Some, None, refl, sym, ◌∙◌, ap, subst, arith, append_assoc}
+use Rattle.std.proofs.Common.{◌≡◌, ℕ, zero, suc, true, false, cond, List, [], ◌∷◌, ◌++◌, length, drop, map, replicate, Some, refl, sym, ◌∙◌, ap, arith, append_assoc}
 use Rattle.std.specs.Prelude.{is_some, slice_get, slice_index_or, ◌-◌}
 use Rattle.std.specs.List.{AllByRecursion}
 use Rattle.merkle_forest.specs.Laws.Matching.{append_parts}
 use Rattle.state_ops.specs.Operation.{Operation, delete, update, commit_floor, fixed_size, unpadded, fixed_encoding}
 use Rattle.state_proofs.specs.MadeStates.{HasActive}
 use Rattle.auth_store.specs.Map.{Map, value_at, next_key}
-use Rattle.auth_store.specs.History.{History, Commit, AreStates, latest_map, is_kept, deletes, updates, batch_operations, inactivity_floor, activity_bits, log_of}
+use Rattle.auth_store.specs.History.{History, AreStates, latest_map, is_kept, deletes, updates, batch_operations, inactivity_floor, log_of}
 use Rattle.auth_store.specs.Soundness.{HasSizes}
 use Rattle.auth_store.specs.Store.{state_of_history}
 use Rattle.auth_store_parts.specs.Laws.Actives.{latest-active}

@@ -1,5 +1,4 @@
-use Rattle.std.proofs.Common.{ℕ, List, length, IfSome, inl, ⊎_elim, inr, sym, ◌∙◌, subst, arith}
-use Rattle.std.specs.List.{All}
+use Rattle.std.proofs.Common.{ℕ, List, inl, ⊎_elim, inr, ◌∙◌, subst, arith}
 use Rattle.std.proofs.lemmas.List.{length-map}
 use Rattle.state_ops.specs.Operation.{fixed_encoding, update}
 use Rattle.state_proofs.specs.MadeStates.{HasDigestsOf}
