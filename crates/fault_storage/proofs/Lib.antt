@@ -1,10 +1,1 @@
-pub mod Crc
-pub mod DrawLemmas
-pub mod Zeros
-pub mod Rooms
-pub mod Settling
 pub mod Places
-pub mod Torn
-pub mod Overlays
-pub mod Created
-pub mod Fronts

@@ -4,7 +4,7 @@ use Rattle.std.specs.List.{list_any}
 use Rattle.std.proofs.lemmas.Bool.{false≢true}
 use Rattle.std.proofs.lemmas.List.{get_or_read, set_split, set-get_or}
 use Rattle.fault_storage.specs.declared.stored.StoredFile.{StoredFile}
-use Rattle.fault_storage.specs.Files.{File}
+use Rattle.fault_storage_parts.specs.Files.{File}
 use Rattle.fault_storage.specs.Stores.{IsPlace, file_with, number_with, changed}
 
 pub place-found : (test : StoredFile → Bool) (files : List StoredFile) (place : ℕ) (stored : StoredFile) → place < length files → stored ≡ get_or files place stored → test stored ≡ true

@@ -5,17 +5,17 @@ use Rattle.std.specs.Str.{bytes_eq}
 use Rattle.std.specs.declared.vec.Vec.{Vec}
 use Rattle.std.specs.declared.alloc.Global.{Global}
 use Rattle.fault_storage.specs.declared.stored.StoredFile.{StoredFile}
-use Rattle.fault_storage.specs.declared.header.Layouts.{Layouts}
-use Rattle.fault_storage.specs.declared.header.Resolved.{Resolved}
-use Rattle.fault_storage.specs.declared.header.Versions.{Versions}
-use Rattle.fault_storage.specs.declared.error.HeaderError.{HeaderError}
-use Rattle.fault_storage.specs.declared.header.Layout.TheVariants.{V0, V1}
-use Rattle.fault_storage.specs.declared.error.Error.{Error}
-use Rattle.fault_storage.specs.declared.error.Error.TheVariants.{BlobInsufficientLength, BlobMissing, PartitionMissing, PartitionNameInvalid, Header, NumberEnded, Memory}
+use Rattle.fault_storage_parts.specs.declared.header.Layouts.{Layouts}
+use Rattle.fault_storage_parts.specs.declared.header.Resolved.{Resolved}
+use Rattle.fault_storage_parts.specs.declared.header.Versions.{Versions}
+use Rattle.fault_storage_parts.specs.declared.error.HeaderError.{HeaderError}
+use Rattle.fault_storage_parts.specs.declared.header.Layout.TheVariants.{V0, V1}
+use Rattle.fault_storage_parts.specs.declared.error.Error.{Error}
+use Rattle.fault_storage_parts.specs.declared.error.Error.TheVariants.{BlobInsufficientLength, BlobMissing, PartitionMissing, PartitionNameInvalid, Header, NumberEnded, Memory}
 use Rattle.fault_storage.specs.declared.storage.Opened.{Opened}
-use Rattle.fault_storage.specs.Names.{is_partition_name}
-use Rattle.fault_storage.specs.Files.{durable_bytes}
-use Rattle.fault_storage.specs.Headers.{created, IsUnmade, first_fault, file_checks, resolved_of}
+use Rattle.fault_storage_parts.specs.Names.{is_partition_name}
+use Rattle.fault_storage_parts.specs.Files.{durable_bytes}
+use Rattle.fault_storage_parts.specs.Headers.{created, IsUnmade, first_fault, file_checks, resolved_of}
 use Rattle.fault_storage.specs.Opens.{is_before, is_name}
 use Rattle.fault_storage.specs.Stores.{Store, Handle, file_with, number_with, changed, without, settled_at, has_bytes, bytes_at, is_there, published}
 

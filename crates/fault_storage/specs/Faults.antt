@@ -1,18 +1,18 @@
 -- Calls that may fail. `Answers` says what the store below answers, and which store it leaves.
 use Rattle.std.specs.Prelude.{◌≡◌, ℕ, ◌+◌, ◌-◌, ◌^◌, ◌<◌, ◌⊎◌, true, false, Result, Ok, Err, List}
 use Rattle.rand_core.specs.Stream.{Stream}
-use Rattle.fault_storage.specs.declared.error.Call.{Call}
-use Rattle.fault_storage.specs.declared.error.Error.{Error}
-use Rattle.fault_storage.specs.declared.error.Error.TheVariants.{Injected, NumberEnded, Memory}
+use Rattle.fault_storage_parts.specs.declared.error.Call.{Call}
+use Rattle.fault_storage_parts.specs.declared.error.Error.{Error}
+use Rattle.fault_storage_parts.specs.declared.error.Error.TheVariants.{Injected, NumberEnded, Memory}
 use Rattle.fault_storage.specs.declared.faulty.Blob.{Blob}
 use Rattle.fault_storage.specs.declared.faulty.Storage.{Storage}
-use Rattle.fault_storage.specs.declared.header.Versions.{Versions}
+use Rattle.fault_storage_parts.specs.declared.header.Versions.{Versions}
 use Rattle.fault_storage.specs.declared.storage.Opened.{Opened}
 use Rattle.fault_storage.specs.Stores.{Store, Handle}
 use Rattle.fault_storage.specs.Directory.{MemoryOpens}
-use Rattle.fault_storage.specs.declared.probability.Probability.{Probability}
-use Rattle.fault_storage.specs.Draws.{sample}
-use Rattle.fault_storage.specs.DrawsCode.{rate_of}
+use Rattle.fault_storage_parts.specs.declared.probability.Probability.{Probability}
+use Rattle.fault_storage_parts.specs.Draws.{sample}
+use Rattle.fault_storage_parts.specs.DrawsCode.{rate_of}
 
 -- the call is refused as not made
 abbrev pub IsNotMade : {T : Type 0} → Result T Error → Type 0

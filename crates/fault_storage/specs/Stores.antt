@@ -6,8 +6,8 @@ use Rattle.rand_core.specs.Stream.{Stream}
 use Rattle.fault_storage.specs.declared.stored.StoredFile.{StoredFile}
 use Rattle.fault_storage.specs.declared.storage.WriteMode.{WriteMode}
 use Rattle.fault_storage.specs.declared.storage.WriteMode.TheVariants.{Plain, Sync}
-use Rattle.fault_storage.specs.Draws.{Mode, Rate, prefix, never}
-use Rattle.fault_storage.specs.Files.{Mutation, written, fixed, resized_to, File, with_bytes, with_kept, resized, settled}
+use Rattle.fault_storage_parts.specs.Draws.{Mode, Rate, prefix, never}
+use Rattle.fault_storage_parts.specs.Files.{Mutation, written, fixed, resized_to, File, with_bytes, with_kept, resized, settled}
 
 -- a store: the names of its partitions, its files, the numbers of the files whose mutations were issued, and the next number
 pub record Store : Type 0 where

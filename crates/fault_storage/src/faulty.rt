@@ -8,11 +8,11 @@
 
 ghost use Rattle.std.specs.Prelude.{◌≡◌, ◌+◌, ◌-◌, ◌^◌, ◌<◌, ◌⊎◌, Err, Ok, IfErr, OnOk, OnErr, true, if◌then◌else◌};
 ghost use Rattle.std.specs.List.{list_any};
-ghost use Rattle.fault_storage.specs.Draws.{sample};
-ghost use Rattle.fault_storage.specs.DrawsCode.{rate_of};
+ghost use Rattle.fault_storage_parts.specs.Draws.{sample};
+ghost use Rattle.fault_storage_parts.specs.DrawsCode.{rate_of};
 ghost use Rattle.fault_storage.specs.Stores.{without_retired, published, crashed_store};
 ghost use Rattle.fault_storage.specs.Directory.{has_name, admitted, LacksName, MemoryRemoves, MemoryScans, MemoryReads, MemoryFills, MemorySyncs};
-ghost use Rattle.fault_storage.specs.declared.error.Call.TheVariants.{Open, Remove};
+ghost use Rattle.fault_storage_parts.specs.declared.error.Call.TheVariants.{Open, Remove};
 ghost use Rattle.fault_storage.specs.Faults.{IsFaultyCall, FaultyOpens, unwrapped};
 
 use crate::config::Config;

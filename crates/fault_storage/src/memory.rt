@@ -3,16 +3,16 @@
 ghost use Rattle.std.specs.Prelude.{◌≡◌, not, MatchResult, Ok, ◌+◌, ◌-◌, ◌^◌, ◌<◌, ◌≤◌, ◌⊎◌, ◌↔◌, [], false, true, Err, IfOk, IfErr, IfNone, IfSome, None, Some, OnOk, OnErr, MatchOption, filter, length};
 ghost use Rattle.std.specs.List.{list_any};
 ghost use Rattle.std.specs.Vec.{vec_len, vec_capacity};
-ghost use Rattle.fault_storage.specs.DrawsCode.{rate_of, mode_of};
-ghost use Rattle.fault_storage.specs.Files.{written, fixed, resized_to, with_bytes, with_kept, resized};
-ghost use Rattle.fault_storage.specs.FilesCode.{mutation_of};
-ghost use Rattle.fault_storage.specs.Names.{is_partition_name};
-ghost use Rattle.fault_storage.specs.declared.error.HeaderError.{HeaderError};
-ghost use Rattle.fault_storage.specs.declared.header.Layout.TheVariants.{V0};
-ghost use Rattle.fault_storage.specs.Headers.{created};
+ghost use Rattle.fault_storage_parts.specs.DrawsCode.{rate_of, mode_of};
+ghost use Rattle.fault_storage_parts.specs.Files.{written, fixed, resized_to, with_bytes, with_kept, resized};
+ghost use Rattle.fault_storage_parts.specs.FilesCode.{mutation_of};
+ghost use Rattle.fault_storage_parts.specs.Names.{is_partition_name};
+ghost use Rattle.fault_storage_parts.specs.declared.error.HeaderError.{HeaderError};
+ghost use Rattle.fault_storage_parts.specs.declared.header.Layout.TheVariants.{V0};
+ghost use Rattle.fault_storage_parts.specs.Headers.{created};
 ghost use Rattle.fault_storage.specs.Faults.{IsDrawnCall};
 ghost use Rattle.fault_storage.specs.Directory.{in_order, with_partition, MemoryOpens, MemoryPlaces, MemoryRemoves, MemoryScans, MemoryReads, Fills, MemorySyncs, IsMissing, fault_in, handle_in, shown_in, new_handle, has_name, has_partition, names_in, placed, admitted, removed, removed_partition, LacksName, LacksPartition};
-ghost use Rattle.fault_storage.specs.Draws.{never};
+ghost use Rattle.fault_storage_parts.specs.Draws.{never};
 ghost use Rattle.fault_storage.specs.Stores.{Store, Handle, memory_write, fixed_write, resizing, showing, IsPlace, has_number, is_there, without_retired, issued, published, without, changed, with_issued, settled_at, settled_in, crashed_files, crashed_store};
 
 use crate::blob_file::BlobFile;

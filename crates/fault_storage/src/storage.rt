@@ -1,8 +1,8 @@
 //! What every store of blobs does, told by what each call may give.
 
 ghost use Rattle.std.specs.Prelude.{◌≡◌, ℕ, List, Option, Result, option_map};
-ghost use Rattle.fault_storage.specs.declared.error.Error.{Error};
-ghost use Rattle.fault_storage.specs.declared.header.Versions.{Versions};
+ghost use Rattle.fault_storage_parts.specs.declared.error.Error.{Error};
+ghost use Rattle.fault_storage_parts.specs.declared.header.Versions.{Versions};
 ghost use Rattle.fault_storage.specs.declared.storage.Opened.{Opened};
 
 use crate::error::Error;

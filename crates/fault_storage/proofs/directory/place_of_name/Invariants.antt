@@ -1,6 +1,6 @@
 use Rattle.std.proofs.Common.{◌≡◌, ◌++◌, take, drop}
 use Rattle.std.specs.List.{list_any}
-use Rattle.fault_storage.specs.Files.{File}
+use Rattle.fault_storage_parts.specs.Files.{File}
 use Rattle.fault_storage.specs.Stores.{file_with, number_with, changed}
 use Rattle.fault_storage.specs.Directory.{has_name}
 use Rattle.fault_storage.proofs.directory.place_of_name.Given as goal

@@ -1,5 +1,5 @@
 use Rattle.std.proofs.Common.{rules, sym}
-use Rattle.fault_storage.specs.FilesCode.{mutation_of}
+use Rattle.fault_storage_parts.specs.FilesCode.{mutation_of}
 use Rattle.fault_storage.specs.Stores.{has_number, with_issued}
 use Rattle.fault_storage.proofs.Places.{written-at, changed-none}
 use Rattle.fault_storage.proofs.memory.issue_in.Goals as goal

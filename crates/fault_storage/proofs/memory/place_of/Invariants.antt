@@ -1,6 +1,6 @@
 use Rattle.std.proofs.Common.{◌≡◌, ◌++◌, take, drop}
 use Rattle.std.specs.List.{list_any}
-use Rattle.fault_storage.specs.Files.{File}
+use Rattle.fault_storage_parts.specs.Files.{File}
 use Rattle.fault_storage.specs.Stores.{has_number, file_with, number_with, changed}
 use Rattle.fault_storage.proofs.memory.place_of.Given as goal
 

@@ -1,7 +1,7 @@
 use Rattle.std.proofs.Common.{◌≡◌, ℕ, set, get_or, cond, List, ap, sym, subst, ◌∙◌}
 use Rattle.rand_core.specs.Stream.{Stream}
 use Rattle.fault_storage.specs.declared.stored.StoredFile.{StoredFile}
-use Rattle.fault_storage.specs.Files.{File, settled}
+use Rattle.fault_storage_parts.specs.Files.{File, settled}
 use Rattle.fault_storage.specs.Stores.{IsPlace, has_number, file_with, changed, settled_in}
 use Rattle.fault_storage.proofs.Places.{written-at}
 use Rattle.fault_storage.proofs.memory.settle_in.Goals as goal

@@ -1,6 +1,6 @@
 use Rattle.std.proofs.Common.{rules, ◌≡◌, ◌+◌, ℕ, List, not, filter, inr, ap, ◌∙◌}
 use Rattle.fault_storage.specs.declared.stored.StoredFile.{StoredFile}
-use Rattle.fault_storage.specs.Files.{File}
+use Rattle.fault_storage_parts.specs.Files.{File}
 use Rattle.fault_storage.specs.Stores.{Store, settled_at}
 use Rattle.fault_storage.specs.Directory.{placed, in_order, with_partition, has_name}
 use Rattle.fault_storage.proofs.memory.Storage.place_file_unless.Goals as goal

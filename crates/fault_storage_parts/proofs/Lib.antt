@@ -1,0 +1,9 @@
+pub mod Created
+pub mod Crc
+pub mod DrawLemmas
+pub mod Fronts
+pub mod Overlays
+pub mod Rooms
+pub mod Settling
+pub mod Torn
+pub mod Zeros
