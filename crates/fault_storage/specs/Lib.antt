@@ -6,7 +6,9 @@ pub use Rattle.fault_storage_parts.specs.FilesCode
 pub use Rattle.fault_storage_parts.specs.Headers
 pub use Rattle.fault_storage_parts.specs.Names
 pub use Rattle.fault_storage_parts.specs.Refusals
+pub use Rattle.fault_storage_parts.specs.Revisions
 pub use Rattle.fault_storage_parts.specs.Settings
+pub mod Changes
 pub mod Directory
 pub mod Faults
 pub mod Opens

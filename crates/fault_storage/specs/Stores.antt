@@ -7,6 +7,7 @@ use Rattle.fault_storage.specs.declared.stored.StoredFile.{StoredFile}
 use Rattle.fault_storage.specs.declared.storage.WriteMode.{WriteMode}
 use Rattle.fault_storage.specs.declared.storage.WriteMode.TheVariants.{Plain, Sync}
 use Rattle.fault_storage_parts.specs.Draws.{Mode, Rate, prefix, never}
+use Rattle.fault_storage_parts.specs.Revisions.{file_recast, file_without_last, without_last}
 use Rattle.fault_storage_parts.specs.Files.{Mutation, written, fixed, resized_to, File, with_bytes, with_kept, resized, settled}
 
 -- a store: the names of its partitions, its files, the numbers of the files whose mutations were issued, and the next number
@@ -68,6 +69,17 @@ issued number mutation store =
       files = changed (has_number number) (with_issued mutation) store.files;
       order = store.order ++ number ∷ [];
     }
+    else store
+
+-- the mutation that was issued last of a file, put otherwise
+abbrev pub revised : ℕ → (Mutation → Mutation) → Store → Store
+revised number change store = record store { files = changed (has_number number) (file_recast change) store.files }
+
+-- the mutation that was issued last of all, taken back, where its file is there
+abbrev pub withdrawn : ℕ → Store → Store
+withdrawn number store =
+    if is_there number store
+    then record store { files = changed (has_number number) file_without_last store.files; order = without_last store.order }
     else store
 
 -- without the turns of a file

@@ -6,13 +6,14 @@
 //!
 //! A call that answers F8 or F9 has taken no word and changed nothing. The draw comes before every other check of the store.
 
-ghost use Rattle.std.specs.Prelude.{◌≡◌, ◌+◌, ◌-◌, ◌^◌, ◌<◌, ◌⊎◌, Err, Ok, IfErr, OnOk, OnErr, true, if◌then◌else◌};
+ghost use Rattle.std.specs.Prelude.{◌≡◌, ◌+◌, ◌-◌, ◌^◌, ◌<◌, ◌⊎◌, Err, Ok, IfErr, OnOk, OnErr, true, length, if◌then◌else◌};
 ghost use Rattle.std.specs.List.{list_any};
 ghost use Rattle.fault_storage_parts.specs.Draws.{sample};
 ghost use Rattle.fault_storage_parts.specs.DrawsCode.{rate_of};
-ghost use Rattle.fault_storage.specs.Stores.{without_retired, published, crashed_store};
+ghost use Rattle.fault_storage.specs.Stores.{resizing, without_retired, published, crashed_store};
 ghost use Rattle.fault_storage.specs.Directory.{has_name, admitted, LacksName, MemoryRemoves, MemoryScans, MemoryReads, MemoryFills, MemorySyncs};
 ghost use Rattle.fault_storage_parts.specs.declared.error.Call.TheVariants.{Open, Remove};
+ghost use Rattle.fault_storage.specs.Changes.{IsFaultyChange, is_injected, made_write, failed_write, failed_resize};
 ghost use Rattle.fault_storage.specs.Faults.{IsFaultyCall, FaultyOpens, unwrapped};
 
 use crate::config::Config;
@@ -20,7 +21,7 @@ use crate::error::{Call, Error};
 use crate::header::Versions;
 use crate::memory;
 use crate::probability::Probability;
-use crate::storage::Opened;
+use crate::storage::{Opened, WriteMode};
 use rand_core::Rng;
 
 /// A store that fails. In the Rust: `commonware_runtime::storage::faulty::Storage`.
@@ -192,6 +193,13 @@ impl<R: Rng> crate::storage::Storage for Storage<memory::Storage, R> {
     }
 }
 
+// Whether a fault was injected.
+fn is_injected(answer: &Result<(), Error>) -> bool
+    ensures { result ≡ is_injected answer.now }
+{
+    matches!(answer, Err(Error::Injected(_)))
+}
+
 // The blob of the store below as one of the store that fails.
 fn wrap(opened: Opened<memory::Blob>) -> Opened<Blob<memory::Blob>>
     ensures { unwrapped result ≡ opened }
@@ -271,6 +279,60 @@ impl Blob<memory::Blob> {
             return Err(Error::Injected(Call::Read));
         }
         self.inner.read_at_buf(offset, buffer)
+    }
+
+    /// Writes the bytes at an offset, with zeros in a gap before them. F8: the count of faults has ended, or their end would pass a u64;
+    /// F9; F6: the bytes that are drawn are durable at once, and live. A crash keeps bytes of a plain write by the settings of now.
+    pub fn write_at<R: Rng>(
+        &mut self,
+        storage: &mut Storage<memory::Storage, R>,
+        offset: u64,
+        bytes: &[u8],
+        mode: WriteMode,
+    ) -> Result<(), Error>
+        ensures { IsFaultyChange (R.stream) Call.Write storage.old.config.write.rate (self.old.inner.offset + offset + length bytes.now)
+            (failed_write storage.old.config.write offset bytes.now) (made_write storage.old.config.write mode offset bytes.now) self.old storage.old result self.new storage.new }
+    {
+        if storage.injections == u64::MAX {
+            return Err(Error::NumberEnded);
+        }
+        let written = self.inner.write_unless(
+            &mut storage.inner,
+            &mut storage.rng,
+            storage.config.write,
+            offset,
+            bytes,
+            mode,
+        );
+        if is_injected(&written) {
+            storage.count_fault();
+        }
+        written
+    }
+
+    /// Cuts the blob to a length, or grows it to that by zeros. F8: the count of faults has ended, or its end would pass a u64; F9; F6:
+    /// it goes a part of the way, or nowhere, as is drawn. A crash keeps it by the settings of now.
+    pub fn resize<R: Rng>(
+        &mut self,
+        storage: &mut Storage<memory::Storage, R>,
+        size: u64,
+    ) -> Result<(), Error>
+        ensures { IsFaultyChange (R.stream) Call.Resize storage.old.config.resize.rate (self.old.inner.offset + size)
+            (failed_resize storage.old.config.resize size) (resizing size (rate_of storage.old.config.resize.retention)) self.old storage.old result self.new storage.new }
+    {
+        if storage.injections == u64::MAX {
+            return Err(Error::NumberEnded);
+        }
+        let resized = self.inner.resize_unless(
+            &mut storage.inner,
+            &mut storage.rng,
+            storage.config.resize,
+            size,
+        );
+        if is_injected(&resized) {
+            storage.count_fault();
+        }
+        resized
     }
 
     /// Makes the live bytes durable. F8: the count of faults has ended; F9; F6, and nothing is published; F1: the blob is gone.

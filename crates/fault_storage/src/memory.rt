@@ -1,6 +1,6 @@
 //! The store in memory.
 
-ghost use Rattle.std.specs.Prelude.{◌≡◌, not, MatchResult, Ok, ◌+◌, ◌-◌, ◌^◌, ◌<◌, ◌≤◌, ◌⊎◌, ◌↔◌, [], false, true, Err, IfOk, IfErr, IfNone, IfSome, None, Some, OnOk, OnErr, MatchOption, filter, length};
+ghost use Rattle.std.specs.Prelude.{◌≡◌, not, MatchResult, Ok, ◌+◌, ◌-◌, ◌^◌, ◌<◌, ◌≤◌, ◌⊎◌, ◌↔◌, [], false, true, Err, IfOk, IfErr, IfNone, IfSome, None, Some, OnOk, OnErr, MatchOption, filter, length, max, replicate};
 ghost use Rattle.std.specs.List.{list_any};
 ghost use Rattle.std.specs.Vec.{vec_len, vec_capacity};
 ghost use Rattle.fault_storage_parts.specs.DrawsCode.{rate_of, mode_of};
@@ -11,16 +11,19 @@ ghost use Rattle.fault_storage_parts.specs.declared.error.HeaderError.{HeaderErr
 ghost use Rattle.fault_storage_parts.specs.declared.header.Layout.TheVariants.{V0};
 ghost use Rattle.fault_storage_parts.specs.Headers.{created};
 ghost use Rattle.fault_storage.specs.Faults.{IsDrawnCall};
+ghost use Rattle.fault_storage.specs.Changes.{IsDrawnChange, made_write, failed_write, mutation_for, shown_after, failed_length, failed_resize};
 ghost use Rattle.fault_storage.specs.Directory.{in_order, with_partition, MemoryOpens, MemoryPlaces, MemoryRemoves, MemoryScans, MemoryReads, Fills, MemorySyncs, IsMissing, fault_in, handle_in, shown_in, new_handle, has_name, has_partition, names_in, placed, admitted, removed, removed_partition, LacksName, LacksPartition};
-ghost use Rattle.fault_storage_parts.specs.Draws.{never};
-ghost use Rattle.fault_storage.specs.Stores.{Store, Handle, memory_write, fixed_write, resizing, showing, IsPlace, has_number, is_there, without_retired, issued, published, without, changed, with_issued, settled_at, settled_in, crashed_files, crashed_store};
+ghost use Rattle.fault_storage_parts.specs.Draws.{never, kept_bytes};
+ghost use Rattle.fault_storage_parts.specs.Revisions.{kept_of, shortened, without_last, file_recast, file_without_last};
+ghost use Rattle.fault_storage.specs.Stores.{revised, withdrawn, Store, Handle, memory_write, fixed_write, resizing, showing, IsPlace, has_number, is_there, without_retired, issued, published, without, changed, with_issued, settled_at, settled_in, crashed_files, crashed_store};
 
 use crate::blob_file::BlobFile;
+use crate::config::{ResizeConfig, WriteConfig};
 use crate::directory::{
     PartitionName, durable_of, has_partition, names_in, place_of_name, publish_name, put_in_order,
     remove_files, remove_name, remove_partition,
 };
-use crate::draws::PartialWriteMode;
+use crate::draws::{PartialWriteMode, draw_length_between, note_kept_bytes};
 use crate::error::{Call, Error};
 use crate::file::{Mutation, Written};
 use crate::header::{Header, Layout, Layouts, Versions, resolve};
@@ -71,6 +74,40 @@ fn issue_in(files: &mut Vec<StoredFile>, number: u64, mutation: Mutation) -> Res
         files[place].file.issue(mutation)?;
     }
     Ok(())
+}
+
+// Makes these bytes of the write that was issued last durable at once, of the file with this number.
+fn fix_in(files: &mut Vec<StoredFile>, number: u64, kept: Vec<bool>)
+    ensures { files.new.items ≡ changed (has_number number) (file_recast (kept_of kept.items)) files.old.items }
+{
+    if let Some(place) = place_of(files, number) {
+        files[place].file.fix_last(kept);
+    }
+}
+
+// Lets the resize that was issued last go to this length, where it went further, of the file with this number.
+fn shorten_in(files: &mut Vec<StoredFile>, number: u64, size: usize)
+    ensures { files.new.items ≡ changed (has_number number) (file_recast (shortened size)) files.old.items }
+{
+    if let Some(place) = place_of(files, number) {
+        files[place].file.shorten_last(size);
+    }
+}
+
+// Takes back the mutation that was issued last, of the file with this number.
+fn withdraw_in(files: &mut Vec<StoredFile>, number: u64)
+    ensures { files.new.items ≡ changed (has_number number) file_without_last files.old.items }
+{
+    if let Some(place) = place_of(files, number) {
+        files[place].file.withdraw_last();
+    }
+}
+
+// Takes the last turn away.
+fn withdraw_turn(order: &mut Vec<u64>)
+    ensures { order.new.items ≡ without_last order.old.items }
+{
+    let _ = order.pop();
 }
 
 // Publishes the bytes of the file with this number, where it is there.
@@ -178,6 +215,30 @@ impl Storage {
         issue_in(&mut self.files, number, mutation)?;
         let _ = self.order.push(number);
         Ok(())
+    }
+
+    // Makes these bytes of the write that was issued last durable at once, of the file with this number.
+    fn fix_last(&mut self, number: u64, kept: Vec<bool>)
+        ensures { self.new ≡ revised number (kept_of kept.items) self.old }
+    {
+        fix_in(&mut self.files, number, kept);
+    }
+
+    // Lets the resize that was issued last go to this length, where it went further, of the file with this number.
+    fn shorten_last(&mut self, number: u64, size: usize)
+        ensures { self.new ≡ revised number (shortened size) self.old }
+    {
+        shorten_in(&mut self.files, number, size);
+    }
+
+    // Takes back the mutation that was issued last, of the file with this number, where it is there.
+    fn withdraw(&mut self, number: u64)
+        ensures { self.new ≡ withdrawn number self.old }
+    {
+        if self.has(number) {
+            withdraw_in(&mut self.files, number);
+            withdraw_turn(&mut self.order);
+        }
     }
 
     // Whether there is a file with this number.
@@ -533,7 +594,140 @@ fn end_of(start: usize, offset: u64, count: usize) -> Option<usize>
     start.checked_add(offset as usize)?.checked_add(count)
 }
 
+// What a write issues: a plain one by these settings, one that is synced as a whole. It fails only when out of memory.
+fn mutation_for(
+    alloc: Global,
+    settings: WriteConfig,
+    mode: WriteMode,
+    at: usize,
+    bytes: &[u8],
+) -> Result<Mutation, AllocError>
+    requires { at + length bytes.now < 2 ^ 64 }
+    ensures { IfOk result (λ mutation. mutation_of mutation ≡ mutation_for settings mode at bytes.now) }
+{
+    let copy = bytes.to_vec(alloc)?;
+    let written = Written {
+        offset: at,
+        bytes: copy,
+    };
+    match mode {
+        WriteMode::Plain => Ok(Mutation::Plain(written, settings.mode, settings.retention)),
+        WriteMode::Sync => {
+            let all = vec![in alloc; true; bytes.len()]?;
+            Ok(Mutation::Fixed(written, all))
+        }
+    }
+}
+
+// Lays the bytes of a write that was made over the live ones. There is room for them.
+fn show_write(live: &mut Vec<u8>, mode: WriteMode, at: usize, bytes: &[u8], all: &[bool])
+    requires fits { at + length bytes.now < 2 ^ 64 }
+    requires room { at + length bytes.now ≤ vec_capacity live.old }
+    requires all { all.now ≡ replicate (length bytes.now) true }
+    ensures { live.new.items ≡ shown_after mode at bytes.now live.old.items }
+{
+    match mode {
+        WriteMode::Plain => put_bytes(live, at, bytes),
+        WriteMode::Sync => put_kept(live, at, bytes, all),
+    }
+}
+
+// Which bytes of a write are kept that fails, by these settings. There is room for the choice.
+fn draw_kept<R: Rng>(kept: &mut Vec<bool>, settings: WriteConfig, count: usize, rng: &mut R)
+    requires { count ≤ vec_capacity kept.old }
+    ensures { (kept.new.items, R.stream rng.new) ≡ kept_bytes (mode_of settings.mode) (rate_of settings.retention) count (R.stream rng.old) }
+{
+    kept.clear();
+    note_kept_bytes(kept, settings.mode, settings.retention, count, rng);
+}
+
+// How far a resize goes that fails, or None where it changes nothing.
+fn draw_length<R: Rng>(
+    old: usize,
+    asked: usize,
+    retention: Probability,
+    rng: &mut R,
+) -> Option<usize>
+    ensures drawn { (result, R.stream rng.new) ≡ failed_length (rate_of retention) old asked (R.stream rng.old) }
+    ensures below { IfSome result (λ size. size < max old asked) }
+{
+    if !retention.sample(rng) {
+        return None;
+    }
+    let low = old.min(asked);
+    let high = old.max(asked);
+    if high - low <= 1 {
+        return None;
+    }
+    Some(draw_length_between(low as u64, high as u64, rng) as usize)
+}
+
 impl Blob {
+    /// Writes as `write_at` does where one draw does not come true, and a crash keeps bytes of a plain write by these settings; else the
+    /// bytes that are drawn are durable at once, and live. The draw comes after room was found for all. F8, F9; F6.
+    pub fn write_unless<R: Rng>(
+        &mut self,
+        storage: &mut Storage,
+        rng: &mut R,
+        settings: WriteConfig,
+        offset: u64,
+        bytes: &[u8],
+        mode: WriteMode,
+    ) -> Result<(), Error>
+        ensures { IsDrawnChange (R.stream) Call.Write settings.rate (self.old.offset + offset + length bytes.now) (failed_write settings offset bytes.now)
+            (made_write settings mode offset bytes.now) self.old storage.old rng.old result self.new storage.new rng.new }
+    {
+        let Some(end) = end_of(self.offset, offset, bytes.len()) else {
+            return Err(Error::NumberEnded);
+        };
+        let at = end - bytes.len();
+        let mutation = mutation_for(storage.allocator(), settings, mode, at, bytes)?;
+        let mut kept = vec![in storage.allocator(); true; bytes.len()]?;
+        self.live.reserve(end.saturating_sub(self.live.len()))?;
+        storage.issue(self.number, mutation)?;
+        if settings.rate.sample(rng) {
+            draw_kept(&mut kept, settings, bytes.len(), rng);
+            put_kept(&mut self.live, at, bytes, &kept);
+            storage.fix_last(self.number, kept);
+            return Err(Error::Injected(Call::Write));
+        }
+        show_write(&mut self.live, mode, at, bytes, &kept);
+        Ok(())
+    }
+
+    /// Resizes as `resize` does where one draw does not come true, and a crash keeps it by these settings; else it goes a part of the
+    /// way, or nowhere, as is drawn. The draw comes after room was found for all. F8, F9; F6.
+    pub fn resize_unless<R: Rng>(
+        &mut self,
+        storage: &mut Storage,
+        rng: &mut R,
+        settings: ResizeConfig,
+        size: u64,
+    ) -> Result<(), Error>
+        ensures { IsDrawnChange (R.stream) Call.Resize settings.rate (self.old.offset + size) (failed_resize settings size)
+            (resizing size (rate_of settings.retention)) self.old storage.old rng.old result self.new storage.new rng.new }
+    {
+        let Some(all) = end_of(self.offset, size, 0) else {
+            return Err(Error::NumberEnded);
+        };
+        let old = self.live.len();
+        self.live.reserve(all.saturating_sub(old))?;
+        let furthest = Mutation::ResizedTo(all.max(old), settings.retention);
+        storage.issue(self.number, furthest)?;
+        if !settings.rate.sample(rng) {
+            storage.shorten_last(self.number, all);
+            resize(&mut self.live, all);
+            return Ok(());
+        }
+        let Some(reached) = draw_length(old, all, settings.retention, rng) else {
+            storage.withdraw(self.number);
+            return Err(Error::Injected(Call::Resize));
+        };
+        storage.shorten_last(self.number, reached);
+        resize(&mut self.live, reached);
+        Err(Error::Injected(Call::Resize))
+    }
+
     /// So many bytes from an offset on. F7: they are not all there; F9. In the Rust: `commonware_runtime::Blob::read_at`.
     pub fn read_at(&self, storage: &Storage, offset: u64, count: usize) -> Result<Vec<u8>, Error>
         ensures { MemoryReads self.now offset count storage.now result storage.now }

@@ -2,6 +2,7 @@ pub mod Created
 pub mod Crc
 pub mod DrawLemmas
 pub mod Fronts
+pub mod LastMutations
 pub mod Overlays
 pub mod Rooms
 pub mod Settling

@@ -6,4 +6,5 @@ pub mod FilesCode
 pub mod Headers
 pub mod Names
 pub mod Refusals
+pub mod Revisions
 pub mod Settings

@@ -1,6 +1,10 @@
 //! Files.
 
-ghost use Rattle.std.specs.Prelude.{◌≡◌, drop};
+ghost use Rattle.std.specs.Prelude.{◌≡◌, ◌<◌, ◌≤◌, ◌++◌, ◌∷◌, [], ℕ, drop};
+ghost use Rattle.std.specs.VecDeque.{deque_len, deque_capacity};
+ghost use Rattle.fault_storage_parts.specs.Files.{HasRoomFor, chosen_bytes};
+ghost use Rattle.fault_storage_parts.specs.FilesCode.{mutation_of};
+ghost use Rattle.fault_storage_parts.specs.Revisions.{kept_of, shortened};
 
 use crate::file::Mutation;
 use crate::replay::{apply_drawn, apply_durable, chosen_of, size_for};
@@ -14,6 +18,39 @@ fn let_first_go(log: &mut VecDeque<Mutation>)
     ensures { log.new.items ≡ drop 1 log.old.items }
 {
     let _ = log.pop_front();
+}
+
+// Puts the mutation at the end of the log. There is room for it.
+fn put_last(log: &mut VecDeque<Mutation>, mutation: Mutation)
+    requires { deque_len log.old < deque_capacity log.old }
+    ensures { log.new.items ≡ log.old.items ++ mutation ∷ [] }
+{
+    let _ = log.push_back(mutation);
+}
+
+// The write with these bytes durable at once.
+fn fixed(mutation: Mutation, kept: Vec<bool>) -> Mutation
+    ensures is { mutation_of result ≡ kept_of kept.items (mutation_of mutation) }
+    ensures room { (size : ℕ) → HasRoomFor size (mutation_of mutation) → HasRoomFor size (mutation_of result) }
+    ensures chosen { chosen_bytes (mutation_of result) ≤ chosen_bytes (mutation_of mutation) }
+{
+    match mutation {
+        Mutation::Plain(written, _, _) => Mutation::Fixed(written, kept),
+        Mutation::Fixed(written, _) => Mutation::Fixed(written, kept),
+        Mutation::ResizedTo(size, retention) => Mutation::ResizedTo(size, retention),
+    }
+}
+
+// The resize to this length, where it went further.
+fn shortened(mutation: Mutation, size: usize) -> Mutation
+    ensures is { mutation_of result ≡ shortened size (mutation_of mutation) }
+    ensures room { (room : ℕ) → HasRoomFor room (mutation_of mutation) → HasRoomFor room (mutation_of result) }
+    ensures chosen { chosen_bytes (mutation_of result) ≤ chosen_bytes (mutation_of mutation) }
+{
+    match mutation {
+        Mutation::ResizedTo(asked, retention) => Mutation::ResizedTo(asked.min(size), retention),
+        write => write,
+    }
 }
 
 /// A file: a base, which was durable at the last published sync, admission or crash, else at creation, and the uncut log of its
@@ -42,6 +79,7 @@ impl Model for BlobFile {
 impl BlobFile {
     ghost use Rattle.std.specs.Prelude.{◌++◌, ◌∷◌, [], IfOk, OnOk, OnErr};
     ghost use Rattle.fault_storage_parts.specs.Files.{durable_bytes, settled};
+    ghost use Rattle.fault_storage_parts.specs.Revisions.{kept_of, shortened, file_recast, file_without_last};
     ghost use Rattle.fault_storage_parts.specs.FilesCode.{mutation_of, log_of};
 
     /// A file with this base and an empty log.
@@ -78,6 +116,31 @@ impl BlobFile {
         self.choice.reserve(missing)?;
         self.log.push_back(mutation)?;
         Ok(())
+    }
+
+    /// Makes these bytes of the write that was issued last durable at once, and no others. A resize stays as it is.
+    pub fn fix_last(&mut self, kept: Vec<bool>)
+        ensures { self.new ≡ file_recast (kept_of kept.items) self.old }
+    {
+        if let Some(last) = self.log.pop_back() {
+            put_last(&mut self.log, fixed(last, kept));
+        }
+    }
+
+    /// Lets the resize that was issued last go to this length, where it went further. A write stays as it is.
+    pub fn shorten_last(&mut self, size: usize)
+        ensures { self.new ≡ file_recast (shortened size) self.old }
+    {
+        if let Some(last) = self.log.pop_back() {
+            put_last(&mut self.log, shortened(last, size));
+        }
+    }
+
+    /// Takes back the mutation that was issued last.
+    pub fn withdraw_last(&mut self)
+        ensures { self.new ≡ file_without_last self.old }
+    {
+        let _ = self.log.pop_back();
     }
 
     /// Makes these bytes the base, and empties the log.
