@@ -1,5 +1,5 @@
 -- The files of a store by their names, in byte order: partitions first, then names, shorter ones before their continuations.
-use Rattle.std.specs.Prelude.{◌≡◌, ℕ, ◌+◌, ◌-◌, ◌^◌, ◌⊎◌, nat_le, Bool, true, false, not, if◌then◌else◌, Option, Some, None, Result, MatchResult, List, [], ◌∷◌, ◌++◌, length, take, filter, map}
+use Rattle.std.specs.Prelude.{◌≡◌, ℕ, ◌+◌, ◌-◌, ◌^◌, ◌<◌, ◌≤◌, ◌⊎◌, nat_le, Bool, true, false, not, if◌then◌else◌, Option, Some, None, Result, MatchResult, List, [], ◌∷◌, ◌++◌, length, take, filter, map}
 use Rattle.std.specs.List.{list_any}
 use Rattle.std.specs.Str.{bytes_eq}
 use Rattle.std.specs.declared.vec.Vec.{Vec}
@@ -13,11 +13,13 @@ use Rattle.fault_storage_parts.specs.declared.header.Layout.TheVariants.{V0, V1}
 use Rattle.fault_storage_parts.specs.declared.error.Error.{Error}
 use Rattle.fault_storage_parts.specs.declared.error.Error.TheVariants.{BlobInsufficientLength, BlobMissing, PartitionMissing, PartitionNameInvalid, Header, NumberEnded, Memory}
 use Rattle.fault_storage.specs.declared.storage.Opened.{Opened}
+use Rattle.fault_storage.specs.declared.storage.WriteMode.{WriteMode}
+use Rattle.fault_storage_parts.specs.Draws.{never}
 use Rattle.fault_storage_parts.specs.Names.{is_partition_name}
 use Rattle.fault_storage_parts.specs.Files.{durable_bytes}
 use Rattle.fault_storage_parts.specs.Headers.{created, IsUnmade, first_fault, file_checks, resolved_of}
 use Rattle.fault_storage.specs.Opens.{is_before, is_name}
-use Rattle.fault_storage.specs.Stores.{Store, Handle, file_with, number_with, changed, without, settled_at, has_bytes, bytes_at, is_there, published}
+use Rattle.fault_storage.specs.Stores.{Store, Handle, file_with, number_with, changed, without, settled_at, has_bytes, bytes_at, is_there, published, memory_write, resizing}
 
 abbrev pub has_name : List ℕ → List ℕ → StoredFile → Bool
 has_name partition name stored = is_name partition name stored.name
@@ -160,6 +162,18 @@ Fills handle offset buffer filled result = MatchResult result
 
 abbrev pub MemoryFills : Handle → ℕ → List ℕ → List ℕ → Store → Result Unit Error → Store → Type 0
 MemoryFills handle offset buffer filled old result new = (new ≡ old) × Fills handle offset buffer filled result
+
+-- what a write gives
+abbrev pub MemoryWrites : Handle → ℕ → List ℕ → WriteMode → Store → Result Unit Error → Handle → Store → Type 0
+MemoryWrites handle offset bytes mode old result changed new = let end = handle.offset + offset + length bytes in MatchResult result
+    (λ _. (end < 2 ^ 64) × ((changed, new) ≡ memory_write mode offset bytes handle old))
+    (λ e. (changed ≡ handle) × (new ≡ old) × (((e ≡ NumberEnded) × (2 ^ 64 ≤ end)) ⊎ ((e ≡ Memory) × (end < 2 ^ 64))))
+
+-- what a resize gives
+abbrev pub MemoryResizes : Handle → ℕ → Store → Result Unit Error → Handle → Store → Type 0
+MemoryResizes handle size old result changed new = let end = handle.offset + size in MatchResult result
+    (λ _. (end < 2 ^ 64) × ((changed, new) ≡ resizing size never handle old))
+    (λ e. (changed ≡ handle) × (new ≡ old) × (((e ≡ NumberEnded) × (2 ^ 64 ≤ end)) ⊎ ((e ≡ Memory) × (end < 2 ^ 64))))
 
 -- what a sync makes durable: the live bytes
 abbrev pub MemorySyncs : Handle → Store → Result Unit Error → Store → Type 0

@@ -12,7 +12,7 @@ ghost use Rattle.fault_storage_parts.specs.Draws.{sample};
 ghost use Rattle.fault_storage_parts.specs.DrawsCode.{rate_of};
 ghost use Rattle.fault_storage.specs.Stores.{resizing, without_retired, published, crashed_store};
 ghost use Rattle.fault_storage.specs.Directory.{has_name, admitted, LacksName, MemoryRemoves, MemoryScans, MemoryReads, MemoryFills, MemorySyncs};
-ghost use Rattle.fault_storage_parts.specs.declared.error.Call.TheVariants.{Open, Remove};
+ghost use Rattle.fault_storage_parts.specs.declared.error.Call.TheVariants.{Open, Read, Write, Sync, Resize, Remove, Scan};
 ghost use Rattle.fault_storage.specs.Changes.{IsFaultyChange, is_injected, made_write, failed_write, failed_resize};
 ghost use Rattle.fault_storage.specs.Faults.{IsFaultyCall, FaultyOpens, unwrapped};
 
@@ -21,7 +21,7 @@ use crate::error::{Call, Error};
 use crate::header::Versions;
 use crate::memory;
 use crate::probability::Probability;
-use crate::storage::{Opened, WriteMode};
+use crate::storage::{Blob as _, Opened, Storage as _, WriteMode};
 use rand_core::Rng;
 
 /// A store that fails. In the Rust: `commonware_runtime::storage::faulty::Storage`.
@@ -133,30 +133,12 @@ impl<R: Rng> Storage<memory::Storage, R> {
     }
 }
 
-impl<R: Rng> Storage<memory::Storage, R> {
-    /// The names of the partition's blobs in byte order. F8: the count of faults has ended; F9; F6; F3, F2.
-    /// In the Rust: `commonware_runtime::Storage::scan`.
-    pub fn scan(&mut self, partition: &str) -> Result<Vec<Vec<u8>>, Error>
-        ensures { IsFaultyCall (R.stream) Call.Scan self.old.config.scan (MemoryScans partition.now) self.old result self.new }
-    {
-        if self.injections == u64::MAX {
-            return Err(Error::NumberEnded);
-        }
-        let names = self.inner.scan(partition);
-        if matches!(names, Err(Error::Memory)) {
-            return Err(Error::Memory);
-        }
-        if self.injects(self.config.scan) {
-            return Err(Error::Injected(Call::Scan));
-        }
-        names
-    }
-}
-
 impl<R: Rng> crate::storage::Storage for Storage<memory::Storage, R> {
     type Blob = Blob<memory::Blob>;
 
     ghost opens = { λ old partition name versions result new. IsFaultyCall (R.stream) Open old.config.«open» (FaultyOpens partition name versions) old result new };
+
+    ghost scans = { λ old partition result new. IsFaultyCall (R.stream) Scan old.config.scan (MemoryScans partition) old result new };
 
     ghost removes = { λ old partition name result new. IsFaultyCall (R.stream) Remove old.config.remove (λ below. MemoryRemoves below partition name) old result new };
 
@@ -180,6 +162,22 @@ impl<R: Rng> crate::storage::Storage for Storage<memory::Storage, R> {
             }
             Err(e) => Err(e),
         }
+    }
+
+    /// The names of the partition's blobs in byte order. F8: the count of faults has ended; F9; F6; F3, F2.
+    /// In the Rust: `commonware_runtime::Storage::scan`.
+    fn scan(&mut self, partition: &str) -> Result<Vec<Vec<u8>>, Error> {
+        if self.injections == u64::MAX {
+            return Err(Error::NumberEnded);
+        }
+        let names = self.inner.scan(partition);
+        if matches!(names, Err(Error::Memory)) {
+            return Err(Error::Memory);
+        }
+        if self.injects(self.config.scan) {
+            return Err(Error::Injected(Call::Scan));
+        }
+        names
     }
 
     fn remove(&mut self, partition: &str, name: Option<&[u8]>) -> Result<(), Error> {
@@ -238,20 +236,31 @@ impl<B> Blob<B> {
     }
 }
 
-impl Blob<memory::Blob> {
+impl<R: Rng> crate::storage::Blob<Storage<memory::Storage, R>> for Blob<memory::Blob> {
+    ghost reads = { λ blob offset count old result new. IsFaultyCall (R.stream) Read old.config.read (MemoryReads blob.inner offset count) old result new };
+
+    ghost fills = { λ blob offset buffer filled old result new.
+        IsFaultyCall (R.stream) Read old.config.read (MemoryFills blob.inner offset buffer filled) old result new × OnErr result (filled ≡ buffer) };
+
+    ghost writes = { λ blob offset bytes mode old result changed new. IsFaultyChange (R.stream) Write old.config.write.rate (blob.inner.offset + offset + length bytes)
+        (failed_write old.config.write offset bytes) (made_write old.config.write mode offset bytes) blob old result changed new };
+
+    ghost resizes = { λ blob size old result changed new. IsFaultyChange (R.stream) Resize old.config.resize.rate (blob.inner.offset + size)
+        (failed_resize old.config.resize size) (resizing size (rate_of old.config.resize.retention)) blob old result changed new };
+
+    ghost syncs = { λ blob old result new. IsFaultyCall (R.stream) Sync old.config.sync (MemorySyncs blob.inner) old result new };
+
     /// So many bytes from an offset on. F8: the count of faults has ended; F9; F6; F7: they are not all there.
-    pub fn read_at<R: Rng>(
+    fn read_at(
         &self,
         storage: &mut Storage<memory::Storage, R>,
         offset: u64,
         count: usize,
-    ) -> Result<Vec<u8>, Error>
-        ensures { IsFaultyCall (R.stream) Call.Read storage.old.config.read (MemoryReads self.now.inner offset count) storage.old result storage.new }
-    {
+    ) -> Result<Vec<u8>, Error> {
         if storage.injections == u64::MAX {
             return Err(Error::NumberEnded);
         }
-        let bytes = self.inner.read_at(&storage.inner, offset, count);
+        let bytes = self.inner.read_at(&mut storage.inner, offset, count);
         if matches!(bytes, Err(Error::Memory)) {
             return Err(Error::Memory);
         }
@@ -263,36 +272,30 @@ impl Blob<memory::Blob> {
 
     /// Reads into the buffer from an offset on, and fills it; refused, it stays as it is. F8: the count of faults has ended; F6; F7: the
     /// bytes are not all there.
-    pub fn read_at_buf<R: Rng>(
+    fn read_at_buf(
         &self,
         storage: &mut Storage<memory::Storage, R>,
         offset: u64,
         buffer: &mut [u8],
-    ) -> Result<(), Error>
-        ensures call { IsFaultyCall (R.stream) Call.Read storage.old.config.read (MemoryFills self.now.inner offset buffer.old buffer.new) storage.old result storage.new }
-        ensures kept { OnErr result (buffer.new ≡ buffer.old) }
-    {
+    ) -> Result<(), Error> {
         if storage.injections == u64::MAX {
             return Err(Error::NumberEnded);
         }
         if storage.injects(storage.config.read) {
             return Err(Error::Injected(Call::Read));
         }
-        self.inner.read_at_buf(offset, buffer)
+        self.inner.read_at_buf(&mut storage.inner, offset, buffer)
     }
 
     /// Writes the bytes at an offset, with zeros in a gap before them. F8: the count of faults has ended, or their end would pass a u64;
     /// F9; F6: the bytes that are drawn are durable at once, and live. A crash keeps bytes of a plain write by the settings of now.
-    pub fn write_at<R: Rng>(
+    fn write_at(
         &mut self,
         storage: &mut Storage<memory::Storage, R>,
         offset: u64,
         bytes: &[u8],
         mode: WriteMode,
-    ) -> Result<(), Error>
-        ensures { IsFaultyChange (R.stream) Call.Write storage.old.config.write.rate (self.old.inner.offset + offset + length bytes.now)
-            (failed_write storage.old.config.write offset bytes.now) (made_write storage.old.config.write mode offset bytes.now) self.old storage.old result self.new storage.new }
-    {
+    ) -> Result<(), Error> {
         if storage.injections == u64::MAX {
             return Err(Error::NumberEnded);
         }
@@ -312,14 +315,11 @@ impl Blob<memory::Blob> {
 
     /// Cuts the blob to a length, or grows it to that by zeros. F8: the count of faults has ended, or its end would pass a u64; F9; F6:
     /// it goes a part of the way, or nowhere, as is drawn. A crash keeps it by the settings of now.
-    pub fn resize<R: Rng>(
+    fn resize(
         &mut self,
         storage: &mut Storage<memory::Storage, R>,
         size: u64,
-    ) -> Result<(), Error>
-        ensures { IsFaultyChange (R.stream) Call.Resize storage.old.config.resize.rate (self.old.inner.offset + size)
-            (failed_resize storage.old.config.resize size) (resizing size (rate_of storage.old.config.resize.retention)) self.old storage.old result self.new storage.new }
-    {
+    ) -> Result<(), Error> {
         if storage.injections == u64::MAX {
             return Err(Error::NumberEnded);
         }
@@ -336,9 +336,7 @@ impl Blob<memory::Blob> {
     }
 
     /// Makes the live bytes durable. F8: the count of faults has ended; F9; F6, and nothing is published; F1: the blob is gone.
-    pub fn sync<R: Rng>(&self, storage: &mut Storage<memory::Storage, R>) -> Result<(), Error>
-        ensures { IsFaultyCall (R.stream) Call.Sync storage.old.config.sync (MemorySyncs self.now.inner) storage.old result storage.new }
-    {
+    fn sync(&self, storage: &mut Storage<memory::Storage, R>) -> Result<(), Error> {
         if storage.injections == u64::MAX {
             return Err(Error::NumberEnded);
         }

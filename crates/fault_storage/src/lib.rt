@@ -22,7 +22,7 @@ pub use fault_storage_parts::{
     replay,
 };
 pub use opens::{BlobName, OpenBlob, Opens};
-pub use storage::{Opened, Storage, WriteMode};
+pub use storage::{Blob, Opened, Storage, WriteMode};
 
 #[cfg(test)]
 mod tests;

@@ -12,7 +12,7 @@ ghost use Rattle.fault_storage_parts.specs.declared.header.Layout.TheVariants.{V
 ghost use Rattle.fault_storage_parts.specs.Headers.{created};
 ghost use Rattle.fault_storage.specs.Faults.{IsDrawnCall};
 ghost use Rattle.fault_storage.specs.Changes.{IsDrawnChange, made_write, failed_write, mutation_for, shown_after, failed_length, failed_resize};
-ghost use Rattle.fault_storage.specs.Directory.{in_order, with_partition, MemoryOpens, MemoryPlaces, MemoryRemoves, MemoryScans, MemoryReads, Fills, MemorySyncs, IsMissing, fault_in, handle_in, shown_in, new_handle, has_name, has_partition, names_in, placed, admitted, removed, removed_partition, LacksName, LacksPartition};
+ghost use Rattle.fault_storage.specs.Directory.{in_order, with_partition, MemoryOpens, MemoryPlaces, MemoryRemoves, MemoryScans, MemoryReads, MemoryFills, MemoryWrites, MemoryResizes, MemorySyncs, IsMissing, fault_in, handle_in, shown_in, new_handle, has_name, has_partition, names_in, placed, admitted, removed, removed_partition, LacksName, LacksPartition};
 ghost use Rattle.fault_storage_parts.specs.Draws.{never, kept_bytes};
 ghost use Rattle.fault_storage_parts.specs.Revisions.{kept_of, shortened, without_last, file_recast, file_without_last};
 ghost use Rattle.fault_storage.specs.Stores.{revised, withdrawn, Store, Handle, memory_write, fixed_write, resizing, showing, IsPlace, has_number, is_there, without_retired, issued, published, without, changed, with_issued, settled_at, settled_in, crashed_files, crashed_store};
@@ -267,16 +267,6 @@ impl Storage {
         ensures { self.new ≡ without_retired self.old }
     {
         keep_turns(&mut self.order, &self.files);
-    }
-
-    /// The names of the partition's blobs in byte order. F3, F2 (there is no such partition), F9.
-    /// In the Rust: `commonware_runtime::Storage::scan`.
-    pub fn scan(&self, partition: &str) -> Result<Vec<Vec<u8>>, Error>
-        ensures { MemoryScans partition.now self.now result self.now }
-    {
-        self.find_partition(partition)?;
-        let names = names_in(self.alloc, &self.files, partition)?;
-        Ok(names)
     }
 
     // Whether the partition is there: F3, F2.
@@ -550,6 +540,8 @@ impl crate::storage::Storage for Storage {
 
     ghost opens = { MemoryOpens };
 
+    ghost scans = { λ old partition result new. MemoryScans partition old result new };
+
     ghost removes = { MemoryRemoves };
 
     fn open_versioned(
@@ -562,6 +554,14 @@ impl crate::storage::Storage for Storage {
             return Ok(opened);
         }
         self.create_blob(partition, name, versions)
+    }
+
+    /// The names of the partition's blobs in byte order. F3, F2 (there is no such partition), F9.
+    /// In the Rust: `commonware_runtime::Storage::scan`.
+    fn scan(&mut self, partition: &str) -> Result<Vec<Vec<u8>>, Error> {
+        self.find_partition(partition)?;
+        let names = names_in(self.alloc, &self.files, partition)?;
+        Ok(names)
     }
 
     fn remove(&mut self, partition: &str, name: Option<&[u8]>) -> Result<(), Error> {
@@ -728,85 +728,6 @@ impl Blob {
         Err(Error::Injected(Call::Resize))
     }
 
-    /// So many bytes from an offset on. F7: they are not all there; F9. In the Rust: `commonware_runtime::Blob::read_at`.
-    pub fn read_at(&self, storage: &Storage, offset: u64, count: usize) -> Result<Vec<u8>, Error>
-        ensures { MemoryReads self.now offset count storage.now result storage.now }
-    {
-        let Some(end) = end_of(self.offset, offset, count) else {
-            return Err(Error::BlobInsufficientLength);
-        };
-        if end > self.live.len() {
-            return Err(Error::BlobInsufficientLength);
-        }
-        let bytes = self.live[end - count..end].to_vec(storage.allocator())?;
-        Ok(bytes)
-    }
-
-    /// Reads into the buffer from an offset on, and fills it. F7, and it stays as it is: not all bytes are there.
-    /// In the Rust: `commonware_runtime::Blob::read_at_buf`.
-    pub fn read_at_buf(&self, offset: u64, buffer: &mut [u8]) -> Result<(), Error>
-        ensures { Fills self.now offset buffer.old buffer.new result }
-    {
-        let Some(end) = end_of(self.offset, offset, buffer.len()) else {
-            return Err(Error::BlobInsufficientLength);
-        };
-        if end > self.live.len() {
-            return Err(Error::BlobInsufficientLength);
-        }
-        buffer.copy_from_slice(&self.live[end - buffer.len()..end]);
-        Ok(())
-    }
-
-    /// Writes the bytes at an offset, with zeros in a gap before them. F8: their end would pass a u64; F9. A crash keeps none of a plain
-    /// write but a beginning. In the Rust: `commonware_runtime::Blob::write_at`.
-    pub fn write_at(
-        &mut self,
-        storage: &mut Storage,
-        offset: u64,
-        bytes: &[u8],
-        mode: WriteMode,
-    ) -> Result<(), Error>
-        ensures ok { OnOk result ((self.new, storage.new) ≡ memory_write mode offset bytes.now self.old storage.old) }
-        ensures err { OnErr result ((self.new ≡ self.old) × (storage.new ≡ storage.old)) }
-        ensures ended { (result ≡ Err Error.NumberEnded) ↔ (2 ^ 64 ≤ self.old.offset + offset + length bytes.now) }
-        ensures refused { IfErr result (λ e. (e ≡ Error.NumberEnded) ⊎ (e ≡ Error.Memory)) }
-    {
-        let Some(end) = end_of(self.offset, offset, bytes.len()) else {
-            return Err(Error::NumberEnded);
-        };
-        match mode {
-            WriteMode::Plain => {
-                self.write_plain(
-                    storage,
-                    end,
-                    bytes,
-                    PartialWriteMode::Prefix,
-                    Probability::ZERO,
-                )?;
-            }
-            WriteMode::Sync => {
-                let all = vec![in storage.allocator(); true; bytes.len()]?;
-                self.write_fixed(storage, end, bytes, &all)?;
-            }
-        }
-        Ok(())
-    }
-
-    /// Cuts the blob to a length, or grows it to that by zeros. F8: its end would pass a u64; F9. A crash keeps it not.
-    /// In the Rust: `commonware_runtime::Blob::resize`.
-    pub fn resize(&mut self, storage: &mut Storage, size: u64) -> Result<(), Error>
-        ensures ok { OnOk result ((self.new, storage.new) ≡ resizing size never self.old storage.old) }
-        ensures err { OnErr result ((self.new ≡ self.old) × (storage.new ≡ storage.old)) }
-        ensures ended { (result ≡ Err Error.NumberEnded) ↔ (2 ^ 64 ≤ self.old.offset + size) }
-        ensures refused { IfErr result (λ e. (e ≡ Error.NumberEnded) ⊎ (e ≡ Error.Memory)) }
-    {
-        let Some(all) = end_of(self.offset, size, 0) else {
-            return Err(Error::NumberEnded);
-        };
-        self.resize_all(storage, all, Probability::ZERO)?;
-        Ok(())
-    }
-
     /// What a write leaves that failed: of its bytes those that are kept are durable at once, and live. F8, F9.
     /// In the Rust: `commonware_runtime::storage::memory::Blob::retain_crash_write`.
     pub fn retain_crash_write(
@@ -932,11 +853,91 @@ impl Blob {
     {
         storage.publish(self.number, bytes);
     }
+}
+
+impl crate::storage::Blob<Storage> for Blob {
+    ghost reads = { MemoryReads };
+
+    ghost fills = { MemoryFills };
+
+    ghost writes = { MemoryWrites };
+
+    ghost resizes = { MemoryResizes };
+
+    ghost syncs = { MemorySyncs };
+
+    /// So many bytes from an offset on. F7: they are not all there; F9. In the Rust: `commonware_runtime::Blob::read_at`.
+    fn read_at(&self, storage: &mut Storage, offset: u64, count: usize) -> Result<Vec<u8>, Error> {
+        let Some(end) = end_of(self.offset, offset, count) else {
+            return Err(Error::BlobInsufficientLength);
+        };
+        if end > self.live.len() {
+            return Err(Error::BlobInsufficientLength);
+        }
+        let bytes = self.live[end - count..end].to_vec(storage.allocator())?;
+        Ok(bytes)
+    }
+
+    /// Reads into the buffer from an offset on, and fills it. F7, and it stays as it is: not all bytes are there.
+    /// In the Rust: `commonware_runtime::Blob::read_at_buf`.
+    fn read_at_buf(
+        &self,
+        _storage: &mut Storage,
+        offset: u64,
+        buffer: &mut [u8],
+    ) -> Result<(), Error> {
+        let Some(end) = end_of(self.offset, offset, buffer.len()) else {
+            return Err(Error::BlobInsufficientLength);
+        };
+        if end > self.live.len() {
+            return Err(Error::BlobInsufficientLength);
+        }
+        buffer.copy_from_slice(&self.live[end - buffer.len()..end]);
+        Ok(())
+    }
+
+    /// Writes the bytes at an offset, with zeros in a gap before them. F8: their end would pass a u64; F9. A crash keeps none of a plain
+    /// write but a beginning. In the Rust: `commonware_runtime::Blob::write_at`.
+    fn write_at(
+        &mut self,
+        storage: &mut Storage,
+        offset: u64,
+        bytes: &[u8],
+        mode: WriteMode,
+    ) -> Result<(), Error> {
+        let Some(end) = end_of(self.offset, offset, bytes.len()) else {
+            return Err(Error::NumberEnded);
+        };
+        match mode {
+            WriteMode::Plain => {
+                self.write_plain(
+                    storage,
+                    end,
+                    bytes,
+                    PartialWriteMode::Prefix,
+                    Probability::ZERO,
+                )?;
+            }
+            WriteMode::Sync => {
+                let all = vec![in storage.allocator(); true; bytes.len()]?;
+                self.write_fixed(storage, end, bytes, &all)?;
+            }
+        }
+        Ok(())
+    }
+
+    /// Cuts the blob to a length, or grows it to that by zeros. F8: its end would pass a u64; F9. A crash keeps it not.
+    /// In the Rust: `commonware_runtime::Blob::resize`.
+    fn resize(&mut self, storage: &mut Storage, size: u64) -> Result<(), Error> {
+        let Some(all) = end_of(self.offset, size, 0) else {
+            return Err(Error::NumberEnded);
+        };
+        self.resize_all(storage, all, Probability::ZERO)?;
+        Ok(())
+    }
 
     /// Makes the live bytes durable. F1: the blob is gone; F9. In the Rust: `commonware_runtime::Blob::sync`.
-    pub fn sync(&self, storage: &mut Storage) -> Result<(), Error>
-        ensures { MemorySyncs self.now storage.old result storage.new }
-    {
+    fn sync(&self, storage: &mut Storage) -> Result<(), Error> {
         let Some(bytes) = self.copy_live(storage)? else {
             return Err(Error::BlobMissing);
         };

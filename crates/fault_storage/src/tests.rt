@@ -7,7 +7,7 @@ use crate::config::Config;
 use crate::error::{Call, Error};
 use crate::header::Versions;
 use crate::probability::Probability;
-use crate::storage::{Storage, WriteMode};
+use crate::storage::{Blob, Storage, WriteMode};
 use crate::{faulty, memory};
 use rand_core::utils::NextWord;
 use rand_core::{Rng, utils};
@@ -82,11 +82,11 @@ fn keeps_a_synced_write_past_a_plain_one(rt: HostRuntime) -> Result<(), Fail> {
         let shown = storage.open_versioned("p", b"n", versions)?.blob;
         assert_eq!(rt; shown.copy_live(&storage)?.as_deref(), Some(left));
         assert_eq!(rt;
-            shown.read_at(&storage, 0, 4)?.as_slice(),
+            shown.read_at(&mut storage, 0, 4)?.as_slice(),
             b"\x01\x02\x03\x04".as_slice()
         );
         assert_eq!(rt;
-            shown.read_at(&storage, 8, 3),
+            shown.read_at(&mut storage, 8, 3),
             Err(Error::BlobInsufficientLength)
         );
     }
