@@ -12,7 +12,7 @@ ghost use Rattle.fault_storage_parts.specs.declared.header.Layout.TheVariants.{V
 ghost use Rattle.fault_storage_parts.specs.Headers.{created};
 ghost use Rattle.fault_storage.specs.Faults.{IsDrawnCall};
 ghost use Rattle.fault_storage.specs.Changes.{IsDrawnChange, made_write, failed_write, mutation_for, shown_after, failed_length, failed_resize};
-ghost use Rattle.fault_storage.specs.Directory.{in_order, with_partition, MemoryOpens, MemoryPlaces, MemoryRemoves, MemoryScans, MemoryReads, MemoryFills, MemoryWrites, MemoryResizes, MemorySyncs, IsMissing, fault_in, handle_in, shown_in, new_handle, has_name, has_partition, names_in, placed, admitted, removed, removed_partition, LacksName, LacksPartition};
+ghost use Rattle.fault_storage.specs.Directory.{in_order, durable_in, with_partition, MemoryOpens, MemoryPlaces, MemoryRemoves, MemoryScans, MemoryReads, MemoryFills, MemoryWrites, MemoryResizes, MemorySyncs, IsMissing, fault_in, handle_in, shown_in, new_handle, has_name, has_partition, names_in, placed, admitted, removed, removed_partition, LacksName, LacksPartition};
 ghost use Rattle.fault_storage_parts.specs.Draws.{never, kept_bytes};
 ghost use Rattle.fault_storage_parts.specs.Revisions.{kept_of, shortened, without_last, file_recast, file_without_last};
 ghost use Rattle.fault_storage.specs.Stores.{revised, withdrawn, Store, Handle, memory_write, fixed_write, resizing, showing, IsPlace, has_number, is_there, without_retired, issued, published, without, changed, with_issued, settled_at, settled_in, crashed_files, crashed_store};
@@ -388,6 +388,19 @@ impl Storage {
         forget_turns(&mut self.order, durable.number);
         publish_name(&mut self.files, partition, name, durable.bytes);
         Ok(())
+    }
+
+    /// What is durable of the file of this name, its header first. F3, F2, F1, F9.
+    /// In the Rust: `commonware_runtime::storage::memory::Storage::raw_blob`.
+    pub fn raw_blob(&self, partition: &str, name: &[u8]) -> Result<Vec<u8>, Error>
+        ensures ok { IfOk result (λ bytes. (list_any (has_name partition.now name.now) self.now.files ≡ true) × (bytes.items ≡ durable_in partition.now name.now self.now.files)) }
+        ensures err { IfErr result (λ e. LacksName partition.now name.now self.now e ⊎ (e ≡ Error.Memory)) }
+    {
+        self.find_partition(partition)?;
+        match durable_of(self.alloc, &self.files, partition, name)? {
+            Some(durable) => Ok(durable.bytes),
+            None => Err(Error::BlobMissing),
+        }
     }
 
     // The blob of this name, or None where it has no header yet. F3, F5, F9.
