@@ -1,3 +1,5 @@
 pub mod Changing
+pub mod Counting
+pub mod Leaving
 pub mod Places
 pub mod Revising

@@ -5,6 +5,7 @@ use Rattle.rand_core.specs.Stream.{Stream, next_u64}
 use Rattle.fault_storage_parts.specs.declared.config.ResizeConfig.{ResizeConfig}
 use Rattle.fault_storage_parts.specs.declared.config.WriteConfig.{WriteConfig}
 use Rattle.fault_storage_parts.specs.declared.error.Call.{Call}
+use Rattle.fault_storage_parts.specs.declared.error.Call.TheVariants.{Write, Resize}
 use Rattle.fault_storage_parts.specs.declared.error.Error.{Error}
 use Rattle.fault_storage_parts.specs.declared.error.Error.TheVariants.{BlobMissing, PartitionMissing, PartitionNameInvalid, AlreadyOpen, Header, Injected, BlobInsufficientLength, NumberEnded, Memory}
 use Rattle.fault_storage_parts.specs.declared.probability.Probability.{Probability}
@@ -15,7 +16,7 @@ use Rattle.fault_storage.specs.declared.faulty.Blob.{Blob}
 use Rattle.fault_storage.specs.declared.faulty.Storage.{Storage}
 use Rattle.fault_storage.specs.declared.storage.WriteMode.{WriteMode}
 use Rattle.fault_storage.specs.declared.storage.WriteMode.TheVariants.{Plain, Sync}
-use Rattle.fault_storage.specs.Stores.{Store, Handle, showing, issued, plain_write, fixed_write, synced_write}
+use Rattle.fault_storage.specs.Stores.{Store, Handle, showing, issued, plain_write, fixed_write, synced_write, resizing}
 
 -- a write that is made: of a plain one a crash keeps bytes by the settings of now
 abbrev pub made_write : WriteConfig → WriteMode → ℕ → List ℕ → Handle → Store → Handle × Store
@@ -87,3 +88,14 @@ IsFaultyChange stream call rate end failed made blob old result changed new = le
     × (new ≡ record old { inner = new.inner; rng = new.rng; injections = old.injections + 1 }))
     ⊎ ((old.injections < 2 ^ 64 - 1) × (end < 2 ^ 64) × (drawn.0 ≡ false) × (result ≡ Ok tt)
     × ((changed.inner, new.inner) ≡ made blob.inner old.inner) × (new ≡ record old { inner = new.inner; rng = new.rng }) × (stream new.rng ≡ drawn.1))
+
+-- a write, and a resize, by the settings of the store
+abbrev pub FaultyWrites : {R : Type 0} → (R → Stream) → Blob Handle → ℕ → List ℕ → WriteMode → Storage Store R → Result Unit Error → Blob Handle → Storage Store R → Type 0
+FaultyWrites stream blob offset bytes mode old result changed new =
+    IsFaultyChange stream Write old.config.write.rate (blob.inner.offset + offset + length bytes) (failed_write old.config.write offset bytes)
+    (made_write old.config.write mode offset bytes) blob old result changed new
+
+abbrev pub FaultyResizes : {R : Type 0} → (R → Stream) → Blob Handle → ℕ → Storage Store R → Result Unit Error → Blob Handle → Storage Store R → Type 0
+FaultyResizes stream blob size old result changed new =
+    IsFaultyChange stream Resize old.config.resize.rate (blob.inner.offset + size) (failed_resize old.config.resize size)
+    (resizing size (rate_of old.config.resize.retention)) blob old result changed new

@@ -47,3 +47,14 @@ unwrapped opened = record { blob = opened.blob.inner; size = opened.size; versio
 abbrev pub FaultyOpens : List ℕ → List ℕ → Versions → Store → Result (Opened (Blob Handle)) Error → Store → Type 0
 FaultyOpens partition name versions old (Ok opened) new = MemoryOpens old partition name versions (Ok (unwrapped opened)) new
 FaultyOpens partition name versions old (Err e) new = MemoryOpens old partition name versions (Err e) new
+
+-- The store below answers: no word is taken, and no fault is counted.
+abbrev pub IsPlainCall : {S R T : Type 0} → (R → Stream) → (S → Result T Error → S → Type 0) → Storage S R → Result T Error → Storage S R → Type 0
+IsPlainCall stream Answers old result new =
+    Answers old.inner result new.inner × (stream new.rng ≡ stream old.rng) × (new.injections ≡ old.injections) × (new.config ≡ old.config)
+
+-- A fault is told of exactly where it is counted.
+abbrev pub IsCounted : {S R T : Type 0} → Call → Storage S R → Result T Error → Storage S R → Type 0
+IsCounted call old result new =
+    ((result ≡ Err (Injected call)) × (new.injections ≡ old.injections + 1))
+    ⊎ (((other : Call) → result ≡ Err (Injected other) → ⊥) × (new.injections ≡ old.injections))

@@ -13,7 +13,7 @@ ghost use Rattle.fault_storage_parts.specs.DrawsCode.{rate_of};
 ghost use Rattle.fault_storage.specs.Stores.{resizing, without_retired, published, crashed_store};
 ghost use Rattle.fault_storage.specs.Directory.{has_name, admitted, LacksName, MemoryRemoves, MemoryScans, MemoryReads, MemoryFills, MemorySyncs};
 ghost use Rattle.fault_storage_parts.specs.declared.error.Call.TheVariants.{Open, Read, Write, Sync, Resize, Remove, Scan};
-ghost use Rattle.fault_storage.specs.Changes.{IsFaultyChange, is_injected, made_write, failed_write, failed_resize};
+ghost use Rattle.fault_storage.specs.Changes.{FaultyWrites, FaultyResizes, is_injected};
 ghost use Rattle.fault_storage.specs.Faults.{IsFaultyCall, FaultyOpens, unwrapped};
 
 use crate::config::Config;
@@ -245,11 +245,9 @@ impl<R: Rng> crate::storage::Blob<Storage<memory::Storage, R>> for Blob<memory::
     ghost fills = { λ blob offset buffer filled old result new.
         IsFaultyCall (R.stream) Read old.config.read (MemoryFills blob.inner offset buffer filled) old result new × OnErr result (filled ≡ buffer) };
 
-    ghost writes = { λ blob offset bytes mode old result changed new. IsFaultyChange (R.stream) Write old.config.write.rate (blob.inner.offset + offset + length bytes)
-        (failed_write old.config.write offset bytes) (made_write old.config.write mode offset bytes) blob old result changed new };
+    ghost writes = { FaultyWrites (R.stream) };
 
-    ghost resizes = { λ blob size old result changed new. IsFaultyChange (R.stream) Resize old.config.resize.rate (blob.inner.offset + size)
-        (failed_resize old.config.resize size) (resizing size (rate_of old.config.resize.retention)) blob old result changed new };
+    ghost resizes = { FaultyResizes (R.stream) };
 
     ghost syncs = { λ blob old result new. IsFaultyCall (R.stream) Sync old.config.sync (MemorySyncs blob.inner) old result new };
 

@@ -37,7 +37,7 @@ resized-if : (size at : ℕ) (file : List ℕ) (is : Bool) → size ≤ at → s
 resized-if size at file true past long = resized-keeps size at file past long
 resized-if size at file false past long = (long, refl)
 
-applied-keeps : (size : ℕ) (choice : List Bool) (mutation : Mutation) (file : List ℕ) → IsPast size mutation → size ≤ length file
+pub applied-keeps : (size : ℕ) (choice : List Bool) (mutation : Mutation) (file : List ℕ) → IsPast size mutation → size ≤ length file
     → Keeps size file (applied choice mutation file)
 applied-keeps size choice (written at bytes mode rate) file past long = kept-keeps size at bytes choice file past long
 applied-keeps size choice (fixed at bytes kept) file past long = kept-keeps size at bytes kept file past long

@@ -3,6 +3,7 @@ pub mod Crc
 pub mod DrawLemmas
 pub mod Fronts
 pub mod LastMutations
+pub mod Left
 pub mod Overlays
 pub mod Rooms
 pub mod Settling

@@ -1,6 +1,6 @@
 -- A file is a base and one uncut log of mutations in the order of issue. What is durable is the base with the fixed mutations
 -- alone; what a crash leaves is the base with all of them, the others by choices that are drawn.
-use Rattle.std.specs.Prelude.{ℕ, ⊤, ◌+◌, ◌-◌, ◌≤◌, Bool, true, false, if◌then◌else◌, List, [], ◌∷◌, ◌++◌, length, take, drop, replicate}
+use Rattle.std.specs.Prelude.{◌≡◌, ℕ, ⊤, ◌+◌, ◌-◌, ◌≤◌, Bool, true, false, if◌then◌else◌, List, [], ◌∷◌, ◌++◌, length, take, drop, replicate}
 use Rattle.rand_core.specs.Stream.{Stream}
 use Rattle.fault_storage_parts.specs.Draws.{Rate, Mode, sample, kept_bytes}
 
@@ -57,6 +57,12 @@ abbrev pub left_by : List (List Bool) → List ℕ → List Mutation → List �
 left_by choices base [] = base
 left_by [] base (mutation ∷ later) = base
 left_by (choice ∷ choices) base (mutation ∷ later) = left_by choices (applied choice mutation base) later
+
+-- what is left of a file where choices were made for the first of its log: its base by them, and the others still in its log
+pub record IsLeftOf (base : List ℕ) (log : List Mutation) (left : List ℕ) (later : List Mutation) : Type 0 where
+  pub choices : List (List Bool)
+  pub is : left ≡ left_by choices base log
+  pub rest : later ≡ drop (length choices) log
 
 -- the choice that is drawn for a mutation, and the words left: a fixed one takes none
 abbrev pub drawn_choice : Mutation → Stream → List Bool × Stream

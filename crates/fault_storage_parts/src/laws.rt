@@ -2,7 +2,7 @@
 
 ghost use Rattle.std.specs.Prelude.{◌≡◌, ◌≤◌, ℕ, List, None, length, take};
 ghost use Rattle.rand_core.specs.Stream.{Stream};
-ghost use Rattle.fault_storage_parts.specs.Files.{Mutation, ArePast, crashed};
+ghost use Rattle.fault_storage_parts.specs.Files.{Mutation, ArePast, IsLeftOf, crashed};
 ghost use Rattle.fault_storage_parts.specs.Headers.{layout_number, data_offset_of, created, first_fault, file_checks, resolved_of};
 
 use crate::header::{Layouts, Versions};
@@ -18,4 +18,9 @@ pub fn created_is_parsed(layouts: Layouts, versions: Versions)
 /// The law that a crash changes no byte of a header: none of the first bytes that all mutations of the file pass over.
 pub fn crash_keeps_the_header()
     ensures { (size : ℕ) → (base : List ℕ) → (log : List Mutation) → (words : Stream) → size ≤ length base → ArePast size log → take size (crashed base log words).0 ≡ take size base }
+{}
+
+/// The law that what choices leave of a file, at a crash or half way through one, has the header that it had.
+pub fn left_has_the_header()
+    ensures { (size : ℕ) → (base left : List ℕ) → (log later : List Mutation) → IsLeftOf base log left later → size ≤ length base → ArePast size log → take size left ≡ take size base }
 {}
