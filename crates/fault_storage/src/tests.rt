@@ -6,6 +6,7 @@ ghost use Rattle.rand_core.specs.Steps.{stream_of, steps_u64_low};
 use crate::config::Config;
 use crate::error::{Call, Error};
 use crate::header::Versions;
+use crate::opens::{OpenBlob, Opens};
 use crate::probability::Probability;
 use crate::storage::{Blob, Storage, WriteMode};
 use crate::{faulty, memory};
@@ -140,5 +141,147 @@ fn counts_each_fault(rt: HostRuntime) -> Result<(), Error> {
     storage.remove_retired();
     assert_eq!(rt; blob.sync(&mut storage), Err(Error::BlobMissing));
     assert_eq!(rt; storage.injections(), 6);
+    Ok(())
+}
+
+// Closes what was opened, and says why it was refused if it was.
+fn refusal<B: Drop>(opens: &mut Opens, answer: Result<OpenBlob<B>, Error>) -> Option<Error> {
+    match answer {
+        Ok(open) => {
+            opens.close(open);
+            None
+        }
+        Err(error) => Some(error),
+    }
+}
+
+// Opens the name twice at once, and says why the second was refused, and a removal and a replacement with both open.
+fn refused_while_open(
+    opens: &mut Opens,
+    storage: &mut memory::Storage,
+    versions: Versions,
+) -> [Option<Error>; 5] {
+    match opens.open(storage, "p", b"n", versions) {
+        Ok(open) => {
+            let again = opens.open(storage, "p", b"n", versions);
+            let refused = [
+                refusal(opens, again),
+                opens.remove(storage, "p", Some(b"n".as_slice())).err(),
+                opens.remove(storage, "p", None).err(),
+                opens.replace("p", b"n", || Ok(7u8)).err(),
+                opens.replace("p", b"m", || Ok(7u8)).err(),
+            ];
+            opens.close(open);
+            refused
+        }
+        Err(error) => [Some(error), None, None, None, None],
+    }
+}
+
+#[test]
+fn opens_a_name_once_at_a_time(rt: HostRuntime) -> Result<(), Fail> {
+    let mut storage = memory::Storage::new(rt.alloc());
+    let mut opens = Opens::new(rt.alloc());
+    let versions = Versions {
+        least: 0,
+        greatest: 0,
+    };
+    let open = Some(Error::AlreadyOpen);
+    let refused = refused_while_open(&mut opens, &mut storage, versions);
+    assert_eq!(rt; refused, [open, open, open, open, None]);
+    let again = opens.open(&mut storage, "p", b"n", versions);
+    assert_eq!(rt; refusal(&mut opens, again), None);
+    assert_eq!(rt;
+        opens.remove(&mut storage, "p", Some(b"n".as_slice())),
+        Ok(())
+    );
+    assert_eq!(rt; storage.scan("p")?.len(), 0);
+    Ok(())
+}
+
+#[test]
+fn refuses_partitions_and_names(rt: HostRuntime) -> Result<(), Fail> {
+    let mut storage = memory::Storage::new(rt.alloc());
+    let versions = Versions {
+        least: 0,
+        greatest: 0,
+    };
+    storage.open_versioned("p", b"n", versions)?;
+    for (partition, error) in [
+        ("", Error::PartitionNameInvalid),
+        ("a/b", Error::PartitionNameInvalid),
+        ("\u{e9}", Error::PartitionNameInvalid),
+        ("q", Error::PartitionMissing),
+        ("p", Error::BlobMissing),
+    ] {
+        let name = b"m".as_slice();
+        assert_eq!(rt; storage.remove(partition, Some(name)), Err(error));
+        assert_eq!(rt; storage.admit(partition, name), Err(error));
+        assert_eq!(rt; storage.raw_blob(partition, name).err(), Some(error));
+        if error != Error::BlobMissing {
+            assert_eq!(rt; storage.scan(partition).err(), Some(error));
+            assert_eq!(rt; storage.remove(partition, None), Err(error));
+        }
+    }
+    assert_eq!(rt;
+        storage.set_raw_blob("a/b", b"n", b"x".to_vec(rt.alloc())?),
+        Err(Error::PartitionNameInvalid)
+    );
+    storage.set_raw_blob("q", b"n", b"short".to_vec(rt.alloc())?)?;
+    assert_eq!(rt;
+        storage.raw_blob("q", b"n")?.as_slice(),
+        b"short".as_slice()
+    );
+    storage.remove("p", None)?;
+    assert_eq!(rt; storage.scan("p").err(), Some(Error::PartitionMissing));
+    Ok(())
+}
+
+#[test]
+fn refuses_offsets_past_the_end(rt: HostRuntime) -> Result<(), Fail> {
+    let alloc = rt.alloc();
+    let mut storage = memory::Storage::new(alloc);
+    let versions = Versions {
+        least: 0,
+        greatest: 0,
+    };
+    let mut blob = storage.open_versioned("p", b"n", versions)?.blob;
+    blob.write_at(&mut storage, 0, b"abcd", WriteMode::Plain)?;
+    let mut buffer = [7];
+    for offset in [4, 5, u64::MAX] {
+        assert_eq!(rt;
+            blob.read_at(&mut storage, offset, 1),
+            Err(Error::BlobInsufficientLength)
+        );
+        assert_eq!(rt;
+            blob.read_at_buf(&mut storage, offset, &mut buffer),
+            Err(Error::BlobInsufficientLength)
+        );
+    }
+    assert_eq!(rt; buffer, [7]);
+    for offset in [u64::MAX - 8, u64::MAX] {
+        assert_eq!(rt;
+            blob.write_at(&mut storage, offset, b"x", WriteMode::Plain),
+            Err(Error::NumberEnded)
+        );
+        assert_eq!(rt;
+            blob.retain_crash_write(&mut storage, offset, b"x", &[true]),
+            Err(Error::NumberEnded)
+        );
+    }
+    assert_eq!(rt;
+        blob.resize(&mut storage, u64::MAX - 7),
+        Err(Error::NumberEnded)
+    );
+    blob.retain_crash_write(&mut storage, 2, b"xy", &[true, false])?;
+    blob.retain_crash_resize(&mut storage, 6, Probability::ONE)?;
+    assert_eq!(rt;
+        blob.read_at(&mut storage, 0, 6)?.as_slice(),
+        b"abxd\0\0".as_slice()
+    );
+    assert_eq!(rt;
+        storage.raw_blob("p", b"n")?.as_slice(),
+        b"CWIC\0\0\0\0\0\0x".as_slice()
+    );
     Ok(())
 }
