@@ -1,9 +1,9 @@
 -- The division by the polynomial is linear, so that eight bits may be divided at once.
-use Rattle.std.proofs.Common.{◌≡◌, ℕ, zero, suc, ◌*◌, ◌/◌, ◌%◌, ◌^◌, ◌<◌, Bool, true, false, ◌&&◌, cond, eqb, bit_xor, ◌⊎◌, inl, inr, refl, sym, ◌∙◌, ap, arith}
+use Rattle.std.proofs.Common.{◌≡◌, ℕ, zero, suc, ◌+◌, ◌*◌, ◌/◌, ◌%◌, ◌^◌, ◌<◌, ◌≤◌, ◌∷◌, ◌++◌, [], List, length, take, get_or, Bool, true, false, ◌&&◌, cond, eqb, bit_xor, ◌⊎◌, inl, inr, refl, sym, ◌∙◌, ap, arith}
 use Rattle.std.specs.Int.Bits.{xor_self, xor_assoc, xor_zero_l, xor_zero_r, xor_shifted}
 use Rattle.std.proofs.lemmas.Nat.{xor_comm, xor_shr, xor_mod, shr_split}
 use Rattle.std.proofs.lemmas.Bool.{cases_eq, eqb-true}
-use Rattle.fault_storage_parts.specs.Crc32.{polynomial, after_bit, after_bits}
+use Rattle.fault_storage_parts.specs.Crc32.{polynomial, after_bit, after_bits, after_bytes}
 
 parity : (n : ℕ) → (n % 2 ≡ 0) ⊎ (n % 2 ≡ 1)
 parity n = cases (n % 2) (omega arith)
@@ -79,6 +79,63 @@ byte-step left byte lt =
     xor_shr left byte 8 ∙ ap (bit_xor (left / 2 ^ 8)) (omega arith) ∙ xor_zero_r (left / 2 ^ 8) in
     let low : bit_xor left byte % 2 ^ 8 ≡ bit_xor (left % 2 ^ 8) byte = xor_mod left byte 8 ∙ ap (bit_xor (left % 2 ^ 8)) (omega arith) in
     byte-split (bit_xor left byte) ∙ ap (λ h. bit_xor h (after_bits 8 (bit_xor left byte % 2 ^ 8))) high ∙ ap (λ l. bit_xor (left / 2 ^ 8) (after_bits 8 l)) low
+
+-- so many bits, and so many more
+pub bits-add : (j k n : ℕ) → after_bits k (after_bits j n) ≡ after_bits (j + k) n
+unfolding after_bits
+bits-add zero k n =
+    let same : k ≡ zero + k = omega arith in
+    ap (λ i. after_bits i n) same
+bits-add (suc j) k n =
+    let next : suc (j + k) ≡ suc j + k = omega arith in
+    bits-add j k (after_bit n) ∙ ap (λ i. after_bits i n) next
+
+-- a byte joined to the low end of one of two parts
+more : (part other byte : ℕ) → byte < 2 ^ 8 → after_bits 8 (bit_xor (bit_xor part other) byte)
+    ≡ bit_xor (part / 2 ^ 8) (bit_xor (after_bits 8 (bit_xor (part % 2 ^ 8) byte)) (after_bits 8 other))
+more part other byte lt =
+    ap (after_bits 8) (once part byte other) ∙ bits-xor 8 (bit_xor part byte) other ∙ ap (λ l. bit_xor l (after_bits 8 other)) (byte-step part byte lt)
+    ∙ xor_assoc (part / 2 ^ 8) (after_bits 8 (bit_xor (part % 2 ^ 8) byte)) (after_bits 8 other)
+
+-- four bytes at once
+pub four-bytes : (left a b c d : ℕ) → a < 2 ^ 8 → b < 2 ^ 8 → c < 2 ^ 8 → d < 2 ^ 8
+    → after_bits 8 (bit_xor (after_bits 8 (bit_xor (after_bits 8 (bit_xor (after_bits 8 (bit_xor left a)) b)) c)) d)
+    ≡ bit_xor (after_bits 8 (bit_xor (left / 2 ^ 8 / 2 ^ 8 / 2 ^ 8) d)) (bit_xor (after_bits 16 (bit_xor (left / 2 ^ 8 / 2 ^ 8 % 2 ^ 8) c))
+    (bit_xor (after_bits 24 (bit_xor (left / 2 ^ 8 % 2 ^ 8) b)) (after_bits 32 (bit_xor (left % 2 ^ 8) a))))
+four-bytes left a b c d la lb lc ld =
+    let one = left / 2 ^ 8 in let two = left / 2 ^ 8 / 2 ^ 8 in let three = left / 2 ^ 8 / 2 ^ 8 / 2 ^ 8 in
+    let e = bit_xor (left % 2 ^ 8) a in let f = bit_xor (left / 2 ^ 8 % 2 ^ 8) b in let g = bit_xor (left / 2 ^ 8 / 2 ^ 8 % 2 ^ 8) c in
+    let after : ℕ → ℕ = after_bits 8 in
+    let first : after (bit_xor left a) ≡ bit_xor one (after e) = byte-step left a la in
+    let second : after (bit_xor (after (bit_xor left a)) b) ≡ bit_xor two (bit_xor (after f) (after (after e))) =
+    ap (λ s. after (bit_xor s b)) first ∙ more one (after e) b lb in
+    let third : after (bit_xor (after (bit_xor (after (bit_xor left a)) b)) c) ≡ bit_xor three (bit_xor (after g) (after (bit_xor (after f) (after (after e))))) =
+    ap (λ s. after (bit_xor s c)) second ∙ more two (bit_xor (after f) (after (after e))) c lc in
+    let spread : after (bit_xor (after f) (after (after e))) ≡ bit_xor (after_bits 16 f) (after_bits 24 e) =
+    bits-xor 8 (after f) (after (after e)) ∙ ap (λ x. bit_xor x (after (after (after e)))) (bits-add 8 8 f)
+    ∙ ap (bit_xor (after_bits 16 f)) (ap after (bits-add 8 8 e) ∙ bits-add 16 8 e) in
+    let rest : after (bit_xor (after g) (bit_xor (after_bits 16 f) (after_bits 24 e))) ≡ bit_xor (after_bits 16 g) (bit_xor (after_bits 24 f) (after_bits 32 e)) =
+    bits-xor 8 (after g) (bit_xor (after_bits 16 f) (after_bits 24 e)) ∙ ap (λ x. bit_xor x (after (bit_xor (after_bits 16 f) (after_bits 24 e)))) (bits-add 8 8 g)
+    ∙ ap (bit_xor (after_bits 16 g)) (bits-xor 8 (after_bits 16 f) (after_bits 24 e) ∙ ap (λ x. bit_xor x (after (after_bits 24 e))) (bits-add 16 8 f)
+    ∙ ap (bit_xor (after_bits 24 f)) (bits-add 24 8 e)) in
+    ap (λ s. after (bit_xor s d)) (third ∙ ap (λ x. bit_xor three (bit_xor (after g) x)) spread)
+    ∙ ap after (once three d (bit_xor (after g) (bit_xor (after_bits 16 f) (after_bits 24 e))))
+    ∙ bits-xor 8 (bit_xor three d) (bit_xor (after g) (bit_xor (after_bits 16 f) (after_bits 24 e)))
+    ∙ ap (bit_xor (after (bit_xor three d))) rest
+
+-- some bytes, and the others
+pub bytes-append : (left : ℕ) (bytes others : List ℕ) → after_bytes left (bytes ++ others) ≡ after_bytes (after_bytes left bytes) others
+unfolding after_bytes
+bytes-append left [] others = refl
+bytes-append left (byte ∷ bytes) others = bytes-append (after_bits 8 (bit_xor left byte)) bytes others
+
+-- the first four bytes
+pub front-four : (bytes : List ℕ) → 4 ≤ length bytes → get_or bytes 0 0 ∷ get_or bytes 1 0 ∷ get_or bytes 2 0 ∷ get_or bytes 3 0 ∷ [] ≡ take 4 bytes
+front-four [] lt = absurd (omega arith)
+front-four (a ∷ []) lt = absurd (omega arith)
+front-four (a ∷ b ∷ []) lt = absurd (omega arith)
+front-four (a ∷ b ∷ c ∷ []) lt = absurd (omega arith)
+front-four (a ∷ b ∷ c ∷ d ∷ rest) lt = refl
 
 -- two functions of a number are one below n
 unfoldable pub agree_below : (ℕ → ℕ) → (ℕ → ℕ) → ℕ → Bool
