@@ -1,5 +1,39 @@
 -- The division by the polynomial is linear, so that eight bits may be divided at once.
-use Rattle.std.proofs.Common.{◌≡◌, ℕ, zero, suc, ◌+◌, ◌*◌, ◌/◌, ◌%◌, ◌^◌, ◌<◌, ◌≤◌, ◌∷◌, ◌++◌, [], List, length, take, get_or, Bool, true, false, ◌&&◌, cond, eqb, bit_xor, ◌⊎◌, inl, inr, refl, sym, ◌∙◌, ap, arith}
+use Rattle.std.proofs.Common.{
+  ◌≡◌,
+  ℕ,
+  zero,
+  suc,
+  ◌+◌,
+  ◌*◌,
+  ◌/◌,
+  ◌%◌,
+  ◌^◌,
+  ◌<◌,
+  ◌≤◌,
+  ◌∷◌,
+  ◌++◌,
+  [],
+  List,
+  length,
+  take,
+  get_or,
+  Bool,
+  true,
+  false,
+  ◌&&◌,
+  cond,
+  eqb,
+  bit_xor,
+  ◌⊎◌,
+  inl,
+  inr,
+  refl,
+  sym,
+  ◌∙◌,
+  ap,
+  arith,
+}
 use Rattle.std.specs.Int.Bits.{xor_self, xor_assoc, xor_zero_l, xor_zero_r, xor_shifted}
 use Rattle.std.proofs.lemmas.Nat.{xor_comm, xor_shr, xor_mod, shr_split}
 use Rattle.std.proofs.lemmas.Bool.{cases_eq, eqb-true}
@@ -109,13 +143,16 @@ four-bytes left a b c d la lb lc ld =
     let first : after (bit_xor left a) ≡ bit_xor one (after e) = byte-step left a la in
     let second : after (bit_xor (after (bit_xor left a)) b) ≡ bit_xor two (bit_xor (after f) (after (after e))) =
     ap (λ s. after (bit_xor s b)) first ∙ more one (after e) b lb in
-    let third : after (bit_xor (after (bit_xor (after (bit_xor left a)) b)) c) ≡ bit_xor three (bit_xor (after g) (after (bit_xor (after f) (after (after e))))) =
+    let third : after (bit_xor (after (bit_xor (after (bit_xor left a)) b)) c) ≡ bit_xor three
+    (bit_xor (after g) (after (bit_xor (after f) (after (after e))))) =
     ap (λ s. after (bit_xor s c)) second ∙ more two (bit_xor (after f) (after (after e))) c lc in
     let spread : after (bit_xor (after f) (after (after e))) ≡ bit_xor (after_bits 16 f) (after_bits 24 e) =
     bits-xor 8 (after f) (after (after e)) ∙ ap (λ x. bit_xor x (after (after (after e)))) (bits-add 8 8 f)
     ∙ ap (bit_xor (after_bits 16 f)) (ap after (bits-add 8 8 e) ∙ bits-add 16 8 e) in
-    let rest : after (bit_xor (after g) (bit_xor (after_bits 16 f) (after_bits 24 e))) ≡ bit_xor (after_bits 16 g) (bit_xor (after_bits 24 f) (after_bits 32 e)) =
-    bits-xor 8 (after g) (bit_xor (after_bits 16 f) (after_bits 24 e)) ∙ ap (λ x. bit_xor x (after (bit_xor (after_bits 16 f) (after_bits 24 e)))) (bits-add 8 8 g)
+    let rest : after (bit_xor (after g) (bit_xor (after_bits 16 f) (after_bits 24 e))) ≡ bit_xor (after_bits 16 g)
+    (bit_xor (after_bits 24 f) (after_bits 32 e)) =
+    bits-xor 8 (after g) (bit_xor (after_bits 16 f) (after_bits 24 e))
+    ∙ ap (λ x. bit_xor x (after (bit_xor (after_bits 16 f) (after_bits 24 e)))) (bits-add 8 8 g)
     ∙ ap (bit_xor (after_bits 16 g)) (bits-xor 8 (after_bits 16 f) (after_bits 24 e) ∙ ap (λ x. bit_xor x (after (after_bits 24 e))) (bits-add 16 8 f)
     ∙ ap (bit_xor (after_bits 24 f)) (bits-add 24 8 e)) in
     ap (λ s. after (bit_xor s d)) (third ∙ ap (λ x. bit_xor three (bit_xor (after g) x)) spread)

@@ -2,7 +2,22 @@
 use Rattle.std.proofs.Common.{◌≡◌, ◌≤◌, ◌+◌, ◌-◌, ◌++◌, ◌∷◌, [], ℕ, Bool, true, false, cond, List, length, take, drop, replicate, refl, ◌∙◌, arith}
 use Rattle.std.proofs.lemmas.List.{length-append, length-take-le, take-append-le, take-take}
 use Rattle.rand_core.specs.Stream.{Stream}
-use Rattle.fault_storage_parts.specs.Files.{Mutation, written, fixed, resized_to, IsPast, ArePast, grown, resized, with_bytes, with_kept, is_kept, applied, drawn_choice, crashed}
+use Rattle.fault_storage_parts.specs.Files.{
+  Mutation,
+  written,
+  fixed,
+  resized_to,
+  IsPast,
+  ArePast,
+  grown,
+  resized,
+  with_bytes,
+  with_kept,
+  is_kept,
+  applied,
+  drawn_choice,
+  crashed,
+}
 use Rattle.fault_storage_parts.proofs.Overlays.{length-grown}
 
 -- the file is as long, and its first bytes are the same

@@ -8,13 +8,15 @@ use Rattle.fault_storage_parts.specs.Files.{Mutation}
 use Rattle.fault_storage_parts.specs.FilesCode.{mutation_of, log_of}
 use Rattle.fault_storage_parts.specs.Revisions.{recast}
 
-pub recast-snoc : (change : Mutation → Mutation) (log : List Mutation) (mutation : Mutation) → recast change (log ++ mutation ∷ []) ≡ log ++ change mutation ∷ []
+pub recast-snoc : (change : Mutation → Mutation) (log : List Mutation) (mutation : Mutation)
+    → recast change (log ++ mutation ∷ []) ≡ log ++ change mutation ∷ []
 recast-snoc change [] mutation = refl
 recast-snoc change (first ∷ []) mutation = refl
 recast-snoc change (first ∷ next ∷ later) mutation = ap (λ l. first ∷ l) (recast-snoc change (next ∷ later) mutation)
 
 -- a log whose last mutation is another
-pub recast-put : (change : Mutation → Mutation) (old rest new : List code.Mutation) (last put : code.Mutation) → old ≡ rest ++ last ∷ [] → new ≡ rest ++ put ∷ []
+pub recast-put : (change : Mutation → Mutation) (old rest new : List code.Mutation) (last put : code.Mutation) → old ≡ rest ++ last ∷ []
+    → new ≡ rest ++ put ∷ []
     → mutation_of put ≡ change (mutation_of last) → log_of new ≡ recast change (log_of old)
 recast-put change old rest new last put taken made is =
     ap log_of made ∙ map-append mutation_of rest (put ∷ []) ∙ ap (λ m. log_of rest ++ m ∷ []) is ∙ sym (recast-snoc change (log_of rest) (mutation_of last))
@@ -26,7 +28,8 @@ All-one P mutation holds zero d below = holds
 All-one P mutation holds (suc k) d below = absurd (omega arith)
 
 -- what holds of each of a log holds of each of it with another at its end, if it does of that
-pub room-put : (P : code.Mutation → Type 0) (old rest new : List code.Mutation) (last put : code.Mutation) → All P old → old ≡ rest ++ last ∷ [] → new ≡ rest ++ put ∷ []
+pub room-put : (P : code.Mutation → Type 0) (old rest new : List code.Mutation) (last put : code.Mutation) → All P old → old ≡ rest ++ last ∷ []
+    → new ≡ rest ++ put ∷ []
     → (P last → P put) → All P new
 room-put P old rest new last put all taken made stays =
     let parts : All P rest × P last = All-pop P old rest (Some last) taken all in

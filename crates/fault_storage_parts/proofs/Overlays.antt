@@ -1,7 +1,18 @@
 -- A file that is grown before bytes are laid over it.
 use Rattle.std.proofs.Common.{◌≡◌, ◌≤◌, ◌+◌, ◌-◌, ◌++◌, ℕ, List, length, take, drop, replicate, get_or, inl, inr, ap, sym, refl, ◌∙◌, arith}
 use Rattle.std.proofs.lemmas.Bool.{cases_lt}
-use Rattle.std.proofs.lemmas.List.{append-nil, length-append, length-replicate, length-take-le, get_or_append_left, get_or-append_right, get_or_past, get_or-take, drop_all, ext_get_or}
+use Rattle.std.proofs.lemmas.List.{
+  append-nil,
+  length-append,
+  length-replicate,
+  length-take-le,
+  get_or_append_left,
+  get_or-append_right,
+  get_or_past,
+  get_or-take,
+  drop_all,
+  ext_get_or,
+}
 use Rattle.fault_storage_parts.specs.Files.{grown, with_bytes}
 use Rattle.fault_storage_parts.proofs.Torn.{zeros-at}
 
@@ -31,7 +42,8 @@ back end file = elim (cases_lt end (length file)) [
   | inr le ↦ drop_all end (grown end file) (omega (arith, length-grown end file, le)) ∙ sym (drop_all end file le)
 ]
 
-pub laid-over : (offset : ℕ) (bytes file : List ℕ) → take offset (grown (offset + length bytes) file) ++ (bytes ++ drop (offset + length bytes) (grown (offset + length bytes) file))
+pub laid-over : (offset : ℕ) (bytes file : List ℕ) → take offset (grown (offset + length bytes) file) ++
+    (bytes ++ drop (offset + length bytes) (grown (offset + length bytes) file))
     ≡ with_bytes offset bytes file
 laid-over offset bytes file =
     ap (λ l. l ++ (bytes ++ drop (offset + length bytes) (grown (offset + length bytes) file))) (front offset (offset + length bytes) file (omega arith))

@@ -1,7 +1,47 @@
 -- What a crash in the creation of a V1 region may leave, told by the front of the region: its first twelve bytes, after which it is
 -- zero.
-use Rattle.std.proofs.Common.{◌≡◌, ◌≢◌, ◌∙◌, ℕ, ◌+◌, ◌-◌, ◌/◌, ◌%◌, ◌<◌, ◌≤◌, ◌^◌, ◌⊎◌, inl, inr, List, [], ◌∷◌, ◌++◌, length, take, drop, replicate, get_or, ap, sym, refl, arith, append_assoc}
-use Rattle.std.proofs.lemmas.List.{length-append, length-take-le, length-replicate, get_or_append_left, get_or-append_right, get_or-replicate, get_or_past, get_or-take, get_or-drop, ext_get_or}
+use Rattle.std.proofs.Common.{
+  ◌≡◌,
+  ◌≢◌,
+  ◌∙◌,
+  ℕ,
+  ◌+◌,
+  ◌-◌,
+  ◌/◌,
+  ◌%◌,
+  ◌<◌,
+  ◌≤◌,
+  ◌^◌,
+  ◌⊎◌,
+  inl,
+  inr,
+  List,
+  [],
+  ◌∷◌,
+  ◌++◌,
+  length,
+  take,
+  drop,
+  replicate,
+  get_or,
+  ap,
+  sym,
+  refl,
+  arith,
+  append_assoc,
+}
+use Rattle.std.proofs.lemmas.List.{
+  length-append,
+  length-take-le,
+  length-replicate,
+  get_or_append_left,
+  get_or-append_right,
+  get_or-replicate,
+  get_or_past,
+  get_or-take,
+  get_or-drop,
+  ext_get_or,
+}
 use Rattle.std.proofs.lemmas.Bool.{cases_lt}
 use Rattle.std.proofs.lemmas.Nat.{from_be_bytes-to_be_bytes_2}
 use Rattle.std.specs.Int.{w16, w32, to_be_bytes, from_be_bytes}
@@ -88,7 +128,8 @@ said-front bytes t i lt front_lt =
       | inl first ↦ written i lt front_lt ∙ front-first t.version (version_in bytes) i first
       | inr later ↦ elim (cases_lt 7 t.count) [
         | inl whole ↦ written i lt front_lt
-            ∙ ap (λ v. get_or (front v) i 0) (sym (said-whole bytes t.version t.small (written 6 (omega (arith, whole)) (omega arith)) (written 7 whole (omega arith))))
+            ∙ ap (λ v. get_or (front v) i 0) (sym (said-whole bytes t.version t.small (written 6 (omega (arith, whole)) (omega arith))
+            (written 7 whole (omega arith))))
         | inr half ↦
             let six : i ≡ 6 = omega (arith, later, half, lt) in
             let at_six : 6 < t.count = omega (arith, six, lt) in

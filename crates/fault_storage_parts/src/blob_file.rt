@@ -73,7 +73,8 @@ impl Model for BlobFile {
 
     ghost view = { λ it. record { base = it.base.items; log = log_of it.log.items } };
 
-    ghost invariant = { λ it. All (λ m. HasRoomFor (vec_capacity it.base) (mutation_of m) × (chosen_bytes (mutation_of m) ≤ vec_capacity it.choice)) it.log.items };
+    ghost invariant = { λ it. All (λ m. HasRoomFor (vec_capacity it.base) (mutation_of m) × (chosen_bytes (mutation_of m) ≤ vec_capacity it.choice))
+        it.log.items };
 }
 
 impl BlobFile {

@@ -8,10 +8,55 @@
 //! A V0 header is written at once; the region of V1 fills a page, so that a crash in its creation leaves a beginning of it and zeros,
 //! which is told from a header that was changed since.
 
-ghost use Rattle.std.specs.Prelude.{◌≡◌, ◌≢◌, ℕ, ◌≤◌, ◌<◌, ◌++◌, min, nat_lt, nat_le, length, take, drop, replicate, if◌then◌else◌, IfOk, IfErr, IfSome, IfNone, MatchResult, IsTrue, ◌↔◌, EachIndex, slice_index};
+ghost use Rattle.std.specs.Prelude.{
+  ◌≡◌,
+  ◌≢◌,
+  ℕ,
+  ◌≤◌,
+  ◌<◌,
+  ◌++◌,
+  min,
+  nat_lt,
+  nat_le,
+  length,
+  take,
+  drop,
+  replicate,
+  if◌then◌else◌,
+  IfOk,
+  IfErr,
+  IfSome,
+  IfNone,
+  MatchResult,
+  IsTrue,
+  ◌↔◌,
+  EachIndex,
+  slice_index,
+};
 ghost use Rattle.std.specs.Int.{w32, to_be_bytes};
 ghost use Rattle.fault_storage_parts.specs.Crc32.{crc32};
-ghost use Rattle.fault_storage_parts.specs.Headers.{IsTornCreation, IsInterrupted, IsUnmade, front, version_in, magic_of, layout_number, data_offset_of, prelude, created, layout_with, is_among, is_version, has_region, has_checksum, header_of, first_fault, header_checks, file_checks, resolved_of};
+ghost use Rattle.fault_storage_parts.specs.Headers.{
+  IsTornCreation,
+  IsInterrupted,
+  IsUnmade,
+  front,
+  version_in,
+  magic_of,
+  layout_number,
+  data_offset_of,
+  prelude,
+  created,
+  layout_with,
+  is_among,
+  is_version,
+  has_region,
+  has_checksum,
+  header_of,
+  first_fault,
+  header_checks,
+  file_checks,
+  resolved_of,
+};
 
 use crate::checksum::{Checksum, Crc32};
 use crate::error::HeaderError;
@@ -308,7 +353,8 @@ impl Header {
     /// Whether the header's magic, layout, layout version and blob version pass. It names the first of these checks that fails: H1,
     /// H2, H4 or H6. In the Rust: `commonware_runtime::storage::Header::validate`.
     pub fn validate(&self, layouts: Layouts, versions: Versions) -> Result<(), HeaderError>
-        ensures { MatchResult result (λ _. first_fault (header_checks layouts versions self.now) ≡ None) (λ fault. first_fault (header_checks layouts versions self.now) ≡ Some fault) }
+        ensures { MatchResult result (λ _. first_fault (header_checks layouts versions self.now) ≡ None)
+            (λ fault. first_fault (header_checks layouts versions self.now) ≡ Some fault) }
     {
         let Some(layout) = Layout::from_magic(self.magic) else {
             return Err(HeaderError::Magic);
@@ -335,7 +381,8 @@ impl Header {
     ) -> Result<Resolved, HeaderError>
         requires present { 8 ≤ size }
         requires enough { min size 12 ≤ length bytes.now }
-        ensures { MatchResult result (λ shown. (first_fault (file_checks layouts versions bytes.now size) ≡ None) × (shown ≡ resolved_of bytes.now size)) (λ fault. first_fault (file_checks layouts versions bytes.now size) ≡ Some fault) }
+        ensures { MatchResult result (λ shown. (first_fault (file_checks layouts versions bytes.now size) ≡ None) × (shown ≡ resolved_of bytes.now size))
+            (λ fault. first_fault (file_checks layouts versions bytes.now size) ≡ Some fault) }
     {
         let header = header_from(bytes);
         let Some(layout) = Layout::from_magic(header.magic) else {
@@ -375,7 +422,8 @@ pub fn resolve(
 ) -> Result<Option<Resolved>, HeaderError>
     requires { length bytes.now ≡ (if nat_le size 4096 then size else 12) }
     ensures none { (result ≡ Ok None) ↔ IsUnmade bytes.now size }
-    ensures shown { IfOk result (λ found. IfSome found (λ shown. (first_fault (file_checks layouts versions bytes.now size) ≡ None) × (shown ≡ resolved_of bytes.now size))) }
+    ensures shown { IfOk result (λ found. IfSome found (λ shown. (first_fault (file_checks layouts versions bytes.now size) ≡ None)
+        × (shown ≡ resolved_of bytes.now size))) }
     ensures refused { IfErr result (λ fault. first_fault (file_checks layouts versions bytes.now size) ≡ Some fault) }
 {
     if Header::missing(size) {

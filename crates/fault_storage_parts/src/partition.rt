@@ -23,7 +23,8 @@ fn are_in_names(bytes: &[u8]) -> bool
 /// Whether a partition may have this name: one or more ASCII letters, digits, `_` and `-`. Any other: F3.
 /// In the Rust: `commonware_runtime::storage::validate_partition_name`.
 pub fn validate_partition_name(partition: &str) -> Result<(), Error>
-    ensures { MatchResult result (λ _. is_partition_name partition.now ≡ true) (λ e. (e ≡ Error.PartitionNameInvalid) × (is_partition_name partition.now ≡ false)) }
+    ensures { MatchResult result (λ _. is_partition_name partition.now ≡ true)
+        (λ e. (e ≡ Error.PartitionNameInvalid) × (is_partition_name partition.now ≡ false)) }
 {
     if partition.is_empty() || !are_in_names(partition.as_bytes()) {
         return Err(Error::PartitionNameInvalid);

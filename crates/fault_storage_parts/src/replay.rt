@@ -51,7 +51,8 @@ pub fn apply_durable(bytes: &mut Vec<u8>, mutation: &Mutation)
 // Resizes the file if one sample of the rate keeps that. There is room for it.
 fn resize_if<R: Rng>(bytes: &mut Vec<u8>, size: usize, retention: Probability, rng: &mut R)
     requires room { size ≤ vec_capacity bytes.old }
-    ensures resized { let drawn = sample (rate_of retention) (R.stream rng.old) in bytes.new.items ≡ (if drawn.0 then resized size bytes.old.items else bytes.old.items) }
+    ensures resized { let drawn = sample (rate_of retention) (R.stream rng.old) in bytes.new.items ≡
+        (if drawn.0 then resized size bytes.old.items else bytes.old.items) }
     ensures words { R.stream rng.new ≡ (sample (rate_of retention) (R.stream rng.old)).1 }
     ensures capacity { vec_capacity bytes.old ≤ vec_capacity bytes.new }
 {

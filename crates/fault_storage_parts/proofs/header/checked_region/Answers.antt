@@ -17,5 +17,6 @@ returns c =
     let copied = c.in_ok-region.ensures.items_if_clones_equal (λ x y same. same) in
     let joins : c.extend_from_slice.new.self.items ≡ c.args.prelude.now ++ c.to_be_bytes.result =
     c.in_ok-extend_from_slice.ensures.items ∙ ap (λ front. front ++ c.to_be_bytes.result) copied in
-    padded c.args.prelude.now c.to_be_bytes.result c.extend_from_slice.new.self.items c.resize.new.self.items _ joins (search rules) (search rules) (search rules) c.in_ok-resize.ensures.items
+    padded c.args.prelude.now c.to_be_bytes.result c.extend_from_slice.new.self.items c.resize.new.self.items _ joins (search rules) (search rules)
+    (search rules) c.in_ok-resize.ensures.items
     ∙ ap (λ bytes. c.args.prelude.now ++ (bytes ++ replicate 4084 0)) (c.to_be_bytes.ensures ∙ ap (to_be_bytes w32) c.checksum.ensures)

@@ -4,7 +4,10 @@ use Rattle.std.proofs.lemmas.List.{take_rest}
 use Rattle.fault_storage_parts.specs.Headers.{front, version_in, IsTornCreation}
 use Rattle.fault_storage_parts.proofs.Torn.{Matches, torn-made, torn-some, torn-zeros, torn-short, zeros-from, zeros-behind}
 use Rattle.fault_storage_parts.proofs.header.is_torn_creation.Goals as goal
-use Rattle.fault_storage_parts.proofs.header.is_torn_creation.Goals.{then-matching-eq0-via-then-matching-eq0, then-matching-eq0-via-else-matching-eq0+then-not-are_zeros}
+use Rattle.fault_storage_parts.proofs.header.is_torn_creation.Goals.{
+  then-matching-eq0-via-then-matching-eq0,
+  then-matching-eq0-via-else-matching-eq0+then-not-are_zeros,
+}
 
 -- the match that is found is that of the front that the bytes say
 found : (bytes front_bytes : List ℕ) (version k : ℕ) → version ≡ version_in bytes → front_bytes ≡ front version → (k ≤ length bytes) × (k ≤ 12)
@@ -19,9 +22,11 @@ not_torn : (bytes : List ℕ) (k : ℕ) (zeros : Bool) → Matches bytes (front 
     → (((i : ℕ) → i < length (take (length bytes - k) (drop k bytes)) → get_or (take (length bytes - k) (drop k bytes)) i 0 ≡ 0) → IsTrue zeros)
     → zeros ≡ false → IsTornCreation bytes → ⊥
 not_torn bytes k zeros m tells other t =
-    false≢true (sym other ∙ tells (subst (λ (l : List ℕ). (i : ℕ) → i < length l → get_or l i 0 ≡ 0) (sym (take_rest bytes k)) (zeros-behind bytes k (torn-zeros bytes t k m))))
+    false≢true (sym other ∙ tells (subst (λ (l : List ℕ). (i : ℕ) → i < length l → get_or l i 0 ≡ 0) (sym (take_rest bytes k))
+    (zeros-behind bytes k (torn-zeros bytes t k m))))
 
-torn : (bytes : List ℕ) (k version : ℕ) → version ≡ version_in bytes → version < 2 ^ 16 → length bytes ≤ 4096 → (k ≡ 0 → ⊥) → Matches bytes (front (version_in bytes)) k
+torn : (bytes : List ℕ) (k version : ℕ) → version ≡ version_in bytes → version < 2 ^ 16 → length bytes ≤ 4096 → (k ≡ 0 → ⊥)
+    → Matches bytes (front (version_in bytes)) k
     → ((i : ℕ) → i < length (take (length bytes - k) (drop k bytes)) → get_or (take (length bytes - k) (drop k bytes)) i 0 ≡ 0)
     → (k < 12) ⊎ (length bytes < 4096) → IsTornCreation bytes
 torn bytes k version said small few some m zeros =
@@ -57,5 +62,6 @@ returns-else-matching-lt12 c =
     c.matching-matching.ensures.within c.matching-matching.ensures.same c.matching-matching.ensures.all in (
       λ yes. torn c.args.bytes.now c.matching-matching.result c.version_said.result c.version_said.ensures (omega arith) (omega arith) c.if-matching-eq0.false m
           (c.are_zeros.ensures.0 c.if-not-are_zeros.false) (inr (ltb-true (length c.args.bytes.now) 4096 yes)),
-      λ t. lt-ltb (length c.args.bytes.now) 4096 (torn-short c.args.bytes.now t c.matching-matching.result (omega (arith, c.version_said.ensures)) m (omega arith)),
+      λ t. lt-ltb (length c.args.bytes.now) 4096 (torn-short c.args.bytes.now t c.matching-matching.result (omega (arith, c.version_said.ensures)) m
+          (omega arith)),
     )

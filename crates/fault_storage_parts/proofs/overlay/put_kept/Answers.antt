@@ -1,4 +1,32 @@
-use Rattle.std.proofs.Common.{◌≡◌, ◌<◌, ◌≤◌, ◌∙◌, ◌+◌, ◌∷◌, ◌⊎◌, inl, inr, [], ℕ, Bool, true, false, cond, List, length, min, drop, get_or, drop-cons, add-one, suc, refl, ap, sym, arith}
+use Rattle.std.proofs.Common.{
+  ◌≡◌,
+  ◌<◌,
+  ◌≤◌,
+  ◌∙◌,
+  ◌+◌,
+  ◌∷◌,
+  ◌⊎◌,
+  inl,
+  inr,
+  [],
+  ℕ,
+  Bool,
+  true,
+  false,
+  cond,
+  List,
+  length,
+  min,
+  drop,
+  get_or,
+  drop-cons,
+  add-one,
+  suc,
+  refl,
+  ap,
+  sym,
+  arith,
+}
 use Rattle.std.proofs.lemmas.Bool.{cases_lt}
 use Rattle.std.proofs.lemmas.List.{drop_all}
 use Rattle.fault_storage_parts.specs.Files.{with_bytes, with_kept}
@@ -15,10 +43,12 @@ one_more : (offset i : ℕ) (bytes : List ℕ) (kept : List Bool) (file next : L
 one_more offset i bytes kept file next at there is =
     let heads : with_kept (offset + i) (drop i bytes) (drop i kept) file
     ≡ with_kept (offset + i) (get_or bytes i 0 ∷ drop (i + 1) bytes) (get_or kept i false ∷ drop (i + 1) kept) file =
-    ap (λ bs. with_kept (offset + i) bs (drop i kept) file) (drop-cons bytes i 0 at) ∙ ap (λ ks. with_kept (offset + i) (get_or bytes i 0 ∷ drop (suc i) bytes) ks file) (drop-cons kept i false there)
+    ap (λ bs. with_kept (offset + i) bs (drop i kept) file) (drop-cons bytes i 0 at)
+    ∙ ap (λ ks. with_kept (offset + i) (get_or bytes i 0 ∷ drop (suc i) bytes) ks file) (drop-cons kept i false there)
     ∙ rw add-one refl in
     sym (heads ∙ step (offset + i) (get_or bytes i 0) (drop (i + 1) bytes) (get_or kept i false) (drop (i + 1) kept) file
-    ∙ ap (λ o. with_kept o (drop (i + 1) bytes) (drop (i + 1) kept) (cond (get_or kept i false) (with_bytes (offset + i) (get_or bytes i 0 ∷ []) file) file)) (omega arith)
+    ∙ ap (λ o. with_kept o (drop (i + 1) bytes) (drop (i + 1) kept) (cond (get_or kept i false) (with_bytes (offset + i) (get_or bytes i 0 ∷ []) file) file))
+    (omega arith)
     ∙ ap (with_kept (offset + (i + 1)) (drop (i + 1) bytes) (drop (i + 1) kept)) (sym is))
 
 -- no byte is left, or no word on one
@@ -39,10 +69,12 @@ ends offset i bytes kept file le =
 
 pub loop-index-preserved : goal.loop-index-preserved
 loop-index-preserved c = record {
-  put = one_more c.args.offset c.loop-index.index c.args.bytes.now c.args.kept.now c.loop-index.file.items c.put_if.new.file.items (omega arith) (omega arith) c.put_if.ensures.put
+  put = one_more c.args.offset c.loop-index.index c.args.bytes.now c.args.kept.now c.loop-index.file.items c.put_if.new.file.items (omega arith)
+      (omega arith) c.put_if.ensures.put
       ∙ c.loop-index.invariant.put;
   capacity = omega arith;
 }
 
 pub returns-clause-put : goal.returns-clause-put
-returns-clause-put c = sym (ends c.args.offset c.loop-index.index c.args.bytes.now c.args.kept.now c.loop-index.file.items (omega arith)) ∙ c.loop-index.invariant.put
+returns-clause-put c = sym (ends c.args.offset c.loop-index.index c.args.bytes.now c.args.kept.now c.loop-index.file.items (omega arith))
+    ∙ c.loop-index.invariant.put

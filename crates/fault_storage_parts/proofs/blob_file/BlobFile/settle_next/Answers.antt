@@ -22,13 +22,15 @@ rest log left size more choice larger is grows widens room k d lt =
 pub returns-then-is_empty : goal.returns-then-is_empty
 returns-then-is_empty g c =
     let none : c.self.inside.log.items ≡ [] = nil_from_length c.self.inside.log.items (search rules) in
-    let view : c.args.self.now ≡ record { base = c.self.inside.base.items; log = [] } = sym c.self.view_is ∙ ap (λ l. record { base = c.self.inside.base.items; log = log_of l }) none in
+    let view : c.args.self.now ≡ record { base = c.self.inside.base.items; log = [] } = sym c.self.view_is
+    ∙ ap (λ l. record { base = c.self.inside.base.items; log = log_of l }) none in
     ap (λ f. (f, g.R.Rng.stream c.args.rng.now)) view ∙ sym (settled-none c.self.inside.base.items (g.R.Rng.stream c.args.rng.now))
     ∙ sym (ap (λ f. settled f (g.R.Rng.stream c.args.rng.now)) view)
 
 pub invariant_of-self : goal.invariant_of-self
 invariant_of-self g c =
-    rest c.self.inside.log.items c.let_first_go.new.log.items (vec_capacity c.self.inside.base) (vec_capacity c.apply_drawn.new.bytes) (vec_capacity c.self.inside.choice)
+    rest c.self.inside.log.items c.let_first_go.new.log.items (vec_capacity c.self.inside.base) (vec_capacity c.apply_drawn.new.bytes)
+    (vec_capacity c.self.inside.choice)
     (vec_capacity c.apply_drawn.new.choice) c.let_first_go.ensures c.apply_drawn.ensures.capacity c.apply_drawn.ensures.choice_capacity c.self.invariant
 
 settling : (base next : List ℕ) (log left : List code.Mutation) (here : code.Mutation) (words after : Stream) (file : File)
@@ -38,10 +40,15 @@ settling : (base next : List ℕ) (log left : List code.Mutation) (here : code.M
 settling base next log left here words after file view some is applies draws leaves =
     ap (λ b. (record { base = b; log = log_of left }, after)) applies
     ∙ ap (λ w. (record { base = applied (drawn_choice (mutation_of here) words).0 (mutation_of here) base; log = log_of left }, w)) draws
-    ∙ ap (λ l. (record { base = applied (drawn_choice (mutation_of here) words).0 (mutation_of here) base; log = log_of l }, (drawn_choice (mutation_of here) words).1)) leaves
+    ∙ ap (λ l. (
+      record { base = applied (drawn_choice (mutation_of here) words).0 (mutation_of here) base; log = log_of l },
+      (drawn_choice (mutation_of here) words).1,
+    )) leaves
     ∙ sym (settled-first base log here words some is) ∙ ap (λ f. settled f words) view
 
 pub returns : goal.returns
 returns g c =
-    settling c.self.inside.base.items c.apply_drawn.new.bytes.items c.self.inside.log.items c.let_first_go.new.log.items c.index.result.now (g.R.Rng.stream c.args.rng.now)
-    (g.R.Rng.stream c.apply_drawn.new.rng) c.args.self.now c.self.view_is (search rules) (search rules) c.apply_drawn.ensures.applied c.apply_drawn.ensures.words c.let_first_go.ensures
+    settling c.self.inside.base.items c.apply_drawn.new.bytes.items c.self.inside.log.items c.let_first_go.new.log.items c.index.result.now
+    (g.R.Rng.stream c.args.rng.now)
+    (g.R.Rng.stream c.apply_drawn.new.rng) c.args.self.now c.self.view_is (search rules)
+    (search rules) c.apply_drawn.ensures.applied c.apply_drawn.ensures.words c.let_first_go.ensures
