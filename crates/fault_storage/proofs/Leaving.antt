@@ -13,7 +13,8 @@ all-same (stored ∷ later) = (refl, refl, left-same stored.file.base stored.fil
 
 -- a file of the list is settled, or none
 changed-at : (stored left : StoredFile) (later others : List StoredFile) (number : ℕ) (words : Stream) (here : Bool)
-    → (left.name ≡ stored.name) × (left.number ≡ stored.number) × IsLeftOf stored.file.base stored.file.log left.file.base left.file.log × AreLeftOf later others
+    → (left.name ≡ stored.name) × (left.number ≡ stored.number) × IsLeftOf stored.file.base stored.file.log left.file.base left.file.log
+    × AreLeftOf later others
     → AreLeftOf later (changed (has_number number) (λ file. (settled file words).0) others)
     → AreLeftOf (stored ∷ later)
     (cond here (record left { file = (settled left.file words).0 } ∷ others) (left ∷ changed (has_number number) (λ file. (settled file words).0) others))

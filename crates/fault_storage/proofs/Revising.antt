@@ -40,7 +40,8 @@ changed-not number (stored ∷ later) =
     ]
 
 -- a change of files leaves their numbers
-pub any-changed : (number : ℕ) (change : File → File) (files : List StoredFile) → list_any (has_number number) (changed (has_number number) change files) ≡ list_any (has_number number) files
+pub any-changed : (number : ℕ) (change : File → File) (files : List StoredFile)
+    → list_any (has_number number) (changed (has_number number) change files) ≡ list_any (has_number number) files
 any-changed number change [] = refl
 any-changed number change (stored ∷ later) =
     elim (cases_Bool (has_number number stored)) [

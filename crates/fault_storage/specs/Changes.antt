@@ -1,13 +1,49 @@
 -- Writes and resizes that may fail: what each makes of a blob and its store, made or failed. What is drawn for one that failed is drawn
 -- at once, by the settings of now.
-use Rattle.std.specs.Prelude.{◌≡◌, ℕ, ◌+◌, ◌-◌, ◌^◌, ◌<◌, ◌≤◌, ◌⊎◌, ◌&&◌, min, max, nat_lt, Bool, true, false, if◌then◌else◌, Option, Some, None, Result, Ok, Err, List, length, replicate}
+use Rattle.std.specs.Prelude.{
+  ◌≡◌,
+  ℕ,
+  ◌+◌,
+  ◌-◌,
+  ◌^◌,
+  ◌<◌,
+  ◌≤◌,
+  ◌⊎◌,
+  ◌&&◌,
+  min,
+  max,
+  nat_lt,
+  Bool,
+  true,
+  false,
+  if◌then◌else◌,
+  Option,
+  Some,
+  None,
+  Result,
+  Ok,
+  Err,
+  List,
+  length,
+  replicate,
+}
 use Rattle.rand_core.specs.Stream.{Stream, next_u64}
 use Rattle.fault_storage_parts.specs.declared.config.ResizeConfig.{ResizeConfig}
 use Rattle.fault_storage_parts.specs.declared.config.WriteConfig.{WriteConfig}
 use Rattle.fault_storage_parts.specs.declared.error.Call.{Call}
 use Rattle.fault_storage_parts.specs.declared.error.Call.TheVariants.{Write, Resize}
 use Rattle.fault_storage_parts.specs.declared.error.Error.{Error}
-use Rattle.fault_storage_parts.specs.declared.error.Error.TheVariants.{BlobMissing, PartitionMissing, PartitionNameInvalid, AlreadyOpen, Header, Injected, BlobInsufficientLength, NumberEnded, Memory}
+use Rattle.fault_storage_parts.specs.declared.error.Error.TheVariants.{
+  BlobMissing,
+  PartitionMissing,
+  PartitionNameInvalid,
+  AlreadyOpen,
+  Header,
+  Injected,
+  BlobInsufficientLength,
+  NumberEnded,
+  Memory,
+}
 use Rattle.fault_storage_parts.specs.declared.probability.Probability.{Probability}
 use Rattle.fault_storage_parts.specs.Draws.{Rate, sample, kept_bytes, length_between}
 use Rattle.fault_storage_parts.specs.DrawsCode.{rate_of, mode_of}
@@ -90,7 +126,8 @@ IsFaultyChange stream call rate end failed made blob old result changed new = le
     × ((changed.inner, new.inner) ≡ made blob.inner old.inner) × (new ≡ record old { inner = new.inner; rng = new.rng }) × (stream new.rng ≡ drawn.1))
 
 -- a write, and a resize, by the settings of the store
-abbrev pub FaultyWrites : {R : Type 0} → (R → Stream) → Blob Handle → ℕ → List ℕ → WriteMode → Storage Store R → Result Unit Error → Blob Handle → Storage Store R → Type 0
+abbrev pub FaultyWrites : {R : Type 0} → (R → Stream) → Blob Handle → ℕ → List ℕ → WriteMode → Storage Store R → Result Unit Error → Blob Handle
+    → Storage Store R → Type 0
 FaultyWrites stream blob offset bytes mode old result changed new =
     IsFaultyChange stream Write old.config.write.rate (blob.inner.offset + offset + length bytes) (failed_write old.config.write offset bytes)
     (made_write old.config.write mode offset bytes) blob old result changed new

@@ -1,5 +1,33 @@
 -- The files of a store by their names, in byte order: partitions first, then names, shorter ones before their continuations.
-use Rattle.std.specs.Prelude.{◌≡◌, ℕ, ◌+◌, ◌-◌, ◌^◌, ◌<◌, ◌≤◌, ◌⊎◌, nat_le, Bool, true, false, not, if◌then◌else◌, Option, Some, None, Result, MatchResult, List, [], ◌∷◌, ◌++◌, length, take, filter, map}
+use Rattle.std.specs.Prelude.{
+  ◌≡◌,
+  ℕ,
+  ◌+◌,
+  ◌-◌,
+  ◌^◌,
+  ◌<◌,
+  ◌≤◌,
+  ◌⊎◌,
+  nat_le,
+  Bool,
+  true,
+  false,
+  not,
+  if◌then◌else◌,
+  Option,
+  Some,
+  None,
+  Result,
+  MatchResult,
+  List,
+  [],
+  ◌∷◌,
+  ◌++◌,
+  length,
+  take,
+  filter,
+  map,
+}
 use Rattle.std.specs.List.{list_any}
 use Rattle.std.specs.Str.{bytes_eq}
 use Rattle.std.specs.declared.vec.Vec.{Vec}
@@ -11,7 +39,15 @@ use Rattle.fault_storage_parts.specs.declared.header.Versions.{Versions}
 use Rattle.fault_storage_parts.specs.declared.error.HeaderError.{HeaderError}
 use Rattle.fault_storage_parts.specs.declared.header.Layout.TheVariants.{V0, V1}
 use Rattle.fault_storage_parts.specs.declared.error.Error.{Error}
-use Rattle.fault_storage_parts.specs.declared.error.Error.TheVariants.{BlobInsufficientLength, BlobMissing, PartitionMissing, PartitionNameInvalid, Header, NumberEnded, Memory}
+use Rattle.fault_storage_parts.specs.declared.error.Error.TheVariants.{
+  BlobInsufficientLength,
+  BlobMissing,
+  PartitionMissing,
+  PartitionNameInvalid,
+  Header,
+  NumberEnded,
+  Memory,
+}
 use Rattle.fault_storage.specs.declared.storage.Opened.{Opened}
 use Rattle.fault_storage.specs.declared.storage.WriteMode.{WriteMode}
 use Rattle.fault_storage_parts.specs.Draws.{never}
@@ -19,7 +55,21 @@ use Rattle.fault_storage_parts.specs.Names.{is_partition_name}
 use Rattle.fault_storage_parts.specs.Files.{durable_bytes}
 use Rattle.fault_storage_parts.specs.Headers.{created, IsUnmade, first_fault, file_checks, resolved_of}
 use Rattle.fault_storage.specs.Opens.{is_before, is_name}
-use Rattle.fault_storage.specs.Stores.{Store, Handle, file_with, number_with, changed, without, settled_at, has_bytes, bytes_at, is_there, published, memory_write, resizing}
+use Rattle.fault_storage.specs.Stores.{
+  Store,
+  Handle,
+  file_with,
+  number_with,
+  changed,
+  without,
+  settled_at,
+  has_bytes,
+  bytes_at,
+  is_there,
+  published,
+  memory_write,
+  resizing,
+}
 
 abbrev pub has_name : List ℕ → List ℕ → StoredFile → Bool
 has_name partition name stored = is_name partition name stored.name
@@ -43,7 +93,8 @@ with_partition partition partitions = if has_partition partition partitions then
 abbrev pub placed : List ℕ → List ℕ → List ℕ → Store → Store
 placed partition name bytes store = record store {
   partitions = with_partition partition store.partitions;
-  files = in_order (record { name = (partition, name); number = store.next; file = settled_at bytes }) (filter (λ stored. not (has_name partition name stored)) store.files);
+  files = in_order (record { name = (partition, name); number = store.next; file = settled_at bytes })
+      (filter (λ stored. not (has_name partition name stored)) store.files);
   next = store.next + 1;
 }
 
@@ -83,7 +134,8 @@ LacksPartition partition store e =
 abbrev pub LacksName : List ℕ → List ℕ → Store → Error → Type 0
 LacksName partition name store e =
     LacksPartition partition store e
-    ⊎ ((e ≡ BlobMissing) × (is_partition_name partition ≡ true) × (has_partition partition store.partitions ≡ true) × (list_any (has_name partition name) store.files ≡ false))
+    ⊎ ((e ≡ BlobMissing) × (is_partition_name partition ≡ true) × (has_partition partition store.partitions ≡ true)
+    × (list_any (has_name partition name) store.files ≡ false))
 
 -- both layouts are accepted, and files are created in the first
 abbrev pub both_layouts : Layouts
@@ -115,14 +167,20 @@ handle_in partition name files = record {
 }
 
 abbrev pub fault_in : List ℕ → List ℕ → Versions → List StoredFile → Option HeaderError
-fault_in partition name versions files = let bytes = durable_in partition name files in first_fault (file_checks both_layouts versions (front_of bytes) (length bytes))
+fault_in partition name versions files = let bytes = durable_in partition name files in first_fault
+    (file_checks both_layouts versions (front_of bytes) (length bytes))
 
 -- what an opening gives of a blob that is there, or that it creates, and why it is refused
 abbrev pub MemoryOpens : Store → List ℕ → List ℕ → Versions → Result (Opened Handle) Error → Store → Type 0
 MemoryOpens old partition name versions result new = MatchResult result
     (λ opened. (is_partition_name partition ≡ true)
     × (((list_any (has_name partition name) old.files ≡ true) × (fault_in partition name versions old.files ≡ None)
-    × (opened ≡ record { blob = handle_in partition name old.files; size = (shown_in partition name old.files).size; version = (shown_in partition name old.files).version })
+    × (opened ≡ record {
+      blob = handle_in partition name old.files;
+      size = (shown_in partition name old.files).size;
+      version =
+          (shown_in partition name old.files).version;
+    })
     × (new ≡ old))
     ⊎ (IsMissing partition name old.files
     × (opened ≡ record { blob = new_handle old.next versions; size = 0; version = versions.greatest })
@@ -187,4 +245,5 @@ abbrev pub MemoryRemoves : Store → List ℕ → Option (List ℕ) → Result U
 MemoryRemoves old partition None result new =
     MatchResult result (λ _. new ≡ removed_partition partition old) (λ e. (new ≡ old) × LacksPartition partition old e)
 MemoryRemoves old partition (Some name) result new =
-    MatchResult result (λ _. (new ≡ removed partition name old) × (list_any (has_name partition name) old.files ≡ true)) (λ e. (new ≡ old) × LacksName partition name old e)
+    MatchResult result (λ _. (new ≡ removed partition name old) × (list_any (has_name partition name) old.files ≡ true))
+    (λ e. (new ≡ old) × LacksName partition name old e)

@@ -1,6 +1,29 @@
 -- A store of files. Its files stand in the order of their names; each has a number of its own, so that a value of a blob that is gone
 -- finds no file. The order of issue is kept over all files: a number for each mutation that is not settled.
-use Rattle.std.specs.Prelude.{◌≡◌, ⊤, ℕ, ◌+◌, ◌<◌, ◌==◌, nat_le, Bool, true, not, if◌then◌else◌, List, [], ◌∷◌, ◌++◌, length, take, drop, replicate, filter, slice_index_or, slice_set}
+use Rattle.std.specs.Prelude.{
+  ◌≡◌,
+  ⊤,
+  ℕ,
+  ◌+◌,
+  ◌<◌,
+  ◌==◌,
+  nat_le,
+  Bool,
+  true,
+  not,
+  if◌then◌else◌,
+  List,
+  [],
+  ◌∷◌,
+  ◌++◌,
+  length,
+  take,
+  drop,
+  replicate,
+  filter,
+  slice_index_or,
+  slice_set,
+}
 use Rattle.std.specs.List.{list_any}
 use Rattle.rand_core.specs.Stream.{Stream}
 use Rattle.fault_storage.specs.declared.stored.StoredFile.{StoredFile}

@@ -128,7 +128,8 @@ impl<R: Rng> Storage<memory::Storage, R> {
     /// Makes what is durable of the file the base, and forgets its other mutations: what an opening showed stays. F3, F2, F1, F9; no
     /// word is taken. In the Rust: `commonware_runtime::storage::faulty::Storage::admit`.
     pub fn admit(&mut self, partition: &str, name: &[u8]) -> Result<(), Error>
-        ensures ok { OnOk result ((list_any (has_name partition.now name.now) self.old.inner.files ≡ true) × (self.new.inner ≡ admitted partition.now name.now self.old.inner)) }
+        ensures ok { OnOk result ((list_any (has_name partition.now name.now) self.old.inner.files ≡ true)
+            × (self.new.inner ≡ admitted partition.now name.now self.old.inner)) }
         ensures err { IfErr result (λ e. (self.new.inner ≡ self.old.inner) × (LacksName partition.now name.now self.old.inner e ⊎ (e ≡ Error.Memory))) }
         ensures rest { (R.stream self.new.rng ≡ R.stream self.old.rng) × (self.new.injections ≡ self.old.injections) × (self.new.config ≡ self.old.config) }
     {
@@ -139,11 +140,13 @@ impl<R: Rng> Storage<memory::Storage, R> {
 impl<R: Rng> crate::storage::Storage for Storage<memory::Storage, R> {
     type Blob = Blob<memory::Blob>;
 
-    ghost opens = { λ old partition name versions result new. IsFaultyCall (R.stream) Open old.config.«open» (FaultyOpens partition name versions) old result new };
+    ghost opens = { λ old partition name versions result new. IsFaultyCall (R.stream) Open old.config.«open»
+        (FaultyOpens partition name versions) old result new };
 
     ghost scans = { λ old partition result new. IsFaultyCall (R.stream) Scan old.config.scan (MemoryScans partition) old result new };
 
-    ghost removes = { λ old partition name result new. IsFaultyCall (R.stream) Remove old.config.remove (λ below. MemoryRemoves below partition name) old result new };
+    ghost removes = { λ old partition name result new. IsFaultyCall (R.stream) Remove old.config.remove
+        (λ below. MemoryRemoves below partition name) old result new };
 
     fn open_versioned(
         &mut self,

@@ -47,7 +47,8 @@ pub fn faults_are_counted<R: Rng>()
         → IsFaultyCall (R.stream) Read old.config.read (MemoryFills blob offset buffer filled) old result new → IsCounted Read old result new }
     ensures syncing { (blob : Handle) → (old new : Storage Store R) → (result : Result Unit Error)
         → IsFaultyCall (R.stream) Sync old.config.sync (MemorySyncs blob) old result new → IsCounted Sync old result new }
-    ensures writing { (blob changed : Blob Handle) → (offset : ℕ) → (bytes : List ℕ) → (mode : WriteMode) → (old new : Storage Store R) → (result : Result Unit Error)
+    ensures writing { (blob changed : Blob Handle) → (offset : ℕ) → (bytes : List ℕ) → (mode : WriteMode) → (old new : Storage Store R)
+        → (result : Result Unit Error)
         → FaultyWrites (R.stream) blob offset bytes mode old result changed new → IsCounted Write old result new }
     ensures resizing { (blob changed : Blob Handle) → (size : ℕ) → (old new : Storage Store R) → (result : Result Unit Error)
         → FaultyResizes (R.stream) blob size old result changed new → IsCounted Resize old result new }
@@ -56,24 +57,28 @@ pub fn faults_are_counted<R: Rng>()
 /// The law that a store of which no rate was set, so that all are zero, answers as the store below, takes no word and counts no fault.
 pub fn rates_of_zero_change_nothing<R: Rng>()
     ensures opening { (partition name : List ℕ) → (versions : Versions) → (old new : Storage Store R) → (result : Result (Opened (Blob Handle)) Error)
-        → IsDefault old.config → old.injections < 2 ^ 64 - 1 → IsFaultyCall (R.stream) Open old.config.«open» (FaultyOpens partition name versions) old result new
+        → IsDefault old.config → old.injections < 2 ^ 64 - 1
+        → IsFaultyCall (R.stream) Open old.config.«open» (FaultyOpens partition name versions) old result new
         → IsPlainCall (R.stream) (FaultyOpens partition name versions) old result new }
     ensures scanning { (partition : List ℕ) → (old new : Storage Store R) → (result : Result (Vec (Vec ℕ Global) Global) Error)
         → IsDefault old.config → old.injections < 2 ^ 64 - 1 → IsFaultyCall (R.stream) Scan old.config.scan (MemoryScans partition) old result new
         → IsPlainCall (R.stream) (MemoryScans partition) old result new }
     ensures removing { (partition : List ℕ) → (name : Option (List ℕ)) → (old new : Storage Store R) → (result : Result Unit Error)
-        → IsDefault old.config → old.injections < 2 ^ 64 - 1 → IsFaultyCall (R.stream) Remove old.config.remove (λ below. MemoryRemoves below partition name) old result new
+        → IsDefault old.config → old.injections < 2 ^ 64 - 1
+        → IsFaultyCall (R.stream) Remove old.config.remove (λ below. MemoryRemoves below partition name) old result new
         → IsPlainCall (R.stream) (λ below. MemoryRemoves below partition name) old result new }
     ensures reading { (blob : Handle) → (offset count : ℕ) → (old new : Storage Store R) → (result : Result (Vec ℕ Global) Error)
         → IsDefault old.config → old.injections < 2 ^ 64 - 1 → IsFaultyCall (R.stream) Read old.config.read (MemoryReads blob offset count) old result new
         → IsPlainCall (R.stream) (MemoryReads blob offset count) old result new }
     ensures filling { (blob : Handle) → (offset : ℕ) → (buffer filled : List ℕ) → (old new : Storage Store R) → (result : Result Unit Error)
-        → IsDefault old.config → old.injections < 2 ^ 64 - 1 → IsFaultyCall (R.stream) Read old.config.read (MemoryFills blob offset buffer filled) old result new
+        → IsDefault old.config → old.injections < 2 ^ 64 - 1
+        → IsFaultyCall (R.stream) Read old.config.read (MemoryFills blob offset buffer filled) old result new
         → IsPlainCall (R.stream) (MemoryFills blob offset buffer filled) old result new }
     ensures syncing { (blob : Handle) → (old new : Storage Store R) → (result : Result Unit Error)
         → IsDefault old.config → old.injections < 2 ^ 64 - 1 → IsFaultyCall (R.stream) Sync old.config.sync (MemorySyncs blob) old result new
         → IsPlainCall (R.stream) (MemorySyncs blob) old result new }
-    ensures writing { (blob changed : Blob Handle) → (offset : ℕ) → (bytes : List ℕ) → (mode : WriteMode) → (old new : Storage Store R) → (result : Result Unit Error)
+    ensures writing { (blob changed : Blob Handle) → (offset : ℕ) → (bytes : List ℕ) → (mode : WriteMode) → (old new : Storage Store R)
+        → (result : Result Unit Error)
         → IsDefault old.config → old.injections < 2 ^ 64 - 1 → FaultyWrites (R.stream) blob offset bytes mode old result changed new
         → IsPlainCall (R.stream) (λ below answer after. MemoryWrites blob.inner offset bytes mode below answer changed.inner after) old result new }
     ensures resizing { (blob changed : Blob Handle) → (size : ℕ) → (old new : Storage Store R) → (result : Result Unit Error)

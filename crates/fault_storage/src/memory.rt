@@ -1,6 +1,35 @@
 //! The store in memory.
 
-ghost use Rattle.std.specs.Prelude.{◌≡◌, not, MatchResult, Ok, ◌+◌, ◌-◌, ◌^◌, ◌<◌, ◌≤◌, ◌⊎◌, ◌↔◌, [], false, true, Err, IfOk, IfErr, IfNone, IfSome, None, Some, OnOk, OnErr, MatchOption, filter, length, max, replicate};
+ghost use Rattle.std.specs.Prelude.{
+  ◌≡◌,
+  not,
+  MatchResult,
+  Ok,
+  ◌+◌,
+  ◌-◌,
+  ◌^◌,
+  ◌<◌,
+  ◌≤◌,
+  ◌⊎◌,
+  ◌↔◌,
+  [],
+  false,
+  true,
+  Err,
+  IfOk,
+  IfErr,
+  IfNone,
+  IfSome,
+  None,
+  Some,
+  OnOk,
+  OnErr,
+  MatchOption,
+  filter,
+  length,
+  max,
+  replicate,
+};
 ghost use Rattle.std.specs.List.{list_any};
 ghost use Rattle.std.specs.Vec.{vec_len, vec_capacity};
 ghost use Rattle.fault_storage_parts.specs.DrawsCode.{rate_of, mode_of};
@@ -12,10 +41,59 @@ ghost use Rattle.fault_storage_parts.specs.declared.header.Layout.TheVariants.{V
 ghost use Rattle.fault_storage_parts.specs.Headers.{created};
 ghost use Rattle.fault_storage.specs.Faults.{IsDrawnCall};
 ghost use Rattle.fault_storage.specs.Changes.{IsDrawnChange, made_write, failed_write, mutation_for, shown_after, failed_length, failed_resize};
-ghost use Rattle.fault_storage.specs.Directory.{in_order, durable_in, with_partition, MemoryOpens, MemoryPlaces, MemoryRemoves, MemoryScans, MemoryReads, MemoryFills, MemoryWrites, MemoryResizes, MemorySyncs, IsMissing, fault_in, handle_in, shown_in, new_handle, has_name, has_partition, names_in, placed, admitted, removed, removed_partition, LacksName, LacksPartition};
+ghost use Rattle.fault_storage.specs.Directory.{
+  in_order,
+  durable_in,
+  with_partition,
+  MemoryOpens,
+  MemoryPlaces,
+  MemoryRemoves,
+  MemoryScans,
+  MemoryReads,
+  MemoryFills,
+  MemoryWrites,
+  MemoryResizes,
+  MemorySyncs,
+  IsMissing,
+  fault_in,
+  handle_in,
+  shown_in,
+  new_handle,
+  has_name,
+  has_partition,
+  names_in,
+  placed,
+  admitted,
+  removed,
+  removed_partition,
+  LacksName,
+  LacksPartition,
+};
 ghost use Rattle.fault_storage_parts.specs.Draws.{never, kept_bytes};
 ghost use Rattle.fault_storage_parts.specs.Revisions.{kept_of, shortened, without_last, file_recast, file_without_last};
-ghost use Rattle.fault_storage.specs.Stores.{revised, withdrawn, Store, Handle, memory_write, fixed_write, resizing, showing, IsPlace, has_number, is_there, without_retired, issued, published, without, changed, with_issued, settled_at, settled_in, crashed_files, crashed_store};
+ghost use Rattle.fault_storage.specs.Stores.{
+  revised,
+  withdrawn,
+  Store,
+  Handle,
+  memory_write,
+  fixed_write,
+  resizing,
+  showing,
+  IsPlace,
+  has_number,
+  is_there,
+  without_retired,
+  issued,
+  published,
+  without,
+  changed,
+  with_issued,
+  settled_at,
+  settled_in,
+  crashed_files,
+  crashed_store,
+};
 
 use crate::blob_file::BlobFile;
 use crate::config::{ResizeConfig, WriteConfig};
@@ -272,7 +350,8 @@ impl Storage {
     // Whether the partition is there: F3, F2.
     fn find_partition(&self, partition: &str) -> Result<(), Error>
         ensures ok { OnOk result ((is_partition_name partition.now ≡ true) × (has_partition partition.now self.now.partitions ≡ true)) }
-        ensures err { IfErr result (λ e. ((e ≡ Error.PartitionNameInvalid) × (is_partition_name partition.now ≡ false)) ⊎ ((e ≡ Error.PartitionMissing) × (is_partition_name partition.now ≡ true) × (has_partition partition.now self.now.partitions ≡ false))) }
+        ensures err { IfErr result (λ e. ((e ≡ Error.PartitionNameInvalid) × (is_partition_name partition.now ≡ false))
+            ⊎ ((e ≡ Error.PartitionMissing) × (is_partition_name partition.now ≡ true) × (has_partition partition.now self.now.partitions ≡ false))) }
     {
         validate_partition_name(partition)?;
         if !has_partition(&self.partitions, partition) {
@@ -393,7 +472,8 @@ impl Storage {
     /// What is durable of the file of this name, its header first. F3, F2, F1, F9.
     /// In the Rust: `commonware_runtime::storage::memory::Storage::raw_blob`.
     pub fn raw_blob(&self, partition: &str, name: &[u8]) -> Result<Vec<u8>, Error>
-        ensures ok { IfOk result (λ bytes. (list_any (has_name partition.now name.now) self.now.files ≡ true) × (bytes.items ≡ durable_in partition.now name.now self.now.files)) }
+        ensures ok { IfOk result (λ bytes. (list_any (has_name partition.now name.now) self.now.files ≡ true)
+            × (bytes.items ≡ durable_in partition.now name.now self.now.files)) }
         ensures err { IfErr result (λ e. LacksName partition.now name.now self.now e ⊎ (e ≡ Error.Memory)) }
     {
         self.find_partition(partition)?;
@@ -426,8 +506,12 @@ impl Storage {
         versions: Versions,
     ) -> Result<Option<Opened<Blob>>, Error>
         ensures none { IfOk result (λ found. IfNone found (IsMissing partition.now name.now self.now.files)) }
-        ensures some { IfOk result (λ found. IfSome found (λ opened. (list_any (has_name partition.now name.now) self.now.files ≡ true) × (fault_in partition.now name.now versions self.now.files ≡ None) × (opened.blob ≡ handle_in partition.now name.now self.now.files) × (opened.size ≡ (shown_in partition.now name.now self.now.files).size) × (opened.version ≡ (shown_in partition.now name.now self.now.files).version))) }
-        ensures err { IfErr result (λ e. ((fault : HeaderError) × (e ≡ Error.Header fault) × (fault_in partition.now name.now versions self.now.files ≡ Some fault)) ⊎ (e ≡ Error.Memory)) }
+        ensures some { IfOk result (λ found. IfSome found (λ opened. (list_any (has_name partition.now name.now) self.now.files ≡ true)
+            × (fault_in partition.now name.now versions self.now.files ≡ None) × (opened.blob ≡ handle_in partition.now name.now self.now.files)
+            × (opened.size ≡ (shown_in partition.now name.now self.now.files).size)
+            × (opened.version ≡ (shown_in partition.now name.now self.now.files).version))) }
+        ensures err { IfErr result (λ e. ((fault : HeaderError) × (e ≡ Error.Header fault)
+            × (fault_in partition.now name.now versions self.now.files ≡ Some fault)) ⊎ (e ≡ Error.Memory)) }
     {
         let Some(durable) = durable_of(self.alloc, &self.files, partition, name)? else {
             return Ok(None);
@@ -460,7 +544,8 @@ impl Storage {
         name: &[u8],
         versions: Versions,
     ) -> Result<Opened<Blob>, Error>
-        ensures ok { IfOk result (λ opened. (opened.blob ≡ new_handle self.old.next versions) × (opened.size ≡ 0) × (opened.version ≡ versions.greatest) × (self.new ≡ placed partition.now name.now (created V0 versions.greatest) self.old)) }
+        ensures ok { IfOk result (λ opened. (opened.blob ≡ new_handle self.old.next versions) × (opened.size ≡ 0) × (opened.version ≡ versions.greatest)
+            × (self.new ≡ placed partition.now name.now (created V0 versions.greatest) self.old)) }
         ensures err { IfErr result (λ e. (self.new ≡ self.old) × (((e ≡ Error.NumberEnded) × (self.old.next ≡ 2 ^ 64 - 1)) ⊎ (e ≡ Error.Memory))) }
     {
         let layouts = Layouts {
@@ -491,7 +576,8 @@ impl Storage {
         versions: Versions,
     ) -> Result<Opened<Blob>, Error>
         ensures { IsDrawnCall (R.stream) Call.Open rate (λ below result after. MatchResult result
-            (λ opened. (opened ≡ record { blob = new_handle below.next versions; size = 0; version = versions.greatest }) × (after ≡ placed partition.now name.now (created V0 versions.greatest) below))
+            (λ opened. (opened ≡ record { blob = new_handle below.next versions; size = 0; version = versions.greatest })
+            × (after ≡ placed partition.now name.now (created V0 versions.greatest) below))
             (λ e. (after ≡ below) × (((e ≡ Error.NumberEnded) × (below.next ≡ 2 ^ 64 - 1)) ⊎ (e ≡ Error.Memory))))
             self.old rng.old result self.new rng.new }
     {
@@ -792,7 +878,8 @@ impl Blob {
         retention: Probability,
     ) -> Result<(), AllocError>
         requires { length bytes.now ≤ end }
-        ensures ok { OnOk result ((self.new ≡ showing (with_bytes (end - length bytes.now) bytes.now self.old.live) self.old) × (storage.new ≡ issued self.old.number (written (end - length bytes.now) bytes.now (mode_of mode) (rate_of retention)) storage.old)) }
+        ensures ok { OnOk result ((self.new ≡ showing (with_bytes (end - length bytes.now) bytes.now self.old.live) self.old)
+            × (storage.new ≡ issued self.old.number (written (end - length bytes.now) bytes.now (mode_of mode) (rate_of retention)) storage.old)) }
         ensures err { OnErr result ((self.new ≡ self.old) × (storage.new ≡ storage.old)) }
     {
         let at = end - bytes.len();
@@ -816,7 +903,8 @@ impl Blob {
         kept: &[bool],
     ) -> Result<(), AllocError>
         requires { length bytes.now ≤ end }
-        ensures ok { OnOk result ((self.new ≡ showing (with_kept (end - length bytes.now) bytes.now kept.now self.old.live) self.old) × (storage.new ≡ issued self.old.number (fixed (end - length bytes.now) bytes.now kept.now) storage.old)) }
+        ensures ok { OnOk result ((self.new ≡ showing (with_kept (end - length bytes.now) bytes.now kept.now self.old.live) self.old)
+            × (storage.new ≡ issued self.old.number (fixed (end - length bytes.now) bytes.now kept.now) storage.old)) }
         ensures err { OnErr result ((self.new ≡ self.old) × (storage.new ≡ storage.old)) }
     {
         let at = end - bytes.len();
@@ -839,7 +927,8 @@ impl Blob {
         size: usize,
         retention: Probability,
     ) -> Result<(), AllocError>
-        ensures ok { OnOk result ((self.new ≡ showing (resized size self.old.live) self.old) × (storage.new ≡ issued self.old.number (resized_to size (rate_of retention)) storage.old)) }
+        ensures ok { OnOk result ((self.new ≡ showing (resized size self.old.live) self.old)
+            × (storage.new ≡ issued self.old.number (resized_to size (rate_of retention)) storage.old)) }
         ensures err { OnErr result ((self.new ≡ self.old) × (storage.new ≡ storage.old)) }
     {
         self.live.reserve(size.saturating_sub(self.live.len()))?;
@@ -850,7 +939,8 @@ impl Blob {
 
     /// A copy of the live bytes, those of the header first. None: the blob is gone. It fails only when out of memory.
     pub fn copy_live(&self, storage: &Storage) -> Result<Option<Vec<u8>>, AllocError>
-        ensures ok { IfOk result (λ live. MatchOption live (is_there self.now.number storage.now ≡ false) (λ bytes. (is_there self.now.number storage.now ≡ true) × (bytes.items ≡ self.now.live))) }
+        ensures ok { IfOk result (λ live. MatchOption live (is_there self.now.number storage.now ≡ false)
+            (λ bytes. (is_there self.now.number storage.now ≡ true) × (bytes.items ≡ self.now.live))) }
         ensures err { OnErr result (is_there self.now.number storage.now ≡ true) }
     {
         if !storage.has(self.number) {

@@ -15,7 +15,8 @@ returns-clause-scanning g c partition old new result quiet room made =
 
 pub returns-clause-removing : goal.returns-clause-removing
 returns-clause-removing g c partition name old new result quiet room made =
-    plain-call g.R.Rng.stream Remove old.config.remove (λ below. MemoryRemoves below partition name) old new result (ap (λ r. r.numerator) quiet.removing) room made
+    plain-call g.R.Rng.stream Remove old.config.remove (λ below. MemoryRemoves below partition name) old new result
+    (ap (λ r. r.numerator) quiet.removing) room made
 
 pub returns-clause-reading : goal.returns-clause-reading
 returns-clause-reading g c blob offset count old new result quiet room made =

@@ -9,5 +9,6 @@ invariant-loop-place l = record {
   some : list_any (has_number l.number) (drop l.place l.files) ≡ list_any (has_number l.number) l.files;
   is : file_with (has_number l.number) (drop l.place l.files) ≡ file_with (has_number l.number) l.files;
   number : number_with (has_number l.number) (drop l.place l.files) ≡ number_with (has_number l.number) l.files;
-  change : (change : File → File) → take l.place l.files ++ changed (has_number l.number) change (drop l.place l.files) ≡ changed (has_number l.number) change l.files;
+  change : (change : File → File) → take l.place l.files ++ changed (has_number l.number) change (drop l.place l.files) ≡ changed
+      (has_number l.number) change l.files;
 }

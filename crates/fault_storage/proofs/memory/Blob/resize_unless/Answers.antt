@@ -16,9 +16,12 @@ returns-then-not-sample g c =
       search rules,
       sym drawn ∙ search rules,
       refl,
-      resize-made (rate_of c.args.settings.retention) c.args.self.now c.args.storage.now c.shorten_last.new.self c.self.inside.number c.self.inside.offset c.args.size c.in-Some.all c.self.inside.live.items
+      resize-made (rate_of c.args.settings.retention) c.args.self.now c.args.storage.now c.shorten_last.new.self c.self.inside.number c.self.inside.offset
+          c.args.size c.in-Some.all c.self.inside.live.items
           c.reserve.new.self.items c.resize.new.file.items c.self.view_is there
-          (shortened-issued c.self.inside.number c.max.result c.in-Some.all (rate_of c.args.settings.retention) c.args.storage.now c.issue.new.self c.shorten_last.new.self near c.in_ok-issue.ensures.ok c.shorten_last.ensures)
+          (shortened-issued c.self.inside.number c.max.result c.in-Some.all
+          (rate_of c.args.settings.retention) c.args.storage.now c.issue.new.self c.shorten_last.new.self near c.in_ok-issue.ensures.ok
+          c.shorten_last.ensures)
           c.reserve.ensures.items c.resize.ensures.resized,
       words,
     )))
@@ -31,11 +34,14 @@ returns-in_default-draw_length g c =
       search rules,
       sym drawn ∙ search rules,
       refl,
-      resize-failed c.args.settings c.args.self.now c.args.storage.now c.withdraw.new.self c.self.inside.number c.self.inside.offset c.args.size c.len-old.result c.in-Some.all c.self.inside.live.items
-          c.reserve.new.self.items None (g.R.Rng.stream c.sample.new.rng) (g.R.Rng.stream c.draw_length.new.rng) c.self.view_is (search rules) there c.in_default-draw_length.ensures.drawn
+      resize-failed c.args.settings c.args.self.now c.args.storage.now c.withdraw.new.self c.self.inside.number c.self.inside.offset c.args.size
+          c.len-old.result c.in-Some.all c.self.inside.live.items
+          c.reserve.new.self.items None (g.R.Rng.stream c.sample.new.rng) (g.R.Rng.stream c.draw_length.new.rng) c.self.view_is
+          (search rules) there c.in_default-draw_length.ensures.drawn
           (ap (λ l. (record { number = c.self.inside.number; offset = c.self.inside.offset; live = l }, c.withdraw.new.self)) c.reserve.ensures.items
           ∙ ap (λ s. (record { number = c.self.inside.number; offset = c.self.inside.offset; live = c.self.inside.live.items }, s))
-          (c.withdraw.ensures ∙ ap (withdrawn c.self.inside.number) c.in_ok-issue.ensures.ok ∙ withdrawn-issued c.self.inside.number (resized_to c.max.result (rate_of c.args.settings.retention)) c.args.storage.now))
+          (c.withdraw.ensures ∙ ap (withdrawn c.self.inside.number) c.in_ok-issue.ensures.ok
+          ∙ withdrawn-issued c.self.inside.number (resized_to c.max.result (rate_of c.args.settings.retention)) c.args.storage.now))
           ∙ ap (failed_resize c.args.settings c.args.size c.args.self.now c.args.storage.now) words,
     )))
 
@@ -48,12 +54,24 @@ returns g c =
       search rules,
       sym drawn ∙ search rules,
       refl,
-      resize-failed c.args.settings c.args.self.now c.args.storage.now c.shorten_last-2.new.self c.self.inside.number c.self.inside.offset c.args.size c.len-old.result c.in-Some.all c.self.inside.live.items
-          c.resize-2.new.file.items (Some c.in-Some-draw_length.reached) (g.R.Rng.stream c.sample.new.rng) (g.R.Rng.stream c.draw_length.new.rng) c.self.view_is (search rules) there
+      resize-failed c.args.settings c.args.self.now c.args.storage.now c.shorten_last-2.new.self c.self.inside.number c.self.inside.offset c.args.size
+          c.len-old.result c.in-Some.all c.self.inside.live.items
+          c.resize-2.new.file.items (Some c.in-Some-draw_length.reached) (g.R.Rng.stream c.sample.new.rng)
+          (g.R.Rng.stream c.draw_length.new.rng) c.self.view_is (search rules) there
           c.in-Some-draw_length.ensures.drawn
           (ap (λ l. (record { number = c.self.inside.number; offset = c.self.inside.offset; live = l }, c.shorten_last-2.new.self))
           (c.resize-2.ensures.resized ∙ ap (resized c.in-Some-draw_length.reached) c.reserve.ensures.items)
-          ∙ ap (λ s. (record { number = c.self.inside.number; offset = c.self.inside.offset; live = resized c.in-Some-draw_length.reached c.self.inside.live.items }, s))
-          (shortened-issued c.self.inside.number c.max.result c.in-Some-draw_length.reached (rate_of c.args.settings.retention) c.args.storage.now c.issue.new.self c.shorten_last-2.new.self near c.in_ok-issue.ensures.ok c.shorten_last-2.ensures))
+          ∙ ap (λ s. (
+            record {
+              number = c.self.inside.number;
+              offset = c.self.inside.offset;
+              live = resized c.in-Some-draw_length.reached
+                  c.self.inside.live.items;
+            },
+            s,
+          ))
+          (shortened-issued c.self.inside.number c.max.result c.in-Some-draw_length.reached
+          (rate_of c.args.settings.retention) c.args.storage.now c.issue.new.self c.shorten_last-2.new.self near c.in_ok-issue.ensures.ok
+          c.shorten_last-2.ensures))
           ∙ ap (failed_resize c.args.settings c.args.size c.args.self.now c.args.storage.now) words,
     )))

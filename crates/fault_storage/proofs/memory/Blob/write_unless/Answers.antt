@@ -13,9 +13,12 @@ returns-then-sample g c =
       search rules,
       sym drawn ∙ c.if-sample.true,
       refl,
-      write-failed c.args.settings c.args.mode c.args.offset c.args.bytes.now c.args.self.now c.args.storage.now c.issue.new.self c.fix_last.new.self c.self.inside.number c.self.inside.offset
-          (c.in-Some.end - length c.args.bytes.now) c.self.inside.live.items c.reserve.new.self.items c.put_kept.new.file.items c.draw_kept.new.kept.items c.deref.result.now
-          (g.R.Rng.stream c.sample.new.rng) (g.R.Rng.stream c.draw_kept.new.rng) (mutation_of c.in_ok-mutation.mutation) c.self.view_is there c.in_ok-mutation.ensures c.in_ok-issue.ensures.ok c.fix_last.ensures
+      write-failed c.args.settings c.args.mode c.args.offset c.args.bytes.now c.args.self.now c.args.storage.now c.issue.new.self c.fix_last.new.self
+          c.self.inside.number c.self.inside.offset
+          (c.in-Some.end - length c.args.bytes.now) c.self.inside.live.items c.reserve.new.self.items c.put_kept.new.file.items c.draw_kept.new.kept.items
+          c.deref.result.now
+          (g.R.Rng.stream c.sample.new.rng) (g.R.Rng.stream c.draw_kept.new.rng)
+          (mutation_of c.in_ok-mutation.mutation) c.self.view_is there c.in_ok-mutation.ensures c.in_ok-issue.ensures.ok c.fix_last.ensures
           c.reserve.ensures.items c.deref.ensures.value c.put_kept.ensures.put c.draw_kept.ensures
           ∙ ap (failed_write c.args.settings c.args.offset c.args.bytes.now c.args.self.now c.args.storage.now) words,
     )))
@@ -28,8 +31,10 @@ returns g c =
       search rules,
       sym drawn ∙ c.if-sample.false,
       refl,
-      write-made c.args.settings c.args.mode c.args.offset c.args.bytes.now c.args.self.now c.args.storage.now c.issue.new.self c.self.inside.number c.self.inside.offset
-          (c.in-Some.end - length c.args.bytes.now) c.self.inside.live.items c.reserve.new.self.items c.show_write.new.live.items (mutation_of c.in_ok-mutation.mutation) c.self.view_is there
+      write-made c.args.settings c.args.mode c.args.offset c.args.bytes.now c.args.self.now c.args.storage.now c.issue.new.self c.self.inside.number
+          c.self.inside.offset
+          (c.in-Some.end - length c.args.bytes.now) c.self.inside.live.items c.reserve.new.self.items c.show_write.new.live.items
+          (mutation_of c.in_ok-mutation.mutation) c.self.view_is there
           c.in_ok-mutation.ensures c.in_ok-issue.ensures.ok c.reserve.ensures.items c.show_write.ensures,
       words,
     )))
