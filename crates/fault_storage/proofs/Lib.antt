@@ -1,10 +1,5 @@
-pub mod Crc
-pub mod DrawLemmas
-pub mod Zeros
-pub mod Rooms
-pub mod Settling
+pub mod Changing
+pub mod Counting
+pub mod Leaving
 pub mod Places
-pub mod Torn
-pub mod Overlays
-pub mod Created
-pub mod Fronts
+pub mod Revising

@@ -1,15 +1,42 @@
 -- The first file that passes, by its place.
-use Rattle.std.proofs.Common.{◌≡◌, ◌<◌, ◌∷◌, ◌++◌, [], ℕ, suc, Bool, true, false, cond, ◌||◌, List, length, take, drop, set, get_or, drop-cons, ap, sym, refl, subst, ◌∙◌}
+use Rattle.std.proofs.Common.{
+  ◌≡◌,
+  ◌<◌,
+  ◌∷◌,
+  ◌++◌,
+  [],
+  ℕ,
+  suc,
+  Bool,
+  true,
+  false,
+  cond,
+  ◌||◌,
+  List,
+  length,
+  take,
+  drop,
+  set,
+  get_or,
+  drop-cons,
+  ap,
+  sym,
+  refl,
+  subst,
+  ◌∙◌,
+}
 use Rattle.std.specs.List.{list_any}
 use Rattle.std.proofs.lemmas.Bool.{false≢true}
 use Rattle.std.proofs.lemmas.List.{get_or_read, set_split, set-get_or}
 use Rattle.fault_storage.specs.declared.stored.StoredFile.{StoredFile}
-use Rattle.fault_storage.specs.Files.{File}
+use Rattle.fault_storage_parts.specs.Files.{File}
 use Rattle.fault_storage.specs.Stores.{IsPlace, file_with, number_with, changed}
 
-pub place-found : (test : StoredFile → Bool) (files : List StoredFile) (place : ℕ) (stored : StoredFile) → place < length files → stored ≡ get_or files place stored → test stored ≡ true
+pub place-found : (test : StoredFile → Bool) (files : List StoredFile) (place : ℕ) (stored : StoredFile) → place < length files
+    → stored ≡ get_or files place stored → test stored ≡ true
     → list_any test (drop place files) ≡ list_any test files → file_with test (drop place files) ≡ file_with test files
-    → number_with test (drop place files) ≡ number_with test files → ((change : File → File) → take place files ++ changed test change (drop place files) ≡ changed test change files) → IsPlace test files place
+    → number_with test (drop place files) ≡ number_with test files
+    → ((change : File → File) → take place files ++ changed test change (drop place files) ≡ changed test change files) → IsPlace test files place
 place-found test files place stored lt is passes some same counted changes =
     let first : drop place files ≡ stored ∷ drop (suc place) files = drop-cons files place stored lt ∙ ap (λ s. s ∷ drop (suc place) files) (sym is) in
     record {
@@ -20,7 +47,8 @@ place-found test files place stored lt is passes some same counted changes =
       number = λ d. sym counted ∙ ap (number_with test) first ∙ ap (λ b. cond b stored.number (number_with test (drop (suc place) files))) passes
           ∙ ap (λ s. s.number) (get_or_read files place stored lt is d);
       change = λ change d. sym (changes change) ∙ ap (λ l. take place files ++ changed test change l) first
-          ∙ ap (λ b. take place files ++ cond b (record stored { file = change stored.file } ∷ drop (suc place) files) (stored ∷ changed test change (drop (suc place) files))) passes
+          ∙ ap (λ b. take place files ++ cond b (record stored { file = change stored.file } ∷ drop (suc place) files)
+          (stored ∷ changed test change (drop (suc place) files))) passes
           ∙ sym (set_split files place (record stored { file = change stored.file }) lt)
           ∙ ap (λ s. set files place (record s { file = change s.file })) (get_or_read files place stored lt is d);
     }
@@ -39,10 +67,12 @@ changed-none test change (stored ∷ later) none =
 
 -- a file that is written at the place
 pub written-at : (test : StoredFile → Bool) (shown files : List StoredFile) (place : ℕ) (stored : StoredFile) (change : File → File) (file : File)
-    → shown ≡ files → IsPlace test shown place → stored ≡ get_or files place stored → file ≡ change stored.file → set files place (record stored { file = file }) ≡ changed test change files
+    → shown ≡ files → IsPlace test shown place → stored ≡ get_or files place stored → file ≡ change stored.file
+    → set files place (record stored { file = file }) ≡ changed test change files
 written-at test shown files place stored change file same at is made =
     let there : IsPlace test files place = subst (λ (l : List StoredFile). IsPlace test l place) same at in
-    ap (λ f. set files place (record stored { file = f })) made ∙ sym (there.change change stored ∙ ap (λ s. set files place (record s { file = change s.file })) (sym is))
+    ap (λ f. set files place (record stored { file = f })) made
+    ∙ sym (there.change change stored ∙ ap (λ s. set files place (record s { file = change s.file })) (sym is))
 
 -- a file that is written back as it was
 pub written-back : (files : List StoredFile) (place : ℕ) (stored : StoredFile) (file : File) → stored ≡ get_or files place stored → file ≡ stored.file

@@ -1,23 +1,75 @@
 -- The files of a store by their names, in byte order: partitions first, then names, shorter ones before their continuations.
-use Rattle.std.specs.Prelude.{◌≡◌, ℕ, ◌+◌, ◌-◌, ◌^◌, ◌⊎◌, nat_le, Bool, true, false, not, if◌then◌else◌, Option, Some, None, Result, MatchResult, List, [], ◌∷◌, ◌++◌, length, take, filter, map}
+use Rattle.std.specs.Prelude.{
+  ◌≡◌,
+  ℕ,
+  ◌+◌,
+  ◌-◌,
+  ◌^◌,
+  ◌<◌,
+  ◌≤◌,
+  ◌⊎◌,
+  nat_le,
+  Bool,
+  true,
+  false,
+  not,
+  if◌then◌else◌,
+  Option,
+  Some,
+  None,
+  Result,
+  MatchResult,
+  List,
+  [],
+  ◌∷◌,
+  ◌++◌,
+  length,
+  take,
+  filter,
+  map,
+}
 use Rattle.std.specs.List.{list_any}
 use Rattle.std.specs.Str.{bytes_eq}
 use Rattle.std.specs.declared.vec.Vec.{Vec}
 use Rattle.std.specs.declared.alloc.Global.{Global}
 use Rattle.fault_storage.specs.declared.stored.StoredFile.{StoredFile}
-use Rattle.fault_storage.specs.declared.header.Layouts.{Layouts}
-use Rattle.fault_storage.specs.declared.header.Resolved.{Resolved}
-use Rattle.fault_storage.specs.declared.header.Versions.{Versions}
-use Rattle.fault_storage.specs.declared.error.HeaderError.{HeaderError}
-use Rattle.fault_storage.specs.declared.header.Layout.TheVariants.{V0, V1}
-use Rattle.fault_storage.specs.declared.error.Error.{Error}
-use Rattle.fault_storage.specs.declared.error.Error.TheVariants.{BlobInsufficientLength, BlobMissing, PartitionMissing, PartitionNameInvalid, Header, NumberEnded, Memory}
+use Rattle.fault_storage_parts.specs.declared.header.Layouts.{Layouts}
+use Rattle.fault_storage_parts.specs.declared.header.Resolved.{Resolved}
+use Rattle.fault_storage_parts.specs.declared.header.Versions.{Versions}
+use Rattle.fault_storage_parts.specs.declared.error.HeaderError.{HeaderError}
+use Rattle.fault_storage_parts.specs.declared.header.Layout.TheVariants.{V0, V1}
+use Rattle.fault_storage_parts.specs.declared.error.Error.{Error}
+use Rattle.fault_storage_parts.specs.declared.error.Error.TheVariants.{
+  BlobInsufficientLength,
+  BlobMissing,
+  PartitionMissing,
+  PartitionNameInvalid,
+  Header,
+  NumberEnded,
+  Memory,
+}
 use Rattle.fault_storage.specs.declared.storage.Opened.{Opened}
-use Rattle.fault_storage.specs.Names.{is_partition_name}
-use Rattle.fault_storage.specs.Files.{durable_bytes}
-use Rattle.fault_storage.specs.Headers.{created, IsUnmade, first_fault, file_checks, resolved_of}
+use Rattle.fault_storage.specs.declared.storage.WriteMode.{WriteMode}
+use Rattle.fault_storage_parts.specs.Draws.{never}
+use Rattle.fault_storage_parts.specs.Names.{is_partition_name}
+use Rattle.fault_storage_parts.specs.Files.{durable_bytes}
+use Rattle.fault_storage_parts.specs.Headers.{created, IsUnmade, first_fault, file_checks, resolved_of}
 use Rattle.fault_storage.specs.Opens.{is_before, is_name}
-use Rattle.fault_storage.specs.Stores.{Store, Handle, file_with, number_with, changed, without, settled_at, has_bytes, bytes_at, is_there, published}
+use Rattle.fault_storage.specs.Stores.{
+  Store,
+  Handle,
+  file_with,
+  number_with,
+  changed,
+  without,
+  settled_at,
+  has_bytes,
+  bytes_at,
+  is_there,
+  published,
+  memory_write,
+  resizing,
+}
 
 abbrev pub has_name : List ℕ → List ℕ → StoredFile → Bool
 has_name partition name stored = is_name partition name stored.name
@@ -41,7 +93,8 @@ with_partition partition partitions = if has_partition partition partitions then
 abbrev pub placed : List ℕ → List ℕ → List ℕ → Store → Store
 placed partition name bytes store = record store {
   partitions = with_partition partition store.partitions;
-  files = in_order (record { name = (partition, name); number = store.next; file = settled_at bytes }) (filter (λ stored. not (has_name partition name stored)) store.files);
+  files = in_order (record { name = (partition, name); number = store.next; file = settled_at bytes })
+      (filter (λ stored. not (has_name partition name stored)) store.files);
   next = store.next + 1;
 }
 
@@ -81,7 +134,8 @@ LacksPartition partition store e =
 abbrev pub LacksName : List ℕ → List ℕ → Store → Error → Type 0
 LacksName partition name store e =
     LacksPartition partition store e
-    ⊎ ((e ≡ BlobMissing) × (is_partition_name partition ≡ true) × (has_partition partition store.partitions ≡ true) × (list_any (has_name partition name) store.files ≡ false))
+    ⊎ ((e ≡ BlobMissing) × (is_partition_name partition ≡ true) × (has_partition partition store.partitions ≡ true)
+    × (list_any (has_name partition name) store.files ≡ false))
 
 -- both layouts are accepted, and files are created in the first
 abbrev pub both_layouts : Layouts
@@ -113,14 +167,20 @@ handle_in partition name files = record {
 }
 
 abbrev pub fault_in : List ℕ → List ℕ → Versions → List StoredFile → Option HeaderError
-fault_in partition name versions files = let bytes = durable_in partition name files in first_fault (file_checks both_layouts versions (front_of bytes) (length bytes))
+fault_in partition name versions files = let bytes = durable_in partition name files in first_fault
+    (file_checks both_layouts versions (front_of bytes) (length bytes))
 
 -- what an opening gives of a blob that is there, or that it creates, and why it is refused
 abbrev pub MemoryOpens : Store → List ℕ → List ℕ → Versions → Result (Opened Handle) Error → Store → Type 0
 MemoryOpens old partition name versions result new = MatchResult result
     (λ opened. (is_partition_name partition ≡ true)
     × (((list_any (has_name partition name) old.files ≡ true) × (fault_in partition name versions old.files ≡ None)
-    × (opened ≡ record { blob = handle_in partition name old.files; size = (shown_in partition name old.files).size; version = (shown_in partition name old.files).version })
+    × (opened ≡ record {
+      blob = handle_in partition name old.files;
+      size = (shown_in partition name old.files).size;
+      version =
+          (shown_in partition name old.files).version;
+    })
     × (new ≡ old))
     ⊎ (IsMissing partition name old.files
     × (opened ≡ record { blob = new_handle old.next versions; size = 0; version = versions.greatest })
@@ -161,6 +221,18 @@ Fills handle offset buffer filled result = MatchResult result
 abbrev pub MemoryFills : Handle → ℕ → List ℕ → List ℕ → Store → Result Unit Error → Store → Type 0
 MemoryFills handle offset buffer filled old result new = (new ≡ old) × Fills handle offset buffer filled result
 
+-- what a write gives
+abbrev pub MemoryWrites : Handle → ℕ → List ℕ → WriteMode → Store → Result Unit Error → Handle → Store → Type 0
+MemoryWrites handle offset bytes mode old result changed new = let end = handle.offset + offset + length bytes in MatchResult result
+    (λ _. (end < 2 ^ 64) × ((changed, new) ≡ memory_write mode offset bytes handle old))
+    (λ e. (changed ≡ handle) × (new ≡ old) × (((e ≡ NumberEnded) × (2 ^ 64 ≤ end)) ⊎ ((e ≡ Memory) × (end < 2 ^ 64))))
+
+-- what a resize gives
+abbrev pub MemoryResizes : Handle → ℕ → Store → Result Unit Error → Handle → Store → Type 0
+MemoryResizes handle size old result changed new = let end = handle.offset + size in MatchResult result
+    (λ _. (end < 2 ^ 64) × ((changed, new) ≡ resizing size never handle old))
+    (λ e. (changed ≡ handle) × (new ≡ old) × (((e ≡ NumberEnded) × (2 ^ 64 ≤ end)) ⊎ ((e ≡ Memory) × (end < 2 ^ 64))))
+
 -- what a sync makes durable: the live bytes
 abbrev pub MemorySyncs : Handle → Store → Result Unit Error → Store → Type 0
 MemorySyncs handle old result new = MatchResult result
@@ -173,4 +245,5 @@ abbrev pub MemoryRemoves : Store → List ℕ → Option (List ℕ) → Result U
 MemoryRemoves old partition None result new =
     MatchResult result (λ _. new ≡ removed_partition partition old) (λ e. (new ≡ old) × LacksPartition partition old e)
 MemoryRemoves old partition (Some name) result new =
-    MatchResult result (λ _. (new ≡ removed partition name old) × (list_any (has_name partition name) old.files ≡ true)) (λ e. (new ≡ old) × LacksName partition name old e)
+    MatchResult result (λ _. (new ≡ removed partition name old) × (list_any (has_name partition name) old.files ≡ true))
+    (λ e. (new ≡ old) × LacksName partition name old e)

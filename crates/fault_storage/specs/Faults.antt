@@ -1,18 +1,18 @@
 -- Calls that may fail. `Answers` says what the store below answers, and which store it leaves.
 use Rattle.std.specs.Prelude.{◌≡◌, ℕ, ◌+◌, ◌-◌, ◌^◌, ◌<◌, ◌⊎◌, true, false, Result, Ok, Err, List}
 use Rattle.rand_core.specs.Stream.{Stream}
-use Rattle.fault_storage.specs.declared.error.Call.{Call}
-use Rattle.fault_storage.specs.declared.error.Error.{Error}
-use Rattle.fault_storage.specs.declared.error.Error.TheVariants.{Injected, NumberEnded, Memory}
+use Rattle.fault_storage_parts.specs.declared.error.Call.{Call}
+use Rattle.fault_storage_parts.specs.declared.error.Error.{Error}
+use Rattle.fault_storage_parts.specs.declared.error.Error.TheVariants.{Injected, NumberEnded, Memory}
 use Rattle.fault_storage.specs.declared.faulty.Blob.{Blob}
 use Rattle.fault_storage.specs.declared.faulty.Storage.{Storage}
-use Rattle.fault_storage.specs.declared.header.Versions.{Versions}
+use Rattle.fault_storage_parts.specs.declared.header.Versions.{Versions}
 use Rattle.fault_storage.specs.declared.storage.Opened.{Opened}
 use Rattle.fault_storage.specs.Stores.{Store, Handle}
 use Rattle.fault_storage.specs.Directory.{MemoryOpens}
-use Rattle.fault_storage.specs.declared.probability.Probability.{Probability}
-use Rattle.fault_storage.specs.Draws.{sample}
-use Rattle.fault_storage.specs.DrawsCode.{rate_of}
+use Rattle.fault_storage_parts.specs.declared.probability.Probability.{Probability}
+use Rattle.fault_storage_parts.specs.Draws.{sample}
+use Rattle.fault_storage_parts.specs.DrawsCode.{rate_of}
 
 -- the call is refused as not made
 abbrev pub IsNotMade : {T : Type 0} → Result T Error → Type 0
@@ -47,3 +47,14 @@ unwrapped opened = record { blob = opened.blob.inner; size = opened.size; versio
 abbrev pub FaultyOpens : List ℕ → List ℕ → Versions → Store → Result (Opened (Blob Handle)) Error → Store → Type 0
 FaultyOpens partition name versions old (Ok opened) new = MemoryOpens old partition name versions (Ok (unwrapped opened)) new
 FaultyOpens partition name versions old (Err e) new = MemoryOpens old partition name versions (Err e) new
+
+-- The store below answers: no word is taken, and no fault is counted.
+abbrev pub IsPlainCall : {S R T : Type 0} → (R → Stream) → (S → Result T Error → S → Type 0) → Storage S R → Result T Error → Storage S R → Type 0
+IsPlainCall stream Answers old result new =
+    Answers old.inner result new.inner × (stream new.rng ≡ stream old.rng) × (new.injections ≡ old.injections) × (new.config ≡ old.config)
+
+-- A fault is told of exactly where it is counted.
+abbrev pub IsCounted : {S R T : Type 0} → Call → Storage S R → Result T Error → Storage S R → Type 0
+IsCounted call old result new =
+    ((result ≡ Err (Injected call)) × (new.injections ≡ old.injections + 1))
+    ⊎ (((other : Call) → result ≡ Err (Injected other) → ⊥) × (new.injections ≡ old.injections))

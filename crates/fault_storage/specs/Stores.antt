@@ -1,13 +1,37 @@
 -- A store of files. Its files stand in the order of their names; each has a number of its own, so that a value of a blob that is gone
 -- finds no file. The order of issue is kept over all files: a number for each mutation that is not settled.
-use Rattle.std.specs.Prelude.{◌≡◌, ℕ, ◌+◌, ◌<◌, ◌==◌, nat_le, Bool, true, not, if◌then◌else◌, List, [], ◌∷◌, ◌++◌, length, take, drop, replicate, filter, slice_index_or, slice_set}
+use Rattle.std.specs.Prelude.{
+  ◌≡◌,
+  ⊤,
+  ℕ,
+  ◌+◌,
+  ◌<◌,
+  ◌==◌,
+  nat_le,
+  Bool,
+  true,
+  not,
+  if◌then◌else◌,
+  List,
+  [],
+  ◌∷◌,
+  ◌++◌,
+  length,
+  take,
+  drop,
+  replicate,
+  filter,
+  slice_index_or,
+  slice_set,
+}
 use Rattle.std.specs.List.{list_any}
 use Rattle.rand_core.specs.Stream.{Stream}
 use Rattle.fault_storage.specs.declared.stored.StoredFile.{StoredFile}
 use Rattle.fault_storage.specs.declared.storage.WriteMode.{WriteMode}
 use Rattle.fault_storage.specs.declared.storage.WriteMode.TheVariants.{Plain, Sync}
-use Rattle.fault_storage.specs.Draws.{Mode, Rate, prefix, never}
-use Rattle.fault_storage.specs.Files.{Mutation, written, fixed, resized_to, File, with_bytes, with_kept, resized, settled}
+use Rattle.fault_storage_parts.specs.Draws.{Mode, Rate, prefix, never}
+use Rattle.fault_storage_parts.specs.Revisions.{file_recast, file_without_last, without_last}
+use Rattle.fault_storage_parts.specs.Files.{Mutation, written, fixed, resized_to, File, IsLeftOf, with_bytes, with_kept, resized, settled}
 
 -- a store: the names of its partitions, its files, the numbers of the files whose mutations were issued, and the next number
 pub record Store : Type 0 where
@@ -70,6 +94,17 @@ issued number mutation store =
     }
     else store
 
+-- the mutation that was issued last of a file, put otherwise
+abbrev pub revised : ℕ → (Mutation → Mutation) → Store → Store
+revised number change store = record store { files = changed (has_number number) (file_recast change) store.files }
+
+-- the mutation that was issued last of all, taken back, where its file is there
+abbrev pub withdrawn : ℕ → Store → Store
+withdrawn number store =
+    if is_there number store
+    then record store { files = changed (has_number number) file_without_last store.files; order = without_last store.order }
+    else store
+
 -- without the turns of a file
 abbrev pub without : ℕ → List ℕ → List ℕ
 without number order = filter (λ other. not (other == number)) order
@@ -101,6 +136,15 @@ crashed_files files (number ∷ later) words =
 abbrev pub crashed_store : Store → Stream → Store × Stream
 crashed_store store words =
     let left = crashed_files store.files store.order words in (record store { files = left.0; order = [] }, left.1)
+
+-- each file of a store is what choices left of one of another's, under its name and number
+abbrev pub AreLeftOf : List StoredFile → List StoredFile → Type 0
+AreLeftOf [] [] = ⊤
+AreLeftOf [] (left ∷ others) = ⊥
+AreLeftOf (stored ∷ later) [] = ⊥
+AreLeftOf (stored ∷ later) (left ∷ others) =
+    (left.name ≡ stored.name) × (left.number ≡ stored.number)
+    × IsLeftOf stored.file.base stored.file.log left.file.base left.file.log × AreLeftOf later others
 
 -- the handle with other live bytes
 abbrev pub showing : List ℕ → Handle → Handle

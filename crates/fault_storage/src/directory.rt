@@ -1,6 +1,30 @@
 //! The names of a store's files.
 
-ghost use Rattle.std.specs.Prelude.{◌≡◌, ℕ, ◌<◌, ◌≤◌, ◌++◌, ◌∷◌, length, take, drop, [], true, false, not, filter, map, IfOk, IfNone, IfSome, OnOk, OnErr, MatchOption, List, IsTrue};
+ghost use Rattle.std.specs.Prelude.{
+  ◌≡◌,
+  ℕ,
+  ◌<◌,
+  ◌≤◌,
+  ◌++◌,
+  ◌∷◌,
+  length,
+  take,
+  drop,
+  [],
+  true,
+  false,
+  not,
+  filter,
+  map,
+  IfOk,
+  IfNone,
+  IfSome,
+  OnOk,
+  OnErr,
+  MatchOption,
+  List,
+  IsTrue,
+};
 ghost use Rattle.std.specs.List.{list_any};
 ghost use Rattle.std.specs.Str.{bytes_eq};
 ghost use Rattle.std.specs.Vec.{vec_len, vec_capacity};
@@ -140,7 +164,8 @@ pub fn durable_of(
     name: &[u8],
 ) -> Result<Option<Durable>, AllocError>
     ensures none { IfOk result (λ found. IfNone found (list_any (has_name partition.now name.now) files.now ≡ false)) }
-    ensures some { IfOk result (λ found. IfSome found (λ it. (list_any (has_name partition.now name.now) files.now ≡ true) × (it.number ≡ number_with (has_name partition.now name.now) files.now) × (it.bytes.items ≡ durable_in partition.now name.now files.now))) }
+    ensures some { IfOk result (λ found. IfSome found (λ it. (list_any (has_name partition.now name.now) files.now ≡ true)
+        × (it.number ≡ number_with (has_name partition.now name.now) files.now) × (it.bytes.items ≡ durable_in partition.now name.now files.now))) }
 {
     let Some(place) = place_of_name(files, partition, name) else {
         return Ok(None);

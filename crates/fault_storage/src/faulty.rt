@@ -6,13 +6,14 @@
 //!
 //! A call that answers F8 or F9 has taken no word and changed nothing. The draw comes before every other check of the store.
 
-ghost use Rattle.std.specs.Prelude.{◌≡◌, ◌+◌, ◌-◌, ◌^◌, ◌<◌, ◌⊎◌, Err, Ok, IfErr, OnOk, OnErr, true, if◌then◌else◌};
+ghost use Rattle.std.specs.Prelude.{◌≡◌, ◌+◌, ◌-◌, ◌^◌, ◌<◌, ◌⊎◌, Err, Ok, IfErr, OnOk, OnErr, true, length, if◌then◌else◌};
 ghost use Rattle.std.specs.List.{list_any};
-ghost use Rattle.fault_storage.specs.Draws.{sample};
-ghost use Rattle.fault_storage.specs.DrawsCode.{rate_of};
-ghost use Rattle.fault_storage.specs.Stores.{without_retired, published, crashed_store};
+ghost use Rattle.fault_storage_parts.specs.Draws.{sample};
+ghost use Rattle.fault_storage_parts.specs.DrawsCode.{rate_of};
+ghost use Rattle.fault_storage.specs.Stores.{resizing, without_retired, published, crashed_store};
 ghost use Rattle.fault_storage.specs.Directory.{has_name, admitted, LacksName, MemoryRemoves, MemoryScans, MemoryReads, MemoryFills, MemorySyncs};
-ghost use Rattle.fault_storage.specs.declared.error.Call.TheVariants.{Open, Remove};
+ghost use Rattle.fault_storage_parts.specs.declared.error.Call.TheVariants.{Open, Read, Write, Sync, Resize, Remove, Scan};
+ghost use Rattle.fault_storage.specs.Changes.{FaultyWrites, FaultyResizes, is_injected};
 ghost use Rattle.fault_storage.specs.Faults.{IsFaultyCall, FaultyOpens, unwrapped};
 
 use crate::config::Config;
@@ -20,8 +21,11 @@ use crate::error::{Call, Error};
 use crate::header::Versions;
 use crate::memory;
 use crate::probability::Probability;
-use crate::storage::Opened;
+use crate::storage::{Blob as _, Opened, Storage as _, WriteMode};
 use rand_core::Rng;
+
+#[cfg(test)]
+mod tests;
 
 /// A store that fails. In the Rust: `commonware_runtime::storage::faulty::Storage`.
 #[derive(Debug, Drop)]
@@ -124,7 +128,8 @@ impl<R: Rng> Storage<memory::Storage, R> {
     /// Makes what is durable of the file the base, and forgets its other mutations: what an opening showed stays. F3, F2, F1, F9; no
     /// word is taken. In the Rust: `commonware_runtime::storage::faulty::Storage::admit`.
     pub fn admit(&mut self, partition: &str, name: &[u8]) -> Result<(), Error>
-        ensures ok { OnOk result ((list_any (has_name partition.now name.now) self.old.inner.files ≡ true) × (self.new.inner ≡ admitted partition.now name.now self.old.inner)) }
+        ensures ok { OnOk result ((list_any (has_name partition.now name.now) self.old.inner.files ≡ true)
+            × (self.new.inner ≡ admitted partition.now name.now self.old.inner)) }
         ensures err { IfErr result (λ e. (self.new.inner ≡ self.old.inner) × (LacksName partition.now name.now self.old.inner e ⊎ (e ≡ Error.Memory))) }
         ensures rest { (R.stream self.new.rng ≡ R.stream self.old.rng) × (self.new.injections ≡ self.old.injections) × (self.new.config ≡ self.old.config) }
     {
@@ -132,32 +137,16 @@ impl<R: Rng> Storage<memory::Storage, R> {
     }
 }
 
-impl<R: Rng> Storage<memory::Storage, R> {
-    /// The names of the partition's blobs in byte order. F8: the count of faults has ended; F9; F6; F3, F2.
-    /// In the Rust: `commonware_runtime::Storage::scan`.
-    pub fn scan(&mut self, partition: &str) -> Result<Vec<Vec<u8>>, Error>
-        ensures { IsFaultyCall (R.stream) Call.Scan self.old.config.scan (MemoryScans partition.now) self.old result self.new }
-    {
-        if self.injections == u64::MAX {
-            return Err(Error::NumberEnded);
-        }
-        let names = self.inner.scan(partition);
-        if matches!(names, Err(Error::Memory)) {
-            return Err(Error::Memory);
-        }
-        if self.injects(self.config.scan) {
-            return Err(Error::Injected(Call::Scan));
-        }
-        names
-    }
-}
-
 impl<R: Rng> crate::storage::Storage for Storage<memory::Storage, R> {
     type Blob = Blob<memory::Blob>;
 
-    ghost opens = { λ old partition name versions result new. IsFaultyCall (R.stream) Open old.config.«open» (FaultyOpens partition name versions) old result new };
+    ghost opens = { λ old partition name versions result new. IsFaultyCall (R.stream) Open old.config.«open»
+        (FaultyOpens partition name versions) old result new };
 
-    ghost removes = { λ old partition name result new. IsFaultyCall (R.stream) Remove old.config.remove (λ below. MemoryRemoves below partition name) old result new };
+    ghost scans = { λ old partition result new. IsFaultyCall (R.stream) Scan old.config.scan (MemoryScans partition) old result new };
+
+    ghost removes = { λ old partition name result new. IsFaultyCall (R.stream) Remove old.config.remove
+        (λ below. MemoryRemoves below partition name) old result new };
 
     fn open_versioned(
         &mut self,
@@ -181,6 +170,22 @@ impl<R: Rng> crate::storage::Storage for Storage<memory::Storage, R> {
         }
     }
 
+    /// The names of the partition's blobs in byte order. F8: the count of faults has ended; F9; F6; F3, F2.
+    /// In the Rust: `commonware_runtime::Storage::scan`.
+    fn scan(&mut self, partition: &str) -> Result<Vec<Vec<u8>>, Error> {
+        if self.injections == u64::MAX {
+            return Err(Error::NumberEnded);
+        }
+        let names = self.inner.scan(partition);
+        if matches!(names, Err(Error::Memory)) {
+            return Err(Error::Memory);
+        }
+        if self.injects(self.config.scan) {
+            return Err(Error::Injected(Call::Scan));
+        }
+        names
+    }
+
     fn remove(&mut self, partition: &str, name: Option<&[u8]>) -> Result<(), Error> {
         if self.injections == u64::MAX {
             return Err(Error::NumberEnded);
@@ -190,6 +195,13 @@ impl<R: Rng> crate::storage::Storage for Storage<memory::Storage, R> {
         }
         self.inner.remove(partition, name)
     }
+}
+
+// Whether a fault was injected.
+fn is_injected(answer: &Result<(), Error>) -> bool
+    ensures { result ≡ is_injected answer.now }
+{
+    matches!(answer, Err(Error::Injected(_)))
 }
 
 // The blob of the store below as one of the store that fails.
@@ -230,20 +242,29 @@ impl<B> Blob<B> {
     }
 }
 
-impl Blob<memory::Blob> {
+impl<R: Rng> crate::storage::Blob<Storage<memory::Storage, R>> for Blob<memory::Blob> {
+    ghost reads = { λ blob offset count old result new. IsFaultyCall (R.stream) Read old.config.read (MemoryReads blob.inner offset count) old result new };
+
+    ghost fills = { λ blob offset buffer filled old result new.
+        IsFaultyCall (R.stream) Read old.config.read (MemoryFills blob.inner offset buffer filled) old result new × OnErr result (filled ≡ buffer) };
+
+    ghost writes = { FaultyWrites (R.stream) };
+
+    ghost resizes = { FaultyResizes (R.stream) };
+
+    ghost syncs = { λ blob old result new. IsFaultyCall (R.stream) Sync old.config.sync (MemorySyncs blob.inner) old result new };
+
     /// So many bytes from an offset on. F8: the count of faults has ended; F9; F6; F7: they are not all there.
-    pub fn read_at<R: Rng>(
+    fn read_at(
         &self,
         storage: &mut Storage<memory::Storage, R>,
         offset: u64,
         count: usize,
-    ) -> Result<Vec<u8>, Error>
-        ensures { IsFaultyCall (R.stream) Call.Read storage.old.config.read (MemoryReads self.now.inner offset count) storage.old result storage.new }
-    {
+    ) -> Result<Vec<u8>, Error> {
         if storage.injections == u64::MAX {
             return Err(Error::NumberEnded);
         }
-        let bytes = self.inner.read_at(&storage.inner, offset, count);
+        let bytes = self.inner.read_at(&mut storage.inner, offset, count);
         if matches!(bytes, Err(Error::Memory)) {
             return Err(Error::Memory);
         }
@@ -255,28 +276,71 @@ impl Blob<memory::Blob> {
 
     /// Reads into the buffer from an offset on, and fills it; refused, it stays as it is. F8: the count of faults has ended; F6; F7: the
     /// bytes are not all there.
-    pub fn read_at_buf<R: Rng>(
+    fn read_at_buf(
         &self,
         storage: &mut Storage<memory::Storage, R>,
         offset: u64,
         buffer: &mut [u8],
-    ) -> Result<(), Error>
-        ensures call { IsFaultyCall (R.stream) Call.Read storage.old.config.read (MemoryFills self.now.inner offset buffer.old buffer.new) storage.old result storage.new }
-        ensures kept { OnErr result (buffer.new ≡ buffer.old) }
-    {
+    ) -> Result<(), Error> {
         if storage.injections == u64::MAX {
             return Err(Error::NumberEnded);
         }
         if storage.injects(storage.config.read) {
             return Err(Error::Injected(Call::Read));
         }
-        self.inner.read_at_buf(offset, buffer)
+        self.inner.read_at_buf(&mut storage.inner, offset, buffer)
+    }
+
+    /// Writes the bytes at an offset, with zeros in a gap before them. F8: the count of faults has ended, or their end would pass a u64;
+    /// F9; F6: the bytes that are drawn are durable at once, and live. A crash keeps bytes of a plain write by the settings of now.
+    fn write_at(
+        &mut self,
+        storage: &mut Storage<memory::Storage, R>,
+        offset: u64,
+        bytes: &[u8],
+        mode: WriteMode,
+    ) -> Result<(), Error> {
+        if storage.injections == u64::MAX {
+            return Err(Error::NumberEnded);
+        }
+        let written = self.inner.write_unless(
+            &mut storage.inner,
+            &mut storage.rng,
+            storage.config.write,
+            offset,
+            bytes,
+            mode,
+        );
+        if is_injected(&written) {
+            storage.count_fault();
+        }
+        written
+    }
+
+    /// Cuts the blob to a length, or grows it to that by zeros. F8: the count of faults has ended, or its end would pass a u64; F9; F6:
+    /// it goes a part of the way, or nowhere, as is drawn. A crash keeps it by the settings of now.
+    fn resize(
+        &mut self,
+        storage: &mut Storage<memory::Storage, R>,
+        size: u64,
+    ) -> Result<(), Error> {
+        if storage.injections == u64::MAX {
+            return Err(Error::NumberEnded);
+        }
+        let resized = self.inner.resize_unless(
+            &mut storage.inner,
+            &mut storage.rng,
+            storage.config.resize,
+            size,
+        );
+        if is_injected(&resized) {
+            storage.count_fault();
+        }
+        resized
     }
 
     /// Makes the live bytes durable. F8: the count of faults has ended; F9; F6, and nothing is published; F1: the blob is gone.
-    pub fn sync<R: Rng>(&self, storage: &mut Storage<memory::Storage, R>) -> Result<(), Error>
-        ensures { IsFaultyCall (R.stream) Call.Sync storage.old.config.sync (MemorySyncs self.now.inner) storage.old result storage.new }
-    {
+    fn sync(&self, storage: &mut Storage<memory::Storage, R>) -> Result<(), Error> {
         if storage.injections == u64::MAX {
             return Err(Error::NumberEnded);
         }

@@ -1,26 +1,107 @@
 //! The store in memory.
 
-ghost use Rattle.std.specs.Prelude.{◌≡◌, not, MatchResult, Ok, ◌+◌, ◌-◌, ◌^◌, ◌<◌, ◌≤◌, ◌⊎◌, ◌↔◌, [], false, true, Err, IfOk, IfErr, IfNone, IfSome, None, Some, OnOk, OnErr, MatchOption, filter, length};
+ghost use Rattle.std.specs.Prelude.{
+  ◌≡◌,
+  not,
+  MatchResult,
+  Ok,
+  ◌+◌,
+  ◌-◌,
+  ◌^◌,
+  ◌<◌,
+  ◌≤◌,
+  ◌⊎◌,
+  ◌↔◌,
+  [],
+  false,
+  true,
+  Err,
+  IfOk,
+  IfErr,
+  IfNone,
+  IfSome,
+  None,
+  Some,
+  OnOk,
+  OnErr,
+  MatchOption,
+  filter,
+  length,
+  max,
+  replicate,
+};
 ghost use Rattle.std.specs.List.{list_any};
 ghost use Rattle.std.specs.Vec.{vec_len, vec_capacity};
-ghost use Rattle.fault_storage.specs.DrawsCode.{rate_of, mode_of};
-ghost use Rattle.fault_storage.specs.Files.{written, fixed, resized_to, with_bytes, with_kept, resized};
-ghost use Rattle.fault_storage.specs.FilesCode.{mutation_of};
-ghost use Rattle.fault_storage.specs.Names.{is_partition_name};
-ghost use Rattle.fault_storage.specs.declared.error.HeaderError.{HeaderError};
-ghost use Rattle.fault_storage.specs.declared.header.Layout.TheVariants.{V0};
-ghost use Rattle.fault_storage.specs.Headers.{created};
+ghost use Rattle.fault_storage_parts.specs.DrawsCode.{rate_of, mode_of};
+ghost use Rattle.fault_storage_parts.specs.Files.{written, fixed, resized_to, with_bytes, with_kept, resized};
+ghost use Rattle.fault_storage_parts.specs.FilesCode.{mutation_of};
+ghost use Rattle.fault_storage_parts.specs.Names.{is_partition_name};
+ghost use Rattle.fault_storage_parts.specs.declared.error.HeaderError.{HeaderError};
+ghost use Rattle.fault_storage_parts.specs.declared.header.Layout.TheVariants.{V0};
+ghost use Rattle.fault_storage_parts.specs.Headers.{created};
 ghost use Rattle.fault_storage.specs.Faults.{IsDrawnCall};
-ghost use Rattle.fault_storage.specs.Directory.{in_order, with_partition, MemoryOpens, MemoryPlaces, MemoryRemoves, MemoryScans, MemoryReads, Fills, MemorySyncs, IsMissing, fault_in, handle_in, shown_in, new_handle, has_name, has_partition, names_in, placed, admitted, removed, removed_partition, LacksName, LacksPartition};
-ghost use Rattle.fault_storage.specs.Draws.{never};
-ghost use Rattle.fault_storage.specs.Stores.{Store, Handle, memory_write, fixed_write, resizing, showing, IsPlace, has_number, is_there, without_retired, issued, published, without, changed, with_issued, settled_at, settled_in, crashed_files, crashed_store};
+ghost use Rattle.fault_storage.specs.Changes.{IsDrawnChange, made_write, failed_write, mutation_for, shown_after, failed_length, failed_resize};
+ghost use Rattle.fault_storage.specs.Directory.{
+  in_order,
+  durable_in,
+  with_partition,
+  MemoryOpens,
+  MemoryPlaces,
+  MemoryRemoves,
+  MemoryScans,
+  MemoryReads,
+  MemoryFills,
+  MemoryWrites,
+  MemoryResizes,
+  MemorySyncs,
+  IsMissing,
+  fault_in,
+  handle_in,
+  shown_in,
+  new_handle,
+  has_name,
+  has_partition,
+  names_in,
+  placed,
+  admitted,
+  removed,
+  removed_partition,
+  LacksName,
+  LacksPartition,
+};
+ghost use Rattle.fault_storage_parts.specs.Draws.{never, kept_bytes};
+ghost use Rattle.fault_storage_parts.specs.Revisions.{kept_of, shortened, without_last, file_recast, file_without_last};
+ghost use Rattle.fault_storage.specs.Stores.{
+  revised,
+  withdrawn,
+  Store,
+  Handle,
+  memory_write,
+  fixed_write,
+  resizing,
+  showing,
+  IsPlace,
+  has_number,
+  is_there,
+  without_retired,
+  issued,
+  published,
+  without,
+  changed,
+  with_issued,
+  settled_at,
+  settled_in,
+  crashed_files,
+  crashed_store,
+};
 
 use crate::blob_file::BlobFile;
+use crate::config::{ResizeConfig, WriteConfig};
 use crate::directory::{
     PartitionName, durable_of, has_partition, names_in, place_of_name, publish_name, put_in_order,
     remove_files, remove_name, remove_partition,
 };
-use crate::draws::PartialWriteMode;
+use crate::draws::{PartialWriteMode, draw_length_between, note_kept_bytes};
 use crate::error::{Call, Error};
 use crate::file::{Mutation, Written};
 use crate::header::{Header, Layout, Layouts, Versions, resolve};
@@ -71,6 +152,40 @@ fn issue_in(files: &mut Vec<StoredFile>, number: u64, mutation: Mutation) -> Res
         files[place].file.issue(mutation)?;
     }
     Ok(())
+}
+
+// Makes these bytes of the write that was issued last durable at once, of the file with this number.
+fn fix_in(files: &mut Vec<StoredFile>, number: u64, kept: Vec<bool>)
+    ensures { files.new.items ≡ changed (has_number number) (file_recast (kept_of kept.items)) files.old.items }
+{
+    if let Some(place) = place_of(files, number) {
+        files[place].file.fix_last(kept);
+    }
+}
+
+// Lets the resize that was issued last go to this length, where it went further, of the file with this number.
+fn shorten_in(files: &mut Vec<StoredFile>, number: u64, size: usize)
+    ensures { files.new.items ≡ changed (has_number number) (file_recast (shortened size)) files.old.items }
+{
+    if let Some(place) = place_of(files, number) {
+        files[place].file.shorten_last(size);
+    }
+}
+
+// Takes back the mutation that was issued last, of the file with this number.
+fn withdraw_in(files: &mut Vec<StoredFile>, number: u64)
+    ensures { files.new.items ≡ changed (has_number number) file_without_last files.old.items }
+{
+    if let Some(place) = place_of(files, number) {
+        files[place].file.withdraw_last();
+    }
+}
+
+// Takes the last turn away.
+fn withdraw_turn(order: &mut Vec<u64>)
+    ensures { order.new.items ≡ without_last order.old.items }
+{
+    let _ = order.pop();
 }
 
 // Publishes the bytes of the file with this number, where it is there.
@@ -180,6 +295,30 @@ impl Storage {
         Ok(())
     }
 
+    // Makes these bytes of the write that was issued last durable at once, of the file with this number.
+    fn fix_last(&mut self, number: u64, kept: Vec<bool>)
+        ensures { self.new ≡ revised number (kept_of kept.items) self.old }
+    {
+        fix_in(&mut self.files, number, kept);
+    }
+
+    // Lets the resize that was issued last go to this length, where it went further, of the file with this number.
+    fn shorten_last(&mut self, number: u64, size: usize)
+        ensures { self.new ≡ revised number (shortened size) self.old }
+    {
+        shorten_in(&mut self.files, number, size);
+    }
+
+    // Takes back the mutation that was issued last, of the file with this number, where it is there.
+    fn withdraw(&mut self, number: u64)
+        ensures { self.new ≡ withdrawn number self.old }
+    {
+        if self.has(number) {
+            withdraw_in(&mut self.files, number);
+            withdraw_turn(&mut self.order);
+        }
+    }
+
     // Whether there is a file with this number.
     fn has(&self, number: u64) -> bool
         ensures { result ≡ is_there number self.now }
@@ -208,20 +347,11 @@ impl Storage {
         keep_turns(&mut self.order, &self.files);
     }
 
-    /// The names of the partition's blobs in byte order. F3, F2 (there is no such partition), F9.
-    /// In the Rust: `commonware_runtime::Storage::scan`.
-    pub fn scan(&self, partition: &str) -> Result<Vec<Vec<u8>>, Error>
-        ensures { MemoryScans partition.now self.now result self.now }
-    {
-        self.find_partition(partition)?;
-        let names = names_in(self.alloc, &self.files, partition)?;
-        Ok(names)
-    }
-
     // Whether the partition is there: F3, F2.
     fn find_partition(&self, partition: &str) -> Result<(), Error>
         ensures ok { OnOk result ((is_partition_name partition.now ≡ true) × (has_partition partition.now self.now.partitions ≡ true)) }
-        ensures err { IfErr result (λ e. ((e ≡ Error.PartitionNameInvalid) × (is_partition_name partition.now ≡ false)) ⊎ ((e ≡ Error.PartitionMissing) × (is_partition_name partition.now ≡ true) × (has_partition partition.now self.now.partitions ≡ false))) }
+        ensures err { IfErr result (λ e. ((e ≡ Error.PartitionNameInvalid) × (is_partition_name partition.now ≡ false))
+            ⊎ ((e ≡ Error.PartitionMissing) × (is_partition_name partition.now ≡ true) × (has_partition partition.now self.now.partitions ≡ false))) }
     {
         validate_partition_name(partition)?;
         if !has_partition(&self.partitions, partition) {
@@ -339,6 +469,20 @@ impl Storage {
         Ok(())
     }
 
+    /// What is durable of the file of this name, its header first. F3, F2, F1, F9.
+    /// In the Rust: `commonware_runtime::storage::memory::Storage::raw_blob`.
+    pub fn raw_blob(&self, partition: &str, name: &[u8]) -> Result<Vec<u8>, Error>
+        ensures ok { IfOk result (λ bytes. (list_any (has_name partition.now name.now) self.now.files ≡ true)
+            × (bytes.items ≡ durable_in partition.now name.now self.now.files)) }
+        ensures err { IfErr result (λ e. LacksName partition.now name.now self.now e ⊎ (e ≡ Error.Memory)) }
+    {
+        self.find_partition(partition)?;
+        match durable_of(self.alloc, &self.files, partition, name)? {
+            Some(durable) => Ok(durable.bytes),
+            None => Err(Error::BlobMissing),
+        }
+    }
+
     // The blob of this name, or None where it has no header yet. F3, F5, F9.
     fn look_up(
         &self,
@@ -362,8 +506,12 @@ impl Storage {
         versions: Versions,
     ) -> Result<Option<Opened<Blob>>, Error>
         ensures none { IfOk result (λ found. IfNone found (IsMissing partition.now name.now self.now.files)) }
-        ensures some { IfOk result (λ found. IfSome found (λ opened. (list_any (has_name partition.now name.now) self.now.files ≡ true) × (fault_in partition.now name.now versions self.now.files ≡ None) × (opened.blob ≡ handle_in partition.now name.now self.now.files) × (opened.size ≡ (shown_in partition.now name.now self.now.files).size) × (opened.version ≡ (shown_in partition.now name.now self.now.files).version))) }
-        ensures err { IfErr result (λ e. ((fault : HeaderError) × (e ≡ Error.Header fault) × (fault_in partition.now name.now versions self.now.files ≡ Some fault)) ⊎ (e ≡ Error.Memory)) }
+        ensures some { IfOk result (λ found. IfSome found (λ opened. (list_any (has_name partition.now name.now) self.now.files ≡ true)
+            × (fault_in partition.now name.now versions self.now.files ≡ None) × (opened.blob ≡ handle_in partition.now name.now self.now.files)
+            × (opened.size ≡ (shown_in partition.now name.now self.now.files).size)
+            × (opened.version ≡ (shown_in partition.now name.now self.now.files).version))) }
+        ensures err { IfErr result (λ e. ((fault : HeaderError) × (e ≡ Error.Header fault)
+            × (fault_in partition.now name.now versions self.now.files ≡ Some fault)) ⊎ (e ≡ Error.Memory)) }
     {
         let Some(durable) = durable_of(self.alloc, &self.files, partition, name)? else {
             return Ok(None);
@@ -396,7 +544,8 @@ impl Storage {
         name: &[u8],
         versions: Versions,
     ) -> Result<Opened<Blob>, Error>
-        ensures ok { IfOk result (λ opened. (opened.blob ≡ new_handle self.old.next versions) × (opened.size ≡ 0) × (opened.version ≡ versions.greatest) × (self.new ≡ placed partition.now name.now (created V0 versions.greatest) self.old)) }
+        ensures ok { IfOk result (λ opened. (opened.blob ≡ new_handle self.old.next versions) × (opened.size ≡ 0) × (opened.version ≡ versions.greatest)
+            × (self.new ≡ placed partition.now name.now (created V0 versions.greatest) self.old)) }
         ensures err { IfErr result (λ e. (self.new ≡ self.old) × (((e ≡ Error.NumberEnded) × (self.old.next ≡ 2 ^ 64 - 1)) ⊎ (e ≡ Error.Memory))) }
     {
         let layouts = Layouts {
@@ -427,7 +576,8 @@ impl Storage {
         versions: Versions,
     ) -> Result<Opened<Blob>, Error>
         ensures { IsDrawnCall (R.stream) Call.Open rate (λ below result after. MatchResult result
-            (λ opened. (opened ≡ record { blob = new_handle below.next versions; size = 0; version = versions.greatest }) × (after ≡ placed partition.now name.now (created V0 versions.greatest) below))
+            (λ opened. (opened ≡ record { blob = new_handle below.next versions; size = 0; version = versions.greatest })
+            × (after ≡ placed partition.now name.now (created V0 versions.greatest) below))
             (λ e. (after ≡ below) × (((e ≡ Error.NumberEnded) × (below.next ≡ 2 ^ 64 - 1)) ⊎ (e ≡ Error.Memory))))
             self.old rng.old result self.new rng.new }
     {
@@ -489,6 +639,8 @@ impl crate::storage::Storage for Storage {
 
     ghost opens = { MemoryOpens };
 
+    ghost scans = { λ old partition result new. MemoryScans partition old result new };
+
     ghost removes = { MemoryRemoves };
 
     fn open_versioned(
@@ -501,6 +653,14 @@ impl crate::storage::Storage for Storage {
             return Ok(opened);
         }
         self.create_blob(partition, name, versions)
+    }
+
+    /// The names of the partition's blobs in byte order. F3, F2 (there is no such partition), F9.
+    /// In the Rust: `commonware_runtime::Storage::scan`.
+    fn scan(&mut self, partition: &str) -> Result<Vec<Vec<u8>>, Error> {
+        self.find_partition(partition)?;
+        let names = names_in(self.alloc, &self.files, partition)?;
+        Ok(names)
     }
 
     fn remove(&mut self, partition: &str, name: Option<&[u8]>) -> Result<(), Error> {
@@ -533,84 +693,138 @@ fn end_of(start: usize, offset: u64, count: usize) -> Option<usize>
     start.checked_add(offset as usize)?.checked_add(count)
 }
 
+// What a write issues: a plain one by these settings, one that is synced as a whole. It fails only when out of memory.
+fn mutation_for(
+    alloc: Global,
+    settings: WriteConfig,
+    mode: WriteMode,
+    at: usize,
+    bytes: &[u8],
+) -> Result<Mutation, AllocError>
+    requires { at + length bytes.now < 2 ^ 64 }
+    ensures { IfOk result (λ mutation. mutation_of mutation ≡ mutation_for settings mode at bytes.now) }
+{
+    let copy = bytes.to_vec(alloc)?;
+    let written = Written {
+        offset: at,
+        bytes: copy,
+    };
+    match mode {
+        WriteMode::Plain => Ok(Mutation::Plain(written, settings.mode, settings.retention)),
+        WriteMode::Sync => {
+            let all = vec![in alloc; true; bytes.len()]?;
+            Ok(Mutation::Fixed(written, all))
+        }
+    }
+}
+
+// Lays the bytes of a write that was made over the live ones. There is room for them.
+fn show_write(live: &mut Vec<u8>, mode: WriteMode, at: usize, bytes: &[u8], all: &[bool])
+    requires fits { at + length bytes.now < 2 ^ 64 }
+    requires room { at + length bytes.now ≤ vec_capacity live.old }
+    requires all { all.now ≡ replicate (length bytes.now) true }
+    ensures { live.new.items ≡ shown_after mode at bytes.now live.old.items }
+{
+    match mode {
+        WriteMode::Plain => put_bytes(live, at, bytes),
+        WriteMode::Sync => put_kept(live, at, bytes, all),
+    }
+}
+
+// Which bytes of a write are kept that fails, by these settings. There is room for the choice.
+fn draw_kept<R: Rng>(kept: &mut Vec<bool>, settings: WriteConfig, count: usize, rng: &mut R)
+    requires { count ≤ vec_capacity kept.old }
+    ensures { (kept.new.items, R.stream rng.new) ≡ kept_bytes (mode_of settings.mode) (rate_of settings.retention) count (R.stream rng.old) }
+{
+    kept.clear();
+    note_kept_bytes(kept, settings.mode, settings.retention, count, rng);
+}
+
+// How far a resize goes that fails, or None where it changes nothing.
+fn draw_length<R: Rng>(
+    old: usize,
+    asked: usize,
+    retention: Probability,
+    rng: &mut R,
+) -> Option<usize>
+    ensures drawn { (result, R.stream rng.new) ≡ failed_length (rate_of retention) old asked (R.stream rng.old) }
+    ensures below { IfSome result (λ size. size < max old asked) }
+{
+    if !retention.sample(rng) {
+        return None;
+    }
+    let low = old.min(asked);
+    let high = old.max(asked);
+    if high - low <= 1 {
+        return None;
+    }
+    Some(draw_length_between(low as u64, high as u64, rng) as usize)
+}
+
 impl Blob {
-    /// So many bytes from an offset on. F7: they are not all there; F9. In the Rust: `commonware_runtime::Blob::read_at`.
-    pub fn read_at(&self, storage: &Storage, offset: u64, count: usize) -> Result<Vec<u8>, Error>
-        ensures { MemoryReads self.now offset count storage.now result storage.now }
-    {
-        let Some(end) = end_of(self.offset, offset, count) else {
-            return Err(Error::BlobInsufficientLength);
-        };
-        if end > self.live.len() {
-            return Err(Error::BlobInsufficientLength);
-        }
-        let bytes = self.live[end - count..end].to_vec(storage.allocator())?;
-        Ok(bytes)
-    }
-
-    /// Reads into the buffer from an offset on, and fills it. F7, and it stays as it is: not all bytes are there.
-    /// In the Rust: `commonware_runtime::Blob::read_at_buf`.
-    pub fn read_at_buf(&self, offset: u64, buffer: &mut [u8]) -> Result<(), Error>
-        ensures { Fills self.now offset buffer.old buffer.new result }
-    {
-        let Some(end) = end_of(self.offset, offset, buffer.len()) else {
-            return Err(Error::BlobInsufficientLength);
-        };
-        if end > self.live.len() {
-            return Err(Error::BlobInsufficientLength);
-        }
-        buffer.copy_from_slice(&self.live[end - buffer.len()..end]);
-        Ok(())
-    }
-
-    /// Writes the bytes at an offset, with zeros in a gap before them. F8: their end would pass a u64; F9. A crash keeps none of a plain
-    /// write but a beginning. In the Rust: `commonware_runtime::Blob::write_at`.
-    pub fn write_at(
+    /// Writes as `write_at` does where one draw does not come true, and a crash keeps bytes of a plain write by these settings; else the
+    /// bytes that are drawn are durable at once, and live. The draw comes after room was found for all. F8, F9; F6.
+    pub fn write_unless<R: Rng>(
         &mut self,
         storage: &mut Storage,
+        rng: &mut R,
+        settings: WriteConfig,
         offset: u64,
         bytes: &[u8],
         mode: WriteMode,
     ) -> Result<(), Error>
-        ensures ok { OnOk result ((self.new, storage.new) ≡ memory_write mode offset bytes.now self.old storage.old) }
-        ensures err { OnErr result ((self.new ≡ self.old) × (storage.new ≡ storage.old)) }
-        ensures ended { (result ≡ Err Error.NumberEnded) ↔ (2 ^ 64 ≤ self.old.offset + offset + length bytes.now) }
-        ensures refused { IfErr result (λ e. (e ≡ Error.NumberEnded) ⊎ (e ≡ Error.Memory)) }
+        ensures { IsDrawnChange (R.stream) Call.Write settings.rate (self.old.offset + offset + length bytes.now) (failed_write settings offset bytes.now)
+            (made_write settings mode offset bytes.now) self.old storage.old rng.old result self.new storage.new rng.new }
     {
         let Some(end) = end_of(self.offset, offset, bytes.len()) else {
             return Err(Error::NumberEnded);
         };
-        match mode {
-            WriteMode::Plain => {
-                self.write_plain(
-                    storage,
-                    end,
-                    bytes,
-                    PartialWriteMode::Prefix,
-                    Probability::ZERO,
-                )?;
-            }
-            WriteMode::Sync => {
-                let all = vec![in storage.allocator(); true; bytes.len()]?;
-                self.write_fixed(storage, end, bytes, &all)?;
-            }
+        let at = end - bytes.len();
+        let mutation = mutation_for(storage.allocator(), settings, mode, at, bytes)?;
+        let mut kept = vec![in storage.allocator(); true; bytes.len()]?;
+        self.live.reserve(end.saturating_sub(self.live.len()))?;
+        storage.issue(self.number, mutation)?;
+        if settings.rate.sample(rng) {
+            draw_kept(&mut kept, settings, bytes.len(), rng);
+            put_kept(&mut self.live, at, bytes, &kept);
+            storage.fix_last(self.number, kept);
+            return Err(Error::Injected(Call::Write));
         }
+        show_write(&mut self.live, mode, at, bytes, &kept);
         Ok(())
     }
 
-    /// Cuts the blob to a length, or grows it to that by zeros. F8: its end would pass a u64; F9. A crash keeps it not.
-    /// In the Rust: `commonware_runtime::Blob::resize`.
-    pub fn resize(&mut self, storage: &mut Storage, size: u64) -> Result<(), Error>
-        ensures ok { OnOk result ((self.new, storage.new) ≡ resizing size never self.old storage.old) }
-        ensures err { OnErr result ((self.new ≡ self.old) × (storage.new ≡ storage.old)) }
-        ensures ended { (result ≡ Err Error.NumberEnded) ↔ (2 ^ 64 ≤ self.old.offset + size) }
-        ensures refused { IfErr result (λ e. (e ≡ Error.NumberEnded) ⊎ (e ≡ Error.Memory)) }
+    /// Resizes as `resize` does where one draw does not come true, and a crash keeps it by these settings; else it goes a part of the
+    /// way, or nowhere, as is drawn. The draw comes after room was found for all. F8, F9; F6.
+    pub fn resize_unless<R: Rng>(
+        &mut self,
+        storage: &mut Storage,
+        rng: &mut R,
+        settings: ResizeConfig,
+        size: u64,
+    ) -> Result<(), Error>
+        ensures { IsDrawnChange (R.stream) Call.Resize settings.rate (self.old.offset + size) (failed_resize settings size)
+            (resizing size (rate_of settings.retention)) self.old storage.old rng.old result self.new storage.new rng.new }
     {
         let Some(all) = end_of(self.offset, size, 0) else {
             return Err(Error::NumberEnded);
         };
-        self.resize_all(storage, all, Probability::ZERO)?;
-        Ok(())
+        let old = self.live.len();
+        self.live.reserve(all.saturating_sub(old))?;
+        let furthest = Mutation::ResizedTo(all.max(old), settings.retention);
+        storage.issue(self.number, furthest)?;
+        if !settings.rate.sample(rng) {
+            storage.shorten_last(self.number, all);
+            resize(&mut self.live, all);
+            return Ok(());
+        }
+        let Some(reached) = draw_length(old, all, settings.retention, rng) else {
+            storage.withdraw(self.number);
+            return Err(Error::Injected(Call::Resize));
+        };
+        storage.shorten_last(self.number, reached);
+        resize(&mut self.live, reached);
+        Err(Error::Injected(Call::Resize))
     }
 
     /// What a write leaves that failed: of its bytes those that are kept are durable at once, and live. F8, F9.
@@ -664,7 +878,8 @@ impl Blob {
         retention: Probability,
     ) -> Result<(), AllocError>
         requires { length bytes.now ≤ end }
-        ensures ok { OnOk result ((self.new ≡ showing (with_bytes (end - length bytes.now) bytes.now self.old.live) self.old) × (storage.new ≡ issued self.old.number (written (end - length bytes.now) bytes.now (mode_of mode) (rate_of retention)) storage.old)) }
+        ensures ok { OnOk result ((self.new ≡ showing (with_bytes (end - length bytes.now) bytes.now self.old.live) self.old)
+            × (storage.new ≡ issued self.old.number (written (end - length bytes.now) bytes.now (mode_of mode) (rate_of retention)) storage.old)) }
         ensures err { OnErr result ((self.new ≡ self.old) × (storage.new ≡ storage.old)) }
     {
         let at = end - bytes.len();
@@ -688,7 +903,8 @@ impl Blob {
         kept: &[bool],
     ) -> Result<(), AllocError>
         requires { length bytes.now ≤ end }
-        ensures ok { OnOk result ((self.new ≡ showing (with_kept (end - length bytes.now) bytes.now kept.now self.old.live) self.old) × (storage.new ≡ issued self.old.number (fixed (end - length bytes.now) bytes.now kept.now) storage.old)) }
+        ensures ok { OnOk result ((self.new ≡ showing (with_kept (end - length bytes.now) bytes.now kept.now self.old.live) self.old)
+            × (storage.new ≡ issued self.old.number (fixed (end - length bytes.now) bytes.now kept.now) storage.old)) }
         ensures err { OnErr result ((self.new ≡ self.old) × (storage.new ≡ storage.old)) }
     {
         let at = end - bytes.len();
@@ -711,7 +927,8 @@ impl Blob {
         size: usize,
         retention: Probability,
     ) -> Result<(), AllocError>
-        ensures ok { OnOk result ((self.new ≡ showing (resized size self.old.live) self.old) × (storage.new ≡ issued self.old.number (resized_to size (rate_of retention)) storage.old)) }
+        ensures ok { OnOk result ((self.new ≡ showing (resized size self.old.live) self.old)
+            × (storage.new ≡ issued self.old.number (resized_to size (rate_of retention)) storage.old)) }
         ensures err { OnErr result ((self.new ≡ self.old) × (storage.new ≡ storage.old)) }
     {
         self.live.reserve(size.saturating_sub(self.live.len()))?;
@@ -722,7 +939,8 @@ impl Blob {
 
     /// A copy of the live bytes, those of the header first. None: the blob is gone. It fails only when out of memory.
     pub fn copy_live(&self, storage: &Storage) -> Result<Option<Vec<u8>>, AllocError>
-        ensures ok { IfOk result (λ live. MatchOption live (is_there self.now.number storage.now ≡ false) (λ bytes. (is_there self.now.number storage.now ≡ true) × (bytes.items ≡ self.now.live))) }
+        ensures ok { IfOk result (λ live. MatchOption live (is_there self.now.number storage.now ≡ false)
+            (λ bytes. (is_there self.now.number storage.now ≡ true) × (bytes.items ≡ self.now.live))) }
         ensures err { OnErr result (is_there self.now.number storage.now ≡ true) }
     {
         if !storage.has(self.number) {
@@ -738,11 +956,91 @@ impl Blob {
     {
         storage.publish(self.number, bytes);
     }
+}
+
+impl crate::storage::Blob<Storage> for Blob {
+    ghost reads = { MemoryReads };
+
+    ghost fills = { MemoryFills };
+
+    ghost writes = { MemoryWrites };
+
+    ghost resizes = { MemoryResizes };
+
+    ghost syncs = { MemorySyncs };
+
+    /// So many bytes from an offset on. F7: they are not all there; F9. In the Rust: `commonware_runtime::Blob::read_at`.
+    fn read_at(&self, storage: &mut Storage, offset: u64, count: usize) -> Result<Vec<u8>, Error> {
+        let Some(end) = end_of(self.offset, offset, count) else {
+            return Err(Error::BlobInsufficientLength);
+        };
+        if end > self.live.len() {
+            return Err(Error::BlobInsufficientLength);
+        }
+        let bytes = self.live[end - count..end].to_vec(storage.allocator())?;
+        Ok(bytes)
+    }
+
+    /// Reads into the buffer from an offset on, and fills it. F7, and it stays as it is: not all bytes are there.
+    /// In the Rust: `commonware_runtime::Blob::read_at_buf`.
+    fn read_at_buf(
+        &self,
+        _storage: &mut Storage,
+        offset: u64,
+        buffer: &mut [u8],
+    ) -> Result<(), Error> {
+        let Some(end) = end_of(self.offset, offset, buffer.len()) else {
+            return Err(Error::BlobInsufficientLength);
+        };
+        if end > self.live.len() {
+            return Err(Error::BlobInsufficientLength);
+        }
+        buffer.copy_from_slice(&self.live[end - buffer.len()..end]);
+        Ok(())
+    }
+
+    /// Writes the bytes at an offset, with zeros in a gap before them. F8: their end would pass a u64; F9. A crash keeps none of a plain
+    /// write but a beginning. In the Rust: `commonware_runtime::Blob::write_at`.
+    fn write_at(
+        &mut self,
+        storage: &mut Storage,
+        offset: u64,
+        bytes: &[u8],
+        mode: WriteMode,
+    ) -> Result<(), Error> {
+        let Some(end) = end_of(self.offset, offset, bytes.len()) else {
+            return Err(Error::NumberEnded);
+        };
+        match mode {
+            WriteMode::Plain => {
+                self.write_plain(
+                    storage,
+                    end,
+                    bytes,
+                    PartialWriteMode::Prefix,
+                    Probability::ZERO,
+                )?;
+            }
+            WriteMode::Sync => {
+                let all = vec![in storage.allocator(); true; bytes.len()]?;
+                self.write_fixed(storage, end, bytes, &all)?;
+            }
+        }
+        Ok(())
+    }
+
+    /// Cuts the blob to a length, or grows it to that by zeros. F8: its end would pass a u64; F9. A crash keeps it not.
+    /// In the Rust: `commonware_runtime::Blob::resize`.
+    fn resize(&mut self, storage: &mut Storage, size: u64) -> Result<(), Error> {
+        let Some(all) = end_of(self.offset, size, 0) else {
+            return Err(Error::NumberEnded);
+        };
+        self.resize_all(storage, all, Probability::ZERO)?;
+        Ok(())
+    }
 
     /// Makes the live bytes durable. F1: the blob is gone; F9. In the Rust: `commonware_runtime::Blob::sync`.
-    pub fn sync(&self, storage: &mut Storage) -> Result<(), Error>
-        ensures { MemorySyncs self.now storage.old result storage.new }
-    {
+    fn sync(&self, storage: &mut Storage) -> Result<(), Error> {
         let Some(bytes) = self.copy_live(storage)? else {
             return Err(Error::BlobMissing);
         };

@@ -137,9 +137,12 @@ impl Opens {
         versions: Versions,
     ) -> Result<OpenBlob<S::Blob>, Error>
         ensures open { is_open partition.now name.now self.old ≡ true → (result ≡ Err Error.AlreadyOpen) × (self.new ≡ self.old) × (storage.new ≡ storage.old) }
-        ensures ok { IfOk result (λ made. (made.name ≡ (partition.now, name.now)) × (self.new ≡ self.old ++ (partition.now, name.now) ∷ []) × S.opens storage.old partition.now name.now versions (Ok made.opened) storage.new) }
+        ensures ok { IfOk result (λ made. (made.name ≡ (partition.now, name.now)) × (self.new ≡ self.old ++ (partition.now, name.now) ∷ [])
+            × S.opens storage.old partition.now name.now versions (Ok made.opened) storage.new) }
         ensures err { IfErr result (λ error. self.new ≡ self.old) }
-        ensures refused { is_open partition.now name.now self.old ≡ false → IfErr result (λ error. S.opens storage.old partition.now name.now versions (Err error) storage.new ⊎ ((error ≡ Error.Memory) × (storage.new ≡ storage.old))) }
+        ensures refused { is_open partition.now name.now self.old ≡ false
+            → IfErr result (λ error. S.opens storage.old partition.now name.now versions (Err error) storage.new
+            ⊎ ((error ≡ Error.Memory) × (storage.new ≡ storage.old))) }
     {
         if self.is_open(partition, name) {
             return Err(Error::AlreadyOpen);
@@ -163,8 +166,10 @@ impl Opens {
         partition: &str,
         name: Option<&[u8]>,
     ) -> Result<(), Error>
-        ensures open { is_held partition.now (option_map (λ x. x.now) name.entry) self.now ≡ true → (result ≡ Err Error.AlreadyOpen) × (storage.new ≡ storage.old) }
-        ensures closed { is_held partition.now (option_map (λ x. x.now) name.entry) self.now ≡ false → S.removes storage.old partition.now (option_map (λ x. x.now) name.entry) result storage.new }
+        ensures open { is_held partition.now (option_map (λ x. x.now) name.entry) self.now ≡ true → (result ≡ Err Error.AlreadyOpen)
+            × (storage.new ≡ storage.old) }
+        ensures closed { is_held partition.now (option_map (λ x. x.now) name.entry) self.now ≡ false
+            → S.removes storage.old partition.now (option_map (λ x. x.now) name.entry) result storage.new }
     {
         let is_held = match name {
             Some(name) => self.is_open(partition, name),

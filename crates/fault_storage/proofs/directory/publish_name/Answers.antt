@@ -6,7 +6,8 @@ use Rattle.fault_storage.proofs.directory.publish_name.Goals as goal
 
 pub returns-in-Some : goal.returns-in-Some
 returns-in-Some c =
-    written-at (has_name c.args.partition.now c.args.name.now) c.deref.result.now c.args.files.now.items c.in-Some.place c.index_mut.result.now (λ _. settled_at c.args.bytes.items) c.publish.new.self
+    written-at (has_name c.args.partition.now c.args.name.now) c.deref.result.now c.args.files.now.items c.in-Some.place c.index_mut.result.now
+    (λ _. settled_at c.args.bytes.items) c.publish.new.self
     c.deref.ensures.value c.in-Some.ensures c.index_mut.ensures.value c.publish.ensures
 
 pub returns-in_default : goal.returns-in_default

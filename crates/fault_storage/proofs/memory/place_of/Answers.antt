@@ -5,5 +5,6 @@ use Rattle.fault_storage.proofs.memory.place_of.Goals as goal
 
 pub returns-then-stored-number : goal.returns-then-stored-number
 returns-then-stored-number c =
-    place-found (has_number c.args.number) c.args.files.now c.loop-place.place c.index-files-place.result c.loop-place-test.true c.index-files-place.is (search rules)
+    place-found (has_number c.args.number) c.args.files.now c.loop-place.place c.index-files-place.result c.loop-place-test.true c.index-files-place.is
+    (search rules)
     c.loop-place.invariant.some c.loop-place.invariant.is c.loop-place.invariant.number c.loop-place.invariant.change

@@ -20,9 +20,11 @@ all_settled order i files words le = sym (ap (λ l. crashed_files files l words)
 
 pub loop-number-preserved : goal.loop-number-preserved
 loop-number-preserved g c =
-    one_more c.args.order.now c.loop-number.number-index c.loop-number.files.items c.settle_in.new.files.items (g.R.Rng.stream c.loop-number.rng) (g.R.Rng.stream c.settle_in.new.rng)
+    one_more c.args.order.now c.loop-number.number-index c.loop-number.files.items c.settle_in.new.files.items (g.R.Rng.stream c.loop-number.rng)
+    (g.R.Rng.stream c.settle_in.new.rng)
     c.loop-number-test.true c.settle_in.ensures ∙ c.loop-number.invariant
 
 pub returns : goal.returns
 returns g c =
-    all_settled c.args.order.now c.loop-number.number-index c.loop-number.files.items (g.R.Rng.stream c.loop-number.rng) c.loop-number-test.false ∙ c.loop-number.invariant
+    all_settled c.args.order.now c.loop-number.number-index c.loop-number.files.items (g.R.Rng.stream c.loop-number.rng) c.loop-number-test.false
+    ∙ c.loop-number.invariant

@@ -1,0 +1,11 @@
+pub mod Created
+pub mod Crc
+pub mod DrawLemmas
+pub mod Fronts
+pub mod LastMutations
+pub mod Left
+pub mod Overlays
+pub mod Rooms
+pub mod Settling
+pub mod Torn
+pub mod Zeros

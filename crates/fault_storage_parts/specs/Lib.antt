@@ -1,0 +1,10 @@
+pub mod Crc32
+pub mod Draws
+pub mod DrawsCode
+pub mod Files
+pub mod FilesCode
+pub mod Headers
+pub mod Names
+pub mod Refusals
+pub mod Revisions
+pub mod Settings
