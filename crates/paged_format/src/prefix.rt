@@ -28,12 +28,13 @@ pub fn prefix_len<C: Checksum>(pages: &[u8], physical_page_size: u32) -> u64
     ensures { result ≡ length (recovered C.checksum_of physical_page_size pages.now) }
 {
     let size = physical_page_size as usize;
+    let whole = size - 12;
     let mut rest = pages;
     let mut len = 0;
     while rest.len() >= size {
         let (page, behind) = rest.split_at(size);
         let shown = shown_len::<C>(page);
-        if shown < size - 12 {
+        if shown < whole {
             return (len + shown) as u64;
         }
         len += shown;

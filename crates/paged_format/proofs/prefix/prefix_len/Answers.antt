@@ -11,14 +11,14 @@ first sum size rest page shown is long shows =
     let fits : length page ≡ size = ap length is ∙ length-take-le size rest long in
     shows ∙ ap (λ n. shown_len sum n page) fits ∙ ap (shown_len sum size) is
 
-pub returns-then-shown-size : goal.returns-then-shown-size
-returns-then-shown-size g c =
+pub returns-then-shown-whole : goal.returns-then-shown-whole
+returns-then-shown-whole g c =
     let sum = g.C.Checksum.checksum_of in
     let size = c.args.physical_page_size in
     let rest = c.loop-rest.rest.now in
     let some : 0 < size = search rules in
     let shows = first sum size rest c.split_at.result.0.now c.shown_len-shown.result c.split_at.ensures.front c.loop-rest-test.true c.shown_len-shown.ensures in
-    let left = length_recovered-partial sum size rest some c.loop-rest-test.true (omega (arith, shows, c.if-shown-size.true)) in
+    let left = length_recovered-partial sum size rest some c.loop-rest-test.true (omega (arith, shows, c.if-shown-whole.true)) in
     omega (arith, left, shows, c.loop-rest.invariant.known)
 
 pub overflow_add-len : goal.overflow_add-len
@@ -39,7 +39,7 @@ loop-rest-preserved g c =
     let some : 0 < size = search rules in
     let shows = first sum size rest c.split_at.result.0.now c.shown_len-shown.result c.split_at.ensures.front c.loop-rest-test.true c.shown_len-shown.ensures in
     let within = shown_within sum size (take size rest) in
-    let whole : shown_len sum size (take size rest) ≡ size - 12 = omega (arith, shows, within, c.if-shown-size.false) in
+    let whole : shown_len sum size (take size rest) ≡ size - 12 = omega (arith, shows, within, c.if-shown-whole.false) in
     let left = length_recovered-whole sum size rest some c.loop-rest-test.true whole in
     let behind : length (recovered sum size (drop size rest)) ≡ length (recovered sum size c.split_at.result.1.now) =
     ap (λ bytes. length (recovered sum size bytes)) (sym c.split_at.ensures.back) in

@@ -1,0 +1,4 @@
+pub mod Bytes
+pub mod Live
+pub mod Many
+pub mod Rows
