@@ -6,3 +6,4 @@ pub mod Answers
 pub mod WriteModes
 pub mod Recorded
 pub mod MemoryDisks
+pub mod Laws
