@@ -2,3 +2,4 @@ pub mod Bytes
 pub mod Live
 pub mod Many
 pub mod Rows
+pub mod Kept

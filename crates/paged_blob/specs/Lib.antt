@@ -2,6 +2,8 @@ pub mod Calls
 pub mod Images
 pub mod Moments
 pub mod Chance
+pub mod Caches
+pub mod CachesCode
 pub mod Answers
 pub mod WriteModes
 pub mod Recorded

@@ -4,10 +4,12 @@
 
 pub mod bench;
 pub mod blob;
+pub mod cache;
 pub mod error;
 pub mod record;
 
 pub use blob::{Blob, WriteMode};
+pub use cache::CacheRef;
 pub use error::{CallKind, Error};
 pub use record::Recorded;
 

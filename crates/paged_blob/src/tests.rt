@@ -2,6 +2,7 @@
 
 use crate::bench::MemoryDisk;
 use crate::blob::{Blob, WriteMode};
+use crate::cache::CacheRef;
 use crate::error::{CallKind, Error};
 use std::test::Fail;
 
@@ -64,5 +65,24 @@ fn prints_each_refusal_with_its_number(rt: HostRuntime) -> Result<(), Fail> {
     for (error, text) in texts {
         assert_eq!(rt; format!(in rt.alloc(); "{error}")?.as_str(), text);
     }
+    Ok(())
+}
+
+#[test]
+fn keeps_the_pages_of_two_blobs_apart(rt: HostRuntime) -> Result<(), Fail> {
+    let mut cache = CacheRef::new(rt.alloc(), 4, 2);
+    let (first, second) = (cache.next_id()?, cache.next_id()?);
+    assert_eq!(rt; [first, second], [0, 1]);
+    assert_eq!(rt; cache.page_size(), 4);
+    assert_eq!(rt; cache.offset_to_page(9), (2, 1));
+    assert_eq!(rt; cache.cache(first, &[1, 2, 3, 4, 5, 6], 8), 2);
+    assert_eq!(rt; cache.page(first, 2), Some([1, 2, 3, 4].as_slice()));
+    assert_eq!(rt; cache.page(second, 2), None);
+    assert_eq!(rt; cache.cache(second, &[7, 7, 7, 7], 8), 0);
+    assert_eq!(rt; cache.cache(first, &[9, 9, 9, 9], 8), 0);
+    assert_eq!(rt; cache.page(first, 2), Some([9, 9, 9, 9].as_slice()));
+    assert_eq!(rt; cache.page(second, 2), Some([7, 7, 7, 7].as_slice()));
+    assert_eq!(rt; cache.cache(first, &[8, 8, 8, 8], 0), 0);
+    assert_eq!(rt; cache.page(second, 2), None);
     Ok(())
 }

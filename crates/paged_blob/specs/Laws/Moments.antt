@@ -1,6 +1,6 @@
 -- How the moments go on, call by call.
-use Rattle.std.proofs.Common.{◌≡◌, ℕ, Bool, true, false, IsFalse, List, [], ◌∷◌, Result, Ok, Err, sym, subst}
-use Rattle.paged_blob.specs.Calls.{Call, synced, content, file_of}
+use Rattle.std.proofs.Common.{◌≡◌, ℕ, Bool, true, false, List, [], ◌∷◌, Result, Ok, Err, sym, subst}
+use Rattle.paged_blob.specs.Calls.{Call, synced}
 use Rattle.paged_blob.specs.Moments.{Through, here, then}
 use Rattle.paged_blob.specs.Answers.{Records, RecordsSync, MakesDurable}
 use Rattle.paged_blob.specs.declared.error.Error.{Error}
