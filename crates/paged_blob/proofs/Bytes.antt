@@ -79,7 +79,8 @@ with_bytes-resized offset bytes file short =
     let size = length-resized end file in
     ext_get_or 0 (with_bytes offset bytes grown) (with_bytes offset bytes file) (omega (arith, long, near, size, short))
     (λ i below. ⊎_elim
-    (λ before. with_bytes_before offset bytes grown i before ∙ resized_in end file i (omega (arith, before)) ∙ sym (with_bytes_before offset bytes file i before))
+    (λ before. with_bytes_before offset bytes grown i before ∙ resized_in end file i (omega (arith, before))
+    ∙ sym (with_bytes_before offset bytes file i before))
     (λ from.
     let inside : i < end = omega (arith, below, long, size) in
     with_bytes_in offset bytes grown i from inside ∙ sym (with_bytes_in offset bytes file i from inside))

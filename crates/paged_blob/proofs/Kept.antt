@@ -88,7 +88,8 @@ adds_none pages given = record { each = λ p within. inr within }
 pub forgotten : (old less few : List Page) (given : Page) → Forgets old less given.blob_id given.number → Loses less few → IsGivenOne old few given
 forgotten old less few given f l = record { each = λ p within. inr (f.each p (l.each p within)) }
 
-pub kept : (old less few new : List Page) (given : Page) → Forgets old less given.blob_id given.number → Loses less few → Adds few new given → IsGivenOne old new given
+pub kept : (old less few new : List Page) (given : Page) → Forgets old less given.blob_id given.number → Loses less few → Adds few new given
+    → IsGivenOne old new given
 kept old less few new given f l a = record {
   each = λ p within. ⊎_elim (λ is. inl is) (λ before. inr (f.each p (l.each p before))) (a.each p within);
 }

@@ -13,7 +13,8 @@ one_live (write offset bytes kept) file i =
     ⊎_elim
     (λ before. inr (or_right (not kept) _ (not_from_false _ (and_left _ _ (lt-leb offset i before))), with_bytes_before offset bytes file i before))
     (λ from. ⊎_elim
-    (λ below. inl (and_from _ _ (and_from _ _ (le-leb offset i from) (lt-ltb i (offset + length bytes) below)) (eq-eqb _ _ (with_bytes_in offset bytes file i from below))))
+    (λ below. inl (and_from _ _ (and_from _ _ (le-leb offset i from) (lt-ltb i (offset + length bytes) below)) (eq-eqb _ _ (with_bytes_in offset
+    bytes file i from below))))
     (λ past. inr (or_right (not kept) _ (not_from_false _ (and_right _ _ (le-ltb i (offset + length bytes) past))), with_bytes_behind offset bytes file i past))
     (cases_lt i (offset + length bytes)))
     (cases_lt i offset)

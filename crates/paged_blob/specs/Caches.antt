@@ -42,4 +42,5 @@ page_given blob_id first size bytes k = record { blob_id = blob_id; number = fir
 -- every page that is kept is one of the first so many of these bytes, or was there before, elsewhere
 pub record AreGiven (old new : List Page) (blob_id first size : ℕ) (bytes : List ℕ) (count : ℕ) : Type 0 where
   pub each : (page : Page) → Contains new page
-      → ((k : ℕ) × (k < count) × (page ≡ page_given blob_id first size bytes k)) ⊎ (Contains old page × ((k : ℕ) → k < count → IsElsewhere blob_id (first + k) page))
+      → ((k : ℕ) × (k < count) × (page ≡ page_given blob_id first size bytes k)) ⊎ (Contains old page × ((k : ℕ) → k < count
+      → IsElsewhere blob_id (first + k) page))

@@ -2,3 +2,4 @@
 pub mod Moments
 pub mod Chance
 pub mod Writers
+pub mod Durable

@@ -2,7 +2,8 @@
 
 ghost use Rattle.std.specs.Prelude.{◌≡◌, ◌+◌, ℕ, List, Bool, map, length, IfOk, IfErr};
 ghost use Rattle.paged_blob.specs.Calls.{Call, wrote, resized_to, file_of};
-ghost use Rattle.paged_blob.specs.Answers.{Records, RecordsSync, failures_after, IsCause, IsSlice, IsReadCause, AreSlices, IsManyCause};
+ghost use Rattle.paged_blob.specs.Answers.{Records, RecordsSync, failures_after, IsCause, IsSlice, IsReadCause};
+ghost use Rattle.paged_blob.specs.Answers.{AreSlices, IsManyCause};
 ghost use Rattle.paged_blob.specs.WriteModes.{is_sync};
 ghost use Rattle.paged_blob.specs.declared.error.CallKind.TheVariants.{Write, Resize, Sync};
 

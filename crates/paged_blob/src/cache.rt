@@ -1,6 +1,7 @@
 //! Pages of content that are kept in memory.
 
-ghost use Rattle.std.specs.Prelude.{◌≡◌, ◌+◌, ◌-◌, ◌/◌, ◌%◌, ◌<◌, ◌≤◌, ◌^◌, ◌↔◌, [], not, filter, length, Contains, IfSome, IsNone, IfOk, IfErr, IsErr};
+ghost use Rattle.std.specs.Prelude.{◌≡◌, ◌+◌, ◌/◌, ◌%◌, ◌<◌, ◌≤◌, ◌^◌, ◌↔◌, [], not, filter, length, Contains};
+ghost use Rattle.std.specs.Prelude.{IfSome, IsNone, IfOk, IfErr, IsErr};
 ghost use Rattle.paged_blob.specs.Caches.{Cache, Page, IsElsewhere, Loses, Adds, IsGivenOne, AreGiven};
 ghost use Rattle.paged_blob.specs.CachesCode.{is_at, page_of, pages_of};
 
@@ -19,8 +20,8 @@ pub struct CachedPage {
     pub bytes: Vec<u8>,
 }
 
-/// Pages of content, each under the name of its blob and its number, at most as many as the capacity; which one is given
-/// up for another is open. In the Rust: `paged::CacheRef`.
+/// Pages of content, each under the name of its blob and its number, at most as many as the capacity; which one is
+/// given up for another is open. In the Rust: `paged::CacheRef`.
 #[derive(Debug, Drop)]
 pub struct CacheRef {
     alloc: Global,
@@ -164,8 +165,8 @@ impl CacheRef {
     }
 
     /// Keeps the whole pages of these bytes, which stand from an offset on in the blob of this name, and answers how
-    /// many bytes behind them fill none. Where there is no memory for a page, none is kept in its place. That the offset
-    /// begins a page and that the bytes end before 2^64 is on the caller. In the Rust: `paged::CacheRef::cache`.
+    /// many bytes behind them fill none. Where there is no memory for a page, none is kept in its place. That the
+    /// offset begins a page and that the bytes end before 2^64 is on the caller. In the Rust: `paged::CacheRef::cache`.
     pub fn cache(&mut self, blob_id: u64, bytes: &[u8], offset: u64) -> usize
         requires begins { offset % self.old.page_size ≡ 0 }
         requires ends { offset + length bytes.now < 2 ^ 64 }

@@ -1,5 +1,5 @@
-//! One list of bytes over a blob that tears what is written to it. The crate ports the paged blobs of commonware-runtime
-//! 2026.10.0; `In the Rust` names what an item is there.
+//! One list of bytes over a blob that tears what is written to it. The crate ports the paged blobs of
+//! commonware-runtime 2026.10.0; `In the Rust` names what an item is there.
 #![tactic(auto)]
 
 pub mod bench;

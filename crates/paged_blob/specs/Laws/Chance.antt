@@ -1,7 +1,8 @@
 -- The test decides whether an opening is by chance.
 use Rattle.std.proofs.Common.{◌≡◌, ◌⊎◌, ℕ, zero, suc, ◌/◌, ◌<◌, true, false, List, [], ◌∷◌, length, take}
 use Rattle.std.proofs.Common.{Decides, inl, inr, ⊎_elim, subst, refl, arith}
-use Rattle.std.proofs.lemmas.Bool.{cases_lt, cases_Bool, or_cases, or_left, or_right, and_parts, and_from, both_ways, not-true, not_from_false, false_from_ne_true}
+use Rattle.std.proofs.lemmas.Bool.{cases_lt, cases_Bool, or_cases, or_left, or_right}
+use Rattle.std.proofs.lemmas.Bool.{and_parts, and_from, both_ways, not-true, not_from_false, false_from_ne_true}
 use Rattle.std.proofs.lemmas.Slice.Eq.{bytes_eq-Decides}
 use Rattle.paged_format.specs.declared.footer.Slot.{Slot}
 use Rattle.paged_format.specs.declared.footer.Slot.TheVariants.{First, Second}
@@ -128,7 +129,8 @@ chance_there sum size file bytes (suc count) page slot below ok =
     (cases_lt page count)
 
 -- the test answers exactly whether an opening is by chance
-pub by_chance_decided : (sum : List ℕ → ℕ) (size : ℕ) (file : File) (shown : List ℕ) → Decides (is_by_chance sum size file shown) (IsByChance sum size file shown)
+pub by_chance_decided : (sum : List ℕ → ℕ) (size : ℕ) (file : File) (shown : List ℕ)
+    → Decides (is_by_chance sum size file shown) (IsByChance sum size file shown)
 by_chance_decided sum size file shown = (
   λ ok.
       let r = chance_found sum size file shown (length shown / size) ok in

@@ -1,22 +1,23 @@
 -- What is recovered of an image that is not by chance is a beginning of the content.
-use Rattle.std.proofs.Common.{◌≡◌, ◌⊎◌, ℕ, zero, suc, ◌+◌, ◌-◌, ◌*◌, ◌/◌, ◌<◌, ◌≤◌, max, min, Bool, true, false, not, ◌&&◌, ◌||◌, cond, ◌==◌}
-use Rattle.std.proofs.Common.{List, [], ◌∷◌, ◌++◌, length, get_or, take, drop, sym, ◌∙◌, ap, subst, inl, inr, ⊎_elim, refl, arith}
+use Rattle.std.proofs.Common.{◌≡◌, ℕ, zero, suc, ◌+◌, ◌*◌, ◌/◌, ◌<◌, ◌≤◌, max, true, false, cond, ◌==◌}
+use Rattle.std.proofs.Common.{List, [], ◌∷◌, ◌++◌, length, take, drop, sym, ◌∙◌, ap, subst, inl, inr, ⊎_elim, refl, arith}
 use Rattle.std.specs.Int.{w16, w32, from_be_bytes}
-use Rattle.std.proofs.lemmas.Bool.{cases_lt, cases_Bool, or_parts, eqb-true, eqb-false, cond-true, cond-false}
-use Rattle.std.proofs.lemmas.List.{append-nil, take-append-drop, take-take, drop-take, drop-drop, length-drop, length-take, length-take-le, length-append}
+use Rattle.std.proofs.lemmas.Bool.{cases_lt, cases_Bool, or_parts, eqb-true, cond-true, cond-false}
+use Rattle.std.proofs.lemmas.List.{append-nil, take-append-drop, take-take, drop-take, drop-drop, length-drop, length-take-le}
 use Rattle.std.proofs.Math.Seq.{take-append-add}
 use Rattle.paged_format.specs.declared.footer.Slot.{Slot}
 use Rattle.paged_format.specs.declared.footer.Slot.TheVariants.{First, Second}
 use Rattle.paged_format.specs.Footers.{content_size, slot_start, slot_len, slot_crc}
-use Rattle.paged_format.specs.Pages.{vouches, verifies, vouched_len, shown_len, content_of, first_pages, pages_of, recovered}
-use Rattle.paged_format.specs.Laws.Pages.{IsVouched, vouched, vouching, vouched_cases, shown_within}
-use Rattle.paged_blob.specs.Calls.{Change, whole, File}
+use Rattle.paged_format.specs.Pages.{verifies, vouched_len, shown_len, content_of, first_pages, recovered}
+use Rattle.paged_format.specs.Laws.Pages.{vouched, vouching, vouched_cases}
+use Rattle.paged_blob.specs.Calls.{Change, File}
 use Rattle.paged_blob.specs.Chance.{page_at, slot_in, is_chance_slot, has_chance_slot, is_by_chance}
 use Rattle.paged_blob.specs.Writers.{from_page, ShowsContent, HoldsContent, EachBeginning}
 use Rattle.paged_blob.specs.Laws.Chance.{HasSlot, IsBeginning, not_chance}
 
 -- a beginning has what each of them has
-pub of_beginning : (P : List ℕ → Type 0) (base : List ℕ) (changes : List Change) (file : List ℕ) → EachBeginning P base changes → IsBeginning base changes file → P file
+pub of_beginning : (P : List ℕ → Type 0) (base : List ℕ) (changes : List Change) (file : List ℕ) → EachBeginning P base changes
+    → IsBeginning base changes file → P file
 of_beginning P base [] file each is = subst P (sym is) each
 of_beginning P base (change ∷ earlier) file each (inl is) = subst P (sym is) each.0
 of_beginning P base (change ∷ earlier) file each (inr before) = of_beginning P base earlier file each.1 before
@@ -42,7 +43,8 @@ module _ (size : ℕ) where
 
 module _ (sum : List ℕ → ℕ) (size : ℕ) where
   -- a page that has a slot that verifies has it verifying
-  pub verifies_there : (slot : Slot) (shown page : List ℕ) → verifies sum size slot shown ≡ true → HasSlot size slot shown page → verifies sum size slot page ≡ true
+  pub verifies_there : (slot : Slot) (shown page : List ℕ) → verifies sum size slot shown ≡ true → HasSlot size slot shown page
+      → verifies sum size slot page ≡ true
   verifies_there slot shown page ok has =
       let v = vouched sum size shown (slot_len size slot shown) (slot_crc size slot shown) ok in
       let len = same_len size slot shown page has.slot_same in
@@ -54,8 +56,10 @@ module _ (sum : List ℕ → ℕ) (size : ℕ) where
       })
 
   -- a slot that verifies, not by chance, shows the content
-  pub shows_slot : (content : List ℕ) (file : File) (image : List ℕ) (page : ℕ) (slot : Slot) → EachBeginning (HoldsContent sum size content) file.base file.changes
-      → is_chance_slot sum size file image page slot ≡ false → verifies sum size slot (page_at size page image) ≡ true → ShowsContent size content image page slot
+  pub shows_slot : (content : List ℕ) (file : File) (image : List ℕ) (page : ℕ) (slot : Slot)
+      → EachBeginning (HoldsContent sum size content) file.base file.changes
+      → is_chance_slot sum size file image page slot ≡ false → verifies sum size slot (page_at size page image) ≡ true
+      → ShowsContent size content image page slot
   shows_slot content file image page slot each none ok =
       let shown = page_at size page image in
       let r = not_chance sum size file image page slot none ok in
@@ -147,7 +151,8 @@ module _ (sum : List ℕ → ℕ) (size : ℕ) where
       let there : here ≡ page_at size page image = ap (take size) is in
       let front : IsFront here rest v =
       subst (λ l. IsFront l rest (shown_len sum size l)) (sym there) (shown_front content image page (shows page (omega arith) (omega arith))) in
-      let next : drop size bytes ≡ drop ((page + 1) * size) image = ap (drop size) is ∙ drop-drop size (page * size) image ∙ ap (λ n. drop n image) (omega arith) in
+      let next : drop size bytes ≡ drop ((page + 1) * size) image = ap (drop size) is ∙ drop-drop size (page * size) image
+      ∙ ap (λ n. drop n image) (omega arith) in
       let r = recovered_from content image (drop size bytes) count (page + 1) next (λ k from below. shows k (omega (arith, from)) (omega (arith, below))) in
       let later : from_page size (page + 1) content ≡ drop room rest = ap (λ n. drop n content) (omega arith) ∙ sym (drop-drop room (page * room) content) in
       ⊎_elim

@@ -5,4 +5,5 @@ use Rattle.paged_blob.proofs.cache.forget.Goals as goal
 
 pub returns-clause-elsewhere : goal.returns-clause-elsewhere
 returns-clause-elsewhere c =
-    filter_same _ (λ kept. not (is_at c.args.blob_id c.args.number kept)) _ (λ kept b f called. (search rules, search rules)) c.args.pages.now.items c.retain.new.self.items c.retain.ensures.filtered
+    filter_same _ (λ kept. not (is_at c.args.blob_id c.args.number kept)) _ (λ kept b f called. (search rules, search rules)) c.args.pages.now.items
+    c.retain.new.self.items c.retain.ensures.filtered
