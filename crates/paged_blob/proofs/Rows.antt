@@ -1,4 +1,14 @@
 -- The definitions computed at small files.
+use Rattle.std.proofs.Common.{◌*◌, take, ap, ◌∙◌, arith}
+use Rattle.std.specs.Int.{w16, from_be_bytes}
+use Rattle.std.proofs.Math.Nat.{zero-mod}
+use Rattle.std.proofs.lemmas.List.{drop_all, take_all}
+use Rattle.paged_format.specs.declared.footer.Slot.{Slot}
+use Rattle.paged_format.specs.Footers.{content_size, slot_start}
+use Rattle.paged_format.specs.Pages.{verifies}
+use Rattle.paged_format.specs.Laws.Pages.{vouched}
+use Rattle.paged_blob.specs.Chance.{page_at}
+use Rattle.paged_blob.specs.Writers.{IsWriterOf}
 use Rattle.std.proofs.Common.{◌≡◌, ℕ, true, false, List, [], ◌∷◌, ◌++◌, replicate, refl}
 use Rattle.paged_format.specs.Footers.{footer_bytes, slot_len, slot_crc}
 use Rattle.paged_format.specs.Pages.{vouches}
@@ -78,3 +88,27 @@ unwritten = refl
 displaced : is_by_chance seven 16 (file_of (wrote 16 page false true ∷ [])) (page ++ page) ≡ true
 unfolding page slot_in has_slot is_chance_slot vouches slot_len slot_crc resized with_bytes
 displaced = refl
+
+said_nothing : (size : ℕ) (slot : Slot) → slot_len size slot [] ≡ 0
+unfolding slot_len
+said_nothing size slot = ap (λ p. from_be_bytes w16 (take 2 p)) (drop_all (slot_start size slot) [] (omega arith))
+
+unverified : (sum : List ℕ → ℕ) (size : ℕ) (slot : Slot) (page : List ℕ) → page ≡ [] → verifies sum size slot page ≡ true → ⊥
+unverified sum size slot page is ok =
+    let v = vouched sum size page (slot_len size slot page) (slot_crc size slot page) ok in
+    let none : slot_len size slot page ≡ 0 = ap (slot_len size slot) is ∙ said_nothing size slot in
+    omega (arith, v.some, none)
+
+-- a writer of nothing stands over a blob of which no call was made
+new_writer : (sum : List ℕ → ℕ) (size : ℕ) → IsWriterOf sum size [] [] 0 (record { offset = 0; bytes = []; capacity = 64 })
+new_writer sum size = record {
+  sound = refl;
+  within = omega arith;
+  beginnings = λ page slot ok.
+      absurd (unverified sum size slot (page_at size page []) (ap (take size) (drop_all (page * size) [] (omega arith)) ∙ take_all size [] (omega arith)) ok);
+  durable = λ page below. absurd (omega (arith, below));
+  tip_begins = zero-mod (content_size size);
+  tip_within = omega arith;
+  tip_bytes = refl;
+  flushed = refl;
+}
