@@ -1,0 +1,5 @@
+pub mod Bytes
+pub mod Live
+pub mod Many
+pub mod Rows
+pub mod Kept

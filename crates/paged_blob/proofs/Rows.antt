@@ -1,0 +1,114 @@
+-- The definitions computed at small files.
+use Rattle.std.proofs.Common.{◌*◌, take, ap, ◌∙◌, arith}
+use Rattle.std.specs.Int.{w16, from_be_bytes}
+use Rattle.std.proofs.Math.Nat.{zero-mod}
+use Rattle.std.proofs.lemmas.List.{drop_all, take_all}
+use Rattle.paged_format.specs.declared.footer.Slot.{Slot}
+use Rattle.paged_format.specs.Footers.{content_size, slot_start}
+use Rattle.paged_format.specs.Pages.{verifies}
+use Rattle.paged_format.specs.Laws.Pages.{vouched}
+use Rattle.paged_blob.specs.Chance.{page_at}
+use Rattle.paged_blob.specs.Writers.{IsWriterOf}
+use Rattle.std.proofs.Common.{◌≡◌, ℕ, true, false, List, [], ◌∷◌, ◌++◌, replicate, refl}
+use Rattle.paged_format.specs.Footers.{footer_bytes, slot_len, slot_crc}
+use Rattle.paged_format.specs.Pages.{vouches}
+use Rattle.paged_blob.specs.Calls.{Call, opened, wrote, synced, file_of, content, resized, with_bytes}
+use Rattle.paged_blob.specs.Images.{may_hold, least_length, greatest_length}
+use Rattle.paged_blob.specs.Chance.{slot_in, has_slot, is_chance_slot, is_by_chance}
+
+-- four durable bytes, a plain write of two at 4, a synced write of two at 8
+calls : List Call
+calls = wrote 8 (12 ∷ 13 ∷ []) true true ∷ wrote 4 (10 ∷ 11 ∷ []) false true ∷ opened (1 ∷ 2 ∷ 3 ∷ 4 ∷ []) ∷ []
+
+live : content calls ≡ 1 ∷ 2 ∷ 3 ∷ 4 ∷ 10 ∷ 11 ∷ 0 ∷ 0 ∷ 12 ∷ 13 ∷ []
+unfolding calls resized with_bytes
+live = refl
+
+-- a crash may drop the plain write, not the synced one
+plain_dropped : may_hold (file_of calls).base (file_of calls).changes 4 0 ≡ true
+unfolding calls
+plain_dropped = refl
+
+plain_kept : may_hold (file_of calls).base (file_of calls).changes 4 10 ≡ true
+unfolding calls
+plain_kept = refl
+
+synced_kept : may_hold (file_of calls).base (file_of calls).changes 8 0 ≡ false
+unfolding calls
+synced_kept = refl
+
+shortest : least_length (file_of calls).base (file_of calls).changes ≡ 4
+unfolding calls resized with_bytes
+shortest = refl
+
+longest : greatest_length (file_of calls).base (file_of calls).changes ≡ 10
+unfolding calls resized with_bytes
+longest = refl
+
+-- a sync that succeeds settles what is there, one that fails changes nothing
+settled : (file_of (synced (1 ∷ []) true ∷ calls)).base ≡ 1 ∷ []
+unfolding calls
+settled = refl
+
+unsettled : file_of (synced [] false ∷ calls) ≡ file_of calls
+unfolding calls
+unsettled = refl
+
+-- a write that failed stands among the changes, and the file has failed until the next sync
+failed : (file_of (wrote 0 (9 ∷ []) true false ∷ calls)).failed ≡ true
+unfolding calls
+failed = refl
+
+failed_given : may_hold (file_of (wrote 0 (9 ∷ []) true false ∷ calls)).base (file_of (wrote 0 (9 ∷ []) true false ∷ calls)).changes 0 9 ≡ true
+unfolding calls
+failed_given = refl
+
+failed_left : may_hold (file_of (wrote 0 (9 ∷ []) true false ∷ calls)).base (file_of (wrote 0 (9 ∷ []) true false ∷ calls)).changes 0 1 ≡ true
+unfolding calls
+failed_left = refl
+
+-- pages of sixteen bytes, with a checksum that is always 7
+abbrev seven : List ℕ → ℕ
+seven bytes = 7
+
+page : List ℕ
+page = 1 ∷ 2 ∷ 3 ∷ 4 ∷ footer_bytes 4 7 0 0
+
+-- a page that a write made is not there by chance, also where the write failed
+written : is_by_chance seven 16 (file_of (wrote 0 page false false ∷ [])) page ≡ false
+unfolding page slot_in has_slot is_chance_slot vouches slot_len slot_crc resized with_bytes
+written = refl
+
+-- one that nobody wrote is
+unwritten : is_by_chance seven 16 (file_of (opened (replicate 16 0) ∷ [])) page ≡ true
+unfolding page slot_in has_slot is_chance_slot vouches slot_len slot_crc resized with_bytes
+unwritten = refl
+
+-- and so is one in another place
+displaced : is_by_chance seven 16 (file_of (wrote 16 page false true ∷ [])) (page ++ page) ≡ true
+unfolding page slot_in has_slot is_chance_slot vouches slot_len slot_crc resized with_bytes
+displaced = refl
+
+said_nothing : (size : ℕ) (slot : Slot) → slot_len size slot [] ≡ 0
+unfolding slot_len
+said_nothing size slot = ap (λ p. from_be_bytes w16 (take 2 p)) (drop_all (slot_start size slot) [] (omega arith))
+
+unverified : (sum : List ℕ → ℕ) (size : ℕ) (slot : Slot) (page : List ℕ) → page ≡ [] → verifies sum size slot page ≡ true → ⊥
+unverified sum size slot page is ok =
+    let v = vouched sum size page (slot_len size slot page) (slot_crc size slot page) ok in
+    let none : slot_len size slot page ≡ 0 = ap (slot_len size slot) is ∙ said_nothing size slot in
+    omega (arith, v.some, none)
+
+-- a writer of nothing stands over a blob of which no call was made
+new_writer : (sum : List ℕ → ℕ) (size : ℕ) → IsWriterOf sum size [] [] 0 (record { offset = 0; bytes = []; capacity = 64 })
+new_writer sum size = record {
+  sound = refl;
+  within = omega arith;
+  beginnings = λ page slot ok.
+      absurd (unverified sum size slot (page_at size page []) (ap (take size) (drop_all (page * size) [] (omega arith)) ∙ take_all size [] (omega arith)) ok);
+  durable = λ page below. absurd (omega (arith, below));
+  tip_begins = zero-mod (content_size size);
+  tip_within = omega arith;
+  tip_bytes = refl;
+  flushed = refl;
+}

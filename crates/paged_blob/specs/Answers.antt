@@ -1,0 +1,77 @@
+-- What a call's answer says of the calls that are recorded, of the count of failures, and of the bytes that were read.
+use Rattle.std.specs.Prelude.{◌≡◌, ℕ, ◌+◌, ◌<◌, ◌≤◌, ◌^◌, ⊤, Bool, true, false, IsFalse, List, [], ◌∷◌, length, take, drop, Result, Ok, Err, Contains}
+use Rattle.paged_blob.specs.Calls.{Call, opened, synced, content, File, file_of}
+use Rattle.paged_blob.specs.Images.{IsImage, IsLive}
+use Rattle.paged_blob.specs.declared.error.CallKind.{CallKind}
+use Rattle.paged_blob.specs.declared.error.CallKind.TheVariants.{Read}
+use Rattle.paged_blob.specs.declared.error.Error.{Error}
+use Rattle.paged_blob.specs.declared.error.Error.TheVariants.{Injected, BlobInsufficientLength, NumberEnded, Memory, PowerCut}
+
+-- A call that succeeds or fails is recorded, with that. One that a cut refuses, or that counts as not made, is not.
+abbrev pub Records : {T : Type 0} → Result T Error → (Bool → Call) → List Call → List Call → Type 0
+Records (Ok _) call old new = new ≡ call true ∷ old
+Records (Err (Injected _)) call old new = new ≡ call false ∷ old
+Records (Err _) call old new = new ≡ old
+
+-- a sync makes durable what a crash might have left, and the content where nothing has failed
+pub record MakesDurable (old : List Call) (bytes : List ℕ) : Type 0 where
+  pub image : IsImage (file_of old) bytes
+  pub content : IsFalse (file_of old).failed → bytes ≡ content old
+
+-- a sync that succeeds is recorded with these bytes
+abbrev pub RecordsSync : {T : Type 0} → Result T Error → List Call → List Call → Type 0
+RecordsSync (Ok _) old new = (bytes : List ℕ) × MakesDurable old bytes × (new ≡ synced bytes true ∷ old)
+RecordsSync (Err (Injected _)) old new = new ≡ synced [] false ∷ old
+RecordsSync (Err _) old new = new ≡ old
+
+-- an opening is recorded with what it shows, which a crash may have left
+abbrev pub RecordsOpening : List Call → List Call → Type 0
+RecordsOpening old new = (shown : List ℕ) × IsImage (file_of old) shown × (new ≡ opened shown ∷ old)
+
+-- the count of failures after a call: an injected one and one that a cut refuses are counted
+abbrev pub failures_after : {T : Type 0} → Result T Error → ℕ → ℕ
+failures_after (Ok _) failures = failures
+failures_after (Err (Injected _)) failures = failures + 1
+failures_after (Err PowerCut) failures = failures + 1
+failures_after (Err _) failures = failures
+
+-- a blob's numbers end at 2^64, of which its header may take 4096
+abbrev pub IsPastNumbers : ℕ → Type 0
+IsPastNumbers reach = 2 ^ 64 ≤ reach + 4096
+
+-- why a call of this kind that reaches so far may be refused
+abbrev pub IsCause : CallKind → ℕ → Error → Type 0
+IsCause kind reach (Injected injected) = injected ≡ kind
+IsCause kind reach NumberEnded = IsPastNumbers reach
+IsCause kind reach Memory = ⊤
+IsCause kind reach PowerCut = ⊤
+IsCause kind reach _ = ⊥
+
+-- so many bytes at an offset of what a read may find
+pub record IsSlice (file : File) (offset count : ℕ) (bytes : List ℕ) : Type 0 where
+  pub live : List ℕ
+  pub found : IsLive file live
+  pub within : offset + count ≤ length live
+  pub slice : bytes ≡ take count (drop offset live)
+
+-- what a read may find ends before so many bytes
+pub record EndsBefore (file : File) (reach : ℕ) : Type 0 where
+  pub live : List ℕ
+  pub found : IsLive file live
+  pub short : length live < reach
+
+-- why a read of so many bytes at an offset may be refused
+abbrev pub IsReadCause : File → ℕ → ℕ → Error → Type 0
+IsReadCause file offset count BlobInsufficientLength = EndsBefore file (offset + count)
+IsReadCause file offset count error = IsCause Read (offset + count) error
+
+-- slices one after the other, of each range an offset and a count
+abbrev pub AreSlices : File → List (ℕ × ℕ) → List (List ℕ) → Type 0
+AreSlices file [] [] = ⊤
+AreSlices file (range ∷ ranges) (bytes ∷ rest) = IsSlice file range.0 range.1 bytes × AreSlices file ranges rest
+AreSlices file _ _ = ⊥
+
+-- why reads of these ranges may be refused: one of them may, or there is no memory for their answers
+abbrev pub IsManyCause : File → List (ℕ × ℕ) → Error → Type 0
+IsManyCause file ranges Memory = ⊤
+IsManyCause file ranges error = (range : ℕ × ℕ) × Contains ranges range × IsReadCause file range.0 range.1 error

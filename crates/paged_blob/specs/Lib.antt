@@ -1,0 +1,12 @@
+pub mod Calls
+pub mod Images
+pub mod Moments
+pub mod Chance
+pub mod Caches
+pub mod Writers
+pub mod CachesCode
+pub mod Answers
+pub mod WriteModes
+pub mod Recorded
+pub mod MemoryDisks
+pub mod Laws

@@ -1,0 +1,17 @@
+//! One list of bytes over a blob that tears what is written to it. The crate ports the paged blobs of
+//! commonware-runtime 2026.10.0; `In the Rust` names what an item is there.
+#![tactic(auto)]
+
+pub mod bench;
+pub mod blob;
+pub mod cache;
+pub mod error;
+pub mod record;
+
+pub use blob::{Blob, WriteMode};
+pub use cache::CacheRef;
+pub use error::{CallKind, Error};
+pub use record::Recorded;
+
+#[cfg(test)]
+mod tests;

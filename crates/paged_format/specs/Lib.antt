@@ -1,0 +1,4 @@
+pub mod Footers
+pub mod Pages
+pub mod Tips
+pub mod Laws
