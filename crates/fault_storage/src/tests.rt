@@ -285,3 +285,28 @@ fn refuses_offsets_past_the_end(rt: HostRuntime) -> Result<(), Fail> {
     );
     Ok(())
 }
+
+// A write, a resize, a sync and a read by the trait alone.
+fn written_and_read<S, B: Blob<S>>(blob: &mut B, storage: &mut S) -> Result<Vec<u8>, Error> {
+    blob.write_at(storage, 0, b"ab", WriteMode::Sync)?;
+    blob.resize(storage, 3)?;
+    blob.sync(storage)?;
+    blob.read_at(storage, 0, 3)
+}
+
+#[test]
+fn calls_blobs_of_both_stores_by_their_trait(rt: HostRuntime) -> Result<(), Fail> {
+    let mut storage = memory::Storage::new(rt.alloc());
+    let versions = Versions {
+        least: 0,
+        greatest: 0,
+    };
+    let mut blob = storage.open_versioned("p", b"n", versions)?.blob;
+    let shown = written_and_read(&mut blob, &mut storage)?;
+    assert_eq!(rt; shown.as_slice(), b"ab\0".as_slice());
+    let mut storage = faulty::Storage::new(storage, Upward(1), Config::default());
+    let mut blob = storage.open_versioned("q", b"n", versions)?.blob;
+    let shown = written_and_read(&mut blob, &mut storage)?;
+    assert_eq!(rt; shown.as_slice(), b"ab\0".as_slice());
+    Ok(())
+}
