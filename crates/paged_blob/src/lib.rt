@@ -6,6 +6,7 @@ pub mod bench;
 pub mod blob;
 pub mod cache;
 pub mod error;
+pub mod laws;
 pub mod record;
 
 pub use blob::{Blob, WriteMode};

@@ -1,7 +1,8 @@
 //! Lists: a count as a varint, and that many items.
 
 ghost use Rattle.std.specs.Prelude.{◌≡◌, ◌<◌, ◌≤◌, ◌^◌, ◌++◌, IfOk, OnOk, OnErr, length};
-ghost use Rattle.std.specs.List.{All};
+ghost use Rattle.std.specs.List.{All, each_same};
+ghost use Rattle.std.proofs.Common.{ap};
 ghost use Rattle.merkle_forest_parts.specs.Varint.{varint, Finds};
 ghost use Rattle.merkle_forest_parts.specs.Codec.{Extends};
 ghost use Rattle.merkle_forest_parts.specs.Lists.{list_encoding, bytes_encoding, AreItems, count_at, HasItems, after_list, after_bytes};
@@ -9,7 +10,7 @@ ghost use Rattle.merkle_forest_parts.specs.Laws.Lists.{list_again, bytes_again};
 
 use super::cursor::Cursor;
 use super::error::Error;
-use super::traits::{EncodeSize, Read, Write};
+use super::traits::{EncodeSize, Faithful, Read, Write};
 use super::undo::or_undo;
 use super::varint::{number_size, read_number, write_number};
 use crate::digest::Digest;
@@ -125,6 +126,10 @@ impl Write for Vec<u8> {
         let start = out.len();
         or_undo(write_bytes(self, out), out, start)
     }
+}
+
+impl Faithful for Vec<u8> {
+    ghost copied = { λ v w same. ap bytes_encoding (each_same v.items w.items same.0) };
 }
 
 impl EncodeSize for Vec<u8> {

@@ -1,0 +1,4 @@
+pub mod Updates
+pub mod Found
+pub mod Again
+pub mod Encoded

@@ -1,0 +1,15 @@
+//! The operations of a log of changes to a state, and their encodings.
+#![tactic(auto)]
+
+pub mod codec;
+pub mod copy;
+pub mod fixed;
+pub mod key;
+pub mod laws;
+pub mod operation;
+#[cfg(test)]
+mod tests;
+pub mod traits;
+pub mod update;
+pub mod value;
+pub mod variable;
