@@ -160,19 +160,65 @@ four-bytes left a b c d la lb lc ld =
     ∙ bits-xor 8 (bit_xor three d) (bit_xor (after g) (bit_xor (after_bits 16 f) (after_bits 24 e)))
     ∙ ap (bit_xor (after (bit_xor three d))) rest
 
+-- four bytes at once, and thirty-two bits more
+pub four-bytes-on : (left a b c d : ℕ) → a < 2 ^ 8 → b < 2 ^ 8 → c < 2 ^ 8 → d < 2 ^ 8
+    → after_bits 32 (after_bits 8 (bit_xor (after_bits 8 (bit_xor (after_bits 8 (bit_xor (after_bits 8 (bit_xor left a)) b)) c)) d))
+    ≡ bit_xor (after_bits 40 (bit_xor (left / 2 ^ 8 / 2 ^ 8 / 2 ^ 8) d)) (bit_xor (after_bits 48 (bit_xor (left / 2 ^ 8 / 2 ^ 8 % 2 ^ 8) c))
+    (bit_xor (after_bits 56 (bit_xor (left / 2 ^ 8 % 2 ^ 8) b)) (after_bits 64 (bit_xor (left % 2 ^ 8) a))))
+four-bytes-on left a b c d la lb lc ld =
+    let e = bit_xor (left % 2 ^ 8) a in let f = bit_xor (left / 2 ^ 8 % 2 ^ 8) b in let g = bit_xor (left / 2 ^ 8 / 2 ^ 8 % 2 ^ 8) c in
+    let h = bit_xor (left / 2 ^ 8 / 2 ^ 8 / 2 ^ 8) d in
+    ap (after_bits 32) (four-bytes left a b c d la lb lc ld)
+    ∙ spread 8 h (bit_xor (after_bits 16 g) (bit_xor (after_bits 24 f) (after_bits 32 e)))
+    ∙ ap (bit_xor (after_bits 40 h)) (spread 16 g (bit_xor (after_bits 24 f) (after_bits 32 e))
+    ∙ ap (bit_xor (after_bits 48 g)) (spread 24 f (after_bits 32 e) ∙ ap (bit_xor (after_bits 56 f)) (bits-add 32 32 e)))
+  where
+    spread : (j part other : ℕ) → after_bits 32 (bit_xor (after_bits j part) other) ≡ bit_xor (after_bits (j + 32) part) (after_bits 32 other)
+    spread j part other = bits-xor 32 (after_bits j part) other ∙ ap (λ x. bit_xor x (after_bits 32 other)) (bits-add j 32 part)
+
+no-bits : (part : ℕ) → after_bits 0 part ≡ part
+unfolding after_bits
+no-bits part = refl
+
 -- some bytes, and the others
 pub bytes-append : (left : ℕ) (bytes others : List ℕ) → after_bytes left (bytes ++ others) ≡ after_bytes (after_bytes left bytes) others
 unfolding after_bytes
 bytes-append left [] others = refl
 bytes-append left (byte ∷ bytes) others = bytes-append (after_bits 8 (bit_xor left byte)) bytes others
 
--- the first four bytes
-pub front-four : (bytes : List ℕ) → 4 ≤ length bytes → get_or bytes 0 0 ∷ get_or bytes 1 0 ∷ get_or bytes 2 0 ∷ get_or bytes 3 0 ∷ [] ≡ take 4 bytes
-front-four [] lt = absurd (omega arith)
-front-four (a ∷ []) lt = absurd (omega arith)
-front-four (a ∷ b ∷ []) lt = absurd (omega arith)
-front-four (a ∷ b ∷ c ∷ []) lt = absurd (omega arith)
-front-four (a ∷ b ∷ c ∷ d ∷ rest) lt = refl
+-- bytes behind two parts, of which only one meets them
+pub bytes-xor : (part other : ℕ) (bytes : List ℕ)
+    → after_bytes (bit_xor part other) bytes ≡ bit_xor (after_bits (8 * length bytes) part) (after_bytes other bytes)
+unfolding after_bytes
+bytes-xor part other [] = ap (λ x. bit_xor x other) (sym (no-bits part))
+bytes-xor part other (byte ∷ bytes) =
+    let next = after_bits 8 (bit_xor other byte) in
+    let bits : 8 + 8 * length bytes ≡ 8 * length (byte ∷ bytes) = omega arith in
+    ap (λ s. after_bytes (after_bits 8 s) bytes) (xor_assoc part other byte) ∙ ap (λ s. after_bytes s bytes) (bits-xor 8 part (bit_xor other byte))
+    ∙ bytes-xor (after_bits 8 part) next bytes
+    ∙ ap (λ x. bit_xor x (after_bytes next bytes)) (bits-add 8 (8 * length bytes) part ∙ ap (λ k. after_bits k part) bits)
+
+-- four bytes more, divided apart from those before them
+pub four-more : (left first last : ℕ) (bytes : List ℕ) (a b c d : ℕ) → first ≡ after_bits 32 (after_bytes left bytes)
+    → last ≡ after_bytes 0 (a ∷ b ∷ c ∷ d ∷ []) → bit_xor first last ≡ after_bytes left (bytes ++ (a ∷ b ∷ c ∷ d ∷ []))
+four-more left first last bytes a b c d first-is last-is =
+    let others = a ∷ b ∷ c ∷ d ∷ [] in let before = after_bytes left bytes in
+    ap (λ x. bit_xor x last) first-is ∙ ap (bit_xor (after_bits 32 before)) last-is ∙ sym (bytes-xor before 0 others)
+    ∙ ap (λ s. after_bytes s others) (xor_zero_r before) ∙ sym (bytes-append left bytes others)
+
+-- the first eight bytes
+pub front-eight : (bytes : List ℕ) → 8 ≤ length bytes
+    → get_or bytes 0 0 ∷ get_or bytes 1 0 ∷ get_or bytes 2 0 ∷ get_or bytes 3 0 ∷ get_or bytes 4 0 ∷ get_or bytes 5 0 ∷ get_or bytes 6 0 ∷ get_or bytes 7 0 ∷ []
+    ≡ take 8 bytes
+front-eight [] lt = absurd (omega arith)
+front-eight (a ∷ []) lt = absurd (omega arith)
+front-eight (a ∷ b ∷ []) lt = absurd (omega arith)
+front-eight (a ∷ b ∷ c ∷ []) lt = absurd (omega arith)
+front-eight (a ∷ b ∷ c ∷ d ∷ []) lt = absurd (omega arith)
+front-eight (a ∷ b ∷ c ∷ d ∷ e ∷ []) lt = absurd (omega arith)
+front-eight (a ∷ b ∷ c ∷ d ∷ e ∷ f ∷ []) lt = absurd (omega arith)
+front-eight (a ∷ b ∷ c ∷ d ∷ e ∷ f ∷ g ∷ []) lt = absurd (omega arith)
+front-eight (a ∷ b ∷ c ∷ d ∷ e ∷ f ∷ g ∷ h ∷ rest) lt = refl
 
 -- two functions of a number are one below n
 unfoldable pub agree_below : (ℕ → ℕ) → (ℕ → ℕ) → ℕ → Bool

@@ -13,16 +13,16 @@ all : (left i : ℕ) (bytes : List ℕ) → length bytes ≤ i → after_bytes l
 unfolding after_bytes
 all left i bytes le = ap (after_bytes left) (drop_all i bytes le)
 
-four_more : (left next : ℕ) (bytes later : List ℕ) → next ≡ after_bytes left (take 4 bytes) → later ≡ drop 4 bytes
+eight_more : (left next : ℕ) (bytes later : List ℕ) → next ≡ after_bytes left (take 8 bytes) → later ≡ drop 8 bytes
     → after_bytes next later ≡ after_bytes left bytes
-four_more left next bytes later is behind =
-    ap (λ n. after_bytes n later) is ∙ ap (after_bytes (after_bytes left (take 4 bytes))) behind ∙ sym (bytes-append left (take 4 bytes) (drop 4 bytes))
-    ∙ ap (after_bytes left) (take-append-drop 4 bytes)
+eight_more left next bytes later is behind =
+    ap (λ n. after_bytes n later) is ∙ ap (after_bytes (after_bytes left (take 8 bytes))) behind ∙ sym (bytes-append left (take 8 bytes) (drop 8 bytes))
+    ∙ ap (after_bytes left) (take-append-drop 8 bytes)
 
 pub loop-rest-preserved : goal.loop-rest-preserved
 loop-rest-preserved c =
-    four_more c.loop-rest.left c.step_front-left.result c.loop-rest.rest.now c.behind_four-rest.result.now c.step_front-left.ensures
-    c.behind_four-rest.ensures ∙ c.loop-rest.invariant
+    eight_more c.loop-rest.left c.step_front-left.result c.loop-rest.rest.now c.behind_eight-rest.result.now c.step_front-left.ensures
+    c.behind_eight-rest.ensures ∙ c.loop-rest.invariant
 
 pub loop-byte-preserved : goal.loop-byte-preserved
 loop-byte-preserved c =
