@@ -1,6 +1,0 @@
-use Rattle.std.proofs.Common.{rules, not, ◌==◌}
-use Rattle.std.proofs.lemmas.Fn.{filter_same}
-use Rattle.fault_storage.proofs.memory.forget_turns.Goals as goal
-
-pub returns : goal.returns
-returns c = filter_same _ (λ other. not (other == c.args.number)) _ (λ x b g h. search rules) _ _ c.retain.ensures.filtered
