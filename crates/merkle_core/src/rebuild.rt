@@ -85,10 +85,9 @@ pub fn rebuild<F: Family, H: Hasher<F>, O: Overlay<H::Digest>>(
     ensures { (node : Tree) → IsTreeAt F.merge_rule subtree.first subtree.position subtree.height node
         → option_map H.Digest.encoding result
         ≡ rebuilt (record {
-          leaf_of = H.leaf_of;
-          node_of = H.node_of;
-          over =
-              O.over over.now;
+          leaf_of = H.leaf_of hasher.now;
+          node_of = H.node_of hasher.now;
+          over = O.over over.now;
         }) location element.now subtree.first node (map H.Digest.encoding digests.now) }
 {
     if subtree.height == 0 {

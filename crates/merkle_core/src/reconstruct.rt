@@ -125,7 +125,11 @@ pub fn reconstruct_one<F: Family, H: Hasher<F>, O: Overlay<H::Digest>>(
     location: Location<F>,
     element: &[u8],
 ) -> Option<H::Digest>
-    ensures { let hashing : Hashing = record { leaf_of = H.leaf_of; node_of = H.node_of; over = O.over over.now } in
+    ensures { let hashing : Hashing = record {
+      leaf_of = H.leaf_of hasher.now;
+      node_of = H.node_of hasher.now;
+      over = O.over over.now;
+    } in
         option_map H.Digest.encoding result
         ≡ reconstructed hashing H.hash_of (H.bagging_of hasher.now) F.merge_rule proof.now.leaves
         proof.now.inactive_peaks

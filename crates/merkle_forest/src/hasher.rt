@@ -80,11 +80,11 @@ pub trait Hasher<F: Family>: Drop {
     /// The bytes of the digest of these bytes.
     ghost hash_of: { List ℕ → List ℕ };
 
-    /// The bytes of the digest of a leaf: position and element.
-    ghost leaf_of: { ℕ → List ℕ → List ℕ };
+    /// The bytes of the digest of a leaf, as this hasher makes it: position and element.
+    ghost leaf_of: { Self → ℕ → List ℕ → List ℕ };
 
-    /// The bytes of the digest of a branch: position and the digests of its children.
-    ghost node_of: { ℕ → List ℕ → List ℕ → List ℕ };
+    /// The bytes of the digest of a branch, as this hasher makes it: position and the digests of its children.
+    ghost node_of: { Self → ℕ → List ℕ → List ℕ → List ℕ };
 
     /// The side from which a root's peaks are folded.
     ghost bagging_of: { Self → Bagging };
@@ -99,7 +99,7 @@ pub trait Hasher<F: Family>: Drop {
 
     /// The digest of a leaf at its position (own).
     fn digest_of_leaf(&self, position: u64, element: &[u8]) -> Self::Digest
-        ensures { Self.Digest.encoding result ≡ leaf_of position element.now };
+        ensures { Self.Digest.encoding result ≡ leaf_of self.now position element.now };
 
     /// The digest of a branch at its position over its children's digests (own).
     fn digest_of_branch(
@@ -108,14 +108,14 @@ pub trait Hasher<F: Family>: Drop {
         left: &Self::Digest,
         right: &Self::Digest,
     ) -> Self::Digest
-        ensures { Self.Digest.encoding result ≡ node_of position (Self.Digest.encoding left.now)
+        ensures { Self.Digest.encoding result ≡ node_of self.now position (Self.Digest.encoding left.now)
             (Self.Digest.encoding right.now) };
 
     /// The digest of a leaf at its position. In the Rust: `merkle::hasher::Hasher::leaf_digest`.
     final fn leaf_digest(&self, position: Position<F>, element: &[u8]) -> Self::Digest
     where
         Self: Sized,
-        ensures { Self.Digest.encoding result ≡ leaf_of position element.now }
+        ensures { Self.Digest.encoding result ≡ leaf_of self.now position element.now }
     {
         self.digest_of_leaf(position.as_u64(), element)
     }
@@ -130,7 +130,7 @@ pub trait Hasher<F: Family>: Drop {
     ) -> Self::Digest
     where
         Self: Sized,
-        ensures { Self.Digest.encoding result ≡ node_of position (Self.Digest.encoding left.now)
+        ensures { Self.Digest.encoding result ≡ node_of self.now position (Self.Digest.encoding left.now)
             (Self.Digest.encoding right.now) }
     {
         self.digest_of_branch(position.as_u64(), left, right)
@@ -146,9 +146,9 @@ pub trait Hasher<F: Family>: Drop {
     where
         Self: Sized,
         ensures first { Self.Digest.encoding result.0
-            ≡ node_of first.entry.0 (Self.Digest.encoding first.entry.1.now) (Self.Digest.encoding first.entry.2.now) }
+            ≡ node_of self.now first.entry.0 (Self.Digest.encoding first.entry.1.now) (Self.Digest.encoding first.entry.2.now) }
         ensures second { Self.Digest.encoding result.1
-            ≡ node_of second.entry.0 (Self.Digest.encoding second.entry.1.now)
+            ≡ node_of self.now second.entry.0 (Self.Digest.encoding second.entry.1.now)
             (Self.Digest.encoding second.entry.2.now) }
     {
         (
@@ -247,9 +247,9 @@ impl<F: Family, H: HashFunction> Hasher<F> for Standard<H> {
 
     ghost hash_of = { H.hash_of };
 
-    ghost leaf_of = { λ position element. H.hash_of (leaf_string position element) };
+    ghost leaf_of = { λ _ position element. H.hash_of (leaf_string position element) };
 
-    ghost node_of = { λ position left right. H.hash_of (node_string position left right) };
+    ghost node_of = { λ _ position left right. H.hash_of (node_string position left right) };
 
     ghost bagging_of = { λ hasher. hasher.bagging };
 

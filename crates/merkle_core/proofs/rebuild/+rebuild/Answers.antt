@@ -7,7 +7,7 @@ use Rattle.merkle_core.proofs.rebuild.+rebuild.Goals as goal
 pub returns-in_err-own : goal.returns-in_err-own
 returns-in_err-own g t c node tree =
     let at = c.child_over-is_left.result.1 in
-    let hashing : Hashing = hashing_of g.H.Hasher.leaf_of g.H.Hasher.node_of (g.O.Overlay.over c.args.over.now) in
+    let hashing : Hashing = hashing_of (g.H.Hasher.leaf_of c.args.hasher.now) (g.H.Hasher.node_of c.args.hasher.now) (g.O.Overlay.over c.args.over.now) in
     let Over : Bool → Type 0 =
     λ b. IsChildOver g.F.Family.merge_rule c.args.location c.args.subtree.first node b at.first at.position
     at.height in
@@ -21,7 +21,7 @@ returns-in_err-own g t c node tree =
 pub returns-in_ok-own : goal.returns-in_ok-own
 returns-in_ok-own g t c node tree =
     let at = c.child_over-is_left.result.1 in
-    let hashing : Hashing = hashing_of g.H.Hasher.leaf_of g.H.Hasher.node_of (g.O.Overlay.over c.args.over.now) in
+    let hashing : Hashing = hashing_of (g.H.Hasher.leaf_of c.args.hasher.now) (g.H.Hasher.node_of c.args.hasher.now) (g.O.Overlay.over c.args.over.now) in
     let Over : Bool → Type 0 =
     λ b. IsChildOver g.F.Family.merge_rule c.args.location c.args.subtree.first node b at.first at.position
     at.height in
@@ -38,7 +38,7 @@ returns-in_ok-own g t c node tree =
 pub returns-in_err-own-2 : goal.returns-in_err-own-2
 returns-in_err-own-2 g t c node tree =
     let at = c.child_over-is_left.result.1 in
-    let hashing : Hashing = hashing_of g.H.Hasher.leaf_of g.H.Hasher.node_of (g.O.Overlay.over c.args.over.now) in
+    let hashing : Hashing = hashing_of (g.H.Hasher.leaf_of c.args.hasher.now) (g.H.Hasher.node_of c.args.hasher.now) (g.O.Overlay.over c.args.over.now) in
     let Over : Bool → Type 0 =
     λ b. IsChildOver g.F.Family.merge_rule c.args.location c.args.subtree.first node b at.first at.position
     at.height in
@@ -52,7 +52,7 @@ returns-in_err-own-2 g t c node tree =
 pub returns-in_ok-own-2 : goal.returns-in_ok-own-2
 returns-in_ok-own-2 g t c node tree =
     let at = c.child_over-is_left.result.1 in
-    let hashing : Hashing = hashing_of g.H.Hasher.leaf_of g.H.Hasher.node_of (g.O.Overlay.over c.args.over.now) in
+    let hashing : Hashing = hashing_of (g.H.Hasher.leaf_of c.args.hasher.now) (g.H.Hasher.node_of c.args.hasher.now) (g.O.Overlay.over c.args.over.now) in
     let Over : Bool → Type 0 =
     λ b. IsChildOver g.F.Family.merge_rule c.args.location c.args.subtree.first node b at.first at.position
     at.height in

@@ -11,7 +11,7 @@ use Rattle.merkle_core.proofs.reconstruct.reconstruct_one.Goals.{then-leaves-gt-
 
 pub returns-then-leaves-gt-MAX_LEAVES : goal.returns-then-leaves-gt-MAX_LEAVES
 returns-then-leaves-gt-MAX_LEAVES g c =
-    let hashing : Hashing = hashing_of g.H.Hasher.leaf_of g.H.Hasher.node_of (g.O.Overlay.over c.args.over.now) in
+    let hashing : Hashing = hashing_of (g.H.Hasher.leaf_of c.args.hasher.now) (g.H.Hasher.node_of c.args.hasher.now) (g.O.Overlay.over c.args.over.now) in
     let it = c.args.proof.now in
     elim c.then-leaves-gt-MAX_LEAVES.branch [
       | then-leaves-gt-MAX_LEAVES-via-then-leaves-gt-MAX_LEAVES w ↦
@@ -26,7 +26,7 @@ returns-then-leaves-gt-MAX_LEAVES g c =
 
 pub returns-then-inactive-peak : goal.returns-then-inactive-peak
 returns-then-inactive-peak g c =
-    let hashing : Hashing = hashing_of g.H.Hasher.leaf_of g.H.Hasher.node_of (g.O.Overlay.over c.args.over.now) in
+    let hashing : Hashing = hashing_of (g.H.Hasher.leaf_of c.args.hasher.now) (g.H.Hasher.node_of c.args.hasher.now) (g.O.Overlay.over c.args.over.now) in
     let it = c.args.proof.now in
     let at = c.peak_over-peak.result in
     let over = rw (c.as_u64-leaves.ensures, c.as_u64-at.ensures) at c.peak_over-peak.ensures.over in
@@ -39,7 +39,7 @@ returns-then-inactive-peak g c =
 
 pub returns-in_err-own : goal.returns-in_err-own
 returns-in_err-own g c =
-    let hashing : Hashing = hashing_of g.H.Hasher.leaf_of g.H.Hasher.node_of (g.O.Overlay.over c.args.over.now) in
+    let hashing : Hashing = hashing_of (g.H.Hasher.leaf_of c.args.hasher.now) (g.H.Hasher.node_of c.args.hasher.now) (g.O.Overlay.over c.args.over.now) in
     let it = c.args.proof.now in
     let at = c.peak_over-peak.result in
     let over = rw (c.as_u64-leaves.ensures, c.as_u64-at.ensures) at c.peak_over-peak.ensures.over in
@@ -64,7 +64,7 @@ returns-in_err-own g c =
 pub returns : goal.returns
 unfolding root_around
 returns g c =
-    let hashing : Hashing = hashing_of g.H.Hasher.leaf_of g.H.Hasher.node_of (g.O.Overlay.over c.args.over.now) in
+    let hashing : Hashing = hashing_of (g.H.Hasher.leaf_of c.args.hasher.now) (g.H.Hasher.node_of c.args.hasher.now) (g.O.Overlay.over c.args.over.now) in
     let it = c.args.proof.now in
     let at = c.peak_over-peak.result in
     let over = rw (c.as_u64-leaves.ensures, c.as_u64-at.ensures) at c.peak_over-peak.ensures.over in
