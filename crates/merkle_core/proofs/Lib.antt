@@ -1,4 +1,7 @@
 pub mod Places
+pub mod RangePeaks
+pub mod RangeRoots
+pub mod RangeTrees
 pub mod Rebuilds
 pub mod Walks
 pub mod Folds

@@ -4,8 +4,10 @@ pub mod MadeRoots
 pub mod MadeTrees
 pub mod OneEach
 pub mod Proofs
+pub mod RangeCounts
 pub mod Ranges
 pub mod RangesCode
+pub mod Reads
 pub mod Rebuilt
 pub mod Reconstructed
 pub mod Soundness

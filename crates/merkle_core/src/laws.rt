@@ -4,20 +4,22 @@ ghost use Rattle.std.specs.Prelude.{◌≡◌, ◌<◌, ◌≤◌, ◌+◌, ◌^
 ghost use Rattle.std.specs.List.{All};
 ghost use Rattle.merkle_forest.specs.declared.bagging.Bagging.{Bagging};
 ghost use Rattle.merkle_forest.specs.Forest.{forest_of};
-ghost use Rattle.merkle_forest.specs.Hashing.{Hash, root_of};
+ghost use Rattle.merkle_forest.specs.Hashing.{Hash, leaf_string, node_string, root_of};
 ghost use Rattle.merkle_forest.specs.Made.{value, strings};
 ghost use Rattle.merkle_forest.specs.Trees.{located, peak_digests, tree_root};
 ghost use Rattle.merkle_core.specs.Followed.{FollowsIn};
 ghost use Rattle.merkle_core.specs.MadeRoots.{Naming};
-ghost use Rattle.merkle_core.specs.MadeTrees.{Over};
+ghost use Rattle.merkle_core.specs.MadeTrees.{Over, plain_over};
 ghost use Rattle.merkle_core.specs.OneEach.{OneEach};
 ghost use Rattle.merkle_core.specs.Ranges.{Digests, range_digests};
+ghost use Rattle.merkle_core.specs.Reads.{HashesAs, range_root, claim_of};
 ghost use Rattle.merkle_core.specs.Rebuilt.{Hashing};
 ghost use Rattle.merkle_core.specs.Reconstructed.{reconstructed};
-ghost use Rattle.merkle_core.specs.Soundness.{RangeClaim, claimed_root, hashed_strings, IsSound, Makes, list_root, one_root};
+ghost use Rattle.merkle_core.specs.Soundness.{RangeClaim, claimed_root, hashed_strings, IsSound, Makes, list_root, one_root, plain_names};
 
 use merkle_forest::family::Family;
 use merkle_forest::graftable::Graftable;
+use merkle_forest::hasher::HashFunction;
 
 /// The digests of the honest proof of one element lead to the root of the tree, for all digests of trees that the
 /// hashing follows down to the element.
@@ -78,4 +80,23 @@ pub fn each_site_has_one_string<F: Family>()
         → OneEach (hashed_strings hash bagging F.merge_rule elements inactive) }
     ensures rebuilt { (hash : Hash) (bagging : Bagging) (claim : RangeClaim)
         → IfSome (claimed_root bagging F.merge_rule claim) (λ made. OneEach (strings hash made)) }
+{}
+
+/// A hasher that hashes leaves and branches by their strings alone hashes as a plain tree is made.
+pub fn plain_hashers_hash_as_is_made<F: Family, H: HashFunction>()
+    ensures { HashesAs F.merge_rule H.hash_of (λ position element. H.hash_of (leaf_string position element))
+        (λ position left right. H.hash_of (node_string position left right)) plain_over }
+{}
+
+/// Where a proof of a range, as the verifiers read it, leads to the root of a list, these elements stand in the list from
+/// that location on, or the strings hashed for the list and those rebuilt from the proof have a collision.
+pub fn shown_ranges_are_true_or_strings_collide<F: Family>()
+    ensures { (hash : Hash) (size : ℕ) (bagging : Bagging) (elements : List (List ℕ)) (inactive : ℕ)
+        (leaves shown_inactive start : ℕ) (shown digests : List (List ℕ))
+        → ((bytes : List ℕ) → length (hash bytes) ≡ size)
+        → All (λ digest. length digest ≡ size) digests
+        → length elements ≤ 2 ^ 62 → inactive < 2 ^ 64
+        → IfSome (range_root plain_names plain_over bagging F.merge_rule leaves shown_inactive start shown digests)
+        (IsSound hash bagging F.merge_rule elements inactive
+        (claim_of bagging F.merge_rule leaves shown_inactive start shown digests)) }
 {}

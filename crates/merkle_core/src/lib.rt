@@ -4,6 +4,7 @@
 
 pub mod laws;
 pub mod proof;
+pub mod range;
 pub mod ranges;
 pub mod rebuild;
 pub mod reconstruct;

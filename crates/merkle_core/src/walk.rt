@@ -23,7 +23,7 @@ pub struct PeakOver {
 }
 
 // The peak that begins at `first`, and the location after its last leaf.
-fn peak_at<F: Family>(leaves: u64, first: u64) -> (Subtree, u64)
+pub(crate) fn peak_at<F: Family>(leaves: u64, first: u64) -> (Subtree, u64)
     requires few { leaves ≤ MAX_LEAVES }
     requires begins { HasPeak (forest_of F.merge_rule leaves) first }
     ensures peak { IsPeakFrom F.merge_rule leaves first result.0.first result.0.position result.0.height result.1 }
@@ -41,7 +41,7 @@ fn peak_at<F: Family>(leaves: u64, first: u64) -> (Subtree, u64)
 }
 
 // How many peaks begin at `first` or after it.
-fn peaks_from<F: Family>(leaves: u64, first: u64) -> u64
+pub(crate) fn peaks_from<F: Family>(leaves: u64, first: u64) -> u64
     requires few { leaves ≤ MAX_LEAVES }
     requires begins { first < leaves → HasPeak (forest_of F.merge_rule leaves) first }
     ensures count { result ≡ length (located_from first (forest_of F.merge_rule leaves)) }
