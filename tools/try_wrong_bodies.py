@@ -4,7 +4,7 @@
     tools/try_wrong_bodies.py [--lanes N] [NAME..]
 
 The gate tries the edits in crates/NAME/must-fail/; those in crates/NAME/wrong-bodies/ are of the same form and are tried
-here, on a copy of the working tree, by `rt must-fail`, over libraries that are built first. With names only those crates are
+here, on a copy of the working tree, by `rt must-fail`, over libraries that are built first where they are not yet. With names only those crates are
 tried. N crates are tried side by side (2 where nothing is said); each takes one processor and up to 4 GB.
 
 Prints each edit that was not refused, that could not be applied, or that was refused for another reason than a clause, an
@@ -34,7 +34,10 @@ def copied(room):
             continue
         target = pathlib.Path(room) / name.replace("/wrong-bodies/", "/must-fail/")
         target.parent.mkdir(parents=True, exist_ok=True)
-        shutil.copyfile(ROOT / name, target)
+        shutil.copy2(ROOT / name, target)
+    # what was built of the same sources need not be built again; where they differ, the build sees it
+    for out in ROOT.glob("crates/*/out"):
+        shutil.copytree(out, pathlib.Path(room) / out.relative_to(ROOT), symlinks=True)
 
 
 def below(room):
