@@ -4,8 +4,9 @@
     tools/try_wrong_bodies.py [--lanes N] [NAME..]
 
 The gate tries the edits in crates/NAME/must-fail/; those in crates/NAME/wrong-bodies/ are of the same form and are tried
-here, on a copy of the working tree, by `rt must-fail`, over libraries that are built first where they are not yet. With names only those crates are
-tried. N crates are tried side by side (2 where nothing is said); each takes one processor and up to 4 GB.
+here, on a copy of the working tree, by `rt must-fail`, over libraries that are built first where they are not yet. With
+names only those crates are tried. N crates are tried side by side (2 where nothing is said); each takes one processor and
+up to 4 GB.
 
 Prints each edit that was not refused, that could not be applied, or that was refused for another reason than a clause, an
 invariant or the written proof of one; and last how many were tried. The status is 0 where nothing else was printed.

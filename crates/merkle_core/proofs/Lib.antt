@@ -11,6 +11,8 @@ pub mod Splits
 pub mod Bags
 pub mod Accepted
 pub mod Short
+pub mod HonestRanges
+pub mod HonestRoots
 pub mod OneRead
 pub mod OneBag
 pub mod OneRoot

@@ -1,12 +1,13 @@
 -- What is read of a proof of a range, as digests: the values of what is read as it is made.
-use Rattle.std.specs.Prelude.{◌≡◌, ℕ, ◌+◌, nat_lt, if◌then◌else◌, List, length, Option, None, option_map}
+use Rattle.std.specs.Prelude.{◌≡◌, ℕ, ◌+◌, ◌<◌, ◌≤◌, nat_lt, if◌then◌else◌, List, length, Option, None, option_map}
 use Rattle.merkle_forest.specs.declared.bagging.Bagging.{Bagging}
-use Rattle.merkle_forest.specs.Forest.{Tree, leaf_count, Rule}
+use Rattle.merkle_forest.specs.Forest.{Tree, leaf, branch, height, leaf_count, Rule}
 use Rattle.merkle_forest.specs.Hashing.{Hash}
 use Rattle.merkle_forest.specs.Made.{Made, value}
-use Rattle.merkle_core.specs.MadeTrees.{Over, from, leaf_made, branch_made}
+use Rattle.merkle_core.specs.MadeTrees.{Over, Elements, from, leaf_made, branch_made}
 use Rattle.merkle_core.specs.MadeRoots.{Naming, peaks_of, read_root}
 use Rattle.merkle_core.specs.RangeCounts.{range_outer}
+use Rattle.merkle_core.specs.Ranges.{Digests}
 use Rattle.merkle_core.specs.Rebuilt.{IsTreeAt, HasTree}
 use Rattle.merkle_core.specs.Soundness.{RangeClaim}
 
@@ -47,3 +48,9 @@ claim_of bagging rule leaves inactive start elements digests = record {
   outer = range_outer bagging start (start + length elements) inactive (peaks_of rule leaves);
   digests = digests;
 }
+
+-- the digests of trees are made over the elements of the range
+pub record Agrees (hash : Hash) (over : Over) (elements : Elements) (digest : Digests) (start stop : ℕ) : Type 0 where
+  pub leaf : (at p : ℕ) → start ≤ at → at < stop → value hash (leaf_made p (elements at)) ≡ digest at (leaf p)
+  pub branch : (at p : ℕ) (left right : Tree) (x y : Made) → value hash x ≡ digest at left → value hash y ≡ digest (at + leaf_count left) right
+      → value hash (branch_made over at (height (branch p left right)) p x y) ≡ digest at (branch p left right)

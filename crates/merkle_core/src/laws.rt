@@ -1,18 +1,18 @@
 //! What holds of all proofs.
 
-ghost use Rattle.std.specs.Prelude.{◌≡◌, ◌<◌, ◌≤◌, ◌+◌, ◌^◌, ℕ, List, length, take, drop, Some, IfSome, IsSomeAnd};
+ghost use Rattle.std.specs.Prelude.{◌≡◌, ◌<◌, ◌≤◌, ◌+◌, ◌^◌, ℕ, List, length, take, drop, Some, IfSome, IsSomeAnd, option_map};
 ghost use Rattle.std.specs.List.{All};
 ghost use Rattle.merkle_forest.specs.declared.bagging.Bagging.{Bagging};
 ghost use Rattle.merkle_forest.specs.Forest.{forest_of};
 ghost use Rattle.merkle_forest.specs.Hashing.{Hash, leaf_string, node_string, root_of};
 ghost use Rattle.merkle_forest.specs.Made.{value, strings};
-ghost use Rattle.merkle_forest.specs.Trees.{located, peak_digests, tree_root};
+ghost use Rattle.merkle_forest.specs.Trees.{located, peak_digests, plain_digest, tree_root};
 ghost use Rattle.merkle_core.specs.Followed.{FollowsIn};
 ghost use Rattle.merkle_core.specs.MadeRoots.{Naming};
-ghost use Rattle.merkle_core.specs.MadeTrees.{Over, plain_over};
+ghost use Rattle.merkle_core.specs.MadeTrees.{Over, from, plain_over};
 ghost use Rattle.merkle_core.specs.OneEach.{OneEach};
 ghost use Rattle.merkle_core.specs.Ranges.{Digests, range_digests};
-ghost use Rattle.merkle_core.specs.Reads.{HashesAs, range_root, claim_of};
+ghost use Rattle.merkle_core.specs.Reads.{Agrees, HashesAs, range_root, claim_of};
 ghost use Rattle.merkle_core.specs.Rebuilt.{Hashing};
 ghost use Rattle.merkle_core.specs.Reconstructed.{reconstructed};
 ghost use Rattle.merkle_core.specs.Soundness.{RangeClaim, claimed_root, hashed_strings, IsSound, Makes, list_root, one_root, plain_names};
@@ -99,4 +99,26 @@ pub fn shown_ranges_are_true_or_strings_collide<F: Family>()
         → IfSome (range_root plain_names plain_over bagging F.merge_rule leaves shown_inactive start shown digests)
         (IsSound hash bagging F.merge_rule elements inactive
         (claim_of bagging F.merge_rule leaves shown_inactive start shown digests)) }
+{}
+
+/// The digests of the honest proof of a range lead to the root of the tree, for all digests of trees that are made over the
+/// elements of the range.
+pub fn honest_ranges_lead_to_the_root<F: Family>()
+    ensures { (hash : Hash) (names : Naming) (over : Over) (bagging : Bagging) (digest : Digests)
+        (leaves inactive start : ℕ) (elements : List (List ℕ))
+        → leaves ≤ 2 ^ 62 → 0 < length elements → start + length elements ≤ leaves
+        → inactive ≤ length (forest_of F.merge_rule leaves)
+        → Agrees hash over (from start elements) digest start (start + length elements)
+        → option_map (value hash) (range_root names over bagging F.merge_rule leaves inactive start elements
+        (range_digests hash digest bagging start (start + length elements)
+        (take inactive (located (forest_of F.merge_rule leaves)))
+        (drop inactive (located (forest_of F.merge_rule leaves)))))
+        ≡ Some (root_of hash bagging leaves inactive (peak_digests digest (forest_of F.merge_rule leaves))) }
+{}
+
+/// The plain digests of a list are made over each part of it: so the honest proof of a range of a list is accepted.
+pub fn parts_of_a_list_agree_with_it()
+    ensures { (hash : Hash) (elements : List (List ℕ)) (start count : ℕ)
+        → Agrees hash plain_over (from start (take count (drop start elements))) (plain_digest hash elements) start
+        (start + count) }
 {}

@@ -56,7 +56,7 @@ onto_parts hash d (suc k) [] = refl
 onto_parts hash d (suc k) (e ∷ ds) = onto_parts hash (hash (fold_string d e)) k ds
 
 -- inactive ones make no difference where all are folded from the left
-forward-items : (hash : Hash) (inactive : ℕ) (ds : List (List ℕ)) → folded_forward hash (items hash inactive ds) ≡ folded_forward hash ds
+pub forward-items : (hash : Hash) (inactive : ℕ) (ds : List (List ℕ)) → folded_forward hash (items hash inactive ds) ≡ folded_forward hash ds
 forward-items hash zero ds = refl
 forward-items hash (suc inactive) [] = ap (λ b. folded_forward hash (cond b [] ([] ∷ []))) (not_zero inactive)
 forward-items hash (suc inactive) (d ∷ ds) =
