@@ -13,7 +13,7 @@ use Rattle.merkle_forest.specs.Laws.Peaks.{leaf_count-pos}
 use Rattle.merkle_forest.specs.Made.{Made, bytes, value}
 use Rattle.merkle_forest.specs.Trees.{Located, end_of}
 use Rattle.merkle_core.specs.Ranges.{Digests, is_before, is_after, meets, as_one, singly, siblings, inner_digests}
-use Rattle.merkle_core.specs.MadeTrees.{Over, Elements, leaf_made, branch_made, read_tree}
+use Rattle.merkle_core.specs.MadeTrees.{Over, Elements, Reading, leaf_made, branch_made, read_tree}
 use Rattle.merkle_core.specs.MadeRoots.{Naming, Streams, Bagged, folded, given_outer, read_peak, read_back, read_onto, read_group, read_bag}
 use Rattle.merkle_core.specs.Reads.{Agrees}
 use Rattle.merkle_core.specs.Laws.MadeRoots.{not_zero}
@@ -37,10 +37,29 @@ Ascend at (peak ∷ peaks) = (at ≤ peak.0) × Ascend (end_of peak) peaks
 
 module _ (hash : Hash) (names : Naming) (over : Over) (elements : Elements) (digest : Digests) (start stop last : ℕ) (some : start < stop)
     (agrees : Agrees hash over elements digest start stop) where
+  -- what is read
+  abbrev tree_of : ℕ → Tree → List (List ℕ) → Reading
+  tree_of = read_tree over elements start stop
+
+  abbrev peak_of : Located → Streams → Bagged
+  peak_of = read_peak over elements start stop
+
+  abbrev back_of : ℕ → Located → List Located → Streams → Bagged
+  back_of = read_back names over elements start stop last
+
+  abbrev onto_of : ℕ → ℕ → Made → List Located → Streams → Bagged
+  onto_of = read_onto names over elements start stop last
+
+  abbrev group_of : ℕ → ℕ → Made → List Located → Streams → Bagged
+  group_of = read_group names over elements start stop last
+
+  abbrev bag_of : ℕ → List Located → Streams → Bagged
+  bag_of = read_bag names over elements start stop last
+
   -- a tree is read with digests left over, and has its digest
   pub record TreeRead (at : ℕ) (t : Tree) (rest : List (List ℕ)) : Type 0 where
     pub made : Made
-    pub is : read_tree over elements start stop at t (siblings digest start stop at t ++ rest) ≡ Some (made, rest)
+    pub is : tree_of at t (siblings digest start stop at t ++ rest) ≡ Some (made, rest)
     pub same : value hash made ≡ digest at t
 
   alone : (at : ℕ) (t : Tree) → meets start stop (at, t) ≡ false → siblings digest start stop at t ≡ digest at t ∷ []
@@ -50,7 +69,7 @@ module _ (hash : Hash) (names : Naming) (over : Over) (elements : Elements) (dig
   given_tree : (at : ℕ) (t : Tree) (rest : List (List ℕ)) → meets start stop (at, t) ≡ false → TreeRead at t rest
   given_tree at t rest apart = record {
     made = bytes (digest at t);
-    is = ap (λ ds. read_tree over elements start stop at t (ds ++ rest)) (alone at t apart) ∙ read_given over elements start stop at t (digest at t ∷ rest) apart;
+    is = ap (λ ds. tree_of at t (ds ++ rest)) (alone at t apart) ∙ read_given over elements start stop at t (digest at t ∷ rest) apart;
     same = refl;
   }
 
@@ -64,8 +83,8 @@ module _ (hash : Hash) (names : Naming) (over : Over) (elements : Elements) (dig
   branch_siblings at p left right met = rw met refl
 
   branch_is : (at p : ℕ) (left right : Tree) (ds more rest : List (List ℕ)) (x y : Made) → meets start stop (at, branch p left right) ≡ true
-      → read_tree over elements start stop at left ds ≡ Some (x, more) → read_tree over elements start stop (at + leaf_count left) right more ≡ Some (y, rest)
-      → read_tree over elements start stop at (branch p left right) ds ≡ Some (branch_made over at (height (branch p left right)) p x y, rest)
+      → tree_of at left ds ≡ Some (x, more) → tree_of (at + leaf_count left) right more ≡ Some (y, rest)
+      → tree_of at (branch p left right) ds ≡ Some (branch_made over at (height (branch p left right)) p x y, rest)
   branch_is at p left right ds more rest x y met one other = rw (met, one, other) refl
 
   leaf_met : (at p : ℕ) (rest : List (List ℕ)) → meets start stop (at, leaf p) ≡ true → TreeRead at (leaf p) rest
@@ -89,7 +108,7 @@ module _ (hash : Hash) (names : Naming) (over : Over) (elements : Elements) (dig
         made = branch_made over at (height (branch p left right)) p one.made other.made;
         is = branch_is at p left right (siblings digest start stop at (branch p left right) ++ rest)
             (siblings digest start stop (at + leaf_count left) right ++ rest) rest one.made other.made met
-            (ap (read_tree over elements start stop at left) digests ∙ one.is) other.is;
+            (ap (tree_of at left) digests ∙ one.is) other.is;
         same = agrees.branch at p left right one.made other.made one.same other.same;
       }
 
@@ -147,7 +166,7 @@ module _ (hash : Hash) (names : Naming) (over : Over) (elements : Elements) (dig
 
   pub record OneRead (peak : Located) (peaks : List Located) (outer more : List (List ℕ)) : Type 0 where
     pub made : Made
-    pub is : read_peak over elements start stop peak (own_outer peak outer, inner (peak ∷ peaks) ++ more) ≡ Some (made, (outer, inner peaks ++ more))
+    pub is : peak_of peak (own_outer peak outer, inner (peak ∷ peaks) ++ more) ≡ Some (made, (outer, inner peaks ++ more))
     pub same : value hash made ≡ digest peak.0 peak.1
 
   one_given : (peak : Located) (peaks : List Located) (outer more : List (List ℕ)) → meets start stop peak ≡ false → OneRead peak peaks outer more
@@ -158,8 +177,8 @@ module _ (hash : Hash) (names : Naming) (over : Over) (elements : Elements) (dig
   }
 
   met_is : (peak : Located) (outer ds rest : List (List ℕ)) (made : Made) → meets start stop peak ≡ true
-      → read_tree over elements start stop peak.0 peak.1 ds ≡ Some (made, rest)
-      → read_peak over elements start stop peak (own_outer peak outer, ds) ≡ Some (made, (outer, rest))
+      → tree_of peak.0 peak.1 ds ≡ Some (made, rest)
+      → peak_of peak (own_outer peak outer, ds) ≡ Some (made, (outer, rest))
   met_is peak outer ds rest made met is = rw met (ap (option_map (λ x. (x.0, (outer, x.1)))) is)
 
   one_met : (peak : Located) (peaks : List Located) (outer more : List (List ℕ)) → meets start stop peak ≡ true → OneRead peak peaks outer more
@@ -169,7 +188,7 @@ module _ (hash : Hash) (names : Naming) (over : Over) (elements : Elements) (dig
       ap (λ ds. ds ++ more) (inner_in peak peaks met) ∙ append_assoc (siblings digest start stop peak.0 peak.1) (inner peaks) more in
       record {
         made = it.made;
-        is = ap (λ ds. read_peak over elements start stop peak (own_outer peak outer, ds)) digests ∙ met_is peak outer (siblings digest start stop peak.0 peak.1 ++ (inner peaks ++ more)) (inner peaks ++ more) it.made met it.is;
+        is = ap (λ ds. peak_of peak (own_outer peak outer, ds)) digests ∙ met_is peak outer (siblings digest start stop peak.0 peak.1 ++ (inner peaks ++ more)) (inner peaks ++ more) it.made met it.is;
         same = it.same;
       }
 
@@ -214,17 +233,17 @@ module _ (hash : Hash) (names : Naming) (over : Over) (elements : Elements) (dig
 
   pub record BackRead (n : ℕ) (peak : Located) (peaks : List Located) (outer more : List (List ℕ)) : Type 0 where
     pub made : Made
-    pub is : read_back names over elements start stop last n peak peaks (back_outer (peak ∷ peaks) ++ outer, inner (peak ∷ peaks) ++ more) ≡ Some (made, (outer, more))
+    pub is : back_of n peak peaks (back_outer (peak ∷ peaks) ++ outer, inner (peak ∷ peaks) ++ more) ≡ Some (made, (outer, more))
     pub same : value hash made ≡ folded_backward hash (D (peak ∷ peaks))
 
   given_is : (n : ℕ) (peak next : Located) (peaks : List Located) (d : List ℕ) (outer more : List (List ℕ)) → list_all (is_after stop) (peak ∷ next ∷ peaks) ≡ true
-      → read_back names over elements start stop last n peak (next ∷ peaks) (d ∷ outer, more) ≡ Some (bytes d, (outer, more))
+      → back_of n peak (next ∷ peaks) (d ∷ outer, more) ≡ Some (bytes d, (outer, more))
   given_is n peak next peaks d outer more all = rw all refl
 
   step_is : (n : ℕ) (peak next : Located) (peaks : List Located) (streams between rest : Streams) (x y : Made) → is_after stop peak ≡ false
-      → read_peak over elements start stop peak streams ≡ Some (x, between)
-      → read_back names over elements start stop last (suc n) next peaks between ≡ Some (y, rest)
-      → read_back names over elements start stop last n peak (next ∷ peaks) streams ≡ Some (folded names n last x y, rest)
+      → peak_of peak streams ≡ Some (x, between)
+      → back_of (suc n) next peaks between ≡ Some (y, rest)
+      → back_of n peak (next ∷ peaks) streams ≡ Some (folded names n last x y, rest)
   step_is n peak next peaks streams between rest x y not_after one others =
       let not_all : list_all (is_after stop) (peak ∷ next ∷ peaks) ≡ false = rw not_after refl in
       rw (not_all, one, others) refl
@@ -234,7 +253,7 @@ module _ (hash : Hash) (names : Naming) (over : Over) (elements : Elements) (dig
       let it = one_read peak [] outer more in
       record {
         made = it.made;
-        is = ap (λ ds. read_peak over elements start stop peak (ds, inner (peak ∷ []) ++ more)) (back_one peak outer (stands peak)) ∙ it.is;
+        is = ap (λ ds. peak_of peak (ds, inner (peak ∷ []) ++ more)) (back_one peak outer (stands peak)) ∙ it.is;
         same = it.same;
       }
 
@@ -247,8 +266,8 @@ module _ (hash : Hash) (names : Naming) (over : Over) (elements : Elements) (dig
       ∙ ap (λ ps. as_one (folded_backward hash) (D ps) ++ outer) it.ends in
       record {
         made = bytes (folded_backward hash (D whole));
-        is = ap (λ ds. read_back names over elements start stop last n peak (next ∷ peaks) (ds, inner whole ++ more)) digests
-            ∙ ap (λ ds. read_back names over elements start stop last n peak (next ∷ peaks) (folded_backward hash (D whole) ∷ outer, ds ++ more)) it.inners
+        is = ap (λ ds. back_of n peak (next ∷ peaks) (ds, inner whole ++ more)) digests
+            ∙ ap (λ ds. back_of n peak (next ∷ peaks) (folded_backward hash (D whole) ∷ outer, ds ++ more)) it.inners
             ∙ given_is n peak next peaks (folded_backward hash (D whole)) outer more it.all;
         same = refl;
       }
@@ -259,7 +278,7 @@ module _ (hash : Hash) (names : Naming) (over : Over) (elements : Elements) (dig
       let it = one_read peak (next ∷ peaks) (back_outer (next ∷ peaks) ++ outer) more in
       record {
         made = folded names n last it.made rest.made;
-        is = ap (λ ds. read_back names over elements start stop last n peak (next ∷ peaks) (ds, inner (peak ∷ next ∷ peaks) ++ more))
+        is = ap (λ ds. back_of n peak (next ∷ peaks) (ds, inner (peak ∷ next ∷ peaks) ++ more))
             (back_more peak (next ∷ peaks) outer (stands peak) not_after)
             ∙ step_is n peak next peaks (own_outer peak (back_outer (next ∷ peaks) ++ outer), inner (peak ∷ next ∷ peaks) ++ more)
             (back_outer (next ∷ peaks) ++ outer, inner (next ∷ peaks) ++ more) (outer, more) it.made rest.made not_after it.is rest.is;
@@ -292,18 +311,18 @@ module _ (hash : Hash) (names : Naming) (over : Over) (elements : Elements) (dig
 
   pub record OntoRead (singly n : ℕ) (first : Made) (f : List ℕ) (peaks : List Located) (outer more : List (List ℕ)) : Type 0 where
     pub made : Made
-    pub is : read_onto names over elements start stop last singly n first peaks (onto_outer singly peaks ++ outer, inner peaks ++ more) ≡ Some (made, (outer, more))
+    pub is : onto_of singly n first peaks (onto_outer singly peaks ++ outer, inner peaks ++ more) ≡ Some (made, (outer, more))
     pub same : value hash made ≡ onto_value singly f peaks
 
   onto_back_is : (n : ℕ) (first y : Made) (peak : Located) (peaks : List Located) (streams rest : Streams)
-      → read_back names over elements start stop last n peak peaks streams ≡ Some (y, rest)
-      → read_onto names over elements start stop last 0 n first (peak ∷ peaks) streams ≡ Some (folded names 1 last first y, rest)
+      → back_of n peak peaks streams ≡ Some (y, rest)
+      → onto_of 0 n first (peak ∷ peaks) streams ≡ Some (folded names 1 last first y, rest)
   onto_back_is n first y peak peaks streams rest is = rw is refl
 
   onto_step_is : (singly n : ℕ) (first x : Made) (peak : Located) (peaks : List Located) (streams rest : Streams)
-      → read_peak over elements start stop peak streams ≡ Some (x, rest)
-      → read_onto names over elements start stop last (suc singly) n first (peak ∷ peaks) streams
-      ≡ read_onto names over elements start stop last singly (suc n) (folded names 1 n first x) peaks rest
+      → peak_of peak streams ≡ Some (x, rest)
+      → onto_of (suc singly) n first (peak ∷ peaks) streams
+      ≡ onto_of singly (suc n) (folded names 1 n first x) peaks rest
   onto_step_is singly n first x peak peaks streams rest is = rw is refl
 
   pub onto_read : (singly n at : ℕ) (first : Made) (f : List ℕ) (peaks : List Located) (outer more : List (List ℕ)) → value hash first ≡ f → Ascend at peaks
@@ -329,7 +348,7 @@ module _ (hash : Hash) (names : Naming) (over : Over) (elements : Elements) (dig
       ∙ own_append peak (onto_outer singly peaks) outer in
       record {
         made = rest.made;
-        is = ap (λ ds. read_onto names over elements start stop last (suc singly) n first (peak ∷ peaks) (ds, inner (peak ∷ peaks) ++ more)) digests
+        is = ap (λ ds. onto_of (suc singly) n first (peak ∷ peaks) (ds, inner (peak ∷ peaks) ++ more)) digests
             ∙ onto_step_is singly n first it.made peak peaks (own_outer peak later, inner (peak ∷ peaks) ++ more) (later, inner peaks ++ more) it.is
             ∙ rest.is;
         same = rest.same;
@@ -370,22 +389,22 @@ module _ (hash : Hash) (names : Naming) (over : Over) (elements : Elements) (dig
 
   pub record GroupRead (singly n : ℕ) (first : Made) (f : List ℕ) (peaks : List Located) (outer more : List (List ℕ)) : Type 0 where
     pub made : Made
-    pub is : read_group names over elements start stop last singly n first peaks (group_outer singly peaks ++ outer, inner peaks ++ more) ≡ Some (made, (outer, more))
+    pub is : group_of singly n first peaks (group_outer singly peaks ++ outer, inner peaks ++ more) ≡ Some (made, (outer, more))
     pub same : value hash made ≡ onto_value singly f peaks
 
   group_zero_is : (n : ℕ) (first : Made) (peaks : List Located) (streams : Streams)
-      → read_group names over elements start stop last 0 n first peaks streams ≡ read_onto names over elements start stop last 0 n first peaks streams
+      → group_of 0 n first peaks streams ≡ onto_of 0 n first peaks streams
   group_zero_is n first [] streams = refl
   group_zero_is n first (peak ∷ peaks) streams = refl
 
   group_before_is : (singly n : ℕ) (first : Made) (peak : Located) (peaks : List Located) (streams : Streams) → is_before start peak ≡ true
-      → read_group names over elements start stop last (suc singly) n first (peak ∷ peaks) streams
-      ≡ read_group names over elements start stop last singly (suc n) first peaks streams
+      → group_of (suc singly) n first (peak ∷ peaks) streams
+      ≡ group_of singly (suc n) first peaks streams
   group_before_is singly n first peak peaks streams front = rw front refl
 
   group_other_is : (singly n : ℕ) (first : Made) (peak : Located) (peaks : List Located) (streams : Streams) → is_before start peak ≡ false
-      → read_group names over elements start stop last (suc singly) n first (peak ∷ peaks) streams
-      ≡ read_onto names over elements start stop last (suc singly) n first (peak ∷ peaks) streams
+      → group_of (suc singly) n first (peak ∷ peaks) streams
+      ≡ onto_of (suc singly) n first (peak ∷ peaks) streams
   group_other_is singly n first peak peaks streams not_front = rw not_front refl
 
   outer_before : (singly : ℕ) (peak : Located) (peaks : List Located) → is_before start peak ≡ true
@@ -411,9 +430,9 @@ module _ (hash : Hash) (names : Naming) (over : Over) (elements : Elements) (dig
       let rest = group_read singly (suc n) (end_of peak) first next peaks outer more (same ∙ ap (folded_onto hash f) (front_first singly peak peaks front)) up.1 in
       record {
         made = rest.made;
-        is = ap (λ ds. read_group names over elements start stop last (suc singly) n first (peak ∷ peaks) (ds ++ outer, inner (peak ∷ peaks) ++ more))
+        is = ap (λ ds. group_of (suc singly) n first (peak ∷ peaks) (ds ++ outer, inner (peak ∷ peaks) ++ more))
             (outer_before singly peak peaks front)
-            ∙ ap (λ ds. read_group names over elements start stop last (suc singly) n first (peak ∷ peaks) (group_outer singly peaks ++ outer, ds ++ more))
+            ∙ ap (λ ds. group_of (suc singly) n first (peak ∷ peaks) (group_outer singly peaks ++ outer, ds ++ more))
             (inner_out peak peaks apart)
             ∙ group_before_is singly n first peak peaks (group_outer singly peaks ++ outer, inner peaks ++ more) front ∙ rest.is;
         same = rest.same;
@@ -423,7 +442,7 @@ module _ (hash : Hash) (names : Naming) (over : Over) (elements : Elements) (dig
       let it = onto_read (suc singly) n at first f (peak ∷ peaks) outer more (same ∙ ap (λ ps. folded_onto hash f (D ps)) none.none) up in
       record {
         made = it.made;
-        is = ap (λ ds. read_group names over elements start stop last (suc singly) n first (peak ∷ peaks) (ds ++ outer, inner (peak ∷ peaks) ++ more))
+        is = ap (λ ds. group_of (suc singly) n first (peak ∷ peaks) (ds ++ outer, inner (peak ∷ peaks) ++ more))
             (sym (onto_as_group (suc singly) (peak ∷ peaks) none))
             ∙ group_other_is singly n first peak peaks (onto_outer (suc singly) (peak ∷ peaks) ++ outer, inner (peak ∷ peaks) ++ more) not_front ∙ it.is;
         same = it.same;
@@ -436,22 +455,22 @@ module _ (hash : Hash) (names : Naming) (over : Over) (elements : Elements) (dig
 
   pub record BagRead (singly : ℕ) (peaks : List Located) : Type 0 where
     pub made : Made
-    pub is : read_bag names over elements start stop last singly peaks (all_outer singly peaks, inner peaks) ≡ Some (made, ([], []))
+    pub is : bag_of singly peaks (all_outer singly peaks, inner peaks) ≡ Some (made, ([], []))
     pub same : value hash made ≡ folded_backward hash (items hash singly (D peaks))
 
   bag_given_is : (singly : ℕ) (peak : Located) (peaks : List Located) (d : List ℕ) (outer more : List (List ℕ)) → is_before start peak ≡ true
-      → read_bag names over elements start stop last (suc singly) (peak ∷ peaks) (d ∷ outer, more)
-      ≡ read_group names over elements start stop last singly 2 (bytes d) peaks (outer, more)
+      → bag_of (suc singly) (peak ∷ peaks) (d ∷ outer, more)
+      ≡ group_of singly 2 (bytes d) peaks (outer, more)
   bag_given_is singly peak peaks d outer more front = rw front refl
 
   bag_own_is : (singly : ℕ) (peak : Located) (peaks : List Located) (streams rest : Streams) (own : Made) → is_before start peak ≡ false
-      → read_peak over elements start stop peak streams ≡ Some (own, rest)
-      → read_bag names over elements start stop last (suc singly) (peak ∷ peaks) streams
-      ≡ read_onto names over elements start stop last singly 2 own peaks rest
+      → peak_of peak streams ≡ Some (own, rest)
+      → bag_of (suc singly) (peak ∷ peaks) streams
+      ≡ onto_of singly 2 own peaks rest
   bag_own_is singly peak peaks streams rest own not_front is =
-      ap (λ b. cond b (option_and_then (λ x. read_group names over elements start stop last singly 2 x.0 peaks x.1) (given_outer streams))
-      (option_and_then (λ x. read_onto names over elements start stop last singly 2 x.0 peaks x.1) (read_peak over elements start stop peak streams))) not_front
-      ∙ ap (option_and_then (λ x. read_onto names over elements start stop last singly 2 x.0 peaks x.1)) is
+      ap (λ b. cond b (option_and_then (λ x. group_of singly 2 x.0 peaks x.1) (given_outer streams))
+      (option_and_then (λ x. onto_of singly 2 x.0 peaks x.1) (peak_of peak streams))) not_front
+      ∙ ap (option_and_then (λ x. onto_of singly 2 x.0 peaks x.1)) is
 
   none_left : (xs : List (List ℕ)) → xs ++ [] ≡ xs
   none_left [] = refl
@@ -471,8 +490,8 @@ module _ (hash : Hash) (names : Naming) (over : Over) (elements : Elements) (dig
       let it = back_read 1 0 peak peaks [] [] up in
       record {
         made = it.made;
-        is = ap (λ ds. read_back names over elements start stop last 1 peak peaks (ds, inner (peak ∷ peaks))) (sym (none_left (back_outer (peak ∷ peaks))))
-            ∙ ap (λ ds. read_back names over elements start stop last 1 peak peaks (back_outer (peak ∷ peaks) ++ [], ds)) (sym (none_left (inner (peak ∷ peaks)))) ∙ it.is;
+        is = ap (λ ds. back_of 1 peak peaks (ds, inner (peak ∷ peaks))) (sym (none_left (back_outer (peak ∷ peaks))))
+            ∙ ap (λ ds. back_of 1 peak peaks (back_outer (peak ∷ peaks) ++ [], ds)) (sym (none_left (inner (peak ∷ peaks)))) ∙ it.is;
         same = it.same;
       }
   bag_read (suc singly) peak peaks up =
@@ -487,8 +506,8 @@ module _ (hash : Hash) (names : Naming) (over : Over) (elements : Elements) (dig
       ∙ ap (λ ds. f ∷ ds) (outer_before singly peak peaks front ∙ sym (none_left (group_outer singly peaks))) in
       record {
         made = rest.made;
-        is = ap (λ ds. read_bag names over elements start stop last (suc singly) (peak ∷ peaks) (ds, inner (peak ∷ peaks))) digests
-            ∙ ap (λ ds. read_bag names over elements start stop last (suc singly) (peak ∷ peaks) (f ∷ (group_outer singly peaks ++ []), ds))
+        is = ap (λ ds. bag_of (suc singly) (peak ∷ peaks) (ds, inner (peak ∷ peaks))) digests
+            ∙ ap (λ ds. bag_of (suc singly) (peak ∷ peaks) (f ∷ (group_outer singly peaks ++ []), ds))
             (inner_out peak peaks apart ∙ sym (none_left (inner peaks)))
             ∙ bag_given_is singly peak peaks f (group_outer singly peaks ++ []) (inner peaks ++ []) front ∙ rest.is;
         same = rest.same ∙ items_value singly peak peaks;
@@ -505,8 +524,8 @@ module _ (hash : Hash) (names : Naming) (over : Over) (elements : Elements) (dig
       ∙ ap (own_outer peak) (sym (none_left (onto_outer singly peaks))) in
       record {
         made = rest.made;
-        is = ap (λ ds. read_bag names over elements start stop last (suc singly) (peak ∷ peaks) (ds, inner (peak ∷ peaks))) digests
-            ∙ ap (λ ds. read_bag names over elements start stop last (suc singly) (peak ∷ peaks) (own_outer peak later, ds)) (sym (none_left (inner (peak ∷ peaks))))
+        is = ap (λ ds. bag_of (suc singly) (peak ∷ peaks) (ds, inner (peak ∷ peaks))) digests
+            ∙ ap (λ ds. bag_of (suc singly) (peak ∷ peaks) (own_outer peak later, ds)) (sym (none_left (inner (peak ∷ peaks))))
             ∙ bag_own_is singly peak peaks (own_outer peak later, inner (peak ∷ peaks) ++ []) (later, inner peaks ++ []) it.made not_front it.is ∙ rest.is;
         same = rest.same ∙ items_value singly peak peaks;
       })
