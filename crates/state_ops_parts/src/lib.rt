@@ -7,6 +7,8 @@ pub mod fixed;
 pub mod key;
 pub mod laws;
 pub mod operation;
+#[cfg(test)]
+mod tests;
 pub mod traits;
 pub mod update;
 pub mod value;
