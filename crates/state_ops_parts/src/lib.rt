@@ -3,7 +3,9 @@
 
 pub mod codec;
 pub mod copy;
+pub mod display;
 pub mod fixed;
+pub mod hexadecimal;
 pub mod key;
 pub mod laws;
 pub mod operation;

@@ -2,6 +2,7 @@ use merkle_forest::codec::{Decode, Encode, FixedBytes};
 use std::alloc::Global;
 use std::test::Fail;
 
+mod display;
 mod fixed;
 mod parts;
 mod refusals;
