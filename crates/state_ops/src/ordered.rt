@@ -3,6 +3,8 @@
 ghost use Rattle.std.specs.Prelude.{◌≡◌, IfOk};
 ghost use Rattle.state_ops.specs.Operation as spec;
 
+pub mod laws;
+
 use merkle_forest::Family;
 use state_ops_parts::fixed::write_operation;
 use state_ops_parts::key::FixedKey;

@@ -1,0 +1,27 @@
+-- The grammar of the fixed encoding of ordered operations: the operation at the front of the bytes and the bytes after it, or the
+-- first fault from the left. `key` and `value` are the grammars of keys and of values.
+use Rattle.std.specs.Prelude.{◌≡◌, ◌≤◌, ◌^◌, ◌+◌, ℕ, List, length, IfSome}
+use Rattle.merkle_forest.specs.Codec.{Outcome, ◌>>=◌}
+use Rattle.state_ops_parts.specs.Grammar.{Found, Ends, item_at, told, fixed_at}
+use Rattle.state_ops.specs.Operation.{Update, ordered, Operation, delete, update, commit_floor}
+
+-- key, value and next key of an update
+abbrev pub ordered_at : (List ℕ → Outcome) → (List ℕ → Outcome) → List ℕ → Found Update
+ordered_at key value bytes = item_at key bytes >>= λ k. item_at value k.1 >>= λ v. told (ordered k.0 v.0) (item_at key v.1)
+
+-- an operation of keys and values of these sizes
+abbrev pub operation_at : (List ℕ → Outcome) → (List ℕ → Outcome) → ℕ → ℕ → List ℕ → Found Operation
+operation_at key value key_size value_size bytes =
+    fixed_at key value (ordered_at key value) key_size value_size (key_size + value_size + key_size) bytes
+
+-- bytes of the size that the grammar reads, whatever follows
+abbrev pub IsField : (List ℕ → Outcome) → ℕ → List ℕ → Type 0
+IsField grammar size bytes = (length bytes ≡ size) × Ends grammar bytes
+
+-- what has a fixed encoding: fields of their sizes, and a floor that is at most the greatest number of operations
+abbrev pub HasEncoding : (List ℕ → Outcome) → (List ℕ → Outcome) → ℕ → ℕ → Operation → Type 0
+HasEncoding key value key_size value_size (delete k) = IsField key key_size k
+HasEncoding key value key_size value_size (update (ordered k v next)) =
+    IsField key key_size k × (IsField value value_size v × IsField key key_size next)
+HasEncoding key value key_size value_size (commit_floor metadata floor) =
+    IfSome metadata (IsField value value_size) × (floor ≤ 2 ^ 62)
