@@ -2,7 +2,7 @@
 use Rattle.std.specs.Prelude.{◌≡◌, ℕ, List, Option, Some}
 use Rattle.merkle_forest.specs.Forest.{Rule}
 use Rattle.merkle_forest.specs.Hashing.{Hash}
-use Rattle.state_ops.specs.Operation.{fixed_encoding, update}
+use Rattle.state_ops.specs.Operation.{fixed_encoding, update, ordered}
 use Rattle.state_proofs.specs.Encoded.{Format, format_of, ShowsUpdate}
 use Rattle.auth_store.specs.History.{History, latest_map}
 use Rattle.auth_store.specs.Map.{value_at}
@@ -36,4 +36,4 @@ terms rule hash width size IsPending pending IsKey key_size value_size = record 
 abbrev pub Shows : Terms → Claim → List ℕ → List ℕ → Type 0
 Shows terms (has_value key value) root bytes =
     ShowsUpdate terms.format root (λ next_key. fixed_encoding terms.key_size terms.value_size
-    (update key value next_key)) bytes
+    (update (ordered key value next_key))) bytes

@@ -1,6 +1,6 @@
 -- Claims, as the code holds them.
 use Rattle.std.specs.Prelude.{ℕ, List}
-use Rattle.state_ops.specs.Operation.{Operation, fixed_encoding, update}
+use Rattle.state_ops.specs.Operation.{Operation, fixed_encoding, update, ordered}
 use Rattle.state_proofs.specs.Encoded.{ShowsUpdate}
 use Rattle.auth_store.specs.Claims.{Claim, Terms, has_value}
 use Rattle.auth_store.specs.declared.client.Claim as code
@@ -12,7 +12,7 @@ claim_of key value (Value k v) = has_value (key k) (value v)
 
 -- the update that the claim is of, from its next key
 abbrev pub claimed_update : {K V : Type 0} → (K → List ℕ) → (V → List ℕ) → code.Claim K V → List ℕ → Operation
-claimed_update key value (Value k v) next_key = update (key k) (value v) next_key
+claimed_update key value (Value k v) next_key = update (ordered (key k) (value v) next_key)
 
 -- The bytes show a claim of the code: of a value this is `Shows` of what the claim says.
 abbrev pub ShowsClaim : {K V : Type 0} → (K → List ℕ) → (V → List ℕ) → Terms → code.Claim K V → List ℕ → List ℕ → Type 0

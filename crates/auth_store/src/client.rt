@@ -7,7 +7,7 @@ ghost use Rattle.auth_store.specs.ClaimsCode.{ShowsClaim};
 pub mod laws;
 
 use merkle_forest::{Graftable, HashFunction, PendingOf};
-use state_ops::{FixedValue, Key};
+use state_ops::{FixedKey, FixedValue};
 use state_proofs::ordered::shows_value;
 use std::alloc::{AllocError, Global};
 
@@ -29,7 +29,7 @@ pub fn check<F, H, K, V, const N: usize>(
 where
     F: Graftable + PendingOf<H::Digest>,
     H: HashFunction,
-    K: Key,
+    K: FixedKey,
     V: FixedValue,
     ensures { let is_key = λ (key : List ℕ). K.after tt key ≡ Ok [] in
         let terms = terms F.merge_rule H.hash_of N H.Digest.SIZE F.is_pending F.pending_encoding is_key K.SIZE V.SIZE in

@@ -7,7 +7,7 @@ ghost use Rattle.auth_store.specs.MachineCode.{requests_of, meanings_of};
 
 use crate::session::{Answer, Session, Step};
 use merkle_forest::{Graftable, HashFunction, PendingOf};
-use state_ops::{FixedValue, Key};
+use state_ops::{FixedKey, FixedValue};
 use std::alloc::{AllocError, Global};
 
 // Appends an answer for which there is room.
@@ -29,7 +29,7 @@ fn take_steps<F, H, K, V, const N: usize>(
 where
     F: Graftable + PendingOf<H::Digest>,
     H: HashFunction,
-    K: Key,
+    K: FixedKey,
     V: FixedValue,
     requires none { answers.old.items ≡ [] }
     requires room { vec_len answers.old + vec_len steps ≤ vec_capacity answers.old }
@@ -53,7 +53,7 @@ pub fn run<F, H, K, V, const N: usize>(
 where
     F: Graftable + PendingOf<H::Digest>,
     H: HashFunction,
-    K: Key,
+    K: FixedKey,
     V: FixedValue,
     ensures ran { IfOk result (λ answers. IsRun (machine F.merge_rule H.hash_of F.pending_encoding N K.SIZE V.SIZE)
         session.old.store

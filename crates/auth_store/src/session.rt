@@ -11,7 +11,7 @@ use crate::plain::{PlainCache, PlainDevice, Sizes};
 use crate::store::Store;
 use crate::store::prove::KeyProof;
 use merkle_forest::{Family, Graftable, HashFunction, PendingOf};
-use state_ops::{FixedValue, Key};
+use state_ops::{FixedKey, FixedValue};
 use std::alloc::Global;
 
 /// A request to a session.
@@ -66,7 +66,7 @@ pub enum Answer<D, V> {
 fn attempt<
     F: Graftable + PendingOf<H::Digest>,
     H: HashFunction,
-    K: Key,
+    K: FixedKey,
     V: FixedValue,
     const N: usize,
 >(store: &mut Store<F, H, K, V, N>, step: Step<K, V>) -> Result<Answer<H::Digest, V>, StoreError>
@@ -92,7 +92,7 @@ fn attempt<
 
 /// A device that waits for a store, or the open store on it.
 #[derive(Drop)]
-pub struct Session<F: Family, H: HashFunction, K: Key, V: FixedValue, const N: usize> {
+pub struct Session<F: Family, H: HashFunction, K: FixedKey, V: FixedValue, const N: usize> {
     alloc: Global,
     device: PlainDevice,
     cache: PlainCache,
@@ -104,7 +104,7 @@ pub struct Session<F: Family, H: HashFunction, K: Key, V: FixedValue, const N: u
 impl<
     F: Graftable + PendingOf<H::Digest>,
     H: HashFunction,
-    K: Key,
+    K: FixedKey,
     V: FixedValue,
     const N: usize,
 > Session<F, H, K, V, N> {

@@ -19,7 +19,7 @@ use crate::{history, state};
 use commit::{Committed, append_commit};
 use log::Log;
 use merkle_forest::{Family, HashFunction};
-use state_ops::{FixedValue, Key};
+use state_ops::{FixedKey, FixedValue};
 use std::alloc::Global;
 use std::marker::{Model, PhantomData};
 
@@ -29,9 +29,9 @@ pub const MAX_OPERATIONS: u64 = 0x4000_0000_0000_0000;
 /// A store of keys `K` and values `V` with its history, whose root is hashed by `H` over trees of the family `F` and
 /// over chunks of `N` bytes. Its contracts see it as its history.
 #[derive(Drop)]
-pub struct Store<F: Family, H: HashFunction, K: Key, V: FixedValue, const N: usize> {
+pub struct Store<F: Family, H: HashFunction, K: FixedKey, V: FixedValue, const N: usize> {
     alloc: Global,
-    log: Log<K, V>,
+    log: Log<F, K, V>,
     commits: u64,
     floor: u64,
     root: H::Digest,
@@ -39,7 +39,7 @@ pub struct Store<F: Family, H: HashFunction, K: Key, V: FixedValue, const N: usi
     family: PhantomData<F>,
 }
 
-impl<F: Family, H: HashFunction, K: Key, V: FixedValue, const N: usize> Model
+impl<F: Family, H: HashFunction, K: FixedKey, V: FixedValue, const N: usize> Model
     for Store<F, H, K, V, N> {
     ghost Value = { spec.History };
 
@@ -79,7 +79,7 @@ pub fn is_chunk_width(n: usize) -> bool
     )
 }
 
-impl<F: Family, H: HashFunction, K: Key, V: FixedValue, const N: usize> Store<F, H, K, V, N> {
+impl<F: Family, H: HashFunction, K: FixedKey, V: FixedValue, const N: usize> Store<F, H, K, V, N> {
     /// A store with an empty history over an empty device. Out of memory: S4; the device is then given back, still
     /// empty.
     pub fn open(

@@ -5,7 +5,7 @@ use Rattle.std.specs.List.{filter, list_any}
 use Rattle.std.proofs.lemmas.List.{length-append}
 use Rattle.std.proofs.lemmas.List.Elements.{filter-append}
 use Rattle.std.proofs.lemmas.Bool.{cases_Bool}
-use Rattle.state_ops.specs.Operation.{Operation, commit_floor, delete, update}
+use Rattle.state_ops.specs.Operation.{Operation, commit_floor, delete, update, ordered}
 use Rattle.auth_store_parts.specs.Map.{Map, value_at, next_key}
 use Rattle.auth_store_parts.specs.History.{History, log_of, latest_map, inactivity_floor, has_key, is_commit, is_kept, deletes, updates, batch_operations, IsState}
 use Rattle.auth_store_parts.specs.Laws.Lookups.{same, exact, none_later, IsState-tail}
@@ -36,7 +36,7 @@ deletes_no_commit (e ∷ es) new = elim (is_some (value_at new e.0)) as
 updates_no_commit : (es old new : Map) → list_any is_commit (updates es old new) ≡ false
 updates_no_commit [] old new = refl
 updates_no_commit (e ∷ es) old new = elim (is_kept old new e.0 e.1) as
-    (λ b. list_any is_commit (cond b [] (update e.0 e.1 (next_key new e.0) ∷ []) ++ updates es old new) ≡ false) [
+    (λ b. list_any is_commit (cond b [] (update (ordered e.0 e.1 (next_key new e.0)) ∷ []) ++ updates es old new) ≡ false) [
       | true ↦ updates_no_commit es old new
       | false ↦ updates_no_commit es old new
     ]
@@ -103,7 +103,7 @@ updates_none q [] old new none = refl
 updates_none q (e ∷ es) old new none =
     let away = passed_by (same q e.0) e.1 (value_at es q) none in
     elim (is_kept old new e.0 e.1) as (λ b. list_any (has_key q)
-    (cond b [] (update e.0 e.1 (next_key new e.0) ∷ []) ++ updates es old new) ≡ false) [
+    (cond b [] (update (ordered e.0 e.1 (next_key new e.0)) ∷ []) ++ updates es old new) ≡ false) [
       | true ↦ updates_none q es old new away.1
       | false ↦ ap (λ b. b || list_any (has_key q) (updates es old new)) away.0 ∙ updates_none q es old new away.1
     ]
@@ -120,12 +120,12 @@ updates_not q v (e ∷ es) old new h at kept =
     let own : e.1 ≡ v = ap (λ (o : Option (List ℕ)). unwrap_or o v) value in
     let stays : is_kept old new e.0 e.1 ≡ true = ap (λ k. is_kept old new k e.1) (sym is)
     ∙ (ap (is_kept old new q) own ∙ kept) in
-    ap (λ b. list_any (has_key q) (cond b [] (update e.0 e.1 (next_key new e.0) ∷ []) ++ updates es old new)) stays
+    ap (λ b. list_any (has_key q) (cond b [] (update (ordered e.0 e.1 (next_key new e.0)) ∷ []) ++ updates es old new)) stays
     ∙ updates_none q es old new (ap (value_at es) is ∙ none_later e es h))
     (λ (away : same q e.0 ≡ false).
     let rest : value_at es q ≡ Some v = sym (ap (λ b. cond b (Some e.1) (value_at es q)) away) ∙ at in
     elim (is_kept old new e.0 e.1) as (λ b. list_any (has_key q)
-    (cond b [] (update e.0 e.1 (next_key new e.0) ∷ []) ++ updates es old new) ≡ false) [
+    (cond b [] (update (ordered e.0 e.1 (next_key new e.0)) ∷ []) ++ updates es old new) ≡ false) [
       | true ↦ updates_not q v es old new (IsState-tail e es h) rest kept
       | false ↦ ap (λ b. b || list_any (has_key q) (updates es old new)) away
           ∙ updates_not q v es old new (IsState-tail e es h) rest kept

@@ -4,8 +4,7 @@ use Rattle.std.specs.Str.{bytes_eq}
 use Rattle.std.specs.FinMap.{is_sorted}
 use Rattle.std.specs.Ordering.{is_eq}
 use Rattle.std.specs.List.{flat_map, list_any}
-use Rattle.state_ops.specs.Operation.{Operation, delete, update, commit_floor, meaning_of}
-use Rattle.state_ops.specs.declared.operation.Operation as code
+use Rattle.state_ops.specs.Operation.{Operation, delete, update, ordered, commit_floor, Code, meaning_of}
 use Rattle.auth_store_parts.specs.Map.{Map, key_order, value_at, next_key, with_entry, without_key}
 
 -- one commit: the state after it and its metadata
@@ -23,7 +22,8 @@ latest_map [] = []
 latest_map (commit ∷ history) = commit.map
 
 -- what operations of the code say, given how their keys and their values are encoded
-abbrev pub meanings : {K V : Type 0} → (K → List ℕ) → (V → List ℕ) → List (code.Operation K V) → List Operation
+abbrev pub meanings : {F K V A B C D E G H : Type 0} → (K → List ℕ) → (V → List ℕ)
+    → List (Code F K V A B C D E G H) → List Operation
 meanings key value operations = map (meaning_of key value) operations
 
 -- whether an optional value is this one
@@ -45,7 +45,7 @@ is_kept old new key value = is_value (value_at old key) value && bytes_eq (next_
 
 -- an update of a key that isn't kept
 abbrev pub update_of : Map → Map → List ℕ → List ℕ → List Operation
-update_of old new key value = if is_kept old new key value then [] else (update key value (next_key new key) ∷ [])
+update_of old new key value = if is_kept old new key value then [] else (update (ordered key value (next_key new key)) ∷ [])
 
 -- an update for each of these entries of the new state that isn't kept
 abbrev pub updates : Map → Map → Map → List Operation
@@ -58,19 +58,19 @@ batch_operations old new = deletes old new ++ updates new old new
 -- whether the operation is about the key
 abbrev pub has_key : List ℕ → Operation → Bool
 has_key key (delete k) = is_eq (key_order key k)
-has_key key (update k value next) = is_eq (key_order key k)
+has_key key (update (ordered k value next)) = is_eq (key_order key k)
 has_key key (commit_floor metadata floor) = false
 
 -- whether the operation is a commit
 abbrev pub is_commit : Operation → Bool
 is_commit (delete k) = false
-is_commit (update k value next) = false
+is_commit (update (ordered k value next)) = false
 is_commit (commit_floor metadata floor) = true
 
 -- whether the operation still counts: an update whose key no later one has, or the last commit
 abbrev pub is_active : Operation → List Operation → Bool
 is_active (delete k) later = false
-is_active (update k value next) later = not (list_any (has_key k) later)
+is_active (update (ordered k value next)) later = not (list_any (has_key k) later)
 is_active (commit_floor metadata floor) later = not (list_any is_commit later)
 
 -- whether the operation is the one that counts for the key
@@ -108,7 +108,7 @@ log_of (commit ∷ history) = log_of history ++ appended (log_of history) (lates
 abbrev pub floor_after : ℕ → List Operation → ℕ
 floor_after floor [] = floor
 floor_after floor (delete key ∷ operations) = floor_after floor operations
-floor_after floor (update key value next ∷ operations) = floor_after floor operations
+floor_after floor (update (ordered key value next) ∷ operations) = floor_after floor operations
 floor_after floor (commit_floor metadata recorded ∷ operations) = floor_after recorded operations
 
 -- the floor that the last commit of a log records
@@ -124,7 +124,7 @@ active_location key (operation ∷ later) = if is_active_on key operation later 
 abbrev pub update_fields : Option Operation → Option (List ℕ × List ℕ)
 update_fields None = None
 update_fields (Some (delete key)) = None
-update_fields (Some (update key value next)) = Some (value, next)
+update_fields (Some (update (ordered key value next))) = Some (value, next)
 update_fields (Some (commit_floor metadata floor)) = None
 
 -- the value and the next key that the active update of a key names
@@ -134,7 +134,7 @@ active_update key log = update_fields (slice_get log (active_location key log))
 -- the state after an operation
 abbrev pub after_operation : Operation → Map → Map
 after_operation (delete key) state = without_key state key
-after_operation (update key value next) state = with_entry state key value
+after_operation (update (ordered key value next)) state = with_entry state key value
 after_operation (commit_floor metadata floor) state = state
 
 -- the state after all operations, one after the other
@@ -146,7 +146,7 @@ replayed state (operation ∷ operations) = replayed (after_operation operation 
 abbrev pub history_from : Map → History → List Operation → History
 history_from state history [] = history
 history_from state history (delete key ∷ operations) = history_from (without_key state key) history operations
-history_from state history (update key value next ∷ operations) = history_from (with_entry state key value) history
+history_from state history (update (ordered key value next) ∷ operations) = history_from (with_entry state key value) history
     operations
 history_from state history (commit_floor metadata floor ∷ operations) = history_from state
     (record { map = state; metadata = metadata } ∷ history) operations
@@ -167,5 +167,5 @@ AreStates (commit ∷ history) = IsState commit.map × AreStates history
 
 -- this update of a key stands at the key's location in the log, and is active there: these are its value and its next key
 pub record StandsAt (key : List ℕ) (log : List Operation) (fields : List ℕ × List ℕ) : Type 0 where
-  pub update_at : slice_get log (active_location key log) ≡ Some (update key fields.0 fields.1)
+  pub update_at : slice_get log (active_location key log) ≡ Some (update (ordered key fields.0 fields.1))
   pub bit_at : slice_get (activity_bits log) (active_location key log) ≡ Some true

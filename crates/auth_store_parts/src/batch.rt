@@ -5,7 +5,7 @@ ghost use Rattle.auth_store_parts.specs.Batch.{meanings, meaning_of, put, delete
 ghost use Rattle.auth_store_parts.specs.Map.{state_of};
 
 use crate::state;
-use state_ops::{FixedValue, Key};
+use state_ops::{FixedKey, FixedValue};
 use std::alloc::{AllocError, Global};
 use std::collections::BTreeMap;
 
@@ -25,7 +25,7 @@ pub struct Batch<K, V> {
     pub words: Vec<Word<K, V>>,
 }
 
-impl<K: Key, V: FixedValue> Batch<K, V> {
+impl<K: FixedKey, V: FixedValue> Batch<K, V> {
     /// A batch that says nothing.
     pub fn new(alloc: Global) -> Batch<K, V>
         ensures { result.words.items ≡ [] }
@@ -55,7 +55,7 @@ impl<K: Key, V: FixedValue> Batch<K, V> {
 }
 
 /// Applies one word to the state. It fails only when out of memory, and the state then stays as it was.
-fn apply_word<K: Key, V: FixedValue>(
+fn apply_word<K: FixedKey, V: FixedValue>(
     state: &mut BTreeMap<K, V>,
     word: &Word<K, V>,
 ) -> Result<(), AllocError>
@@ -74,7 +74,7 @@ fn apply_word<K: Key, V: FixedValue>(
 
 /// The state after the batch's words, in the order in which they were said. It fails only when out of memory; the state is
 /// then gone, so hand in a copy where it is still wanted.
-pub fn apply_batch<K: Key, V: FixedValue>(
+pub fn apply_batch<K: FixedKey, V: FixedValue>(
     state: BTreeMap<K, V>,
     batch: &Batch<K, V>,
 ) -> Result<BTreeMap<K, V>, AllocError>

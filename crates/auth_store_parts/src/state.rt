@@ -3,13 +3,15 @@
 ghost use Rattle.std.specs.Prelude.{◌≡◌, [], IfOk, OnOk, OnErr, option_map, MatchOption};
 ghost use Rattle.auth_store_parts.specs.Map.{state_of, with_entry, without_key, value_at, next_key};
 
-use state_ops::{FixedValue, Key};
+use state_ops::{FixedKey, FixedValue};
 use std::alloc::AllocError;
 use std::collections::BTreeMap;
 use std::ops::Bound;
 
 /// A state with copies of the keys and of the values. It fails only when out of memory.
-pub fn copy_of<K: Key, V: FixedValue>(state: &BTreeMap<K, V>) -> Result<BTreeMap<K, V>, AllocError>
+pub fn copy_of<K: FixedKey, V: FixedValue>(
+    state: &BTreeMap<K, V>,
+) -> Result<BTreeMap<K, V>, AllocError>
     ensures { IfOk result (λ copy. state_of K.encoding V.encoding copy.entries
         ≡ state_of K.encoding V.encoding state.now.entries) }
 {
@@ -17,7 +19,7 @@ pub fn copy_of<K: Key, V: FixedValue>(state: &BTreeMap<K, V>) -> Result<BTreeMap
 }
 
 /// Gives the key a copy of the value. It fails only when out of memory, and the state then stays as it was.
-pub fn put<K: Key, V: FixedValue>(
+pub fn put<K: FixedKey, V: FixedValue>(
     state: &mut BTreeMap<K, V>,
     key: &K,
     value: &V,
@@ -33,7 +35,7 @@ pub fn put<K: Key, V: FixedValue>(
 }
 
 /// Takes the key out.
-pub fn remove<K: Key, V: FixedValue>(state: &mut BTreeMap<K, V>, key: &K)
+pub fn remove<K: FixedKey, V: FixedValue>(state: &mut BTreeMap<K, V>, key: &K)
     ensures { state_of K.encoding V.encoding state.new.entries
         ≡ without_key (state_of K.encoding V.encoding state.old.entries) (K.encoding key.now) }
 {
@@ -41,7 +43,7 @@ pub fn remove<K: Key, V: FixedValue>(state: &mut BTreeMap<K, V>, key: &K)
 }
 
 /// The value at the key, or `None` where there is none.
-pub fn get<'a, K: Key, V: FixedValue>(state: &'a BTreeMap<K, V>, key: &K) -> Option<&'a V>
+pub fn get<'a, K: FixedKey, V: FixedValue>(state: &'a BTreeMap<K, V>, key: &K) -> Option<&'a V>
     ensures { option_map (λ v. V.encoding v.now) result
         ≡ value_at (state_of K.encoding V.encoding state.now.entries) (K.encoding key.now) }
 {
@@ -49,7 +51,7 @@ pub fn get<'a, K: Key, V: FixedValue>(state: &'a BTreeMap<K, V>, key: &K) -> Opt
 }
 
 /// The least key above the key, or the least of all where none is above. `None` in the empty state.
-pub fn next_key<'a, K: Key, V: FixedValue>(state: &'a BTreeMap<K, V>, key: &K) -> Option<&'a K>
+pub fn next_key<'a, K: FixedKey, V: FixedValue>(state: &'a BTreeMap<K, V>, key: &K) -> Option<&'a K>
     ensures { MatchOption result (state.now.entries ≡ []) (λ next. K.encoding next.now
         ≡ next_key (state_of K.encoding V.encoding state.now.entries) (K.encoding key.now)) }
 {

@@ -1,11 +1,15 @@
-//! The operations of a log of changes to a state, and their encoding of one fixed size. The crate ports the ordered
-//! operations of `qmdb::any::operation` of commonware-storage 2026.10.0; `In the Rust` names what an item is there.
+//! The operations of a log of changes to a state, and their encodings; the store's are ordered ones of one size. The crate
+//! ports `qmdb::any::operation` of commonware-storage 2026.10.0; `In the Rust` names what an item is there. Operations of all
+//! kinds stand in `state_ops_parts`, which it re-exports.
 #![tactic(auto)]
 
-pub mod copy;
-pub mod fixed;
-pub mod key;
-pub mod operation;
+pub mod ordered;
 
-pub use key::{FixedValue, Key};
-pub use operation::{Operation, Ordered};
+pub use ordered::{OrderedOperation, OrderedUpdate};
+pub use state_ops_parts::key::{FixedKey, Key};
+pub use state_ops_parts::operation::Operation;
+pub use state_ops_parts::update::Update;
+pub use state_ops_parts::value::{FixedEncoding, FixedValue};
+pub use state_ops_parts::{
+    codec, copy, display, fixed, hexadecimal, key, laws, operation, traits, update, value, variable,
+};

@@ -24,11 +24,13 @@ option_fails after (zero ∷ bytes) e fails = absurd (cc)
 option_fails after (suc zero ∷ bytes) e fails = ap (λ x. told Some (x >>= λ rest. Ok (take (length bytes - length rest) bytes, rest))) fails
 option_fails after (suc (suc b) ∷ bytes) e fails = cc
 
-pub option_reads : {T : Type 0} (encoding : T → List ℕ) (after : List ℕ → Outcome) (lacks : List ℕ → Type 0) (old new : List ℕ) (result : Result (Option T) Error)
+pub option_reads : {T : Type 0} (encoding : T → List ℕ) (after : List ℕ → Outcome) (lacks : List ℕ → Type 0) (old new : List ℕ)
+    (result : Result (Option T) Error)
     → Reads (option_encoding encoding) old new (after_option after old) (OptionLacks lacks old) result
     → ReadsAs (option_map encoding) (option_encoding encoding) old new (option_at after old) (OptionLacks lacks old) result
 option_reads encoding after lacks old new (Ok m) reads = (option_is encoding after old new m reads.0 reads.1, reads.1)
-option_reads encoding after lacks old new (Err e) refused = refuses_as _ _ e (after_option after old) (option_at after old) (λ l. l) (option_fails after old) refused
+option_reads encoding after lacks old new (Err e) refused = refuses_as _ _ e (after_option after old) (option_at after old) (λ l. l)
+    (option_fails after old) refused
 
 floor_fails : (found : Result (ℕ × List ℕ) Error) (e : Error) → (found >>= λ x. cond (ltb (2 ^ 62) x.0) (Err Invalid) (Ok x.1)) ≡ Err e
     → (found >>= λ x. cond (ltb (2 ^ 62) x.0) (Err Invalid) (Ok x)) ≡ Err e
@@ -47,7 +49,8 @@ floor_is : (old new : List ℕ) (n : ℕ) → n < 2 ^ 64 → after_number (2 ^ 6
 floor_is old new n small ends is =
     let x : ℕ × List ℕ = (n, new) in
     let found : varint_at old ≡ Ok x = ap varint_at is ∙ varint_again n new small in
-    let ended : cond (ltb (2 ^ 62) x.0) (Err Invalid) (Ok x.1) ≡ Ok new = sym (ap (λ y. y >>= λ x. cond (ltb (2 ^ 62) x.0) (Err Invalid) (Ok x.1)) found) ∙ ends in
+    let ended : cond (ltb (2 ^ 62) x.0) (Err Invalid) (Ok x.1) ≡ Ok new = sym (ap (λ y. y >>= λ x. cond (ltb (2 ^ 62) x.0) (Err Invalid) (Ok x.1)) found)
+    ∙ ends in
     ap (λ y. y >>= λ x. cond (ltb (2 ^ 62) x.0) (Err Invalid) (Ok x)) found ∙ floor_ok x new (ltb (2 ^ 62) x.0) ended
 
 pub floor_reads : (old new : List ℕ) (result : Result ℕ Error) → Reads varint old new (after_number (2 ^ 62) old) ⊥ result → IfOk result (λ n. n < 2 ^ 64)

@@ -1,3 +1,4 @@
 pub mod Operation
 pub mod Grammar
+pub mod Text
 pub mod Laws

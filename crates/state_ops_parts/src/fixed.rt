@@ -15,8 +15,8 @@ use merkle_forest::codec::{FixedSize, Write, or_undo};
 pub use reading::read_operation;
 use std::alloc::AllocError;
 
-/// The size in bytes of every operation with keys `K`, values `V` and updates `S`. It is wide enough for keys and values
-/// of any size.
+/// The size in bytes of every operation with keys `K`, values `V` and updates `S`. It is wide enough for keys and
+/// values of any size.
 /// In the Rust: `commonware_codec::FixedSize::SIZE` of an operation with `FixedEncoding`, a usize.
 pub fn fixed_size<K: FixedKey, V: FixedValue, S: FixedUpdate>() -> u128
     ensures { result ≡ spec.fixed_size K.SIZE V.SIZE S.UPDATE_SIZE }
@@ -40,7 +40,8 @@ fn write_zeros(count: u128, out: &mut Vec<u8>) -> Result<(), AllocError>
 
 // Appends the metadata of a commit. Out of memory, some of its bytes may have been appended.
 fn write_metadata<V: FixedValue>(metadata: &Option<V>, out: &mut Vec<u8>) -> Result<(), AllocError>
-    ensures ok { OnOk result (out.new.items ≡ out.old.items ++ spec.fixed_metadata V.SIZE (option_map V.encoding metadata.now)) }
+    ensures ok { OnOk result (out.new.items ≡ out.old.items ++ spec.fixed_metadata V.SIZE
+        (option_map V.encoding metadata.now)) }
     ensures err { OnErr result (Extends out.old.items out.new.items) }
     ensures value { OnOk result (IfSome metadata.now V.is_value) }
 {

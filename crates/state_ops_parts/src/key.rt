@@ -22,6 +22,9 @@ pub trait Key: Read + Faithful + Ord {
 pub trait FixedKey: Key + Read<Cfg = ()> + FixedSize {
     ghost spelled: { (k : Self) → Self.bytes k ≡ Self.encoding k };
 
+    /// The order of keys is that of their encodings.
+    ghost in_order: { (k l : Self) → Self.cmp k l ≡ slice_cmp nat_cmp (Self.encoding k) (Self.encoding l) };
+
     /// Each key may be read.
     ghost within: { (k : Self) → Self.is_within tt k };
 }
@@ -48,6 +51,8 @@ impl Key for Vec<u8> {
 
 impl<const M: usize> FixedKey for FixedBytes<M> {
     ghost spelled = { λ _. refl };
+
+    ghost in_order = { λ _ _. refl };
 
     ghost within = { λ _. tt };
 }

@@ -3,10 +3,14 @@
 
 pub mod codec;
 pub mod copy;
+pub mod display;
 pub mod fixed;
+pub mod hexadecimal;
 pub mod key;
 pub mod laws;
 pub mod operation;
+#[cfg(test)]
+mod tests;
 pub mod traits;
 pub mod update;
 pub mod value;

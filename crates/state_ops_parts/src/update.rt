@@ -67,8 +67,8 @@ pub trait Update: Write {
         ensures { IfOk result (λ copy. Self.encoding copy ≡ Self.encoding self.now) };
 }
 
-/// What is kept of the update that the closure gives. The closure is called only where that hangs on the update. It fails
-/// only when out of memory. In the Rust: `qmdb::any::operation::update::Update::cached`, a function of the trait.
+/// What is kept of the update that the closure gives. The closure is called only where that hangs on the update. It
+/// fails only when out of memory. In the Rust: `qmdb::any::operation::update::Update::cached`, a function of the trait.
 pub fn cached<'a, S: Update + 'a, C: FnOnce() -> &'a S>(update: C) -> Result<S::Cached, AllocError>
     requires { S.NeedsUpdate → C.IsAlwaysCallable update }
     ensures { S.NeedsUpdate → ((u : _) × (C.post update u × IfOk result (S.caches u.now))) }

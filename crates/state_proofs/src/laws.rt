@@ -13,7 +13,7 @@ use merkle_core::laws::{
     honest_digests_are_few, honest_digests_lead_to_the_root, reconstructed_is_read,
 };
 use merkle_forest::{Graftable, HashFunction, PendingOf};
-use state_ops::Key;
+use state_ops::FixedKey;
 
 /// The honest proof of an active operation verifies under the canonical root of its state.
 pub fn honest_proofs_verify<F: Graftable>()
@@ -38,7 +38,7 @@ pub fn honest_proofs_verify<F: Graftable>()
 pub fn honest_bytes_show_the_operation<
     F: Graftable + PendingOf<H::Digest>,
     H: HashFunction,
-    K: Key,
+    K: FixedKey,
 >()
     ensures { (width grafting_height : ℕ) (state : State) (location : ℕ)
         → 8 * width ≡ 2 ^ grafting_height → grafting_height ≤ 62 → length state.operations ≤ 2 ^ 62
@@ -61,7 +61,11 @@ pub fn honest_bytes_show_the_operation<
 
 /// The honest bytes of an active update, with the next key that it names, are those of a proof within the limits, which
 /// shows it under the canonical root.
-pub fn honest_bytes_show_the_update<F: Graftable + PendingOf<H::Digest>, H: HashFunction, K: Key>()
+pub fn honest_bytes_show_the_update<
+    F: Graftable + PendingOf<H::Digest>,
+    H: HashFunction,
+    K: FixedKey,
+>()
     ensures { (width grafting_height : ℕ) (state : State) (location : ℕ) (update : List ℕ → List ℕ) (next_key : List ℕ)
         → 8 * width ≡ 2 ^ grafting_height → grafting_height ≤ 62 → length state.operations ≤ 2 ^ 62
         → location < length state.operations → slice_get state.bits location ≡ Some true

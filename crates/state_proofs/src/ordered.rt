@@ -2,7 +2,7 @@
 
 ghost use Rattle.std.specs.Prelude.{◌≡◌, ◌⊎◌, ◌↔◌, ◌++◌, ℕ, List, [], false, IsTrue, IsErr, IfOk, length, Ok, OnOk, OnErr};
 ghost use Rattle.merkle_forest.specs.Codec.{Extends, LacksAfter, Reads};
-ghost use Rattle.state_ops.specs.Operation.{fixed_encoding, update};
+ghost use Rattle.state_ops.specs.Operation.{fixed_encoding, ordered, update};
 ghost use Rattle.state_proofs.specs.Encoded.{key_value_proof_encoding, after_operation_proof, after_key_value_proof, format_of, OperationProofLacks, ShowsUpdate};
 ghost use Rattle.state_proofs.specs.ProofsCode.{parts_of};
 ghost use Rattle.state_proofs.specs.Verified.{Verifies};
@@ -10,16 +10,17 @@ ghost use Rattle.state_proofs.specs.Verified.{Verifies};
 use crate::operation;
 use merkle_core::MAX_PROOF_DIGESTS_PER_ELEMENT;
 use merkle_forest::codec::{Cursor, EncodeSize, Error, Read, Write, or_undo};
-use merkle_forest::{Digest, Graftable, HashFunction, PendingOf};
-use state_ops::fixed::encode;
-use state_ops::{FixedValue, Key, Operation, Ordered};
+use merkle_forest::{Digest, Family, Graftable, HashFunction, PendingOf};
+use state_ops::ordered::encode;
+use state_ops::update::Ordered;
+use state_ops::{FixedKey, FixedValue, Operation, OrderedOperation};
 use std::alloc::{AllocError, Global};
 
 /// A proof that a key has a value in a state: the proof of the key's active update, and the next key
 /// that the update names. Its encoding is these in order. Reading takes what the proof's reading and a key's take.
 /// In the Rust: `qmdb::current::ordered::proof::KeyValueProof`.
 #[derive(Debug, PartialEq, Eq, Drop)]
-pub struct KeyValueProof<F: PendingOf<D>, K: Key, D: Digest> {
+pub struct KeyValueProof<F: PendingOf<D>, K: FixedKey, D: Digest> {
     /// The proof of the key's update.
     pub proof: operation::Proof<F, D>,
     /// The next key that the update names.
@@ -27,7 +28,7 @@ pub struct KeyValueProof<F: PendingOf<D>, K: Key, D: Digest> {
 }
 
 // Appends the encoding. Out of memory, some of its bytes may have been appended.
-fn write_parts<F: PendingOf<D>, K: Key, D: Digest>(
+fn write_parts<F: PendingOf<D>, K: FixedKey, D: Digest>(
     proof: &KeyValueProof<F, K, D>,
     out: &mut Vec<u8>,
 ) -> Result<(), AllocError>
@@ -42,7 +43,7 @@ fn write_parts<F: PendingOf<D>, K: Key, D: Digest>(
     proof.next_key.write(out)
 }
 
-impl<F: PendingOf<D>, K: Key, D: Digest> Write for KeyValueProof<F, K, D> {
+impl<F: PendingOf<D>, K: FixedKey, D: Digest> Write for KeyValueProof<F, K, D> {
     ghost encoding = { λ p. key_value_proof_encoding F.pending_encoding (parts_of D.encoding F.held p.proof)
         (K.encoding p.next_key) };
 
@@ -54,13 +55,13 @@ impl<F: PendingOf<D>, K: Key, D: Digest> Write for KeyValueProof<F, K, D> {
     }
 }
 
-impl<F: PendingOf<D>, K: Key + EncodeSize, D: Digest> EncodeSize for KeyValueProof<F, K, D> {
+impl<F: PendingOf<D>, K: FixedKey + EncodeSize, D: Digest> EncodeSize for KeyValueProof<F, K, D> {
     fn encode_size(&self) -> usize {
         self.proof.encode_size() + self.next_key.encode_size()
     }
 }
 
-impl<F: PendingOf<D>, K: Key, D: Digest> Read for KeyValueProof<F, K, D> {
+impl<F: PendingOf<D>, K: FixedKey, D: Digest> Read for KeyValueProof<F, K, D> {
     ghost use Rattle.state_proofs.specs.Laws.Reading.{read_key_value_again};
 
     type Cfg = ((usize, usize), ());
@@ -102,16 +103,16 @@ impl<F: PendingOf<D>, K: Key, D: Digest> Read for KeyValueProof<F, K, D> {
 }
 
 // The encoded update that gives the key this value, before this next key. It fails only when out of memory.
-fn encoded_update<K: Key, V: FixedValue>(
+fn encoded_update<F: Family, K: FixedKey, V: FixedValue>(
     alloc: Global,
     key: &K,
     value: &V,
     next_key: &K,
 ) -> Result<Vec<u8>, AllocError>
     ensures { IfOk result (λ bytes. bytes.items
-        ≡ fixed_encoding K.SIZE V.SIZE (update (K.encoding key.now) (V.encoding value.now) (K.encoding next_key.now))) }
+        ≡ fixed_encoding K.SIZE V.SIZE (update (ordered (K.encoding key.now) (V.encoding value.now) (K.encoding next_key.now)))) }
 {
-    let update = Operation::Update(Ordered {
+    let update: OrderedOperation<F, K, V> = Operation::Update(Ordered {
         key: key.clone()?,
         value: value.clone()?,
         next_key: next_key.clone()?,
@@ -119,7 +120,7 @@ fn encoded_update<K: Key, V: FixedValue>(
     encode(alloc, &update)
 }
 
-impl<F: Graftable + PendingOf<D>, K: Key, D: Digest> KeyValueProof<F, K, D> {
+impl<F: Graftable + PendingOf<D>, K: FixedKey, D: Digest> KeyValueProof<F, K, D> {
     /// Whether the proof shows that the key has the value in the state of this root. It fails only when out of memory.
     /// In the Rust: `qmdb::current::ordered::proof::KeyValueProof::verify`, which never fails.
     pub fn verify<H: HashFunction<Digest = D>, V: FixedValue>(
@@ -130,11 +131,11 @@ impl<F: Graftable + PendingOf<D>, K: Key, D: Digest> KeyValueProof<F, K, D> {
         value: &V,
     ) -> Result<bool, AllocError>
         ensures { let operation = fixed_encoding K.SIZE V.SIZE
-            (update (K.encoding key.now) (V.encoding value.now) (K.encoding self.now.next_key)) in
+            (update (ordered (K.encoding key.now) (V.encoding value.now) (K.encoding self.now.next_key))) in
             IfOk result (λ yes. IsTrue yes ↔ Verifies F.merge_rule H.hash_of (D.encoding root.now)
             (parts_of D.encoding F.held self.now.proof) operation) }
     {
-        let operation = encoded_update(alloc, key, value, &self.next_key)?;
+        let operation = encoded_update::<F, K, V>(alloc, key, value, &self.next_key)?;
         Ok(self.proof.verify::<H>(root, &operation))
     }
 }
@@ -170,12 +171,12 @@ pub fn shows_value<F, H, K, V>(
 where
     F: Graftable + PendingOf<H::Digest>,
     H: HashFunction,
-    K: Key,
+    K: FixedKey,
     V: FixedValue,
     ensures { let is_key = λ (key : List ℕ). K.after tt key ≡ Ok [] in
         let format = format_of F.merge_rule H.hash_of width H.Digest.SIZE F.is_pending F.pending_encoding is_key in
         IfOk result (λ yes. IsTrue yes ↔ ShowsUpdate format (H.Digest.encoding root.now)
-        (λ next_key. fixed_encoding K.SIZE V.SIZE (update (K.encoding key.now) (V.encoding value.now) next_key))
+        (λ next_key. fixed_encoding K.SIZE V.SIZE (update (ordered (K.encoding key.now) (V.encoding value.now) next_key)))
         bytes.now) }
 {
     let limits = ((width, MAX_PROOF_DIGESTS_PER_ELEMENT), ());

@@ -13,7 +13,7 @@ ghost use Rattle.auth_store.specs.Soundness.{HasSizes, IsSizedClaim, hashed_stri
 ghost use Rattle.auth_store.specs.Store.{IsChunkWidth, setting_of_width, root_of_history};
 
 use merkle_forest::{Graftable, HashFunction, PendingOf};
-use state_ops::{FixedValue, Key};
+use state_ops::{FixedKey, FixedValue};
 use state_proofs::laws::{
     honest_bytes_show_the_update, verified_operations_are_active_or_strings_collide,
 };
@@ -24,7 +24,7 @@ pub fn honest_proofs_show_true_claims<F, H, K, V, const N: usize>()
 where
     F: Graftable + PendingOf<H::Digest>,
     H: HashFunction,
-    K: Key,
+    K: FixedKey,
     V: FixedValue,
     ensures { (history : History) (claim : Claim) → IsChunkWidth N → AreStates history
         → length (log_of history) ≤ 2 ^ 62
@@ -45,7 +45,7 @@ pub fn shown_claims_are_true_or_strings_collide<F, H, K, V, const N: usize>()
 where
     F: Graftable + PendingOf<H::Digest>,
     H: HashFunction,
-    K: Key,
+    K: FixedKey,
     V: FixedValue,
     ensures { (history : History) (claim : code.Claim K V) (bytes : List ℕ) → H.Digest.SIZE ≡ 32 → IsChunkWidth N
         → AreStates history → HasSizes K.SIZE V.SIZE history → length (log_of history) ≤ 2 ^ 62
@@ -67,7 +67,7 @@ pub fn rebuilt_strings_are_of_the_bytes<F, H, K, V, const N: usize>()
 where
     F: Graftable + PendingOf<H::Digest>,
     H: HashFunction,
-    K: Key,
+    K: FixedKey,
     V: FixedValue,
     ensures { (claim : code.Claim K V) (root other bytes : List ℕ)
         → (let is_key = λ (key : List ℕ). K.after tt key ≡ Ok [] in

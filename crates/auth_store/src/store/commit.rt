@@ -9,8 +9,8 @@ use super::log::Log;
 use super::root::root_of_log;
 use crate::history;
 use crate::plain::PlainDevice;
-use merkle_forest::{Family, HashFunction};
-use state_ops::{FixedValue, Key, Operation};
+use merkle_forest::{Family, HashFunction, Location};
+use state_ops::{FixedKey, FixedValue, Operation, OrderedOperation};
 use std::alloc::{AllocError, Global};
 
 /// What follows from a log with a commit at its end.
@@ -23,11 +23,11 @@ pub struct Committed<D> {
 }
 
 // Does what `append_commit` says; out of memory, something may have been appended to the log.
-fn try_commit<F: Family, H: HashFunction, K: Key, V: FixedValue, const N: usize>(
+fn try_commit<F: Family, H: HashFunction, K: FixedKey, V: FixedValue, const N: usize>(
     alloc: Global,
-    log: &mut Log<K, V>,
+    log: &mut Log<F, K, V>,
     device: &mut PlainDevice,
-    changes: Vec<Operation<K, V>>,
+    changes: Vec<OrderedOperation<F, K, V>>,
     metadata: Option<V>,
 ) -> Result<Committed<H::Digest>, AllocError>
     requires width { IsChunkWidth N }
@@ -45,7 +45,7 @@ fn try_commit<F: Family, H: HashFunction, K: Key, V: FixedValue, const N: usize>
     let start = log.len();
     log.append(changes)?;
     let floor = history::inactivity_floor(log.operations());
-    log.push(Operation::CommitFloor(metadata, floor))?;
+    log.push(Operation::CommitFloor(metadata, Location::new(floor)))?;
     let root = root_of_log::<F, H, K, V, N>(alloc, log, floor)?;
     let bytes = log.bytes_after(start)?;
     device.append(&bytes)?;
@@ -54,11 +54,11 @@ fn try_commit<F: Family, H: HashFunction, K: Key, V: FixedValue, const N: usize>
 
 /// Appends the changes and a commit after them to the log, and their fixed encodings to the device. It fails only
 /// when out of memory, and log and device then stay as they were.
-pub fn append_commit<F: Family, H: HashFunction, K: Key, V: FixedValue, const N: usize>(
+pub fn append_commit<F: Family, H: HashFunction, K: FixedKey, V: FixedValue, const N: usize>(
     alloc: Global,
-    log: &mut Log<K, V>,
+    log: &mut Log<F, K, V>,
     device: &mut PlainDevice,
-    changes: Vec<Operation<K, V>>,
+    changes: Vec<OrderedOperation<F, K, V>>,
     metadata: Option<V>,
 ) -> Result<Committed<H::Digest>, AllocError>
     requires width { IsChunkWidth N }

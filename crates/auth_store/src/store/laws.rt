@@ -6,7 +6,7 @@ use super::Store;
 use super::prove::KeyProof;
 use crate::error::StoreError;
 use merkle_forest::{Graftable, HashFunction, PendingOf};
-use state_ops::{FixedValue, Key};
+use state_ops::{FixedKey, FixedValue};
 
 /// Whether two stores answer the same root, and the same proof of the key or none. They do where their histories are
 /// equal. Out of memory: S4.
@@ -18,7 +18,7 @@ pub fn same_root_and_proof<F, H, K, V, const N: usize>(
 where
     F: Graftable + PendingOf<H::Digest>,
     H: HashFunction,
-    K: Key,
+    K: FixedKey,
     V: FixedValue,
     ensures same { one.now ≡ other.now → IfOk result (λ same. IsTrue same) }
     ensures err { IfErr result (λ e. e ≡ StoreError.Memory) }

@@ -6,20 +6,21 @@ ghost use Rattle.state_ops.specs.Operation as meaning;
 ghost use Rattle.auth_store.specs.History.{meanings};
 ghost use Rattle.auth_store.specs.Store as spec;
 
-use state_ops::fixed::encode;
-use state_ops::{FixedValue, Key, Operation};
+use merkle_forest::Family;
+use state_ops::ordered::encode;
+use state_ops::{FixedKey, FixedValue, OrderedOperation};
 use std::alloc::{AllocError, Global};
 use std::marker::Model;
 
 /// Operations with the fixed encoding of each, which is made once. Its contracts see it as what the operations say.
 #[derive(Drop)]
-pub struct Log<K: Key, V: FixedValue> {
+pub struct Log<F: Family, K: FixedKey, V: FixedValue> {
     alloc: Global,
-    operations: Vec<Operation<K, V>>,
+    operations: Vec<OrderedOperation<F, K, V>>,
     encodings: Vec<Vec<u8>>,
 }
 
-impl<K: Key, V: FixedValue> Model for Log<K, V> {
+impl<F: Family, K: FixedKey, V: FixedValue> Model for Log<F, K, V> {
     ghost Value = { List meaning.Operation };
 
     ghost view = { λ log. meanings K.encoding V.encoding log.operations.items };
@@ -29,9 +30,9 @@ impl<K: Key, V: FixedValue> Model for Log<K, V> {
 }
 
 /// The fixed encodings of the operations. It fails only when out of memory.
-fn encodings_of<K: Key, V: FixedValue>(
+fn encodings_of<F: Family, K: FixedKey, V: FixedValue>(
     alloc: Global,
-    operations: &[Operation<K, V>],
+    operations: &[OrderedOperation<F, K, V>],
 ) -> Result<Vec<Vec<u8>>, AllocError>
     ensures { IfOk result (λ encoded. map (λ e. e.items) encoded.items
         ≡ spec.encodings K.SIZE V.SIZE (meanings K.encoding V.encoding operations.now)) }
@@ -43,9 +44,9 @@ fn encodings_of<K: Key, V: FixedValue>(
     Ok(encoded)
 }
 
-impl<K: Key, V: FixedValue> Log<K, V> {
+impl<F: Family, K: FixedKey, V: FixedValue> Log<F, K, V> {
     /// A log of no operations.
-    pub fn new(alloc: Global) -> Log<K, V>
+    pub fn new(alloc: Global) -> Log<F, K, V>
         ensures { result ≡ [] }
     {
         Log {
@@ -63,7 +64,7 @@ impl<K: Key, V: FixedValue> Log<K, V> {
     }
 
     /// The operations, the first of the log first.
-    pub fn operations(&self) -> &[Operation<K, V>]
+    pub fn operations(&self) -> &[OrderedOperation<F, K, V>]
         ensures { meanings K.encoding V.encoding result.now ≡ self.now }
     {
         &self.operations
@@ -77,7 +78,7 @@ impl<K: Key, V: FixedValue> Log<K, V> {
     }
 
     /// Appends an operation. It fails only when out of memory, and the log then stays as it was.
-    pub fn push(&mut self, operation: Operation<K, V>) -> Result<(), AllocError>
+    pub fn push(&mut self, operation: OrderedOperation<F, K, V>) -> Result<(), AllocError>
         ensures ok { OnOk result (self.new ≡ self.old ++ meaning.meaning_of K.encoding V.encoding operation ∷ []) }
         ensures err { OnErr result (self.new ≡ self.old) }
     {
@@ -88,7 +89,7 @@ impl<K: Key, V: FixedValue> Log<K, V> {
     }
 
     /// Appends operations. It fails only when out of memory, and the log then stays as it was.
-    pub fn append(&mut self, operations: Vec<Operation<K, V>>) -> Result<(), AllocError>
+    pub fn append(&mut self, operations: Vec<OrderedOperation<F, K, V>>) -> Result<(), AllocError>
         ensures ok { OnOk result (self.new ≡ self.old ++ meanings K.encoding V.encoding operations.items) }
         ensures err { OnErr result (self.new ≡ self.old) }
     {

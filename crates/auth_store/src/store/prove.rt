@@ -17,8 +17,8 @@ use crate::client::laws::honest_proofs_show_true_claims;
 use crate::error::StoreError;
 use crate::history;
 use merkle_forest::codec::Write;
-use merkle_forest::{Graftable, HashFunction, PendingOf};
-use state_ops::{FixedValue, Key, Operation, Ordered};
+use merkle_forest::{Family, Graftable, HashFunction, PendingOf};
+use state_ops::{FixedKey, FixedValue, Operation, OrderedOperation, OrderedUpdate};
 use state_proofs::honest::honest_proof;
 use state_proofs::ordered::KeyValueProof;
 use std::alloc::{AllocError, Global};
@@ -31,10 +31,10 @@ pub enum KeyProof<V> {
 }
 
 // The update at a location of the log, or None where another operation stands there or none.
-fn update_at<K: Key, V: FixedValue>(
-    log: &[Operation<K, V>],
+fn update_at<F: Family, K: FixedKey, V: FixedValue>(
+    log: &[OrderedOperation<F, K, V>],
     location: usize,
-) -> Option<&Ordered<K, V>>
+) -> Option<&OrderedUpdate<K, V>>
     ensures update { option_map (λ update. (V.encoding update.now.value, K.encoding update.now.next_key)) result
         ≡ update_fields (slice_get (spec.meanings K.encoding V.encoding log.now) location) }
     ensures within { IfSome result (λ _. location < length log.now) }
@@ -48,9 +48,9 @@ fn update_at<K: Key, V: FixedValue>(
 }
 
 // The honest bytes that prove the update at a location of the log, which names this next key.
-fn proof_at<F, H, K: Key, V: FixedValue, const N: usize>(
+fn proof_at<F, H, K: FixedKey, V: FixedValue, const N: usize>(
     alloc: Global,
-    log: &Log<K, V>,
+    log: &Log<F, K, V>,
     floor: u64,
     location: usize,
     next_key: &K,
@@ -83,10 +83,10 @@ where
 pub fn prove_in_log<
     F: Graftable + PendingOf<H::Digest>,
     H: HashFunction,
-    K: Key,
+    K: FixedKey,
     V: FixedValue,
     const N: usize,
->(alloc: Global, log: &Log<K, V>, floor: u64, key: &K) -> Result<Option<KeyProof<V>>, AllocError>
+>(alloc: Global, log: &Log<F, K, V>, floor: u64, key: &K) -> Result<Option<KeyProof<V>>, AllocError>
     requires width { IsChunkWidth N }
     requires few { length log.now ≤ 2 ^ 62 }
     requires last { floor ≡ last_floor log.now }
@@ -109,7 +109,7 @@ pub fn prove_in_log<
 impl<
     F: Graftable + PendingOf<H::Digest>,
     H: HashFunction,
-    K: Key,
+    K: FixedKey,
     V: FixedValue,
     const N: usize,
 > Store<F, H, K, V, N> {

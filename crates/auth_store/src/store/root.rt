@@ -8,7 +8,7 @@ ghost use Rattle.state_proofs.specs.Canonical.{canonical_root};
 use super::log::Log;
 use crate::history;
 use merkle_forest::{Family, HashFunction};
-use state_ops::{FixedValue, Key};
+use state_ops::{FixedKey, FixedValue};
 use state_proofs::canonical::canonical_root;
 use state_proofs::chunk_size::ChunkSize;
 use state_proofs::snapshot::Snapshot;
@@ -37,9 +37,9 @@ pub fn snapshot_of<'a, const N: usize>(
 }
 
 /// The root of the log, whose last floor this is, in chunks of `N` bytes. It fails only when out of memory.
-pub fn root_of_log<F: Family, H: HashFunction, K: Key, V: FixedValue, const N: usize>(
+pub fn root_of_log<F: Family, H: HashFunction, K: FixedKey, V: FixedValue, const N: usize>(
     alloc: Global,
-    log: &Log<K, V>,
+    log: &Log<F, K, V>,
     floor: u64,
 ) -> Result<H::Digest, AllocError>
     requires width { IsChunkWidth N }

@@ -5,7 +5,7 @@ use Rattle.std.specs.Str.{bytes_eq}
 use Rattle.std.specs.List.{list_any}
 use native.Mathlib.Numerals.{unary_clauses}
 use Rattle.std.proofs.lemmas.Bool.{cases_Bool}
-use Rattle.state_ops.specs.Operation.{Operation, delete, update, commit_floor}
+use Rattle.state_ops.specs.Operation.{Operation, delete, update, ordered, commit_floor}
 use Rattle.auth_store_parts.specs.Map.{Map, value_at, next_key, entry_of}
 use Rattle.auth_store_parts.specs.History.{History, latest_map, has_key, is_active, is_active_on, activity_bits, is_kept, deletes, updates, batch_operations, inactivity_floor, log_of, active_location, update_fields, active_update, IsState, AreStates, StandsAt}
 use Rattle.auth_store_parts.specs.Laws.Lookups.{same, same_self, exact, none_later, IsState-tail}
@@ -18,14 +18,14 @@ Named = Option (List ℕ × List ℕ)
 abbrev said : List ℕ → Named → List Operation → Named
 said q found [] = found
 said q found (delete k ∷ ops) = said q (cond (same q k) None found) ops
-said q found (update k v n ∷ ops) = said q (cond (same q k) (Some (v, n)) found) ops
+said q found (update (ordered k v n) ∷ ops) = said q (cond (same q k) (Some (v, n)) found) ops
 said q found (commit_floor m f ∷ ops) = said q found ops
 
 said-append : (q : List ℕ) (found : Named) (xs ys : List Operation)
     → said q found (xs ++ ys) ≡ said q (said q found xs) ys
 said-append q found [] ys = refl
 said-append q found (delete k ∷ xs) ys = said-append q (cond (same q k) None found) xs ys
-said-append q found (update k v n ∷ xs) ys = said-append q (cond (same q k) (Some (v, n)) found) xs ys
+said-append q found (update (ordered k v n) ∷ xs) ys = said-append q (cond (same q k) (Some (v, n)) found) xs ys
 said-append q found (commit_floor m f ∷ xs) ys = said-append q found xs ys
 
 -- deletes leave what was said of the keys of the new state
@@ -65,7 +65,7 @@ said-updates-other : (q : List ℕ) (es old new : Map) (found : Named) → value
 said-updates-other q [] old new found none = refl
 said-updates-other q (e ∷ es) old new found none =
     let away = passed_by (same q e.0) e.1 (value_at es q) none in
-    elim (is_kept old new e.0 e.1) as (λ b. said q found (cond b [] (update e.0 e.1 (next_key new e.0) ∷ [])
+    elim (is_kept old new e.0 e.1) as (λ b. said q found (cond b [] (update (ordered e.0 e.1 (next_key new e.0)) ∷ [])
     ++ updates es old new) ≡ found) [
       | true ↦ said-updates-other q es old new found away.1
       | false ↦ ap (λ b. said q (cond b (Some (e.1, next_key new e.0)) found) (updates es old new)) away.0
@@ -82,9 +82,9 @@ said-updates q v (e ∷ es) old new found h at =
     let is : q ≡ e.0 = exact q e.0 here in
     let value : e.1 ≡ v = ap (λ o. unwrap_or o []) (sym (ap (λ b. cond b (Some e.1) (value_at es q)) here) ∙ at) in
     let later : value_at es q ≡ None = ap (value_at es) is ∙ none_later e es h in
-    let step : said q found (cond (is_kept old new e.0 e.1) [] (update e.0 e.1 (next_key new e.0) ∷ [])
+    let step : said q found (cond (is_kept old new e.0 e.1) [] (update (ordered e.0 e.1 (next_key new e.0)) ∷ [])
     ++ updates es old new) ≡ cond (is_kept old new e.0 e.1) found (Some (e.1, next_key new e.0)) =
-    elim (is_kept old new e.0 e.1) as (λ b. said q found (cond b [] (update e.0 e.1 (next_key new e.0) ∷ [])
+    elim (is_kept old new e.0 e.1) as (λ b. said q found (cond b [] (update (ordered e.0 e.1 (next_key new e.0)) ∷ [])
     ++ updates es old new) ≡ cond b found (Some (e.1, next_key new e.0))) [
       | true ↦ said-updates-other q es old new found later
       | false ↦ ap (λ b. said q (cond b (Some (e.1, next_key new e.0)) found) (updates es old new)) here
@@ -95,7 +95,7 @@ said-updates q v (e ∷ es) old new found h at =
     ∙ ap (λ w. cond (is_kept old new q w) found (Some (w, next_key new q))) value))
     (λ (away : same q e.0 ≡ false).
     let rest : value_at es q ≡ Some v = sym (ap (λ b. cond b (Some e.1) (value_at es q)) away) ∙ at in
-    elim (is_kept old new e.0 e.1) as (λ b. said q found (cond b [] (update e.0 e.1 (next_key new e.0) ∷ [])
+    elim (is_kept old new e.0 e.1) as (λ b. said q found (cond b [] (update (ordered e.0 e.1 (next_key new e.0)) ∷ [])
     ++ updates es old new) ≡ cond (is_kept old new q v) found (Some (v, next_key new q))) [
       | true ↦ said-updates q v es old new found (IsState-tail e es h) rest
       | false ↦ ap (λ b. said q (cond b (Some (e.1, next_key new e.0)) found) (updates es old new)) away
@@ -186,15 +186,15 @@ said-active q found (delete k ∷ later) =
     said-active q (cond (same q k) None found) later
     ∙ (dropped (same q k) (list_any (has_key q) later) (active_update q later) found (none_active q later)
     ∙ ap (λ u. cond (same q k || list_any (has_key q) later) u found) (sym inactive))
-said-active q found (update k v n ∷ later) =
+said-active q found (update (ordered k v n) ∷ later) =
     let own : Bool = list_any (has_key k) later in
-    let counts : update_fields (slice_get (update k v n ∷ later)
+    let counts : update_fields (slice_get (update (ordered k v n) ∷ later)
     (cond (same q k && not own) 0 (active_location q later + 1))) ≡ cond (same q k && not own) (Some (v, n))
     (active_update q later) =
-    elim (same q k && not own) as (λ b. update_fields (slice_get (update k v n ∷ later)
+    elim (same q k && not own) as (λ b. update_fields (slice_get (update (ordered k v n) ∷ later)
     (cond b 0 (active_location q later + 1))) ≡ cond b (Some (v, n)) (active_update q later)) [
       | true ↦ refl
-      | false ↦ ap update_fields (later_get (update k v n) later (active_location q later))
+      | false ↦ ap update_fields (later_get (update (ordered k v n)) later (active_location q later))
     ] in
     said-active q (cond (same q k) (Some (v, n)) found) later
     ∙ (picked (same q k) (list_any (has_key q) later) own (active_update q later) found (Some (v, n))
@@ -238,19 +238,19 @@ both_true true b h = (refl, h)
 both_true false b h = absurd (cc)
 
 stands_here : (q k v n : List ℕ) (later : List Operation) (u : List ℕ × List ℕ)
-    → is_active_on q (update k v n) later ≡ true → active_update q (update k v n ∷ later) ≡ Some u
-    → StandsAt q (update k v n ∷ later) u
+    → is_active_on q (update (ordered k v n)) later ≡ true → active_update q (update (ordered k v n) ∷ later) ≡ Some u
+    → StandsAt q (update (ordered k v n) ∷ later) u
 stands_here q k v n later u on is =
-    let parts = both_true (same q k) (is_active (update k v n) later) on in
-    let here : active_location q (update k v n ∷ later) ≡ 0 = ap (λ b. cond b 0 (active_location q later + 1)) on in
-    let said_u : Some (v, n) ≡ Some u = sym (ap (λ p. update_fields (slice_get (update k v n ∷ later) p)) here) ∙ is in
+    let parts = both_true (same q k) (is_active (update (ordered k v n)) later) on in
+    let here : active_location q (update (ordered k v n) ∷ later) ≡ 0 = ap (λ b. cond b 0 (active_location q later + 1)) on in
+    let said_u : Some (v, n) ≡ Some u = sym (ap (λ p. update_fields (slice_get (update (ordered k v n) ∷ later) p)) here) ∙ is in
     let value : v ≡ u.0 = ap (λ (o : Option (List ℕ × List ℕ)). (unwrap_or o (v, n)).0) said_u in
     let next : n ≡ u.1 = ap (λ (o : Option (List ℕ × List ℕ)). (unwrap_or o (v, n)).1) said_u in
     record {
-      update_at = ap (slice_get (update k v n ∷ later)) here
-          ∙ (ap (λ x. Some (update x v n)) (sym (exact q k parts.0))
-          ∙ (ap (λ x. Some (update q x n)) value ∙ ap (λ x. Some (update q u.0 x)) next));
-      bit_at = ap (slice_get (is_active (update k v n) later ∷ activity_bits later)) here ∙ ap Some parts.1;
+      update_at = ap (slice_get (update (ordered k v n) ∷ later)) here
+          ∙ (ap (λ x. Some (update (ordered x v n))) (sym (exact q k parts.0))
+          ∙ (ap (λ x. Some (update (ordered q x n))) value ∙ ap (λ x. Some (update (ordered q u.0 x))) next));
+      bit_at = ap (slice_get (is_active (update (ordered k v n)) later ∷ activity_bits later)) here ∙ ap Some parts.1;
     }
 
 pub active_stands : (q : List ℕ) (log : List Operation) (u : List ℕ × List ℕ) → active_update q log ≡ Some u
@@ -260,12 +260,12 @@ active_stands q (delete k ∷ later) u is =
     let off : is_active_on q (delete k) later ≡ false = elim (same q k) as (λ b. (b && false) ≡ false)
     [ true ↦ refl | false ↦ refl ] in
     stands_later q (delete k) later u off (active_stands q later u (sym (passed q (delete k) later off) ∙ is))
-active_stands q (update k v n ∷ later) u is =
+active_stands q (update (ordered k v n) ∷ later) u is =
     ⊎_elim
     (λ on. stands_here q k v n later u on is)
-    (λ off. stands_later q (update k v n) later u off (active_stands q later u
-    (sym (passed q (update k v n) later off) ∙ is)))
-    (cases_Bool (is_active_on q (update k v n) later))
+    (λ off. stands_later q (update (ordered k v n)) later u off (active_stands q later u
+    (sym (passed q (update (ordered k v n)) later off) ∙ is)))
+    (cases_Bool (is_active_on q (update (ordered k v n)) later))
 active_stands q (commit_floor m f ∷ later) u is =
     stands_later q (commit_floor m f) later u refl (active_stands q later u
     (sym (passed q (commit_floor m f) later refl) ∙ is))
@@ -280,11 +280,11 @@ StandsAt-log_of q v h states at =
 both_hold : (a b : Bool) → a ≡ true → b ≡ true → (a && b) ≡ true
 both_hold a b one other = rw (one, other) refl
 
-names_it : (q v n : List ℕ) (log : List Operation) (location : ℕ) → slice_get log location ≡ Some (update q v n)
+names_it : (q v n : List ℕ) (log : List Operation) (location : ℕ) → slice_get log location ≡ Some (update (ordered q v n))
     → list_any (has_key q) log ≡ true
 names_it q v n [] location is = absurd (cc)
 names_it q v n (op ∷ later) zero is =
-    let here : op ≡ update q v n = cc in
+    let here : op ≡ update (ordered q v n) = cc in
     rw (ap (has_key q) here ∙ same_self q) refl
 names_it q v n (op ∷ later) (suc location) is = or_later (has_key q op) (list_any (has_key q) later) (names_it q v n later location is)
   where
@@ -296,7 +296,7 @@ names_it q v n (op ∷ later) (suc location) is = or_later (has_key q op) (list_
 not_yet : (q : List ℕ) (op : Operation) (later : List Operation) → list_any (has_key q) later ≡ true
     → is_active_on q op later ≡ false
 not_yet q (delete k) later named = elim (same q k) as (λ b. (b && false) ≡ false) [ true ↦ refl | false ↦ refl ]
-not_yet q (update k v n) later named =
+not_yet q (update (ordered k v n)) later named =
     ⊎_elim
     (λ here. let key : list_any (has_key k) later ≡ true = ap (λ x. list_any (has_key x) later) (sym (exact q k here)) ∙ named in
     rw (here, key) refl)
@@ -306,11 +306,11 @@ not_yet q (commit_floor m f) later named = refl
 
 -- an active update of a key in a log is the one that counts for the key
 pub active_update-active : (q v n : List ℕ) (log : List Operation) (location : ℕ)
-    → slice_get log location ≡ Some (update q v n) → slice_get (activity_bits log) location ≡ Some true
+    → slice_get log location ≡ Some (update (ordered q v n)) → slice_get (activity_bits log) location ≡ Some true
     → active_update q log ≡ Some (v, n)
 active_update-active q v n [] location at bit = absurd (cc)
 active_update-active q v n (op ∷ later) zero at bit =
-    let here : op ≡ update q v n = cc in
+    let here : op ≡ update (ordered q v n) = cc in
     let active : is_active op later ≡ true = cc in
     let on : is_active_on q op later ≡ true = both_hold (has_key q op) (is_active op later) (ap (has_key q) here ∙ same_self q) active in
     ap (λ b. update_fields (slice_get (op ∷ later) (cond b 0 (active_location q later + 1)))) on ∙ ap (λ o. update_fields (Some o)) here
@@ -319,7 +319,7 @@ active_update-active q v n (op ∷ later) (suc location) at bit =
 
 -- an active update in the log of a history is the key's value in the latest state
 pub latest-active : (q v n : List ℕ) (h : History) (location : ℕ) → AreStates h
-    → slice_get (log_of h) location ≡ Some (update q v n) → slice_get (activity_bits (log_of h)) location ≡ Some true
+    → slice_get (log_of h) location ≡ Some (update (ordered q v n)) → slice_get (activity_bits (log_of h)) location ≡ Some true
     → value_at (latest_map h) q ≡ Some v
 latest-active q v n h location states at bit =
     first_part (value_at (latest_map h) q) v n (next_key (latest_map h) q)

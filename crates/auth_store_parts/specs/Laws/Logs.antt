@@ -7,7 +7,7 @@ use Rattle.std.proofs.lemmas.Map.Lookups.{exact_bytes}
 use Rattle.std.proofs.lemmas.Map.Text.{is_eq-slice_cmp}
 use Rattle.std.proofs.lemmas.Cmp.{nat_list_cmp_total}
 use Rattle.std.specs.FinMap.Entries.{same_entries}
-use Rattle.state_ops.specs.Operation.{Operation, delete, update, commit_floor}
+use Rattle.state_ops.specs.Operation.{Operation, delete, update, ordered, commit_floor}
 use Rattle.auth_store_parts.specs.Map.{Map, with_entry, without_key, value_at, next_key, key_order}
 use Rattle.auth_store_parts.specs.History.{History, latest_map, is_value, is_kept, deletes, updates, batch_operations, inactivity_floor, with_commit, floor_after, last_floor, log_of, replayed, history_from, history_of, IsState, AreStates}
 use Rattle.auth_store_parts.specs.Batch as batch
@@ -17,14 +17,14 @@ use Rattle.auth_store_parts.specs.Laws.Lookups.{same, exact, value_at-find, none
 replayed-append : (s : Map) (xs ys : List Operation) → replayed s (xs ++ ys) ≡ replayed (replayed s xs) ys
 replayed-append s [] ys = refl
 replayed-append s (delete k ∷ xs) ys = replayed-append (without_key s k) xs ys
-replayed-append s (update k v n ∷ xs) ys = replayed-append (with_entry s k v) xs ys
+replayed-append s (update (ordered k v n) ∷ xs) ys = replayed-append (with_entry s k v) xs ys
 replayed-append s (commit_floor m f ∷ xs) ys = replayed-append s xs ys
 
 history_from-append : (s : Map) (h : History) (xs ys : List Operation)
     → history_from s h (xs ++ ys) ≡ history_from (replayed s xs) (history_from s h xs) ys
 history_from-append s h [] ys = refl
 history_from-append s h (delete k ∷ xs) ys = history_from-append (without_key s k) h xs ys
-history_from-append s h (update k v n ∷ xs) ys = history_from-append (with_entry s k v) h xs ys
+history_from-append s h (update (ordered k v n) ∷ xs) ys = history_from-append (with_entry s k v) h xs ys
 history_from-append s h (commit_floor m f ∷ xs) ys = history_from-append s (record { map = s; metadata = m } ∷ h) xs ys
 
 -- the operations of a batch hold no commit
@@ -40,7 +40,7 @@ history_from-updates : (es old new s : Map) (h : History) → history_from s h (
 history_from-updates [] old new s h = refl
 history_from-updates (e ∷ es) old new s h =
     elim (is_kept old new e.0 e.1) as (λ b. history_from s h
-    (cond b [] (update e.0 e.1 (next_key new e.0) ∷ []) ++ updates es old new) ≡ h) [
+    (cond b [] (update (ordered e.0 e.1 (next_key new e.0)) ∷ []) ++ updates es old new) ≡ h) [
       | true ↦ history_from-updates es old new s h
       | false ↦ history_from-updates es old new (with_entry s e.0 e.1) h
     ]
@@ -64,7 +64,7 @@ IsState-updates : (es old new s : Map) → IsState s → IsState (replayed s (up
 IsState-updates [] old new s h = h
 IsState-updates (e ∷ es) old new s h =
     elim (is_kept old new e.0 e.1) as (λ b. IsState (replayed s
-    (cond b [] (update e.0 e.1 (next_key new e.0) ∷ []) ++ updates es old new))) [
+    (cond b [] (update (ordered e.0 e.1 (next_key new e.0)) ∷ []) ++ updates es old new))) [
       | true ↦ IsState-updates es old new s h
       | false ↦ IsState-updates es old new (with_entry s e.0 e.1) (IsState-with_entry s e.0 e.1 h)
     ]
@@ -121,7 +121,7 @@ updates_keep [] old new s q none = refl
 updates_keep (e ∷ es) old new s q none =
     let away = passed_by (same q e.0) e.1 (value_at es q) none in
     elim (is_kept old new e.0 e.1) as (λ b. value_at (replayed s
-    (cond b [] (update e.0 e.1 (next_key new e.0) ∷ []) ++ updates es old new)) q ≡ value_at s q) [
+    (cond b [] (update (ordered e.0 e.1 (next_key new e.0)) ∷ []) ++ updates es old new)) q ≡ value_at s q) [
       | true ↦ updates_keep es old new s q away.1
       | false ↦ updates_keep es old new (with_entry s e.0 e.1) q away.1
           ∙ (value_at-with_entry s e.0 e.1 q ∙ ap (λ b. cond b (Some e.1) (value_at s q)) away.0)
@@ -147,11 +147,11 @@ updates_set (e ∷ es) old new s q v h at is_old =
     let later : value_at es q ≡ None = ap (value_at es) (exact q e.0 here) ∙ none_later e es h in
     ⊎_elim
     (λ (kept : is_kept old new e.0 e.1 ≡ true). ap (λ b. value_at
-    (replayed s (cond b [] (update e.0 e.1 (next_key new e.0) ∷ []) ++ updates es old new)) q) kept
+    (replayed s (cond b [] (update (ordered e.0 e.1 (next_key new e.0)) ∷ []) ++ updates es old new)) q) kept
     ∙ (updates_keep es old new s q later ∙ (is_old ∙ (ap (value_at old) (exact q e.0 here)
     ∙ (kept_value (value_at old e.0) e.1 (bytes_eq (next_key old e.0) (next_key new e.0)) kept ∙ value)))))
     (λ (changed : is_kept old new e.0 e.1 ≡ false). ap (λ b. value_at
-    (replayed s (cond b [] (update e.0 e.1 (next_key new e.0) ∷ []) ++ updates es old new)) q) changed
+    (replayed s (cond b [] (update (ordered e.0 e.1 (next_key new e.0)) ∷ []) ++ updates es old new)) q) changed
     ∙ (updates_keep es old new (with_entry s e.0 e.1) q later
     ∙ (value_at-with_entry s e.0 e.1 q ∙ (ap (λ b. cond b (Some e.1) (value_at s q)) here ∙ value))))
     (cases_Bool (is_kept old new e.0 e.1)))
@@ -160,7 +160,7 @@ updates_set (e ∷ es) old new s q v h at is_old =
     let held : value_at (with_entry s e.0 e.1) q ≡ value_at old q = value_at-with_entry s e.0 e.1 q
     ∙ (ap (λ b. cond b (Some e.1) (value_at s q)) {x = same q e.0} {y = false} away ∙ is_old) in
     elim (is_kept old new e.0 e.1) as (λ b. value_at (replayed s
-    (cond b [] (update e.0 e.1 (next_key new e.0) ∷ []) ++ updates es old new)) q ≡ Some v) [
+    (cond b [] (update (ordered e.0 e.1 (next_key new e.0)) ∷ []) ++ updates es old new)) q ≡ Some v) [
       | true ↦ updates_set es old new s q v (IsState-tail e es h) rest is_old
       | false ↦ updates_set es old new (with_entry s e.0 e.1) q v (IsState-tail e es h) rest held
     ])
@@ -243,7 +243,7 @@ pub floor_after-append : (floor recorded : ℕ) (metadata : Option (List ℕ)) (
     → floor_after floor (xs ++ commit_floor metadata recorded ∷ []) ≡ recorded
 floor_after-append floor recorded metadata [] = refl
 floor_after-append floor recorded metadata (delete k ∷ xs) = floor_after-append floor recorded metadata xs
-floor_after-append floor recorded metadata (update k v n ∷ xs) = floor_after-append floor recorded metadata xs
+floor_after-append floor recorded metadata (update (ordered k v n) ∷ xs) = floor_after-append floor recorded metadata xs
 floor_after-append floor recorded metadata (commit_floor m f ∷ xs) = floor_after-append f recorded metadata xs
 
 -- the floor that a commit after some operations records is that of the log with them

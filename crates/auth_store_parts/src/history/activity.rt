@@ -5,11 +5,15 @@ ghost use Rattle.std.specs.List.{list_any};
 ghost use Rattle.state_ops.specs.Operation.{meaning_of};
 ghost use Rattle.auth_store_parts.specs.History as spec;
 
-use state_ops::{FixedValue, Key, Operation};
+use merkle_forest::Family;
+use state_ops::{FixedKey, FixedValue, Operation, OrderedOperation};
 use std::alloc::{AllocError, Global};
 
 /// Whether the operation is about the key.
-fn has_key<K: Key, V: FixedValue>(key: &K, operation: &Operation<K, V>) -> bool
+fn has_key<F: Family, K: FixedKey, V: FixedValue>(
+    key: &K,
+    operation: &OrderedOperation<F, K, V>,
+) -> bool
     ensures { result ≡ spec.has_key (K.encoding key.now) (meaning_of K.encoding V.encoding operation.now) }
 {
     match operation {
@@ -20,7 +24,10 @@ fn has_key<K: Key, V: FixedValue>(key: &K, operation: &Operation<K, V>) -> bool
 }
 
 /// Whether one of the operations is about the key.
-fn any_has_key<K: Key, V: FixedValue>(key: &K, operations: &[Operation<K, V>]) -> bool
+fn any_has_key<F: Family, K: FixedKey, V: FixedValue>(
+    key: &K,
+    operations: &[OrderedOperation<F, K, V>],
+) -> bool
     ensures { result ≡ list_any (λ operation. spec.has_key (K.encoding key.now)
         (meaning_of K.encoding V.encoding operation))
         operations.now }
@@ -29,7 +36,9 @@ fn any_has_key<K: Key, V: FixedValue>(key: &K, operations: &[Operation<K, V>]) -
 }
 
 /// Whether one of the operations is a commit.
-fn any_is_commit<K: Key, V: FixedValue>(operations: &[Operation<K, V>]) -> bool
+fn any_is_commit<F: Family, K: FixedKey, V: FixedValue>(
+    operations: &[OrderedOperation<F, K, V>],
+) -> bool
     ensures { result ≡ list_any (λ operation. spec.is_commit (meaning_of K.encoding V.encoding operation))
         operations.now }
 {
@@ -39,9 +48,9 @@ fn any_is_commit<K: Key, V: FixedValue>(operations: &[Operation<K, V>]) -> bool
 /// Whether the operation still counts, given the operations after it: an update whose key no later one has, or the last
 /// commit.
 #[tactic(auto, using(crate::proofs::Mapped::any_map))]
-pub fn is_active<K: Key, V: FixedValue>(
-    operation: &Operation<K, V>,
-    later: &[Operation<K, V>],
+pub fn is_active<F: Family, K: FixedKey, V: FixedValue>(
+    operation: &OrderedOperation<F, K, V>,
+    later: &[OrderedOperation<F, K, V>],
 ) -> bool
     ensures { result ≡ spec.is_active (meaning_of K.encoding V.encoding operation.now)
         (spec.meanings K.encoding V.encoding later.now) }
@@ -54,10 +63,10 @@ pub fn is_active<K: Key, V: FixedValue>(
 }
 
 /// Whether the operation is the active update of the key, given the operations after it.
-pub fn is_active_on<K: Key, V: FixedValue>(
+pub fn is_active_on<F: Family, K: FixedKey, V: FixedValue>(
     key: &K,
-    operation: &Operation<K, V>,
-    later: &[Operation<K, V>],
+    operation: &OrderedOperation<F, K, V>,
+    later: &[OrderedOperation<F, K, V>],
 ) -> bool
     ensures { result ≡ spec.is_active_on (K.encoding key.now) (meaning_of K.encoding V.encoding operation.now)
         (spec.meanings K.encoding V.encoding later.now) }
@@ -66,9 +75,9 @@ pub fn is_active_on<K: Key, V: FixedValue>(
 }
 
 /// Whether the operation is an update that still counts, given the operations after it.
-fn is_active_update<K: Key, V: FixedValue>(
-    operation: &Operation<K, V>,
-    later: &[Operation<K, V>],
+fn is_active_update<F: Family, K: FixedKey, V: FixedValue>(
+    operation: &OrderedOperation<F, K, V>,
+    later: &[OrderedOperation<F, K, V>],
 ) -> bool
     ensures { result ≡ spec.is_active_update (meaning_of K.encoding V.encoding operation.now)
         (spec.meanings K.encoding V.encoding later.now) }
@@ -80,9 +89,9 @@ fn is_active_update<K: Key, V: FixedValue>(
 }
 
 /// For each operation of the log whether it still counts. It fails only when out of memory.
-pub fn activity_bits<K: Key, V: FixedValue>(
+pub fn activity_bits<F: Family, K: FixedKey, V: FixedValue>(
     alloc: Global,
-    operations: &[Operation<K, V>],
+    operations: &[OrderedOperation<F, K, V>],
 ) -> Result<Vec<bool>, AllocError>
     ensures { IfOk result (λ bits. bits.items
         ≡ spec.activity_bits (spec.meanings K.encoding V.encoding operations.now)) }
@@ -98,7 +107,9 @@ pub fn activity_bits<K: Key, V: FixedValue>(
 
 /// The floor that a commit at the end of these operations records: the location of their first update that still counts, or
 /// their number where none does.
-pub fn inactivity_floor<K: Key, V: FixedValue>(operations: &[Operation<K, V>]) -> u64
+pub fn inactivity_floor<F: Family, K: FixedKey, V: FixedValue>(
+    operations: &[OrderedOperation<F, K, V>],
+) -> u64
     ensures { result ≡ spec.inactivity_floor (spec.meanings K.encoding V.encoding operations.now) }
 {
     let mut rest = operations;
@@ -112,7 +123,10 @@ pub fn inactivity_floor<K: Key, V: FixedValue>(operations: &[Operation<K, V>]) -
 }
 
 /// The location of the active update of the key, or the number of operations where there is none.
-pub fn active_location<K: Key, V: FixedValue>(key: &K, operations: &[Operation<K, V>]) -> usize
+pub fn active_location<F: Family, K: FixedKey, V: FixedValue>(
+    key: &K,
+    operations: &[OrderedOperation<F, K, V>],
+) -> usize
     ensures location { result ≡ spec.active_location (K.encoding key.now)
         (spec.meanings K.encoding V.encoding operations.now) }
     ensures within { result ≤ length operations.now }

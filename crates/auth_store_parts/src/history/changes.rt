@@ -10,8 +10,10 @@ ghost use Rattle.auth_store_parts.specs.History as spec;
 use super::replay::latest_map_of;
 use crate::batch::{Batch, apply_batch};
 use crate::state;
+use merkle_forest::Family;
 use merkle_forest::codec::Encode;
-use state_ops::{FixedValue, Key, Operation, Ordered};
+use state_ops::update::Ordered;
+use state_ops::{FixedKey, FixedValue, Operation, OrderedOperation};
 use std::alloc::{AllocError, Global};
 use std::collections::BTreeMap;
 
@@ -25,7 +27,7 @@ fn is_same_value<V: FixedValue>(alloc: Global, value: &V, other: &V) -> Result<b
 }
 
 /// The least key above the key, or the least of all where none is above.
-fn next_of<'a, K: Key, V: FixedValue>(state: &'a BTreeMap<K, V>, key: &K) -> &'a K
+fn next_of<'a, K: FixedKey, V: FixedValue>(state: &'a BTreeMap<K, V>, key: &K) -> &'a K
     requires { 0 < length state.now.entries }
     ensures { K.encoding result.now ≡ next_key (state_of K.encoding V.encoding state.now.entries) (K.encoding key.now) }
 {
@@ -33,7 +35,11 @@ fn next_of<'a, K: Key, V: FixedValue>(state: &'a BTreeMap<K, V>, key: &K) -> &'a
 }
 
 /// Whether the key has the same next key in both states.
-fn is_same_next<K: Key, V: FixedValue>(old: &BTreeMap<K, V>, new: &BTreeMap<K, V>, key: &K) -> bool
+fn is_same_next<K: FixedKey, V: FixedValue>(
+    old: &BTreeMap<K, V>,
+    new: &BTreeMap<K, V>,
+    key: &K,
+) -> bool
     requires in_old { 0 < length old.now.entries }
     requires in_new { 0 < length new.now.entries }
     ensures { result ≡ bytes_eq
@@ -45,7 +51,7 @@ fn is_same_next<K: Key, V: FixedValue>(old: &BTreeMap<K, V>, new: &BTreeMap<K, V
 
 /// Whether the old state has the key of the new one with the same value and the same next key. It fails only when out of
 /// memory.
-fn is_kept<K: Key, V: FixedValue>(
+fn is_kept<K: FixedKey, V: FixedValue>(
     alloc: Global,
     old: &BTreeMap<K, V>,
     new: &BTreeMap<K, V>,
@@ -63,10 +69,10 @@ fn is_kept<K: Key, V: FixedValue>(
 }
 
 /// Appends a delete where the new state lacks the key. It fails only when out of memory.
-fn push_delete<K: Key, V: FixedValue>(
+fn push_delete<F: Family, K: FixedKey, V: FixedValue>(
     new: &BTreeMap<K, V>,
     key: &K,
-    out: &mut Vec<Operation<K, V>>,
+    out: &mut Vec<OrderedOperation<F, K, V>>,
 ) -> Result<(), AllocError>
     ensures { OnOk result (spec.meanings K.encoding V.encoding out.new.items ≡ spec.meanings K.encoding V.encoding
         out.old.items
@@ -79,13 +85,13 @@ fn push_delete<K: Key, V: FixedValue>(
 }
 
 /// Appends an update where the key isn't kept. It fails only when out of memory.
-fn push_update<K: Key, V: FixedValue>(
+fn push_update<F: Family, K: FixedKey, V: FixedValue>(
     alloc: Global,
     old: &BTreeMap<K, V>,
     new: &BTreeMap<K, V>,
     key: &K,
     value: &V,
-    out: &mut Vec<Operation<K, V>>,
+    out: &mut Vec<OrderedOperation<F, K, V>>,
 ) -> Result<(), AllocError>
     requires { 0 < length new.now.entries }
     ensures { OnOk result (spec.meanings K.encoding V.encoding out.new.items ≡ spec.meanings K.encoding V.encoding
@@ -106,10 +112,10 @@ fn push_update<K: Key, V: FixedValue>(
 }
 
 /// Appends a delete for each key of the old state that the new one lacks. It fails only when out of memory.
-fn push_deletes<K: Key, V: FixedValue>(
+fn push_deletes<F: Family, K: FixedKey, V: FixedValue>(
     old: &BTreeMap<K, V>,
     new: &BTreeMap<K, V>,
-    out: &mut Vec<Operation<K, V>>,
+    out: &mut Vec<OrderedOperation<F, K, V>>,
 ) -> Result<(), AllocError>
     ensures { OnOk result (spec.meanings K.encoding V.encoding out.new.items ≡ spec.meanings K.encoding V.encoding
         out.old.items
@@ -123,11 +129,11 @@ fn push_deletes<K: Key, V: FixedValue>(
 }
 
 /// Appends an update for each key of the new state that isn't kept. It fails only when out of memory.
-fn push_updates<K: Key, V: FixedValue>(
+fn push_updates<F: Family, K: FixedKey, V: FixedValue>(
     alloc: Global,
     old: &BTreeMap<K, V>,
     new: &BTreeMap<K, V>,
-    out: &mut Vec<Operation<K, V>>,
+    out: &mut Vec<OrderedOperation<F, K, V>>,
 ) -> Result<(), AllocError>
     ensures { let next = state_of K.encoding V.encoding new.now.entries in
         OnOk result (spec.meanings K.encoding V.encoding out.new.items ≡ spec.meanings K.encoding V.encoding
@@ -141,11 +147,11 @@ fn push_updates<K: Key, V: FixedValue>(
 }
 
 /// The operations that lead from the old state to the new one, without the commit. It fails only when out of memory.
-pub fn batch_operations<K: Key, V: FixedValue>(
+pub fn batch_operations<F: Family, K: FixedKey, V: FixedValue>(
     alloc: Global,
     old: &BTreeMap<K, V>,
     new: &BTreeMap<K, V>,
-) -> Result<Vec<Operation<K, V>>, AllocError>
+) -> Result<Vec<OrderedOperation<F, K, V>>, AllocError>
     ensures { IfOk result (λ operations. spec.meanings K.encoding V.encoding operations.items
         ≡ spec.batch_operations (state_of K.encoding V.encoding old.now.entries)
         (state_of K.encoding V.encoding new.now.entries)) }
@@ -157,11 +163,11 @@ pub fn batch_operations<K: Key, V: FixedValue>(
 }
 
 /// The operations that a batch adds to a log, without the commit. It fails only when out of memory.
-pub fn changes_of<K: Key, V: FixedValue>(
+pub fn changes_of<F: Family, K: FixedKey, V: FixedValue>(
     alloc: Global,
-    log: &[Operation<K, V>],
+    log: &[OrderedOperation<F, K, V>],
     batch: &Batch<K, V>,
-) -> Result<Vec<Operation<K, V>>, AllocError>
+) -> Result<Vec<OrderedOperation<F, K, V>>, AllocError>
     ensures { let state = spec.replayed [] (spec.meanings K.encoding V.encoding log.now) in
         let said = words.meanings K.encoding V.encoding batch.now.words.items in
         IfOk result (λ added. spec.meanings K.encoding V.encoding added.items ≡ spec.batch_operations state

@@ -6,14 +6,15 @@ ghost use Rattle.auth_store_parts.specs.Map.{state_of};
 ghost use Rattle.auth_store_parts.specs.History as spec;
 
 use crate::state;
-use state_ops::{FixedValue, Key, Operation};
+use merkle_forest::Family;
+use state_ops::{FixedKey, FixedValue, Operation, OrderedOperation};
 use std::alloc::{AllocError, Global};
 use std::collections::BTreeMap;
 
 /// Applies one operation to the state. It fails only when out of memory, and the state then stays as it was.
-pub fn apply_operation<K: Key, V: FixedValue>(
+pub fn apply_operation<F: Family, K: FixedKey, V: FixedValue>(
     state: &mut BTreeMap<K, V>,
-    operation: &Operation<K, V>,
+    operation: &OrderedOperation<F, K, V>,
 ) -> Result<(), AllocError>
     ensures ok { OnOk result (state_of K.encoding V.encoding state.new.entries
         ≡ spec.after_operation (meaning_of K.encoding V.encoding operation.now)
@@ -31,9 +32,9 @@ pub fn apply_operation<K: Key, V: FixedValue>(
 }
 
 /// The state after all operations of a log. It fails only when out of memory.
-pub fn latest_map_of<K: Key, V: FixedValue>(
+pub fn latest_map_of<F: Family, K: FixedKey, V: FixedValue>(
     alloc: Global,
-    operations: &[Operation<K, V>],
+    operations: &[OrderedOperation<F, K, V>],
 ) -> Result<BTreeMap<K, V>, AllocError>
     ensures { IfOk result (λ state. state_of K.encoding V.encoding state.entries
         ≡ spec.replayed [] (spec.meanings K.encoding V.encoding operations.now)) }

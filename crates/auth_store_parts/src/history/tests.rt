@@ -1,13 +1,16 @@
 use super::*;
 use crate::batch::Batch;
+use merkle_forest::Location;
 use merkle_forest::codec::FixedBytes;
-use state_ops::{Operation, Ordered};
+use merkle_forest::mmr::Family;
+use state_ops::update::Ordered;
+use state_ops::{Operation, OrderedOperation};
 use std::alloc::{AllocError, Global};
 use std::test::Fail;
 
 type Key = FixedBytes<8>;
 
-type Change = Operation<Key, u64>;
+type Change = OrderedOperation<Family, Key, u64>;
 
 fn key(last: u8) -> Key {
     FixedBytes::new([0, 0, 0, 0, 0, 0, 0, last])
@@ -26,7 +29,7 @@ fn delete(last: u8) -> Change {
 }
 
 fn commit(floor: u64) -> Change {
-    Operation::CommitFloor(None, floor)
+    Operation::CommitFloor(None, Location::new(floor))
 }
 
 /// Appends the batch with its commit.

@@ -68,14 +68,16 @@ option_again value None rest h = refl
 option_again value (Some bytes) rest h = ap (told Some) (item_again value bytes rest h)
 
 -- a commit is read again where its metadata and its floor are
-commit_again : {U : Type 0} (metadata_at : List ℕ → Found (Option (List ℕ))) (number_at : List ℕ → Found ℕ) (front back rest : List ℕ) (metadata : Option (List ℕ)) (floor : ℕ)
+commit_again : {U : Type 0} (metadata_at : List ℕ → Found (Option (List ℕ))) (number_at : List ℕ → Found ℕ) (front back rest : List ℕ)
+    (metadata : Option (List ℕ)) (floor : ℕ)
     → metadata_at (front ++ (back ++ rest)) ≡ Ok (metadata, back ++ rest) → number_at (back ++ rest) ≡ Ok (floor, rest)
     → commit_at {U = U} metadata_at number_at ((front ++ back) ++ rest) ≡ Ok (commit_floor metadata floor, rest)
 commit_again {U} metadata_at number_at front back rest metadata floor first second =
     ap (λ x. metadata_at x >>= λ y. told (commit_floor y.0) (number_at y.1)) (append_assoc front back rest)
     ∙ (ap (λ x. x >>= λ y. told (commit_floor y.0) (number_at y.1)) first ∙ ap (told (commit_floor metadata)) second)
 
-unpadded_again : {U : Type 0} (key value : List ℕ → Outcome) (updated : List ℕ → Found U) (spelled : U → List ℕ) (size : ℕ) (operation : Operation U) (rest : List ℕ)
+unpadded_again : {U : Type 0} (key value : List ℕ → Outcome) (updated : List ℕ → Found U) (spelled : U → List ℕ) (size : ℕ) (operation : Operation U)
+    (rest : List ℕ)
     → HasFields key value updated spelled operation
     → unpadded_at key value updated size (unpadded spelled size operation ++ rest) ≡ Ok (operation, rest)
 unpadded_again key value updated spelled size (delete k) rest h = ap (told delete) (item_again key k rest h)
@@ -110,11 +112,15 @@ pub fixed_sized : {U : Type 0} (spelled : U → List ℕ) (key value updated : �
 fixed_sized spelled key value updated operation h =
     let bytes : List ℕ = unpadded spelled value operation in
     let size : ℕ = fixed_size key value updated in
-    omega (arith, unpadded_fits spelled key value updated operation h, length-append bytes (replicate (size - length bytes) 0), length-replicate {A = ℕ} (size - length bytes) 0)
+    let padding : ℕ = size - length bytes in
+    let fits : length bytes ≤ size = unpadded_fits spelled key value updated operation h in
+    omega (arith, fits, length-append bytes (replicate padding 0), length-replicate {A = ℕ} padding 0)
 
-pub fixed_again : {U : Type 0} (key value : List ℕ → Outcome) (updated : List ℕ → Found U) (spelled : U → List ℕ) (key_size value_size updated_size : ℕ) (operation : Operation U) (rest : List ℕ)
+pub fixed_again : {U : Type 0} (key value : List ℕ → Outcome) (updated : List ℕ → Found U) (spelled : U → List ℕ) (key_size value_size updated_size : ℕ)
+    (operation : Operation U) (rest : List ℕ)
     → HasFields key value updated spelled operation → HasSizes spelled key_size value_size updated_size operation
-    → fixed_at key value updated key_size value_size updated_size (fixed_encoding spelled key_size value_size updated_size operation ++ rest) ≡ Ok (operation, rest)
+    → fixed_at key value updated key_size value_size updated_size
+    (fixed_encoding spelled key_size value_size updated_size operation ++ rest) ≡ Ok (operation, rest)
 fixed_again {U} key value updated spelled ks vs us operation rest fields sizes =
     let size : ℕ = fixed_size ks vs us in
     let bytes : List ℕ = unpadded spelled vs operation in
@@ -132,7 +138,8 @@ once {T} found one other rest more first second =
     let pairs : ◌≡◌ {A = T × List ℕ} (one, rest) (other, more) = cc in
     (ap (λ (x : T × List ℕ). x.0) pairs, ap (λ (x : T × List ℕ). x.1) pairs)
 
-pub fixed_once : {U : Type 0} (key value : List ℕ → Outcome) (updated : List ℕ → Found U) (spelled : U → List ℕ) (ks vs us : ℕ) (one other : Operation U) (rest more : List ℕ)
+pub fixed_once : {U : Type 0} (key value : List ℕ → Outcome) (updated : List ℕ → Found U) (spelled : U → List ℕ) (ks vs us : ℕ) (one other : Operation U)
+    (rest more : List ℕ)
     → HasFields key value updated spelled one → HasSizes spelled ks vs us one
     → HasFields key value updated spelled other → HasSizes spelled ks vs us other
     → fixed_encoding spelled ks vs us one ++ rest ≡ fixed_encoding spelled ks vs us other ++ more → (one ≡ other) × (rest ≡ more)
@@ -141,7 +148,8 @@ fixed_once key value updated spelled ks vs us one other rest more fields sizes f
     (fixed_again key value updated spelled ks vs us one rest fields sizes)
     (ap (fixed_at key value updated ks vs us) same ∙ fixed_again key value updated spelled ks vs us other more fields_other sizes_other)
 
-pub variable_once : {U : Type 0} (key value : List ℕ → Outcome) (updated : List ℕ → Found U) (spelled : U → List ℕ) (one other : Operation U) (rest more : List ℕ)
+pub variable_once : {U : Type 0} (key value : List ℕ → Outcome) (updated : List ℕ → Found U) (spelled : U → List ℕ) (one other : Operation U)
+    (rest more : List ℕ)
     → HasFields key value updated spelled one → HasFields key value updated spelled other
     → variable_encoding spelled one ++ rest ≡ variable_encoding spelled other ++ more → (one ≡ other) × (rest ≡ more)
 variable_once key value updated spelled one other rest more fields fields_other same =

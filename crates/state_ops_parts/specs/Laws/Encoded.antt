@@ -15,7 +15,8 @@ if_some_map P Q f all (Some x) is = all x is
 
 module _ {F S A B C D E G : Type 0} (key_of : A → List ℕ) (value_of : B → List ℕ) (update_of : S → List ℕ) (key value updated : List ℕ → Outcome)
     (Key : A → Type 0) (Value : B → Type 0) (Updated : S → Type 0)
-    (key_ends : (k : A) → Key k → Ends key (key_of k)) (value_ends : (v : B) → Value v → Ends value (value_of v)) (update_ends : (u : S) → Updated u → Ends updated (update_of u)) where
+    (key_ends : (k : A) → Key k → Ends key (key_of k)) (value_ends : (v : B) → Value v → Ends value (value_of v))
+    (update_ends : (u : S) → Updated u → Ends updated (update_of u)) where
   abbrev said : code.Operation F S A B C D E G → Operation (List ℕ)
   said o = meaning_of key_of value_of update_of o
 
@@ -40,7 +41,8 @@ module _ {F S A B C D E G : Type 0} (key_of : A → List ℕ) (value_of : B → 
     fixed_found_again o rest is = fixed_again key value (item_at updated) (λ bytes. bytes) ks vs us (said o) rest (has_fields o is) (has_sizes o is)
 
 -- what is a value and within the limits of a reader is both
-pub both : {F S A B C D E G : Type 0} (KeyValue KeyWithin : A → Type 0) (Value Within : B → Type 0) (UpdateValue UpdateWithin : S → Type 0) (o : code.Operation F S A B C D E G)
+pub both : {F S A B C D E G : Type 0} (KeyValue KeyWithin : A → Type 0) (Value Within : B → Type 0) (UpdateValue UpdateWithin : S → Type 0)
+    (o : code.Operation F S A B C D E G)
     → IsValue KeyValue Value UpdateValue o → IsOperation KeyWithin Within UpdateWithin o
     → IsOperation (λ k. KeyValue k × KeyWithin k) (λ v. Value v × Within v) (λ u. UpdateValue u × UpdateWithin u) o
 both kv kw v w uv uw (Delete k) is within = (is, within)

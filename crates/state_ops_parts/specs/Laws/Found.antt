@@ -8,7 +8,8 @@ use Rattle.state_ops_parts.specs.Grammar.{Found, item_at, after_zeros, with_zero
 pub item_is : (after : List ℕ → Outcome) (old spelled new : List ℕ) → after old ≡ Ok new → old ≡ spelled ++ new → item_at after old ≡ Ok (spelled, new)
 item_is after old spelled new ends is =
     let long : length old - length new ≡ length spelled = omega (arith, ap length is, length-append spelled new) in
-    let front : take (length old - length new) old ≡ spelled = ap (λ n. take n old) long ∙ (ap (take (length spelled)) is ∙ take_at spelled new (length spelled) refl) in
+    let front : take (length old - length new) old ≡ spelled = ap (λ n. take n old) long ∙
+    (ap (take (length spelled)) is ∙ take_at spelled new (length spelled) refl) in
     ap (λ x. x >>= λ rest. Ok (take (length old - length rest) old, rest)) ends ∙ ap (λ x. Ok (x, new)) front
 
 -- zeros after an item end the bytes

@@ -1,6 +1,7 @@
 //! Operations read from their fixed encoding.
 
-ghost use Rattle.std.specs.Prelude.{◌≡◌, [], replicate, length, option_map, nat_eq, IfOk, IfSome, Ok, Err, MatchResult, ◌≤◌, ◌^◌};
+ghost use Rattle.std.specs.Prelude.{◌≡◌, [], replicate, length, option_map, nat_eq, IfOk, IfSome, Ok, Err, MatchResult};
+ghost use Rattle.std.specs.Prelude.{◌≤◌, ◌^◌};
 ghost use Rattle.std.specs.Int.{w64, to_be_bytes};
 ghost use Rattle.std.specs.List.{list_all};
 ghost use Rattle.merkle_forest.specs.Codec.{Reads, OptionLacks};
@@ -46,8 +47,9 @@ fn read_absent<V: FixedValue>(cursor: &mut Cursor<'_>) -> Result<(), Error>
 
 /// Reads the metadata of a commit.
 fn read_metadata<V: FixedValue>(alloc: Global, cursor: &mut Cursor<'_>) -> Result<Option<V>, Error>
-    ensures read { grammar.ReadsAs (option_map V.encoding) (λ m. spec.fixed_metadata V.SIZE (option_map V.encoding m)) cursor.old cursor.new
-        (grammar.fixed_metadata_at (V.after tt) V.SIZE cursor.old) (OptionLacks (V.may_lack tt) cursor.old) result }
+    ensures read { grammar.ReadsAs (option_map V.encoding) (λ m. spec.fixed_metadata V.SIZE (option_map V.encoding m))
+        cursor.old cursor.new (grammar.fixed_metadata_at (V.after tt) V.SIZE cursor.old)
+        (OptionLacks (V.may_lack tt) cursor.old) result }
     ensures value { IfOk result (λ m. IfSome m V.is_value) }
 {
     match cursor.take(1)? {
@@ -62,7 +64,8 @@ fn read_metadata<V: FixedValue>(alloc: Global, cursor: &mut Cursor<'_>) -> Resul
 
 /// Reads the floor of a commit. Past the greatest number of operations: C7.
 fn read_floor<F: Family>(alloc: Global, cursor: &mut Cursor<'_>) -> Result<Location<F>, Error>
-    ensures read { grammar.ReadsAs (λ n. n) (λ n. to_be_bytes w64 n) cursor.old cursor.new (grammar.fixed_floor_at cursor.old) ⊥ result }
+    ensures read { grammar.ReadsAs (λ n. n) (λ n. to_be_bytes w64 n) cursor.old cursor.new
+        (grammar.fixed_floor_at cursor.old) ⊥ result }
     ensures value { IfOk result (λ floor. floor ≤ 2 ^ 62) }
 {
     let floor = u64::read_cfg(alloc, cursor, &())?;
@@ -83,7 +86,8 @@ where
     V: FixedValue,
     S: FixedUpdate<Key = K, Value = V>,
     ensures read { grammar.ReadsAs (spec.meaning_of K.encoding V.encoding S.encoding)
-        (λ o. spec.unpadded (λ bytes. bytes) V.SIZE (spec.meaning_of K.encoding V.encoding S.encoding o)) cursor.old cursor.new
+        (λ o. spec.unpadded (λ bytes. bytes) V.SIZE (spec.meaning_of K.encoding V.encoding S.encoding o))
+        cursor.old cursor.new
         (grammar.unpadded_at (K.after tt) (V.after tt) (grammar.item_at (S.after tt)) V.SIZE cursor.old)
         (grammar.OperationLacks (K.may_lack tt) (V.may_lack tt) (S.may_lack tt) cursor.old) result }
     ensures value { IfOk result (spec.IsValue K.is_value V.is_value S.is_value) }
@@ -109,7 +113,8 @@ where
     S: FixedUpdate<Key = K, Value = V>,
     requires { length bytes.now ≡ spec.fixed_size K.SIZE V.SIZE S.UPDATE_SIZE }
     ensures read { grammar.ReadsAs (spec.meaning_of K.encoding V.encoding S.encoding)
-        (λ o. spec.fixed_encoding (λ bytes. bytes) K.SIZE V.SIZE S.UPDATE_SIZE (spec.meaning_of K.encoding V.encoding S.encoding o)) bytes.now []
+        (λ o. spec.fixed_encoding (λ bytes. bytes) K.SIZE V.SIZE S.UPDATE_SIZE
+        (spec.meaning_of K.encoding V.encoding S.encoding o)) bytes.now []
         (grammar.padded_at (K.after tt) (V.after tt) (grammar.item_at (S.after tt)) V.SIZE bytes.now)
         (grammar.OperationLacks (K.may_lack tt) (V.may_lack tt) (S.may_lack tt) bytes.now) result }
     ensures value { IfOk result (spec.IsValue K.is_value V.is_value S.is_value) }
@@ -123,8 +128,8 @@ where
 
 /// The operation at the front, or the first fault from the left: fewer bytes than its size are C1, another tag C5, a
 /// flag that is neither 0 nor 1 C4; a byte of padding or of absent metadata that isn't zero and a floor past the
-/// greatest number of operations are C7; out of memory is C8, only where a key, a value or an update that stands there may take
-/// memory. After a refusal the cursor's position is open.
+/// greatest number of operations are C7; out of memory is C8, only where a key, a value or an update that stands there
+/// may take memory. After a refusal the cursor's position is open.
 /// In the Rust: `qmdb::any::operation::OperationCodec::read_operation` of `FixedEncoding`.
 pub fn read_operation<F, K, V, S>(
     alloc: Global,
@@ -136,9 +141,12 @@ where
     V: FixedValue,
     S: FixedUpdate<Key = K, Value = V>,
     ensures read { grammar.ReadsAs (spec.meaning_of K.encoding V.encoding S.encoding)
-        (λ o. spec.fixed_encoding (λ bytes. bytes) K.SIZE V.SIZE S.UPDATE_SIZE (spec.meaning_of K.encoding V.encoding S.encoding o)) cursor.old cursor.new
-        (grammar.fixed_at (K.after tt) (V.after tt) (grammar.item_at (S.after tt)) K.SIZE V.SIZE S.UPDATE_SIZE cursor.old)
-        (grammar.FixedLacks (K.may_lack tt) (V.may_lack tt) (S.may_lack tt) (spec.fixed_size K.SIZE V.SIZE S.UPDATE_SIZE) cursor.old) result }
+        (λ o. spec.fixed_encoding (λ bytes. bytes) K.SIZE V.SIZE S.UPDATE_SIZE
+        (spec.meaning_of K.encoding V.encoding S.encoding o)) cursor.old cursor.new
+        (grammar.fixed_at (K.after tt) (V.after tt) (grammar.item_at (S.after tt)) K.SIZE V.SIZE S.UPDATE_SIZE
+        cursor.old)
+        (grammar.FixedLacks (K.may_lack tt) (V.may_lack tt) (S.may_lack tt)
+        (spec.fixed_size K.SIZE V.SIZE S.UPDATE_SIZE) cursor.old) result }
     ensures value { IfOk result (spec.IsValue K.is_value V.is_value S.is_value) }
 {
     let size = fixed_size::<K, V, S>();

@@ -35,10 +35,10 @@ fn read_floor<F: Family>(alloc: Global, cursor: &mut Cursor<'_>) -> Result<Locat
     Location::read_cfg(alloc, cursor, &())
 }
 
-/// The operation at the front, or the first fault from the left: no byte is C1, another tag C5, a flag that is neither 0
-/// nor 1 C4, a floor in a long spelling C3 and one past the greatest number of operations C7; what a key, a value or an update is
-/// refused for; out of memory is C8, only where one of these that stands there may take memory. After a refusal the
-/// cursor's position is open.
+/// The operation at the front, or the first fault from the left: no byte is C1, another tag C5, a flag that is neither
+/// 0 nor 1 C4, a floor in a long spelling C3 and one past the greatest number of operations C7; what a key, a value or
+/// an update is refused for; out of memory is C8, only where one of these that stands there may take memory. After a
+/// refusal the cursor's position is open.
 /// In the Rust: `qmdb::any::operation::OperationCodec::read_operation` of `VariableEncoding`.
 pub fn read_operation<F, K, V, S>(
     alloc: Global,
@@ -51,7 +51,8 @@ where
     V: VariableValue,
     S: Update<Key = K, Value = V> + Read<Cfg = (K::Cfg, V::Cfg)>,
     ensures read { grammar.ReadsAs (spec.meaning_of K.encoding V.encoding S.encoding)
-        (λ o. spec.variable_encoding (λ bytes. bytes) (spec.meaning_of K.encoding V.encoding S.encoding o)) cursor.old cursor.new
+        (λ o. spec.variable_encoding (λ bytes. bytes) (spec.meaning_of K.encoding V.encoding S.encoding o))
+        cursor.old cursor.new
         (grammar.variable_at (K.after cfg.now.0) (V.after cfg.now.1) (grammar.item_at (S.after cfg.now)) cursor.old)
         (grammar.OperationLacks (K.may_lack cfg.now.0) (V.may_lack cfg.now.1) (S.may_lack cfg.now) cursor.old) result }
     ensures value { IfOk result (spec.IsValue K.is_value V.is_value S.is_value) }

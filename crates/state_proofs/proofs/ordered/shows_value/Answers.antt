@@ -1,7 +1,7 @@
 use Rattle.std.proofs.Common.{◌≡◌, ◌++◌, List, ℕ, [], Ok, refl, ap, sym, ◌∙◌, append-nil, arith}
 use Rattle.merkle_forest.specs.Codec.{Outcome, ◌>>=◌}
 use Rattle.merkle_forest.specs.Laws.Lists.{bind_ok}
-use Rattle.state_ops.specs.Operation.{update, fixed_encoding}
+use Rattle.state_ops.specs.Operation.{ordered, update, fixed_encoding}
 use Rattle.state_proofs.specs.Encoded.{Format, format_of, ShowsUpdate, operation_proof_encoding, after_operation_proof, after_key_value_proof}
 use Rattle.state_proofs.specs.Laws.Encoded.{Grammar, grammar_of}
 use Rattle.state_proofs.specs.Laws.Reading.{read_operation_fits}
@@ -17,7 +17,7 @@ returns-in-Err g c =
     (λ next_key. g.K.Read.after tt next_key ≡ Ok []) in
     let update_of : List ℕ → List ℕ = λ next_key.
     fixed_encoding g.K.FixedSize.SIZE g.V.FixedSize.SIZE
-    (update (g.K.Write.encoding c.args.key.now) (g.V.Write.encoding c.args.value.now) next_key) in
+    (update (ordered (g.K.Write.encoding c.args.key.now) (g.V.Write.encoding c.args.value.now) next_key)) in
     let grammar : Grammar (g.H.Digest.Read.after tt) g.F.PendingOf.pending_after g.F.PendingOf.is_pending
     g.F.PendingOf.pending_encoding g.H.Digest.FixedSize.SIZE = grammar_of
     g.met.H.Digest.Digest.any_bytes g.met.F.PendingOf.pending_again g.met.F.PendingOf.pending_once in
@@ -37,7 +37,7 @@ returns-then-not-is_empty g c =
     (λ next_key. g.K.Read.after tt next_key ≡ Ok []) in
     let update_of : List ℕ → List ℕ = λ next_key.
     fixed_encoding g.K.FixedSize.SIZE g.V.FixedSize.SIZE
-    (update (g.K.Write.encoding c.args.key.now) (g.V.Write.encoding c.args.value.now) next_key) in
+    (update (ordered (g.K.Write.encoding c.args.key.now) (g.V.Write.encoding c.args.value.now) next_key)) in
     let grammar : Grammar (g.H.Digest.Read.after tt) g.F.PendingOf.pending_after g.F.PendingOf.is_pending
     g.F.PendingOf.pending_encoding g.H.Digest.FixedSize.SIZE = grammar_of
     g.met.H.Digest.Digest.any_bytes g.met.F.PendingOf.pending_again g.met.F.PendingOf.pending_once in (
@@ -57,7 +57,7 @@ returns-else-not-is_empty g c =
     (λ next_key. g.K.Read.after tt next_key ≡ Ok []) in
     let update_of : List ℕ → List ℕ = λ next_key.
     fixed_encoding g.K.FixedSize.SIZE g.V.FixedSize.SIZE
-    (update (g.K.Write.encoding c.args.key.now) (g.V.Write.encoding c.args.value.now) next_key) in
+    (update (ordered (g.K.Write.encoding c.args.key.now) (g.V.Write.encoding c.args.value.now) next_key)) in
     let digest : List ℕ → Outcome = g.H.Digest.Read.after tt in
     let held : List ℕ → Outcome = g.F.PendingOf.pending_after in
     let key : List ℕ → Outcome = g.K.Read.after tt in
@@ -82,7 +82,7 @@ returns-else-not-is_empty g c =
     c.args.width 122 c.in-Ok.proof.proof next front.0 c.in-Ok.ensures.value.0 c.in-Ok.ensures.chunk front.1 in
     let is_key : key next ≡ Ok [] = ap key (sym (append-nil next))
     ∙ g.met.K.Read.read_again tt c.in-Ok.proof.next_key [] c.in-Ok.ensures.value.1
-    (g.met.K.Key.within c.in-Ok.proof.next_key) in
+    (g.met.K.FixedKey.within c.in-Ok.proof.next_key) in
     answered_alike (Verifies g.F.Family.merge_rule g.H.HashFunction.hash_of root proof (update_of next))
     (ShowsUpdate format root update_of c.args.bytes.now)
     c.verify.result c.verify.ensures

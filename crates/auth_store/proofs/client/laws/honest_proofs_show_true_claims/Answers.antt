@@ -1,7 +1,7 @@
 use Rattle.std.proofs.Common.{◌≡◌, ◌≤◌, ◌<◌, ◌^◌, ℕ, List, length, arith}
 use Rattle.std.proofs.lemmas.List.{length-map}
 use Rattle.std.proofs.lemmas.Option.{slice_get_within}
-use Rattle.state_ops.specs.Operation.{Operation, update, fixed_encoding}
+use Rattle.state_ops.specs.Operation.{Operation, update, ordered, fixed_encoding}
 use Rattle.auth_store.specs.Claims.{has_value}
 use Rattle.auth_store.specs.History.{active_location, latest_map, log_of}
 use Rattle.auth_store.specs.Map.{next_key}
@@ -23,6 +23,6 @@ returns g c history (has_value key value) is_width states few holds is_key =
     length-map log encoding in
     c.honest_bytes_show_the_update.ensures g.row.N (grafting_height g.row.N)
     (state_of_history g.K.FixedSize.SIZE g.V.FixedSize.SIZE history) location
-    (λ n. encoding (update key value n)) next whole.0 whole.1 (omega (arith, count, few))
-    (omega (arith, count, slice_get_within log location (update key value next) stands.update_at))
-    stands.bit_at (encoding_at encoding log location (update key value next) stands.update_at) is_key
+    (λ n. encoding (update (ordered key value n))) next whole.0 whole.1 (omega (arith, count, few))
+    (omega (arith, count, slice_get_within log location (update (ordered key value next)) stands.update_at))
+    stands.bit_at (encoding_at encoding log location (update (ordered key value next)) stands.update_at) is_key

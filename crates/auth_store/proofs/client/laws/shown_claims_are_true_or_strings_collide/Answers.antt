@@ -1,6 +1,6 @@
 use Rattle.std.proofs.Common.{ℕ, List, inl, ⊎_elim, inr, ◌∙◌, subst, arith}
 use Rattle.std.proofs.lemmas.List.{length-map}
-use Rattle.state_ops.specs.Operation.{fixed_encoding, update}
+use Rattle.state_ops.specs.Operation.{fixed_encoding, update, ordered}
 use Rattle.state_proofs.specs.MadeStates.{HasDigestsOf}
 use Rattle.auth_store.specs.declared.client.Claim.TheVariants.{Value}
 use Rattle.auth_store.specs.History.{log_of}
@@ -14,7 +14,7 @@ returns g c history (Value key value) bytes size is_width states sizes few sized
     let key_size : ℕ = g.K.FixedSize.SIZE in
     let value_size : ℕ = g.V.FixedSize.SIZE in
     let operation : List ℕ = fixed_encoding key_size value_size
-    (update (g.K.Write.encoding key) (g.V.Write.encoding value) shown.next_key) in
+    (update (ordered (g.K.Write.encoding key) (g.V.Write.encoding value) shown.next_key)) in
     let whole = width_is_whole g.row.N is_width in
     let range = shown.fits.range in
     let digests : HasDigestsOf 32 shown.proof.range =

@@ -13,8 +13,8 @@ returns-in_err-push-clause-front g c =
 
 pub root_of_log-requires-clause-last : goal.root_of_log-requires-clause-last
 root_of_log-requires-clause-last g c = sym (ap last_floor c.in_ok-push.ensures.ok
-    ∙ floor_after-append 0 c.inactivity_floor-floor.result (option_map g.V.Write.encoding c.args.metadata)
-    c.append.new.self)
+    ∙ (floor_after-append 0 c.new.result (option_map g.V.Write.encoding c.args.metadata) c.append.new.self
+    ∙ c.new.ensures))
 
 pub returns-in_err-root-clause-front : goal.returns-in_err-root-clause-front
 returns-in_err-root-clause-front g c =
@@ -33,8 +33,8 @@ returns-in_err-append-2-clause-front g c =
 
 pub returns-clause-floor : goal.returns-clause-floor
 returns-clause-floor g c = sym (ap last_floor c.in_ok-push.ensures.ok
-    ∙ floor_after-append 0 c.inactivity_floor-floor.result (option_map g.V.Write.encoding c.args.metadata)
-    c.append.new.self)
+    ∙ (floor_after-append 0 c.new.result (option_map g.V.Write.encoding c.args.metadata) c.append.new.self
+    ∙ c.new.ensures))
 
 pub returns-clause-written : goal.returns-clause-written
 returns-clause-written g c =
@@ -42,7 +42,7 @@ returns-clause-written g c =
     let next = with_commit old (meanings g.K.Write.encoding g.V.Write.encoding c.args.changes.items)
     (option_map g.V.Write.encoding c.args.metadata) in
     let whole : c.push.new.self ≡ old ++ next = committed _ _ _ _ _ _ c.in_ok-append.ensures.ok
-    (c.inactivity_floor-floor.ensures ∙ ap inactivity_floor c.operations.ensures) c.in_ok-push.ensures.ok in
+    (c.new.ensures ∙ (c.inactivity_floor-floor.ensures ∙ ap inactivity_floor c.operations.ensures)) c.in_ok-push.ensures.ok in
     let start : drop c.len-start.result c.push.new.self ≡ next = ap (drop c.len-start.result) whole
     ∙ (ap (λ n. drop n (old ++ next)) c.len-start.ensures ∙ drop-append_seam old next) in
     c.in_ok-append-2.ensures.ok

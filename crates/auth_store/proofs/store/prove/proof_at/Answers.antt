@@ -15,7 +15,7 @@ returns-clause-next g c =
     let copied = g.met.K.Faithful.copied c.args.next_key.now c.in_ok-clone.field-0 c.in_ok-clone.ensures.cases in
     ap (g.K.Read.after tt) (sym copied ∙ sym (append-nil key))
     ∙ g.met.K.Read.read_again tt c.in_ok-clone.field-0 [] c.in_ok-write.ensures.value.1
-    (g.met.K.Key.within c.in_ok-clone.field-0)
+    (g.met.K.FixedKey.within c.in_ok-clone.field-0)
 
 pub returns-clause-bytes : goal.returns-clause-bytes
 returns-clause-bytes g c =

@@ -1,0 +1,5 @@
+use Rattle.state_ops.proofs.Again.{read_once}
+use Rattle.state_ops.proofs.ordered.laws.encodings_differ.Goals as goal
+
+pub returns : goal.returns
+returns c = read_once
