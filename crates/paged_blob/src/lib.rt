@@ -6,12 +6,14 @@ pub mod bench;
 pub mod blob;
 pub mod cache;
 pub mod error;
+pub mod flush;
 pub mod laws;
 pub mod record;
 
 pub use blob::{Blob, WriteMode};
 pub use cache::CacheRef;
 pub use error::{CallKind, Error};
+pub use flush::DurableSlot;
 pub use record::Recorded;
 
 #[cfg(test)]
