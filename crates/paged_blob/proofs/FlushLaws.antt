@@ -1,11 +1,11 @@
 -- A flush at the page where the tip begins: what holds of the file at each moment stays, also where the write fails, and the content is
 -- on the disk as far as it was flushed.
-use Rattle.std.proofs.Common.{◌≡◌, ℕ, zero, suc, ◌+◌, ◌-◌, ◌*◌, ◌<◌, ◌≤◌, ◌^◌, min, Bool, true, false, Option, Some, None}
+use Rattle.std.proofs.Common.{◌≡◌, ℕ, zero, suc, ◌+◌, ◌-◌, ◌*◌, ◌/◌, ◌%◌, ◌==◌, ltb, cond, ◌<◌, ◌≤◌, ◌^◌, min, Bool, true, false, Option, Some, None}
 use Rattle.std.proofs.Common.{List, [], ◌∷◌, length, get_or, take, drop, sym, ◌∙◌, ap, subst, ⊎_elim, refl, arith}
-use Rattle.std.proofs.lemmas.Bool.{cases_lt, and_parts, leb-true, ltb-true, eqb-true, or_cases}
+use Rattle.std.proofs.lemmas.Bool.{cases_lt, cases_Bool, and_parts, leb-true, ltb-true, eqb-true, eqb-false, lt-ltb, le-ltb, or_cases, cond-true, cond-false}
 use Rattle.std.proofs.lemmas.List.{length-take, length-drop, length-take-le, take-take, take_all, drop-drop, drop-take, get_or-take, get_or-drop}
-use Rattle.std.proofs.lemmas.Nat.{mul-le}
-use Rattle.std.proofs.Math.Nat.{le-div_iff_mul-le}
+use Rattle.std.proofs.lemmas.Nat.{mul-le, div-add-mod', mod_below, le-div}
+use Rattle.std.proofs.Math.Nat.{le-div_iff_mul-le, div-eq_of_lt}
 use Rattle.paged_format.specs.declared.footer.Slot.{Slot}
 use Rattle.paged_format.specs.declared.footer.Slot.TheVariants.{First, Second}
 use Rattle.paged_format.specs.Footers.{content_size, slot_bytes, slot_start, slot_len, slot_crc}
@@ -14,9 +14,9 @@ use Rattle.paged_format.specs.Laws.Pages.{vouched, vouching}
 use Rattle.paged_blob.specs.Calls.{Change, write, whole, with_bytes, File, after_change}
 use Rattle.paged_blob.specs.Images.{is_within, least_length}
 use Rattle.paged_blob.specs.Chance.{page_at, slot_in}
-use Rattle.paged_blob.specs.Writers.{from_page, ShowsContent, HoldsContent, EachBeginning, OnlyAt, IsDurablePage, share, IsKeptIn, ShowsLength, AreShown, IsDurableSlot, IsBegun}
-use Rattle.paged_blob.specs.Flushes.{footer_over, page_bytes, page_count, flushed_bytes, SumsFit}
-use Rattle.paged_blob.specs.Laws.Flushes.{StaysWithin, free_slot, stays_in, page_begins, page_ends, slots_say, new_says, kept_in, length-pages_bytes, page_of_pages, sum_of_page}
+use Rattle.paged_blob.specs.Writers.{from_page, ShowsContent, HoldsContent, EachBeginning, OnlyAt, IsDurablePage, share, IsKeptIn, ShowsLength, AreShown, IsDurableSlot, IsBegun, StandsIn, EndsBy}
+use Rattle.paged_blob.specs.Flushes.{footer_over, page_bytes, page_count, flushed_bytes, last_slot, free_slot, SumsFit}
+use Rattle.paged_blob.specs.Laws.Flushes.{StaysWithin, stays_in, page_begins, page_ends, slots_say, new_says, new_in, kept_in, length-pages_bytes, page_of_pages, sum_of_page}
 use Rattle.paged_blob.specs.declared.flush.DurableSlot.{DurableSlot}
 use Rattle.paged_blob.proofs.Bytes.{length-with_bytes}
 use Rattle.paged_blob.proofs.FlushedPages.{page_byte, pages_apart, new_length, page_before, page_laid, page_behind}
@@ -99,7 +99,7 @@ stays_at (Some kept) zero first_len len stays same = omega (arith, stays, same r
 stays_at slot (suc page) first_len len stays same = tt
 
 -- the slot that is durable says no more than a page has room for
-durable_len : (sum : List ℕ → ℕ) (size len : ℕ) (file : File) (page : ℕ) → IsDurablePage sum size len file page → len ≤ content_size size
+pub durable_len : (sum : List ℕ → ℕ) (size len : ℕ) (file : File) (page : ℕ) → IsDurablePage sum size len file page → len ≤ content_size size
 durable_len sum size len file page d =
     let old = page_at size page file.base in
     let v = vouched sum size old (slot_len size d.slot old) (slot_crc size d.slot old) d.verified in
@@ -113,14 +113,13 @@ base_has : (P : List ℕ → Type 0) (base : List ℕ) (changes : List Change) �
 base_has P base [] each = each
 base_has P base (change ∷ earlier) each = base_has P base earlier each.1
 
-whole_has : (P : List ℕ → Type 0) (base : List ℕ) (changes : List Change) → EachBeginning P base changes → P (whole base changes)
+pub whole_has : (P : List ℕ → Type 0) (base : List ℕ) (changes : List Change) → EachBeginning P base changes → P (whole base changes)
 whole_has P base [] each = each
 whole_has P base (change ∷ earlier) each = each.0
 
 module _ (sum : List ℕ → ℕ) (size : ℕ) (some_room : 12 < size) (small : size ≤ 65536) (content file : List ℕ) (first n : ℕ) (slot : Option DurableSlot)
     (bytes : List ℕ) (reach : first * size ≤ length file) (is : bytes ≡ take n (from_page size first content))
-    (within : n ≤ length (from_page size first content)) (stays : StaysWithin slot (min (content_size size) n))
-    (fit : SumsFit sum size (page_count size (length bytes)) bytes) where
+    (within : n ≤ length (from_page size first content)) (stays : StaysWithin slot (min (content_size size) n)) where
   pages : List ℕ
   pages = flushed_bytes sum size slot bytes
 
@@ -228,9 +227,10 @@ module _ (sum : List ℕ → ℕ) (size : ℕ) (some_room : 12 < size) (small : 
       (cases_lt page first)
 
   -- and the new slot of each page does, for all that it has
-  shows_new : (page : ℕ) → page < count → ShowsLength sum size (length (piece page)) next (first + page)
+  new_stands : SumsFit sum size (page_count size (length bytes)) bytes → (page : ℕ) → page < count
+      → StandsIn sum size next (first + page) (record { slot = free_slot (stays_in page slot); len = length (piece page); crc = sum (piece page) })
   unfolding next count piece
-  shows_new page below =
+  new_stands fit page below =
       let here = at_page page below in
       let new = free_slot (stays_in page slot) in
       let len = length (piece page) in
@@ -243,13 +243,21 @@ module _ (sum : List ℕ → ℕ) (size : ℕ) (some_room : 12 < size) (small : 
         fits = omega (arith, says.0, fits);
         sums = says.1 ∙ ap sum (sym front) ∙ ap (λ m. sum (take m (laid page))) (sym says.0);
       }) in
-      let V : List ℕ → Type 0 = λ p. (verifies sum size new p ≡ true) × (slot_len size new p ≡ len) in
-      let there : V (page_at size (first + page) (with_bytes (first * size) pages file)) = subst V (sym here) (ok, says.0) in
+      let there = new_in size (laid page) (omega (arith, some_room)) len (sum (piece page)) (stays_in page slot) (laid_ends page) in
+      let V : List ℕ → Type 0 = λ p. (verifies sum size new p ≡ true) × (slot_len size new p ≡ len) × (slot_in size new p ≡ slot_bytes len (sum (piece page))) in
+      let stands : V (page_at size (first + page) (with_bytes (first * size) pages file)) = subst V (sym here) (ok, says.0, there) in
+      record { verified = stands.0; says = stands.1; bytes = stands.2 }
+
+  shows_new : SumsFit sum size (page_count size (length bytes)) bytes → (page : ℕ) → page < count
+      → ShowsLength sum size (length (piece page)) next (first + page)
+  unfolding next count
+  shows_new fit page below =
+      let s = new_stands fit page below in
       let end = mul-le (page + 1) size (page_count size (length bytes)) size (omega (arith, below)) (omega arith) in
       record {
-        slot = new;
-        verified = there.0;
-        says = there.1;
+        slot = free_slot (stays_in page slot);
+        verified = s.verified;
+        says = s.says;
         reach = omega (arith, end, pages_long, new_length size first pages file reach);
       }
 
@@ -267,10 +275,10 @@ module _ (sum : List ℕ → ℕ) (size : ℕ) (some_room : 12 < size) (small : 
       }
 
   -- so the content is on the disk as far as it was flushed
-  pub shown_next : AreShown sum size (first * content_size size) file
+  pub shown_next : SumsFit sum size (page_count size (length bytes)) bytes → AreShown sum size (first * content_size size) file
       → AreShown sum size (first * content_size size + n) (with_bytes (first * size) (flushed_bytes sum size slot bytes) file)
   unfolding count next pages
-  shown_next shown = λ page below.
+  shown_next fit shown = λ page below.
       let room = content_size size in
       let S : ℕ → Type 0 = λ len. ShowsLength sum size len next page in
       ⊎_elim
@@ -285,7 +293,7 @@ module _ (sum : List ℕ → ℕ) (size : ℕ) (some_room : 12 < size) (small : 
       let inside : j < page_count size (length bytes) =
       ⊎_elim (λ lt. lt) (λ past. absurd (omega (arith, count_below size some_room (length bytes) j past, long, spread, below))) (cases_lt j (page_count size (length bytes))) in
       let len : length (piece j) ≡ share size page (first * room + n) = piece_len j ∙ omega (arith, spread) in
-      subst S len (subst (λ p. ShowsLength sum size (length (piece j)) next p) place (shows_new j inside)))
+      subst S len (subst (λ p. ShowsLength sum size (length (piece j)) next p) place (shows_new fit j inside)))
       (cases_lt page first)
 
   -- how many bytes the file has then
@@ -293,6 +301,69 @@ module _ (sum : List ℕ → ℕ) (size : ℕ) (some_room : 12 < size) (small : 
       → length (with_bytes (first * size) (flushed_bytes sum size slot bytes) file) ≡ first * size + page_count size (length bytes) * size
   unfolding pages count
   next_ends short = new_length size first pages file reach ∙ omega (arith, pages_long, short)
+
+  inside : (page : ℕ) → page * content_size size < n → page < count
+  unfolding count
+  inside page below =
+      ⊎_elim
+      (λ lt. lt)
+      (λ past. absurd (omega (arith, count_below size some_room (length bytes) page past, long, below)))
+      (cases_lt page (page_count size (length bytes)))
+
+  -- where the last page is not whole, its new slot vouches for what is there of it
+  last_stands : SumsFit sum size (page_count size (length bytes)) bytes → 0 < n % content_size size
+      → StandsIn sum size next (first + n / content_size size) (record {
+        slot = free_slot (cond (ltb (length bytes) (content_size size)) slot None);
+        len = length bytes % content_size size;
+        crc = sum (drop (length bytes - length bytes % content_size size) bytes);
+      })
+  unfolding piece
+  last_stands fit part =
+      let room = content_size size in
+      let w = n / room in
+      let r = n % room in
+      let split : w * room + r ≡ n = div-add-mod' n room in
+      let less : r < room = mod_below n room (omega (arith, some_room)) in
+      let m : length bytes % room ≡ r = ap (λ l. l % room) long in
+      let place : w * room ≡ length bytes - length bytes % room = omega (arith, split, m, long) in
+      let below : w < count = inside w (omega (arith, split, part)) in
+      let len : length (piece w) ≡ length bytes % room = piece_len w ∙ omega (arith, split, less, m) in
+      let is_piece : piece w ≡ drop (length bytes - length bytes % room) bytes =
+      take_all room (drop (w * room) bytes) (omega (arith, length-drop (w * room) bytes, split, long, less)) ∙ ap (λ l. drop l bytes) place in
+      let kept : stays_in w slot ≡ cond (ltb (length bytes) room) slot None =
+      ⊎_elim
+      (λ short. ap (λ k. stays_in k slot) (div-eq_of_lt (omega (arith, short, long))) ∙ sym (cond-true _ _ _ (lt-ltb _ _ short)))
+      (λ full. nothing_stays w (le-div 1 n room (omega (arith, some_room)) (omega (arith, full, long))) ∙ sym (cond-false _ _ _ (le-ltb _ _ full)))
+      (cases_lt (length bytes) room) in
+      let S : Slot → ℕ → ℕ → Type 0 = λ s l c. StandsIn sum size next (first + w) (record { slot = s; len = l; crc = c }) in
+      subst (λ s. S s (length bytes % room) (sum (drop (length bytes - length bytes % room) bytes))) (ap free_slot kept)
+      (subst (λ l. S (free_slot (stays_in w slot)) l (sum (drop (length bytes - length bytes % room) bytes))) len
+      (subst (λ p. S (free_slot (stays_in w slot)) (length (piece w)) (sum p)) is_piece (new_stands fit w below)))
+    where
+      nothing_stays : (page : ℕ) → 0 < page → stays_in page slot ≡ None
+      nothing_stays zero some = absurd (omega (arith, some))
+      nothing_stays (suc page) some = refl
+
+  -- how the content ends on the disk
+  pub last_next : SumsFit sum size (page_count size (length bytes)) bytes
+      → EndsBy sum size (with_bytes (first * size) (flushed_bytes sum size slot bytes) file) (first * content_size size + n) (first + n / content_size size)
+        (last_slot sum size slot bytes)
+  unfolding next pages
+  last_next fit =
+      let room = content_size size in
+      let split : n / room * room + n % room ≡ n = div-add-mod' n room in
+      let spread : first * room + n ≡ (first + n / room) * room + n % room = omega (arith, split) in
+      let m : length bytes % room ≡ n % room = ap (λ l. l % room) long in
+      let E : Option DurableSlot → Type 0 = EndsBy sum size (with_bytes (first * size) (flushed_bytes sum size slot bytes) file) (first * room + n) (first + n / room) in
+      ⊎_elim
+      (λ whole. subst E (sym (cond-true _ _ _ whole)) (omega (arith, spread, m, eqb-true _ _ whole)))
+      (λ part. subst E (sym (cond-false _ _ _ part))
+      (omega (arith, spread, m), last_stands fit (omega (arith, m, some_part (length bytes % room) part))))
+      (cases_Bool (length bytes % room == 0))
+    where
+      some_part : (k : ℕ) → (k == 0) ≡ false → 0 < k
+      some_part zero is = absurd (eqb-false 0 0 is refl)
+      some_part (suc k) is = omega arith
 
 -- each byte of a slot
 slot_byte : (size : ℕ) (s : Slot) (new old : List ℕ) → slot_in size s new ≡ slot_in size s old → (i : ℕ) → i < 6
@@ -370,7 +441,7 @@ module _ (sum : List ℕ → ℕ) (size : ℕ) (some_room : 12 < size) (content 
       }
 
 -- the slot that is durable says no more than the first page that is flushed has
-stays_min : (sum : List ℕ → ℕ) (size : ℕ) (file : File) (synced first n : ℕ) (slot : Option DurableSlot) → IsBegun sum size file synced first slot
+pub stays_min : (sum : List ℕ → ℕ) (size : ℕ) (file : File) (synced first n : ℕ) (slot : Option DurableSlot) → IsBegun sum size file synced first slot
     → StaysWithin slot n → StaysWithin slot (min (content_size size) n)
 stays_min sum size file synced first n None begun stays = tt
 stays_min sum size file synced first n (Some kept) begun stays = omega (arith, stays, durable_len sum size kept.len file first begun.1.durable)
@@ -415,13 +486,12 @@ pub flush_kept : (sum : List ℕ → ℕ) (size : ℕ) → 12 < size → size �
     (slot : Option DurableSlot) (bytes : List ℕ) (ok : Bool) → IsKeptIn sum size content synced file
     → first * size ≤ length (whole file.base file.changes) → bytes ≡ take n (from_page size first content)
     → n ≤ length (from_page size first content) → 0 < n → IsBegun sum size file synced first slot → StaysWithin slot n
-    → SumsFit sum size (page_count size (length bytes)) bytes
     → IsKeptIn sum size content synced (after_change (write (first * size) (flushed_bytes sum size slot bytes) false) ok file)
-flush_kept sum size some_room small content file synced first n slot bytes ok k reach is within some begun stays fit = record {
+flush_kept sum size some_room small content file synced first n slot bytes ok k reach is within some begun stays = record {
   within = k.within;
   beginnings = (
     holds_next sum size some_room small content (whole file.base file.changes) first n slot bytes reach is within
-        (stays_min sum size file synced first n slot begun stays) fit (whole_has (HoldsContent sum size content) file.base file.changes k.beginnings),
+        (stays_min sum size file synced first n slot begun stays) (whole_has (HoldsContent sum size content) file.base file.changes k.beginnings),
     k.beginnings,
   );
   durable = λ page below.

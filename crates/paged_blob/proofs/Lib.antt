@@ -5,3 +5,4 @@ pub mod Rows
 pub mod Kept
 pub mod FlushedPages
 pub mod FlushLaws
+pub mod WriterLaws

@@ -1,18 +1,11 @@
 -- The definitions computed at small files.
-use Rattle.std.proofs.Common.{◌*◌, ◌+◌, ◌-◌, ◌/◌, ◌<◌, None, Some, length, take, ap, sym, ◌∙◌, arith}
-use Rattle.std.specs.Int.{w16, from_be_bytes}
-use Rattle.std.proofs.Math.Nat.{zero-mod, zero-div, div-eq_of_lt}
-use Rattle.std.proofs.lemmas.List.{drop_all, take_all}
-use Rattle.paged_format.specs.declared.footer.Slot.{Slot}
+use Rattle.std.proofs.Common.{◌<◌, None, Some, length}
 use Rattle.paged_format.specs.declared.footer.Slot.TheVariants.{First, Second}
-use Rattle.paged_format.specs.Footers.{content_size, slot_start}
-use Rattle.paged_format.specs.Pages.{verifies}
-use Rattle.paged_format.specs.Laws.Pages.{vouched}
-use Rattle.paged_blob.specs.Chance.{page_at}
 use Rattle.paged_blob.specs.Writers.{IsWriterOf}
 use Rattle.std.proofs.Common.{◌≡◌, ℕ, true, false, List, [], ◌∷◌, ◌++◌, replicate, refl}
 use Rattle.paged_format.specs.Footers.{footer_bytes, slot_len, slot_crc}
 use Rattle.paged_format.specs.Pages.{vouches, vouched_len, counted_slot}
+use Rattle.paged_blob.proofs.WriterLaws.{new_writer}
 use Rattle.paged_blob.specs.Flushes.{page_bytes, pages_bytes, flushed_bytes}
 use Rattle.paged_blob.specs.declared.flush.DurableSlot.{DurableSlot}
 use Rattle.paged_blob.specs.Calls.{Call, opened, wrote, synced, file_of, content, resized, with_bytes}
@@ -92,35 +85,9 @@ displaced : is_by_chance seven 16 (file_of (wrote 16 page false true ∷ [])) (p
 unfolding page slot_in has_slot is_chance_slot vouches slot_len slot_crc resized with_bytes
 displaced = refl
 
-said_nothing : (size : ℕ) (slot : Slot) → slot_len size slot [] ≡ 0
-unfolding slot_len
-said_nothing size slot = ap (λ p. from_be_bytes w16 (take 2 p)) (drop_all (slot_start size slot) [] (omega arith))
-
-unverified : (sum : List ℕ → ℕ) (size : ℕ) (slot : Slot) (page : List ℕ) → page ≡ [] → verifies sum size slot page ≡ true → ⊥
-unverified sum size slot page is ok =
-    let v = vouched sum size page (slot_len size slot page) (slot_crc size slot page) ok in
-    let none : slot_len size slot page ≡ 0 = ap (slot_len size slot) is ∙ said_nothing size slot in
-    omega (arith, v.some, none)
-
 -- a writer of nothing stands over a blob of which no call was made
-new_writer : (sum : List ℕ → ℕ) (size : ℕ) → 12 < size → IsWriterOf sum size [] [] 0 (record { offset = 0; bytes = []; capacity = 64 }) None
-new_writer sum size some = record {
-  sound = refl;
-  kept = record {
-    within = omega arith;
-    beginnings = λ page slot ok.
-        absurd (unverified sum size slot (page_at size page []) (ap (take size) (drop_all (page * size) [] (omega arith)) ∙ take_all size [] (omega arith)) ok);
-    durable = λ page below. absurd (omega (arith, below));
-  };
-  tip_begins = zero-mod (content_size size);
-  tip_within = omega arith;
-  tip_bytes = refl;
-  shown = λ page below. absurd (omega (arith, below));
-  begun = omega arith;
-  ends =
-      let none : 0 ≡ (0 + 0) * size = omega arith in none ∙ ap (λ n. (n + 0) * size) (sym (zero-div (content_size size)));
-  numbers = let none : (0 + (content_size size - 1)) / content_size size ≡ 0 = div-eq_of_lt (omega arith) in omega (arith, ap (λ n. n * size) none);
-}
+nothing_written : (sum : List ℕ → ℕ) (size : ℕ) → 12 < size → IsWriterOf sum size [] [] 0 (record { offset = 0; bytes = []; capacity = 64 }) None
+nothing_written sum size some = new_writer sum size some [] refl (record { offset = 0; bytes = []; capacity = 64 }) refl refl
 
 -- sixty bytes in pages of 64, and four more in the second page
 abbrev first_slot : DurableSlot

@@ -1,5 +1,5 @@
 -- What a flush puts on the disk: pages of content, each with a footer in which the slot that is durable stays.
-use Rattle.std.specs.Prelude.{ℕ, zero, suc, ◌+◌, ◌-◌, ◌*◌, ◌/◌, ◌<◌, ◌^◌, ⊤, Option, None, Some, List, [], ◌++◌, length, take, drop}
+use Rattle.std.specs.Prelude.{ℕ, zero, suc, ◌+◌, ◌-◌, ◌*◌, ◌/◌, ◌%◌, ◌<◌, ◌^◌, ⊤, ◌==◌, nat_lt, if◌then◌else◌, Option, None, Some, List, [], ◌++◌, length, take, drop}
 use Rattle.paged_format.specs.declared.footer.Slot.{Slot}
 use Rattle.paged_format.specs.declared.footer.Slot.TheVariants.{First, Second}
 use Rattle.paged_format.specs.Footers.{content_size, footer_bytes}
@@ -15,6 +15,16 @@ footer_beside Second kept_len kept_crc len crc = footer_bytes len crc kept_len k
 abbrev pub footer_over : Option DurableSlot → ℕ → ℕ → List ℕ
 footer_over None len crc = footer_bytes len crc 0 0
 footer_over (Some kept) len crc = footer_beside kept.slot kept.len kept.crc len crc
+
+-- the other slot
+abbrev pub other : Slot → Slot
+other First = Second
+other Second = First
+
+-- the slot that such a footer says anew
+abbrev pub free_slot : Option DurableSlot → Slot
+free_slot None = First
+free_slot (Some kept) = other kept.slot
 
 -- a page on the disk: content, zeros behind it, and the footer
 unfoldable pub page_bytes : (List ℕ → ℕ) → ℕ → Option DurableSlot → List ℕ → List ℕ
@@ -37,6 +47,17 @@ physical_size size len = page_count size len * size
 -- what a flush of content writes
 abbrev pub flushed_bytes : (List ℕ → ℕ) → ℕ → Option DurableSlot → List ℕ → List ℕ
 flushed_bytes sum size kept bytes = pages_bytes sum size (page_count size (length bytes)) kept bytes
+
+-- of content in which a slot stays: the slot that vouches for its last page, where that is not whole
+abbrev pub last_slot : (List ℕ → ℕ) → ℕ → Option DurableSlot → List ℕ → Option DurableSlot
+last_slot sum size kept bytes =
+    if length bytes % content_size size == 0
+    then None
+    else Some (record {
+      slot = free_slot (if nat_lt (length bytes) (content_size size) then kept else None);
+      len = length bytes % content_size size;
+      crc = sum (drop (length bytes - length bytes % content_size size) bytes);
+    })
 
 -- the checksum of each of so many pages of content is one of four bytes
 abbrev pub SumsFit : (List ℕ → ℕ) → ℕ → ℕ → List ℕ → Type 0

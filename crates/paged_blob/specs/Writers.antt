@@ -1,6 +1,6 @@
 -- What holds between a writer of pages and its blob, over plain values, and what is then recovered of each image.
-use Rattle.std.specs.Prelude.{◌≡◌, ℕ, ◌+◌, ◌-◌, ◌*◌, ◌/◌, ◌%◌, ◌<◌, ◌≤◌, ◌^◌, min, IsTrue, IsFalse, Option, None, Some}
-use Rattle.std.specs.Prelude.{List, [], ◌∷◌, length, get_or, take, drop}
+use Rattle.std.specs.Prelude.{◌≡◌, ℕ, ◌+◌, ◌-◌, ◌*◌, ◌/◌, ◌%◌, ◌<◌, ◌≤◌, ◌^◌, min, IsTrue, IsFalse, false, Option, None, Some}
+use Rattle.std.specs.Prelude.{List, [], ◌∷◌, ◌++◌, length, get_or, take, drop}
 use Rattle.paged_format.specs.declared.footer.Slot.{Slot}
 use Rattle.paged_format.specs.Footers.{content_size, slot_bytes, slot_start, slot_len}
 use Rattle.paged_format.specs.Pages.{verifies, recovered}
@@ -103,6 +103,46 @@ pub record IsWriterOf (sum : List ℕ → ℕ) (size : ℕ) (calls : List Call) 
   pub ends : length (whole (file_of calls).base (file_of calls).changes) ≡ (tip.offset / content_size size + pages_begun slot) * size
   -- no number of the content ends on the disk
   pub numbers : physical_size size (length content) + 4096 < 2 ^ 64
+
+-- A writer as its calls see it: how many bytes its pages have on the disk, its name in the cache, how many bytes of the content are
+-- durable, the slot by which those of the tip's first page are, and the tip.
+pub record WriterState : Type 0 where
+  pub page_size : ℕ
+  pub blob_id : ℕ
+  pub synced : ℕ
+  pub slot : Option DurableSlot
+  pub tip : Tip
+
+-- what it has written over these calls: what is recovered of the disk, up to the tip, and the tip
+unfoldable pub written : (List ℕ → ℕ) → List Call → WriterState → List ℕ
+written sum calls w = take w.tip.offset (recovered sum w.page_size (whole (file_of calls).base (file_of calls).changes)) ++ w.tip.bytes
+
+-- it is a writer of that
+abbrev pub IsWriter : (List ℕ → ℕ) → List Call → WriterState → Type 0
+IsWriter sum calls w = IsWriterOf sum w.page_size calls (written sum calls w) w.synced w.tip w.slot
+
+-- nothing was written, and nothing is there
+abbrev pub IsEmptyFile : File → Type 0
+IsEmptyFile file = file ≡ record { base = []; changes = []; failed = false }
+
+-- a slot of a page of the file vouches for as many bytes as it says
+pub record StandsIn (sum : List ℕ → ℕ) (size : ℕ) (file : List ℕ) (page : ℕ) (slot : DurableSlot) : Type 0 where
+  pub verified : IsTrue (verifies sum size slot.slot (page_at size page file))
+  pub says : slot_len size slot.slot (page_at size page file) ≡ slot.len
+  pub bytes : slot_in size slot.slot (page_at size page file) ≡ slot_bytes slot.len slot.crc
+
+-- so many bytes of content fill so many pages, or these and as much of one more as a slot of it vouches for
+abbrev pub EndsBy : (List ℕ → ℕ) → ℕ → List ℕ → ℕ → ℕ → Option DurableSlot → Type 0
+EndsBy sum size file len pages None = len ≡ pages * content_size size
+EndsBy sum size file len pages (Some slot) = (len ≡ pages * content_size size + slot.len) × StandsIn sum size file pages slot
+
+-- All of the content is on the disk, in so many whole pages and what a slot vouches for: a sync makes it durable.
+pub record IsFlushed (sum : List ℕ → ℕ) (size : ℕ) (calls : List Call) (content : List ℕ) (synced pages : ℕ) (slot : Option DurableSlot) : Type 0 where
+  pub sound : IsFalse (file_of calls).failed
+  pub kept : IsKeptIn sum size content synced (file_of calls)
+  pub shown : AreShown sum size (length content) (whole (file_of calls).base (file_of calls).changes)
+  pub last : EndsBy sum size (whole (file_of calls).base (file_of calls).changes) (length content) pages slot
+  pub ends : length (whole (file_of calls).base (file_of calls).changes) ≡ (pages + pages_begun slot) * size
 
 -- What is recovered of an image keeps the durable bytes of the content, and is a beginning of it unless by chance.
 pub record Recovers (sum : List ℕ → ℕ) (size : ℕ) (content : List ℕ) (synced : ℕ) (file : File) (image : List ℕ) : Type 0 where

@@ -1,9 +1,15 @@
 //! What a writer puts on the disk: pages of content with their footers.
 
-ghost use Rattle.std.specs.Prelude.{◌≡◌, ◌+◌, ◌-◌, ◌*◌, ◌<◌, ◌≤◌, ◌^◌, ◌++◌, length, IfOk, OnOk, IfErr};
+ghost use Rattle.std.specs.Prelude.{◌≡◌, ◌+◌, ◌-◌, ◌*◌, ◌<◌, ◌≤◌, ◌^◌, ◌++◌, false, length, IfOk, OnOk, IfErr};
 ghost use Rattle.paged_format.specs.Footers.{IsPageSize, content_size, footer_bytes};
 ghost use Rattle.paged_blob.specs.Flushes.{footer_over, page_bytes, flushed_bytes, page_count, physical_size, SumsFit};
+ghost use Rattle.paged_blob.specs.Flushes.{other, free_slot, last_slot};
+ghost use Rattle.paged_blob.specs.Calls.{wrote};
+ghost use Rattle.paged_blob.specs.Answers.{Records, failures_after, IsCause};
+ghost use Rattle.paged_blob.specs.declared.error.CallKind.{CallKind};
 
+use crate::blob::{Blob, WriteMode};
+use crate::error::Error;
 use fault_storage::Checksum;
 use merkle_forest::codec::Write;
 use paged_format::{Footer, Slot};
@@ -94,4 +100,66 @@ fn physical_bytes<C: Checksum>(
         rest = behind;
     }
     Ok(pages)
+}
+
+// Writes the pages of this content, of which the first keeps a slot, from a page of the blob on.
+pub(crate) fn flush<C: Checksum, B: Blob>(
+    alloc: Global,
+    blob: &mut B,
+    page_size: usize,
+    first: u64,
+    kept: Option<DurableSlot>,
+    content: &[u8],
+) -> Result<(), Error>
+    requires size { IsPageSize page_size }
+    requires numbers { first * page_size + physical_size page_size (length content.now) < 2 ^ 64 }
+    ensures calls { Records result
+        (wrote (first * page_size) (flushed_bytes C.checksum_of page_size kept content.now) false)
+        (B.calls blob.old) (B.calls blob.new) }
+    ensures fits { OnOk result (SumsFit C.checksum_of page_size (page_count page_size (length content.now)) content.now) }
+    ensures cause { IfErr result (IsCause CallKind.Write (first * page_size + physical_size page_size (length content.now))) }
+    ensures failures { B.failures blob.new ≡ failures_after result (B.failures blob.old) }
+{
+    let pages = physical_bytes::<C>(alloc, page_size, kept, content)?;
+    blob.write_at(first * page_size as u64, &pages, WriteMode::Plain)
+}
+
+// The other slot.
+fn other(slot: Slot) -> Slot
+    ensures { result ≡ other slot }
+{
+    match slot {
+        Slot::First => Slot::Second,
+        Slot::Second => Slot::First,
+    }
+}
+
+// The slot that a flush says anew in a page in which this one stays.
+fn free_slot(kept: Option<DurableSlot>) -> Slot
+    ensures { result ≡ free_slot kept }
+{
+    match kept {
+        None => Slot::First,
+        Some(kept) => other(kept.slot),
+    }
+}
+
+/// The slot that vouches for the last page of flushed content, where that is not whole (own). That a page has a power of
+/// two from 16 to 65536 bytes is on the caller.
+pub(crate) fn last_slot<C: Checksum>(page_size: usize, kept: Option<DurableSlot>, content: &[u8]) -> Option<DurableSlot>
+    requires { IsPageSize page_size }
+    ensures { result ≡ last_slot C.checksum_of page_size kept content.now }
+{
+    let room = page_size - 12;
+    let len = content.len() % room;
+    if len == 0 {
+        return None;
+    }
+    let (_, last) = content.split_at(content.len() - len);
+    let stays = if content.len() < room { kept } else { None };
+    Some(DurableSlot {
+        slot: free_slot(stays),
+        len: len as u16,
+        crc: C::checksum(last),
+    })
 }

@@ -11,17 +11,8 @@ use Rattle.paged_format.specs.Footers.{content_size, slot_bytes, footer_bytes, s
 use Rattle.paged_format.specs.Laws.Footers.{first_len, first_crc, second_len, second_crc}
 use Rattle.paged_blob.specs.Calls.{resized}
 use Rattle.paged_blob.specs.Chance.{page_at, slot_in}
-use Rattle.paged_blob.specs.Flushes.{footer_over, footer_beside, page_bytes, pages_bytes, page_count, SumsFit}
+use Rattle.paged_blob.specs.Flushes.{footer_over, footer_beside, page_bytes, pages_bytes, page_count, SumsFit, other, free_slot}
 use Rattle.paged_blob.specs.declared.flush.DurableSlot.{DurableSlot}
-
--- the slot that a flush of one page writes
-abbrev pub other : Slot → Slot
-other First = Second
-other Second = First
-
-abbrev pub free_slot : Option DurableSlot → Slot
-free_slot None = First
-free_slot (Some kept) = other kept.slot
 
 -- the slot that stays vouches for no more than so many bytes
 abbrev pub StaysWithin : Option DurableSlot → ℕ → Type 0

@@ -1,0 +1,131 @@
+//! A writer: one list of bytes over a blob.
+
+ghost use Rattle.std.specs.Prelude.{◌≡◌, ◌⊎◌, ◌+◌, ◌-◌, ◌*◌, ◌/◌, ◌%◌, ◌<◌, ◌≤◌, ◌^◌, ◌++◌, ◌↔◌, [], max, take, drop, length};
+ghost use Rattle.std.specs.Prelude.{false, None, IsTrue, IfOk, IfErr, OnOk, OnErr};
+ghost use Rattle.paged_format.specs.Footers.{IsPageSize, content_size};
+ghost use Rattle.paged_blob.specs.Calls.{file_of};
+ghost use Rattle.paged_blob.specs.Moments.{Through};
+ghost use Rattle.paged_blob.specs.Answers.{failures_after, IsCause, IsPastNumbers};
+ghost use Rattle.paged_blob.specs.Flushes.{physical_size};
+ghost use Rattle.paged_blob.specs.Writers.{WriterState, written, IsWriter, IsEmptyFile, Keeps};
+ghost use Rattle.paged_blob.specs.declared.error.CallKind.{CallKind};
+
+use crate::blob::Blob;
+use crate::cache::CacheRef;
+use crate::error::Error;
+use crate::flush::{DurableSlot, flush, last_slot};
+use fault_storage::Checksum;
+use paged_format::TipBuffer;
+use std::alloc::Global;
+use std::marker::{Model, PhantomData};
+
+/// A writer that appends. In the Rust: `paged::Append`.
+#[derive(Clone, Copy, Debug, PartialEq, Eq)]
+pub struct Append;
+
+/// One list of bytes over a blob, which is lent to each call: its first bytes are on the disk in whole pages, the others
+/// in memory until there are more of them than a buffer holds, or until they are synced.
+/// In the Rust: `paged::Writer`, which owns the blob.
+#[derive(Drop)]
+pub struct Writer<C: Checksum, Phase = Append> {
+    alloc: Global,
+    page_size: usize,
+    blob_id: u64,
+    synced: u64,
+    slot: Option<DurableSlot>,
+    tip: TipBuffer,
+    checksum: PhantomData<C>,
+    phase: PhantomData<Phase>,
+}
+
+impl<C: Checksum, Phase> Model for Writer<C, Phase> {
+    ghost Value = { WriterState };
+
+    ghost view = { λ w. record {
+      page_size = w.page_size;
+      blob_id = w.blob_id;
+      synced = w.synced;
+      slot = w.slot;
+      tip = w.tip;
+    } };
+
+    ghost invariant = { λ w. IsPageSize w.page_size × (w.page_size ≤ w.tip.capacity) };
+}
+
+impl<C: Checksum> Writer<C> {
+    /// A writer of nothing, over a blob in which nothing is, with a buffer of so many bytes, at least a page's; it has a
+    /// new name in the cache, and pages as large as that has them. No name is left: F8. That the blob is empty, and that
+    /// the cache's pages and twelve bytes are a power of two from 16 to 65536, is on the caller. It takes no memory yet.
+    /// In the Rust: `paged::Writer::new`, which also takes a blob that is not empty.
+    pub fn new<B: Blob>(alloc: Global, _blob: &B, cache: &mut CacheRef, capacity: usize) -> Result<Self, Error>
+        requires size { IsPageSize (cache.old.page_size + 12) }
+        requires empty { IsEmptyFile (file_of (B.calls _blob.now)) }
+        ensures writer { IfOk result (λ w. IsWriter C.checksum_of (B.calls _blob.now) w) }
+        ensures content { IfOk result (λ w. written C.checksum_of (B.calls _blob.now) w ≡ []) }
+        ensures page_size { IfOk result (λ w. w.page_size ≡ cache.old.page_size + 12) }
+        ensures blob_id { IfOk result (λ w. w.blob_id ≡ cache.old.next_id) }
+        ensures capacity { IfOk result (λ w. w.tip.capacity ≡ max capacity (cache.old.page_size + 12)) }
+        ensures cache { OnOk result (cache.new ≡ record cache.old { next_id = cache.old.next_id + 1 }) }
+        ensures err { IfErr result (λ e. (e ≡ Error.NumberEnded) × (cache.new ≡ cache.old)) }
+    {
+        let page_size = cache.page_size() as usize + 12;
+        let blob_id = cache.next_id()?;
+        Ok(Writer {
+            alloc,
+            page_size,
+            blob_id,
+            synced: 0,
+            slot: None,
+            tip: TipBuffer::new(alloc, 0, capacity.max(page_size)),
+            checksum: PhantomData,
+            phase: PhantomData,
+        })
+    }
+}
+
+impl<C: Checksum, Phase> Writer<C, Phase> {
+    /// How many bytes the list has. In the Rust: `paged::Writer::size`.
+    pub fn size(&self) -> u64
+        ensures { result ≡ self.now.tip.offset + length self.now.tip.bytes }
+    {
+        self.tip.end()
+    }
+
+    /// Whether some of them are not durable yet. In the Rust: `paged::Writer::needs_sync`.
+    pub fn needs_sync(&self) -> bool
+        ensures { IsTrue result ↔ (self.now.synced < self.now.tip.offset + length self.now.tip.bytes) }
+    {
+        self.synced < self.size()
+    }
+
+    // Flushes the whole pages of the tip, which then begins behind them.
+    fn flush_pages<B: Blob>(&mut self, blob: &mut B, cache: &mut CacheRef) -> Result<(), Error>
+        requires writer { IsWriter C.checksum_of (B.calls blob.old) self.old }
+        requires some { content_size self.old.page_size ≤ length self.old.tip.bytes }
+        requires pages { cache.old.page_size ≡ content_size self.old.page_size }
+        ensures writer { OnOk result (IsWriter C.checksum_of (B.calls blob.new) self.new) }
+        ensures content { OnOk result (written C.checksum_of (B.calls blob.new) self.new
+            ≡ written C.checksum_of (B.calls blob.old) self.old) }
+        ensures synced { self.new.synced ≡ self.old.synced }
+        ensures fewer { OnOk result (length self.new.tip.bytes < length self.old.tip.bytes) }
+        ensures same { (self.new.page_size ≡ self.old.page_size) × (self.new.blob_id ≡ self.old.blob_id)
+            × (self.new.tip.capacity ≡ self.old.tip.capacity) }
+        ensures any_moment { Through (Keeps C.checksum_of self.old.page_size
+            (written C.checksum_of (B.calls blob.old) self.old) self.old.synced) (B.calls blob.old) (B.calls blob.new) }
+        ensures cause { IfErr result (IsCause CallKind.Write
+            (physical_size self.old.page_size (self.old.tip.offset + length self.old.tip.bytes))) }
+        ensures failures { B.failures blob.new ≡ failures_after result (B.failures blob.old) }
+        ensures cache { cache.new ≡ record cache.old { pages = cache.new.pages } }
+    {
+        let room = self.page_size - 12;
+        let bytes = self.tip.as_bytes();
+        let (pages, _) = bytes.split_at(bytes.len() / room * room);
+        let whole = pages.len();
+        let offset = self.tip.offset();
+        flush::<C, B>(self.alloc, blob, self.page_size, offset / room as u64, self.slot, pages)?;
+        let _ = cache.cache(self.blob_id, pages, offset);
+        self.tip.drain(whole);
+        self.slot = None;
+        Ok(())
+    }
+}
