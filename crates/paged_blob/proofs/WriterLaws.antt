@@ -2,7 +2,7 @@
 use Rattle.std.proofs.Common.{◌≡◌, ℕ, zero, suc, ◌+◌, ◌-◌, ◌*◌, ◌/◌, ◌%◌, ◌<◌, ◌≤◌, ◌^◌, ◌==◌, Bool, true, false, Option, Some, None, Result}
 use Rattle.std.proofs.Common.{List, [], ◌∷◌, ◌++◌, length, take, drop, sym, ◌∙◌, ap, subst, ⊎_elim, refl, arith}
 use Rattle.std.proofs.lemmas.Bool.{cases_lt, cases_Bool, or_from, eqb-true, eqb-false, eq-eqb, cond-true, cond-false}
-use Rattle.std.proofs.lemmas.List.{length-append, length-drop, length-take-le, take-take, take_all, take-append-le, drop-append-le, drop-drop, take-append-drop, drop_all}
+use Rattle.std.proofs.lemmas.List.{length-append, length-drop, length-take-le, take-take, take_all, take-append-le, drop-append-le, drop-drop, take-append-drop, drop_all, append_assoc}
 use Rattle.std.proofs.lemmas.Nat.{mul-le, div-add-mod', mod_below, mod-mul-add, div-mul-add, le-div}
 use Rattle.std.proofs.Math.Nat.{div-eq_of_lt, zero-mod, zero-div}
 use Rattle.std.specs.Int.{w16, from_be_bytes}
@@ -14,7 +14,7 @@ use Rattle.paged_format.specs.Tips.{Tip}
 use Rattle.paged_blob.specs.Calls.{Call, wrote, synced, Change, whole, File, file_of, content}
 use Rattle.paged_blob.specs.Moments.{Through, here}
 use Rattle.paged_blob.specs.Answers.{Records, RecordsSync, MakesDurable}
-use Rattle.paged_blob.specs.Laws.Moments.{goes_on, goes_on_sync}
+use Rattle.paged_blob.specs.Laws.Moments.{goes_on, goes_on_sync, weaker}
 use Rattle.paged_blob.specs.Laws.Durable.{file_keeps, recovered_keeps}
 use Rattle.paged_blob.specs.Chance.{page_at}
 use Rattle.paged_blob.specs.Writers.{from_page, HoldsContent, EachBeginning, share, IsKeptIn, ShowsLength, AreShown}
@@ -475,3 +475,69 @@ module _ (sum : List ℕ → ℕ) (calls : List Call) (w : WriterState) (some_ro
       let after = pages_flushed sum size some_room small calls bytes w.synced w.tip w.slot is count some_pages pages_within_tip fits in
       subst (λ t. IsWriterOf sum size new bytes w.synced t None) (sym tip_next)
       (subst (λ c. IsWriterOf sum size c bytes w.synced next None) (sym calls_are) after)
+
+-- more content to come, at each moment
+keeps_more : (sum : List ℕ → ℕ) (size : ℕ) (bytes more : List ℕ) (durable : ℕ) → durable ≤ length bytes → (calls : List Call) → Keeps sum size bytes durable calls
+    → Keeps sum size (bytes ++ more) durable calls
+keeps_more sum size bytes more durable within calls keeps = λ image is.
+    let r = keeps image is in
+    record {
+      keeps = r.keeps ∙ sym (take-append-le durable bytes more within);
+      prefix = λ none.
+          let p = r.prefix none in
+          (p.0, p.1, omega (arith, p.2, length-append bytes more), p.3 ∙ sym (take-append-le p.0 bytes more p.2));
+    }
+
+pub moments_more : (sum : List ℕ → ℕ) (size : ℕ) (bytes more : List ℕ) (durable : ℕ) → durable ≤ length bytes → (old new : List Call)
+    → Through (Keeps sum size bytes durable) old new → Through (Keeps sum size (bytes ++ more) durable) old new
+moments_more sum size bytes more durable within old new so_far = weaker (keeps_more sum size bytes more durable within) so_far
+
+-- the more content, the more bytes on the disk
+pub physical_mono : (size less more : ℕ) → 12 < size → less ≤ more → physical_size size less ≤ physical_size size more
+physical_mono size less more some le =
+    let room = content_size size in
+    let q = (less + (room - 1)) / room in
+    let pages : q ≤ page_count size more = le-div q (more + (room - 1)) room (omega (arith, some)) (omega (arith, div-add-mod' (less + (room - 1)) room, le)) in
+    mul-le q size (page_count size more) size pages (omega arith)
+
+-- a writer with more bytes in memory
+module _ (sum : List ℕ → ℕ) (calls : List Call) (w : WriterState) (some_room : 12 < w.page_size) (is : IsWriter sum calls w) where
+  pub size_is : w.tip.offset + length w.tip.bytes ≡ length (written sum calls w)
+  size_is = omega (arith, ap length is.tip_bytes, length-drop w.tip.offset (written sum calls w), is.tip_within)
+
+  more_is : (more : List ℕ) → physical_size w.page_size (w.tip.offset + length w.tip.bytes + length more) + 4096 < 2 ^ 64
+      → IsWriterOf sum w.page_size calls (written sum calls w ++ more) w.synced (record w.tip { bytes = w.tip.bytes ++ more }) w.slot
+  more_is more fits =
+      writer_more sum w.page_size calls (written sum calls w) more w.synced w.tip w.slot is
+      (subst (λ n. physical_size w.page_size (n + length more) + 4096 < 2 ^ 64) size_is fits)
+
+  pub more_written : (more : List ℕ) → physical_size w.page_size (w.tip.offset + length w.tip.bytes + length more) + 4096 < 2 ^ 64
+      → written sum calls (record w { tip = record w.tip { bytes = w.tip.bytes ++ more } }) ≡ written sum calls w ++ more
+  more_written more fits =
+      written_is sum calls (record w { tip = record w.tip { bytes = w.tip.bytes ++ more } }) some_room (written sum calls w ++ more) (more_is more fits)
+
+  pub more_writer : (more : List ℕ) → physical_size w.page_size (w.tip.offset + length w.tip.bytes + length more) + 4096 < 2 ^ 64
+      → IsWriter sum calls (record w { tip = record w.tip { bytes = w.tip.bytes ++ more } })
+  more_writer more fits =
+      is_writer sum calls (record w { tip = record w.tip { bytes = w.tip.bytes ++ more } }) some_room (written sum calls w ++ more) (more_is more fits)
+
+  -- nothing was called yet
+  pub moments_before : (more : List ℕ) → Through (Keeps sum w.page_size (written sum calls w ++ more) w.synced) calls calls
+  moments_before more =
+      here (keeps_more sum w.page_size (written sum calls w) more w.synced is.kept.within calls
+      (file_keeps sum w.page_size (omega (arith, some_room)) calls (written sum calls w) w.synced is.kept))
+
+  -- the moments after some of it was taken into memory
+  pub moments_taken : (bytes : List ℕ) (n : ℕ) → physical_size w.page_size (w.tip.offset + length w.tip.bytes + length (take n bytes)) + 4096 < 2 ^ 64
+      → (tip : Tip) → tip ≡ record w.tip { bytes = w.tip.bytes ++ take n bytes } → (new : List Call)
+      → Through (Keeps sum w.page_size (written sum calls (record w { tip = tip })) w.synced) calls new
+      → Through (Keeps sum w.page_size (written sum calls w ++ bytes) w.synced) calls new
+  moments_taken bytes n fits tip tip_is new so_far =
+      let old = written sum calls w in
+      let is_more : written sum calls (record w { tip = tip }) ≡ old ++ take n bytes =
+      ap (λ (t : Tip). written sum calls (record w { tip = t })) tip_is ∙ more_written (take n bytes) fits in
+      let P : List ℕ → Type 0 = λ l. Through (Keeps sum w.page_size l w.synced) calls new in
+      let all : (old ++ take n bytes) ++ drop n bytes ≡ old ++ bytes = append_assoc old (take n bytes) (drop n bytes) ∙ ap (λ l. old ++ l) (take-append-drop n bytes) in
+      subst P all
+      (moments_more sum w.page_size (old ++ take n bytes) (drop n bytes) w.synced (omega (arith, is.kept.within, length-append old (take n bytes))) calls new
+      (subst P is_more so_far))

@@ -112,8 +112,7 @@ impl<C: Checksum, Phase> Writer<C, Phase> {
             × (self.new.tip.capacity ≡ self.old.tip.capacity) }
         ensures any_moment { Through (Keeps C.checksum_of self.old.page_size
             (written C.checksum_of (B.calls blob.old) self.old) self.old.synced) (B.calls blob.old) (B.calls blob.new) }
-        ensures cause { IfErr result (IsCause CallKind.Write
-            (physical_size self.old.page_size (self.old.tip.offset + length self.old.tip.bytes))) }
+        ensures cause { IfErr result (IsCause CallKind.Write 0) }
         ensures failures { B.failures blob.new ≡ failures_after result (B.failures blob.old) }
         ensures cache { cache.new ≡ record cache.old { pages = cache.new.pages } }
     {
@@ -127,5 +126,32 @@ impl<C: Checksum, Phase> Writer<C, Phase> {
         self.tip.drain(whole);
         self.slot = None;
         Ok(())
+    }
+
+    // Appends as many of the bytes as there is room for, flushes the whole pages, and answers how many these were.
+    fn fill<B: Blob>(&mut self, blob: &mut B, cache: &mut CacheRef, bytes: &[u8]) -> Result<usize, Error>
+        requires writer { IsWriter C.checksum_of (B.calls blob.old) self.old }
+        requires past { self.old.tip.capacity < length self.old.tip.bytes + length bytes.now }
+        requires fits { physical_size self.old.page_size
+            (self.old.tip.offset + length self.old.tip.bytes + length bytes.now) + 4096 < 2 ^ 64 }
+        requires pages { cache.old.page_size ≡ content_size self.old.page_size }
+        ensures writer { OnOk result (IsWriter C.checksum_of (B.calls blob.new) self.new) }
+        ensures content { IfOk result (λ n. written C.checksum_of (B.calls blob.new) self.new
+            ≡ written C.checksum_of (B.calls blob.old) self.old ++ take n bytes.now) }
+        ensures within { IfOk result (λ n. n ≤ length bytes.now) }
+        ensures fewer { IfOk result (λ n. length self.new.tip.bytes < length self.old.tip.bytes + n) }
+        ensures synced { self.new.synced ≡ self.old.synced }
+        ensures same { (self.new.page_size ≡ self.old.page_size) × (self.new.blob_id ≡ self.old.blob_id)
+            × (self.new.tip.capacity ≡ self.old.tip.capacity) }
+        ensures any_moment { Through (Keeps C.checksum_of self.old.page_size
+            (written C.checksum_of (B.calls blob.old) self.old ++ bytes.now) self.old.synced)
+            (B.calls blob.old) (B.calls blob.new) }
+        ensures cause { IfErr result (IsCause CallKind.Write 0) }
+        ensures failures { B.failures blob.new ≡ failures_after result (B.failures blob.old) }
+        ensures cache { cache.new ≡ record cache.old { pages = cache.new.pages } }
+    {
+        let count = self.tip.append(bytes)?;
+        self.flush_pages(blob, cache)?;
+        Ok(count)
     }
 }
