@@ -347,7 +347,7 @@ module _ (sum : List ℕ → ℕ) (size : ℕ) (some_room : 12 < size) (small : 
   -- how the content ends on the disk
   pub last_next : SumsFit sum size (page_count size (length bytes)) bytes
       → EndsBy sum size (with_bytes (first * size) (flushed_bytes sum size slot bytes) file) (first * content_size size + n) (first + n / content_size size)
-        (last_slot sum size slot bytes)
+      (last_slot sum size slot bytes)
   unfolding next pages
   last_next fit =
       let room = content_size size in

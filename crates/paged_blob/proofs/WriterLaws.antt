@@ -1,5 +1,5 @@
 -- What becomes of a writer and its blob by a flush, by a sync, and by bytes that are only in memory.
-use Rattle.std.proofs.Common.{◌≡◌, ℕ, zero, suc, ◌+◌, ◌-◌, ◌*◌, ◌/◌, ◌%◌, ◌<◌, ◌≤◌, ◌^◌, ◌==◌, Bool, true, false, Option, Some, None, Result}
+use Rattle.std.proofs.Common.{◌≡◌, ℕ, zero, suc, ◌+◌, ◌-◌, ◌*◌, ◌/◌, ◌%◌, ◌<◌, ◌≤◌, ◌^◌, ◌==◌, Bool, true, false, Option, Some, None, Result, Ok, Err, OnOk}
 use Rattle.std.proofs.Common.{List, [], ◌∷◌, ◌++◌, length, take, drop, sym, ◌∙◌, ap, subst, ⊎_elim, refl, arith}
 use Rattle.std.proofs.lemmas.Bool.{cases_lt, cases_Bool, or_from, eqb-true, eqb-false, eq-eqb, cond-true, cond-false}
 use Rattle.std.proofs.lemmas.List.{length-append, length-drop, length-take-le, take-take, take_all, take-append-le, drop-append-le, drop-drop, take-append-drop, drop_all, append_assoc}
@@ -124,7 +124,7 @@ module _ (sum : List ℕ → ℕ) (size : ℕ) (some_room : 12 < size) (small : 
   stays_page None begun n full = tt
   stays_page (Some kept) begun n full = omega (arith, full, durable_len sum size kept.len (file_of calls) first begun.1.durable)
 
-  stays_all : (s : Option DurableSlot) → IsBegun sum size (file_of calls) durable first s → StaysWithin s (length tip.bytes)
+  pub stays_all : (s : Option DurableSlot) → IsBegun sum size (file_of calls) durable first s → StaysWithin s (length tip.bytes)
   stays_all None begun = tt
   stays_all (Some kept) begun = omega (arith, begun.0, w.kept.within, tip_long, offset_is)
 
@@ -153,7 +153,7 @@ module _ (sum : List ℕ → ℕ) (size : ℕ) (some_room : 12 < size) (small : 
   pub pages_flushed : (count : ℕ) → 0 < count → count * content_size size ≤ length tip.bytes
       → SumsFit sum size (page_count size (length (take (count * content_size size) tip.bytes))) (take (count * content_size size) tip.bytes)
       → IsWriterOf sum size (wrote (first * size) (flushed_bytes sum size slot (take (count * content_size size) tip.bytes)) false true ∷ calls) bytes durable
-        (record tip { offset = tip.offset + count * content_size size; bytes = drop (count * content_size size) tip.bytes }) None
+      (record tip { offset = tip.offset + count * content_size size; bytes = drop (count * content_size size) tip.bytes }) None
   pages_flushed count some le fit =
       let room = content_size size in
       let n = count * room in
@@ -171,7 +171,7 @@ module _ (sum : List ℕ → ℕ) (size : ℕ) (some_room : 12 < size) (small : 
       shown_next sum size some_room small bytes live first n slot part reach (part_is n) (part_within n le) least fit (λ p below. shown_before p below) in
       let more = mul-le 1 size (page_count size (length part)) size (omega (arith, pages, some)) (omega arith) in
       let end = next_ends sum size some_room small bytes live first n slot part reach (part_is n) (part_within n le) least
-        (omega (arith, ends_within slot w.ends, more)) in
+      (omega (arith, ends_within slot w.ends, more)) in
       record {
         sound = sound_next n;
         kept = flushed_keeps n true le some_bytes stays;
@@ -271,7 +271,7 @@ module _ (sum : List ℕ → ℕ) (size : ℕ) (some_room : 12 < size) (small : 
       ends_empty (Some kept) begun ends =
           let d = begun.1.durable in
           let v = vouched sum size (page_at size first (file_of calls).base) (slot_len size d.slot (page_at size first (file_of calls).base))
-            (slot_crc size d.slot (page_at size first (file_of calls).base)) d.verified in
+          (slot_crc size d.slot (page_at size first (file_of calls).base)) d.verified in
           absurd (omega (arith, begun.0, w.kept.within, tip_long, none, offset_is, v.some, d.says))
 
 -- what is all on the disk is durable after a sync
@@ -541,3 +541,78 @@ module _ (sum : List ℕ → ℕ) (calls : List Call) (w : WriterState) (some_ro
       subst P all
       (moments_more sum w.page_size (old ++ take n bytes) (drop n bytes) w.synced (omega (arith, is.kept.within, length-append old (take n bytes))) calls new
       (subst P is_more so_far))
+
+pub records_ok : {T : Type 0} (result : Result T Error) (call : Bool → Call) (old new : List Call) → Records result call old new
+    → OnOk result (new ≡ call true ∷ old)
+records_ok (Ok _) call old new is = is
+records_ok (Err _) call old new is = tt
+
+pub on_both : {T : Type 0} (result : Result T Error) (A B P : Type 0) → OnOk result A → OnOk result B → (A → B → P) → OnOk result P
+on_both (Ok _) A B P a b f = f a b
+on_both (Err _) A B P a b f = tt
+
+-- the calls of a writer's flush of all of its tip
+module _ (sum : List ℕ → ℕ) (calls : List Call) (w : WriterState) (some_room : 12 < w.page_size) (small : w.page_size ≤ 65536) (is : IsWriter sum calls w) where
+  abbrev IsAllThere : List Call → Type 0
+  IsAllThere new = IsFlushed sum w.page_size new (written sum calls w) w.synced
+      (w.tip.offset / content_size w.page_size + length w.tip.bytes / content_size w.page_size) (last_slot sum w.page_size w.slot w.tip.bytes)
+
+  pub nothing_flushed : length w.tip.bytes ≡ 0 → IsAllThere calls
+  nothing_flushed none = tip_there sum w.page_size some_room small calls (written sum calls w) w.synced w.tip w.slot is none
+
+  pub nothing_moments : Through (Keeps sum w.page_size (written sum calls w) w.synced) calls calls
+  nothing_moments = here (file_keeps sum w.page_size (omega (arith, some_room)) calls (written sum calls w) w.synced is.kept)
+
+  -- after a sync, the tip begins behind its whole pages
+  pub settled_after : (mid new : List Call) → IsAllThere mid → (made : List ℕ) → MakesDurable mid made → new ≡ synced made true ∷ mid → (next : WriterState)
+      → next.page_size ≡ w.page_size → next.synced ≡ w.tip.offset + length w.tip.bytes → next.slot ≡ last_slot sum w.page_size w.slot w.tip.bytes
+      → next.tip ≡ record w.tip {
+        offset = w.tip.offset + length w.tip.bytes / content_size w.page_size * content_size w.page_size;
+        bytes = drop (length w.tip.bytes / content_size w.page_size * content_size w.page_size) w.tip.bytes;
+      }
+      → IsWriterOf sum next.page_size new (written sum calls w) next.synced next.tip next.slot
+  settled_after mid new f made durable_made now next size_same synced_is slot_is tip_is =
+      let size = w.page_size in
+      let room = content_size size in
+      let bytes = written sum calls w in
+      let whole = length w.tip.bytes / room * room in
+      let slot = last_slot sum size w.slot w.tip.bytes in
+      let tip : Tip = record w.tip { offset = w.tip.offset + whole; bytes = drop whole w.tip.bytes } in
+      let begins : tip.offset ≡ (w.tip.offset / room + length w.tip.bytes / room) * room =
+      omega (arith, offset_is sum size some_room small calls bytes w.synced w.tip w.slot is) in
+      let rest : tip.bytes ≡ drop tip.offset bytes = ap (drop whole) is.tip_bytes ∙ drop-drop whole w.tip.offset bytes in
+      let all : next.synced ≡ length bytes = synced_is ∙ tip_long sum size some_room small calls bytes w.synced w.tip w.slot is in
+      let after = sync_writer sum size some_room mid bytes w.synced (w.tip.offset / room + length w.tip.bytes / room) slot f made durable_made tip begins rest is.numbers in
+      subst (λ n. IsWriterOf sum n new bytes next.synced next.tip next.slot) (sym size_same)
+      (subst (λ s. IsWriterOf sum size new bytes next.synced next.tip s) (sym slot_is)
+      (subst (λ t. IsWriterOf sum size new bytes next.synced t slot) (sym tip_is)
+      (subst (λ n. IsWriterOf sum size new bytes n tip slot) (sym all) (subst (λ c. IsWriterOf sum size c bytes (length bytes) tip slot) (sym now) after))))
+
+  module _ (some : 0 < length w.tip.bytes) (part : List ℕ) (first : ℕ) (part_is_tip : part ≡ w.tip.bytes)
+      (first_is : first ≡ w.tip.offset / content_size w.page_size) where
+    abbrev Writes : Bool → Call
+    Writes = wrote (first * w.page_size) (flushed_bytes sum w.page_size w.slot part) false
+
+    pub all_flushed : (new : List Call) → new ≡ wrote (first * w.page_size) (flushed_bytes sum w.page_size w.slot part) false true ∷ calls
+        → SumsFit sum w.page_size (page_count w.page_size (length part)) part → IsAllThere new
+    all_flushed new now fit =
+        let size = w.page_size in
+        let first_page = w.tip.offset / content_size size in
+        let there : List Call = wrote (first_page * size) (flushed_bytes sum size w.slot w.tip.bytes) false true ∷ calls in
+        let calls_are : new ≡ there = now ∙ ap (λ f. wrote (f * size) (flushed_bytes sum size w.slot part) false true ∷ calls) first_is
+        ∙ ap (λ l. wrote (first_page * size) (flushed_bytes sum size w.slot l) false true ∷ calls) part_is_tip in
+        let fits = subst (λ l. SumsFit sum size (page_count size (length l)) l) part_is_tip fit in
+        subst IsAllThere (sym calls_are) (tip_flushed sum size some_room small calls (written sum calls w) w.synced w.tip w.slot is some fits)
+
+    pub all_moments : {T : Type 0} (result : Result T Error) (new : List Call)
+        → Records result (wrote (first * w.page_size) (flushed_bytes sum w.page_size w.slot part) false) calls new
+        → Through (Keeps sum w.page_size (written sum calls w) w.synced) calls new
+    all_moments result new records =
+        let size = w.page_size in
+        let n = length w.tip.bytes in
+        let first_page = w.tip.offset / content_size size in
+        let whole : part ≡ take n w.tip.bytes = part_is_tip ∙ sym (take_all n w.tip.bytes (omega arith)) in
+        flush_moments sum size some_room small calls (written sum calls w) w.synced w.tip w.slot is result n new (omega arith) some
+        (stays_all sum size some_room small calls (written sum calls w) w.synced w.tip w.slot is w.slot is.begun)
+        (subst (λ l. Records result (wrote (first_page * size) (flushed_bytes sum size w.slot l) false) calls new) whole
+        (subst (λ f. Records result (wrote (f * size) (flushed_bytes sum size w.slot part) false) calls new) first_is records))

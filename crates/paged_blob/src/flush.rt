@@ -146,7 +146,11 @@ fn free_slot(kept: Option<DurableSlot>) -> Slot
 
 /// The slot that vouches for the last page of flushed content, where that is not whole (own). That a page has a power of
 /// two from 16 to 65536 bytes is on the caller.
-pub(crate) fn last_slot<C: Checksum>(page_size: usize, kept: Option<DurableSlot>, content: &[u8]) -> Option<DurableSlot>
+pub(crate) fn last_slot<C: Checksum>(
+    page_size: usize,
+    kept: Option<DurableSlot>,
+    content: &[u8],
+) -> Option<DurableSlot>
     requires { IsPageSize page_size }
     ensures { result ≡ last_slot C.checksum_of page_size kept content.now }
 {

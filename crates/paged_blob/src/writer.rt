@@ -6,8 +6,8 @@ ghost use Rattle.paged_format.specs.Footers.{IsPageSize, content_size};
 ghost use Rattle.paged_blob.specs.Calls.{file_of};
 ghost use Rattle.paged_blob.specs.Moments.{Through};
 ghost use Rattle.paged_blob.specs.Answers.{failures_after, IsCause, IsPastNumbers};
-ghost use Rattle.paged_blob.specs.Flushes.{physical_size};
-ghost use Rattle.paged_blob.specs.Writers.{WriterState, written, IsWriter, IsEmptyFile, Keeps};
+ghost use Rattle.paged_blob.specs.Flushes.{physical_size, last_slot};
+ghost use Rattle.paged_blob.specs.Writers.{WriterState, written, IsWriter, IsFlushed, IsEmptyFile, Keeps};
 ghost use Rattle.paged_blob.specs.declared.error.CallKind.{CallKind};
 
 use crate::blob::Blob;
@@ -52,12 +52,35 @@ impl<C: Checksum, Phase> Model for Writer<C, Phase> {
     ghost invariant = { λ w. IsPageSize w.page_size × (w.page_size ≤ w.tip.capacity) };
 }
 
+// Whether a list of so many bytes and so many more has, in pages, no number that ends.
+fn is_within_numbers(page_size: usize, len: u64, more: usize) -> bool
+    requires { IsPageSize page_size }
+    ensures { IsTrue result ↔ (physical_size page_size (len + more) + 4096 < 2 ^ 64) }
+{
+    let room = page_size as u64 - 12;
+    let Some(end) = len.checked_add(more as u64) else {
+        return false;
+    };
+    let Some(rounded) = end.checked_add(room - 1) else {
+        return false;
+    };
+    match (rounded / room).checked_mul(page_size as u64) {
+        Some(physical) => physical < u64::MAX - 4095,
+        None => false,
+    }
+}
+
 impl<C: Checksum> Writer<C> {
     /// A writer of nothing, over a blob in which nothing is, with a buffer of so many bytes, at least a page's; it has a
     /// new name in the cache, and pages as large as that has them. No name is left: F8. That the blob is empty, and that
     /// the cache's pages and twelve bytes are a power of two from 16 to 65536, is on the caller. It takes no memory yet.
     /// In the Rust: `paged::Writer::new`, which also takes a blob that is not empty.
-    pub fn new<B: Blob>(alloc: Global, _blob: &B, cache: &mut CacheRef, capacity: usize) -> Result<Self, Error>
+    pub fn new<B: Blob>(
+        alloc: Global,
+        _blob: &B,
+        cache: &mut CacheRef,
+        capacity: usize,
+    ) -> Result<Self, Error>
         requires size { IsPageSize (cache.old.page_size + 12) }
         requires empty { IsEmptyFile (file_of (B.calls _blob.now)) }
         ensures writer { IfOk result (λ w. IsWriter C.checksum_of (B.calls _blob.now) w) }
@@ -121,7 +144,14 @@ impl<C: Checksum, Phase> Writer<C, Phase> {
         let (pages, _) = bytes.split_at(bytes.len() / room * room);
         let whole = pages.len();
         let offset = self.tip.offset();
-        flush::<C, B>(self.alloc, blob, self.page_size, offset / room as u64, self.slot, pages)?;
+        flush::<C, B>(
+            self.alloc,
+            blob,
+            self.page_size,
+            offset / room as u64,
+            self.slot,
+            pages,
+        )?;
         let _ = cache.cache(self.blob_id, pages, offset);
         self.tip.drain(whole);
         self.slot = None;
@@ -129,7 +159,12 @@ impl<C: Checksum, Phase> Writer<C, Phase> {
     }
 
     // Appends as many of the bytes as there is room for, flushes the whole pages, and answers how many these were.
-    fn fill<B: Blob>(&mut self, blob: &mut B, cache: &mut CacheRef, bytes: &[u8]) -> Result<usize, Error>
+    fn fill<B: Blob>(
+        &mut self,
+        blob: &mut B,
+        cache: &mut CacheRef,
+        bytes: &[u8],
+    ) -> Result<usize, Error>
         requires writer { IsWriter C.checksum_of (B.calls blob.old) self.old }
         requires past { self.old.tip.capacity < length self.old.tip.bytes + length bytes.now }
         requires fits { physical_size self.old.page_size
@@ -153,5 +188,146 @@ impl<C: Checksum, Phase> Writer<C, Phase> {
         let count = self.tip.append(bytes)?;
         self.flush_pages(blob, cache)?;
         Ok(count)
+    }
+
+    // Appends these bytes, and flushes whole pages where the buffer is full.
+    fn extend<B: Blob>(
+        &mut self,
+        blob: &mut B,
+        cache: &mut CacheRef,
+        bytes: &[u8],
+    ) -> Result<(), Error>
+        requires size { IsPageSize self.old.page_size }
+        requires writer { IsWriter C.checksum_of (B.calls blob.old) self.old }
+        requires fits { physical_size self.old.page_size
+            (self.old.tip.offset + length self.old.tip.bytes + length bytes.now) + 4096 < 2 ^ 64 }
+        requires pages { cache.old.page_size ≡ content_size self.old.page_size }
+        ensures writer { OnOk result (IsWriter C.checksum_of (B.calls blob.new) self.new) }
+        ensures content { OnOk result (written C.checksum_of (B.calls blob.new) self.new
+            ≡ written C.checksum_of (B.calls blob.old) self.old ++ bytes.now) }
+        ensures synced { self.new.synced ≡ self.old.synced }
+        ensures same { (self.new.page_size ≡ self.old.page_size) × (self.new.blob_id ≡ self.old.blob_id)
+            × (self.new.tip.capacity ≡ self.old.tip.capacity) }
+        ensures any_moment { Through (Keeps C.checksum_of self.old.page_size
+            (written C.checksum_of (B.calls blob.old) self.old ++ bytes.now) self.old.synced)
+            (B.calls blob.old) (B.calls blob.new) }
+        ensures cause { IfErr result (IsCause CallKind.Write 0) }
+        ensures failures { B.failures blob.new ≡ failures_after result (B.failures blob.old) }
+        ensures cache { cache.new ≡ record cache.old { pages = cache.new.pages } }
+    {
+        let mut rest = bytes;
+        while self.tip.room() < rest.len() {
+            let count = self.fill(blob, cache, rest)?;
+            let (_, left) = rest.split_at(count);
+            rest = left;
+        }
+        let _ = self.tip.append(rest)?;
+        Ok(())
+    }
+
+    /// Appends bytes, and answers how many the list had before. They are durable after the next sync. Where a number of
+    /// the list would end: F8, and nothing changes; refused otherwise, the writer is given up.
+    /// In the Rust: `paged::Writer::append`.
+    pub fn append<B: Blob>(
+        mut self,
+        blob: &mut B,
+        cache: &mut CacheRef,
+        bytes: &[u8],
+    ) -> Result<(Self, u64), Error>
+        requires writer { IsWriter C.checksum_of (B.calls blob.old) self }
+        requires pages { cache.old.page_size ≡ content_size self.page_size }
+        ensures writer { IfOk result (λ r. IsWriter C.checksum_of (B.calls blob.new) r.0) }
+        ensures content { IfOk result (λ r. written C.checksum_of (B.calls blob.new) r.0
+            ≡ written C.checksum_of (B.calls blob.old) self ++ bytes.now) }
+        ensures old_size { IfOk result (λ r. r.1 ≡ length (written C.checksum_of (B.calls blob.old) self)) }
+        ensures synced { IfOk result (λ r. r.0.synced ≡ self.synced) }
+        ensures same { IfOk result (λ r. (r.0.page_size ≡ self.page_size) × (r.0.blob_id ≡ self.blob_id)
+            × (r.0.tip.capacity ≡ self.tip.capacity)) }
+        // Whatever a crash leaves at any moment of the call keeps what was synced.
+        ensures any_moment { Through (Keeps C.checksum_of self.page_size
+            (written C.checksum_of (B.calls blob.old) self ++ bytes.now) self.synced) (B.calls blob.old) (B.calls blob.new) }
+        ensures cause { IfErr result (IsCause CallKind.Write
+            (physical_size self.page_size (length (written C.checksum_of (B.calls blob.old) self) + length bytes.now))) }
+        ensures ended { IfErr result (λ e. e ≡ Error.NumberEnded → B.calls blob.new ≡ B.calls blob.old) }
+        ensures failures { B.failures blob.new ≡ failures_after result (B.failures blob.old) }
+        ensures cache { cache.new ≡ record cache.old { pages = cache.new.pages } }
+    {
+        let size = self.size();
+        if !is_within_numbers(self.page_size, size, bytes.len()) {
+            return Err(Error::NumberEnded);
+        }
+        self.extend(blob, cache, bytes)?;
+        Ok((self, size))
+    }
+
+    // Writes the tip, all of it.
+    fn flush_tip<B: Blob>(&self, blob: &mut B) -> Result<(), Error>
+        requires { IsWriter C.checksum_of (B.calls blob.old) self.now }
+        ensures flushed { OnOk result (IsFlushed C.checksum_of self.now.page_size (B.calls blob.new)
+            (written C.checksum_of (B.calls blob.old) self.now) self.now.synced
+            (self.now.tip.offset / content_size self.now.page_size + length self.now.tip.bytes / content_size self.now.page_size)
+            (last_slot C.checksum_of self.now.page_size self.now.slot self.now.tip.bytes)) }
+        ensures any_moment { Through (Keeps C.checksum_of self.now.page_size
+            (written C.checksum_of (B.calls blob.old) self.now) self.now.synced) (B.calls blob.old) (B.calls blob.new) }
+        ensures cause { IfErr result (IsCause CallKind.Write 0) }
+        ensures failures { B.failures blob.new ≡ failures_after result (B.failures blob.old) }
+    {
+        if self.tip.is_empty() {
+            return Ok(());
+        }
+        let first = self.tip.offset() / (self.page_size - 12) as u64;
+        flush::<C, B>(
+            self.alloc,
+            blob,
+            self.page_size,
+            first,
+            self.slot,
+            self.tip.as_bytes(),
+        )
+    }
+
+    // After a sync: all is durable, and the tip begins behind its whole pages.
+    fn settle(&mut self, cache: &mut CacheRef)
+        requires pages { cache.old.page_size ≡ content_size self.old.page_size }
+        requires begins { self.old.tip.offset % content_size self.old.page_size ≡ 0 }
+        ensures synced { self.new.synced ≡ self.old.tip.offset + length self.old.tip.bytes }
+        ensures slot { self.new.slot ≡ last_slot C.checksum_of self.old.page_size self.old.slot self.old.tip.bytes }
+        ensures tip { let whole = length self.old.tip.bytes / content_size self.old.page_size * content_size self.old.page_size in
+            self.new.tip ≡ record self.old.tip { offset = self.old.tip.offset + whole; bytes = drop whole self.old.tip.bytes } }
+        ensures same { (self.new.page_size ≡ self.old.page_size) × (self.new.blob_id ≡ self.old.blob_id) }
+        ensures cache { cache.new ≡ record cache.old { pages = cache.new.pages } }
+    {
+        let room = self.page_size - 12;
+        self.synced = self.tip.end();
+        self.slot = last_slot::<C>(self.page_size, self.slot, self.tip.as_bytes());
+        let _ = cache.cache(self.blob_id, self.tip.as_bytes(), self.tip.offset());
+        self.tip.drain(self.tip.as_bytes().len() / room * room);
+    }
+
+    /// Makes durable what was appended. Where all is, no call of the blob is made. Refused, the writer is given up.
+    /// In the Rust: `paged::Writer::sync`.
+    pub fn sync<B: Blob>(mut self, blob: &mut B, cache: &mut CacheRef) -> Result<Self, Error>
+        requires writer { IsWriter C.checksum_of (B.calls blob.old) self }
+        requires pages { cache.old.page_size ≡ content_size self.page_size }
+        ensures writer { IfOk result (λ w. IsWriter C.checksum_of (B.calls blob.new) w) }
+        ensures content { IfOk result (λ w. written C.checksum_of (B.calls blob.new) w
+            ≡ written C.checksum_of (B.calls blob.old) self) }
+        ensures synced { IfOk result (λ w. w.synced ≡ length (written C.checksum_of (B.calls blob.old) self)) }
+        ensures same { IfOk result (λ w. (w.page_size ≡ self.page_size) × (w.blob_id ≡ self.blob_id)
+            × (w.tip.capacity ≡ self.tip.capacity)) }
+        // Whatever a crash leaves at any moment of the call keeps what was synced before.
+        ensures any_moment { Through (Keeps C.checksum_of self.page_size
+            (written C.checksum_of (B.calls blob.old) self) self.synced) (B.calls blob.old) (B.calls blob.new) }
+        ensures cause { IfErr result (λ e. IsCause CallKind.Write 0 e ⊎ IsCause CallKind.Sync 0 e) }
+        ensures failures { B.failures blob.new ≡ failures_after result (B.failures blob.old) }
+        ensures cache { cache.new ≡ record cache.old { pages = cache.new.pages } }
+    {
+        if !self.needs_sync() {
+            return Ok(self);
+        }
+        self.flush_tip(blob)?;
+        blob.sync()?;
+        self.settle(cache);
+        Ok(self)
     }
 }

@@ -35,7 +35,7 @@ flush_pages-requires-clause-writer g c =
     let fits_all : physical_size w.page_size (w.tip.offset + length w.tip.bytes + length bytes) + 4096 < 2 ^ 64 =
     subst (λ (v : WriterState). physical_size v.page_size (v.tip.offset + length v.tip.bytes + length bytes) + 4096 < 2 ^ 64) (sym seen) c.requires.fits in
     let mono = physical_mono w.page_size (w.tip.offset + length w.tip.bytes + length (take n bytes)) (w.tip.offset + length w.tip.bytes + length bytes) some_room
-      (omega (arith, length-take n bytes)) in
+    (omega (arith, length-take n bytes)) in
     let fits : physical_size w.page_size (w.tip.offset + length w.tip.bytes + length (take n bytes)) + 4096 < 2 ^ 64 = omega (arith, fits_all, mono) in
     subst (λ (t : Tip). IsWriter sum old (record w { tip = t })) (sym tip_is) (more_writer sum old w some_room is (take n bytes) fits)
 
@@ -55,7 +55,7 @@ returns-in_err-flush_pages-clause-any_moment g c =
     let fits_all : physical_size w.page_size (w.tip.offset + length w.tip.bytes + length bytes) + 4096 < 2 ^ 64 =
     subst (λ (v : WriterState). physical_size v.page_size (v.tip.offset + length v.tip.bytes + length bytes) + 4096 < 2 ^ 64) (sym seen) c.requires.fits in
     let mono = physical_mono w.page_size (w.tip.offset + length w.tip.bytes + length (take n bytes)) (w.tip.offset + length w.tip.bytes + length bytes) some_room
-      (omega (arith, length-take n bytes)) in
+    (omega (arith, length-take n bytes)) in
     let fits : physical_size w.page_size (w.tip.offset + length w.tip.bytes + length (take n bytes)) + 4096 < 2 ^ 64 = omega (arith, fits_all, mono) in
     let new = g.B.Blob.calls c.flush_pages.new.blob in
     subst (λ (v : WriterState). Through (Keeps sum v.page_size (written sum old v ++ bytes) v.synced) old new) seen
@@ -77,7 +77,7 @@ returns-clause-any_moment g c =
     let fits_all : physical_size w.page_size (w.tip.offset + length w.tip.bytes + length bytes) + 4096 < 2 ^ 64 =
     subst (λ (v : WriterState). physical_size v.page_size (v.tip.offset + length v.tip.bytes + length bytes) + 4096 < 2 ^ 64) (sym seen) c.requires.fits in
     let mono = physical_mono w.page_size (w.tip.offset + length w.tip.bytes + length (take n bytes)) (w.tip.offset + length w.tip.bytes + length bytes) some_room
-      (omega (arith, length-take n bytes)) in
+    (omega (arith, length-take n bytes)) in
     let fits : physical_size w.page_size (w.tip.offset + length w.tip.bytes + length (take n bytes)) + 4096 < 2 ^ 64 = omega (arith, fits_all, mono) in
     let new = g.B.Blob.calls c.flush_pages.new.blob in
     subst (λ (v : WriterState). Through (Keeps sum v.page_size (written sum old v ++ bytes) v.synced) old new) seen
@@ -99,7 +99,7 @@ returns-clause-content g c =
     let fits_all : physical_size w.page_size (w.tip.offset + length w.tip.bytes + length bytes) + 4096 < 2 ^ 64 =
     subst (λ (v : WriterState). physical_size v.page_size (v.tip.offset + length v.tip.bytes + length bytes) + 4096 < 2 ^ 64) (sym seen) c.requires.fits in
     let mono = physical_mono w.page_size (w.tip.offset + length w.tip.bytes + length (take n bytes)) (w.tip.offset + length w.tip.bytes + length bytes) some_room
-      (omega (arith, length-take n bytes)) in
+    (omega (arith, length-take n bytes)) in
     let fits : physical_size w.page_size (w.tip.offset + length w.tip.bytes + length (take n bytes)) + 4096 < 2 ^ 64 = omega (arith, fits_all, mono) in
     c.in_ok-flush_pages.ensures.content ∙ ap (λ (t : Tip). written sum old (record w { tip = t })) tip_is
     ∙ more_written sum old w some_room is (take n bytes) fits ∙ ap (λ v. written sum old v ++ take n bytes) seen
