@@ -5,6 +5,7 @@ pub mod Chance
 pub mod Caches
 pub mod Writers
 pub mod Flushes
+pub mod WritersCode
 pub mod CachesCode
 pub mod Answers
 pub mod WriteModes

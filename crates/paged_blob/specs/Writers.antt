@@ -121,6 +121,11 @@ written sum calls w = take w.tip.offset (recovered sum w.page_size (whole (file_
 abbrev pub IsWriter : (List ℕ → ℕ) → List Call → WriterState → Type 0
 IsWriter sum calls w = IsWriterOf sum w.page_size calls (written sum calls w) w.synced w.tip w.slot
 
+-- bytes were taken into memory, and this is how many there were before
+pub record IsTaken (old new : WriterState) (size : ℕ) (bytes : List ℕ) : Type 0 where
+  pub size_before : size ≡ old.tip.offset + length old.tip.bytes
+  pub after : new ≡ record old { tip = record old.tip { bytes = old.tip.bytes ++ bytes } }
+
 -- nothing was written, and nothing is there
 abbrev pub IsEmptyFile : File → Type 0
 IsEmptyFile file = file ≡ record { base = []; changes = []; failed = false }

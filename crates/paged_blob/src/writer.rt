@@ -1,13 +1,14 @@
 //! A writer: one list of bytes over a blob.
 
 ghost use Rattle.std.specs.Prelude.{◌≡◌, ◌⊎◌, ◌+◌, ◌-◌, ◌*◌, ◌/◌, ◌%◌, ◌<◌, ◌≤◌, ◌^◌, ◌++◌, ◌↔◌, [], max, take, drop, length};
-ghost use Rattle.std.specs.Prelude.{false, None, IsTrue, IfOk, IfErr, OnOk, OnErr};
+ghost use Rattle.std.specs.Prelude.{false, None, List, IsTrue, IfOk, IfErr, OnOk, OnErr, IfSome, OnSome, IsNone};
 ghost use Rattle.paged_format.specs.Footers.{IsPageSize, content_size};
-ghost use Rattle.paged_blob.specs.Calls.{file_of};
+ghost use Rattle.paged_blob.specs.Calls.{Call, file_of};
 ghost use Rattle.paged_blob.specs.Moments.{Through};
 ghost use Rattle.paged_blob.specs.Answers.{failures_after, IsCause, IsPastNumbers};
 ghost use Rattle.paged_blob.specs.Flushes.{physical_size, last_slot};
-ghost use Rattle.paged_blob.specs.Writers.{WriterState, written, IsWriter, IsFlushed, IsEmptyFile, Keeps};
+ghost use Rattle.paged_blob.specs.Writers.{WriterState, written, IsWriter, IsFlushed, IsEmptyFile, Keeps, IsTaken};
+ghost use Rattle.paged_blob.specs.WritersCode.{IsTakingCause};
 ghost use Rattle.paged_blob.specs.declared.error.CallKind.{CallKind};
 
 use crate::blob::Blob;
@@ -15,6 +16,7 @@ use crate::cache::CacheRef;
 use crate::error::Error;
 use crate::flush::{DurableSlot, flush, last_slot};
 use fault_storage::Checksum;
+use merkle_forest::codec::{Encode, EncodeSize};
 use paged_format::TipBuffer;
 use std::alloc::Global;
 use std::marker::{Model, PhantomData};
@@ -258,6 +260,75 @@ impl<C: Checksum, Phase> Writer<C, Phase> {
         }
         self.extend(blob, cache, bytes)?;
         Ok((self, size))
+    }
+
+    /// Appends the bytes of a vector, as `append` does. In the Rust: `paged::Writer::append_owned`, of an `IoBuf`.
+    pub fn append_owned<B: Blob>(
+        self,
+        blob: &mut B,
+        cache: &mut CacheRef,
+        bytes: Vec<u8>,
+    ) -> Result<(Self, u64), Error>
+        requires writer { IsWriter C.checksum_of (B.calls blob.old) self }
+        requires pages { cache.old.page_size ≡ content_size self.page_size }
+        ensures writer { IfOk result (λ r. IsWriter C.checksum_of (B.calls blob.new) r.0) }
+        ensures content { IfOk result (λ r. written C.checksum_of (B.calls blob.new) r.0
+            ≡ written C.checksum_of (B.calls blob.old) self ++ bytes.items) }
+        ensures old_size { IfOk result (λ r. r.1 ≡ length (written C.checksum_of (B.calls blob.old) self)) }
+        ensures synced { IfOk result (λ r. r.0.synced ≡ self.synced) }
+        ensures same { IfOk result (λ r. (r.0.page_size ≡ self.page_size) × (r.0.blob_id ≡ self.blob_id)
+            × (r.0.tip.capacity ≡ self.tip.capacity)) }
+        ensures any_moment { Through (Keeps C.checksum_of self.page_size
+            (written C.checksum_of (B.calls blob.old) self ++ bytes.items) self.synced) (B.calls blob.old) (B.calls blob.new) }
+        ensures cause { IfErr result (IsCause CallKind.Write
+            (physical_size self.page_size (length (written C.checksum_of (B.calls blob.old) self) + length bytes.items))) }
+        ensures ended { IfErr result (λ e. e ≡ Error.NumberEnded → B.calls blob.new ≡ B.calls blob.old) }
+        ensures failures { B.failures blob.new ≡ failures_after result (B.failures blob.old) }
+        ensures cache { cache.new ≡ record cache.old { pages = cache.new.pages } }
+    {
+        self.append(blob, cache, &bytes)
+    }
+
+    /// Appends bytes where the buffer has room for all of them, and answers how many the list had before; None where it
+    /// has not, and nothing changes. Where a number of the list would end: F8. Refused, nothing changes.
+    /// In the Rust: `paged::Writer::try_append`, which is never refused.
+    pub fn try_append(&mut self, bytes: &[u8]) -> Result<Option<u64>, Error>
+        ensures some { IfOk result (λ o. IfSome o (λ size. IsTaken self.old self.new size bytes.now)) }
+        ensures none { IfOk result (λ o. IsNone o → self.new ≡ self.old) }
+        ensures full { IfOk result (λ o. IsNone o
+            ↔ (self.old.tip.capacity - length self.old.tip.bytes < length bytes.now)) }
+        ensures err { OnErr result (self.new ≡ self.old) }
+        ensures cause { IfErr result (IsTakingCause self.old (length bytes.now)) }
+        ensures writer { (calls : List Call) → IsWriter C.checksum_of calls self.old → IsWriter C.checksum_of calls self.new }
+        ensures content { (calls : List Call) → IsWriter C.checksum_of calls self.old
+            → IfOk result (λ o. OnSome o (written C.checksum_of calls self.new ≡ written C.checksum_of calls self.old ++ bytes.now)) }
+    {
+        let size = self.size();
+        if !is_within_numbers(self.page_size, size, bytes.len()) {
+            return Err(Error::NumberEnded);
+        }
+        if self.tip.room() < bytes.len() {
+            return Ok(None);
+        }
+        let _ = self.tip.append(bytes)?;
+        Ok(Some(size))
+    }
+
+    /// Appends the encoding of a value, as `try_append` does. In the Rust: `paged::Writer::try_append_value`, which is
+    /// never refused.
+    pub fn try_append_value<T: EncodeSize>(&mut self, value: &T) -> Result<Option<u64>, Error>
+        ensures some { IfOk result (λ o. IfSome o (λ size. IsTaken self.old self.new size (T.encoding value.now))) }
+        ensures none { IfOk result (λ o. IsNone o → self.new ≡ self.old) }
+        ensures full { IfOk result (λ o. IsNone o
+            ↔ (self.old.tip.capacity - length self.old.tip.bytes < length (T.encoding value.now))) }
+        ensures err { OnErr result (self.new ≡ self.old) }
+        ensures cause { IfErr result (IsTakingCause self.old (length (T.encoding value.now))) }
+        ensures writer { (calls : List Call) → IsWriter C.checksum_of calls self.old → IsWriter C.checksum_of calls self.new }
+        ensures content { (calls : List Call) → IsWriter C.checksum_of calls self.old → IfOk result (λ o. OnSome o
+            (written C.checksum_of calls self.new ≡ written C.checksum_of calls self.old ++ T.encoding value.now)) }
+    {
+        let bytes = value.encode(self.alloc)?;
+        self.try_append(&bytes)
     }
 
     // Writes the tip, all of it.
