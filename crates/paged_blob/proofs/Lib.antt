@@ -6,3 +6,4 @@ pub mod Kept
 pub mod FlushedPages
 pub mod FlushLaws
 pub mod WriterLaws
+pub mod CachedLaws

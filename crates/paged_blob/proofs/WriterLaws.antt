@@ -23,7 +23,10 @@ use Rattle.paged_blob.specs.Flushes.{page_count, flushed_bytes, last_slot, physi
 use Rattle.paged_blob.specs.Laws.Flushes.{StaysWithin}
 use Rattle.paged_blob.specs.declared.flush.DurableSlot.{DurableSlot}
 use Rattle.paged_blob.specs.declared.error.Error.{Error}
-use Rattle.paged_blob.proofs.FlushLaws.{whole_has, stays_min, durable_len, flush_kept, shown_next, last_next, next_ends}
+use Rattle.paged_blob.specs.Caches.{Cache, AreGiven}
+use Rattle.paged_blob.specs.CachedContent.{HoldsPagesOf}
+use Rattle.paged_blob.proofs.CachedLaws.{holds_pages_given}
+use Rattle.paged_blob.proofs.FlushLaws.{count_below, whole_has, stays_min, durable_len, flush_kept, shown_next, last_next, next_ends}
 
 -- more content to come
 each_weaker : (P Q : List ℕ → Type 0) (base : List ℕ) (changes : List Change) → ((file : List ℕ) → P file → Q file) → EachBeginning P base changes
@@ -105,10 +108,10 @@ module _ (sum : List ℕ → ℕ) (size : ℕ) (some_room : 12 < size) (small : 
   reach : first * size ≤ length live
   reach = omega (arith, w.ends)
 
-  part_is : (n : ℕ) → take n tip.bytes ≡ take n (from_page size first bytes)
+  pub part_is : (n : ℕ) → take n tip.bytes ≡ take n (from_page size first bytes)
   part_is n = ap (take n) tip_from
 
-  part_within : (n : ℕ) → n ≤ length tip.bytes → n ≤ length (from_page size first bytes)
+  pub part_within : (n : ℕ) → n ≤ length tip.bytes → n ≤ length (from_page size first bytes)
   part_within n le = omega (arith, le, ap length tip_from)
 
   begun_within : (s : Option DurableSlot) → IsBegun sum size (file_of calls) durable first s → durable ≤ (first + 1) * content_size size
@@ -457,6 +460,18 @@ module _ (sum : List ℕ → ℕ) (calls : List Call) (w : WriterState) (some_ro
       (subst (λ l. Records result (wrote (w.tip.offset / content_size w.page_size * w.page_size) (flushed_bytes sum w.page_size w.slot l) false) calls new) part_is_whole
       (subst (λ f. Records result (wrote (f * w.page_size) (flushed_bytes sum w.page_size w.slot part) false) calls new) first_is records))
 
+  -- they are kept in memory too
+  pub pages_cached : (old new : Cache) → old.page_size ≡ content_size w.page_size → new.page_size ≡ old.page_size → (given_first : ℕ)
+      → given_first ≡ w.tip.offset / content_size w.page_size
+      → AreGiven old.pages new.pages w.blob_id given_first old.page_size part (length part / old.page_size)
+      → HoldsPagesOf (written sum calls w) old w.blob_id → HoldsPagesOf (written sum calls w) new w.blob_id
+  pages_cached old new room_is same given_first given_is given =
+      let n = count * content_size w.page_size in
+      let page = w.tip.offset / content_size w.page_size in
+      holds_pages_given w.page_size page n some_room (written sum calls w) part old new w.blob_id given_first room_is same given_is
+      (part_is_whole ∙ part_is sum w.page_size some_room small calls (written sum calls w) w.synced w.tip w.slot is n)
+      (part_within sum w.page_size some_room small calls (written sum calls w) w.synced w.tip w.slot is n pages_within_tip) given
+
   pub pages_after : (new : List Call) → new ≡ wrote (first * w.page_size) (flushed_bytes sum w.page_size w.slot part) false true ∷ calls
       → SumsFit sum w.page_size (page_count w.page_size (length part)) part → (tip : Tip)
       → tip ≡ record w.tip { offset = w.tip.offset + length part; bytes = drop (length part) w.tip.bytes }
@@ -499,6 +514,13 @@ physical_mono size less more some le =
     let q = (less + (room - 1)) / room in
     let pages : q ≤ page_count size more = le-div q (more + (room - 1)) room (omega (arith, some)) (omega (arith, div-add-mod' (less + (room - 1)) room, le)) in
     mul-le q size (page_count size more) size pages (omega arith)
+
+-- content has at least as many bytes on the disk
+pub physical_above : (size len : ℕ) → 12 < size → len ≤ physical_size size len
+physical_above size len some =
+    let count = page_count size len in
+    let all = count_below size some len count (omega arith) in
+    omega (arith, all, mul-le count (content_size size) count size (omega arith) (omega arith))
 
 -- a writer with more bytes in memory
 module _ (sum : List ℕ → ℕ) (calls : List Call) (w : WriterState) (some_room : 12 < w.page_size) (is : IsWriter sum calls w) where
@@ -562,6 +584,18 @@ module _ (sum : List ℕ → ℕ) (calls : List Call) (w : WriterState) (some_ro
 
   pub nothing_moments : Through (Keeps sum w.page_size (written sum calls w) w.synced) calls calls
   nothing_moments = here (file_keeps sum w.page_size (omega (arith, some_room)) calls (written sum calls w) w.synced is.kept)
+
+  -- its whole pages are kept in memory too
+  pub tip_cached : (old new : Cache) → old.page_size ≡ content_size w.page_size → new.page_size ≡ old.page_size → (given_first : ℕ)
+      → given_first ≡ w.tip.offset / content_size w.page_size
+      → AreGiven old.pages new.pages w.blob_id given_first old.page_size w.tip.bytes (length w.tip.bytes / old.page_size)
+      → HoldsPagesOf (written sum calls w) old w.blob_id → HoldsPagesOf (written sum calls w) new w.blob_id
+  tip_cached old new room_is same given_first given_is given =
+      let n = length w.tip.bytes in
+      let page = w.tip.offset / content_size w.page_size in
+      holds_pages_given w.page_size page n some_room (written sum calls w) w.tip.bytes old new w.blob_id given_first room_is same given_is
+      (sym (take_all n w.tip.bytes (omega arith)) ∙ part_is sum w.page_size some_room small calls (written sum calls w) w.synced w.tip w.slot is n)
+      (part_within sum w.page_size some_room small calls (written sum calls w) w.synced w.tip w.slot is n (omega arith)) given
 
   -- after a sync, the tip begins behind its whole pages
   pub settled_after : (mid new : List Call) → IsAllThere mid → (made : List ℕ) → MakesDurable mid made → new ≡ synced made true ∷ mid → (next : WriterState)

@@ -6,6 +6,7 @@ pub mod Caches
 pub mod Writers
 pub mod Flushes
 pub mod WritersCode
+pub mod CachedContent
 pub mod CachesCode
 pub mod Answers
 pub mod WriteModes

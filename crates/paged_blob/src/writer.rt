@@ -9,6 +9,8 @@ ghost use Rattle.paged_blob.specs.Answers.{failures_after, IsCause, IsPastNumber
 ghost use Rattle.paged_blob.specs.Flushes.{physical_size, last_slot};
 ghost use Rattle.paged_blob.specs.Writers.{WriterState, written, IsWriter, IsFlushed, IsEmptyFile, Keeps, IsTaken};
 ghost use Rattle.paged_blob.specs.WritersCode.{IsTakingCause};
+ghost use Rattle.paged_blob.specs.Caches.{AreGiven};
+ghost use Rattle.paged_blob.specs.CachedContent.{HoldsPagesOf, KeepsOthers};
 ghost use Rattle.paged_blob.specs.declared.error.CallKind.{CallKind};
 
 use crate::blob::Blob;
@@ -140,6 +142,10 @@ impl<C: Checksum, Phase> Writer<C, Phase> {
         ensures cause { IfErr result (IsCause CallKind.Write 0) }
         ensures failures { B.failures blob.new ≡ failures_after result (B.failures blob.old) }
         ensures cache { cache.new ≡ record cache.old { pages = cache.new.pages } }
+        ensures cached { OnOk result (HoldsPagesOf (written C.checksum_of (B.calls blob.old) self.old) cache.old self.old.blob_id
+            → HoldsPagesOf (written C.checksum_of (B.calls blob.new) self.new) cache.new self.old.blob_id) }
+        ensures uncached { OnErr result (cache.new ≡ cache.old) }
+        ensures others { KeepsOthers cache.old cache.new self.old.blob_id }
     {
         let room = self.page_size - 12;
         let bytes = self.tip.as_bytes();
@@ -186,6 +192,10 @@ impl<C: Checksum, Phase> Writer<C, Phase> {
         ensures cause { IfErr result (IsCause CallKind.Write 0) }
         ensures failures { B.failures blob.new ≡ failures_after result (B.failures blob.old) }
         ensures cache { cache.new ≡ record cache.old { pages = cache.new.pages } }
+        ensures cached { OnOk result (HoldsPagesOf (written C.checksum_of (B.calls blob.old) self.old) cache.old self.old.blob_id
+            → HoldsPagesOf (written C.checksum_of (B.calls blob.new) self.new) cache.new self.old.blob_id) }
+        ensures uncached { OnErr result (cache.new ≡ cache.old) }
+        ensures others { KeepsOthers cache.old cache.new self.old.blob_id }
     {
         let count = self.tip.append(bytes)?;
         self.flush_pages(blob, cache)?;
@@ -216,6 +226,9 @@ impl<C: Checksum, Phase> Writer<C, Phase> {
         ensures cause { IfErr result (IsCause CallKind.Write 0) }
         ensures failures { B.failures blob.new ≡ failures_after result (B.failures blob.old) }
         ensures cache { cache.new ≡ record cache.old { pages = cache.new.pages } }
+        ensures cached { HoldsPagesOf (written C.checksum_of (B.calls blob.old) self.old) cache.old self.old.blob_id
+            → HoldsPagesOf (written C.checksum_of (B.calls blob.old) self.old ++ bytes.now) cache.new self.old.blob_id }
+        ensures others { KeepsOthers cache.old cache.new self.old.blob_id }
     {
         let mut rest = bytes;
         while self.tip.room() < rest.len() {
@@ -253,6 +266,10 @@ impl<C: Checksum, Phase> Writer<C, Phase> {
         ensures ended { IfErr result (λ e. e ≡ Error.NumberEnded → B.calls blob.new ≡ B.calls blob.old) }
         ensures failures { B.failures blob.new ≡ failures_after result (B.failures blob.old) }
         ensures cache { cache.new ≡ record cache.old { pages = cache.new.pages } }
+        // The pages that are kept under the writer's name stay those of its content.
+        ensures cached { HoldsPagesOf (written C.checksum_of (B.calls blob.old) self) cache.old self.blob_id
+            → HoldsPagesOf (written C.checksum_of (B.calls blob.old) self ++ bytes.now) cache.new self.blob_id }
+        ensures others { KeepsOthers cache.old cache.new self.blob_id }
     {
         let size = self.size();
         if !is_within_numbers(self.page_size, size, bytes.len()) {
@@ -285,6 +302,10 @@ impl<C: Checksum, Phase> Writer<C, Phase> {
         ensures ended { IfErr result (λ e. e ≡ Error.NumberEnded → B.calls blob.new ≡ B.calls blob.old) }
         ensures failures { B.failures blob.new ≡ failures_after result (B.failures blob.old) }
         ensures cache { cache.new ≡ record cache.old { pages = cache.new.pages } }
+        // The pages that are kept under the writer's name stay those of its content.
+        ensures cached { HoldsPagesOf (written C.checksum_of (B.calls blob.old) self) cache.old self.blob_id
+            → HoldsPagesOf (written C.checksum_of (B.calls blob.old) self ++ bytes.items) cache.new self.blob_id }
+        ensures others { KeepsOthers cache.old cache.new self.blob_id }
     {
         self.append(blob, cache, &bytes)
     }
@@ -367,6 +388,8 @@ impl<C: Checksum, Phase> Writer<C, Phase> {
             self.new.tip ≡ record self.old.tip { offset = self.old.tip.offset + whole; bytes = drop whole self.old.tip.bytes } }
         ensures same { (self.new.page_size ≡ self.old.page_size) × (self.new.blob_id ≡ self.old.blob_id) }
         ensures cache { cache.new ≡ record cache.old { pages = cache.new.pages } }
+        ensures given { AreGiven cache.old.pages cache.new.pages self.old.blob_id (self.old.tip.offset / cache.old.page_size)
+            cache.old.page_size self.old.tip.bytes (length self.old.tip.bytes / cache.old.page_size) }
     {
         let room = self.page_size - 12;
         self.synced = self.tip.end();
@@ -392,6 +415,10 @@ impl<C: Checksum, Phase> Writer<C, Phase> {
         ensures cause { IfErr result (λ e. IsCause CallKind.Write 0 e ⊎ IsCause CallKind.Sync 0 e) }
         ensures failures { B.failures blob.new ≡ failures_after result (B.failures blob.old) }
         ensures cache { cache.new ≡ record cache.old { pages = cache.new.pages } }
+        // The pages that are kept under the writer's name stay those of its content.
+        ensures cached { HoldsPagesOf (written C.checksum_of (B.calls blob.old) self) cache.old self.blob_id
+            → HoldsPagesOf (written C.checksum_of (B.calls blob.old) self) cache.new self.blob_id }
+        ensures others { KeepsOthers cache.old cache.new self.blob_id }
     {
         if !self.needs_sync() {
             return Ok(self);

@@ -1,4 +1,5 @@
 use Rattle.std.proofs.Common.{◌≡◌, ◌≤◌, ◌+◌, ◌++◌, ℕ, length, take, drop}
+use Rattle.paged_blob.specs.CachedContent.{HoldsPagesOf, KeepsOthers}
 use Rattle.paged_blob.specs.Moments.{Through}
 use Rattle.paged_blob.specs.Writers.{IsWriter, Keeps, written}
 use Rattle.paged_blob.proofs.writer.Writer.extend.Given as goal
@@ -20,6 +21,9 @@ invariant-loop-rest g l = record {
   capacity : l.self.tip.capacity ≡ l.initial.self.tip.capacity;
   failures : g.B.Blob.failures l.blob ≡ g.B.Blob.failures l.initial.blob;
   cache : l.cache ≡ record l.initial.cache { pages = l.cache.pages };
+  cached : HoldsPagesOf (written g.C.Checksum.checksum_of (g.B.Blob.calls l.initial.blob) l.initial.self) l.initial.cache l.initial.self.blob_id
+      → HoldsPagesOf (written g.C.Checksum.checksum_of (g.B.Blob.calls l.blob) l.self) l.cache l.initial.self.blob_id;
+  others : KeepsOthers l.initial.cache l.cache l.initial.self.blob_id;
 }
 
 abbrev pub decreases-loop-rest : goal.decreases-loop-rest
