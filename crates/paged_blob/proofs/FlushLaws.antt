@@ -14,9 +14,11 @@ use Rattle.paged_format.specs.Laws.Pages.{vouched, vouching}
 use Rattle.paged_blob.specs.Calls.{Change, write, whole, with_bytes, File, after_change}
 use Rattle.paged_blob.specs.Images.{is_within, least_length}
 use Rattle.paged_blob.specs.Chance.{page_at, slot_in}
-use Rattle.paged_blob.specs.Writers.{from_page, ShowsContent, HoldsContent, EachBeginning, OnlyAt, IsDurablePage, share, IsKeptIn, ShowsLength, AreShown, IsDurableSlot, IsBegun, StandsIn, EndsBy}
+use Rattle.paged_blob.specs.Writers.{from_page, ShowsContent, HoldsContent, EachBeginning, OnlyAt, IsDurablePage, share}
+use Rattle.paged_blob.specs.Writers.{IsKeptIn, ShowsLength, AreShown, IsDurableSlot, IsBegun, StandsIn, EndsBy}
 use Rattle.paged_blob.specs.Flushes.{footer_over, page_bytes, page_count, flushed_bytes, last_slot, free_slot, SumsFit}
-use Rattle.paged_blob.specs.Laws.Flushes.{StaysWithin, stays_in, page_begins, page_ends, slots_say, new_says, new_in, kept_in, length-pages_bytes, page_of_pages, sum_of_page}
+use Rattle.paged_blob.specs.Laws.Flushes.{StaysWithin, stays_in, page_begins, page_ends, slots_say}
+use Rattle.paged_blob.specs.Laws.Flushes.{new_says, new_in, kept_in, length-pages_bytes, page_of_pages, sum_of_page}
 use Rattle.paged_blob.specs.declared.flush.DurableSlot.{DurableSlot}
 use Rattle.paged_blob.proofs.Bytes.{length-with_bytes}
 use Rattle.paged_blob.proofs.FlushedPages.{page_byte, pages_apart, new_length, page_before, page_laid, page_behind}
@@ -68,7 +70,8 @@ module _ (size : ℕ) (some_room : 12 < size) where
       (λ le. le)
       (cases_lt (page * room) len)
 
-  pub piece_long : (bytes : List ℕ) (page : ℕ) → length (page_at (content_size size) page bytes) ≡ min (content_size size) (length bytes - page * content_size size)
+  pub piece_long : (bytes : List ℕ) (page : ℕ) → length (page_at (content_size size) page bytes) ≡ min (content_size size)
+      (length bytes - page * content_size size)
   piece_long bytes page =
       length-take (content_size size) (drop (page * content_size size) bytes) ∙ ap (min (content_size size)) (length-drop (page * content_size size) bytes)
 
@@ -79,7 +82,8 @@ module _ (size : ℕ) (some_room : 12 < size) where
       let room = content_size size in
       let rest = from_page size first content in
       let split : n ≡ page * room + (n - page * room) = omega (arith, before) in
-      let later : drop (page * room) rest ≡ from_page size (first + page) content = drop-drop (page * room) (first * room) content ∙ ap (λ m. drop m content) (omega arith) in
+      let later : drop (page * room) rest ≡ from_page size (first + page) content = drop-drop (page * room) (first * room) content
+      ∙ ap (λ m. drop m content) (omega arith) in
       ap (λ m. take room (drop (page * room) (take m rest))) split
       ∙ ap (take room) (drop-take (page * room) (n - page * room) rest)
       ∙ take_both room (n - page * room) (drop (page * room) rest)
@@ -93,7 +97,8 @@ module _ (size : ℕ) (some_room : 12 < size) where
           (cases_lt a b)
 
 -- a page that has the share of a slot that stays has the slot's bytes
-stays_at : (slot : Option DurableSlot) (page first_len len : ℕ) → StaysWithin slot first_len → (page ≡ 0 → first_len ≤ len) → StaysWithin (stays_in page slot) len
+stays_at : (slot : Option DurableSlot) (page first_len len : ℕ) → StaysWithin slot first_len → (page ≡ 0 → first_len ≤ len)
+    → StaysWithin (stays_in page slot) len
 stays_at None zero first_len len stays same = tt
 stays_at (Some kept) zero first_len len stays same = omega (arith, stays, same refl)
 stays_at slot (suc page) first_len len stays same = tt
@@ -236,15 +241,18 @@ module _ (sum : List ℕ → ℕ) (size : ℕ) (some_room : 12 < size) (small : 
       let len = length (piece page) in
       let fits = piece_fits page in
       let sums : sum (piece page) < 2 ^ 32 = sum_of_page sum size (omega (arith, some_room)) (page_count size (length bytes)) page bytes fit below in
-      let says = new_says size (laid page) (omega (arith, some_room)) len (sum (piece page)) (stays_in page slot) (laid_ends page) (omega (arith, fits, small)) sums in
+      let says = new_says size (laid page) (omega (arith, some_room)) len (sum (piece page)) (stays_in page slot) (laid_ends page) (omega
+      (arith, fits, small)) sums in
       let front : take len (laid page) ≡ piece page = laid_begins page len (omega arith) ∙ take_all len (piece page) (omega arith) in
-      let ok : verifies sum size new (laid page) ≡ true = vouching sum size (laid page) (slot_len size new (laid page)) (slot_crc size new (laid page)) (record {
+      let ok : verifies sum size new (laid page) ≡ true = vouching sum size (laid page) (slot_len size new (laid page)) (slot_crc size new
+      (laid page)) (record {
         some = omega (arith, says.0, piece_len page, before page below, some_room);
         fits = omega (arith, says.0, fits);
         sums = says.1 ∙ ap sum (sym front) ∙ ap (λ m. sum (take m (laid page))) (sym says.0);
       }) in
       let there = new_in size (laid page) (omega (arith, some_room)) len (sum (piece page)) (stays_in page slot) (laid_ends page) in
-      let V : List ℕ → Type 0 = λ p. (verifies sum size new p ≡ true) × (slot_len size new p ≡ len) × (slot_in size new p ≡ slot_bytes len (sum (piece page))) in
+      let V : List ℕ → Type 0 = λ p. (verifies sum size new p ≡ true) × (slot_len size new p ≡ len) × (slot_in size new p ≡ slot_bytes len (sum
+      (piece page))) in
       let stands : V (page_at size (first + page) (with_bytes (first * size) pages file)) = subst V (sym here) (ok, says.0, there) in
       record { verified = stands.0; says = stands.1; bytes = stands.2 }
 
@@ -291,7 +299,8 @@ module _ (sum : List ℕ → ℕ) (size : ℕ) (some_room : 12 < size) (small : 
       let place : first + j ≡ page = omega (arith, from) in
       let spread : first * room + j * room ≡ page * room = omega (arith, ap (λ p. p * room) place) in
       let inside : j < page_count size (length bytes) =
-      ⊎_elim (λ lt. lt) (λ past. absurd (omega (arith, count_below size some_room (length bytes) j past, long, spread, below))) (cases_lt j (page_count size (length bytes))) in
+      ⊎_elim (λ lt. lt) (λ past. absurd (omega (arith, count_below size some_room (length bytes) j past, long, spread, below))) (cases_lt j
+      (page_count size (length bytes))) in
       let len : length (piece j) ≡ share size page (first * room + n) = piece_len j ∙ omega (arith, spread) in
       subst S len (subst (λ p. ShowsLength sum size (length (piece j)) next p) place (shows_new fit j inside)))
       (cases_lt page first)
@@ -354,7 +363,8 @@ module _ (sum : List ℕ → ℕ) (size : ℕ) (some_room : 12 < size) (small : 
       let split : n / room * room + n % room ≡ n = div-add-mod' n room in
       let spread : first * room + n ≡ (first + n / room) * room + n % room = omega (arith, split) in
       let m : length bytes % room ≡ n % room = ap (λ l. l % room) long in
-      let E : Option DurableSlot → Type 0 = EndsBy sum size (with_bytes (first * size) (flushed_bytes sum size slot bytes) file) (first * room + n) (first + n / room) in
+      let E : Option DurableSlot → Type 0 = EndsBy sum size (with_bytes (first * size) (flushed_bytes sum size slot bytes) file) (first * room + n)
+      (first + n / room) in
       ⊎_elim
       (λ whole. subst E (sym (cond-true _ _ _ whole)) (omega (arith, spread, m, eqb-true _ _ whole)))
       (λ part. subst E (sym (cond-false _ _ _ part))
@@ -422,9 +432,12 @@ module _ (sum : List ℕ → ℕ) (size : ℕ) (some_room : 12 < size) (content 
       page_begins sum size (Some slot) bytes room fits slot.len within ∙ ap (take slot.len) is ∙ take-take slot.len (length bytes) rest within in
       let front : (i : ℕ) → i < slot.len → get_or new i 0 ≡ get_or old i 0 = λ i below.
       sym (get_or-take slot.len new i 0 below) ∙ ap (λ l. get_or l i 0) (new_front ∙ sym old_front) ∙ get_or-take slot.len old i 0 below in
-      let new_slot : slot_in size slot.slot new ≡ slot_bytes slot.len slot.crc = kept_in size new room (length bytes) (sum bytes) slot (page_ends sum size (Some slot) bytes room fits) in
-      let same_slot : slot_in size d.slot new ≡ slot_in size d.slot old = ap (λ s. slot_in size s new) kept.slot_is ∙ new_slot ∙ sym kept.bytes ∙ ap (λ s. slot_in size s old) (sym kept.slot_is) in
-      let in_slot : (i : ℕ) → i < 6 → get_or new (slot_start size d.slot + i) 0 ≡ get_or old (slot_start size d.slot + i) 0 = λ i below. slot_byte size d.slot new old same_slot i below in
+      let new_slot : slot_in size slot.slot new ≡ slot_bytes slot.len slot.crc =
+      kept_in size new room (length bytes) (sum bytes) slot (page_ends sum size (Some slot) bytes room fits) in
+      let same_slot : slot_in size d.slot new ≡ slot_in size d.slot old = ap (λ s. slot_in size s new) kept.slot_is ∙ new_slot ∙ sym kept.bytes
+      ∙ ap (λ s. slot_in size s old) (sym kept.slot_is) in
+      let in_slot : (i : ℕ) → i < 6 → get_or new (slot_start size d.slot + i) 0 ≡ get_or old (slot_start size d.slot + i) 0 =
+      λ i below. slot_byte size d.slot new old same_slot i below in
       record {
         slot = d.slot;
         verified = d.verified;
@@ -436,7 +449,8 @@ module _ (sum : List ℕ → ℕ) (size : ℕ) (some_room : 12 < size) (content 
             (λ from to. byte i short ∙ front i below ∙ old_byte i short) (d.bytes i below);
         slot_bytes = λ i below.
             let short : slot_start size d.slot + i < size = omega (arith, below, ends) in
-            only_after file (first * size) pages false ok (first * size + (slot_start size d.slot + i)) (get_or file.base (first * size + (slot_start size d.slot + i)) 0)
+            only_after file (first * size) pages false ok (first * size + (slot_start size d.slot + i)) (get_or file.base (first * size +
+            (slot_start size d.slot + i)) 0)
             (λ from to. byte (slot_start size d.slot + i) short ∙ in_slot i below ∙ old_byte (slot_start size d.slot + i) short) (d.slot_bytes i below);
       }
 
@@ -496,7 +510,8 @@ flush_kept sum size some_room small content file synced first n slot bytes ok k 
   );
   durable = λ page below.
       ⊎_elim
-      (λ earlier. durable_before sum size some_room content file first (flushed_bytes sum size slot bytes) ok (share size page synced) page earlier (k.durable page below))
+      (λ earlier. durable_before sum size some_room content file first (flushed_bytes sum size slot bytes) ok (share size page synced) page earlier
+      (k.durable page below))
       (λ from. durable_from sum size some_room content file synced first n slot bytes ok is within some begun stays
       (base_has (HoldsContent sum size content) file.base file.changes k.beginnings) page from below)
       (cases_lt page first);

@@ -2,7 +2,8 @@
 use Rattle.std.proofs.Common.{◌≡◌, ℕ, zero, suc, ◌+◌, ◌-◌, ◌*◌, ◌/◌, ◌%◌, ◌<◌, ◌≤◌, ◌^◌, ◌==◌, Bool, true, false, Option, Some, None, Result, Ok, Err, OnOk}
 use Rattle.std.proofs.Common.{List, [], ◌∷◌, ◌++◌, length, take, drop, sym, ◌∙◌, ap, subst, ⊎_elim, refl, arith}
 use Rattle.std.proofs.lemmas.Bool.{cases_lt, cases_Bool, or_from, eqb-true, eqb-false, eq-eqb, cond-true, cond-false}
-use Rattle.std.proofs.lemmas.List.{length-append, length-drop, length-take-le, take-take, take_all, take-append-le, drop-append-le, drop-drop, take-append-drop, drop_all, append_assoc}
+use Rattle.std.proofs.lemmas.List.{length-append, length-drop, length-take-le, take-take, take_all}
+use Rattle.std.proofs.lemmas.List.{take-append-le, drop-append-le, drop-drop, take-append-drop, drop_all, append_assoc}
 use Rattle.std.proofs.lemmas.Nat.{mul-le, div-add-mod', mod_below, mod-mul-add, div-mul-add, le-div}
 use Rattle.std.proofs.Math.Nat.{div-eq_of_lt, zero-mod, zero-div}
 use Rattle.std.specs.Int.{w16, from_be_bytes}
@@ -57,7 +58,8 @@ pub kept_more : (sum : List ℕ → ℕ) (size : ℕ) (bytes more : List ℕ) (d
     → IsKeptIn sum size (bytes ++ more) durable file
 kept_more sum size bytes more durable file k = record {
   within = omega (arith, k.within, length-append bytes more);
-  beginnings = each_weaker (HoldsContent sum size bytes) (HoldsContent sum size (bytes ++ more)) file.base file.changes (holds_more sum size bytes more) k.beginnings;
+  beginnings = each_weaker (HoldsContent sum size bytes) (HoldsContent sum size (bytes ++ more)) file.base file.changes
+      (holds_more sum size bytes more) k.beginnings;
   durable = k.durable;
 }
 
@@ -135,7 +137,8 @@ module _ (sum : List ℕ → ℕ) (size : ℕ) (some_room : 12 < size) (small : 
   pub flushed_keeps : (n : ℕ) (ok : Bool) → n ≤ length tip.bytes → 0 < n → StaysWithin slot n
       → IsKeptIn sum size bytes durable (file_of (wrote (first * size) (flushed_bytes sum size slot (take n tip.bytes)) false ok ∷ calls))
   flushed_keeps n ok le some stays =
-      flush_kept sum size some_room small bytes (file_of calls) durable first n slot (take n tip.bytes) ok w.kept reach (part_is n) (part_within n le) some w.begun stays
+      flush_kept sum size some_room small bytes (file_of calls) durable first n slot (take n tip.bytes) ok w.kept reach (part_is n)
+      (part_within n le) some w.begun stays
 
   pub flush_moments : {T : Type 0} (result : Result T Error) (n : ℕ) (new : List Call) → n ≤ length tip.bytes → 0 < n → StaysWithin slot n
       → Records result (wrote (first * size) (flushed_bytes sum size slot (take n tip.bytes)) false) calls new
@@ -143,7 +146,8 @@ module _ (sum : List ℕ → ℕ) (size : ℕ) (some_room : 12 < size) (small : 
   flush_moments result n new le some stays records =
       goes_on (Keeps sum size bytes durable) calls calls new result (wrote (first * size) (flushed_bytes sum size slot (take n tip.bytes)) false)
       (here (file_keeps sum size (omega (arith, some_room)) calls bytes durable w.kept)) records
-      (λ ok. file_keeps sum size (omega (arith, some_room)) (wrote (first * size) (flushed_bytes sum size slot (take n tip.bytes)) false ok ∷ calls) bytes durable
+      (λ ok. file_keeps sum size (omega (arith, some_room)) (wrote (first * size) (flushed_bytes sum size slot
+      (take n tip.bytes)) false ok ∷ calls) bytes durable
       (flushed_keeps n ok le some stays))
 
   sound_next : (n : ℕ) → (file_of (wrote (first * size) (flushed_bytes sum size slot (take n tip.bytes)) false true ∷ calls)).failed ≡ false
@@ -165,7 +169,8 @@ module _ (sum : List ℕ → ℕ) (size : ℕ) (some_room : 12 < size) (small : 
       let some_bytes : 0 < n = omega (arith, mul-le 1 room count room some (omega arith), some_room) in
       let place : tip.offset + n ≡ (first + count) * room = omega (arith, offset_is) in
       let begins : (first + count) * room ≡ (first + count) * room + 0 = omega arith in
-      let page : (tip.offset + n) / room ≡ first + count = ap (λ m. m / room) (place ∙ begins) ∙ div-mul-add (first + count) room 0 (omega (arith, some_room)) in
+      let page : (tip.offset + n) / room ≡ first + count = ap (λ m. m / room) (place ∙ begins)
+      ∙ div-mul-add (first + count) room 0 (omega (arith, some_room)) in
       let least = stays_min sum size (file_of calls) durable first n slot w.begun stays in
       let long : length part ≡ n = length-take-le n tip.bytes le in
       let pages : page_count size (length part) ≡ count = ap (page_count size) long ∙ count_whole count in
@@ -182,7 +187,13 @@ module _ (sum : List ℕ → ℕ) (size : ℕ) (some_room : 12 < size) (small : 
         tip_within = omega (arith, tip_long, le);
         tip_bytes = ap (drop n) w.tip_bytes ∙ drop-drop n tip.offset bytes;
         shown = subst (λ m. AreShown sum size m next) (omega (arith, offset_is)) shown;
-        begun = omega (arith, begun_within slot w.begun, ap (λ m. m * room) page, mul-le (first + 1) room (first + count) room (omega (arith, some)) (omega arith));
+        begun = omega (
+          arith,
+          begun_within slot w.begun,
+          ap (λ m. m * room) page,
+          mul-le (first + 1) room (first + count) room (omega (arith, some))
+              (omega arith),
+        );
         ends = end ∙ omega (arith, ap (λ m. m * size) pages) ∙ ap (λ m. (m + 0) * size) (sym page);
         numbers = w.numbers;
       }
@@ -243,7 +254,8 @@ module _ (sum : List ℕ → ℕ) (size : ℕ) (some_room : 12 < size) (small : 
       record {
         sound = or_from (file_of calls).failed false w.sound refl;
         kept = flush_kept sum size some_room small bytes (file_of calls) durable first n slot tip.bytes true w.kept reach is inside some w.begun stays;
-        shown = subst (λ m. AreShown sum size m next) all (shown_next sum size some_room small bytes live first n slot tip.bytes reach is inside least fit shown_tip);
+        shown = subst (λ m. AreShown sum size m next) all
+            (shown_next sum size some_room small bytes live first n slot tip.bytes reach is inside least fit shown_tip);
         last = subst (λ m. EndsBy sum size next m (first + n / room) (last_slot sum size slot tip.bytes)) all
             (last_next sum size some_room small bytes live first n slot tip.bytes reach is inside least fit);
         ends = end ∙ omega (arith, ap (λ m. m * size) taken);
@@ -322,7 +334,8 @@ module _ (sum : List ℕ → ℕ) (size : ℕ) (some_room : 12 < size) (calls : 
     },
   )
 
-  settled_writer : (tip : Tip) → tip.offset ≡ pages * content_size size → tip.bytes ≡ drop tip.offset bytes → physical_size size (length bytes) + 4096 < 2 ^ 64
+  settled_writer : (tip : Tip) → tip.offset ≡ pages * content_size size → tip.bytes ≡ drop tip.offset bytes
+      → physical_size size (length bytes) + 4096 < 2 ^ 64
       → IsWriterOf sum size (synced (content calls) true ∷ calls) bytes (length bytes) tip slot
   settled_writer tip begins tip_is numbers =
       let room = content_size size in
@@ -336,7 +349,8 @@ module _ (sum : List ℕ → ℕ) (size : ℕ) (some_room : 12 < size) (calls : 
         tip_within = omega (arith, begins, within);
         tip_bytes = tip_is;
         shown = λ p below.
-            let before : p < pages = ⊎_elim (λ lt. lt) (λ past. absurd (omega (arith, mul-le pages room p room past (omega arith), begins, below))) (cases_lt p pages) in
+            let before : p < pages = ⊎_elim (λ lt. lt) (λ past. absurd (omega (arith, mul-le pages room p room past (omega arith), begins, below)))
+            (cases_lt p pages) in
             let apart = mul-le (p + 1) room pages room (omega (arith, before)) (omega arith) in
             let s = f.shown p (omega (arith, apart, within, some_room)) in
             subst (λ len. ShowsLength sum size len (content calls) p) (omega (arith, apart, within, begins)) s;
@@ -353,7 +367,8 @@ module _ (sum : List ℕ → ℕ) (size : ℕ) (some_room : 12 < size) (calls : 
       (settled_writer tip begins tip_is numbers)
 
   -- at each moment of it
-  pub sync_moments : {T : Type 0} (result : Result T Error) (old new : List Call) → Through (Keeps sum size bytes durable) old calls → RecordsSync result calls new
+  pub sync_moments : {T : Type 0} (result : Result T Error) (old new : List Call) → Through (Keeps sum size bytes durable) old calls
+      → RecordsSync result calls new
       → Through (Keeps sum size bytes durable) old new
   sync_moments result old new so_far records =
       let room : 12 ≤ size = omega (arith, some_room) in
@@ -457,7 +472,8 @@ module _ (sum : List ℕ → ℕ) (calls : List Call) (w : WriterState) (some_ro
       flush_moments sum w.page_size some_room small calls (written sum calls w) w.synced w.tip w.slot is result n new pages_within_tip
       (omega (arith, a_page, some_room))
       (stays_page sum w.page_size some_room small calls (written sum calls w) w.synced w.tip w.slot is w.slot is.begun n a_page)
-      (subst (λ l. Records result (wrote (w.tip.offset / content_size w.page_size * w.page_size) (flushed_bytes sum w.page_size w.slot l) false) calls new) part_is_whole
+      (subst (λ l. Records result (wrote (w.tip.offset / content_size w.page_size * w.page_size)
+      (flushed_bytes sum w.page_size w.slot l) false) calls new) part_is_whole
       (subst (λ f. Records result (wrote (f * w.page_size) (flushed_bytes sum w.page_size w.slot part) false) calls new) first_is records))
 
   -- they are kept in memory too
@@ -492,7 +508,8 @@ module _ (sum : List ℕ → ℕ) (calls : List Call) (w : WriterState) (some_ro
       (subst (λ c. IsWriterOf sum size c bytes w.synced next None) (sym calls_are) after)
 
 -- more content to come, at each moment
-keeps_more : (sum : List ℕ → ℕ) (size : ℕ) (bytes more : List ℕ) (durable : ℕ) → durable ≤ length bytes → (calls : List Call) → Keeps sum size bytes durable calls
+keeps_more : (sum : List ℕ → ℕ) (size : ℕ) (bytes more : List ℕ) (durable : ℕ) → durable ≤ length bytes → (calls : List Call)
+    → Keeps sum size bytes durable calls
     → Keeps sum size (bytes ++ more) durable calls
 keeps_more sum size bytes more durable within calls keeps = λ image is.
     let r = keeps image is in
@@ -512,7 +529,12 @@ pub physical_mono : (size less more : ℕ) → 12 < size → less ≤ more → p
 physical_mono size less more some le =
     let room = content_size size in
     let q = (less + (room - 1)) / room in
-    let pages : q ≤ page_count size more = le-div q (more + (room - 1)) room (omega (arith, some)) (omega (arith, div-add-mod' (less + (room - 1)) room, le)) in
+    let pages : q ≤ page_count size more = le-div q (more + (room - 1)) room (omega (arith, some)) (omega (
+      arith,
+      div-add-mod' (less +
+          (room - 1)) room,
+      le,
+    )) in
     mul-le q size (page_count size more) size pages (omega arith)
 
 -- content has at least as many bytes on the disk
@@ -559,7 +581,8 @@ module _ (sum : List ℕ → ℕ) (calls : List Call) (w : WriterState) (some_ro
       let is_more : written sum calls (record w { tip = tip }) ≡ old ++ take n bytes =
       ap (λ (t : Tip). written sum calls (record w { tip = t })) tip_is ∙ more_written (take n bytes) fits in
       let P : List ℕ → Type 0 = λ l. Through (Keeps sum w.page_size l w.synced) calls new in
-      let all : (old ++ take n bytes) ++ drop n bytes ≡ old ++ bytes = append_assoc old (take n bytes) (drop n bytes) ∙ ap (λ l. old ++ l) (take-append-drop n bytes) in
+      let all : (old ++ take n bytes) ++ drop n bytes ≡ old ++ bytes = append_assoc old (take n bytes) (drop n bytes)
+      ∙ ap (λ l. old ++ l) (take-append-drop n bytes) in
       subst P all
       (moments_more sum w.page_size (old ++ take n bytes) (drop n bytes) w.synced (omega (arith, is.kept.within, length-append old (take n bytes))) calls new
       (subst P is_more so_far))
@@ -574,7 +597,8 @@ on_both (Ok _) A B P a b f = f a b
 on_both (Err _) A B P a b f = tt
 
 -- the calls of a writer's flush of all of its tip
-module _ (sum : List ℕ → ℕ) (calls : List Call) (w : WriterState) (some_room : 12 < w.page_size) (small : w.page_size ≤ 65536) (is : IsWriter sum calls w) where
+module _ (sum : List ℕ → ℕ) (calls : List Call) (w : WriterState) (some_room : 12 < w.page_size) (small : w.page_size ≤ 65536)
+    (is : IsWriter sum calls w) where
   abbrev IsAllThere : List Call → Type 0
   IsAllThere new = IsFlushed sum w.page_size new (written sum calls w) w.synced
       (w.tip.offset / content_size w.page_size + length w.tip.bytes / content_size w.page_size) (last_slot sum w.page_size w.slot w.tip.bytes)
@@ -616,7 +640,8 @@ module _ (sum : List ℕ → ℕ) (calls : List Call) (w : WriterState) (some_ro
       omega (arith, offset_is sum size some_room small calls bytes w.synced w.tip w.slot is) in
       let rest : tip.bytes ≡ drop tip.offset bytes = ap (drop whole) is.tip_bytes ∙ drop-drop whole w.tip.offset bytes in
       let all : next.synced ≡ length bytes = synced_is ∙ tip_long sum size some_room small calls bytes w.synced w.tip w.slot is in
-      let after = sync_writer sum size some_room mid bytes w.synced (w.tip.offset / room + length w.tip.bytes / room) slot f made durable_made tip begins rest is.numbers in
+      let after = sync_writer sum size some_room mid bytes w.synced
+      (w.tip.offset / room + length w.tip.bytes / room) slot f made durable_made tip begins rest is.numbers in
       subst (λ n. IsWriterOf sum n new bytes next.synced next.tip next.slot) (sym size_same)
       (subst (λ s. IsWriterOf sum size new bytes next.synced next.tip s) (sym slot_is)
       (subst (λ t. IsWriterOf sum size new bytes next.synced t slot) (sym tip_is)

@@ -1,5 +1,6 @@
 -- What a flush puts on the disk: pages of content, each with a footer in which the slot that is durable stays.
-use Rattle.std.specs.Prelude.{ℕ, zero, suc, ◌+◌, ◌-◌, ◌*◌, ◌/◌, ◌%◌, ◌<◌, ◌^◌, ⊤, ◌==◌, nat_lt, if◌then◌else◌, Option, None, Some, List, [], ◌++◌, length, take, drop}
+use Rattle.std.specs.Prelude.{ℕ, zero, suc, ◌+◌, ◌-◌, ◌*◌, ◌/◌, ◌%◌, ◌<◌, ◌^◌, ⊤}
+use Rattle.std.specs.Prelude.{◌==◌, nat_lt, if◌then◌else◌, Option, None, Some, List, [], ◌++◌, length, take, drop}
 use Rattle.paged_format.specs.declared.footer.Slot.{Slot}
 use Rattle.paged_format.specs.declared.footer.Slot.TheVariants.{First, Second}
 use Rattle.paged_format.specs.Footers.{content_size, footer_bytes}

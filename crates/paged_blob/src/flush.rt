@@ -88,7 +88,8 @@ fn physical_bytes<C: Checksum>(
     requires size { IsPageSize page_size }
     requires numbers { physical_size page_size (length content.now) < 2 ^ 64 }
     ensures bytes { IfOk result (λ pages. pages.items ≡ flushed_bytes C.checksum_of page_size kept content.now) }
-    ensures fits { OnOk result (SumsFit C.checksum_of page_size (page_count page_size (length content.now)) content.now) }
+    ensures fits { OnOk result
+        (SumsFit C.checksum_of page_size (page_count page_size (length content.now)) content.now) }
 {
     let mut pages = Vec::new(alloc);
     let mut stays = kept;
@@ -116,8 +117,10 @@ pub(crate) fn flush<C: Checksum, B: Blob>(
     ensures calls { Records result
         (wrote (first * page_size) (flushed_bytes C.checksum_of page_size kept content.now) false)
         (B.calls blob.old) (B.calls blob.new) }
-    ensures fits { OnOk result (SumsFit C.checksum_of page_size (page_count page_size (length content.now)) content.now) }
-    ensures cause { IfErr result (IsCause CallKind.Write (first * page_size + physical_size page_size (length content.now))) }
+    ensures fits { OnOk result
+        (SumsFit C.checksum_of page_size (page_count page_size (length content.now)) content.now) }
+    ensures cause { IfErr result
+        (IsCause CallKind.Write (first * page_size + physical_size page_size (length content.now))) }
     ensures failures { B.failures blob.new ≡ failures_after result (B.failures blob.old) }
 {
     let pages = physical_bytes::<C>(alloc, page_size, kept, content)?;
@@ -144,8 +147,7 @@ fn free_slot(kept: Option<DurableSlot>) -> Slot
     }
 }
 
-/// The slot that vouches for the last page of flushed content, where that is not whole (own). That a page has a power of
-/// two from 16 to 65536 bytes is on the caller.
+// The slot that vouches for the last page of flushed content, where that is not whole.
 pub(crate) fn last_slot<C: Checksum>(
     page_size: usize,
     kept: Option<DurableSlot>,

@@ -1,6 +1,7 @@
 //! A writer: one list of bytes over a blob.
 
-ghost use Rattle.std.specs.Prelude.{◌≡◌, ◌⊎◌, ◌+◌, ◌-◌, ◌*◌, ◌/◌, ◌%◌, ◌<◌, ◌≤◌, ◌^◌, ◌++◌, ◌↔◌, [], max, take, drop, length};
+ghost use Rattle.std.specs.Prelude.{◌≡◌, ◌⊎◌, ◌+◌, ◌-◌, ◌*◌, ◌/◌, ◌%◌, ◌<◌, ◌≤◌, ◌^◌, ◌++◌, ◌↔◌, [], max};
+ghost use Rattle.std.specs.Prelude.{take, drop, length};
 ghost use Rattle.std.specs.Prelude.{false, None, List, IsTrue, IfOk, IfErr, OnOk, OnErr, IfSome, OnSome, IsNone};
 ghost use Rattle.paged_format.specs.Footers.{IsPageSize, content_size};
 ghost use Rattle.paged_blob.specs.Calls.{Call, file_of};
@@ -27,8 +28,8 @@ use std::marker::{Model, PhantomData};
 #[derive(Clone, Copy, Debug, PartialEq, Eq)]
 pub struct Append;
 
-/// One list of bytes over a blob, which is lent to each call: its first bytes are on the disk in whole pages, the others
-/// in memory until there are more of them than a buffer holds, or until they are synced.
+/// One list of bytes over a blob, which is lent to each call: its first bytes are on the disk in whole pages, the
+/// others in memory until there are more of them than a buffer holds, or until they are synced.
 /// In the Rust: `paged::Writer`, which owns the blob.
 #[derive(Drop)]
 pub struct Writer<C: Checksum, Phase = Append> {
@@ -75,9 +76,10 @@ fn is_within_numbers(page_size: usize, len: u64, more: usize) -> bool
 }
 
 impl<C: Checksum> Writer<C> {
-    /// A writer of nothing, over a blob in which nothing is, with a buffer of so many bytes, at least a page's; it has a
-    /// new name in the cache, and pages as large as that has them. No name is left: F8. That the blob is empty, and that
-    /// the cache's pages and twelve bytes are a power of two from 16 to 65536, is on the caller. It takes no memory yet.
+    /// A writer of nothing, over a blob in which nothing is, with a buffer of so many bytes, at least a page's; it has
+    /// a new name in the cache, and pages as large as that has them. Where no name is left: F8. That the blob is empty,
+    /// and that the cache's pages and twelve bytes are a power of two from 16 to 65536, is on the caller. It takes no
+    /// memory yet.
     /// In the Rust: `paged::Writer::new`, which also takes a blob that is not empty.
     pub fn new<B: Blob>(
         alloc: Global,
@@ -142,7 +144,8 @@ impl<C: Checksum, Phase> Writer<C, Phase> {
         ensures cause { IfErr result (IsCause CallKind.Write 0) }
         ensures failures { B.failures blob.new ≡ failures_after result (B.failures blob.old) }
         ensures cache { cache.new ≡ record cache.old { pages = cache.new.pages } }
-        ensures cached { OnOk result (HoldsPagesOf (written C.checksum_of (B.calls blob.old) self.old) cache.old self.old.blob_id
+        ensures cached { OnOk result
+            (HoldsPagesOf (written C.checksum_of (B.calls blob.old) self.old) cache.old self.old.blob_id
             → HoldsPagesOf (written C.checksum_of (B.calls blob.new) self.new) cache.new self.old.blob_id) }
         ensures uncached { OnErr result (cache.new ≡ cache.old) }
         ensures others { KeepsOthers cache.old cache.new self.old.blob_id }
@@ -192,7 +195,8 @@ impl<C: Checksum, Phase> Writer<C, Phase> {
         ensures cause { IfErr result (IsCause CallKind.Write 0) }
         ensures failures { B.failures blob.new ≡ failures_after result (B.failures blob.old) }
         ensures cache { cache.new ≡ record cache.old { pages = cache.new.pages } }
-        ensures cached { OnOk result (HoldsPagesOf (written C.checksum_of (B.calls blob.old) self.old) cache.old self.old.blob_id
+        ensures cached { OnOk result
+            (HoldsPagesOf (written C.checksum_of (B.calls blob.old) self.old) cache.old self.old.blob_id
             → HoldsPagesOf (written C.checksum_of (B.calls blob.new) self.new) cache.new self.old.blob_id) }
         ensures uncached { OnErr result (cache.new ≡ cache.old) }
         ensures others { KeepsOthers cache.old cache.new self.old.blob_id }
@@ -260,9 +264,11 @@ impl<C: Checksum, Phase> Writer<C, Phase> {
             × (r.0.tip.capacity ≡ self.tip.capacity)) }
         // Whatever a crash leaves at any moment of the call keeps what was synced.
         ensures any_moment { Through (Keeps C.checksum_of self.page_size
-            (written C.checksum_of (B.calls blob.old) self ++ bytes.now) self.synced) (B.calls blob.old) (B.calls blob.new) }
+            (written C.checksum_of (B.calls blob.old) self ++ bytes.now) self.synced)
+            (B.calls blob.old) (B.calls blob.new) }
         ensures cause { IfErr result (IsCause CallKind.Write
-            (physical_size self.page_size (length (written C.checksum_of (B.calls blob.old) self) + length bytes.now))) }
+            (physical_size self.page_size
+            (length (written C.checksum_of (B.calls blob.old) self) + length bytes.now))) }
         ensures ended { IfErr result (λ e. e ≡ Error.NumberEnded → B.calls blob.new ≡ B.calls blob.old) }
         ensures failures { B.failures blob.new ≡ failures_after result (B.failures blob.old) }
         ensures cache { cache.new ≡ record cache.old { pages = cache.new.pages } }
@@ -296,9 +302,11 @@ impl<C: Checksum, Phase> Writer<C, Phase> {
         ensures same { IfOk result (λ r. (r.0.page_size ≡ self.page_size) × (r.0.blob_id ≡ self.blob_id)
             × (r.0.tip.capacity ≡ self.tip.capacity)) }
         ensures any_moment { Through (Keeps C.checksum_of self.page_size
-            (written C.checksum_of (B.calls blob.old) self ++ bytes.items) self.synced) (B.calls blob.old) (B.calls blob.new) }
+            (written C.checksum_of (B.calls blob.old) self ++ bytes.items) self.synced)
+            (B.calls blob.old) (B.calls blob.new) }
         ensures cause { IfErr result (IsCause CallKind.Write
-            (physical_size self.page_size (length (written C.checksum_of (B.calls blob.old) self) + length bytes.items))) }
+            (physical_size self.page_size
+            (length (written C.checksum_of (B.calls blob.old) self) + length bytes.items))) }
         ensures ended { IfErr result (λ e. e ≡ Error.NumberEnded → B.calls blob.new ≡ B.calls blob.old) }
         ensures failures { B.failures blob.new ≡ failures_after result (B.failures blob.old) }
         ensures cache { cache.new ≡ record cache.old { pages = cache.new.pages } }
@@ -320,9 +328,10 @@ impl<C: Checksum, Phase> Writer<C, Phase> {
             ↔ (self.old.tip.capacity - length self.old.tip.bytes < length bytes.now)) }
         ensures err { OnErr result (self.new ≡ self.old) }
         ensures cause { IfErr result (IsTakingCause self.old (length bytes.now)) }
-        ensures writer { (calls : List Call) → IsWriter C.checksum_of calls self.old → IsWriter C.checksum_of calls self.new }
-        ensures content { (calls : List Call) → IsWriter C.checksum_of calls self.old
-            → IfOk result (λ o. OnSome o (written C.checksum_of calls self.new ≡ written C.checksum_of calls self.old ++ bytes.now)) }
+        ensures writer { (calls : List Call) → IsWriter C.checksum_of calls self.old
+            → IsWriter C.checksum_of calls self.new }
+        ensures content { (calls : List Call) → IsWriter C.checksum_of calls self.old → IfOk result (λ o. OnSome o
+            (written C.checksum_of calls self.new ≡ written C.checksum_of calls self.old ++ bytes.now)) }
     {
         let size = self.size();
         if !is_within_numbers(self.page_size, size, bytes.len()) {
@@ -344,7 +353,8 @@ impl<C: Checksum, Phase> Writer<C, Phase> {
             ↔ (self.old.tip.capacity - length self.old.tip.bytes < length (T.encoding value.now))) }
         ensures err { OnErr result (self.new ≡ self.old) }
         ensures cause { IfErr result (IsTakingCause self.old (length (T.encoding value.now))) }
-        ensures writer { (calls : List Call) → IsWriter C.checksum_of calls self.old → IsWriter C.checksum_of calls self.new }
+        ensures writer { (calls : List Call) → IsWriter C.checksum_of calls self.old
+            → IsWriter C.checksum_of calls self.new }
         ensures content { (calls : List Call) → IsWriter C.checksum_of calls self.old → IfOk result (λ o. OnSome o
             (written C.checksum_of calls self.new ≡ written C.checksum_of calls self.old ++ T.encoding value.now)) }
     {
@@ -357,7 +367,8 @@ impl<C: Checksum, Phase> Writer<C, Phase> {
         requires { IsWriter C.checksum_of (B.calls blob.old) self.now }
         ensures flushed { OnOk result (IsFlushed C.checksum_of self.now.page_size (B.calls blob.new)
             (written C.checksum_of (B.calls blob.old) self.now) self.now.synced
-            (self.now.tip.offset / content_size self.now.page_size + length self.now.tip.bytes / content_size self.now.page_size)
+            (self.now.tip.offset / content_size self.now.page_size
+            + length self.now.tip.bytes / content_size self.now.page_size)
             (last_slot C.checksum_of self.now.page_size self.now.slot self.now.tip.bytes)) }
         ensures any_moment { Through (Keeps C.checksum_of self.now.page_size
             (written C.checksum_of (B.calls blob.old) self.now) self.now.synced) (B.calls blob.old) (B.calls blob.new) }
@@ -384,12 +395,17 @@ impl<C: Checksum, Phase> Writer<C, Phase> {
         requires begins { self.old.tip.offset % content_size self.old.page_size ≡ 0 }
         ensures synced { self.new.synced ≡ self.old.tip.offset + length self.old.tip.bytes }
         ensures slot { self.new.slot ≡ last_slot C.checksum_of self.old.page_size self.old.slot self.old.tip.bytes }
-        ensures tip { let whole = length self.old.tip.bytes / content_size self.old.page_size * content_size self.old.page_size in
-            self.new.tip ≡ record self.old.tip { offset = self.old.tip.offset + whole; bytes = drop whole self.old.tip.bytes } }
+        ensures tip { let room = content_size self.old.page_size in
+            let whole = length self.old.tip.bytes / room * room in
+            self.new.tip ≡ record self.old.tip {
+              offset = self.old.tip.offset + whole;
+              bytes = drop whole self.old.tip.bytes;
+            } }
         ensures same { (self.new.page_size ≡ self.old.page_size) × (self.new.blob_id ≡ self.old.blob_id) }
         ensures cache { cache.new ≡ record cache.old { pages = cache.new.pages } }
-        ensures given { AreGiven cache.old.pages cache.new.pages self.old.blob_id (self.old.tip.offset / cache.old.page_size)
-            cache.old.page_size self.old.tip.bytes (length self.old.tip.bytes / cache.old.page_size) }
+        ensures given { AreGiven cache.old.pages cache.new.pages self.old.blob_id
+            (self.old.tip.offset / cache.old.page_size) cache.old.page_size self.old.tip.bytes
+            (length self.old.tip.bytes / cache.old.page_size) }
     {
         let room = self.page_size - 12;
         self.synced = self.tip.end();

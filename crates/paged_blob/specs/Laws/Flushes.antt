@@ -159,7 +159,11 @@ module _ (sum : List ℕ → ℕ) (size : ℕ) (room : 12 ≤ size) where
   length-pages_bytes (suc count) kept bytes =
       let page = page_bytes sum size kept (take (content_size size) bytes) in
       let rest = pages_bytes sum size count None (drop (content_size size) bytes) in
-      let long : length page ≡ size = length-page_bytes sum size kept (take (content_size size) bytes) room (omega (arith, length-take (content_size size) bytes)) in
+      let long : length page ≡ size = length-page_bytes sum size kept (take (content_size size) bytes) room (omega (
+        arith,
+        length-take
+            (content_size size) bytes,
+      )) in
       length-append page rest ∙ omega (arith, long, length-pages_bytes count None (drop (content_size size) bytes))
 
   -- each of them is one page of the content
@@ -170,7 +174,11 @@ module _ (sum : List ℕ → ℕ) (size : ℕ) (room : 12 ≤ size) where
   page_of_pages (suc count) zero kept bytes below =
       let front = page_bytes sum size kept (take (content_size size) bytes) in
       let rest = pages_bytes sum size count None (drop (content_size size) bytes) in
-      let long : length front ≡ size = length-page_bytes sum size kept (take (content_size size) bytes) room (omega (arith, length-take (content_size size) bytes)) in
+      let long : length front ≡ size = length-page_bytes sum size kept (take (content_size size) bytes) room (omega (
+        arith,
+        length-take
+            (content_size size) bytes,
+      )) in
       let none : 0 * size ≡ 0 = omega arith in
       let nothing : 0 ≡ 0 * content_size size = omega arith in
       ap (λ n. take size (drop n (front ++ rest))) none ∙ take_at front rest size long
@@ -178,7 +186,11 @@ module _ (sum : List ℕ → ℕ) (size : ℕ) (room : 12 ≤ size) where
   page_of_pages (suc count) (suc page) kept bytes below =
       let front = page_bytes sum size kept (take (content_size size) bytes) in
       let rest = pages_bytes sum size count None (drop (content_size size) bytes) in
-      let long : length front ≡ size = length-page_bytes sum size kept (take (content_size size) bytes) room (omega (arith, length-take (content_size size) bytes)) in
+      let long : length front ≡ size = length-page_bytes sum size kept (take (content_size size) bytes) room (omega (
+        arith,
+        length-take
+            (content_size size) bytes,
+      )) in
       let on : suc page * size ≡ size + page * size = omega arith in
       let on_content : content_size size + page * content_size size ≡ suc page * content_size size = omega arith in
       let none : stays_in page None ≡ None = nothing_stays page in
@@ -186,7 +198,8 @@ module _ (sum : List ℕ → ℕ) (size : ℕ) (room : 12 ≤ size) where
       ∙ ap (take size) (sym (drop-drop (page * size) size (front ++ rest)) ∙ ap (drop (page * size)) (drop_at front rest size long))
       ∙ page_of_pages count page None (drop (content_size size) bytes) (omega (arith, below))
       ∙ ap (λ k. page_bytes sum size k (page_at (content_size size) page (drop (content_size size) bytes))) none
-      ∙ ap (λ l. page_bytes sum size None (take (content_size size) l)) (drop-drop (page * content_size size) (content_size size) bytes ∙ ap (λ n. drop n bytes) on_content)
+      ∙ ap (λ l. page_bytes sum size None (take (content_size size) l)) (drop-drop (page * content_size size) (content_size size) bytes
+      ∙ ap (λ n. drop n bytes) on_content)
     where
       nothing_stays : (page : ℕ) → stays_in page None ≡ None
       nothing_stays zero = refl

@@ -58,7 +58,8 @@ fn sixty_bytes_and_four_more(rt: HostRuntime) -> Result<(), Fail> {
     let writer = Writer::<Crc32>::new(alloc, &disk, &mut cache, 128)?;
     let sixty = spelled(
         alloc,
-        "75cbcf59dc92df7dd04b872753f63b087a361ab80c4e5b6fa95688f4924c5e302c341f6f17ae0a4793632a58ffaace2470a10de7a1bb3e646c171bc9",
+        "75cbcf59dc92df7dd04b872753f63b087a361ab80c4e5b6fa95688f4924c5e302c341f6f17ae0a4793632a58ffaace24\
+         70a10de7a1bb3e646c171bc9",
     )?;
     let (writer, size) = writer.append(&mut disk, &mut cache, &sixty)?;
     assert_eq!(rt; size, 0);
@@ -83,7 +84,8 @@ fn a_page_that_is_filled_later(rt: HostRuntime) -> Result<(), Fail> {
     let writer = Writer::<Crc32>::new(alloc, &disk, &mut cache, 128)?;
     let page = spelled(
         alloc,
-        "81093b7d48845b79900ca94b352c390545a377867f490facfae04aa076345187c7738417127161ebd307876778c48729e53bcaa3",
+        "81093b7d48845b79900ca94b352c390545a377867f490facfae04aa076345187c7738417127161ebd307876778c48729\
+         e53bcaa3",
     )?;
     let (writer, size) = writer.append(&mut disk, &mut cache, &page)?;
     assert_eq!(rt; size, 0);
@@ -95,7 +97,8 @@ fn a_page_that_is_filled_later(rt: HostRuntime) -> Result<(), Fail> {
     assert_slots(&rt, disk.as_bytes(), 64, &[(52, 0), (1, 0)]);
     let rest = spelled(
         alloc,
-        "38887ed629c0d94fc62ecea25b0afb8e06ab6683087d2924d648fc9f9392f4730fb263a9776a7e2cfed936794eaa12b8224fe9",
+        "38887ed629c0d94fc62ecea25b0afb8e06ab6683087d2924d648fc9f9392f4730fb263a9776a7e2cfed936794eaa12b8\
+         224fe9",
     )?;
     let (writer, size) = writer.append_owned(&mut disk, &mut cache, rest)?;
     assert_eq!(rt; size, 53);
@@ -113,7 +116,9 @@ fn a_buffer_smaller_than_a_page(rt: HostRuntime) -> Result<(), Fail> {
     let writer = Writer::<Crc32>::new(alloc, &disk, &mut cache, 128)?;
     let first = spelled(
         alloc,
-        "e0580e9df5ccc568c2b4f5cb55cafad56e03d8f604ff2e188211c2d5e941a63dfd4ac362d2b5e31dbcf220b65fb6a965571e9ba03f5e5e4fc6013b33df073b6726a1469eaebb9e46a7abc53428eb610b0125e37309005fde0ad9f3fb4725c6f5dd6fc82f",
+        "e0580e9df5ccc568c2b4f5cb55cafad56e03d8f604ff2e188211c2d5e941a63dfd4ac362d2b5e31dbcf220b65fb6a965\
+         571e9ba03f5e5e4fc6013b33df073b6726a1469eaebb9e46a7abc53428eb610b0125e37309005fde0ad9f3fb4725c6f5\
+         dd6fc82f",
     )?;
     let (writer, size) = writer.append(&mut disk, &mut cache, &first)?;
     assert_eq!(rt; size, 0);
@@ -121,7 +126,9 @@ fn a_buffer_smaller_than_a_page(rt: HostRuntime) -> Result<(), Fail> {
     assert_slots(&rt, disk.as_bytes(), 256, &[(100, 0)]);
     let second = spelled(
         alloc,
-        "4e5dc0b39226bd00d8050adfbe1dfacbf6d1e6202e3554135e4da3785e15b2d1c30d3bd1e2fe40e68fe595102fc4554ba63fce219096e927b80fe044a54ac797e420ed6dd56acf89f5cf490376ef94fdfa3fca5f9bb754e5d4715e0a246754446ac1b970",
+        "4e5dc0b39226bd00d8050adfbe1dfacbf6d1e6202e3554135e4da3785e15b2d1c30d3bd1e2fe40e68fe595102fc4554b\
+         a63fce219096e927b80fe044a54ac797e420ed6dd56acf89f5cf490376ef94fdfa3fca5f9bb754e5d4715e0a24675444\
+         6ac1b970",
     )?;
     let (writer, size) = writer.append(&mut disk, &mut cache, &second)?;
     assert_eq!(rt; size, 100);

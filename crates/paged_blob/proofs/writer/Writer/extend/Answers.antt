@@ -131,7 +131,8 @@ returns-in_err-count-clause-any_moment g c =
     let more : Through (Keeps sum w.page_size (written sum old w ++ bytes) w.synced) mid new =
     subst (λ l. Through (Keeps sum w.page_size l w.synced) mid new) same
     (subst (λ n. Through (Keeps sum n (written sum mid c.loop-rest.self ++ c.loop-rest.rest.now) w.synced) mid new) i.page_size
-    (subst (λ n. Through (Keeps sum c.loop-rest.self.page_size (written sum mid c.loop-rest.self ++ c.loop-rest.rest.now) n) mid new) i.synced c.fill.ensures.any_moment)) in
+    (subst (λ n. Through (Keeps sum c.loop-rest.self.page_size
+    (written sum mid c.loop-rest.self ++ c.loop-rest.rest.now) n) mid new) i.synced c.fill.ensures.any_moment)) in
     joined i.moments more
 
 pub loop-rest-preserved : goal.loop-rest-preserved
@@ -149,7 +150,8 @@ loop-rest-preserved g c =
     let more : Through (Keeps sum w.page_size (written sum old w ++ bytes) w.synced) mid new =
     subst (λ l. Through (Keeps sum w.page_size l w.synced) mid new) same
     (subst (λ n. Through (Keeps sum n (written sum mid c.loop-rest.self ++ c.loop-rest.rest.now) w.synced) mid new) i.page_size
-    (subst (λ n. Through (Keeps sum c.loop-rest.self.page_size (written sum mid c.loop-rest.self ++ c.loop-rest.rest.now) n) mid new) i.synced c.fill.ensures.any_moment)) in
+    (subst (λ n. Through (Keeps sum c.loop-rest.self.page_size
+    (written sum mid c.loop-rest.self ++ c.loop-rest.rest.now) n) mid new) i.synced c.fill.ensures.any_moment)) in
     let taken : take n c.loop-rest.rest.now ≡ take n (drop i.done bytes) = ap (take n) i.rest in
     let joined_part : take i.done bytes ++ take n c.loop-rest.rest.now ≡ take (i.done + n) bytes =
     ap (λ l. take i.done bytes ++ l) taken ∙ sym (take-add i.done n bytes) in
@@ -160,7 +162,8 @@ loop-rest-preserved g c =
       rest = c.split_at.ensures.back ∙ ap (drop n) i.rest ∙ drop-drop n i.done bytes;
       writer = c.in_ok-count.ensures.writer;
       content = c.in_ok-count.ensures.content
-          ∙ round (written sum old w) (written sum mid c.loop-rest.self) (take i.done bytes) (take n c.loop-rest.rest.now) (take (i.done + n) bytes) i.content joined_part;
+          ∙ round (written sum old w) (written sum mid c.loop-rest.self) (take i.done bytes) (take n c.loop-rest.rest.now) (take
+          (i.done + n) bytes) i.content joined_part;
       moments = joined i.moments more;
       synced = c.fill.ensures.synced ∙ i.synced;
       page_size = s.0 ∙ i.page_size;
@@ -169,7 +172,8 @@ loop-rest-preserved g c =
       failures = c.in_ok-count.ensures.failures ∙ i.failures;
       cache = c.fill.ensures.cache ∙ ap (λ (k : Cache). record k { pages = c.fill.new.cache.pages }) i.cache;
       cached = λ holds.
-          let P : ℕ → Type 0 = λ id. HoldsPagesOf (written sum mid c.loop-rest.self) c.loop-rest.cache id → HoldsPagesOf (written sum new c.fill.new.self) c.fill.new.cache id in
+          let P : ℕ → Type 0 = λ id. HoldsPagesOf (written sum mid c.loop-rest.self) c.loop-rest.cache id
+          → HoldsPagesOf (written sum new c.fill.new.self) c.fill.new.cache id in
           subst P i.blob_id c.in_ok-count.ensures.cached (i.cached holds);
       others = others_joined c.args.cache.now c.loop-rest.cache c.fill.new.cache w.blob_id i.others
           (subst (λ id. KeepsOthers c.loop-rest.cache c.fill.new.cache id) i.blob_id c.fill.ensures.others);

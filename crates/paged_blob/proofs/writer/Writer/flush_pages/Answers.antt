@@ -17,7 +17,8 @@ returns-in_err-flush-clause-any_moment g c =
     let w : WriterState = record { page_size = i.page_size; blob_id = i.blob_id; synced = i.synced; slot = i.slot; tip = i.tip } in
     let seen : w ≡ c.args.self.now = c.self.view_is in
     let is : IsWriter sum old w = subst (λ v. IsWriter sum old v) (sym seen) c.requires.writer in
-    let full : content_size w.page_size ≤ length w.tip.bytes = subst (λ (v : WriterState). content_size v.page_size ≤ length v.tip.bytes) (sym seen) c.requires.some in
+    let full : content_size w.page_size ≤ length w.tip.bytes = subst (λ (v : WriterState). content_size v.page_size ≤ length v.tip.bytes)
+    (sym seen) c.requires.some in
     let some_room : 12 < w.page_size = search rules in
     let small : w.page_size ≤ 65536 = search rules in
     let part = c.split_at.result.0.now in
@@ -36,7 +37,8 @@ returns-clause-any_moment g c =
     let w : WriterState = record { page_size = i.page_size; blob_id = i.blob_id; synced = i.synced; slot = i.slot; tip = i.tip } in
     let seen : w ≡ c.args.self.now = c.self.view_is in
     let is : IsWriter sum old w = subst (λ v. IsWriter sum old v) (sym seen) c.requires.writer in
-    let full : content_size w.page_size ≤ length w.tip.bytes = subst (λ (v : WriterState). content_size v.page_size ≤ length v.tip.bytes) (sym seen) c.requires.some in
+    let full : content_size w.page_size ≤ length w.tip.bytes = subst (λ (v : WriterState). content_size v.page_size ≤ length v.tip.bytes)
+    (sym seen) c.requires.some in
     let some_room : 12 < w.page_size = search rules in
     let small : w.page_size ≤ 65536 = search rules in
     let part = c.split_at.result.0.now in
@@ -55,7 +57,8 @@ returns-clause-writer g c =
     let w : WriterState = record { page_size = i.page_size; blob_id = i.blob_id; synced = i.synced; slot = i.slot; tip = i.tip } in
     let seen : w ≡ c.args.self.now = c.self.view_is in
     let is : IsWriter sum old w = subst (λ v. IsWriter sum old v) (sym seen) c.requires.writer in
-    let full : content_size w.page_size ≤ length w.tip.bytes = subst (λ (v : WriterState). content_size v.page_size ≤ length v.tip.bytes) (sym seen) c.requires.some in
+    let full : content_size w.page_size ≤ length w.tip.bytes = subst (λ (v : WriterState). content_size v.page_size ≤ length v.tip.bytes)
+    (sym seen) c.requires.some in
     let some_room : 12 < w.page_size = search rules in
     let small : w.page_size ≤ 65536 = search rules in
     let part = c.split_at.result.0.now in
@@ -77,7 +80,8 @@ returns-clause-content g c =
     let w : WriterState = record { page_size = i.page_size; blob_id = i.blob_id; synced = i.synced; slot = i.slot; tip = i.tip } in
     let seen : w ≡ c.args.self.now = c.self.view_is in
     let is : IsWriter sum old w = subst (λ v. IsWriter sum old v) (sym seen) c.requires.writer in
-    let full : content_size w.page_size ≤ length w.tip.bytes = subst (λ (v : WriterState). content_size v.page_size ≤ length v.tip.bytes) (sym seen) c.requires.some in
+    let full : content_size w.page_size ≤ length w.tip.bytes = subst (λ (v : WriterState). content_size v.page_size ≤ length v.tip.bytes)
+    (sym seen) c.requires.some in
     let some_room : 12 < w.page_size = search rules in
     let small : w.page_size ≤ 65536 = search rules in
     let part = c.split_at.result.0.now in
@@ -100,7 +104,8 @@ returns-clause-cached g c =
     let w : WriterState = record { page_size = i.page_size; blob_id = i.blob_id; synced = i.synced; slot = i.slot; tip = i.tip } in
     let seen : w ≡ c.args.self.now = c.self.view_is in
     let is : IsWriter sum old w = subst (λ v. IsWriter sum old v) (sym seen) c.requires.writer in
-    let full : content_size w.page_size ≤ length w.tip.bytes = subst (λ (v : WriterState). content_size v.page_size ≤ length v.tip.bytes) (sym seen) c.requires.some in
+    let full : content_size w.page_size ≤ length w.tip.bytes = subst (λ (v : WriterState). content_size v.page_size ≤ length v.tip.bytes)
+    (sym seen) c.requires.some in
     let some_room : 12 < w.page_size = search rules in
     let small : w.page_size ≤ 65536 = search rules in
     let part = c.split_at.result.0.now in
@@ -112,9 +117,11 @@ returns-clause-cached g c =
     let next : WriterState = record { page_size = i.page_size; blob_id = i.blob_id; synced = i.synced; slot = None; tip = tip } in
     let before = c.args.cache.now in
     let after = c.cache.new.self in
-    let room_is : before.page_size ≡ content_size w.page_size = subst (λ (v : WriterState). before.page_size ≡ content_size v.page_size) (sym seen) c.requires.pages in
+    let room_is : before.page_size ≡ content_size w.page_size = subst (λ (v : WriterState). before.page_size ≡ content_size v.page_size)
+    (sym seen) c.requires.pages in
     let same : after.page_size ≡ before.page_size = ap (λ (k : Cache). k.page_size) c.cache.ensures.same in
-    let given_is : c.offset-offset.result / before.page_size ≡ w.tip.offset / content_size w.page_size = ap (λ m. c.offset-offset.result / m) room_is ∙ first in
+    let given_is : c.offset-offset.result / before.page_size ≡ w.tip.offset / content_size w.page_size =
+    ap (λ m. c.offset-offset.result / m) room_is ∙ first in
     let content = written_is sum new next some_room (written sum old w)
     (pages_after sum old w some_room small is full part first_page whole first new c.in_ok-flush.ensures.calls c.in_ok-flush.ensures.fits tip tip_is) in
     let P : WriterState → Type 0 = λ v. HoldsPagesOf (written sum old v) before v.blob_id → HoldsPagesOf (written sum new next) after v.blob_id in
@@ -128,4 +135,5 @@ returns-clause-others g c =
     let before = c.args.cache.now in
     let part = c.split_at.result.0.now in
     subst (λ id. KeepsOthers before c.cache.new.self id) (ap (λ (v : WriterState). v.blob_id) c.self.view_is)
-    (others_given before c.cache.new.self i.blob_id (c.offset-offset.result / before.page_size) before.page_size part (length part / before.page_size) c.cache.ensures.pages)
+    (others_given before c.cache.new.self i.blob_id (c.offset-offset.result / before.page_size) before.page_size part
+    (length part / before.page_size) c.cache.ensures.pages)

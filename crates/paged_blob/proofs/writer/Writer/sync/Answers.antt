@@ -25,7 +25,8 @@ returns-in_err-sync-clause-any_moment g c =
     let small : w.page_size ≤ 65536 = search rules in
     let mid = g.B.Blob.calls c.flush_tip.new.blob in
     let new = g.B.Blob.calls c.sync.new.self in
-    sync_moments sum w.page_size some_room mid (written sum old w) w.synced (w.tip.offset / content_size w.page_size + length w.tip.bytes / content_size w.page_size)
+    sync_moments sum w.page_size some_room mid (written sum old w) w.synced
+    (w.tip.offset / content_size w.page_size + length w.tip.bytes / content_size w.page_size)
     (last_slot sum w.page_size w.slot w.tip.bytes) c.in_ok-flush_tip.ensures.flushed c.sync.result old new c.flush_tip.ensures.any_moment c.sync.ensures.calls
 
 pub returns-clause-any_moment : goal.returns-clause-any_moment
@@ -37,7 +38,8 @@ returns-clause-any_moment g c =
     let small : w.page_size ≤ 65536 = search rules in
     let mid = g.B.Blob.calls c.flush_tip.new.blob in
     let new = g.B.Blob.calls c.sync.new.self in
-    sync_moments sum w.page_size some_room mid (written sum old w) w.synced (w.tip.offset / content_size w.page_size + length w.tip.bytes / content_size w.page_size)
+    sync_moments sum w.page_size some_room mid (written sum old w) w.synced
+    (w.tip.offset / content_size w.page_size + length w.tip.bytes / content_size w.page_size)
     (last_slot sum w.page_size w.slot w.tip.bytes) c.in_ok-flush_tip.ensures.flushed c.sync.result old new c.flush_tip.ensures.any_moment c.sync.ensures.calls
 
 pub returns-clause-writer : goal.returns-clause-writer
