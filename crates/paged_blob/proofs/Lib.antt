@@ -3,3 +3,7 @@ pub mod Live
 pub mod Many
 pub mod Rows
 pub mod Kept
+pub mod FlushedPages
+pub mod FlushLaws
+pub mod WriterLaws
+pub mod CachedLaws

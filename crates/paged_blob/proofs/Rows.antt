@@ -1,17 +1,13 @@
 -- The definitions computed at small files.
-use Rattle.std.proofs.Common.{◌*◌, take, ap, ◌∙◌, arith}
-use Rattle.std.specs.Int.{w16, from_be_bytes}
-use Rattle.std.proofs.Math.Nat.{zero-mod}
-use Rattle.std.proofs.lemmas.List.{drop_all, take_all}
-use Rattle.paged_format.specs.declared.footer.Slot.{Slot}
-use Rattle.paged_format.specs.Footers.{content_size, slot_start}
-use Rattle.paged_format.specs.Pages.{verifies}
-use Rattle.paged_format.specs.Laws.Pages.{vouched}
-use Rattle.paged_blob.specs.Chance.{page_at}
+use Rattle.std.proofs.Common.{◌<◌, None, Some, length}
+use Rattle.paged_format.specs.declared.footer.Slot.TheVariants.{First, Second}
 use Rattle.paged_blob.specs.Writers.{IsWriterOf}
 use Rattle.std.proofs.Common.{◌≡◌, ℕ, true, false, List, [], ◌∷◌, ◌++◌, replicate, refl}
 use Rattle.paged_format.specs.Footers.{footer_bytes, slot_len, slot_crc}
-use Rattle.paged_format.specs.Pages.{vouches}
+use Rattle.paged_format.specs.Pages.{vouches, vouched_len, counted_slot}
+use Rattle.paged_blob.proofs.WriterLaws.{new_writer}
+use Rattle.paged_blob.specs.Flushes.{page_bytes, pages_bytes, flushed_bytes}
+use Rattle.paged_blob.specs.declared.flush.DurableSlot.{DurableSlot}
 use Rattle.paged_blob.specs.Calls.{Call, opened, wrote, synced, file_of, content, resized, with_bytes}
 use Rattle.paged_blob.specs.Images.{may_hold, least_length, greatest_length}
 use Rattle.paged_blob.specs.Chance.{slot_in, has_slot, is_chance_slot, is_by_chance}
@@ -89,26 +85,27 @@ displaced : is_by_chance seven 16 (file_of (wrote 16 page false true ∷ [])) (p
 unfolding page slot_in has_slot is_chance_slot vouches slot_len slot_crc resized with_bytes
 displaced = refl
 
-said_nothing : (size : ℕ) (slot : Slot) → slot_len size slot [] ≡ 0
-unfolding slot_len
-said_nothing size slot = ap (λ p. from_be_bytes w16 (take 2 p)) (drop_all (slot_start size slot) [] (omega arith))
-
-unverified : (sum : List ℕ → ℕ) (size : ℕ) (slot : Slot) (page : List ℕ) → page ≡ [] → verifies sum size slot page ≡ true → ⊥
-unverified sum size slot page is ok =
-    let v = vouched sum size page (slot_len size slot page) (slot_crc size slot page) ok in
-    let none : slot_len size slot page ≡ 0 = ap (slot_len size slot) is ∙ said_nothing size slot in
-    omega (arith, v.some, none)
-
 -- a writer of nothing stands over a blob of which no call was made
-new_writer : (sum : List ℕ → ℕ) (size : ℕ) → IsWriterOf sum size [] [] 0 (record { offset = 0; bytes = []; capacity = 64 })
-new_writer sum size = record {
-  sound = refl;
-  within = omega arith;
-  beginnings = λ page slot ok.
-      absurd (unverified sum size slot (page_at size page []) (ap (take size) (drop_all (page * size) [] (omega arith)) ∙ take_all size [] (omega arith)) ok);
-  durable = λ page below. absurd (omega (arith, below));
-  tip_begins = zero-mod (content_size size);
-  tip_within = omega arith;
-  tip_bytes = refl;
-  flushed = refl;
-}
+nothing_written : (sum : List ℕ → ℕ) (size : ℕ) → 12 < size → IsWriterOf sum size [] [] 0 (record { offset = 0; bytes = []; capacity = 64 }) None
+nothing_written sum size some = new_writer sum size some [] refl (record { offset = 0; bytes = []; capacity = 64 }) refl refl
+
+-- sixty bytes in pages of 64, and four more in the second page
+abbrev first_slot : DurableSlot
+first_slot = record { slot = First; len = 8; crc = 7 }
+
+sixty : flushed_bytes seven 64 None (replicate 60 1)
+    ≡ (replicate 52 1 ++ footer_bytes 52 7 0 0) ++ (replicate 8 1 ++ replicate 44 0 ++ footer_bytes 8 7 0 0)
+unfolding pages_bytes page_bytes resized
+sixty = refl
+
+sixty_long : length (flushed_bytes seven 64 None (replicate 60 1)) ≡ 128
+unfolding pages_bytes page_bytes resized
+sixty_long = refl
+
+four_more : counted_slot seven 64 (flushed_bytes seven 64 (Some first_slot) (replicate 12 1)) ≡ Some (Second, 12)
+unfolding pages_bytes page_bytes resized counted_slot vouched_len vouches slot_len slot_crc
+four_more = refl
+
+first_stays : slot_len 64 First (flushed_bytes seven 64 (Some first_slot) (replicate 12 1)) ≡ 8
+unfolding pages_bytes page_bytes resized slot_len
+first_stays = refl

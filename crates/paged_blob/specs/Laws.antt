@@ -3,3 +3,4 @@ pub mod Moments
 pub mod Chance
 pub mod Writers
 pub mod Durable
+pub mod Flushes

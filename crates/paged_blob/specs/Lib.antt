@@ -4,6 +4,9 @@ pub mod Moments
 pub mod Chance
 pub mod Caches
 pub mod Writers
+pub mod Flushes
+pub mod WritersCode
+pub mod CachedContent
 pub mod CachesCode
 pub mod Answers
 pub mod WriteModes

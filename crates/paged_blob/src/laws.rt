@@ -1,18 +1,26 @@
 //! What holds of all blobs, and of all writers over them.
 
-ghost use Rattle.std.specs.Prelude.{◌≤◌, ℕ, List};
+ghost use Rattle.std.specs.Prelude.{◌≡◌, ◌<◌, ◌≤◌, ℕ, List, Option};
 ghost use Rattle.std.specs.Bool.{Decides};
 ghost use Rattle.paged_format.specs.Tips.{Tip};
 ghost use Rattle.paged_blob.specs.Calls.{Call, File};
 ghost use Rattle.paged_blob.specs.Chance.{is_by_chance};
 ghost use Rattle.paged_blob.specs.Laws.Chance.{IsByChance};
-ghost use Rattle.paged_blob.specs.Writers.{IsWriterOf, Keeps};
+ghost use Rattle.paged_blob.specs.Writers.{IsWriterOf, WriterState, written, Keeps};
+ghost use Rattle.paged_blob.specs.declared.flush.DurableSlot.{DurableSlot};
 
 /// What holds between a writer and its blob is enough: what is recovered of each image of the calls keeps the durable
 /// bytes of the content, and is a beginning of the content unless it is there by chance.
 pub fn each_image_keeps_what_is_durable()
-    ensures { (sum : List ℕ → ℕ) (size : ℕ) (calls : List Call) (content : List ℕ) (synced : ℕ) (tip : Tip) → 12 ≤ size
-        → IsWriterOf sum size calls content synced tip → Keeps sum size content synced calls }
+    ensures { (sum : List ℕ → ℕ) (size : ℕ) (calls : List Call) (content : List ℕ) (synced : ℕ) (tip : Tip)
+        (slot : Option DurableSlot) → 12 ≤ size → IsWriterOf sum size calls content synced tip slot
+        → Keeps sum size content synced calls }
+{}
+
+/// What a writer has written over its calls is the content of which it is a writer: there is no other.
+pub fn what_is_written_is_the_content()
+    ensures { (sum : List ℕ → ℕ) (calls : List Call) (w : WriterState) (content : List ℕ) → 12 < w.page_size
+        → IsWriterOf sum w.page_size calls content w.synced w.tip w.slot → written sum calls w ≡ content }
 {}
 
 /// An opening is found to be by chance exactly where a slot of it verifies that the base and no beginning of the changes

@@ -6,13 +6,17 @@ pub mod bench;
 pub mod blob;
 pub mod cache;
 pub mod error;
+pub mod flush;
 pub mod laws;
 pub mod record;
+pub mod writer;
 
 pub use blob::{Blob, WriteMode};
 pub use cache::CacheRef;
 pub use error::{CallKind, Error};
+pub use flush::DurableSlot;
 pub use record::Recorded;
+pub use writer::{Append, Writer};
 
 #[cfg(test)]
 mod tests;

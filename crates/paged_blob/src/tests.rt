@@ -1,5 +1,7 @@
 //! Values from outside: each public call once, with ample memory.
 
+mod writer;
+
 use crate::bench::MemoryDisk;
 use crate::blob::{Blob, WriteMode};
 use crate::cache::CacheRef;

@@ -11,11 +11,10 @@ use Rattle.paged_format.specs.declared.footer.Slot.TheVariants.{First, Second}
 use Rattle.paged_format.specs.Footers.{content_size, slot_start, slot_len}
 use Rattle.paged_format.specs.Pages.{verifies, shown_len, content_of, first_pages, recovered}
 use Rattle.paged_format.specs.Laws.Pages.{vouched_len-true, shown_within}
-use Rattle.paged_format.specs.Tips.{Tip}
 use Rattle.paged_blob.specs.Calls.{Call, Change, File, file_of}
 use Rattle.paged_blob.specs.Images.{least_length, IsImage}
 use Rattle.paged_blob.specs.Chance.{page_at, slot_in}
-use Rattle.paged_blob.specs.Writers.{from_page, HoldsContent, EachBeginning, OnlyAt, IsDurablePage, share, AreDurable, IsWriterOf, Keeps}
+use Rattle.paged_blob.specs.Writers.{from_page, HoldsContent, EachBeginning, OnlyAt, IsDurablePage, share, AreDurable, IsKeptIn, Keeps}
 use Rattle.paged_blob.specs.Laws.Chance.{HasSlot}
 use Rattle.paged_blob.specs.Laws.Writers.{verifies_there, same_len, recovered_prefix}
 
@@ -203,11 +202,11 @@ module _ (sum : List ℕ → ℕ) (size : ℕ) (room_for_footer : 12 ≤ size) w
   base_has P base [] each = each
   base_has P base (change ∷ earlier) each = base_has P base earlier each.1
 
-  -- What holds between a writer and its blob is enough: each image of the calls keeps the durable bytes of the content, and what is
-  -- recovered of it is a beginning of the content unless by chance.
-  pub writer_keeps : (calls : List Call) (content : List ℕ) (synced : ℕ) (tip : Tip) → IsWriterOf sum size calls content synced tip
+  -- What holds of the file of a writer at each moment is enough: each image of the calls keeps the durable bytes of the content, and what
+  -- is recovered of it is a beginning of the content unless by chance.
+  pub file_keeps : (calls : List Call) (content : List ℕ) (synced : ℕ) → IsKeptIn sum size content synced (file_of calls)
       → Keeps sum size content synced calls
-  writer_keeps calls content synced tip w = λ image is.
+  file_keeps calls content synced w = λ image is.
       let file = file_of calls in
       let holds = base_has (HoldsContent sum size content) file.base file.changes w.beginnings in
       let keeps = recovered_keeps content synced file image w.within holds w.durable is in

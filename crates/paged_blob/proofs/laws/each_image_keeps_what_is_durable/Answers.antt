@@ -1,5 +1,5 @@
-use Rattle.paged_blob.specs.Laws.Durable.{writer_keeps}
+use Rattle.paged_blob.specs.Laws.Durable.{file_keeps}
 use Rattle.paged_blob.proofs.laws.each_image_keeps_what_is_durable.Goals as goal
 
 pub returns : goal.returns
-returns c sum size calls content synced tip room = writer_keeps sum size room calls content synced tip
+returns c sum size calls content synced tip slot room w = file_keeps sum size room calls content synced w.kept

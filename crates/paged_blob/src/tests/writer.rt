@@ -1,0 +1,176 @@
+//! Values from outside: an independent program computed them from the format.
+
+use crate::bench::MemoryDisk;
+use crate::cache::CacheRef;
+use crate::writer::Writer;
+use fault_storage::Crc32;
+use paged_format::prefix_len;
+use std::alloc::Global;
+use std::process::Abort;
+use std::test::Fail;
+
+// The bytes that hexadecimal digits spell.
+fn spelled(alloc: Global, digits: &str) -> Result<Vec<u8>, Fail> {
+    let mut bytes = Vec::new(alloc);
+    for pair in digits.as_bytes().chunks_exact(2) {
+        if let [high, low] = pair {
+            bytes.push(nibble(*high).wrapping_mul(16).wrapping_add(nibble(*low)))?;
+        }
+    }
+    Ok(bytes)
+}
+
+fn nibble(digit: u8) -> u8 {
+    match digit {
+        b'0'..=b'9' => digit - b'0',
+        b'a'..=b'f' => digit - b'a' + 10,
+        _ => 0,
+    }
+}
+
+// The lengths that the two slots of a page say.
+fn slot_lens(page: &[u8]) -> (u16, u16) {
+    let (_, footer) = page.split_at(page.len().saturating_sub(12));
+    match footer {
+        [a, b, _, _, _, _, c, d, ..] => (
+            u16::from_be_bytes([*a, *b]),
+            u16::from_be_bytes([*c, *d]),
+        ),
+        _ => (0, 0),
+    }
+}
+
+// Whether the slots of each page say these lengths, and there are no more pages.
+fn assert_slots(rt: &impl Abort, file: &[u8], page_size: usize, slots: &[(u16, u16)]) {
+    assert!(rt; page_size > 0);
+    assert_eq!(rt; file.len() % page_size, 0);
+    assert_eq!(rt; file.len() / page_size, slots.len());
+    for (page, lens) in file.chunks_exact(page_size).zip(slots) {
+        assert_eq!(rt; slot_lens(page), *lens);
+    }
+}
+
+#[test]
+fn sixty_bytes_and_four_more(rt: HostRuntime) -> Result<(), Fail> {
+    let alloc = rt.alloc();
+    let mut disk = MemoryDisk::new(alloc);
+    let mut cache = CacheRef::new(alloc, 52, 8);
+    let writer = Writer::<Crc32>::new(alloc, &disk, &mut cache, 128)?;
+    let sixty = spelled(
+        alloc,
+        "75cbcf59dc92df7dd04b872753f63b087a361ab80c4e5b6fa95688f4924c5e302c341f6f17ae0a4793632a58ffaace24\
+         70a10de7a1bb3e646c171bc9",
+    )?;
+    let (writer, size) = writer.append(&mut disk, &mut cache, &sixty)?;
+    assert_eq!(rt; size, 0);
+    assert!(rt; writer.needs_sync());
+    let writer = writer.sync(&mut disk, &mut cache)?;
+    assert!(rt; !writer.needs_sync());
+    assert_slots(&rt, disk.as_bytes(), 64, &[(52, 0), (8, 0)]);
+    let (writer, size) = writer.append(&mut disk, &mut cache, &[0x7d, 0x26, 0x4b, 0x00])?;
+    assert_eq!(rt; size, 60);
+    let writer = writer.sync(&mut disk, &mut cache)?;
+    assert_eq!(rt; writer.size(), 64);
+    assert_slots(&rt, disk.as_bytes(), 64, &[(52, 0), (8, 12)]);
+    assert_eq!(rt; prefix_len::<Crc32>(disk.as_bytes(), 64), 64);
+    Ok(())
+}
+
+#[test]
+fn a_page_that_is_filled_later(rt: HostRuntime) -> Result<(), Fail> {
+    let alloc = rt.alloc();
+    let mut disk = MemoryDisk::new(alloc);
+    let mut cache = CacheRef::new(alloc, 52, 8);
+    let writer = Writer::<Crc32>::new(alloc, &disk, &mut cache, 128)?;
+    let page = spelled(
+        alloc,
+        "81093b7d48845b79900ca94b352c390545a377867f490facfae04aa076345187c7738417127161ebd307876778c48729\
+         e53bcaa3",
+    )?;
+    let (writer, size) = writer.append(&mut disk, &mut cache, &page)?;
+    assert_eq!(rt; size, 0);
+    let writer = writer.sync(&mut disk, &mut cache)?;
+    assert_slots(&rt, disk.as_bytes(), 64, &[(52, 0)]);
+    let (writer, size) = writer.append(&mut disk, &mut cache, &[0xbb])?;
+    assert_eq!(rt; size, 52);
+    let writer = writer.sync(&mut disk, &mut cache)?;
+    assert_slots(&rt, disk.as_bytes(), 64, &[(52, 0), (1, 0)]);
+    let rest = spelled(
+        alloc,
+        "38887ed629c0d94fc62ecea25b0afb8e06ab6683087d2924d648fc9f9392f4730fb263a9776a7e2cfed936794eaa12b8\
+         224fe9",
+    )?;
+    let (writer, size) = writer.append_owned(&mut disk, &mut cache, rest)?;
+    assert_eq!(rt; size, 53);
+    let writer = writer.sync(&mut disk, &mut cache)?;
+    assert_eq!(rt; writer.size(), 104);
+    assert_slots(&rt, disk.as_bytes(), 64, &[(52, 0), (1, 52)]);
+    Ok(())
+}
+
+#[test]
+fn a_buffer_smaller_than_a_page(rt: HostRuntime) -> Result<(), Fail> {
+    let alloc = rt.alloc();
+    let mut disk = MemoryDisk::new(alloc);
+    let mut cache = CacheRef::new(alloc, 244, 8);
+    let writer = Writer::<Crc32>::new(alloc, &disk, &mut cache, 128)?;
+    let first = spelled(
+        alloc,
+        "e0580e9df5ccc568c2b4f5cb55cafad56e03d8f604ff2e188211c2d5e941a63dfd4ac362d2b5e31dbcf220b65fb6a965\
+         571e9ba03f5e5e4fc6013b33df073b6726a1469eaebb9e46a7abc53428eb610b0125e37309005fde0ad9f3fb4725c6f5\
+         dd6fc82f",
+    )?;
+    let (writer, size) = writer.append(&mut disk, &mut cache, &first)?;
+    assert_eq!(rt; size, 0);
+    let writer = writer.sync(&mut disk, &mut cache)?;
+    assert_slots(&rt, disk.as_bytes(), 256, &[(100, 0)]);
+    let second = spelled(
+        alloc,
+        "4e5dc0b39226bd00d8050adfbe1dfacbf6d1e6202e3554135e4da3785e15b2d1c30d3bd1e2fe40e68fe595102fc4554b\
+         a63fce219096e927b80fe044a54ac797e420ed6dd56acf89f5cf490376ef94fdfa3fca5f9bb754e5d4715e0a24675444\
+         6ac1b970",
+    )?;
+    let (writer, size) = writer.append(&mut disk, &mut cache, &second)?;
+    assert_eq!(rt; size, 100);
+    let writer = writer.sync(&mut disk, &mut cache)?;
+    assert_eq!(rt; writer.size(), 200);
+    assert_slots(&rt, disk.as_bytes(), 256, &[(100, 200)]);
+    Ok(())
+}
+
+#[test]
+fn appends_that_need_no_disk(rt: HostRuntime) -> Result<(), Fail> {
+    let alloc = rt.alloc();
+    let mut disk = MemoryDisk::new(alloc);
+    let mut cache = CacheRef::new(alloc, 52, 8);
+    let mut writer = Writer::<Crc32>::new(alloc, &disk, &mut cache, 128)?;
+    assert_eq!(rt; writer.try_append(&[1, 2, 3, 4])?, Some(0));
+    assert_eq!(rt; writer.try_append_value(&77_u64)?, Some(4));
+    assert_eq!(rt; writer.try_append(&[0; 117])?, None);
+    let writer = writer.sync(&mut disk, &mut cache)?;
+    assert_eq!(rt; writer.size(), 12);
+    assert_slots(&rt, disk.as_bytes(), 64, &[(12, 0)]);
+    let content = disk.as_bytes().get(..12);
+    assert_eq!(rt;
+        content,
+        Some([1, 2, 3, 4, 0, 0, 0, 0, 0, 0, 0, 0x4d].as_slice())
+    );
+    Ok(())
+}
+
+#[test]
+fn keeps_flushed_pages_in_the_cache(rt: HostRuntime) -> Result<(), Fail> {
+    let alloc = rt.alloc();
+    let mut disk = MemoryDisk::new(alloc);
+    let mut cache = CacheRef::new(alloc, 4, 8);
+    let writer = Writer::<Crc32>::new(alloc, &disk, &mut cache, 0)?;
+    let bytes: [u8; 18] = [
+        1, 2, 3, 4, 5, 6, 7, 8, 9, 10, 11, 12, 13, 14, 15, 16, 17, 18,
+    ];
+    let (writer, _) = writer.append(&mut disk, &mut cache, &bytes)?;
+    assert_eq!(rt; disk.as_bytes().len(), 64);
+    assert_eq!(rt; cache.page(0, 3), Some([13, 14, 15, 16].as_slice()));
+    assert_eq!(rt; cache.page(0, 4), None);
+    assert_eq!(rt; writer.size(), 18);
+    Ok(())
+}
