@@ -4,6 +4,7 @@ pub mod Moments
 pub mod Chance
 pub mod Caches
 pub mod Writers
+pub mod Shrinks
 pub mod CachesCode
 pub mod Answers
 pub mod WriteModes

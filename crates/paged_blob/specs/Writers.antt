@@ -6,7 +6,7 @@ use Rattle.paged_format.specs.Pages.{verifies, recovered}
 use Rattle.paged_format.specs.Tips.{Tip}
 use Rattle.paged_blob.specs.Calls.{Call, Change, whole, File, file_of}
 use Rattle.paged_blob.specs.Images.{may_hold, least_length, IsImage}
-use Rattle.paged_blob.specs.Chance.{page_at, is_by_chance}
+use Rattle.paged_blob.specs.Chance.{page_at, IsBeginning, is_by_chance}
 
 -- the content from a page on
 abbrev pub from_page : ℕ → ℕ → List ℕ → List ℕ
@@ -32,14 +32,16 @@ EachBeginning P base (change ∷ earlier) = P (whole base (change ∷ earlier)) 
 abbrev pub OnlyAt : File → ℕ → ℕ → Type 0
 OnlyAt file i value = (held : ℕ) → IsTrue (may_hold file.base file.changes i held) → held ≡ value
 
--- a slot that vouches for so many bytes of a page, and these bytes, stand in the base and in each image
+-- a slot that vouches for so many bytes of a page or more, and the bytes that it vouches for, stand in a beginning and, the same, in each image
 pub record IsDurablePage (sum : List ℕ → ℕ) (size len : ℕ) (file : File) (page : ℕ) : Type 0 where
+  pub shown : List ℕ
+  pub beginning : IsBeginning file.base file.changes shown
   pub slot : Slot
-  pub verified : IsTrue (verifies sum size slot (page_at size page file.base))
-  pub says : slot_len size slot (page_at size page file.base) ≡ len
+  pub verified : IsTrue (verifies sum size slot (page_at size page shown))
+  pub says : len ≤ slot_len size slot (page_at size page shown)
   pub reach : (page + 1) * size ≤ least_length file.base file.changes
-  pub bytes : (i : ℕ) → i < len → OnlyAt file (page * size + i) (get_or file.base (page * size + i) 0)
-  pub slot_bytes : (i : ℕ) → i < 6 → OnlyAt file (page * size + (slot_start size slot + i)) (get_or file.base (page * size + (slot_start size slot + i)) 0)
+  pub bytes : (i : ℕ) → i < slot_len size slot (page_at size page shown) → OnlyAt file (page * size + i) (get_or shown (page * size + i) 0)
+  pub slot_bytes : (i : ℕ) → i < 6 → OnlyAt file (page * size + (slot_start size slot + i)) (get_or shown (page * size + (slot_start size slot + i)) 0)
 
 -- how many of the first so many bytes of the content a page has
 abbrev pub share : ℕ → ℕ → ℕ → ℕ
