@@ -3,3 +3,4 @@ pub mod Live
 pub mod Many
 pub mod Rows
 pub mod Kept
+pub mod Scanned

@@ -3,6 +3,7 @@ pub mod Images
 pub mod Moments
 pub mod Chance
 pub mod Caches
+pub mod Scans
 pub mod Writers
 pub mod Shrinks
 pub mod CachesCode

@@ -8,11 +8,13 @@ pub mod cache;
 pub mod error;
 pub mod laws;
 pub mod record;
+pub mod scan;
 
 pub use blob::{Blob, WriteMode};
 pub use cache::CacheRef;
 pub use error::{CallKind, Error};
 pub use record::Recorded;
+pub use scan::{prefix_of_blob, prefix_of_blob_at_most};
 
 #[cfg(test)]
 mod tests;
