@@ -4,3 +4,4 @@ pub mod Many
 pub mod Rows
 pub mod Kept
 pub mod Scanned
+pub mod Shown

@@ -13,7 +13,7 @@ use Rattle.paged_format.specs.Pages.{verifies, shown_len, content_of, first_page
 use Rattle.paged_format.specs.Laws.Pages.{vouched, vouched_len-true, shown_within}
 use Rattle.paged_format.specs.Tips.{Tip}
 use Rattle.paged_blob.specs.Calls.{Call, Change, File, file_of}
-use Rattle.paged_blob.specs.Images.{least_length, IsImage}
+use Rattle.paged_blob.specs.Images.{least_length, greatest_length, IsImage}
 use Rattle.paged_blob.specs.Chance.{page_at, slot_in, IsBeginning}
 use Rattle.paged_blob.specs.Writers.{from_page, EachBeginning, OnlyAt, IsDurablePage, share, IsWriterOf, Keeps}
 use Rattle.paged_blob.specs.Shrinks.{HoldsPrefix, Withstands}
@@ -21,7 +21,7 @@ use Rattle.paged_blob.specs.Laws.Chance.{HasSlot}
 use Rattle.paged_blob.specs.Laws.Writers.{of_beginning, verifies_there, same_len, holds_prefix, recovered_prefix}
 
 -- the same first bytes
-same_front : (n : ℕ) (s t : List ℕ) → n ≤ length s → n ≤ length t → ((i : ℕ) → i < n → get_or s i 0 ≡ get_or t i 0) → take n s ≡ take n t
+pub same_front : (n : ℕ) (s t : List ℕ) → n ≤ length s → n ≤ length t → ((i : ℕ) → i < n → get_or s i 0 ≡ get_or t i 0) → take n s ≡ take n t
 same_front n s t in_s in_t same =
     ext_get_or 0 (take n s) (take n t) (length-take-le n s in_s ∙ sym (length-take-le n t in_t))
     (λ i below.
@@ -56,13 +56,13 @@ least_beginning base (change ∷ earlier) file (inl is) = omega (arith, ap lengt
 least_beginning base (change ∷ earlier) file (inr before) = omega (arith, least_beginning base earlier file before)
 
 module _ (sum : List ℕ → ℕ) (size : ℕ) (room_for_footer : 12 ≤ size) where
-  page_long : (page : ℕ) (file : List ℕ) → (page + 1) * size ≤ length file → length (page_at size page file) ≡ size
+  pub page_long : (page : ℕ) (file : List ℕ) → (page + 1) * size ≤ length file → length (page_at size page file) ≡ size
   page_long page file reach = length-take-le size (drop (page * size) file) (omega (arith, length-drop (page * size) file, reach))
 
-  page_byte : (page : ℕ) (file : List ℕ) (i : ℕ) → i < size → get_or (page_at size page file) i 0 ≡ get_or file (page * size + i) 0
+  pub page_byte : (page : ℕ) (file : List ℕ) (i : ℕ) → i < size → get_or (page_at size page file) i 0 ≡ get_or file (page * size + i) 0
   page_byte page file i below = get_or-take size (drop (page * size) file) i 0 below ∙ get_or-drop (page * size) file i 0
 
-  slot_ends : (slot : Slot) → slot_start size slot + 6 ≤ size
+  pub slot_ends : (slot : Slot) → slot_start size slot + 6 ≤ size
   slot_ends First = omega arith
   slot_ends Second = omega arith
 
@@ -92,7 +92,7 @@ module _ (sum : List ℕ → ℕ) (size : ℕ) (room_for_footer : 12 ≤ size) w
       }
 
   -- a page shows at least what a slot of it vouches for
-  shows_slot_len : (slot : Slot) (page : List ℕ) → verifies sum size slot page ≡ true → slot_len size slot page ≤ shown_len sum size page
+  pub shows_slot_len : (slot : Slot) (page : List ℕ) → verifies sum size slot page ≡ true → slot_len size slot page ≤ shown_len sum size page
   unfolding shown_len
   shows_slot_len First page ok = omega (arith, vouched_len-true sum size First page ok)
   shows_slot_len Second page ok = omega (arith, vouched_len-true sum size Second page ok)
@@ -104,7 +104,8 @@ module _ (sum : List ℕ → ℕ) (size : ℕ) (room_for_footer : 12 ≤ size) w
     pub same : take len (page_at size page image) ≡ take len (from_page size page content)
 
   durable_shows : (len : ℕ) (content : List ℕ) (file : File) (image : List ℕ) (page : ℕ) → IsDurablePage sum size len file page
-      → page * content_size size ≤ length content → EachBeginning (HoldsPrefix sum size content) file.base file.changes → IsImage file image
+      → page * content_size size ≤ length content
+      → EachBeginning (HoldsPrefix sum size content (greatest_length file.base file.changes)) file.base file.changes → IsImage file image
       → ShowsShare len content image page
   durable_shows len content file image page d within each is =
       let old = page_at size page d.shown in
@@ -115,8 +116,9 @@ module _ (sum : List ℕ → ℕ) (size : ℕ) (room_for_footer : 12 ≤ size) w
       let ok : verifies sum size d.slot new ≡ true = verifies_there sum size d.slot old new d.verified has in
       let says : slot_len size d.slot new ≡ m = same_len size d.slot old new has.slot_same in
       let shown = shows_slot_len d.slot new ok in
-      let holds = of_beginning (HoldsPrefix sum size content) file.base file.changes d.shown each d.beginning in
-      let s = holds page d.slot within d.verified in
+      let most = greatest_length file.base file.changes in
+      let holds = of_beginning (HoldsPrefix sum size content most) file.base file.changes d.shown each d.beginning in
+      let s = holds page d.slot within (omega (arith, d.reach, is.no_shorter, is.no_longer)) d.verified in
       record {
         reach = omega (arith, d.reach, is.no_shorter);
         shown = omega (arith, shown, says, d.says);
@@ -215,7 +217,7 @@ module _ (sum : List ℕ → ℕ) (size : ℕ) (room_for_footer : 12 ≤ size) w
       record {
         keeps = keeps;
         prefix = λ none.
-            let r = recovered_prefix sum size content file image w.beginnings none in
+            let r = recovered_prefix sum size content (greatest_length file.base file.changes) file image (omega (arith, room_for_footer)) is.no_longer w.beginnings none in
             let front : length (take synced content) ≡ synced = length-take-le synced content w.within in
             let same : length (take synced (recovered sum size image)) ≡ length (take synced content) = ap length keeps in
             let short : length (take synced (recovered sum size image)) ≤ length (recovered sum size image) = omega (
@@ -235,6 +237,6 @@ module _ (sum : List ℕ → ℕ) (size : ℕ) (room_for_footer : 12 ≤ size) w
       let file = file_of calls in
       withstands_keeps content synced calls (record {
         within = w.within;
-        beginnings = holds_prefix sum size content file.base file.changes w.beginnings;
+        beginnings = holds_prefix sum size content (greatest_length file.base file.changes) file.base file.changes w.beginnings;
         durable = w.durable;
       })

@@ -4,6 +4,7 @@ use Rattle.std.proofs.Common.{List, [], ◌∷◌, ◌++◌, length, take, drop,
 use Rattle.std.specs.Int.{w16, w32, from_be_bytes}
 use Rattle.std.proofs.lemmas.Bool.{cases_lt, cases_Bool, or_parts, eqb-true, cond-true, cond-false}
 use Rattle.std.proofs.lemmas.List.{append-nil, take-append-drop, take-take, drop-take, drop-drop, length-drop, length-take-le}
+use Rattle.std.proofs.Math.Nat.{le-div_iff_mul-le}
 use Rattle.std.proofs.Math.Seq.{take-append-add}
 use Rattle.paged_format.specs.declared.footer.Slot.{Slot}
 use Rattle.paged_format.specs.declared.footer.Slot.TheVariants.{First, Second}
@@ -30,11 +31,11 @@ each_weaker P Q base (change ∷ earlier) f each = (f (whole base (change ∷ ea
 
 module _ (size : ℕ) where
   -- what a slot says hangs on its six bytes alone
-  len_in : (slot : Slot) (page : List ℕ) → slot_len size slot page ≡ from_be_bytes w16 (take 2 (slot_in size slot page))
+  pub len_in : (slot : Slot) (page : List ℕ) → slot_len size slot page ≡ from_be_bytes w16 (take 2 (slot_in size slot page))
   unfolding slot_len slot_in
   len_in slot page = ap (from_be_bytes w16) (sym (take-take 2 6 (drop (slot_start size slot) page) (omega arith)))
 
-  crc_in : (slot : Slot) (page : List ℕ) → slot_crc size slot page ≡ from_be_bytes w32 (take 4 (drop 2 (slot_in size slot page)))
+  pub crc_in : (slot : Slot) (page : List ℕ) → slot_crc size slot page ≡ from_be_bytes w32 (take 4 (drop 2 (slot_in size slot page)))
   unfolding slot_crc slot_in
   crc_in slot page =
       let start = slot_start size slot in
@@ -62,22 +63,22 @@ module _ (sum : List ℕ → ℕ) (size : ℕ) where
       })
 
   -- where each page holds the content, those do that it reaches
-  pub holds_prefix : (content : List ℕ) (base : List ℕ) (changes : List Change) → EachBeginning (HoldsContent sum size content) base changes
-      → EachBeginning (HoldsPrefix sum size content) base changes
-  holds_prefix content base changes each =
-      each_weaker (HoldsContent sum size content) (HoldsPrefix sum size content) base changes (λ file holds page slot within. holds page slot) each
+  pub holds_prefix : (content : List ℕ) (most : ℕ) (base : List ℕ) (changes : List Change) → EachBeginning (HoldsContent sum size content) base changes
+      → EachBeginning (HoldsPrefix sum size content most) base changes
+  holds_prefix content most base changes each =
+      each_weaker (HoldsContent sum size content) (HoldsPrefix sum size content most) base changes (λ file holds page slot within whole. holds page slot) each
 
   -- a slot that verifies, not by chance, shows the content
-  pub shows_slot : (content : List ℕ) (file : File) (image : List ℕ) (page : ℕ) (slot : Slot)
-      → EachBeginning (HoldsPrefix sum size content) file.base file.changes → page * content_size size ≤ length content
+  pub shows_slot : (content : List ℕ) (most : ℕ) (file : File) (image : List ℕ) (page : ℕ) (slot : Slot)
+      → EachBeginning (HoldsPrefix sum size content most) file.base file.changes → page * content_size size ≤ length content → (page + 1) * size ≤ most
       → is_chance_slot sum size file image page slot ≡ false → verifies sum size slot (page_at size page image) ≡ true
       → ShowsContent size content image page slot
-  shows_slot content file image page slot each within none ok =
+  shows_slot content most file image page slot each within whole none ok =
       let shown = page_at size page image in
       let r = not_chance sum size file image page slot none ok in
       let there = page_at size page r.0 in
-      let holds = of_beginning (HoldsPrefix sum size content) file.base file.changes r.0 each r.1 in
-      let s = holds page slot within (verifies_there slot shown there ok r.2) in
+      let holds = of_beginning (HoldsPrefix sum size content most) file.base file.changes r.0 each r.1 in
+      let s = holds page slot within whole (verifies_there slot shown there ok r.2) in
       let len = same_len size slot shown there r.2.slot_same in
       record {
         within = omega (arith, len, s.within);
@@ -187,14 +188,18 @@ module _ (sum : List ℕ → ℕ) (size : ℕ) where
       (cases_Bool (v == room))
 
   -- what is recovered of an image that is not by chance is a beginning of the content that each beginning of the changes holds
-  pub recovered_prefix : (content : List ℕ) (file : File) (image : List ℕ) → EachBeginning (HoldsPrefix sum size content) file.base file.changes
-      → is_by_chance sum size file image ≡ false → (len : ℕ) × (len ≤ length content) × (recovered sum size image ≡ take len content)
-  recovered_prefix content file image each none =
+  pub recovered_prefix : (content : List ℕ) (most : ℕ) (file : File) (image : List ℕ) → 0 < size → length image ≤ most
+      → EachBeginning (HoldsPrefix sum size content most) file.base file.changes → is_by_chance sum size file image ≡ false
+      → (len : ℕ) × (len ≤ length content) × (recovered sum size image ≡ take len content)
+  recovered_prefix content most file image some long each none =
       let count = length image / size in
       let none_before : 0 ≡ 0 * size = omega arith in
       let no_content : 0 * content_size size ≡ 0 = omega arith in
       let start : image ≡ drop (0 * size) image = ap (λ n. drop n image) none_before in
       let all : from_page size 0 content ≡ content = ap (λ n. drop n content) no_content in
+      let whole : (k : ℕ) → k < 0 + count → (k + 1) * size ≤ most = λ k below.
+      let there = (le-div_iff_mul-le {k = size} {x = k + 1} {y = length image} some).0 (omega (arith, below)) in omega (arith, there, long) in
       let r = recovered_from content image image count 0 start (omega (arith, no_content))
-      (λ k from below within slot ok. shows_slot content file image k slot each within (none_of file image count none k (omega (arith, below)) slot) ok) in
+      (λ k from below within slot ok. shows_slot content most file image k slot each within (whole k below)
+      (none_of file image count none k (omega (arith, below)) slot) ok) in
       (r.0, omega (arith, r.1, ap length all), r.2 ∙ ap (take r.0) all)
