@@ -5,3 +5,4 @@ pub mod Rows
 pub mod Kept
 pub mod Scanned
 pub mod Shown
+pub mod Regions

@@ -1,6 +1,7 @@
 -- A blob whose pages hold a content up to where it ends, whatever stands behind, and how it is cut.
 use Rattle.std.specs.Prelude.{ℕ, ◌+◌, ◌*◌, ◌≤◌, IsTrue, List, length}
 use Rattle.paged_format.specs.declared.footer.Slot.{Slot}
+use Rattle.paged_format.specs.declared.footer.Slot.TheVariants.{First, Second}
 use Rattle.paged_format.specs.Footers.{content_size}
 use Rattle.paged_format.specs.Pages.{verifies}
 use Rattle.paged_blob.specs.Calls.{File}
@@ -20,3 +21,8 @@ pub record Withstands (sum : List ℕ → ℕ) (size : ℕ) (content : List ℕ)
   pub within : count ≤ length content
   pub beginnings : EachBeginning (HoldsPrefix sum size content (greatest_length file.base file.changes)) file.base file.changes
   pub durable : AreDurable sum size count file
+
+-- the slot beside a slot
+abbrev pub other_slot : Slot → Slot
+other_slot First = Second
+other_slot Second = First
