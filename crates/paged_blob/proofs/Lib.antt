@@ -6,3 +6,4 @@ pub mod Kept
 pub mod Scanned
 pub mod Shown
 pub mod Regions
+pub mod Stages

@@ -1,10 +1,10 @@
 -- A blob whose pages hold a content up to where it ends, whatever stands behind, and how it is cut.
-use Rattle.std.specs.Prelude.{ℕ, ◌+◌, ◌*◌, ◌≤◌, IsTrue, List, length}
+use Rattle.std.specs.Prelude.{◌≡◌, ℕ, ◌+◌, ◌*◌, ◌<◌, ◌≤◌, IsTrue, IsFalse, List, [], ◌∷◌, length, take}
 use Rattle.paged_format.specs.declared.footer.Slot.{Slot}
 use Rattle.paged_format.specs.declared.footer.Slot.TheVariants.{First, Second}
-use Rattle.paged_format.specs.Footers.{content_size}
-use Rattle.paged_format.specs.Pages.{verifies}
-use Rattle.paged_blob.specs.Calls.{File}
+use Rattle.paged_format.specs.Footers.{content_size, slot_len}
+use Rattle.paged_format.specs.Pages.{verifies, recovered}
+use Rattle.paged_blob.specs.Calls.{Call, resize, File, file_of}
 use Rattle.paged_blob.specs.Images.{greatest_length}
 use Rattle.paged_blob.specs.Chance.{page_at}
 use Rattle.paged_blob.specs.Writers.{ShowsContent, EachBeginning, AreDurable}
@@ -26,3 +26,20 @@ pub record Withstands (sum : List ℕ → ℕ) (size : ℕ) (content : List ℕ)
 abbrev pub other_slot : Slot → Slot
 other_slot First = Second
 other_slot Second = First
+
+-- The content ends within a page, or is to be cut there: of a file of pages that many bytes of this one are content, which this slot
+-- vouches for, perhaps with more, and this is their checksum.
+pub record IsLastPage (sum : List ℕ → ℕ) (size : ℕ) (live : List ℕ) (page : ℕ) (counted : Slot) (len crc : ℕ) : Type 0 where
+  pub some : 0 < len
+  pub part : len < content_size size
+  pub there : (page + 1) * size ≤ length live
+  pub reached : page * content_size size + len ≤ length (recovered sum size live)
+  pub counts : IsTrue (verifies sum size counted (page_at size page live))
+  pub says : len ≤ slot_len size counted (page_at size page live)
+  pub sums : crc ≡ sum (take len (page_at size page live))
+
+-- all was durable, and since then the file was cut behind that page
+pub record IsTrimmed (sum : List ℕ → ℕ) (size : ℕ) (calls : List Call) (page : ℕ) (counted : Slot) (len crc : ℕ) : Type 0 where
+  pub sound : IsFalse (file_of calls).failed
+  pub trimmed : (file_of calls).changes ≡ resize ((page + 1) * size) ∷ []
+  pub last : IsLastPage sum size (file_of calls).base page counted len crc
