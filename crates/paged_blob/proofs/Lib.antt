@@ -7,3 +7,4 @@ pub mod Scanned
 pub mod Shown
 pub mod Regions
 pub mod Stages
+pub mod Cut

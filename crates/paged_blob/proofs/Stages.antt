@@ -87,6 +87,16 @@ module _ (sum : List ℕ → ℕ) (size : ℕ) (footer : 12 < size) where
     pub greatest : greatest_length file.base file.changes ≤ most
     pub before : (k : ℕ) → k < page → (slot : Slot) × SureSlot (content_size size) file k slot
 
+  newest_holds : (old : List ℕ) (most : ℕ) (first : List ℕ) (changes : List Change) → EachBeginning (HoldsPrefix sum size old most) first changes
+      → HoldsPrefix sum size old most (whole first changes)
+  newest_holds old most first [] each = each
+  newest_holds old most first (change ∷ earlier) each = each.0
+
+  -- the file holds it
+  pub stage_holds : (old : List ℕ) (most page : ℕ) (file : File) → Stage old most page file
+      → HoldsPrefix sum size old most (whole file.base file.changes)
+  stage_holds old most page file s = newest_holds old most file.base file.changes s.beginnings
+
   pub first_stage : (live : List ℕ) (failed : Bool) (page : ℕ) → page * content_size size ≤ length (recovered sum size live)
       → Stage (recovered sum size live) (length live) page (record { base = live; changes = []; failed = failed })
   first_stage live failed page within = record {
@@ -155,18 +165,13 @@ module _ (sum : List ℕ → ℕ) (size : ℕ) (footer : 12 < size) where
       let again : (len k : ℕ) (slot : Slot) → SureSlot len file k slot → SureSlot len (base now) k slot =
       λ len k slot b. sure_base len now failed k slot b.verified b.says (omega (arith, b.reach, long.0)) in
       let stage : Stage old most page (base now) = record {
-        beginnings = newest_holds file.base file.changes s.beginnings;
+        beginnings = stage_holds old most page file s;
         greatest = omega (arith, long.1, s.greatest);
         before = λ k below. let b = s.before k below in (b.0, again (content_size size) k b.0 b.1);
       } in
       let P : List ℕ → Type 0 = λ bytes. Withstands sum size old (page * content_size size + part) (base bytes) in
       subst P (sym is)
       (stage_withstands old most page part (base now) stage short within (λ some. let l = last some in (l.0, again part page l.0 l.1)))
-    where
-      newest_holds : (first : List ℕ) (changes : List Change) → EachBeginning (HoldsPrefix sum size old most) first changes
-          → HoldsPrefix sum size old most (whole first changes)
-      newest_holds first [] each = each
-      newest_holds first (change ∷ earlier) each = each.0
 
   -- a file that is cut behind a page holds what it held
   pub holds_resized : (old : List ℕ) (most : ℕ) (file : List ℕ) (count : ℕ) → count * size ≤ length file → HoldsPrefix sum size old most file
