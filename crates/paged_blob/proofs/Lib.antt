@@ -8,3 +8,4 @@ pub mod Shown
 pub mod Regions
 pub mod Stages
 pub mod Cut
+pub mod Handed

@@ -1,13 +1,17 @@
 -- A blob whose pages hold a content up to where it ends, whatever stands behind, and how it is cut.
-use Rattle.std.specs.Prelude.{◌≡◌, ℕ, ◌+◌, ◌*◌, ◌<◌, ◌≤◌, IsTrue, IsFalse, List, [], ◌∷◌, length, take}
+use Rattle.std.specs.Prelude.{◌≡◌, ℕ, ◌+◌, ◌*◌, ◌<◌, ◌≤◌, ⊤, true, IsTrue, IsFalse, List, [], ◌∷◌, length, take}
+use Rattle.std.specs.Int.{w16, to_be_bytes}
 use Rattle.paged_format.specs.declared.footer.Slot.{Slot}
 use Rattle.paged_format.specs.declared.footer.Slot.TheVariants.{First, Second}
-use Rattle.paged_format.specs.Footers.{content_size, slot_len}
+use Rattle.paged_format.specs.Footers.{content_size, slot_bytes, slot_start, slot_len}
 use Rattle.paged_format.specs.Pages.{verifies, recovered}
-use Rattle.paged_blob.specs.Calls.{Call, resize, File, file_of}
+use Rattle.paged_blob.specs.Calls.{Call, wrote, resize, File, file_of}
 use Rattle.paged_blob.specs.Images.{greatest_length}
 use Rattle.paged_blob.specs.Chance.{page_at}
 use Rattle.paged_blob.specs.Writers.{ShowsContent, EachBeginning, AreDurable}
+use Rattle.paged_blob.specs.Answers.{IsPastNumbers}
+use Rattle.paged_blob.specs.declared.error.Error.{Error}
+use Rattle.paged_blob.specs.declared.error.Error.TheVariants.{Injected, NumberEnded, Memory, PowerCut}
 
 -- In the pages that the content reaches, and in that in which it ends, each slot that verifies vouches for it. Pages further on are open,
 -- and so is a page that no file of so many bytes has whole.
@@ -43,3 +47,22 @@ pub record IsTrimmed (sum : List ℕ → ℕ) (size : ℕ) (calls : List Call) (
   pub sound : IsFalse (file_of calls).failed
   pub trimmed : (file_of calls).changes ≡ resize ((page + 1) * size) ∷ []
   pub last : IsLastPage sum size (file_of calls).base page counted len crc
+
+-- where a slot of a page begins
+abbrev pub slot_at : ℕ → ℕ → Slot → ℕ
+slot_at size page slot = page * size + slot_start size slot
+
+-- the calls by which the other slot takes over: no length with the new checksum, then the length, then the old slot cleared
+abbrev pub handed_over : ℕ → ℕ → Slot → ℕ → ℕ → List Call → List Call
+handed_over size page counted len crc calls =
+    wrote (slot_at size page counted) (slot_bytes 0 0) true true
+    ∷ (wrote (slot_at size page (other_slot counted)) (to_be_bytes w16 len) true true
+    ∷ (wrote (slot_at size page (other_slot counted)) (slot_bytes 0 crc) true true ∷ calls))
+
+-- why a cut of a blob of so many bytes may be refused
+abbrev pub IsCutCause : ℕ → Error → Type 0
+IsCutCause reach (Injected kind) = ⊤
+IsCutCause reach NumberEnded = IsPastNumbers reach
+IsCutCause reach Memory = ⊤
+IsCutCause reach PowerCut = ⊤
+IsCutCause reach _ = ⊥

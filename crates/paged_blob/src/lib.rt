@@ -9,6 +9,7 @@ pub mod error;
 pub mod laws;
 pub mod record;
 pub mod scan;
+pub mod shrink;
 
 pub use blob::{Blob, WriteMode};
 pub use cache::CacheRef;
