@@ -1,16 +1,15 @@
 -- A file that was cut and made durable is exactly the pages of its content.
-use Rattle.std.proofs.Common.{◌≡◌, ◌⊎◌, ℕ, suc, ◌+◌, ◌-◌, ◌*◌, ◌/◌, ◌%◌, ◌<◌, ◌≤◌, Bool, true, false, List, [], ◌∷◌, length, take, drop, sym, ◌∙◌, ap}
+use Rattle.std.proofs.Common.{◌≡◌, ◌⊎◌, ℕ, ◌+◌, ◌-◌, ◌*◌, ◌/◌, ◌%◌, ◌<◌, ◌≤◌, Bool, true, false, List, [], ◌∷◌, length, take, drop, sym, ◌∙◌, ap}
 use Rattle.std.proofs.Common.{inl, inr, ⊎_elim, refl, subst, arith}
 use Rattle.std.proofs.lemmas.Bool.{cases_lt, false_from_ne_true}
 use Rattle.std.proofs.lemmas.List.{take-take, take_all, drop-take, length-take, length-take-le, length-drop}
 use Rattle.std.proofs.lemmas.Nat.{div-mul-add, mod-mul-add}
 use Rattle.std.proofs.Math.Nat.{mul-le-mul_right, div-mul-le_self}
 use Rattle.paged_format.specs.declared.footer.Slot.{Slot}
-use Rattle.paged_format.specs.Footers.{content_size, slot_start, slot_len}
+use Rattle.paged_format.specs.Footers.{content_size, slot_len, slot_crc}
 use Rattle.paged_format.specs.Pages.{verifies, recovered}
-use Rattle.paged_format.specs.Tips.{Tip}
+use Rattle.paged_format.specs.Laws.Pages.{vouched}
 use Rattle.paged_blob.specs.Calls.{Call, synced, Change, whole, File, file_of, content}
-use Rattle.paged_blob.specs.Images.{least_length, greatest_length}
 use Rattle.paged_blob.specs.Chance.{page_at, is_by_chance}
 use Rattle.paged_blob.specs.Writers.{from_page, ShowsContent, HoldsContent, EachBeginning, AreDurable, IsWriterOf, Keeps}
 use Rattle.paged_blob.specs.Shrinks.{HoldsPrefix, Withstands, cut_length, IsCut}

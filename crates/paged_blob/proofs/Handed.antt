@@ -1,10 +1,10 @@
 -- Each moment of the three writes.
-use Rattle.std.proofs.Common.{◌≡◌, ℕ, ◌+◌, ◌*◌, ◌<◌, ◌^◌, Bool, true, List, [], ◌∷◌, length, Result, refl, sym, ◌∙◌, ap, subst, arith}
+use Rattle.std.proofs.Common.{◌≡◌, ℕ, ◌+◌, ◌*◌, ◌<◌, ◌^◌, Bool, true, List, ◌∷◌, length, Result, refl, sym, subst}
 use Rattle.std.specs.Int.{w16, to_be_bytes}
 use Rattle.paged_format.specs.declared.footer.Slot.{Slot}
-use Rattle.paged_format.specs.Footers.{content_size, slot_bytes, slot_start}
+use Rattle.paged_format.specs.Footers.{content_size, slot_bytes}
 use Rattle.paged_format.specs.Pages.{recovered}
-use Rattle.paged_blob.specs.Calls.{Call, wrote, Change, File, file_of}
+use Rattle.paged_blob.specs.Calls.{Call, wrote, Change, file_of}
 use Rattle.paged_blob.specs.Moments.{Through, here}
 use Rattle.paged_blob.specs.Answers.{Records}
 use Rattle.paged_blob.specs.Writers.{Keeps}

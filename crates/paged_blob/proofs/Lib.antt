@@ -9,3 +9,4 @@ pub mod Regions
 pub mod Stages
 pub mod Cut
 pub mod Handed
+pub mod Done

@@ -1,5 +1,5 @@
 -- A blob whose pages hold a content up to where it ends, whatever stands behind, and how it is cut.
-use Rattle.std.specs.Prelude.{◌≡◌, ℕ, ◌+◌, ◌*◌, ◌<◌, ◌≤◌, ⊤, true, IsTrue, IsFalse, List, [], ◌∷◌, length, take}
+use Rattle.std.specs.Prelude.{◌≡◌, ℕ, ◌+◌, ◌*◌, ◌<◌, ◌-◌, ◌/◌, ◌≤◌, ⊤, true, IsTrue, IsFalse, List, [], ◌∷◌, length, take}
 use Rattle.std.specs.Int.{w16, to_be_bytes}
 use Rattle.paged_format.specs.declared.footer.Slot.{Slot}
 use Rattle.paged_format.specs.declared.footer.Slot.TheVariants.{First, Second}
@@ -8,7 +8,7 @@ use Rattle.paged_format.specs.Pages.{verifies, recovered}
 use Rattle.paged_blob.specs.Calls.{Call, wrote, resize, File, file_of}
 use Rattle.paged_blob.specs.Images.{greatest_length}
 use Rattle.paged_blob.specs.Chance.{page_at}
-use Rattle.paged_blob.specs.Writers.{ShowsContent, EachBeginning, AreDurable}
+use Rattle.paged_blob.specs.Writers.{ShowsContent, HoldsContent, EachBeginning, AreDurable}
 use Rattle.paged_blob.specs.Answers.{IsPastNumbers}
 use Rattle.paged_blob.specs.declared.error.Error.{Error}
 use Rattle.paged_blob.specs.declared.error.Error.TheVariants.{Injected, NumberEnded, Memory, PowerCut}
@@ -66,3 +66,16 @@ IsCutCause reach NumberEnded = IsPastNumbers reach
 IsCutCause reach Memory = ⊤
 IsCutCause reach PowerCut = ⊤
 IsCutCause reach _ = ⊥
+
+-- how many bytes the pages of so much content have
+abbrev pub cut_length : ℕ → ℕ → ℕ
+cut_length size count = (count + (content_size size - 1)) / content_size size * size
+
+-- The blob is exactly the pages of this content, all of it durable.
+pub record IsCut (sum : List ℕ → ℕ) (size : ℕ) (content : List ℕ) (calls : List Call) : Type 0 where
+  pub sound : IsFalse (file_of calls).failed
+  pub settled : (file_of calls).changes ≡ []
+  pub long : length (file_of calls).base ≡ cut_length size (length content)
+  pub holds : HoldsContent sum size content (file_of calls).base
+  pub durable : AreDurable sum size (length content) (file_of calls)
+  pub shown : recovered sum size (file_of calls).base ≡ content

@@ -1,4 +1,4 @@
-use Rattle.std.proofs.Common.{rules, ◌≡◌, ◌+◌, ◌*◌, ◌<◌, ◌^◌, true, ◌∷◌, ◌∙◌, refl, arith}
+use Rattle.std.proofs.Common.{rules, ◌≡◌, ◌+◌, ◌*◌, ◌<◌, ◌^◌, true, ◌∷◌, ◌∙◌, refl}
 use Rattle.std.specs.Int.{w16, to_be_bytes}
 use Rattle.paged_blob.specs.Calls.{wrote}
 use Rattle.paged_format.specs.Footers.{slot_bytes}
