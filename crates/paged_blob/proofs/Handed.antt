@@ -37,6 +37,10 @@ module _ (sum : List ℕ → ℕ) (size : ℕ) (footer : 12 < size) (calls : Lis
   kept : (now : List Call) (slot : Slot) → PointOf now slot → KeepsOld now
   kept now slot p = point_keeps sum size footer old (length live) page len now slot p t.last.part t.last.reached
 
+  -- nothing is written yet
+  pub no_moments : Through KeepsOld calls calls
+  no_moments = here (kept calls counted trimmed_here)
+
   abbrev First : Bool → List Call
   First ok = wrote (slot_at size page (other_slot counted)) (slot_bytes 0 crc) true ok ∷ calls
 

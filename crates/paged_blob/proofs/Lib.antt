@@ -10,3 +10,5 @@ pub mod Stages
 pub mod Cut
 pub mod Handed
 pub mod Done
+pub mod Settled
+pub mod CutBlob

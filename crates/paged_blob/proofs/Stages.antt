@@ -200,7 +200,7 @@ module _ (sum : List ℕ → ℕ) (size : ℕ) (footer : 12 < size) where
       let new = changed (write at bytes kept) file in
       let same_long : length new ≡ (page + 1) * size = omega (arith, length-with_bytes at bytes file, long, is, short, ends slot) in
       let kept_page : (j : ℕ) → j ≤ page → Avoids size footer (write at bytes kept) j there → verifies sum size there (page_at size j new) ≡ true
-          → j * content_size size ≤ length old → (j + 1) * size ≤ most → ShowsContent size old new j there = λ j le spared now in_old in_most.
+      → j * content_size size ≤ length old → (j + 1) * size ≤ most → ShowsContent size old new j there = λ j le spared now in_old in_most.
       let next : (j + 1) * size ≤ (page + 1) * size = mul-le-mul_right size (omega (arith, le)) in
       let same = avoided_same size footer (write at bytes kept) j there file spared (omega (arith, next, long)) (omega (arith, next, same_long)) in
       let was = verifies_same sum size footer j there new file (turned size footer j there file new same) now in
@@ -215,7 +215,7 @@ module _ (sum : List ℕ → ℕ) (size : ℕ) (footer : 12 < size) where
       (λ at_last.
       let k_is : page ≡ k = omega (arith, at_last, from) in
       let P : ℕ → Type 0 = λ j. verifies sum size there (page_at size j new) ≡ true → j * content_size size ≤ length old → (j + 1) * size ≤ most
-          → ShowsContent size old new j there in
+      → ShowsContent size old new j there in
       let here : P page = λ now in_old in_most.
       ⊎_elim
       (λ written.

@@ -7,6 +7,7 @@ pub mod Scans
 pub mod Writers
 pub mod Shrinks
 pub mod CachesCode
+pub mod ShrinksCode
 pub mod Answers
 pub mod WriteModes
 pub mod Recorded

@@ -16,6 +16,7 @@ pub use cache::CacheRef;
 pub use error::{CallKind, Error};
 pub use record::Recorded;
 pub use scan::{prefix_of_blob, prefix_of_blob_at_most};
+pub use shrink::{LastPage, cut_blob};
 
 #[cfg(test)]
 mod tests;
