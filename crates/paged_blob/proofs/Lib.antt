@@ -12,3 +12,4 @@ pub mod Handed
 pub mod Done
 pub mod Settled
 pub mod CutBlob
+pub mod ReadPages

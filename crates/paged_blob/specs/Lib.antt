@@ -6,6 +6,7 @@ pub mod Caches
 pub mod Scans
 pub mod Writers
 pub mod Shrinks
+pub mod Reads
 pub mod CachesCode
 pub mod ShrinksCode
 pub mod Answers

@@ -7,6 +7,7 @@ pub mod blob;
 pub mod cache;
 pub mod error;
 pub mod laws;
+pub mod read;
 pub mod record;
 pub mod scan;
 pub mod shrink;

@@ -28,7 +28,7 @@ same_front n s t in_s in_t same =
     let short : i < n = omega (arith, below, length-take-le n s in_s) in
     get_or-take n s i 0 short ∙ same i short ∙ sym (get_or-take n t i 0 short))
 
-further : (m k : ℕ) (rest : List ℕ) → m ≤ length rest → take m rest ++ take k (drop m rest) ≡ take (m + k) rest
+pub further : (m k : ℕ) (rest : List ℕ) → m ≤ length rest → take m rest ++ take k (drop m rest) ≡ take (m + k) rest
 further m k rest le =
     let e = take-append-add (take m rest) (drop m rest) k in
     let front : length (take m rest) ≡ m = length-take-le m rest le in
