@@ -19,7 +19,8 @@ use Rattle.paged_blob.proofs.Bytes.{length-resized, length-with_bytes}
 use Rattle.paged_blob.proofs.Shown.{holds_shown}
 use Rattle.paged_blob.proofs.Regions.{resize_avoids, write_avoids_page, write_avoids_slot, avoided_same, same_content, same_slot, sure_still, sure_written}
 use Rattle.paged_blob.proofs.Regions.{untouched_write, slot_written, length_written, says_len, says_crc, silent}
-use Rattle.paged_blob.proofs.Stages.{SureSlot, sure_base, sure_change, Stage, stage_holds, first_stage, stage_change, stage_withstands, holds_resized, holds_written}
+use Rattle.paged_blob.proofs.Stages.{SureSlot, sure_base, sure_change, Stage, stage_holds, first_stage, stage_change}
+use Rattle.paged_blob.proofs.Stages.{stage_withstands, holds_resized, holds_written}
 
 pub twice_other : (slot : Slot) → other_slot (other_slot slot) ≡ slot
 twice_other First = refl
@@ -126,7 +127,8 @@ module _ (sum : List ℕ → ℕ) (size : ℕ) (footer : 12 < size) (live : List
         (λ ok. absurd (silent sum size footer (other_slot counted) new none ok))
 
     second_says : (now : List ℕ) → length now ≡ (page + 1) * size
-        → slot_in size (other_slot counted) (page_at size page (with_bytes at (to_be_bytes w16 len) (with_bytes at (slot_bytes 0 crc) now))) ≡ slot_bytes len crc
+        → slot_in size (other_slot counted) (page_at size page (with_bytes at (to_be_bytes w16 len) (with_bytes at (slot_bytes 0 crc) now)))
+        ≡ slot_bytes len crc
     second_says now long =
         let mid = with_bytes at (slot_bytes 0 crc) now in
         let mid_long : (page + 1) * size ≤ length mid = omega (arith, length-with_bytes at (slot_bytes 0 crc) now, long) in
@@ -161,12 +163,14 @@ module _ (sum : List ℕ → ℕ) (size : ℕ) (footer : 12 < size) (live : List
         (second_says now p.long)
 
     second_front : (file : File) (failed : Bool) → PointOf file counted
-        → take len (page_at size page (with_bytes at two (with_bytes at (slot_bytes 0 crc) (whole file.base file.changes)))) ≡ take len (from_page size page shown)
+        → take len (page_at size page (with_bytes at two (with_bytes at (slot_bytes 0 crc) (whole file.base file.changes))))
+        ≡ take len (from_page size page shown)
     second_front file failed p = same_front_of (Mid file failed) two true (first_point file true failed p) (omega arith)
 
     -- the slot that is written then vouches for the content
     second_vouches : (file : File) (failed : Bool) → PointOf file counted
-        → verifies sum size (other_slot counted) (page_at size page (with_bytes at two (with_bytes at (slot_bytes 0 crc) (whole file.base file.changes)))) ≡ true
+        → verifies sum size (other_slot counted) (page_at size page (with_bytes at two (with_bytes at (slot_bytes 0 crc) (whole file.base file.changes))))
+        ≡ true
     second_vouches file failed p =
         let now = whole file.base file.changes in
         let new = page_at size page (with_bytes at two (with_bytes at (slot_bytes 0 crc) now)) in
@@ -195,7 +199,8 @@ module _ (sum : List ℕ → ℕ) (size : ℕ) (footer : 12 < size) (live : List
 
     -- once both are made, the slot is sure
     pub handed_point : (file : File) (failed again : Bool) → PointOf file counted
-        → PointOf (record { base = file.base; changes = write at two true ∷ (write at (slot_bytes 0 crc) true ∷ file.changes); failed = again }) (other_slot counted)
+        → PointOf (record { base = file.base; changes = write at two true ∷ (write at (slot_bytes 0 crc) true ∷ file.changes); failed = again })
+        (other_slot counted)
     handed_point file failed again p =
         let now = whole file.base file.changes in
         let mid = Mid file failed in

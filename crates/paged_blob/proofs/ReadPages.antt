@@ -3,7 +3,8 @@ use Rattle.std.proofs.Common.{◌≡◌, ℕ, ◌+◌, ◌-◌, ◌*◌, ◌/◌
 use Rattle.std.proofs.Common.{⊎_elim, arith}
 use Rattle.std.proofs.lemmas.Bool.{cases_lt}
 use Rattle.std.proofs.Math.Seq.{take-append-add, drop-append-add}
-use Rattle.std.proofs.lemmas.List.{append-nil, take_at, drop_all, take-append-le, drop-append-le, length-append, take-take, take_all, drop-take, drop-drop, length-take, length-take-le, length-drop}
+use Rattle.std.proofs.lemmas.List.{append-nil, take_at, drop_all, take-append-le, drop-append-le, length-append}
+use Rattle.std.proofs.lemmas.List.{take-take, take_all, drop-take, drop-drop, length-take, length-take-le, length-drop}
 use borrow.Rule.Slice.PartMut.{put_mid}
 use Rattle.std.proofs.lemmas.Slice.{take-put_mid}
 use Rattle.std.proofs.Math.Nat.{le-div_iff_mul-le, mul-le-mul_right, mul-div_left}
@@ -49,7 +50,8 @@ module _ (sum : List ℕ → ℕ) (size : ℕ) (footer : 12 < size) (live : List
   -- alone, it shows all of it
   pub whole_alone : (bytes : List ℕ) → bytes ≡ page_at size page live → content_size size ≤ length (recovered sum size bytes)
   whole_alone bytes is =
-      let long : length bytes ≡ size = ap length is ∙ length-take-le size (drop (page * size) live) (omega (arith, whole_there, length-drop (page * size) live)) in
+      let long : length bytes ≡ size = ap length is ∙ length-take-le size (drop (page * size) live)
+      (omega (arith, whole_there, length-drop (page * size) live)) in
       let first : take size bytes ≡ page_at size page live = take_all size bytes (omega (arith, long)) ∙ is in
       let full : shown_len sum size (take size bytes) ≡ content_size size = ap (shown_len sum size) first ∙ whole_shown in
       omega (arith, length_recovered-whole sum size bytes (omega (arith, footer)) (omega (arith, long)) full)
@@ -110,8 +112,10 @@ holds_given size blob_id room offset page_size page all bytes old new room_is so
       let from : offset / page_size ≡ page = ap (λ n. offset / n) size_is ∙ ap (λ n. n / room) offset_is ∙ mul-div_left page some in
       let number : kept.number ≡ page = ap (λ p. p.number) same ∙ omega (arith, first, from) in
       let none : k * page_size ≡ 0 = ap (λ n. n * page_size) first ∙ omega arith in
-      let as_given : kept.bytes ≡ bytes = ap (λ p. p.bytes) same ∙ ap (λ n. take page_size (drop n bytes)) none ∙ take_all page_size bytes (omega (arith, long, size_is)) in
-      let next : (kept.number + 1) * content_size size ≡ (page + 1) * room = ap (λ n. (n + 1) * content_size size) number ∙ ap (λ r. (page + 1) * r) (sym room_is) in
+      let as_given : kept.bytes ≡ bytes = ap (λ p. p.bytes) same ∙ ap (λ n. take page_size (drop n bytes)) none
+      ∙ take_all page_size bytes (omega (arith, long, size_is)) in
+      let next : (kept.number + 1) * content_size size ≡ (page + 1) * room =
+      ap (λ n. (n + 1) * content_size size) number ∙ ap (λ r. (page + 1) * r) (sym room_is) in
       record {
         within = omega (arith, next, whole);
         same = as_given ∙ is ∙ ap (λ n. page_at room n all) (sym number) ∙ ap (λ r. page_at r kept.number all) room_is;

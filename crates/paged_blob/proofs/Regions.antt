@@ -1,5 +1,6 @@
 -- Bytes of a page that a change leaves, and a slot that it writes.
-use Rattle.std.proofs.Common.{◌≡◌, ◌⊎◌, ℕ, ◌+◌, ◌-◌, ◌*◌, ◌<◌, ◌≤◌, ◌^◌, Bool, true, false, not, ◌&&◌, ◌==◌, List, [], ◌++◌, length, get_or, take, drop, sym, ◌∙◌, ap}
+use Rattle.std.proofs.Common.{◌≡◌, ◌⊎◌, ℕ, ◌+◌, ◌-◌, ◌*◌, ◌<◌, ◌≤◌, ◌^◌, Bool, true, false, not, ◌&&◌, ◌==◌, List, [], ◌++◌, length, get_or, take, drop}
+use Rattle.std.proofs.Common.{sym, ◌∙◌, ap}
 use Rattle.std.proofs.Common.{inl, inr, ⊎_elim, refl, arith}
 use Rattle.std.specs.Int.{w16, w32, from_be_bytes}
 use Rattle.std.proofs.lemmas.Bool.{and_parts, or_cases, leb-true, ltb-true, eqb-true, both_ways, not-true, and_from, le-leb, lt-ltb}
@@ -141,7 +142,8 @@ module _ (size : ℕ) (footer : 12 < size) where
   unfolding slot_len
   absent page slot file short =
       let none : page_at size page file ≡ [] = ap (take size) (drop_all (page * size) file short) ∙ take_all size [] (omega arith) in
-      ap (λ p. from_be_bytes w16 (take 2 (drop (slot_start size slot) p))) none ∙ ap (λ p. from_be_bytes w16 (take 2 p)) (drop_all (slot_start size slot) [] (omega arith))
+      ap (λ p. from_be_bytes w16 (take 2 (drop (slot_start size slot) p))) none
+      ∙ ap (λ p. from_be_bytes w16 (take 2 p)) (drop_all (slot_start size slot) [] (omega arith))
 
   -- a slot of a file, and in the page
   pub slot_region : (page : ℕ) (slot : Slot) (file : List ℕ)

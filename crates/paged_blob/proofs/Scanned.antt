@@ -15,7 +15,8 @@ module _ (sum : List ℕ → ℕ) (size : ℕ) (footer : 12 < size) where
 
   -- the first page is whole, and it goes on; or not, and what is recovered is within it
   pub first_page : (bytes : List ℕ) → size ≤ length bytes
-      → ((shown_len sum size (take size bytes) ≡ content_size size) × (length (recovered sum size bytes) ≡ content_size size + length (recovered sum size (drop size bytes))))
+      → ((shown_len sum size (take size bytes) ≡ content_size size)
+      × (length (recovered sum size bytes) ≡ content_size size + length (recovered sum size (drop size bytes))))
       ⊎ ((shown_len sum size (take size bytes) < content_size size) × (length (recovered sum size bytes) ≡ shown_len sum size (take size bytes)))
   first_page bytes long =
       let v = shown_len sum size (take size bytes) in

@@ -1,5 +1,6 @@
 -- A blob of which all is durable is cut.
-use Rattle.std.proofs.Common.{◌≡◌, ℕ, ◌+◌, ◌-◌, ◌*◌, ◌/◌, ◌<◌, ◌≤◌, ◌^◌, Bool, true, false, not, ◌||◌, min, List, [], ◌∷◌, length, take, drop, Result, Option, None, Some, Ok, Err, OnOk, sym, ◌∙◌, ap}
+use Rattle.std.proofs.Common.{◌≡◌, ℕ, ◌+◌, ◌-◌, ◌*◌, ◌/◌, ◌<◌, ◌≤◌, ◌^◌, Bool, true, false, not, ◌||◌, min, List, [], ◌∷◌, length, take, drop}
+use Rattle.std.proofs.Common.{Result, Option, None, Some, Ok, Err, OnOk, sym, ◌∙◌, ap}
 use Rattle.std.proofs.Common.{⊎_elim, refl, subst, arith}
 use Rattle.std.proofs.lemmas.Bool.{cases_lt, cond-true, cond-false, lt-ltb, le-ltb}
 use Rattle.std.proofs.lemmas.List.{take-take, drop-take, length-take-le, length-drop}
@@ -39,7 +40,8 @@ module _ (sum : List ℕ → ℕ) (size : ℕ) where
   abbrev IsVerified : List ℕ → Slot → Type 0
   IsVerified shown slot = (verifies sum size slot shown ≡ true) × (slot_len size slot shown ≡ shown_len sum size shown)
 
-  verified_with : (shown : List ℕ) (slot : Slot) → 0 < shown_len sum size shown → vouched_len sum size slot shown ≡ shown_len sum size shown → IsVerified shown slot
+  verified_with : (shown : List ℕ) (slot : Slot) → 0 < shown_len sum size shown → vouched_len sum size slot shown ≡ shown_len sum size shown
+      → IsVerified shown slot
   verified_with shown slot some is =
       ⊎_elim (λ none. absurd (omega (arith, none, is, some))) (λ (ok, says). (ok, sym says ∙ is)) (vouched_cases sum size slot shown)
 
@@ -61,7 +63,8 @@ module _ (sum : List ℕ → ℕ) (size : ℕ) where
       (cases_lt first second)
 
   -- so where the code finds one, it is that, and it does find one
-  pub found_one : (shown : List ℕ) (slot : Slot) (len : ℕ) → 0 < shown_len sum size shown → counted_slot sum size shown ≡ Some (slot, len) → IsVerified shown slot
+  pub found_one : (shown : List ℕ) (slot : Slot) (len : ℕ) → 0 < shown_len sum size shown → counted_slot sum size shown ≡ Some (slot, len)
+      → IsVerified shown slot
   found_one shown slot len some is =
       let f = counted_found shown some in
       let slot_is : f.0 ≡ slot = ap (slot_or slot) (sym f.3 ∙ is) in
@@ -109,7 +112,8 @@ module _ (sum : List ℕ → ℕ) (size : ℕ) (footer : 12 < size) (calls : Lis
       let Q : List Change → Type 0 = λ changes. 0 < part → (slot : Slot) × SureSlot sum size footer part (fresh changes) page slot in
       let last : Q [] = λ some.
       let c = counts sum size footer page live (omega (arith, within, some)) in
-      let room : min (content_size size) (length old - page * content_size size) ≤ slot_len size c.slot (page_at size page live) = omega (arith, c.shares, c.says) in
+      let room : min (content_size size) (length old - page * content_size size) ≤ slot_len size c.slot (page_at size page live) =
+      omega (arith, c.shares, c.says) in
       (c.slot, sure_base sum size footer part live f.failed page c.slot c.verified (omega (arith, room, short, within)) c.reach) in
       record {
         stage = subst P (sym settled) (first_stage sum size footer live f.failed page (omega (arith, within)));
@@ -139,8 +143,11 @@ module _ (sum : List ℕ → ℕ) (size : ℕ) (footer : 12 < size) (calls : Lis
             resize_avoids size footer end k slot next);
         last = λ some.
             let s = start_done.last some in
-            let next : (page + 1) * size ≤ count * size = mul-le-mul_right size (more some) in
-            (s.0, sure_change sum size footer part f (resize end) failed page s.0 s.1 (resize_avoids size footer end page s.0 next) (omega (arith, long, next)));
+            let next : (page + 1) * size ≤ count * size = mul-le-mul_right size (more some) in (
+              s.0,
+              sure_change sum size footer part f (resize end) failed page s.0 s.1 (resize_avoids size footer end page s.0 next)
+                  (omega (arith, long, next)),
+            );
       }
 
   pub resized_moments : {T : Type 0} (result : Result T Error) (place count : ℕ) (new : List Call) → place ≡ count * size → page ≤ count
@@ -277,11 +284,12 @@ module _ (sum : List ℕ → ℕ) (size : ℕ) (footer : 12 < size) (calls : Lis
       let second = still_sound (file_of cut).failed first in
       let b = (file_of cut).failed || false in
       let third = still_sound b second in
+      let after = page_at size page (content (handed_over size page counted part crc cut)) in
       record {
         done = record { stage = p.stage; last = λ _. (other_slot counted, p.sure) };
         sound = still_sound (b || false) third;
         long = p.long;
-        alone = record { says = says.0; cleared = ap (λ slot. slot_in size slot (page_at size page (content (handed_over size page counted part crc cut)))) (twice_other counted) ∙ says.1 };
+        alone = record { says = says.0; cleared = ap (λ slot. slot_in size slot after) (twice_other counted) ∙ says.1 };
       }
 
   pub left_alone : (counted slot : Slot) (crc : ℕ) (mid new : List Call) → IsLastPage sum size live page counted part crc → part < 2 ^ 16 → crc < 2 ^ 32

@@ -40,4 +40,5 @@ pub record IsSettled (old new : List Call) : Type 0 where
 -- where the content ends in memory: what the last page has, if that is not whole
 abbrev pub tip_of : ℕ → List ℕ → ℕ → Tip
 tip_of size content capacity =
-    record { offset = length content / content_size size * content_size size; bytes = drop (length content / content_size size * content_size size) content; capacity = capacity }
+    let offset = length content / content_size size * content_size size in
+    record { offset = offset; bytes = drop offset content; capacity = capacity }

@@ -24,8 +24,8 @@ pub fn what_is_shown_withstands()
         (file_of calls) }
 {}
 
-/// An opening is found to be by chance exactly where a slot of it verifies that the base and no beginning of the changes
-/// since, each whole, has there.
+/// An opening is found to be by chance exactly where a slot of it verifies that the base and no beginning of the
+/// changes since, each whole, has there.
 pub fn chance_is_decided()
     ensures { (sum : List ℕ → ℕ) (size : ℕ) (file : File) (shown : List ℕ)
         → Decides (is_by_chance sum size file shown) (IsByChance sum size file shown) }

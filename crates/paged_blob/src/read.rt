@@ -1,6 +1,7 @@
 //! Reading a slice of a content: from memory, from pages that are kept, and from the blob.
 
-ghost use Rattle.std.specs.Prelude.{◌≡◌, ◌+◌, ◌*◌, ◌/◌, ◌%◌, ◌<◌, ◌≤◌, ◌^◌, ℕ, List, length, take, drop, IsTrue, IsFalse, Contains};
+ghost use Rattle.std.specs.Prelude.{◌≡◌, ◌+◌, ◌*◌, ◌/◌, ◌%◌, ◌<◌, ◌≤◌, ◌^◌, ℕ, List, length, take, drop};
+ghost use Rattle.std.specs.Prelude.{IsTrue, IsFalse, Contains};
 ghost use Rattle.std.specs.Prelude.{OnOk, IfOk, IfErr, IsOk};
 ghost use Rattle.paged_format.specs.Footers.{IsPageSize, content_size};
 ghost use Rattle.paged_format.specs.Pages.{recovered};
@@ -62,7 +63,8 @@ fn copy_kept(cache: &CacheRef, blob_id: u64, page: u64, from: usize, out: &mut [
     requires long { (kept : Page) → Contains cache.now.pages kept → kept.blob_id ≡ blob_id
         → from + length out.old ≤ length kept.bytes }
     ensures { IsTrue result → (bytes : List ℕ) × Contains cache.now.pages
-        (record { blob_id = blob_id; number = page; bytes = bytes }) × (out.new ≡ take (length out.old) (drop from bytes)) }
+        (record { blob_id = blob_id; number = page; bytes = bytes })
+        × (out.new ≡ take (length out.old) (drop from bytes)) }
 {
     let Some(bytes) = cache.page(blob_id, page) else {
         return false;
@@ -83,7 +85,8 @@ fn page_into<B: Blob, C: Checksum>(
 ) -> Result<(), Error>
     requires page { IsPageSize pages.physical_page_size }
     requires sound { IsFalse (file_of (B.calls blob.old)).failed }
-    requires shown { pages.len ≤ length (recovered C.checksum_of pages.physical_page_size (content (B.calls blob.old))) }
+    requires shown { pages.len
+        ≤ length (recovered C.checksum_of pages.physical_page_size (content (B.calls blob.old))) }
     requires numbers { pages.len / content_size pages.physical_page_size * pages.physical_page_size < 2 ^ 64 }
     requires whole { (page + 1) * content_size pages.physical_page_size ≤ pages.len }
     requires within { from + length out.old ≤ content_size pages.physical_page_size }
@@ -121,7 +124,8 @@ fn read_flushed<B: Blob, C: Checksum>(
 ) -> Result<(), Error>
     requires page { IsPageSize pages.physical_page_size }
     requires sound { IsFalse (file_of (B.calls blob.old)).failed }
-    requires shown { pages.len ≤ length (recovered C.checksum_of pages.physical_page_size (content (B.calls blob.old))) }
+    requires shown { pages.len
+        ≤ length (recovered C.checksum_of pages.physical_page_size (content (B.calls blob.old))) }
     requires whole { pages.len % content_size pages.physical_page_size ≡ 0 }
     requires numbers { pages.len / content_size pages.physical_page_size * pages.physical_page_size < 2 ^ 64 }
     requires within { offset + length out.old ≤ pages.len }
@@ -151,10 +155,10 @@ fn read_flushed<B: Blob, C: Checksum>(
     Ok(())
 }
 
-/// Reads a slice of the content into `out`: from the tip, which is in memory, from pages that are kept, and from the blob,
-/// whose pages are kept then. Where the content ends before it: F7, and nothing is touched; else it is refused only
-/// where a read of the blob is. That the pages hold the content, and that the cache holds no other under their name, is
-/// on the caller. In the Rust: `paged::Writer::read_into`.
+/// Reads a slice of the content into `out`: from the tip, which is in memory, from pages that are kept, and from the
+/// blob, whose pages are kept then. Where the content ends before it: F7, and nothing is touched; else it is refused
+/// only where a read of the blob is. That the pages hold the content, and that the cache holds no other under their
+/// name, is on the caller. In the Rust: `paged::Writer::read_into`.
 pub fn read_into<B: Blob, C: Checksum>(
     alloc: Global,
     blob: &mut B,
@@ -166,7 +170,8 @@ pub fn read_into<B: Blob, C: Checksum>(
 ) -> Result<(), Error>
     requires page { IsPageSize pages.physical_page_size }
     requires sound { IsFalse (file_of (B.calls blob.old)).failed }
-    requires shown { pages.len ≤ length (recovered C.checksum_of pages.physical_page_size (content (B.calls blob.old))) }
+    requires shown { pages.len
+        ≤ length (recovered C.checksum_of pages.physical_page_size (content (B.calls blob.old))) }
     requires whole { pages.len % content_size pages.physical_page_size ≡ 0 }
     requires numbers { pages.len / content_size pages.physical_page_size * pages.physical_page_size < 2 ^ 64 }
     requires ends { pages.len + length tip.now < 2 ^ 64 }
@@ -214,7 +219,8 @@ pub fn read_at<B: Blob, C: Checksum>(
 ) -> Result<Vec<u8>, Error>
     requires page { IsPageSize pages.physical_page_size }
     requires sound { IsFalse (file_of (B.calls blob.old)).failed }
-    requires shown { pages.len ≤ length (recovered C.checksum_of pages.physical_page_size (content (B.calls blob.old))) }
+    requires shown { pages.len
+        ≤ length (recovered C.checksum_of pages.physical_page_size (content (B.calls blob.old))) }
     requires whole { pages.len % content_size pages.physical_page_size ≡ 0 }
     requires numbers { pages.len / content_size pages.physical_page_size * pages.physical_page_size < 2 ^ 64 }
     requires ends { pages.len + length tip.now < 2 ^ 64 }
@@ -257,7 +263,8 @@ pub fn read_up_to<B: Blob, C: Checksum>(
 ) -> Result<Vec<u8>, Error>
     requires page { IsPageSize pages.physical_page_size }
     requires sound { IsFalse (file_of (B.calls blob.old)).failed }
-    requires shown { pages.len ≤ length (recovered C.checksum_of pages.physical_page_size (content (B.calls blob.old))) }
+    requires shown { pages.len
+        ≤ length (recovered C.checksum_of pages.physical_page_size (content (B.calls blob.old))) }
     requires whole { pages.len % content_size pages.physical_page_size ≡ 0 }
     requires numbers { pages.len / content_size pages.physical_page_size * pages.physical_page_size < 2 ^ 64 }
     requires ends { pages.len + length tip.now < 2 ^ 64 }
@@ -269,7 +276,8 @@ pub fn read_up_to<B: Blob, C: Checksum>(
     ensures within { IsOk result → offset ≤ pages.len + length tip.now }
     ensures past { pages.len + length tip.now < offset
         → (result ≡ Err Error.BlobInsufficientLength) × (cache.new ≡ cache.old) }
-    ensures cause { IfErr result (IsReadingCause pages.physical_page_size pages.len (pages.len + length tip.now) offset) }
+    ensures cause { IfErr result (IsReadingCause pages.physical_page_size pages.len (pages.len + length tip.now)
+        offset) }
     ensures kept { CacheHolds pages.physical_page_size pages.blob_id
         (flushed C.checksum_of pages.physical_page_size (B.calls blob.old) pages.len) cache.new.pages }
     ensures same { cache.new ≡ record cache.old { pages = cache.new.pages } }

@@ -72,7 +72,8 @@ fn hand_over<B: Blob, C: Checksum>(
     requires page { IsPageSize physical_page_size }
     requires numbers { (page + 1) * physical_page_size < 2 ^ 64 }
     requires trimmed { IsTrimmed C.checksum_of physical_page_size (B.calls blob.old) page counted len crc }
-    ensures calls { OnOk result (B.calls blob.new ≡ handed_over physical_page_size page counted len crc (B.calls blob.old)) }
+    ensures calls { OnOk result (B.calls blob.new
+        ≡ handed_over physical_page_size page counted len crc (B.calls blob.old)) }
     ensures any_moment { let old = recovered C.checksum_of physical_page_size (file_of (B.calls blob.old)).base in
         let count = page * content_size physical_page_size + len in
         Through (Keeps C.checksum_of physical_page_size old count) (B.calls blob.old) (B.calls blob.new) }

@@ -217,7 +217,8 @@ module _ (sum : List ℕ → ℕ) (size : ℕ) (room_for_footer : 12 ≤ size) w
       record {
         keeps = keeps;
         prefix = λ none.
-            let r = recovered_prefix sum size content (greatest_length file.base file.changes) file image (omega (arith, room_for_footer)) is.no_longer w.beginnings none in
+            let most = greatest_length file.base file.changes in
+            let r = recovered_prefix sum size content most file image (omega (arith, room_for_footer)) is.no_longer w.beginnings none in
             let front : length (take synced content) ≡ synced = length-take-le synced content w.within in
             let same : length (take synced (recovered sum size image)) ≡ length (take synced content) = ap length keeps in
             let short : length (take synced (recovered sum size image)) ≤ length (recovered sum size image) = omega (

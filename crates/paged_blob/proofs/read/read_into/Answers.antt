@@ -43,6 +43,7 @@ returns-clause-bytes g c =
     let rest_long : rest ≡ n - k = omega (arith, length-take-le (length now - k) (drop k now) (omega (arith, length-drop k now)), now_long) in
     let raw : back ≡ take (from + rest - from) (drop from tip) = c.copy_from_slice.ensures.after in
     let back_is : back ≡ take (n - k) (drop from tip) = raw ∙ ap (λ m. take m (drop from tip)) (omega (arith, rest_long)) in
-    let back_long : length back ≡ n - k = ap length back_is ∙ length-take-le (n - k) (drop from tip) (omega (arith, length-drop from tip, within, k_is, from_is)) in
+    let back_long : length back ≡ n - k = ap length back_is
+    ∙ length-take-le (n - k) (drop from tip) (omega (arith, length-drop from tip, within, k_is, from_is)) in
     laid_both out front back k front_long fits back_long
     ∙ slice_of_both all tip front back count c.args.offset n k from c.min-start.result long k_is from_is start_is within front_is back_is

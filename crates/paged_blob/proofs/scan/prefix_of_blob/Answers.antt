@@ -20,4 +20,5 @@ returns-clause-exact g c = λ sound.
     let blob : c.args.blob_size < 2 ^ 64 = search rules in
     let fits : recoverable sum size calls c.args.blob_size ≤ 18446744073709551615 =
     omega (arith, recovered_short sum size footer bytes, length-take c.args.blob_size (content calls), blob) in
-    unbounded c.prefix_of_blob_at_most.result 18446744073709551615 (recoverable sum size calls c.args.blob_size) fits (c.prefix_of_blob_at_most.ensures.exact sound)
+    unbounded c.prefix_of_blob_at_most.result 18446744073709551615 (recoverable sum size calls c.args.blob_size) fits
+    (c.prefix_of_blob_at_most.ensures.exact sound)

@@ -144,7 +144,8 @@ returns-then-part-eq0-clause-cut g c =
     let old_is : recovered sum size (file_of mid).base ≡ old = ap (recovered sum size) settled.base in
     let count : page * room ≡ kept = omega (arith, split, c.if-part-eq0.true) in
     let taken : take (page * room) (recovered sum size (file_of mid).base) ≡ take c.args.size old =
-    ap (λ n. take n (recovered sum size (file_of mid).base)) (count ∙ sym kept_is) ∙ ap (take (min c.args.size (length old))) old_is ∙ take_min c.args.size old in
+    ap (λ n. take n (recovered sum size (file_of mid).base)) (count ∙ sym kept_is)
+    ∙ ap (take (min c.args.size (length old))) old_is ∙ take_min c.args.size old in
     let new = g.B.Blob.calls c.cut_behind.new.blob in
     let P : List ℕ → Type 0 = λ l. IsCut sum size l new in
     let cut : P (take c.args.size old) = subst P taken c.in_ok-cut_behind.ensures.cut in
@@ -169,7 +170,8 @@ returns-clause-cut g c =
     let old_is : recovered sum size (file_of mid).base ≡ old = ap (recovered sum size) settled.base in
     let count : page * room + part ≡ kept = split in
     let taken : take (page * room + part) (recovered sum size (file_of mid).base) ≡ take c.args.size old =
-    ap (λ n. take n (recovered sum size (file_of mid).base)) (count ∙ sym kept_is) ∙ ap (take (min c.args.size (length old))) old_is ∙ take_min c.args.size old in
+    ap (λ n. take n (recovered sum size (file_of mid).base)) (count ∙ sym kept_is)
+    ∙ ap (take (min c.args.size (length old))) old_is ∙ take_min c.args.size old in
     let new = g.B.Blob.calls c.cut_within.new.blob in
     let P : List ℕ → Type 0 = λ l. IsCut sum size l new in
     let cut : P (take c.args.size old) = subst P taken c.in_ok-last.ensures.cut in
@@ -194,7 +196,8 @@ returns-then-part-eq0-clause-writer g c = λ capacity.
     let old_is : recovered sum size (file_of mid).base ≡ old = ap (recovered sum size) settled.base in
     let count : page * room ≡ kept = omega (arith, split, c.if-part-eq0.true) in
     let taken : take (page * room) (recovered sum size (file_of mid).base) ≡ take c.args.size old =
-    ap (λ n. take n (recovered sum size (file_of mid).base)) (count ∙ sym kept_is) ∙ ap (take (min c.args.size (length old))) old_is ∙ take_min c.args.size old in
+    ap (λ n. take n (recovered sum size (file_of mid).base)) (count ∙ sym kept_is)
+    ∙ ap (take (min c.args.size (length old))) old_is ∙ take_min c.args.size old in
     let new = g.B.Blob.calls c.cut_behind.new.blob in
     let P : List ℕ → Type 0 = λ l. IsCut sum size l new in
     let cut : P (take c.args.size old) = subst P taken c.in_ok-cut_behind.ensures.cut in
@@ -219,7 +222,8 @@ returns-clause-writer g c = λ capacity.
     let old_is : recovered sum size (file_of mid).base ≡ old = ap (recovered sum size) settled.base in
     let count : page * room + part ≡ kept = split in
     let taken : take (page * room + part) (recovered sum size (file_of mid).base) ≡ take c.args.size old =
-    ap (λ n. take n (recovered sum size (file_of mid).base)) (count ∙ sym kept_is) ∙ ap (take (min c.args.size (length old))) old_is ∙ take_min c.args.size old in
+    ap (λ n. take n (recovered sum size (file_of mid).base)) (count ∙ sym kept_is)
+    ∙ ap (take (min c.args.size (length old))) old_is ∙ take_min c.args.size old in
     let new = g.B.Blob.calls c.cut_within.new.blob in
     let P : List ℕ → Type 0 = λ l. IsCut sum size l new in
     let cut : P (take c.args.size old) = subst P taken c.in_ok-last.ensures.cut in
@@ -244,6 +248,7 @@ returns-clause-last g c =
     let old_is : recovered sum size (file_of mid).base ≡ old = ap (recovered sum size) settled.base in
     let count : page * room + part ≡ kept = split in
     let taken : take (page * room + part) (recovered sum size (file_of mid).base) ≡ take c.args.size old =
-    ap (λ n. take n (recovered sum size (file_of mid).base)) (count ∙ sym kept_is) ∙ ap (take (min c.args.size (length old))) old_is ∙ take_min c.args.size old in
+    ap (λ n. take n (recovered sum size (file_of mid).base)) (count ∙ sym kept_is)
+    ∙ ap (take (min c.args.size (length old))) old_is ∙ take_min c.args.size old in
     let P : List ℕ → Type 0 = λ l. IsLast size l (file_of (g.B.Blob.calls c.cut_within.new.blob)).base c.in_ok-last.last in
     subst P taken c.in_ok-last.ensures.last
