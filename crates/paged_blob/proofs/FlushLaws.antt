@@ -14,7 +14,7 @@ use Rattle.paged_format.specs.Laws.Pages.{vouched, vouching}
 use Rattle.paged_blob.specs.Calls.{Change, write, whole, with_bytes, File, after_change}
 use Rattle.paged_blob.specs.Images.{is_within, least_length}
 use Rattle.paged_blob.specs.Chance.{page_at, slot_in}
-use Rattle.paged_blob.specs.Writers.{from_page, ShowsContent, HoldsContent, EachBeginning, OnlyAt, IsDurablePage, share}
+use Rattle.paged_blob.specs.Writers.{from_page, ShowsContent, HoldsContent, EachBeginning, OnlyAt, IsBasePage, share}
 use Rattle.paged_blob.specs.Writers.{IsKeptIn, ShowsLength, AreShown, IsDurableSlot, IsBegun, StandsIn, EndsBy}
 use Rattle.paged_blob.specs.Flushes.{footer_over, page_bytes, page_count, flushed_bytes, last_slot, free_slot, SumsFit}
 use Rattle.paged_blob.specs.Laws.Flushes.{StaysWithin, stays_in, page_begins, page_ends, slots_say}
@@ -104,7 +104,7 @@ stays_at (Some kept) zero first_len len stays same = omega (arith, stays, same r
 stays_at slot (suc page) first_len len stays same = tt
 
 -- the slot that is durable says no more than a page has room for
-pub durable_len : (sum : List ℕ → ℕ) (size len : ℕ) (file : File) (page : ℕ) → IsDurablePage sum size len file page → len ≤ content_size size
+pub durable_len : (sum : List ℕ → ℕ) (size len : ℕ) (file : File) (page : ℕ) → IsBasePage sum size len file page → len ≤ content_size size
 durable_len sum size len file page d =
     let old = page_at size page file.base in
     let v = vouched sum size old (slot_len size d.slot old) (slot_crc size d.slot old) d.verified in
@@ -393,8 +393,8 @@ module _ (sum : List ℕ → ℕ) (size : ℕ) (some_room : 12 < size) (content 
       omega (arith, le, least_whole file.base file.changes, length-with_bytes (first * size) pages live)
 
   -- an earlier page, which is not written
-  pub durable_before : (len page : ℕ) → page < first → IsDurablePage sum size len file page
-      → IsDurablePage sum size len (after_change (write (first * size) pages false) ok file) page
+  pub durable_before : (len page : ℕ) → page < first → IsBasePage sum size len file page
+      → IsBasePage sum size len (after_change (write (first * size) pages false) ok file) page
   durable_before len page earlier d =
       let apart = pages_apart size page first earlier in
       let fits = durable_len sum size len file page d in
@@ -415,7 +415,7 @@ module _ (sum : List ℕ → ℕ) (size : ℕ) (some_room : 12 < size) (content 
   pub durable_again : (slot : DurableSlot) (bytes : List ℕ) → page_at size 0 pages ≡ page_bytes sum size (Some slot) bytes
       → slot.len ≤ length bytes → length bytes ≤ content_size size → bytes ≡ take (length bytes) (from_page size first content)
       → HoldsContent sum size content file.base → IsDurableSlot sum size file first slot
-      → IsDurablePage sum size slot.len (after_change (write (first * size) pages false) ok file) first
+      → IsBasePage sum size slot.len (after_change (write (first * size) pages false) ok file) first
   durable_again slot bytes laid within fits is holds kept =
       let d = kept.durable in
       let room : 12 ≤ size = omega (arith, some_room) in
@@ -465,7 +465,7 @@ durable_from : (sum : List ℕ → ℕ) (size : ℕ) → 12 < size → (content 
     (bytes : List ℕ) (ok : Bool) → bytes ≡ take n (from_page size first content) → n ≤ length (from_page size first content) → 0 < n
     → IsBegun sum size file synced first slot → StaysWithin slot n → HoldsContent sum size content file.base
     → (page : ℕ) → first ≤ page → page * content_size size < synced
-    → IsDurablePage sum size (share size page synced) (after_change (write (first * size) (flushed_bytes sum size slot bytes) false) ok file) page
+    → IsBasePage sum size (share size page synced) (after_change (write (first * size) (flushed_bytes sum size slot bytes) false) ok file) page
 durable_from sum size some_room content file synced first n None bytes ok is within some begun stays holds page from below =
     absurd (omega (arith, mul-le first (content_size size) page (content_size size) from (omega arith), begun, below))
 durable_from sum size some_room content file synced first n (Some kept) bytes ok is within some begun stays holds page from below =
@@ -492,8 +492,8 @@ durable_from sum size some_room content file synced first n (Some kept) bytes ok
     (omega (arith, piece_length, stays, fits)) (omega (arith, piece_length))
     (is_piece ∙ ap (λ m. take m (from_page size first content)) (sym piece_length)) holds begun.1 in
     let shared : kept.len ≡ share size first synced = omega (arith, begun.0, fits) in
-    let D : ℕ → Type 0 = λ len. IsDurablePage sum size len next first in
-    subst (λ p. IsDurablePage sum size (share size p synced) next p) (sym here) (subst D shared again)
+    let D : ℕ → Type 0 = λ len. IsBasePage sum size len next first in
+    subst (λ p. IsBasePage sum size (share size p synced) next p) (sym here) (subst D shared again)
 
 -- What holds of the file at each moment stays under a flush of content at the page where the tip begins, whether the write succeeds or not.
 pub flush_kept : (sum : List ℕ → ℕ) (size : ℕ) → 12 < size → size ≤ 65536 → (content : List ℕ) (file : File) (synced first n : ℕ)

@@ -7,3 +7,13 @@ pub mod FlushedPages
 pub mod FlushLaws
 pub mod WriterLaws
 pub mod CachedLaws
+pub mod Scanned
+pub mod Shown
+pub mod Regions
+pub mod Stages
+pub mod Cut
+pub mod Handed
+pub mod Done
+pub mod Settled
+pub mod CutBlob
+pub mod ReadPages

@@ -7,7 +7,7 @@ use Rattle.paged_blob.specs.Images.{may_give, may_leave, may_hold, least_length,
 use Rattle.paged_blob.proofs.Bytes.{resized_in, resized_out, with_bytes_in, with_bytes_before, with_bytes_behind}
 
 -- a change gives a byte its value in the whole file, or leaves it as it was
-one_live : (change : Change) (file : List ℕ) (i : ℕ)
+pub one_live : (change : Change) (file : List ℕ) (i : ℕ)
     → (may_give change i (get_or (changed change file) i 0) ≡ true) ⊎ ((may_leave change i ≡ true) × (get_or (changed change file) i 0 ≡ get_or file i 0))
 one_live (write offset bytes kept) file i =
     ⊎_elim
@@ -34,7 +34,7 @@ whole_held base (change ∷ earlier) i =
     (and_from _ _ leaves (ap (may_hold base earlier i) same ∙ whole_held base earlier i)))
     (one_live change (whole base earlier) i)
 
-whole_long : (base : List ℕ) (changes : List Change)
+pub whole_long : (base : List ℕ) (changes : List Change)
     → (least_length base changes ≤ length (whole base changes)) × (length (whole base changes) ≤ greatest_length base changes)
 whole_long base [] = (omega arith, omega arith)
 whole_long base (change ∷ earlier) = (omega arith, omega arith)

@@ -16,7 +16,7 @@ use Rattle.paged_blob.specs.Calls.{Call, wrote, synced, Change, whole, File, fil
 use Rattle.paged_blob.specs.Moments.{Through, here}
 use Rattle.paged_blob.specs.Answers.{Records, RecordsSync, MakesDurable}
 use Rattle.paged_blob.specs.Laws.Moments.{goes_on, goes_on_sync, weaker}
-use Rattle.paged_blob.specs.Laws.Durable.{file_keeps, recovered_keeps}
+use Rattle.paged_blob.specs.Laws.Durable.{file_keeps, file_withstands, recovered_keeps}
 use Rattle.paged_blob.specs.Chance.{page_at}
 use Rattle.paged_blob.specs.Writers.{from_page, HoldsContent, EachBeginning, share, IsKeptIn, ShowsLength, AreShown}
 use Rattle.paged_blob.specs.Writers.{IsBegun, pages_begun, EndsBy, IsWriterOf, WriterState, written, IsWriter, IsEmptyFile, IsFlushed, Keeps}
@@ -385,18 +385,22 @@ module _ (sum : List ℕ → ℕ) (calls : List Call) (w : WriterState) (some_ro
   on_disk : take w.tip.offset (recovered sum w.page_size (content calls)) ≡ take w.tip.offset bytes
   on_disk =
       let file : File = record { base = content calls; changes = []; failed = false } in
-      recovered_keeps sum w.page_size (omega (arith, some_room)) bytes w.tip.offset file (content calls) is.tip_within
-      (whole_has (HoldsContent sum w.page_size bytes) (file_of calls).base (file_of calls).changes is.kept.beginnings)
-      (λ page below.
-      let s = is.shown page below in
-      record {
-        slot = s.slot;
-        verified = s.verified;
-        says = s.says;
-        reach = s.reach;
-        bytes = λ i short held may. eqb-true _ _ may;
-        slot_bytes = λ i short held may. eqb-true _ _ may;
-      })
+      let kept : IsKeptIn sum w.page_size bytes w.tip.offset file = record {
+        within = is.tip_within;
+        beginnings = whole_has (HoldsContent sum w.page_size bytes) (file_of calls).base (file_of calls).changes is.kept.beginnings;
+        durable = λ page below.
+            let s = is.shown page below in
+            record {
+              slot = s.slot;
+              verified = s.verified;
+              says = s.says;
+              reach = s.reach;
+              bytes = λ i short held may. eqb-true _ _ may;
+              slot_bytes = λ i short held may. eqb-true _ _ may;
+            };
+      } in
+      recovered_keeps sum w.page_size (omega (arith, some_room)) bytes w.tip.offset file (content calls)
+      (file_withstands sum w.page_size (omega (arith, some_room)) bytes w.tip.offset file kept)
       (record { no_shorter = omega arith; no_longer = omega arith; each = λ i below. eq-eqb _ _ refl })
 
   pub written_is : written sum calls w ≡ bytes

@@ -1,5 +1,5 @@
 -- An opening by chance: a slot verifies that nobody wrote whole.
-use Rattle.std.specs.Prelude.{ℕ, zero, suc, ◌*◌, ◌/◌, Bool, false, not, ◌&&◌, ◌||◌, List, [], ◌∷◌, length, take, drop, bytes_eq, IsFalse, ⊤}
+use Rattle.std.specs.Prelude.{◌≡◌, ◌⊎◌, ℕ, zero, suc, ◌*◌, ◌/◌, Bool, false, not, ◌&&◌, ◌||◌, List, [], ◌∷◌, length, take, drop, bytes_eq, IsFalse, ⊤}
 use Rattle.paged_format.specs.declared.footer.Slot.{Slot}
 use Rattle.paged_format.specs.declared.footer.Slot.TheVariants.{First, Second}
 use Rattle.paged_format.specs.Footers.{slot_start, slot_len}
@@ -20,7 +20,12 @@ has_slot size slot shown page =
     bytes_eq (slot_in size slot page) (slot_in size slot shown)
     && bytes_eq (take (slot_len size slot shown) page) (take (slot_len size slot shown) shown)
 
--- whether the base, or the base with the first of the changes, each whole, has the slot in this page
+-- the base, or the base with the first of the changes, each whole
+abbrev pub IsBeginning : List ℕ → List Change → List ℕ → Type 0
+IsBeginning base [] file = file ≡ base
+IsBeginning base (change ∷ earlier) file = (file ≡ whole base (change ∷ earlier)) ⊎ IsBeginning base earlier file
+
+-- whether one of these beginnings has the slot in this page
 abbrev pub was_written : ℕ → ℕ → Slot → List ℕ → List ℕ → List Change → Bool
 was_written size page slot shown base [] = has_slot size slot shown (page_at size page base)
 was_written size page slot shown base (change ∷ earlier) =

@@ -3,11 +3,15 @@ pub mod Images
 pub mod Moments
 pub mod Chance
 pub mod Caches
+pub mod Scans
 pub mod Writers
 pub mod Flushes
 pub mod WritersCode
 pub mod CachedContent
+pub mod Shrinks
+pub mod Reads
 pub mod CachesCode
+pub mod ShrinksCode
 pub mod Answers
 pub mod WriteModes
 pub mod Recorded

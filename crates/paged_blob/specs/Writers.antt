@@ -7,7 +7,7 @@ use Rattle.paged_format.specs.Pages.{verifies, recovered}
 use Rattle.paged_format.specs.Tips.{Tip}
 use Rattle.paged_blob.specs.Calls.{Call, Change, whole, File, file_of}
 use Rattle.paged_blob.specs.Images.{may_hold, least_length, IsImage}
-use Rattle.paged_blob.specs.Chance.{page_at, slot_in, is_by_chance}
+use Rattle.paged_blob.specs.Chance.{page_at, slot_in, IsBeginning, is_by_chance}
 use Rattle.paged_blob.specs.Flushes.{physical_size}
 use Rattle.paged_blob.specs.declared.flush.DurableSlot.{DurableSlot}
 
@@ -35,8 +35,19 @@ EachBeginning P base (change ∷ earlier) = P (whole base (change ∷ earlier)) 
 abbrev pub OnlyAt : File → ℕ → ℕ → Type 0
 OnlyAt file i value = (held : ℕ) → IsTrue (may_hold file.base file.changes i held) → held ≡ value
 
--- a slot that vouches for so many bytes of a page, and these bytes, stand in the base and in each image
+-- a slot that vouches for so many bytes of a page or more, and the bytes that it vouches for, stand in a beginning and, the same, in each image
 pub record IsDurablePage (sum : List ℕ → ℕ) (size len : ℕ) (file : File) (page : ℕ) : Type 0 where
+  pub shown : List ℕ
+  pub beginning : IsBeginning file.base file.changes shown
+  pub slot : Slot
+  pub verified : IsTrue (verifies sum size slot (page_at size page shown))
+  pub says : len ≤ slot_len size slot (page_at size page shown)
+  pub reach : (page + 1) * size ≤ least_length file.base file.changes
+  pub bytes : (i : ℕ) → i < slot_len size slot (page_at size page shown) → OnlyAt file (page * size + i) (get_or shown (page * size + i) 0)
+  pub slot_bytes : (i : ℕ) → i < 6 → OnlyAt file (page * size + (slot_start size slot + i)) (get_or shown (page * size + (slot_start size slot + i)) 0)
+
+-- a slot that vouches for so many bytes of a page, and these bytes, stand in the base and in each image
+pub record IsBasePage (sum : List ℕ → ℕ) (size len : ℕ) (file : File) (page : ℕ) : Type 0 where
   pub slot : Slot
   pub verified : IsTrue (verifies sum size slot (page_at size page file.base))
   pub says : slot_len size slot (page_at size page file.base) ≡ len
@@ -52,12 +63,28 @@ share size page count = min (content_size size) (count - page * content_size siz
 abbrev pub AreDurable : (List ℕ → ℕ) → ℕ → ℕ → File → Type 0
 AreDurable sum size count file = (page : ℕ) → page * content_size size < count → IsDurablePage sum size (share size page count) file page
 
+-- so many bytes of the content are durable in the base, page by page
+abbrev pub AreInBase : (List ℕ → ℕ) → ℕ → ℕ → File → Type 0
+AreInBase sum size count file = (page : ℕ) → page * content_size size < count → IsBasePage sum size (share size page count) file page
+
+-- What a writer can begin with: a content over a blob, of which so many first bytes are durable and those from the tip's offset on are in
+-- memory.
+pub record IsWriterStart (sum : List ℕ → ℕ) (size : ℕ) (calls : List Call) (content : List ℕ) (synced : ℕ) (tip : Tip) : Type 0 where
+  pub sound : IsFalse (file_of calls).failed
+  pub within : synced ≤ length content
+  pub beginnings : EachBeginning (HoldsContent sum size content) (file_of calls).base (file_of calls).changes
+  pub durable : AreDurable sum size synced (file_of calls)
+  pub tip_begins : tip.offset % content_size size ≡ 0
+  pub tip_within : tip.offset ≤ length content
+  pub tip_bytes : tip.bytes ≡ drop tip.offset content
+  pub flushed : take tip.offset (recovered sum size (whole (file_of calls).base (file_of calls).changes)) ≡ take tip.offset content
+
 -- What holds of a file at each moment, also after a call that failed: so many first bytes of the content are durable, and whatever
 -- slot of it verifies, in the base or after any of the changes, vouches for bytes of the content.
 pub record IsKeptIn (sum : List ℕ → ℕ) (size : ℕ) (content : List ℕ) (synced : ℕ) (file : File) : Type 0 where
   pub within : synced ≤ length content
   pub beginnings : EachBeginning (HoldsContent sum size content) file.base file.changes
-  pub durable : AreDurable sum size synced file
+  pub durable : AreInBase sum size synced file
 
 -- a page of a file is there, and a slot of it vouches for so many bytes
 pub record ShowsLength (sum : List ℕ → ℕ) (size len : ℕ) (file : List ℕ) (page : ℕ) : Type 0 where
@@ -72,7 +99,7 @@ AreShown sum size count file = (page : ℕ) → page * content_size size < count
 
 -- this slot vouches for the durable bytes of a page
 pub record IsDurableSlot (sum : List ℕ → ℕ) (size : ℕ) (file : File) (page : ℕ) (slot : DurableSlot) : Type 0 where
-  pub durable : IsDurablePage sum size slot.len file page
+  pub durable : IsBasePage sum size slot.len file page
   pub slot_is : durable.slot ≡ slot.slot
   pub bytes : slot_in size slot.slot (page_at size page file.base) ≡ slot_bytes slot.len slot.crc
 

@@ -1,13 +1,15 @@
 //! What holds of all blobs, and of all writers over them.
 
-ghost use Rattle.std.specs.Prelude.{◌≡◌, ◌<◌, ◌≤◌, ℕ, List, Option};
+ghost use Rattle.std.specs.Prelude.{◌≡◌, ◌<◌, ◌≤◌, ℕ, List, [], length, Option};
 ghost use Rattle.std.specs.Bool.{Decides};
+ghost use Rattle.paged_format.specs.Pages.{recovered};
 ghost use Rattle.paged_format.specs.Tips.{Tip};
-ghost use Rattle.paged_blob.specs.Calls.{Call, File};
+ghost use Rattle.paged_blob.specs.Calls.{Call, File, content, file_of};
 ghost use Rattle.paged_blob.specs.Chance.{is_by_chance};
 ghost use Rattle.paged_blob.specs.Laws.Chance.{IsByChance};
 ghost use Rattle.paged_blob.specs.Writers.{IsWriterOf, WriterState, written, Keeps};
 ghost use Rattle.paged_blob.specs.declared.flush.DurableSlot.{DurableSlot};
+ghost use Rattle.paged_blob.specs.Shrinks.{Withstands};
 
 /// What holds between a writer and its blob is enough: what is recovered of each image of the calls keeps the durable
 /// bytes of the content, and is a beginning of the content unless it is there by chance.
@@ -23,8 +25,15 @@ pub fn what_is_written_is_the_content()
         → IsWriterOf sum w.page_size calls content w.synced w.tip w.slot → written sum calls w ≡ content }
 {}
 
-/// An opening is found to be by chance exactly where a slot of it verifies that the base and no beginning of the changes
-/// since, each whole, has there.
+/// Where all is durable, what is recovered of the blob withstands each crash, to its last byte.
+pub fn what_is_shown_withstands()
+    ensures { (sum : List ℕ → ℕ) (size : ℕ) (calls : List Call) → 12 < size → (file_of calls).changes ≡ []
+        → Withstands sum size (recovered sum size (content calls)) (length (recovered sum size (content calls)))
+        (file_of calls) }
+{}
+
+/// An opening is found to be by chance exactly where a slot of it verifies that the base and no beginning of the
+/// changes since, each whole, has there.
 pub fn chance_is_decided()
     ensures { (sum : List ℕ → ℕ) (size : ℕ) (file : File) (shown : List ℕ)
         → Decides (is_by_chance sum size file shown) (IsByChance sum size file shown) }

@@ -8,7 +8,10 @@ pub mod cache;
 pub mod error;
 pub mod flush;
 pub mod laws;
+pub mod read;
 pub mod record;
+pub mod scan;
+pub mod shrink;
 pub mod writer;
 
 pub use blob::{Blob, WriteMode};
@@ -16,6 +19,8 @@ pub use cache::CacheRef;
 pub use error::{CallKind, Error};
 pub use flush::DurableSlot;
 pub use record::Recorded;
+pub use scan::{prefix_of_blob, prefix_of_blob_at_most};
+pub use shrink::{LastPage, cut_blob};
 pub use writer::{Append, Writer};
 
 #[cfg(test)]

@@ -6,6 +6,13 @@ use crate::bench::MemoryDisk;
 use crate::blob::{Blob, WriteMode};
 use crate::cache::CacheRef;
 use crate::error::{CallKind, Error};
+use crate::read::{FlushedPages, read_at, read_up_to};
+use crate::scan::{prefix_of_blob, prefix_of_blob_at_most};
+use crate::shrink::cut_blob;
+use fault_storage::{Checksum, Crc32};
+use merkle_forest::codec::Encode;
+use paged_format::{Footer, Slot};
+use std::alloc::Global;
 use std::test::Fail;
 
 #[test]
@@ -86,5 +93,127 @@ fn keeps_the_pages_of_two_blobs_apart(rt: HostRuntime) -> Result<(), Fail> {
     assert_eq!(rt; cache.page(second, 2), Some([7, 7, 7, 7].as_slice()));
     assert_eq!(rt; cache.cache(first, &[8, 8, 8, 8], 0), 0);
     assert_eq!(rt; cache.page(second, 2), None);
+    Ok(())
+}
+
+// A page of 64 bytes whose slots say these lengths, each with its checksum; 0 stands for a slot of zeros.
+fn page_of(alloc: Global, first: u16, second: u16) -> Result<Vec<u8>, Fail> {
+    let mut page = Vec::new(alloc);
+    for k in 0..52 {
+        page.push(k)?;
+    }
+    let footer = Footer {
+        len1: first,
+        crc1: sum_of(&page, first),
+        len2: second,
+        crc2: sum_of(&page, second),
+    };
+    page.extend_from_slice(&footer.encode(alloc)?)?;
+    Ok(page)
+}
+
+fn sum_of(page: &[u8], len: u16) -> u32 {
+    if len == 0 {
+        return 0;
+    }
+    Crc32::checksum(page.get(..len as usize).unwrap_or(page))
+}
+
+// Pages one after the other.
+fn pages_of(alloc: Global, slots: &[(u16, u16)]) -> Result<Vec<u8>, Fail> {
+    let mut bytes = Vec::new(alloc);
+    for (first, second) in slots {
+        bytes.extend_from_slice(&page_of(alloc, *first, *second)?)?;
+    }
+    Ok(bytes)
+}
+
+// How many bytes are recovered of these, page by page and in one read.
+fn prefix_found(alloc: Global, bytes: Vec<u8>) -> Result<(u64, u64), Fail> {
+    let size = bytes.len() as u64;
+    let mut disk = MemoryDisk::showing(alloc, bytes)?;
+    let one = prefix_of_blob::<MemoryDisk, Crc32>(alloc, &mut disk, 64, size, 0, 1)?;
+    let all = prefix_of_blob_at_most::<MemoryDisk, Crc32>(alloc, &mut disk, 64, size, 0, 55, 4096)?;
+    Ok((one, all))
+}
+
+#[test]
+fn finds_the_prefix_of_a_blob(rt: HostRuntime) -> Result<(), Fail> {
+    let alloc = rt.alloc();
+    let partial = pages_of(alloc, &[(52, 0), (8, 0), (52, 0)])?;
+    assert_eq!(rt; prefix_found(alloc, partial)?, (60, 55));
+    let zeros = pages_of(alloc, &[(52, 0), (0, 0), (52, 0)])?;
+    assert_eq!(rt; prefix_found(alloc, zeros)?, (52, 52));
+    Ok(())
+}
+
+// What a cut to so many bytes leaves of these, and how many bytes of the last page.
+fn cut_to(alloc: Global, bytes: Vec<u8>, size: u64) -> Result<(MemoryDisk, Option<usize>), Fail> {
+    let blob_size = bytes.len() as u64;
+    let mut disk = MemoryDisk::showing(alloc, bytes)?;
+    let len = prefix_of_blob::<MemoryDisk, Crc32>(alloc, &mut disk, 64, blob_size, 0, 64)?;
+    let last = cut_blob::<MemoryDisk, Crc32>(alloc, &mut disk, 64, false, len, size)?;
+    Ok((disk, last.map(|page| page.bytes.len())))
+}
+
+#[test]
+fn cuts_within_a_page(rt: HostRuntime) -> Result<(), Fail> {
+    let alloc = rt.alloc();
+    let (disk, last) = cut_to(alloc, pages_of(alloc, &[(52, 0), (8, 12), (52, 0)])?, 60)?;
+    assert_eq!(rt; last, Some(8));
+    assert_eq!(rt;
+        disk.as_bytes(),
+        pages_of(alloc, &[(52, 0), (8, 0)])?.as_slice()
+    );
+    assert_eq!(rt; disk.record().len(), 6);
+    Ok(())
+}
+
+#[test]
+fn cuts_behind_a_page(rt: HostRuntime) -> Result<(), Fail> {
+    let alloc = rt.alloc();
+    let (disk, last) = cut_to(alloc, pages_of(alloc, &[(52, 0), (8, 12)])?, 52)?;
+    assert_eq!(rt; last, None);
+    assert_eq!(rt; disk.as_bytes(), pages_of(alloc, &[(52, 0)])?.as_slice());
+    assert_eq!(rt; disk.record().len(), 3);
+    Ok(())
+}
+
+#[test]
+fn clears_a_slot_that_an_append_left(rt: HostRuntime) -> Result<(), Fail> {
+    let alloc = rt.alloc();
+    let (disk, last) = cut_to(alloc, pages_of(alloc, &[(52, 0), (8, 12)])?, 64)?;
+    assert_eq!(rt; last, Some(12));
+    assert_eq!(rt;
+        disk.as_bytes(),
+        pages_of(alloc, &[(52, 0), (12, 0)])?.as_slice()
+    );
+    Ok(())
+}
+
+#[test]
+fn reads_up_to_the_end(rt: HostRuntime) -> Result<(), Fail> {
+    let alloc = rt.alloc();
+    let mut disk = MemoryDisk::showing(alloc, pages_of(alloc, &[(52, 0)])?)?;
+    let mut cache = CacheRef::new(alloc, 52, 2);
+    let blob_id = cache.next_id()?;
+    let size = disk.as_bytes().len() as u64;
+    let len = prefix_of_blob::<MemoryDisk, Crc32>(alloc, &mut disk, 64, size, 0, 64)?;
+    assert_eq!(rt; len, 52);
+    let pages = FlushedPages {
+        physical_page_size: 64,
+        blob_id,
+        len,
+    };
+    let tip = [52, 53, 54, 55, 56, 57, 58, 59];
+    let past = read_at::<MemoryDisk, Crc32>(alloc, &mut disk, &mut cache, pages, &tip, 60, 1);
+    assert_eq!(rt; past.err(), Some(Error::BlobInsufficientLength));
+    let last = read_up_to::<MemoryDisk, Crc32>(alloc, &mut disk, &mut cache, pages, &tip, 56, 10)?;
+    assert_eq!(rt; last.as_slice(), [56, 57, 58, 59].as_slice());
+    let both = read_at::<MemoryDisk, Crc32>(alloc, &mut disk, &mut cache, pages, &tip, 50, 4)?;
+    assert_eq!(rt; both.as_slice(), [50, 51, 52, 53].as_slice());
+    assert_eq!(rt; cache.page(blob_id, 0).map(|page| page.len()), Some(52));
+    let kept = read_at::<MemoryDisk, Crc32>(alloc, &mut disk, &mut cache, pages, &tip, 7, 2)?;
+    assert_eq!(rt; kept.as_slice(), [7, 8].as_slice());
     Ok(())
 }

@@ -1,5 +1,5 @@
 -- The test decides whether an opening is by chance.
-use Rattle.std.proofs.Common.{◌≡◌, ◌⊎◌, ℕ, zero, suc, ◌/◌, ◌<◌, true, false, List, [], ◌∷◌, length, take}
+use Rattle.std.proofs.Common.{◌≡◌, ℕ, zero, suc, ◌/◌, ◌<◌, true, false, List, [], ◌∷◌, length, take}
 use Rattle.std.proofs.Common.{Decides, inl, inr, ⊎_elim, subst, refl, arith}
 use Rattle.std.proofs.lemmas.Bool.{cases_lt, cases_Bool, or_cases, or_left, or_right}
 use Rattle.std.proofs.lemmas.Bool.{and_parts, and_from, both_ways, not-true, not_from_false, false_from_ne_true}
@@ -9,17 +9,12 @@ use Rattle.paged_format.specs.declared.footer.Slot.TheVariants.{First, Second}
 use Rattle.paged_format.specs.Footers.{slot_len}
 use Rattle.paged_format.specs.Pages.{verifies}
 use Rattle.paged_blob.specs.Calls.{Change, whole, File}
-use Rattle.paged_blob.specs.Chance.{page_at, slot_in, has_slot, was_written, is_chance_slot, has_chance_slot, is_by_chance}
+use Rattle.paged_blob.specs.Chance.{page_at, slot_in, has_slot, IsBeginning, was_written, is_chance_slot, has_chance_slot, is_by_chance}
 
 -- a page has the slot of the shown one, and the bytes that it vouches for
 pub record HasSlot (size : ℕ) (slot : Slot) (shown page : List ℕ) : Type 0 where
   pub slot_same : slot_in size slot page ≡ slot_in size slot shown
   pub bytes_same : take (slot_len size slot shown) page ≡ take (slot_len size slot shown) shown
-
--- the base, or the base with the first of the changes, each whole
-abbrev pub IsBeginning : List ℕ → List Change → List ℕ → Type 0
-IsBeginning base [] file = file ≡ base
-IsBeginning base (change ∷ earlier) file = (file ≡ whole base (change ∷ earlier)) ⊎ IsBeginning base earlier file
 
 -- a slot of a page verifies, and no beginning has it there
 pub record IsChanceSlot (sum : List ℕ → ℕ) (size : ℕ) (file : File) (bytes : List ℕ) (page : ℕ) (slot : Slot) : Type 0 where

@@ -1,6 +1,6 @@
 -- What is recovered of an image keeps what is durable, by chance or not.
 use Rattle.std.proofs.Common.{◌≡◌, ℕ, zero, suc, ◌+◌, ◌-◌, ◌*◌, ◌/◌, ◌<◌, ◌≤◌, min, true, cond, ◌==◌}
-use Rattle.std.proofs.Common.{List, [], ◌∷◌, ◌++◌, length, get_or, take, drop, sym, ◌∙◌, ap, ⊎_elim, refl, arith}
+use Rattle.std.proofs.Common.{List, [], ◌∷◌, ◌++◌, length, get_or, take, drop, sym, ◌∙◌, ap, inl, inr, ⊎_elim, refl, arith}
 use Rattle.std.proofs.lemmas.Bool.{cases_lt, cond-true, eq-eqb}
 use Rattle.std.proofs.lemmas.List.{take-append-le, take-append-drop, take-take, drop-drop, length-drop}
 use Rattle.std.proofs.lemmas.List.{length-take, length-take-le, get_or-take, get_or-drop, ext_get_or}
@@ -8,25 +8,27 @@ use Rattle.std.proofs.Math.Nat.{le-div_iff_mul-le}
 use Rattle.std.proofs.Math.Seq.{take-append-add}
 use Rattle.paged_format.specs.declared.footer.Slot.{Slot}
 use Rattle.paged_format.specs.declared.footer.Slot.TheVariants.{First, Second}
-use Rattle.paged_format.specs.Footers.{content_size, slot_start, slot_len}
+use Rattle.paged_format.specs.Footers.{content_size, slot_start, slot_len, slot_crc}
 use Rattle.paged_format.specs.Pages.{verifies, shown_len, content_of, first_pages, recovered}
-use Rattle.paged_format.specs.Laws.Pages.{vouched_len-true, shown_within}
+use Rattle.paged_format.specs.Laws.Pages.{vouched, vouched_len-true, shown_within}
+use Rattle.paged_format.specs.Tips.{Tip}
 use Rattle.paged_blob.specs.Calls.{Call, Change, File, file_of}
-use Rattle.paged_blob.specs.Images.{least_length, IsImage}
-use Rattle.paged_blob.specs.Chance.{page_at, slot_in}
-use Rattle.paged_blob.specs.Writers.{from_page, HoldsContent, EachBeginning, OnlyAt, IsDurablePage, share, AreDurable, IsKeptIn, Keeps}
+use Rattle.paged_blob.specs.Images.{least_length, greatest_length, IsImage}
+use Rattle.paged_blob.specs.Chance.{page_at, slot_in, IsBeginning}
+use Rattle.paged_blob.specs.Writers.{from_page, EachBeginning, OnlyAt, IsDurablePage, share, IsBasePage, IsWriterStart, IsKeptIn, Keeps}
+use Rattle.paged_blob.specs.Shrinks.{HoldsPrefix, Withstands}
 use Rattle.paged_blob.specs.Laws.Chance.{HasSlot}
-use Rattle.paged_blob.specs.Laws.Writers.{verifies_there, same_len, recovered_prefix}
+use Rattle.paged_blob.specs.Laws.Writers.{of_beginning, verifies_there, same_len, holds_prefix, recovered_prefix}
 
 -- the same first bytes
-same_front : (n : ℕ) (s t : List ℕ) → n ≤ length s → n ≤ length t → ((i : ℕ) → i < n → get_or s i 0 ≡ get_or t i 0) → take n s ≡ take n t
+pub same_front : (n : ℕ) (s t : List ℕ) → n ≤ length s → n ≤ length t → ((i : ℕ) → i < n → get_or s i 0 ≡ get_or t i 0) → take n s ≡ take n t
 same_front n s t in_s in_t same =
     ext_get_or 0 (take n s) (take n t) (length-take-le n s in_s ∙ sym (length-take-le n t in_t))
     (λ i below.
     let short : i < n = omega (arith, below, length-take-le n s in_s) in
     get_or-take n s i 0 short ∙ same i short ∙ sym (get_or-take n t i 0 short))
 
-further : (m k : ℕ) (rest : List ℕ) → m ≤ length rest → take m rest ++ take k (drop m rest) ≡ take (m + k) rest
+pub further : (m k : ℕ) (rest : List ℕ) → m ≤ length rest → take m rest ++ take k (drop m rest) ≡ take (m + k) rest
 further m k rest le =
     let e = take-append-add (take m rest) (drop m rest) k in
     let front : length (take m rest) ≡ m = length-take-le m rest le in
@@ -47,43 +49,50 @@ whole_case n room here more rest le long rest_long same next =
     ap (λ k. take k (take room here ++ more)) split ∙ take-append-add (take room here) more (n - room)
     ∙ ap (λ l. l ++ take (n - room) more) same ∙ ap (λ l. take room rest ++ l) next ∙ further room (n - room) rest rest_long ∙ ap (λ k. take k rest) whole
 
+-- no beginning is shorter than the least length
+pub least_beginning : (base : List ℕ) (changes : List Change) (file : List ℕ) → IsBeginning base changes file → least_length base changes ≤ length file
+least_beginning base [] file is = omega (arith, ap length is)
+least_beginning base (change ∷ earlier) file (inl is) = omega (arith, ap length is)
+least_beginning base (change ∷ earlier) file (inr before) = omega (arith, least_beginning base earlier file before)
+
 module _ (sum : List ℕ → ℕ) (size : ℕ) (room_for_footer : 12 ≤ size) where
-  page_long : (page : ℕ) (file : List ℕ) → (page + 1) * size ≤ length file → length (page_at size page file) ≡ size
+  pub page_long : (page : ℕ) (file : List ℕ) → (page + 1) * size ≤ length file → length (page_at size page file) ≡ size
   page_long page file reach = length-take-le size (drop (page * size) file) (omega (arith, length-drop (page * size) file, reach))
 
-  page_byte : (page : ℕ) (file : List ℕ) (i : ℕ) → i < size → get_or (page_at size page file) i 0 ≡ get_or file (page * size + i) 0
+  pub page_byte : (page : ℕ) (file : List ℕ) (i : ℕ) → i < size → get_or (page_at size page file) i 0 ≡ get_or file (page * size + i) 0
   page_byte page file i below = get_or-take size (drop (page * size) file) i 0 below ∙ get_or-drop (page * size) file i 0
 
-  slot_ends : (slot : Slot) → slot_start size slot + 6 ≤ size
+  pub slot_ends : (slot : Slot) → slot_start size slot + 6 ≤ size
   slot_ends First = omega arith
   slot_ends Second = omega arith
 
   -- the durable slot, and the bytes that it vouches for, stand in the image
-  durable_slot : (len : ℕ) (file : File) (image : List ℕ) (page : ℕ) (d : IsDurablePage sum size len file page) → len ≤ content_size size
-      → least_length file.base file.changes ≤ length file.base → IsImage file image
-      → HasSlot size d.slot (page_at size page file.base) (page_at size page image)
+  durable_slot : (len : ℕ) (file : File) (image : List ℕ) (page : ℕ) (d : IsDurablePage sum size len file page) → IsImage file image
+      → HasSlot size d.slot (page_at size page d.shown) (page_at size page image)
   unfolding slot_in
-  durable_slot len file image page d fits base_long is =
-      let old = page_at size page file.base in
+  durable_slot len file image page d is =
+      let old = page_at size page d.shown in
       let new = page_at size page image in
-      let old_long : length old ≡ size = page_long page file.base (omega (arith, d.reach, base_long)) in
+      let says = slot_len size d.slot old in
+      let fits : says ≤ content_size size = (vouched sum size old says (slot_crc size d.slot old) d.verified).fits in
+      let old_long : length old ≡ size = page_long page d.shown (omega (arith, d.reach, least_beginning file.base file.changes d.shown d.beginning)) in
       let new_reach : (page + 1) * size ≤ length image = omega (arith, d.reach, is.no_shorter) in
       let new_long : length new ≡ size = page_long page image new_reach in
       let ends = slot_ends d.slot in
-      let byte : (i : ℕ) → i < size → OnlyAt file (page * size + i) (get_or file.base (page * size + i) 0) → get_or new i 0 ≡ get_or old i 0 = λ i below only.
+      let byte : (i : ℕ) → i < size → OnlyAt file (page * size + i) (get_or d.shown (page * size + i) 0) → get_or new i 0 ≡ get_or old i 0 = λ i below only.
       page_byte page image i below ∙ only (get_or image (page * size + i) 0) (is.each (page * size + i) (omega (arith, below, new_reach)))
-      ∙ sym (page_byte page file.base i below) in
+      ∙ sym (page_byte page d.shown i below) in
       record {
         slot_same = same_front 6 (drop (slot_start size d.slot) new) (drop (slot_start size d.slot) old)
             (omega (arith, length-drop (slot_start size d.slot) new, new_long, ends)) (omega (arith, length-drop (slot_start size d.slot) old, old_long, ends))
             (λ i below. get_or-drop (slot_start size d.slot) new i 0 ∙ byte (slot_start size d.slot + i) (omega (arith, below, ends)) (d.slot_bytes i below)
             ∙ sym (get_or-drop (slot_start size d.slot) old i 0));
-        bytes_same = ap (λ n. take n new) d.says ∙ same_front len new old (omega (arith, new_long, fits)) (omega (arith, old_long, fits))
-            (λ i below. byte i (omega (arith, below, fits)) (d.bytes i below)) ∙ sym (ap (λ n. take n old) d.says);
+        bytes_same = same_front says new old (omega (arith, new_long, fits)) (omega (arith, old_long, fits))
+            (λ i below. byte i (omega (arith, below, fits)) (d.bytes i below));
       }
 
   -- a page shows at least what a slot of it vouches for
-  shows_slot_len : (slot : Slot) (page : List ℕ) → verifies sum size slot page ≡ true → slot_len size slot page ≤ shown_len sum size page
+  pub shows_slot_len : (slot : Slot) (page : List ℕ) → verifies sum size slot page ≡ true → slot_len size slot page ≤ shown_len sum size page
   unfolding shown_len
   shows_slot_len First page ok = omega (arith, vouched_len-true sum size First page ok)
   shows_slot_len Second page ok = omega (arith, vouched_len-true sum size Second page ok)
@@ -94,21 +103,26 @@ module _ (sum : List ℕ → ℕ) (size : ℕ) (room_for_footer : 12 ≤ size) w
     pub shown : len ≤ shown_len sum size (page_at size page image)
     pub same : take len (page_at size page image) ≡ take len (from_page size page content)
 
-  durable_shows : (len : ℕ) (content : List ℕ) (file : File) (image : List ℕ) (page : ℕ) → IsDurablePage sum size len file page → len ≤ content_size size
-      → least_length file.base file.changes ≤ length file.base → HoldsContent sum size content file.base → IsImage file image
+  durable_shows : (len : ℕ) (content : List ℕ) (file : File) (image : List ℕ) (page : ℕ) → IsDurablePage sum size len file page
+      → page * content_size size ≤ length content
+      → EachBeginning (HoldsPrefix sum size content (greatest_length file.base file.changes)) file.base file.changes → IsImage file image
       → ShowsShare len content image page
-  durable_shows len content file image page d fits base_long holds is =
-      let old = page_at size page file.base in
+  durable_shows len content file image page d within each is =
+      let old = page_at size page d.shown in
       let new = page_at size page image in
-      let has = durable_slot len file image page d fits base_long is in
+      let rest = from_page size page content in
+      let m = slot_len size d.slot old in
+      let has = durable_slot len file image page d is in
       let ok : verifies sum size d.slot new ≡ true = verifies_there sum size d.slot old new d.verified has in
-      let says : slot_len size d.slot new ≡ len = same_len size d.slot old new has.slot_same ∙ d.says in
+      let says : slot_len size d.slot new ≡ m = same_len size d.slot old new has.slot_same in
       let shown = shows_slot_len d.slot new ok in
-      let base = holds page d.slot d.verified in
+      let most = greatest_length file.base file.changes in
+      let holds = of_beginning (HoldsPrefix sum size content most) file.base file.changes d.shown each d.beginning in
+      let s = holds page d.slot within (omega (arith, d.reach, is.no_shorter, is.no_longer)) d.verified in
       record {
         reach = omega (arith, d.reach, is.no_shorter);
-        shown = omega (arith, shown, says);
-        same = ap (λ n. take n new) (sym d.says) ∙ has.bytes_same ∙ base.bytes ∙ ap (λ n. take n (from_page size page content)) d.says;
+        shown = omega (arith, shown, says, d.says);
+        same = sym (take-take len m new d.says) ∙ ap (take len) (has.bytes_same ∙ s.bytes) ∙ take-take len m rest d.says;
       }
 
   behind : List ℕ → List (List ℕ) → List ℕ
@@ -181,39 +195,30 @@ module _ (sum : List ℕ → ℕ) (size : ℕ) (room_for_footer : 12 ≤ size) w
       (cases_lt (page * room) synced)
 
   -- by chance or not, what is recovered of an image keeps the bytes of the content that are durable
-  pub recovered_keeps : (content : List ℕ) (synced : ℕ) (file : File) (image : List ℕ) → synced ≤ length content → HoldsContent sum size content file.base
-      → AreDurable sum size synced file → IsImage file image → take synced (recovered sum size image) ≡ take synced content
-  recovered_keeps content synced file image within holds durable is =
+  pub recovered_keeps : (content : List ℕ) (synced : ℕ) (file : File) (image : List ℕ) → Withstands sum size content synced file → IsImage file image
+      → take synced (recovered sum size image) ≡ take synced content
+  recovered_keeps content synced file image w is =
       let none_before : 0 ≡ 0 * size = omega arith in
       let no_content : 0 * content_size size ≡ 0 = omega arith in
       let start : image ≡ drop (0 * size) image = ap (λ n. drop n image) none_before in
       let all : from_page size 0 content ≡ content = ap (λ n. drop n content) no_content in
       let count : 0 + length image / size ≡ length image / size = omega arith in
       let most : synced - 0 * content_size size ≡ synced = omega arith in
-      let r = kept_from content image image synced (length image / size) 0 start within count
-      (λ k below. durable_shows (share size k synced) content file image k (durable k below) (omega arith) (least_base file.base file.changes) holds is) in
+      let r = kept_from content image image synced (length image / size) 0 start w.within count
+      (λ k below. durable_shows (share size k synced) content file image k (w.durable k below) (omega (arith, below, w.within)) w.beginnings is) in
       ap (λ n. take n (recovered sum size image)) (sym most) ∙ r ∙ ap (take (synced - 0 * content_size size)) all ∙ ap (λ n. take n content) most
-    where
-      least_base : (base : List ℕ) (changes : List Change) → least_length base changes ≤ length base
-      least_base base [] = omega arith
-      least_base base (change ∷ earlier) = omega (arith, least_base base earlier)
 
-  base_has : (P : List ℕ → Type 0) (base : List ℕ) (changes : List Change) → EachBeginning P base changes → P base
-  base_has P base [] each = each
-  base_has P base (change ∷ earlier) each = base_has P base earlier each.1
-
-  -- What holds of the file of a writer at each moment is enough: each image of the calls keeps the durable bytes of the content, and what
-  -- is recovered of it is a beginning of the content unless by chance.
-  pub file_keeps : (calls : List Call) (content : List ℕ) (synced : ℕ) → IsKeptIn sum size content synced (file_of calls)
+  -- what is recovered of each image keeps the durable bytes of the content, and is a beginning of the content unless by chance
+  pub withstands_keeps : (content : List ℕ) (synced : ℕ) (calls : List Call) → Withstands sum size content synced (file_of calls)
       → Keeps sum size content synced calls
-  file_keeps calls content synced w = λ image is.
+  withstands_keeps content synced calls w = λ image is.
       let file = file_of calls in
-      let holds = base_has (HoldsContent sum size content) file.base file.changes w.beginnings in
-      let keeps = recovered_keeps content synced file image w.within holds w.durable is in
+      let keeps = recovered_keeps content synced file image w is in
       record {
         keeps = keeps;
         prefix = λ none.
-            let r = recovered_prefix sum size content file image w.beginnings none in
+            let most = greatest_length file.base file.changes in
+            let r = recovered_prefix sum size content most file image (omega (arith, room_for_footer)) is.no_longer w.beginnings none in
             let front : length (take synced content) ≡ synced = length-take-le synced content w.within in
             let same : length (take synced (recovered sum size image)) ≡ length (take synced content) = ap length keeps in
             let short : length (take synced (recovered sum size image)) ≤ length (recovered sum size image) = omega (
@@ -224,3 +229,46 @@ module _ (sum : List ℕ → ℕ) (size : ℕ) (room_for_footer : 12 ≤ size) w
             let all : length (recovered sum size image) ≡ r.0 = ap length r.2 ∙ length-take-le r.0 content r.1 in
             (r.0, omega (arith, front, same, short, all), r.1, r.2);
       }
+
+  -- What holds between a writer and its blob is enough: each image of the calls keeps the durable bytes of the content, and what is
+  -- recovered of it is a beginning of the content unless by chance.
+  pub writer_keeps : (calls : List Call) (content : List ℕ) (synced : ℕ) (tip : Tip) → IsWriterStart sum size calls content synced tip
+      → Keeps sum size content synced calls
+  writer_keeps calls content synced tip w =
+      let file = file_of calls in
+      withstands_keeps content synced calls (record {
+        within = w.within;
+        beginnings = holds_prefix sum size content (greatest_length file.base file.changes) file.base file.changes w.beginnings;
+        durable = w.durable;
+      })
+
+  -- the base is a beginning of the changes
+  base_begins : (base : List ℕ) (changes : List Change) → IsBeginning base changes base
+  base_begins base [] = refl
+  base_begins base (change ∷ earlier) = inr (base_begins base earlier)
+
+  -- a page of the base that is durable is a durable page
+  base_page_durable : (len : ℕ) (file : File) (page : ℕ) → IsBasePage sum size len file page → IsDurablePage sum size len file page
+  base_page_durable len file page d = record {
+    shown = file.base;
+    beginning = base_begins file.base file.changes;
+    slot = d.slot;
+    verified = d.verified;
+    says = omega (arith, d.says);
+    reach = d.reach;
+    bytes = λ i below. d.bytes i (omega (arith, below, d.says));
+    slot_bytes = d.slot_bytes;
+  }
+
+  -- What holds of the file of a writer at each moment is enough: each image of the calls keeps the durable bytes of the content, and what
+  -- is recovered of it is a beginning of the content unless by chance.
+  pub file_withstands : (content : List ℕ) (synced : ℕ) (file : File) → IsKeptIn sum size content synced file → Withstands sum size content synced file
+  file_withstands content synced file w = record {
+    within = w.within;
+    beginnings = holds_prefix sum size content (greatest_length file.base file.changes) file.base file.changes w.beginnings;
+    durable = λ page below. base_page_durable (share size page synced) file page (w.durable page below);
+  }
+
+  pub file_keeps : (calls : List Call) (content : List ℕ) (synced : ℕ) → IsKeptIn sum size content synced (file_of calls)
+      → Keeps sum size content synced calls
+  file_keeps calls content synced w = withstands_keeps content synced calls (file_withstands content synced (file_of calls) w)
