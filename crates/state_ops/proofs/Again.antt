@@ -1,13 +1,12 @@
 -- What is encoded is read again.
-use Rattle.std.proofs.Common.{◌≡◌, ◌≤◌, ◌^◌, ◌+◌, ℕ, List, ◌++◌, length, append_assoc, Option, None, Some, Ok, refl, ◌∙◌, ap, arith}
+use Rattle.std.proofs.Common.{◌≡◌, ◌+◌, ℕ, List, ◌++◌, append_assoc, None, Some, Ok, refl, ◌∙◌, ap, arith}
 use Rattle.std.proofs.lemmas.List.{length-append}
-use Rattle.std.specs.Prelude.{IfSome}
 use Rattle.merkle_forest.specs.Codec.{Outcome, ◌>>=◌}
 use Rattle.state_ops_parts.specs.Grammar.{Ends, HasFields, HasSizes, item_at, told}
 use Rattle.state_ops_parts.specs.Laws.Found.{item_is}
 use Rattle.state_ops_parts.specs.Laws.Again.{fixed_again, fixed_once}
-use Rattle.state_ops.specs.Operation.{Update, ordered, Operation, delete, update, commit_floor, spelled, fixed_encoding}
-use Rattle.state_ops.specs.Reading.{ordered_at, operation_at, IsField, HasEncoding}
+use Rattle.state_ops.specs.Operation.{ordered, Operation, delete, update, commit_floor, spelled, fixed_encoding}
+use Rattle.state_ops.specs.Reading.{ordered_at, operation_at, HasEncoding}
 
 module _ (key value : List ℕ → Outcome) (ks vs : ℕ) where
   found : (grammar : List ℕ → Outcome) (bytes rest : List ℕ) → Ends grammar bytes → item_at grammar (bytes ++ rest) ≡ Ok (bytes, rest)

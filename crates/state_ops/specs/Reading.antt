@@ -2,8 +2,8 @@
 -- first fault from the left. `key` and `value` are the grammars of keys and of values.
 use Rattle.std.specs.Prelude.{◌≡◌, ◌≤◌, ◌^◌, ◌+◌, ℕ, List, length, IfSome}
 use Rattle.merkle_forest.specs.Codec.{Outcome, ◌>>=◌}
-use Rattle.state_ops_parts.specs.Grammar.{Found, Ends, item_at, told, fixed_at}
-use Rattle.state_ops.specs.Operation.{Update, ordered, Operation, delete, update, commit_floor}
+use Rattle.state_ops_parts.specs.Grammar.{Found, Ends, item_at, told, fixed_at, Lacks, FixedLacks, OrderedLacks}
+use Rattle.state_ops.specs.Operation.{Update, ordered, Operation, delete, update, commit_floor, fixed_size}
 
 -- key, value and next key of an update
 abbrev pub ordered_at : (List ℕ → Outcome) → (List ℕ → Outcome) → List ℕ → Found Update
@@ -13,6 +13,11 @@ ordered_at key value bytes = item_at key bytes >>= λ k. item_at value k.1 >>= �
 abbrev pub operation_at : (List ℕ → Outcome) → (List ℕ → Outcome) → ℕ → ℕ → List ℕ → Found Operation
 operation_at key value key_size value_size bytes =
     fixed_at key value (ordered_at key value) key_size value_size (key_size + value_size + key_size) bytes
+
+-- memory may be lacking for the operation at the front, where all of it is there: for its key, its value or its next key
+abbrev pub OperationLacks : (List ℕ → Outcome) → (List ℕ → Outcome) → Lacks → Lacks → ℕ → ℕ → List ℕ → Type 0
+OperationLacks key value key_lacks value_lacks key_size value_size bytes =
+    FixedLacks key_lacks value_lacks (OrderedLacks key value key_lacks value_lacks) (fixed_size key_size value_size) bytes
 
 -- bytes of the size that the grammar reads, whatever follows
 abbrev pub IsField : (List ℕ → Outcome) → ℕ → List ℕ → Type 0

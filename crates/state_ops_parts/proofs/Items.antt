@@ -1,10 +1,9 @@
 -- Items read by the codec, as the grammar of operations finds them.
-use Rattle.std.proofs.Common.{◌≡◌, ℕ, zero, suc, ◌+◌, ◌-◌, ◌<◌, ◌≤◌, ◌^◌, ltb, Bool, true, false, cond, List, [], ◌∷◌, ◌++◌, length, take, Option, None, Some, option_map, Result, Ok, Err, refl, sym, ◌∙◌, ap, arith}
+use Rattle.std.proofs.Common.{◌≡◌, ℕ, zero, suc, ◌-◌, ◌<◌, ◌≤◌, ◌^◌, ltb, Bool, true, false, cond, List, [], ◌∷◌, ◌++◌, length, take, Option, None, Some, option_map, Result, Ok, Err, refl, sym, ◌∙◌, ap}
 use Rattle.std.specs.Prelude.{IfOk}
-use Rattle.std.proofs.lemmas.List.{take_at, length-append}
 use Rattle.merkle_forest.specs.declared.codec.error.Error.{Error}
 use Rattle.merkle_forest.specs.declared.codec.error.Error.TheVariants.{Invalid}
-use Rattle.merkle_forest.specs.Codec.{Outcome, Reads, Refuses, ◌>>=◌, option_encoding, after_option, OptionLacks}
+use Rattle.merkle_forest.specs.Codec.{Outcome, Reads, ◌>>=◌, option_encoding, after_option, OptionLacks}
 use Rattle.merkle_forest.specs.Varint.{varint, varint_at, after_number}
 use Rattle.merkle_forest.specs.Laws.Codec.{refuses_as}
 use Rattle.merkle_forest.specs.Laws.Varint.{varint_again, number_within}

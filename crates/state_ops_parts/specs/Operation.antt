@@ -18,6 +18,11 @@ meaning_of key value said (Delete k) = delete (key k)
 meaning_of key value said (Update u) = update (said u)
 meaning_of key value said (CommitFloor metadata floor) = commit_floor (option_map value metadata) floor
 
+-- what it says, where an update is its key and its value
+abbrev pub fields_of : {F S A B C D E G : Type 0} → (A → List ℕ) → (B → List ℕ) → (S → A) → (S → B) → code.Operation F S A B C D E G
+    → Operation (List ℕ × List ℕ)
+fields_of key value key_of value_of o = meaning_of key value (λ u. (key (key_of u), value (value_of u))) o
+
 -- the one size of all operations in bytes, from the sizes of keys, of values and of updates
 abbrev pub fixed_size : ℕ → ℕ → ℕ → ℕ
 fixed_size key value updated = max (1 + updated) (max (1 + 1 + value + 8) (1 + key))

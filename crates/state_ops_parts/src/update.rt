@@ -64,7 +64,10 @@ pub trait Update: Write {
 
     /// An update that says the same. It fails only when out of memory.
     fn try_copy(&self) -> Result<Self, AllocError>
-        ensures { IfOk result (λ copy. Self.encoding copy ≡ Self.encoding self.now) };
+        ensures same { IfOk result (λ copy. Self.encoding copy ≡ Self.encoding self.now) }
+        ensures key { IfOk result (λ copy. Self.Key.encoding (key_of copy) ≡ Self.Key.encoding (key_of self.now)) }
+        ensures value { IfOk result
+            (λ copy. Self.Value.encoding (value_of copy) ≡ Self.Value.encoding (value_of self.now)) };
 }
 
 /// What is kept of the update that the closure gives. The closure is called only where that hangs on the update. It

@@ -1,16 +1,16 @@
 -- What is encoded is read again.
-use Rattle.std.proofs.Common.{◌≡◌, ℕ, zero, suc, ◌+◌, ◌-◌, ◌^◌, ◌≤◌, ◌<◌, ltb, false, cond, List, [], ◌∷◌, ◌++◌, length, take, drop, replicate, append_assoc, Option, None, Some, Ok, Err, refl, sym, ◌∙◌, ap, arith}
+use Rattle.std.proofs.Common.{◌≡◌, ℕ, zero, suc, ◌+◌, ◌-◌, ◌^◌, ◌≤◌, ltb, false, cond, List, [], ◌++◌, length, take, drop, replicate, append_assoc, Option, None, Some, Ok, Err, refl, sym, ◌∙◌, ap, arith}
 use Rattle.std.specs.Prelude.{IfSome}
 use Rattle.std.specs.Int.{w64, to_be_bytes, from_be_bytes}
 use Rattle.std.proofs.lemmas.Nat.{from_be_bytes-to_be_bytes_8}
 use Rattle.std.proofs.lemmas.Bool.{le-ltb}
 use Rattle.std.proofs.lemmas.List.{take_at, drop_at, length-append, length-replicate}
-use Rattle.merkle_forest.specs.declared.codec.error.Error.TheVariants.{EndOfBuffer, Invalid}
+use Rattle.merkle_forest.specs.declared.codec.error.Error.TheVariants.{EndOfBuffer}
 use Rattle.merkle_forest.specs.Codec.{Outcome, ◌>>=◌, option_encoding}
-use Rattle.merkle_forest.specs.Varint.{varint, varint_at}
+use Rattle.merkle_forest.specs.Varint.{varint}
 use Rattle.merkle_forest.specs.Laws.Varint.{varint_again}
-use Rattle.state_ops_parts.specs.Operation.{Operation, delete, update, commit_floor, fixed_size, fixed_metadata, padded, unpadded, fixed_encoding, variable_encoding}
-use Rattle.state_ops_parts.specs.Grammar.{Found, item_at, told, after_zeros, with_zeros, fixed_metadata_at, fixed_floor_at, option_at, floor_at, commit_at, operation_at, unpadded_at, padded_at, fixed_at, variable_at, Ends, IsFoundAs, HasFields, HasSizes}
+use Rattle.state_ops_parts.specs.Operation.{Operation, delete, update, commit_floor, fixed_size, fixed_metadata, unpadded, fixed_encoding, variable_encoding}
+use Rattle.state_ops_parts.specs.Grammar.{Found, item_at, told, after_zeros, with_zeros, fixed_metadata_at, fixed_floor_at, option_at, floor_at, commit_at, unpadded_at, padded_at, fixed_at, variable_at, Ends, HasFields, HasSizes}
 use Rattle.state_ops_parts.specs.Laws.Found.{item_is, zeros_with}
 
 zeros_again : (count : ℕ) → after_zeros (replicate count 0) ≡ Ok []

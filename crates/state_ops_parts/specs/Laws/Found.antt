@@ -2,7 +2,7 @@
 use Rattle.std.proofs.Common.{◌≡◌, ℕ, ◌-◌, List, [], ◌++◌, length, take, Ok, refl, ◌∙◌, ap, arith}
 use Rattle.std.proofs.lemmas.List.{take_at, length-append}
 use Rattle.merkle_forest.specs.Codec.{Outcome, ◌>>=◌}
-use Rattle.state_ops_parts.specs.Grammar.{Found, item_at, after_zeros, with_zeros}
+use Rattle.state_ops_parts.specs.Grammar.{item_at, after_zeros, with_zeros}
 
 -- what the grammar ends after, and what is spelled there, is the item at the front
 pub item_is : (after : List ℕ → Outcome) (old spelled new : List ℕ) → after old ≡ Ok new → old ≡ spelled ++ new → item_at after old ≡ Ok (spelled, new)

@@ -1,4 +1,4 @@
-use Rattle.std.proofs.Common.{sym, rules, arith}
+use Rattle.std.proofs.Common.{sym, rules}
 use Rattle.std.proofs.Output.{has_written_append, has_written_of_eq, writes_in_calls_nil}
 use Rattle.state_ops_parts.proofs.Digits.{encode_lower-nil, encode_lower-more}
 use Rattle.state_ops_parts.proofs.hexadecimal.write_hex.Goals as goal

@@ -1,4 +1,4 @@
-use Rattle.std.proofs.Common.{◌++◌, rules, arith}
+use Rattle.std.proofs.Common.{rules}
 use Rattle.std.proofs.Output.{has_written_append, has_written_of_eq}
 use Rattle.state_ops_parts.proofs.Digits.{encode_lower-group, encode_lower-last}
 use Rattle.state_ops_parts.proofs.hexadecimal.write_varint.Goals as goal
