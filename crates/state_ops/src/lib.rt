@@ -1,6 +1,6 @@
-//! The operations of a log of changes to a state, and their encodings; the store's are ordered ones of one size. The crate
-//! ports `qmdb::any::operation` of commonware-storage 2026.10.0; `In the Rust` names what an item is there. Operations of all
-//! kinds stand in `state_ops_parts`, which it re-exports.
+//! The operations of a log of changes to a state, and their encodings; the store's are ordered ones of one size. The
+//! crate ports `qmdb::any::operation` of commonware-storage 2026.10.0; `In the Rust` names what an item is there.
+//! Operations of all kinds stand in `state_ops_parts`, which it re-exports.
 #![tactic(auto)]
 
 pub mod ordered;

@@ -1,6 +1,6 @@
-//! Measures what an operation of 25 bytes costs, encoded and decoded, beside a copy of its fields. It reads from standard
-//! input how many times each is done; standard output gets that number and a sum of the answers, standard error the
-//! processor time of one.
+//! Measures what an operation of 25 bytes costs, encoded and decoded, beside a copy of its fields. It reads from
+//! standard input how many times each is done; standard output gets that number and a sum of the answers, standard
+//! error the processor time of one.
 #![tactic(auto)]
 
 mod measure;

@@ -110,7 +110,8 @@ fn encoded_update<F: Family, K: FixedKey, V: FixedValue>(
     next_key: &K,
 ) -> Result<Vec<u8>, AllocError>
     ensures { IfOk result (λ bytes. bytes.items
-        ≡ fixed_encoding K.SIZE V.SIZE (update (ordered (K.encoding key.now) (V.encoding value.now) (K.encoding next_key.now)))) }
+        ≡ fixed_encoding K.SIZE V.SIZE
+        (update (ordered (K.encoding key.now) (V.encoding value.now) (K.encoding next_key.now)))) }
 {
     let update: OrderedOperation<F, K, V> = Operation::Update(Ordered {
         key: key.clone()?,
@@ -176,7 +177,8 @@ where
     ensures { let is_key = λ (key : List ℕ). K.after tt key ≡ Ok [] in
         let format = format_of F.merge_rule H.hash_of width H.Digest.SIZE F.is_pending F.pending_encoding is_key in
         IfOk result (λ yes. IsTrue yes ↔ ShowsUpdate format (H.Digest.encoding root.now)
-        (λ next_key. fixed_encoding K.SIZE V.SIZE (update (ordered (K.encoding key.now) (V.encoding value.now) next_key)))
+        (λ next_key. fixed_encoding K.SIZE V.SIZE
+        (update (ordered (K.encoding key.now) (V.encoding value.now) next_key)))
         bytes.now) }
 {
     let limits = ((width, MAX_PROOF_DIGESTS_PER_ELEMENT), ());
