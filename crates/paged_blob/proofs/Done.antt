@@ -1,17 +1,17 @@
 -- A file that was cut and made durable is exactly the pages of its content.
-use Rattle.std.proofs.Common.{◌≡◌, ◌⊎◌, ℕ, ◌+◌, ◌-◌, ◌*◌, ◌/◌, ◌%◌, ◌<◌, ◌≤◌, Bool, true, false, List, [], ◌∷◌, length, take, drop, sym, ◌∙◌, ap}
+use Rattle.std.proofs.Common.{◌≡◌, ◌⊎◌, ℕ, ◌+◌, ◌-◌, ◌*◌, ◌/◌, ◌<◌, ◌≤◌, Bool, true, false, List, [], ◌∷◌, length, take, drop, sym, ◌∙◌, ap}
 use Rattle.std.proofs.Common.{inl, inr, ⊎_elim, refl, subst, arith}
 use Rattle.std.proofs.lemmas.Bool.{cases_lt, false_from_ne_true}
 use Rattle.std.proofs.lemmas.List.{take-take, take_all, drop-take, length-take, length-take-le, length-drop}
-use Rattle.std.proofs.lemmas.Nat.{div-mul-add, mod-mul-add}
-use Rattle.std.proofs.Math.Nat.{mul-le-mul_right, div-mul-le_self}
+use Rattle.std.proofs.lemmas.Nat.{div-mul-add}
+use Rattle.std.proofs.Math.Nat.{mul-le-mul_right}
 use Rattle.paged_format.specs.declared.footer.Slot.{Slot}
 use Rattle.paged_format.specs.Footers.{content_size, slot_len, slot_crc}
 use Rattle.paged_format.specs.Pages.{verifies, recovered}
 use Rattle.paged_format.specs.Laws.Pages.{vouched}
-use Rattle.paged_blob.specs.Calls.{Call, synced, Change, whole, File, file_of, content}
+use Rattle.paged_blob.specs.Calls.{Call, synced, File, file_of, content}
 use Rattle.paged_blob.specs.Chance.{page_at, is_by_chance}
-use Rattle.paged_blob.specs.Writers.{from_page, ShowsContent, HoldsContent, EachBeginning, AreDurable, IsWriterStart, Keeps}
+use Rattle.paged_blob.specs.Writers.{from_page, ShowsContent, HoldsContent, AreDurable, Keeps}
 use Rattle.paged_blob.specs.Shrinks.{HoldsPrefix, Withstands, cut_length, IsCut}
 use Rattle.paged_blob.specs.Laws.Chance.{by_chance_decided}
 use Rattle.paged_blob.specs.Laws.Writers.{holds_prefix, recovered_prefix}
@@ -164,23 +164,3 @@ module _ (sum : List ℕ → ℕ) (size : ℕ) (footer : 12 < size) (old : List 
             let z : part ≡ 0 = omega (arith, none) in
             e.full z ∙ sym (ap (λ p. (page * room + p + (room - 1)) / room) z ∙ count_full room page (omega (arith, footer))))
             (cases_lt 0 part)
-
--- A blob that was cut is one that a writer of this content has.
-pub cut_writer : (sum : List ℕ → ℕ) (size : ℕ) (content : List ℕ) (calls : List Call) (capacity : ℕ) → 12 < size → IsCut sum size content calls
-    → let offset = length content / content_size size * content_size size in
-    IsWriterStart sum size calls content (length content) (record { offset = offset; bytes = drop offset content; capacity = capacity })
-cut_writer sum size content calls capacity footer c =
-    let file = file_of calls in
-    let room = content_size size in
-    let offset = length content / room * room in
-    let P : List Change → Type 0 = λ changes. EachBeginning (HoldsContent sum size content) file.base changes in
-    record {
-      sound = c.sound;
-      within = omega arith;
-      beginnings = subst P (sym c.settled) c.holds;
-      durable = c.durable;
-      tip_begins = ap (λ n. n % room) (omega arith) ∙ mod-mul-add (length content / room) room 0 (omega (arith, footer));
-      tip_within = div-mul-le_self (length content) room;
-      tip_bytes = refl;
-      flushed = ap (λ changes. take offset (recovered sum size (whole file.base changes))) c.settled ∙ ap (take offset) c.shown;
-    }

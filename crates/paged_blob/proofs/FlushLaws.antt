@@ -1,7 +1,7 @@
 -- A flush at the page where the tip begins: what holds of the file at each moment stays, also where the write fails, and the content is
 -- on the disk as far as it was flushed.
 use Rattle.std.proofs.Common.{◌≡◌, ℕ, zero, suc, ◌+◌, ◌-◌, ◌*◌, ◌/◌, ◌%◌, ◌==◌, ltb, cond, ◌<◌, ◌≤◌, ◌^◌, min, Bool, true, false, Option, Some, None}
-use Rattle.std.proofs.Common.{List, [], ◌∷◌, length, get_or, take, drop, sym, ◌∙◌, ap, subst, ⊎_elim, refl, arith}
+use Rattle.std.proofs.Common.{List, [], ◌∷◌, length, get_or, take, drop, sym, ◌∙◌, ap, subst, inr, ⊎_elim, refl, arith}
 use Rattle.std.proofs.lemmas.Bool.{cases_lt, cases_Bool, and_parts, leb-true, ltb-true, eqb-true, eqb-false, lt-ltb, le-ltb, or_cases, cond-true, cond-false}
 use Rattle.std.proofs.lemmas.List.{length-take, length-drop, length-take-le, take-take, take_all, drop-drop, drop-take, get_or-take, get_or-drop}
 use Rattle.std.proofs.lemmas.Nat.{mul-le, div-add-mod', mod_below, le-div}
@@ -14,12 +14,13 @@ use Rattle.paged_format.specs.Laws.Pages.{vouched, vouching}
 use Rattle.paged_blob.specs.Calls.{Change, write, whole, with_bytes, File, after_change}
 use Rattle.paged_blob.specs.Images.{is_within, least_length}
 use Rattle.paged_blob.specs.Chance.{page_at, slot_in}
-use Rattle.paged_blob.specs.Writers.{from_page, ShowsContent, HoldsContent, EachBeginning, OnlyAt, IsBasePage, share}
+use Rattle.paged_blob.specs.Writers.{from_page, ShowsContent, HoldsContent, EachBeginning, OnlyAt, IsDurablePage, share}
 use Rattle.paged_blob.specs.Writers.{IsKeptIn, ShowsLength, AreShown, IsDurableSlot, IsBegun, StandsIn, EndsBy}
 use Rattle.paged_blob.specs.Flushes.{footer_over, page_bytes, page_count, flushed_bytes, last_slot, free_slot, SumsFit}
 use Rattle.paged_blob.specs.Laws.Flushes.{StaysWithin, stays_in, page_begins, page_ends, slots_say}
 use Rattle.paged_blob.specs.Laws.Flushes.{new_says, new_in, kept_in, length-pages_bytes, page_of_pages, sum_of_page}
 use Rattle.paged_blob.specs.declared.flush.DurableSlot.{DurableSlot}
+use Rattle.paged_blob.specs.Laws.Writers.{of_beginning}
 use Rattle.paged_blob.proofs.Bytes.{length-with_bytes}
 use Rattle.paged_blob.proofs.FlushedPages.{page_byte, pages_apart, new_length, page_before, page_laid, page_behind}
 
@@ -104,19 +105,22 @@ stays_at (Some kept) zero first_len len stays same = omega (arith, stays, same r
 stays_at slot (suc page) first_len len stays same = tt
 
 -- the slot that is durable says no more than a page has room for
-pub durable_len : (sum : List ℕ → ℕ) (size len : ℕ) (file : File) (page : ℕ) → IsBasePage sum size len file page → len ≤ content_size size
+pub durable_len : (sum : List ℕ → ℕ) (size len : ℕ) (file : File) (page : ℕ) → IsDurablePage sum size len file page → len ≤ content_size size
 durable_len sum size len file page d =
-    let old = page_at size page file.base in
+    let old = page_at size page d.shown in
     let v = vouched sum size old (slot_len size d.slot old) (slot_crc size d.slot old) d.verified in
     omega (arith, v.fits, d.says)
+
+pub said_len : (sum : List ℕ → ℕ) (size len : ℕ) (file : File) (page : ℕ) (d : IsDurablePage sum size len file page)
+    → slot_len size d.slot (page_at size page d.shown) ≤ content_size size
+said_len sum size len file page d =
+    let old = page_at size page d.shown in
+    let v = vouched sum size old (slot_len size d.slot old) (slot_crc size d.slot old) d.verified in
+    omega (arith, v.fits)
 
 slot_ends : (size : ℕ) (slot : Slot) → 12 ≤ size → slot_start size slot + 6 ≤ size
 slot_ends size First room = omega (arith, room)
 slot_ends size Second room = omega (arith, room)
-
-base_has : (P : List ℕ → Type 0) (base : List ℕ) (changes : List Change) → EachBeginning P base changes → P base
-base_has P base [] each = each
-base_has P base (change ∷ earlier) each = base_has P base earlier each.1
 
 pub whole_has : (P : List ℕ → Type 0) (base : List ℕ) (changes : List Change) → EachBeginning P base changes → P (whole base changes)
 whole_has P base [] each = each
@@ -393,41 +397,43 @@ module _ (sum : List ℕ → ℕ) (size : ℕ) (some_room : 12 < size) (content 
       omega (arith, le, least_whole file.base file.changes, length-with_bytes (first * size) pages live)
 
   -- an earlier page, which is not written
-  pub durable_before : (len page : ℕ) → page < first → IsBasePage sum size len file page
-      → IsBasePage sum size len (after_change (write (first * size) pages false) ok file) page
+  pub durable_before : (len page : ℕ) → page < first → IsDurablePage sum size len file page
+      → IsDurablePage sum size len (after_change (write (first * size) pages false) ok file) page
   durable_before len page earlier d =
       let apart = pages_apart size page first earlier in
-      let fits = durable_len sum size len file page d in
+      let fits = said_len sum size len file page d in
       let ends = slot_ends size d.slot (omega (arith, some_room)) in
       record {
+        shown = d.shown;
+        beginning = inr d.beginning;
         slot = d.slot;
         verified = d.verified;
         says = d.says;
         reach = reach_next ((page + 1) * size) d.reach;
-        bytes = λ i below. only_after file (first * size) pages false ok (page * size + i) (get_or file.base (page * size + i) 0)
+        bytes = λ i below. only_after file (first * size) pages false ok (page * size + i) (get_or d.shown (page * size + i) 0)
             (λ from to. absurd (omega (arith, from, apart, below, fits))) (d.bytes i below);
         slot_bytes = λ i below. only_after file (first * size) pages false ok (page * size + (slot_start size d.slot + i))
-            (get_or file.base (page * size + (slot_start size d.slot + i)) 0)
+            (get_or d.shown (page * size + (slot_start size d.slot + i)) 0)
             (λ from to. absurd (omega (arith, from, apart, below, ends))) (d.slot_bytes i below);
       }
 
   -- the page where the tip begins: its durable bytes, and the slot that vouches for them, are written again as they are
   pub durable_again : (slot : DurableSlot) (bytes : List ℕ) → page_at size 0 pages ≡ page_bytes sum size (Some slot) bytes
       → slot.len ≤ length bytes → length bytes ≤ content_size size → bytes ≡ take (length bytes) (from_page size first content)
-      → HoldsContent sum size content file.base → IsDurableSlot sum size file first slot
-      → IsBasePage sum size slot.len (after_change (write (first * size) pages false) ok file) first
+      → EachBeginning (HoldsContent sum size content) file.base file.changes → IsDurableSlot sum size file first slot
+      → IsDurablePage sum size slot.len (after_change (write (first * size) pages false) ok file) first
   durable_again slot bytes laid within fits is holds kept =
       let d = kept.durable in
       let room : 12 ≤ size = omega (arith, some_room) in
       let new = page_bytes sum size (Some slot) bytes in
-      let old = page_at size first file.base in
+      let old = page_at size first d.shown in
       let ends = slot_ends size d.slot room in
       let byte : (i : ℕ) → i < size → get_or pages (first * size + i - first * size) 0 ≡ get_or new i 0 = λ i below.
       ap (λ m. get_or pages m 0) (omega arith) ∙ sym (page_byte size 0 pages i below) ∙ ap (λ p. get_or p i 0) laid in
-      let old_byte : (i : ℕ) → i < size → get_or old i 0 ≡ get_or file.base (first * size + i) 0 = λ i below. page_byte size first file.base i below in
-      let shows = holds first d.slot d.verified in
+      let old_byte : (i : ℕ) → i < size → get_or old i 0 ≡ get_or d.shown (first * size + i) 0 = λ i below. page_byte size first d.shown i below in
+      let shows = of_beginning (HoldsContent sum size content) file.base file.changes d.shown holds d.beginning first d.slot d.verified in
       let rest = from_page size first content in
-      let old_front : take slot.len old ≡ take slot.len rest = ap (λ m. take m old) (sym d.says) ∙ shows.bytes ∙ ap (λ m. take m rest) d.says in
+      let old_front : take slot.len old ≡ take slot.len rest = ap (λ m. take m old) (sym kept.says) ∙ shows.bytes ∙ ap (λ m. take m rest) kept.says in
       let new_front : take slot.len new ≡ take slot.len rest =
       page_begins sum size (Some slot) bytes room fits slot.len within ∙ ap (take slot.len) is ∙ take-take slot.len (length bytes) rest within in
       let front : (i : ℕ) → i < slot.len → get_or new i 0 ≡ get_or old i 0 = λ i below.
@@ -439,17 +445,20 @@ module _ (sum : List ℕ → ℕ) (size : ℕ) (some_room : 12 < size) (content 
       let in_slot : (i : ℕ) → i < 6 → get_or new (slot_start size d.slot + i) 0 ≡ get_or old (slot_start size d.slot + i) 0 =
       λ i below. slot_byte size d.slot new old same_slot i below in
       record {
+        shown = d.shown;
+        beginning = inr d.beginning;
         slot = d.slot;
         verified = d.verified;
         says = d.says;
         reach = reach_next ((first + 1) * size) d.reach;
-        bytes = λ i below.
+        bytes = λ i inside.
+            let below : i < slot.len = omega (arith, inside, kept.says) in
             let short : i < size = omega (arith, below, within, fits, some_room) in
-            only_after file (first * size) pages false ok (first * size + i) (get_or file.base (first * size + i) 0)
-            (λ from to. byte i short ∙ front i below ∙ old_byte i short) (d.bytes i below);
+            only_after file (first * size) pages false ok (first * size + i) (get_or d.shown (first * size + i) 0)
+            (λ from to. byte i short ∙ front i below ∙ old_byte i short) (d.bytes i inside);
         slot_bytes = λ i below.
             let short : slot_start size d.slot + i < size = omega (arith, below, ends) in
-            only_after file (first * size) pages false ok (first * size + (slot_start size d.slot + i)) (get_or file.base (first * size +
+            only_after file (first * size) pages false ok (first * size + (slot_start size d.slot + i)) (get_or d.shown (first * size +
             (slot_start size d.slot + i)) 0)
             (λ from to. byte (slot_start size d.slot + i) short ∙ in_slot i below ∙ old_byte (slot_start size d.slot + i) short) (d.slot_bytes i below);
       }
@@ -463,9 +472,9 @@ stays_min sum size file synced first n (Some kept) begun stays = omega (arith, s
 -- the page where the tip begins, and those behind it, after a flush
 durable_from : (sum : List ℕ → ℕ) (size : ℕ) → 12 < size → (content : List ℕ) (file : File) (synced first n : ℕ) (slot : Option DurableSlot)
     (bytes : List ℕ) (ok : Bool) → bytes ≡ take n (from_page size first content) → n ≤ length (from_page size first content) → 0 < n
-    → IsBegun sum size file synced first slot → StaysWithin slot n → HoldsContent sum size content file.base
+    → IsBegun sum size file synced first slot → StaysWithin slot n → EachBeginning (HoldsContent sum size content) file.base file.changes
     → (page : ℕ) → first ≤ page → page * content_size size < synced
-    → IsBasePage sum size (share size page synced) (after_change (write (first * size) (flushed_bytes sum size slot bytes) false) ok file) page
+    → IsDurablePage sum size (share size page synced) (after_change (write (first * size) (flushed_bytes sum size slot bytes) false) ok file) page
 durable_from sum size some_room content file synced first n None bytes ok is within some begun stays holds page from below =
     absurd (omega (arith, mul-le first (content_size size) page (content_size size) from (omega arith), begun, below))
 durable_from sum size some_room content file synced first n (Some kept) bytes ok is within some begun stays holds page from below =
@@ -492,8 +501,8 @@ durable_from sum size some_room content file synced first n (Some kept) bytes ok
     (omega (arith, piece_length, stays, fits)) (omega (arith, piece_length))
     (is_piece ∙ ap (λ m. take m (from_page size first content)) (sym piece_length)) holds begun.1 in
     let shared : kept.len ≡ share size first synced = omega (arith, begun.0, fits) in
-    let D : ℕ → Type 0 = λ len. IsBasePage sum size len next first in
-    subst (λ p. IsBasePage sum size (share size p synced) next p) (sym here) (subst D shared again)
+    let D : ℕ → Type 0 = λ len. IsDurablePage sum size len next first in
+    subst (λ p. IsDurablePage sum size (share size p synced) next p) (sym here) (subst D shared again)
 
 -- What holds of the file at each moment stays under a flush of content at the page where the tip begins, whether the write succeeds or not.
 pub flush_kept : (sum : List ℕ → ℕ) (size : ℕ) → 12 < size → size ≤ 65536 → (content : List ℕ) (file : File) (synced first n : ℕ)
@@ -513,6 +522,6 @@ flush_kept sum size some_room small content file synced first n slot bytes ok k 
       (λ earlier. durable_before sum size some_room content file first (flushed_bytes sum size slot bytes) ok (share size page synced) page earlier
       (k.durable page below))
       (λ from. durable_from sum size some_room content file synced first n slot bytes ok is within some begun stays
-      (base_has (HoldsContent sum size content) file.base file.changes k.beginnings) page from below)
+      k.beginnings page from below)
       (cases_lt page first);
 }

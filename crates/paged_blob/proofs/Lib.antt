@@ -17,3 +17,4 @@ pub mod Done
 pub mod Settled
 pub mod CutBlob
 pub mod ReadPages
+pub mod CutWriter

@@ -16,7 +16,7 @@ use Rattle.paged_blob.specs.Calls.{Call, wrote, synced, Change, whole, File, fil
 use Rattle.paged_blob.specs.Moments.{Through, here}
 use Rattle.paged_blob.specs.Answers.{Records, RecordsSync, MakesDurable}
 use Rattle.paged_blob.specs.Laws.Moments.{goes_on, goes_on_sync, weaker}
-use Rattle.paged_blob.specs.Laws.Durable.{file_keeps, file_withstands, recovered_keeps}
+use Rattle.paged_blob.specs.Laws.Durable.{file_keeps, recovered_keeps, kept_withstands}
 use Rattle.paged_blob.specs.Chance.{page_at}
 use Rattle.paged_blob.specs.Writers.{from_page, HoldsContent, EachBeginning, share, IsKeptIn, ShowsLength, AreShown}
 use Rattle.paged_blob.specs.Writers.{IsBegun, pages_begun, EndsBy, IsWriterOf, WriterState, written, IsWriter, IsEmptyFile, IsFlushed, Keeps}
@@ -285,9 +285,9 @@ module _ (sum : List ℕ → ℕ) (size : ℕ) (some_room : 12 < size) (small : 
       ends_empty None begun ends = ends ∙ omega arith
       ends_empty (Some kept) begun ends =
           let d = begun.1.durable in
-          let v = vouched sum size (page_at size first (file_of calls).base) (slot_len size d.slot (page_at size first (file_of calls).base))
-          (slot_crc size d.slot (page_at size first (file_of calls).base)) d.verified in
-          absurd (omega (arith, begun.0, w.kept.within, tip_long, none, offset_is, v.some, d.says))
+          let v = vouched sum size (page_at size first d.shown) (slot_len size d.slot (page_at size first d.shown))
+          (slot_crc size d.slot (page_at size first d.shown)) d.verified in
+          absurd (omega (arith, begun.0, w.kept.within, tip_long, none, offset_is, v.some, begun.1.says))
 
 -- what is all on the disk is durable after a sync
 module _ (sum : List ℕ → ℕ) (size : ℕ) (some_room : 12 < size) (calls : List Call) (bytes : List ℕ) (durable pages : ℕ) (slot : Option DurableSlot)
@@ -306,9 +306,11 @@ module _ (sum : List ℕ → ℕ) (size : ℕ) (some_room : 12 < size) (calls : 
     durable = λ page below.
         let s = f.shown page below in
         record {
+          shown = content calls;
+          beginning = refl;
           slot = s.slot;
           verified = s.verified;
-          says = s.says;
+          says = omega (arith, s.says);
           reach = s.reach;
           bytes = λ i short held may. eqb-true _ _ may;
           slot_bytes = λ i short held may. eqb-true _ _ may;
@@ -322,14 +324,17 @@ module _ (sum : List ℕ → ℕ) (size : ℕ) (some_room : 12 < size) (calls : 
     ends.0,
     record {
       durable = record {
+        shown = content calls;
+        beginning = refl;
         slot = last.slot;
         verified = ends.1.verified;
-        says = ends.1.says;
+        says = omega (arith, ends.1.says);
         reach = omega (arith, long);
         bytes = λ i short held may. eqb-true _ _ may;
         slot_bytes = λ i short held may. eqb-true _ _ may;
       };
       slot_is = refl;
+      says = ends.1.says;
       bytes = ends.1.bytes;
     },
   )
@@ -391,16 +396,18 @@ module _ (sum : List ℕ → ℕ) (calls : List Call) (w : WriterState) (some_ro
         durable = λ page below.
             let s = is.shown page below in
             record {
+              shown = content calls;
+              beginning = refl;
               slot = s.slot;
               verified = s.verified;
-              says = s.says;
+              says = omega (arith, s.says);
               reach = s.reach;
               bytes = λ i short held may. eqb-true _ _ may;
               slot_bytes = λ i short held may. eqb-true _ _ may;
             };
       } in
-      recovered_keeps sum w.page_size (omega (arith, some_room)) bytes w.tip.offset file (content calls)
-      (file_withstands sum w.page_size (omega (arith, some_room)) bytes w.tip.offset file kept)
+      let room : 12 ≤ w.page_size = omega (arith, some_room) in
+      recovered_keeps sum w.page_size room bytes w.tip.offset file (content calls) (kept_withstands sum w.page_size room bytes w.tip.offset file kept)
       (record { no_shorter = omega arith; no_longer = omega arith; each = λ i below. eq-eqb _ _ refl })
 
   pub written_is : written sum calls w ≡ bytes

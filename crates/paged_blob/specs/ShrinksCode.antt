@@ -7,6 +7,7 @@ use Rattle.paged_blob.specs.Calls.{Call, file_of, content}
 use Rattle.paged_blob.specs.Chance.{page_at, slot_in}
 use Rattle.paged_blob.specs.Writers.{from_page}
 use Rattle.paged_blob.specs.Shrinks.{other_slot, handed_over}
+use Rattle.paged_blob.specs.declared.flush.DurableSlot.{DurableSlot}
 use Rattle.paged_blob.specs.declared.shrink.LastPage.{LastPage}
 
 -- a slot of a page says so many bytes with this checksum, and the other one is zero
@@ -42,3 +43,8 @@ abbrev pub tip_of : ℕ → List ℕ → ℕ → Tip
 tip_of size content capacity =
     let offset = length content / content_size size * content_size size in
     record { offset = offset; bytes = drop offset content; capacity = capacity }
+
+-- the slot that vouches for the last page
+abbrev pub slot_of : Option LastPage → Option DurableSlot
+slot_of None = None
+slot_of (Some last) = Some (record { slot = last.slot; len = length last.bytes.items; crc = last.crc })

@@ -46,15 +46,6 @@ pub record IsDurablePage (sum : List ℕ → ℕ) (size len : ℕ) (file : File)
   pub bytes : (i : ℕ) → i < slot_len size slot (page_at size page shown) → OnlyAt file (page * size + i) (get_or shown (page * size + i) 0)
   pub slot_bytes : (i : ℕ) → i < 6 → OnlyAt file (page * size + (slot_start size slot + i)) (get_or shown (page * size + (slot_start size slot + i)) 0)
 
--- a slot that vouches for so many bytes of a page, and these bytes, stand in the base and in each image
-pub record IsBasePage (sum : List ℕ → ℕ) (size len : ℕ) (file : File) (page : ℕ) : Type 0 where
-  pub slot : Slot
-  pub verified : IsTrue (verifies sum size slot (page_at size page file.base))
-  pub says : slot_len size slot (page_at size page file.base) ≡ len
-  pub reach : (page + 1) * size ≤ least_length file.base file.changes
-  pub bytes : (i : ℕ) → i < len → OnlyAt file (page * size + i) (get_or file.base (page * size + i) 0)
-  pub slot_bytes : (i : ℕ) → i < 6 → OnlyAt file (page * size + (slot_start size slot + i)) (get_or file.base (page * size + (slot_start size slot + i)) 0)
-
 -- how many of the first so many bytes of the content a page has
 abbrev pub share : ℕ → ℕ → ℕ → ℕ
 share size page count = min (content_size size) (count - page * content_size size)
@@ -63,28 +54,12 @@ share size page count = min (content_size size) (count - page * content_size siz
 abbrev pub AreDurable : (List ℕ → ℕ) → ℕ → ℕ → File → Type 0
 AreDurable sum size count file = (page : ℕ) → page * content_size size < count → IsDurablePage sum size (share size page count) file page
 
--- so many bytes of the content are durable in the base, page by page
-abbrev pub AreInBase : (List ℕ → ℕ) → ℕ → ℕ → File → Type 0
-AreInBase sum size count file = (page : ℕ) → page * content_size size < count → IsBasePage sum size (share size page count) file page
-
--- What a writer can begin with: a content over a blob, of which so many first bytes are durable and those from the tip's offset on are in
--- memory.
-pub record IsWriterStart (sum : List ℕ → ℕ) (size : ℕ) (calls : List Call) (content : List ℕ) (synced : ℕ) (tip : Tip) : Type 0 where
-  pub sound : IsFalse (file_of calls).failed
-  pub within : synced ≤ length content
-  pub beginnings : EachBeginning (HoldsContent sum size content) (file_of calls).base (file_of calls).changes
-  pub durable : AreDurable sum size synced (file_of calls)
-  pub tip_begins : tip.offset % content_size size ≡ 0
-  pub tip_within : tip.offset ≤ length content
-  pub tip_bytes : tip.bytes ≡ drop tip.offset content
-  pub flushed : take tip.offset (recovered sum size (whole (file_of calls).base (file_of calls).changes)) ≡ take tip.offset content
-
 -- What holds of a file at each moment, also after a call that failed: so many first bytes of the content are durable, and whatever
 -- slot of it verifies, in the base or after any of the changes, vouches for bytes of the content.
 pub record IsKeptIn (sum : List ℕ → ℕ) (size : ℕ) (content : List ℕ) (synced : ℕ) (file : File) : Type 0 where
   pub within : synced ≤ length content
   pub beginnings : EachBeginning (HoldsContent sum size content) file.base file.changes
-  pub durable : AreInBase sum size synced file
+  pub durable : AreDurable sum size synced file
 
 -- a page of a file is there, and a slot of it vouches for so many bytes
 pub record ShowsLength (sum : List ℕ → ℕ) (size len : ℕ) (file : List ℕ) (page : ℕ) : Type 0 where
@@ -99,9 +74,10 @@ AreShown sum size count file = (page : ℕ) → page * content_size size < count
 
 -- this slot vouches for the durable bytes of a page
 pub record IsDurableSlot (sum : List ℕ → ℕ) (size : ℕ) (file : File) (page : ℕ) (slot : DurableSlot) : Type 0 where
-  pub durable : IsBasePage sum size slot.len file page
+  pub durable : IsDurablePage sum size slot.len file page
   pub slot_is : durable.slot ≡ slot.slot
-  pub bytes : slot_in size slot.slot (page_at size page file.base) ≡ slot_bytes slot.len slot.crc
+  pub says : slot_len size durable.slot (page_at size page durable.shown) ≡ slot.len
+  pub bytes : slot_in size slot.slot (page_at size page durable.shown) ≡ slot_bytes slot.len slot.crc
 
 -- What of a page is on the disk, where the bytes before it are, and so many first bytes of the content are durable: nothing, and no byte
 -- of it is durable; or as many bytes as this slot vouches for, all of them durable.

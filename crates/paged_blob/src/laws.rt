@@ -1,6 +1,6 @@
 //! What holds of all blobs, and of all writers over them.
 
-ghost use Rattle.std.specs.Prelude.{◌≡◌, ◌<◌, ◌≤◌, ℕ, List, [], length, Option};
+ghost use Rattle.std.specs.Prelude.{◌≡◌, ◌<◌, ◌≤◌, ◌+◌, ◌^◌, ℕ, List, Option, [], length};
 ghost use Rattle.std.specs.Bool.{Decides};
 ghost use Rattle.paged_format.specs.Pages.{recovered};
 ghost use Rattle.paged_format.specs.Tips.{Tip};
@@ -9,7 +9,10 @@ ghost use Rattle.paged_blob.specs.Chance.{is_by_chance};
 ghost use Rattle.paged_blob.specs.Laws.Chance.{IsByChance};
 ghost use Rattle.paged_blob.specs.Writers.{IsWriterOf, WriterState, written, Keeps};
 ghost use Rattle.paged_blob.specs.declared.flush.DurableSlot.{DurableSlot};
-ghost use Rattle.paged_blob.specs.Shrinks.{Withstands};
+ghost use Rattle.paged_blob.specs.Flushes.{physical_size};
+ghost use Rattle.paged_blob.specs.Shrinks.{Withstands, IsCut};
+ghost use Rattle.paged_blob.specs.ShrinksCode.{EndsWith, tip_of, slot_of};
+ghost use Rattle.paged_blob.specs.declared.shrink.LastPage.{LastPage};
 
 /// What holds between a writer and its blob is enough: what is recovered of each image of the calls keeps the durable
 /// bytes of the content, and is a beginning of the content unless it is there by chance.
@@ -30,6 +33,14 @@ pub fn what_is_shown_withstands()
     ensures { (sum : List ℕ → ℕ) (size : ℕ) (calls : List Call) → 12 < size → (file_of calls).changes ≡ []
         → Withstands sum size (recovered sum size (content calls)) (length (recovered sum size (content calls)))
         (file_of calls) }
+{}
+
+/// On a blob that was cut to a content a writer of that content stands, all of it durable.
+pub fn a_writer_stands_on_a_cut_blob()
+    ensures { (sum : List ℕ → ℕ) (size : ℕ) → 12 < size → size ≤ 65536 → (content : List ℕ) (calls : List Call)
+        → IsCut sum size content calls → (capacity : ℕ) (last : Option LastPage)
+        → EndsWith size content (file_of calls).base last → physical_size size (length content) + 4096 < 2 ^ 64
+        → IsWriterOf sum size calls content (length content) (tip_of size content capacity) (slot_of last) }
 {}
 
 /// An opening is found to be by chance exactly where a slot of it verifies that the base and no beginning of the

@@ -8,9 +8,9 @@ ghost use Rattle.paged_blob.specs.Calls.{file_of, content};
 ghost use Rattle.paged_blob.specs.Moments.{Through};
 ghost use Rattle.paged_blob.specs.Answers.{failures_after, RecordsSync};
 ghost use Rattle.paged_blob.specs.Chance.{page_at, slot_in};
-ghost use Rattle.paged_blob.specs.Writers.{Keeps, IsWriterStart};
+ghost use Rattle.paged_blob.specs.Writers.{Keeps};
 ghost use Rattle.paged_blob.specs.Shrinks.{other_slot, handed_over, Withstands, IsTrimmed, IsCut, IsCutCause};
-ghost use Rattle.paged_blob.specs.ShrinksCode.{StandsAlone, IsLeftAlone, IsLast, EndsWith, IsSettled, tip_of};
+ghost use Rattle.paged_blob.specs.ShrinksCode.{StandsAlone, IsLeftAlone, IsLast, EndsWith, IsSettled};
 
 use crate::blob::{Blob, WriteMode};
 use crate::error::Error;
@@ -243,9 +243,6 @@ pub fn cut_blob<B: Blob, C: Checksum>(
         IfOk result (λ last. IsCut C.checksum_of physical_page_size (take size old) (B.calls blob.new)) }
     ensures last { let old = recovered C.checksum_of physical_page_size (content (B.calls blob.old)) in
         IfOk result (λ last. EndsWith physical_page_size (take size old) (file_of (B.calls blob.new)).base last) }
-    ensures writer { let kept = take size (recovered C.checksum_of physical_page_size (content (B.calls blob.old))) in
-        (capacity : ℕ) → IfOk result (λ last. IsWriterStart C.checksum_of physical_page_size (B.calls blob.new) kept
-        (length kept) (tip_of physical_page_size kept capacity)) }
     ensures any_moment { let old = recovered C.checksum_of physical_page_size (content (B.calls blob.old)) in
         (synced : ℕ) → Withstands C.checksum_of physical_page_size old synced (file_of (B.calls blob.old))
         → Through (Keeps C.checksum_of physical_page_size old (min size synced)) (B.calls blob.old) (B.calls blob.new) }

@@ -11,11 +11,10 @@ use Rattle.paged_format.specs.declared.footer.Slot.TheVariants.{First, Second}
 use Rattle.paged_format.specs.Footers.{content_size, slot_start, slot_len, slot_crc}
 use Rattle.paged_format.specs.Pages.{verifies, shown_len, content_of, first_pages, recovered}
 use Rattle.paged_format.specs.Laws.Pages.{vouched, vouched_len-true, shown_within}
-use Rattle.paged_format.specs.Tips.{Tip}
 use Rattle.paged_blob.specs.Calls.{Call, Change, File, file_of}
 use Rattle.paged_blob.specs.Images.{least_length, greatest_length, IsImage}
 use Rattle.paged_blob.specs.Chance.{page_at, slot_in, IsBeginning}
-use Rattle.paged_blob.specs.Writers.{from_page, EachBeginning, OnlyAt, IsDurablePage, share, IsBasePage, IsWriterStart, IsKeptIn, Keeps}
+use Rattle.paged_blob.specs.Writers.{from_page, EachBeginning, OnlyAt, IsDurablePage, share, IsKeptIn, Keeps}
 use Rattle.paged_blob.specs.Shrinks.{HoldsPrefix, Withstands}
 use Rattle.paged_blob.specs.Laws.Chance.{HasSlot}
 use Rattle.paged_blob.specs.Laws.Writers.{of_beginning, verifies_there, same_len, holds_prefix, recovered_prefix}
@@ -208,6 +207,14 @@ module _ (sum : List ℕ → ℕ) (size : ℕ) (room_for_footer : 12 ≤ size) w
       (λ k below. durable_shows (share size k synced) content file image k (w.durable k below) (omega (arith, below, w.within)) w.beginnings is) in
       ap (λ n. take n (recovered sum size image)) (sym most) ∙ r ∙ ap (take (synced - 0 * content_size size)) all ∙ ap (λ n. take n content) most
 
+  -- a file that keeps a content withstands
+  pub kept_withstands : (content : List ℕ) (synced : ℕ) (file : File) → IsKeptIn sum size content synced file → Withstands sum size content synced file
+  kept_withstands content synced file w = record {
+    within = w.within;
+    beginnings = holds_prefix sum size content (greatest_length file.base file.changes) file.base file.changes w.beginnings;
+    durable = w.durable;
+  }
+
   -- what is recovered of each image keeps the durable bytes of the content, and is a beginning of the content unless by chance
   pub withstands_keeps : (content : List ℕ) (synced : ℕ) (calls : List Call) → Withstands sum size content synced (file_of calls)
       → Keeps sum size content synced calls
@@ -230,45 +237,8 @@ module _ (sum : List ℕ → ℕ) (size : ℕ) (room_for_footer : 12 ≤ size) w
             (r.0, omega (arith, front, same, short, all), r.1, r.2);
       }
 
-  -- What holds between a writer and its blob is enough: each image of the calls keeps the durable bytes of the content, and what is
-  -- recovered of it is a beginning of the content unless by chance.
-  pub writer_keeps : (calls : List Call) (content : List ℕ) (synced : ℕ) (tip : Tip) → IsWriterStart sum size calls content synced tip
-      → Keeps sum size content synced calls
-  writer_keeps calls content synced tip w =
-      let file = file_of calls in
-      withstands_keeps content synced calls (record {
-        within = w.within;
-        beginnings = holds_prefix sum size content (greatest_length file.base file.changes) file.base file.changes w.beginnings;
-        durable = w.durable;
-      })
-
-  -- the base is a beginning of the changes
-  base_begins : (base : List ℕ) (changes : List Change) → IsBeginning base changes base
-  base_begins base [] = refl
-  base_begins base (change ∷ earlier) = inr (base_begins base earlier)
-
-  -- a page of the base that is durable is a durable page
-  base_page_durable : (len : ℕ) (file : File) (page : ℕ) → IsBasePage sum size len file page → IsDurablePage sum size len file page
-  base_page_durable len file page d = record {
-    shown = file.base;
-    beginning = base_begins file.base file.changes;
-    slot = d.slot;
-    verified = d.verified;
-    says = omega (arith, d.says);
-    reach = d.reach;
-    bytes = λ i below. d.bytes i (omega (arith, below, d.says));
-    slot_bytes = d.slot_bytes;
-  }
-
   -- What holds of the file of a writer at each moment is enough: each image of the calls keeps the durable bytes of the content, and what
   -- is recovered of it is a beginning of the content unless by chance.
-  pub file_withstands : (content : List ℕ) (synced : ℕ) (file : File) → IsKeptIn sum size content synced file → Withstands sum size content synced file
-  file_withstands content synced file w = record {
-    within = w.within;
-    beginnings = holds_prefix sum size content (greatest_length file.base file.changes) file.base file.changes w.beginnings;
-    durable = λ page below. base_page_durable (share size page synced) file page (w.durable page below);
-  }
-
   pub file_keeps : (calls : List Call) (content : List ℕ) (synced : ℕ) → IsKeptIn sum size content synced (file_of calls)
       → Keeps sum size content synced calls
-  file_keeps calls content synced w = withstands_keeps content synced calls (file_withstands content synced (file_of calls) w)
+  file_keeps calls content synced w = withstands_keeps content synced calls (kept_withstands content synced (file_of calls) w)

@@ -7,7 +7,6 @@ use Rattle.paged_blob.specs.Writers.{Keeps}
 use Rattle.paged_blob.specs.Shrinks.{IsCut}
 use Rattle.paged_blob.specs.ShrinksCode.{IsLast}
 use Rattle.paged_blob.specs.Laws.Moments.{weaker}
-use Rattle.paged_blob.proofs.Done.{cut_writer}
 use Rattle.paged_blob.proofs.CutBlob.{take_min, keeps_less, settle_moments, cut_moments}
 use Rattle.paged_blob.proofs.shrink.cut_blob.Goals as goal
 
@@ -176,58 +175,6 @@ returns-clause-cut g c =
     let P : List ℕ → Type 0 = λ l. IsCut sum size l new in
     let cut : P (take c.args.size old) = subst P taken c.in_ok-last.ensures.cut in
     cut
-
-pub returns-then-part-eq0-clause-writer : goal.returns-then-part-eq0-clause-writer
-returns-then-part-eq0-clause-writer g c = λ capacity.
-    let sum = g.C.Checksum.checksum_of in
-    let size = c.args.physical_page_size in
-    let calls = g.B.Blob.calls c.args.blob.now in
-    let footer : 12 < size = search rules in
-    let old = recovered sum size (content calls) in
-    let mid = g.B.Blob.calls c.settle.new.blob in
-    let settled = c.in_ok-settle.ensures.settled in
-    let kept = c.min-kept.result in
-    let kept_is : min c.args.size (length old) ≡ kept = omega (arith, c.min-kept.ensures, c.requires.known) in
-    let is : c.from-room.result ≡ size = search rules in
-    let room = content_size size in
-    let page = kept / (c.from-room.result - 12) in
-    let part = kept % (c.from-room.result - 12) in
-    let split : page * room + part ≡ kept = parts kept c.from-room.result size is footer in
-    let old_is : recovered sum size (file_of mid).base ≡ old = ap (recovered sum size) settled.base in
-    let count : page * room ≡ kept = omega (arith, split, c.if-part-eq0.true) in
-    let taken : take (page * room) (recovered sum size (file_of mid).base) ≡ take c.args.size old =
-    ap (λ n. take n (recovered sum size (file_of mid).base)) (count ∙ sym kept_is)
-    ∙ ap (take (min c.args.size (length old))) old_is ∙ take_min c.args.size old in
-    let new = g.B.Blob.calls c.cut_behind.new.blob in
-    let P : List ℕ → Type 0 = λ l. IsCut sum size l new in
-    let cut : P (take c.args.size old) = subst P taken c.in_ok-cut_behind.ensures.cut in
-    cut_writer sum size (take c.args.size old) new capacity footer cut
-
-pub returns-clause-writer : goal.returns-clause-writer
-returns-clause-writer g c = λ capacity.
-    let sum = g.C.Checksum.checksum_of in
-    let size = c.args.physical_page_size in
-    let calls = g.B.Blob.calls c.args.blob.now in
-    let footer : 12 < size = search rules in
-    let old = recovered sum size (content calls) in
-    let mid = g.B.Blob.calls c.settle.new.blob in
-    let settled = c.in_ok-settle.ensures.settled in
-    let kept = c.min-kept.result in
-    let kept_is : min c.args.size (length old) ≡ kept = omega (arith, c.min-kept.ensures, c.requires.known) in
-    let is : c.from-room.result ≡ size = search rules in
-    let room = content_size size in
-    let page = kept / (c.from-room.result - 12) in
-    let part = kept % (c.from-room.result - 12) in
-    let split : page * room + part ≡ kept = parts kept c.from-room.result size is footer in
-    let old_is : recovered sum size (file_of mid).base ≡ old = ap (recovered sum size) settled.base in
-    let count : page * room + part ≡ kept = split in
-    let taken : take (page * room + part) (recovered sum size (file_of mid).base) ≡ take c.args.size old =
-    ap (λ n. take n (recovered sum size (file_of mid).base)) (count ∙ sym kept_is)
-    ∙ ap (take (min c.args.size (length old))) old_is ∙ take_min c.args.size old in
-    let new = g.B.Blob.calls c.cut_within.new.blob in
-    let P : List ℕ → Type 0 = λ l. IsCut sum size l new in
-    let cut : P (take c.args.size old) = subst P taken c.in_ok-last.ensures.cut in
-    cut_writer sum size (take c.args.size old) new capacity footer cut
 
 pub returns-clause-last : goal.returns-clause-last
 returns-clause-last g c =
