@@ -18,3 +18,4 @@ pub mod Settled
 pub mod CutBlob
 pub mod ReadPages
 pub mod CutWriter
+pub mod WriterReads

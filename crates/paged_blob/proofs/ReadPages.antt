@@ -1,6 +1,6 @@
 -- Whole pages that are read, and kept.
 use Rattle.std.proofs.Common.{◌≡◌, ℕ, ◌+◌, ◌-◌, ◌*◌, ◌/◌, ◌%◌, ◌<◌, ◌≤◌, false, min, List, [], ◌++◌, length, take, drop, sym, ◌∙◌, ap}
-use Rattle.std.proofs.Common.{⊎_elim, arith}
+use Rattle.std.proofs.Common.{refl, ⊎_elim, arith}
 use Rattle.std.proofs.lemmas.Bool.{cases_lt}
 use Rattle.std.proofs.Math.Seq.{take-append-add, drop-append-add}
 use Rattle.std.proofs.lemmas.List.{append-nil, take_at, drop_all, take-append-le, drop-append-le, length-append}
@@ -13,10 +13,10 @@ use Rattle.paged_format.specs.Pages.{shown_len, recovered}
 use Rattle.paged_format.specs.Laws.Pages.{shown_within, length_recovered-whole}
 use Rattle.paged_blob.specs.Calls.{Call, file_of, content}
 use Rattle.paged_blob.specs.Chance.{page_at}
-use Rattle.paged_blob.specs.Caches.{Page, AreGiven}
+use Rattle.paged_blob.specs.Caches.{Page, AreGiven, page_given}
 use Rattle.paged_blob.specs.Answers.{IsCause, IsReadCause}
 use Rattle.paged_blob.specs.Writers.{from_page}
-use Rattle.paged_blob.specs.Reads.{IsKeptPage, CacheHolds}
+use Rattle.paged_blob.specs.Reads.{IsKeptPage, CacheHolds, ServesPages, StaysKept}
 use Rattle.paged_blob.specs.Laws.Durable.{further}
 use Rattle.paged_blob.specs.declared.error.CallKind.TheVariants.{Read}
 use Rattle.paged_blob.specs.declared.error.Error.{Error}
@@ -99,27 +99,32 @@ piece_of room page from count bytes within =
     ∙ take-take count rest (drop from start) (omega (arith, within)) ∙ ap (take count) (drop-drop from (page * room) bytes)
 
 -- the page that is given is kept as it is
+given_alone : (size blob_id room offset page_size page : ℕ) (all bytes : List ℕ) (kept : Page) → room ≡ content_size size → 0 < room
+    → page_size ≡ room → offset ≡ page * room → (page + 1) * room ≤ length all → bytes ≡ page_at room page all
+    → (k : ℕ) → k < length bytes / page_size → kept ≡ page_given blob_id (offset / page_size) page_size bytes k → IsKeptPage size all kept
+given_alone size blob_id room offset page_size page all bytes kept room_is some size_is offset_is whole is k below same =
+    let long : length bytes ≡ room = ap length is ∙ length-take-le room (drop (page * room) all) (omega (arith, whole, length-drop (page * room) all)) in
+    let one : length bytes / page_size ≡ 1 = ap (λ n. length bytes / n) size_is ∙ ap (λ n. n / room) (long ∙ omega arith) ∙ mul-div_left 1 some in
+    let first : k ≡ 0 = omega (arith, below, one) in
+    let from : offset / page_size ≡ page = ap (λ n. offset / n) size_is ∙ ap (λ n. n / room) offset_is ∙ mul-div_left page some in
+    let number : kept.number ≡ page = ap (λ p. p.number) same ∙ omega (arith, first, from) in
+    let none : k * page_size ≡ 0 = ap (λ n. n * page_size) first ∙ omega arith in
+    let as_given : kept.bytes ≡ bytes = ap (λ p. p.bytes) same ∙ ap (λ n. take page_size (drop n bytes)) none
+    ∙ take_all page_size bytes (omega (arith, long, size_is)) in
+    let next : (kept.number + 1) * content_size size ≡ (page + 1) * room =
+    ap (λ n. (n + 1) * content_size size) number ∙ ap (λ r. (page + 1) * r) (sym room_is) in
+    record {
+      within = omega (arith, next, whole);
+      same = as_given ∙ is ∙ ap (λ n. page_at room n all) (sym number) ∙ ap (λ r. page_at r kept.number all) room_is;
+    }
+
 pub holds_given : (size blob_id room offset page_size page : ℕ) (all bytes : List ℕ) (old new : List Page) → room ≡ content_size size → 0 < room
     → page_size ≡ room → offset ≡ page * room → (page + 1) * room ≤ length all → bytes ≡ page_at room page all → CacheHolds size blob_id all old
     → AreGiven old new blob_id (offset / page_size) page_size bytes (length bytes / page_size) → CacheHolds size blob_id all new
 holds_given size blob_id room offset page_size page all bytes old new room_is some size_is offset_is whole is holds given = record {
   each = λ kept there named.
       ⊎_elim
-      (λ (k, below, same).
-      let long : length bytes ≡ room = ap length is ∙ length-take-le room (drop (page * room) all) (omega (arith, whole, length-drop (page * room) all)) in
-      let one : length bytes / page_size ≡ 1 = ap (λ n. length bytes / n) size_is ∙ ap (λ n. n / room) (long ∙ omega arith) ∙ mul-div_left 1 some in
-      let first : k ≡ 0 = omega (arith, below, one) in
-      let from : offset / page_size ≡ page = ap (λ n. offset / n) size_is ∙ ap (λ n. n / room) offset_is ∙ mul-div_left page some in
-      let number : kept.number ≡ page = ap (λ p. p.number) same ∙ omega (arith, first, from) in
-      let none : k * page_size ≡ 0 = ap (λ n. n * page_size) first ∙ omega arith in
-      let as_given : kept.bytes ≡ bytes = ap (λ p. p.bytes) same ∙ ap (λ n. take page_size (drop n bytes)) none
-      ∙ take_all page_size bytes (omega (arith, long, size_is)) in
-      let next : (kept.number + 1) * content_size size ≡ (page + 1) * room =
-      ap (λ n. (n + 1) * content_size size) number ∙ ap (λ r. (page + 1) * r) (sym room_is) in
-      record {
-        within = omega (arith, next, whole);
-        same = as_given ∙ is ∙ ap (λ n. page_at room n all) (sym number) ∙ ap (λ r. page_at r kept.number all) room_is;
-      })
+      (λ (k, below, same). given_alone size blob_id room offset page_size page all bytes kept room_is some size_is offset_is whole is k below same)
       (λ (before, _). holds.each kept before named)
       (given.each kept there);
 }
@@ -209,3 +214,38 @@ laid_both out front back k long fits back_long =
     let none : drop rest (drop k now) ≡ [] = drop_all rest (drop k now) (omega (arith, length-drop k now)) in
     ap (λ l. l ++ (back ++ drop rest (drop k now))) (take_at front (drop k out) k long) ∙ ap (λ l. front ++ (back ++ l)) none
     ∙ ap (λ l. front ++ l) (append-nil back)
+
+-- of a content that goes on from these bytes, the pages that they reach are theirs
+pub page_of_joined : (room page : ℕ) (all more : List ℕ) → (page + 1) * room ≤ length all → page_at room page (all ++ more) ≡ page_at room page all
+page_of_joined room page all more whole =
+    sym (page_of_front room page (length all) (all ++ more) whole) ∙ ap (page_at room page) (take_at all more (length all) refl)
+
+-- where every page of the content is kept as it is, the first ones are
+pub holds_serves : (size blob_id : ℕ) (all more : List ℕ) (pages : List Page) → CacheHolds size blob_id (all ++ more) pages
+    → ServesPages size blob_id all pages
+holds_serves size blob_id all more pages holds = record {
+  each = λ page there named whole.
+      (holds.each page there named).same ∙ page_of_joined (content_size size) page.number all more whole;
+}
+
+-- the page that is given serves as well
+pub serves_given : (size blob_id room offset page_size page : ℕ) (all bytes : List ℕ) (old new : List Page) → room ≡ content_size size → 0 < room
+    → page_size ≡ room → offset ≡ page * room → (page + 1) * room ≤ length all → bytes ≡ page_at room page all → ServesPages size blob_id all old
+    → AreGiven old new blob_id (offset / page_size) page_size bytes (length bytes / page_size) → ServesPages size blob_id all new
+serves_given size blob_id room offset page_size page all bytes old new room_is some size_is offset_is whole is serves given = record {
+  each = λ kept there named within.
+      ⊎_elim
+      (λ (k, below, same).
+      let g = given_alone size blob_id room offset page_size page all bytes kept room_is some size_is offset_is whole is k below same in
+      g.same)
+      (λ (before, _). serves.each kept before named within)
+      (given.each kept there);
+}
+
+-- and whatever the content goes on to be
+pub stays_given : (size blob_id room offset page_size page : ℕ) (all bytes : List ℕ) (old new : List Page) → room ≡ content_size size → 0 < room
+    → page_size ≡ room → offset ≡ page * room → (page + 1) * room ≤ length all → bytes ≡ page_at room page all
+    → AreGiven old new blob_id (offset / page_size) page_size bytes (length bytes / page_size) → StaysKept size blob_id all old new
+stays_given size blob_id room offset page_size page all bytes old new room_is some size_is offset_is whole is given = λ more holds.
+    holds_given size blob_id room offset page_size page (all ++ more) bytes old new room_is some size_is offset_is
+    (omega (arith, whole, length-append all more)) (is ∙ sym (page_of_joined room page all more whole)) holds given

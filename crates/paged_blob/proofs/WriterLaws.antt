@@ -387,7 +387,7 @@ module _ (sum : List ℕ → ℕ) (size : ℕ) (some_room : 12 < size) (calls : 
 -- what a writer has written is its content
 module _ (sum : List ℕ → ℕ) (calls : List Call) (w : WriterState) (some_room : 12 < w.page_size) (bytes : List ℕ)
     (is : IsWriterOf sum w.page_size calls bytes w.synced w.tip w.slot) where
-  on_disk : take w.tip.offset (recovered sum w.page_size (content calls)) ≡ take w.tip.offset bytes
+  pub on_disk : take w.tip.offset (recovered sum w.page_size (content calls)) ≡ take w.tip.offset bytes
   on_disk =
       let file : File = record { base = content calls; changes = []; failed = false } in
       let kept : IsKeptIn sum w.page_size bytes w.tip.offset file = record {

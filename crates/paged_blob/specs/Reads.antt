@@ -23,6 +23,16 @@ pub record IsKeptPage (size : ℕ) (bytes : List ℕ) (page : Page) : Type 0 whe
 pub record CacheHolds (size blob_id : ℕ) (bytes : List ℕ) (pages : List Page) : Type 0 where
   pub each : (page : Page) → Contains pages page → page.blob_id ≡ blob_id → IsKeptPage size bytes page
 
+-- every page of this content that is kept under this name is as it is; what is kept of further pages is open
+pub record ServesPages (size blob_id : ℕ) (bytes : List ℕ) (pages : List Page) : Type 0 where
+  pub each : (page : Page) → Contains pages page → page.blob_id ≡ blob_id → (page.number + 1) * content_size size ≤ length bytes
+      → page.bytes ≡ page_at (content_size size) page.number bytes
+
+-- whatever content goes on from these bytes, its pages stay kept as they are
+abbrev pub StaysKept : ℕ → ℕ → List ℕ → List Page → List Page → Type 0
+StaysKept size blob_id bytes old new =
+    (more : List ℕ) → CacheHolds size blob_id (bytes ++ more) old → CacheHolds size blob_id (bytes ++ more) new
+
 -- why a read that ends there, in a content of so many bytes of which so many are on the blob, may be refused
 abbrev pub IsReadingCause : ℕ → ℕ → ℕ → ℕ → Error → Type 0
 IsReadingCause size count len end BlobInsufficientLength = len < end

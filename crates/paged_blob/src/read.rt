@@ -9,7 +9,7 @@ ghost use Rattle.paged_blob.specs.Calls.{content, file_of};
 ghost use Rattle.paged_blob.specs.Chance.{page_at};
 ghost use Rattle.paged_blob.specs.Caches.{Page};
 ghost use Rattle.paged_blob.specs.Answers.{failures_after, IsCause};
-ghost use Rattle.paged_blob.specs.Reads.{flushed, readable, CacheHolds, IsReadingCause};
+ghost use Rattle.paged_blob.specs.Reads.{flushed, readable, CacheHolds, ServesPages, StaysKept, IsReadingCause};
 ghost use Rattle.paged_blob.specs.declared.error.CallKind.TheVariants.{Read};
 
 use crate::blob::Blob;
@@ -61,7 +61,7 @@ fn read_page<B: Blob, C: Checksum>(
 // Copies a piece of a page, if the page is kept, and answers whether it is.
 fn copy_kept(cache: &CacheRef, blob_id: u64, page: u64, from: usize, out: &mut [u8]) -> bool
     requires long { (kept : Page) → Contains cache.now.pages kept → kept.blob_id ≡ blob_id
-        → from + length out.old ≤ length kept.bytes }
+        → kept.number ≡ page → from + length out.old ≤ length kept.bytes }
     ensures { IsTrue result → (bytes : List ℕ) × Contains cache.now.pages
         (record { blob_id = blob_id; number = page; bytes = bytes })
         × (out.new ≡ take (length out.old) (drop from bytes)) }
@@ -91,13 +91,15 @@ fn page_into<B: Blob, C: Checksum>(
     requires whole { (page + 1) * content_size pages.physical_page_size ≤ pages.len }
     requires within { from + length out.old ≤ content_size pages.physical_page_size }
     requires sizes { cache.old.page_size ≡ content_size pages.physical_page_size }
-    requires kept { CacheHolds pages.physical_page_size pages.blob_id
+    requires kept { ServesPages pages.physical_page_size pages.blob_id
         (flushed C.checksum_of pages.physical_page_size (B.calls blob.old) pages.len) cache.old.pages }
     ensures bytes { let all = flushed C.checksum_of pages.physical_page_size (B.calls blob.old) pages.len in
         OnOk result (out.new ≡ take (length out.old)
         (drop (page * content_size pages.physical_page_size + from) all)) }
-    ensures kept { CacheHolds pages.physical_page_size pages.blob_id
+    ensures kept { ServesPages pages.physical_page_size pages.blob_id
         (flushed C.checksum_of pages.physical_page_size (B.calls blob.old) pages.len) cache.new.pages }
+    ensures more { StaysKept pages.physical_page_size pages.blob_id
+        (flushed C.checksum_of pages.physical_page_size (B.calls blob.old) pages.len) cache.old.pages cache.new.pages }
     ensures same { cache.new ≡ record cache.old { pages = cache.new.pages } }
     ensures cause { IfErr result (IsCause Read
         (pages.len / content_size pages.physical_page_size * pages.physical_page_size)) }
@@ -130,12 +132,14 @@ fn read_flushed<B: Blob, C: Checksum>(
     requires numbers { pages.len / content_size pages.physical_page_size * pages.physical_page_size < 2 ^ 64 }
     requires within { offset + length out.old ≤ pages.len }
     requires sizes { cache.old.page_size ≡ content_size pages.physical_page_size }
-    requires kept { CacheHolds pages.physical_page_size pages.blob_id
+    requires kept { ServesPages pages.physical_page_size pages.blob_id
         (flushed C.checksum_of pages.physical_page_size (B.calls blob.old) pages.len) cache.old.pages }
     ensures bytes { OnOk result (out.new ≡ take (length out.old)
         (drop offset (flushed C.checksum_of pages.physical_page_size (B.calls blob.old) pages.len))) }
-    ensures kept { CacheHolds pages.physical_page_size pages.blob_id
+    ensures kept { ServesPages pages.physical_page_size pages.blob_id
         (flushed C.checksum_of pages.physical_page_size (B.calls blob.old) pages.len) cache.new.pages }
+    ensures more { StaysKept pages.physical_page_size pages.blob_id
+        (flushed C.checksum_of pages.physical_page_size (B.calls blob.old) pages.len) cache.old.pages cache.new.pages }
     ensures same { cache.new ≡ record cache.old { pages = cache.new.pages } }
     ensures cause { IfErr result (IsCause Read
         (pages.len / content_size pages.physical_page_size * pages.physical_page_size)) }
@@ -177,7 +181,7 @@ pub fn read_into<B: Blob, C: Checksum>(
     requires ends { pages.len + length tip.now < 2 ^ 64 }
     requires sizes { cache.old.page_size ≡ content_size pages.physical_page_size }
     requires kept { CacheHolds pages.physical_page_size pages.blob_id
-        (flushed C.checksum_of pages.physical_page_size (B.calls blob.old) pages.len) cache.old.pages }
+        (readable C.checksum_of pages.physical_page_size (B.calls blob.old) pages.len tip.now) cache.old.pages }
     ensures bytes { OnOk result (out.new ≡ take (length out.old) (drop offset
         (readable C.checksum_of pages.physical_page_size (B.calls blob.old) pages.len tip.now))) }
     ensures within { OnOk result (offset + length out.old ≤ pages.len + length tip.now) }
@@ -186,7 +190,7 @@ pub fn read_into<B: Blob, C: Checksum>(
     ensures cause { IfErr result (IsReadingCause pages.physical_page_size pages.len (pages.len + length tip.now)
         (offset + length out.old)) }
     ensures kept { CacheHolds pages.physical_page_size pages.blob_id
-        (flushed C.checksum_of pages.physical_page_size (B.calls blob.old) pages.len) cache.new.pages }
+        (readable C.checksum_of pages.physical_page_size (B.calls blob.old) pages.len tip.now) cache.new.pages }
     ensures same { cache.new ≡ record cache.old { pages = cache.new.pages } }
     ensures calls { B.calls blob.new ≡ B.calls blob.old }
     ensures failures { B.failures blob.new ≡ failures_after result (B.failures blob.old) }
@@ -226,7 +230,7 @@ pub fn read_at<B: Blob, C: Checksum>(
     requires ends { pages.len + length tip.now < 2 ^ 64 }
     requires sizes { cache.old.page_size ≡ content_size pages.physical_page_size }
     requires kept { CacheHolds pages.physical_page_size pages.blob_id
-        (flushed C.checksum_of pages.physical_page_size (B.calls blob.old) pages.len) cache.old.pages }
+        (readable C.checksum_of pages.physical_page_size (B.calls blob.old) pages.len tip.now) cache.old.pages }
     ensures bytes { IfOk result (λ bytes. bytes.items ≡ take len (drop offset
         (readable C.checksum_of pages.physical_page_size (B.calls blob.old) pages.len tip.now))) }
     ensures within { IsOk result → offset + len ≤ pages.len + length tip.now }
@@ -235,7 +239,7 @@ pub fn read_at<B: Blob, C: Checksum>(
     ensures cause { IfErr result (IsReadingCause pages.physical_page_size pages.len (pages.len + length tip.now)
         (offset + len)) }
     ensures kept { CacheHolds pages.physical_page_size pages.blob_id
-        (flushed C.checksum_of pages.physical_page_size (B.calls blob.old) pages.len) cache.new.pages }
+        (readable C.checksum_of pages.physical_page_size (B.calls blob.old) pages.len tip.now) cache.new.pages }
     ensures same { cache.new ≡ record cache.old { pages = cache.new.pages } }
     ensures calls { B.calls blob.new ≡ B.calls blob.old }
     ensures failures { B.failures blob.new ≡ failures_after result (B.failures blob.old) }
@@ -270,7 +274,7 @@ pub fn read_up_to<B: Blob, C: Checksum>(
     requires ends { pages.len + length tip.now < 2 ^ 64 }
     requires sizes { cache.old.page_size ≡ content_size pages.physical_page_size }
     requires kept { CacheHolds pages.physical_page_size pages.blob_id
-        (flushed C.checksum_of pages.physical_page_size (B.calls blob.old) pages.len) cache.old.pages }
+        (readable C.checksum_of pages.physical_page_size (B.calls blob.old) pages.len tip.now) cache.old.pages }
     ensures bytes { IfOk result (λ bytes. bytes.items ≡ take len (drop offset
         (readable C.checksum_of pages.physical_page_size (B.calls blob.old) pages.len tip.now))) }
     ensures within { IsOk result → offset ≤ pages.len + length tip.now }
@@ -279,7 +283,7 @@ pub fn read_up_to<B: Blob, C: Checksum>(
     ensures cause { IfErr result (IsReadingCause pages.physical_page_size pages.len (pages.len + length tip.now)
         offset) }
     ensures kept { CacheHolds pages.physical_page_size pages.blob_id
-        (flushed C.checksum_of pages.physical_page_size (B.calls blob.old) pages.len) cache.new.pages }
+        (readable C.checksum_of pages.physical_page_size (B.calls blob.old) pages.len tip.now) cache.new.pages }
     ensures same { cache.new ≡ record cache.old { pages = cache.new.pages } }
     ensures calls { B.calls blob.new ≡ B.calls blob.old }
     ensures failures { B.failures blob.new ≡ failures_after result (B.failures blob.old) }

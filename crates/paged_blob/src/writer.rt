@@ -10,6 +10,7 @@ ghost use Rattle.paged_blob.specs.Answers.{failures_after, IsCause, IsPastNumber
 ghost use Rattle.paged_blob.specs.Flushes.{physical_size, last_slot};
 ghost use Rattle.paged_blob.specs.Writers.{WriterState, written, IsWriter, IsFlushed, IsEmptyFile, Keeps, IsTaken};
 ghost use Rattle.paged_blob.specs.WritersCode.{IsTakingCause};
+ghost use Rattle.paged_blob.specs.Reads.{IsReadingCause};
 ghost use Rattle.paged_blob.specs.Caches.{AreGiven};
 ghost use Rattle.paged_blob.specs.CachedContent.{HoldsPagesOf, KeepsOthers};
 ghost use Rattle.paged_blob.specs.declared.error.CallKind.{CallKind};
@@ -18,6 +19,7 @@ use crate::blob::Blob;
 use crate::cache::CacheRef;
 use crate::error::Error;
 use crate::flush::{DurableSlot, flush, last_slot};
+use crate::read::{FlushedPages, read_at, read_into, read_up_to};
 use fault_storage::Checksum;
 use merkle_forest::codec::{Encode, EncodeSize};
 use paged_format::TipBuffer;
@@ -443,5 +445,128 @@ impl<C: Checksum, Phase> Writer<C, Phase> {
         blob.sync()?;
         self.settle(cache);
         Ok(self)
+    }
+
+    // Its pages on the blob.
+    fn flushed_pages(&self) -> FlushedPages
+        ensures { result ≡ record {
+          physical_page_size = self.now.page_size;
+          blob_id = self.now.blob_id;
+          len = self.now.tip.offset;
+        } }
+    {
+        FlushedPages {
+            physical_page_size: self.page_size as u32,
+            blob_id: self.blob_id,
+            len: self.tip.offset(),
+        }
+    }
+
+    /// Reads a slice of the list into `out`. Where the list ends before it: F7, and nothing is touched; else it is
+    /// refused only where a read of the blob is. In the Rust: `paged::Writer::read_into`.
+    pub fn read_into<B: Blob>(
+        &self,
+        blob: &mut B,
+        cache: &mut CacheRef,
+        out: &mut [u8],
+        offset: u64,
+    ) -> Result<(), Error>
+        requires writer { IsWriter C.checksum_of (B.calls blob.old) self.now }
+        requires pages { cache.old.page_size ≡ content_size self.now.page_size }
+        requires cached { HoldsPagesOf (written C.checksum_of (B.calls blob.old) self.now) cache.old
+            self.now.blob_id }
+        ensures bytes { OnOk result (out.new ≡ take (length out.old)
+            (drop offset (written C.checksum_of (B.calls blob.old) self.now))) }
+        ensures past { self.now.tip.offset + length self.now.tip.bytes < offset + length out.old
+            → (result ≡ Err Error.BlobInsufficientLength) × (out.new ≡ out.old) × (cache.new ≡ cache.old) }
+        ensures cause { IfErr result (IsReadingCause self.now.page_size self.now.tip.offset
+            (self.now.tip.offset + length self.now.tip.bytes) (offset + length out.old)) }
+        ensures cached { HoldsPagesOf (written C.checksum_of (B.calls blob.old) self.now) cache.new self.now.blob_id }
+        ensures same { cache.new ≡ record cache.old { pages = cache.new.pages } }
+        ensures calls { B.calls blob.new ≡ B.calls blob.old }
+        ensures failures { B.failures blob.new ≡ failures_after result (B.failures blob.old) }
+    {
+        let pages = self.flushed_pages();
+        read_into::<B, C>(
+            self.alloc,
+            blob,
+            cache,
+            pages,
+            self.tip.as_bytes(),
+            out,
+            offset,
+        )
+    }
+
+    /// So many bytes of the list from an offset on. Where it ends before them: F7.
+    /// In the Rust: `paged::Writer::read_at`.
+    pub fn read_at<B: Blob>(
+        &self,
+        blob: &mut B,
+        cache: &mut CacheRef,
+        offset: u64,
+        len: usize,
+    ) -> Result<Vec<u8>, Error>
+        requires writer { IsWriter C.checksum_of (B.calls blob.old) self.now }
+        requires pages { cache.old.page_size ≡ content_size self.now.page_size }
+        requires cached { HoldsPagesOf (written C.checksum_of (B.calls blob.old) self.now) cache.old
+            self.now.blob_id }
+        ensures bytes { IfOk result (λ bytes. bytes.items ≡ take len
+            (drop offset (written C.checksum_of (B.calls blob.old) self.now))) }
+        ensures past { self.now.tip.offset + length self.now.tip.bytes < offset + len
+            → (result ≡ Err Error.BlobInsufficientLength) × (cache.new ≡ cache.old) }
+        ensures cause { IfErr result (IsReadingCause self.now.page_size self.now.tip.offset
+            (self.now.tip.offset + length self.now.tip.bytes) (offset + len)) }
+        ensures cached { HoldsPagesOf (written C.checksum_of (B.calls blob.old) self.now) cache.new self.now.blob_id }
+        ensures same { cache.new ≡ record cache.old { pages = cache.new.pages } }
+        ensures calls { B.calls blob.new ≡ B.calls blob.old }
+        ensures failures { B.failures blob.new ≡ failures_after result (B.failures blob.old) }
+    {
+        let pages = self.flushed_pages();
+        read_at::<B, C>(
+            self.alloc,
+            blob,
+            cache,
+            pages,
+            self.tip.as_bytes(),
+            offset,
+            len,
+        )
+    }
+
+    /// At most so many bytes of the list from an offset on, and as many as are left. Where it ends before the offset:
+    /// F7. In the Rust: `paged::Writer::read_up_to`.
+    pub fn read_up_to<B: Blob>(
+        &self,
+        blob: &mut B,
+        cache: &mut CacheRef,
+        offset: u64,
+        len: usize,
+    ) -> Result<Vec<u8>, Error>
+        requires writer { IsWriter C.checksum_of (B.calls blob.old) self.now }
+        requires pages { cache.old.page_size ≡ content_size self.now.page_size }
+        requires cached { HoldsPagesOf (written C.checksum_of (B.calls blob.old) self.now) cache.old
+            self.now.blob_id }
+        ensures bytes { IfOk result (λ bytes. bytes.items ≡ take len
+            (drop offset (written C.checksum_of (B.calls blob.old) self.now))) }
+        ensures past { self.now.tip.offset + length self.now.tip.bytes < offset
+            → (result ≡ Err Error.BlobInsufficientLength) × (cache.new ≡ cache.old) }
+        ensures cause { IfErr result (IsReadingCause self.now.page_size self.now.tip.offset
+            (self.now.tip.offset + length self.now.tip.bytes) offset) }
+        ensures cached { HoldsPagesOf (written C.checksum_of (B.calls blob.old) self.now) cache.new self.now.blob_id }
+        ensures same { cache.new ≡ record cache.old { pages = cache.new.pages } }
+        ensures calls { B.calls blob.new ≡ B.calls blob.old }
+        ensures failures { B.failures blob.new ≡ failures_after result (B.failures blob.old) }
+    {
+        let pages = self.flushed_pages();
+        read_up_to::<B, C>(
+            self.alloc,
+            blob,
+            cache,
+            pages,
+            self.tip.as_bytes(),
+            offset,
+            len,
+        )
     }
 }

@@ -5,7 +5,7 @@ use Rattle.paged_format.specs.Footers.{content_size}
 use Rattle.paged_format.specs.Pages.{recovered}
 use Rattle.paged_blob.specs.Calls.{Call, content}
 use Rattle.paged_blob.specs.Caches.{Cache}
-use Rattle.paged_blob.specs.Reads.{flushed, CacheHolds}
+use Rattle.paged_blob.specs.Reads.{flushed, ServesPages, StaysKept}
 use Rattle.paged_blob.proofs.ReadPages.{parts, one_more, longer}
 use Rattle.paged_blob.proofs.read.read_flushed.Goals as goal
 
@@ -34,7 +34,10 @@ loop-done-preserved g c =
     let more = one_more all out c.page_into.new.out offset done count span at refl within (omega (arith, long, same_long, c.requires.within))
     (parts (offset + done) c.from-room.result size is footer) piece i.bytes in
     let Q : List Call → Type 0 = λ l.
-    CacheHolds size c.args.pages.blob_id (flushed sum size l c.args.pages.len) c.page_into.new.cache.pages in
+    ServesPages size c.args.pages.blob_id (flushed sum size l c.args.pages.len) c.page_into.new.cache.pages in
+    let R : List Call → Type 0 = λ l.
+    StaysKept size c.args.pages.blob_id (flushed sum size l c.args.pages.len) c.loop-done.cache.pages c.page_into.new.cache.pages in
+    let still : R calls = subst R i.calls c.in_ok-page_into.ensures.more in
     let put : Cache → Cache = λ s. record s { pages = c.page_into.new.cache.pages } in
     record {
       within = longer (done + count) (put_mid done span out c.page_into.new.out) (take (done + count) (drop offset all)) more
@@ -42,6 +45,7 @@ loop-done-preserved g c =
           (omega (arith, long, same_long, c.requires.within, within, length-drop offset all)));
       bytes = more;
       kept = subst Q i.calls c.in_ok-page_into.ensures.kept;
+      more = λ after holds. still after (i.more after holds);
       same = c.in_ok-page_into.ensures.same ∙ ap put i.same;
       calls = c.in_ok-page_into.ensures.calls ∙ i.calls;
       failures = c.in_ok-page_into.ensures.failures ∙ i.failures;

@@ -1,5 +1,5 @@
 use Rattle.std.proofs.Common.{◌≡◌, ◌≤◌, ◌-◌, length, take, drop}
-use Rattle.paged_blob.specs.Reads.{flushed, CacheHolds}
+use Rattle.paged_blob.specs.Reads.{flushed, ServesPages, StaysKept}
 use Rattle.paged_blob.proofs.read.read_flushed.Given as goal
 
 abbrev pub invariant-loop-done : goal.invariant-loop-done
@@ -7,8 +7,10 @@ invariant-loop-done g l = record {
   within : l.done ≤ length l.out;
   bytes : take l.done l.out ≡ take l.done (drop l.offset
       (flushed g.C.Checksum.checksum_of l.pages.physical_page_size (g.B.Blob.calls l.fn.blob) l.pages.len));
-  kept : CacheHolds l.pages.physical_page_size l.pages.blob_id
+  kept : ServesPages l.pages.physical_page_size l.pages.blob_id
       (flushed g.C.Checksum.checksum_of l.pages.physical_page_size (g.B.Blob.calls l.fn.blob) l.pages.len) l.cache.pages;
+  more : StaysKept l.pages.physical_page_size l.pages.blob_id
+      (flushed g.C.Checksum.checksum_of l.pages.physical_page_size (g.B.Blob.calls l.fn.blob) l.pages.len) l.initial.cache.pages l.cache.pages;
   same : l.cache ≡ record l.initial.cache { pages = l.cache.pages };
   calls : g.B.Blob.calls l.blob ≡ g.B.Blob.calls l.fn.blob;
   failures : g.B.Blob.failures l.blob ≡ g.B.Blob.failures l.fn.blob;
