@@ -19,3 +19,4 @@ pub mod CutBlob
 pub mod ReadPages
 pub mod CutWriter
 pub mod WriterReads
+pub mod Recovered

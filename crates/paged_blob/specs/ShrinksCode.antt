@@ -48,3 +48,8 @@ tip_of size content capacity =
 abbrev pub slot_of : Option LastPage → Option DurableSlot
 slot_of None = None
 slot_of (Some last) = Some (record { slot = last.slot; len = length last.bytes.items; crc = last.crc })
+
+-- the bytes that the last page has
+abbrev pub bytes_of : Option LastPage → List ℕ
+bytes_of None = []
+bytes_of (Some last) = last.bytes.items

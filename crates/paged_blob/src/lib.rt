@@ -21,6 +21,7 @@ pub use flush::DurableSlot;
 pub use record::Recorded;
 pub use scan::{prefix_of_blob, prefix_of_blob_at_most};
 pub use shrink::{LastPage, cut_blob};
+pub use writer::recovery::{Recovering, Recovery};
 pub use writer::{Append, Writer};
 
 #[cfg(test)]

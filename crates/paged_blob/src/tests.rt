@@ -1,5 +1,6 @@
 //! Values from outside: each public call once, with ample memory.
 
+mod recovery;
 mod writer;
 
 use crate::bench::MemoryDisk;

@@ -15,6 +15,8 @@ ghost use Rattle.paged_blob.specs.Caches.{AreGiven};
 ghost use Rattle.paged_blob.specs.CachedContent.{HoldsPagesOf, KeepsOthers};
 ghost use Rattle.paged_blob.specs.declared.error.CallKind.{CallKind};
 
+pub mod recovery;
+
 use crate::blob::Blob;
 use crate::cache::CacheRef;
 use crate::error::Error;
