@@ -2,25 +2,16 @@
 //! standard output gets that number and a sum of the answers, standard error the processor time of one.
 #![tactic(auto)]
 
-mod measure;
 mod work;
 
 use fault_storage::memory::Storage;
-use measure::{measure, report_ratio};
+use measurement::{measure, read_count, report_ratio};
 use std::alloc::Global;
 use std::io;
 use std::time::CpuClock;
 
 // How many times each is done where standard input gives no number.
 const DEFAULT_COUNT: u64 = 100;
-
-// The number on the first line of standard input.
-fn read_count(rt: &impl Input, alloc: Global) -> io::Result<u64> {
-    match rt.lines(alloc).next() {
-        Some(line) => Ok(line?.as_str().trim().parse().unwrap_or(DEFAULT_COUNT)),
-        None => Ok(DEFAULT_COUNT),
-    }
-}
 
 fn measure_checksums<R: Print + Eprint + CpuClock>(rt: &R, count: u64) -> io::Result<()> {
     let mut page = [7; 4096];
@@ -85,7 +76,7 @@ fn measure_stores<R: Print + Eprint + CpuClock>(
 }
 
 fn main(rt: HostRuntime) -> io::Result<()> {
-    let count = read_count(&rt, rt.alloc())?;
+    let count = read_count(&rt, rt.alloc(), DEFAULT_COUNT)?;
     measure_checksums(&rt, count)?;
     measure_stores(&rt, rt.alloc(), count)
 }

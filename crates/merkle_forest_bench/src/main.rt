@@ -2,10 +2,9 @@
 //! done; standard output gets that number and a sum of the answers, standard error the processor time of one.
 #![tactic(auto)]
 
-mod measure;
 mod work;
 
-use measure::{measure, report_ratio};
+use measurement::{measure, read_count, report_ratio};
 use merkle_forest::codec::FixedBytes;
 use merkle_forest::hasher::Standard;
 use merkle_forest::{Bagging, ByteHash, Position};
@@ -15,14 +14,6 @@ use std::time::CpuClock;
 
 // How many times each is done where standard input gives no number.
 const DEFAULT_COUNT: u64 = 1000;
-
-// The number on the first line of standard input.
-fn read_count(rt: &impl Input, alloc: Global) -> io::Result<u64> {
-    match rt.lines(alloc).next() {
-        Some(line) => Ok(line?.as_str().trim().parse().unwrap_or(DEFAULT_COUNT)),
-        None => Ok(DEFAULT_COUNT),
-    }
-}
 
 fn measure_digests<R: Print + Eprint + CpuClock>(rt: &R, count: u64) -> io::Result<()> {
     let left = FixedBytes::new([1; 32]);
@@ -84,7 +75,7 @@ fn measure_varints<R: Print + Eprint + CpuClock>(
 }
 
 fn main(rt: HostRuntime) -> io::Result<()> {
-    let count = read_count(&rt, rt.alloc())?;
+    let count = read_count(&rt, rt.alloc(), DEFAULT_COUNT)?;
     measure_digests(&rt, count)?;
     measure_positions(&rt, count)?;
     measure_peaks(&rt, count)?;

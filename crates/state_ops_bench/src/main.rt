@@ -3,24 +3,15 @@
 //! error the processor time of one.
 #![tactic(auto)]
 
-mod measure;
 mod work;
 
-use measure::{measure, report_ratio};
+use measurement::{measure, read_count, report_ratio};
 use std::alloc::Global;
 use std::io;
 use std::time::CpuClock;
 
 // How many times each is done where standard input gives no number.
 const DEFAULT_COUNT: u64 = 1000;
-
-// The number on the first line of standard input.
-fn read_count(rt: &impl Input, alloc: Global) -> io::Result<u64> {
-    match rt.lines(alloc).next() {
-        Some(line) => Ok(line?.as_str().trim().parse().unwrap_or(DEFAULT_COUNT)),
-        None => Ok(DEFAULT_COUNT),
-    }
-}
 
 fn measure_operations<R: Print + Eprint + CpuClock>(
     rt: &R,
@@ -42,6 +33,6 @@ fn measure_operations<R: Print + Eprint + CpuClock>(
 }
 
 fn main(rt: HostRuntime) -> io::Result<()> {
-    let count = read_count(&rt, rt.alloc())?;
+    let count = read_count(&rt, rt.alloc(), DEFAULT_COUNT)?;
     measure_operations(&rt, rt.alloc(), count)
 }

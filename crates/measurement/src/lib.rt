@@ -1,5 +1,7 @@
-//! Counting, timing and reporting.
+//! What the programs that measure share: how often each work is done, timing it, and reporting.
+#![tactic(auto)]
 
+use std::alloc::Global;
 use std::io;
 use std::time::CpuClock;
 
@@ -40,4 +42,12 @@ pub fn report_ratio<R: Eprint>(rt: &R, name: &str, one: u64, other: u64) -> io::
         hundredths / 100,
         hundredths % 100
     )
+}
+
+/// The number on the first line of standard input, or this one where it gives none.
+pub fn read_count(rt: &impl Input, alloc: Global, otherwise: u64) -> io::Result<u64> {
+    match rt.lines(alloc).next() {
+        Some(line) => Ok(line?.as_str().trim().parse().unwrap_or(otherwise)),
+        None => Ok(otherwise),
+    }
 }
