@@ -1,5 +1,6 @@
 //! Values from outside: each public call once, with ample memory.
 
+mod explorer;
 mod recovery;
 mod writer;
 
