@@ -187,8 +187,8 @@ pub fn read_into<B: Blob, C: Checksum>(
     ensures within { OnOk result (offset + length out.old ≤ pages.len + length tip.now) }
     ensures past { pages.len + length tip.now < offset + length out.old
         → (result ≡ Err Error.BlobInsufficientLength) × (out.new ≡ out.old) × (cache.new ≡ cache.old) }
-    ensures cause { IfErr result (IsReadingCause (B.failures blob.old) pages.physical_page_size pages.len (pages.len + length tip.now)
-        (offset + length out.old)) }
+    ensures cause { IfErr result (IsReadingCause (B.failures blob.old) pages.physical_page_size pages.len
+        (pages.len + length tip.now) (offset + length out.old)) }
     ensures kept { CacheHolds pages.physical_page_size pages.blob_id
         (readable C.checksum_of pages.physical_page_size (B.calls blob.old) pages.len tip.now) cache.new.pages }
     ensures same { cache.new ≡ record cache.old { pages = cache.new.pages } }
@@ -236,8 +236,8 @@ pub fn read_at<B: Blob, C: Checksum>(
     ensures within { IsOk result → offset + len ≤ pages.len + length tip.now }
     ensures past { pages.len + length tip.now < offset + len
         → (result ≡ Err Error.BlobInsufficientLength) × (cache.new ≡ cache.old) }
-    ensures cause { IfErr result (IsReadingCause (B.failures blob.old) pages.physical_page_size pages.len (pages.len + length tip.now)
-        (offset + len)) }
+    ensures cause { IfErr result (IsReadingCause (B.failures blob.old) pages.physical_page_size pages.len
+        (pages.len + length tip.now) (offset + len)) }
     ensures kept { CacheHolds pages.physical_page_size pages.blob_id
         (readable C.checksum_of pages.physical_page_size (B.calls blob.old) pages.len tip.now) cache.new.pages }
     ensures same { cache.new ≡ record cache.old { pages = cache.new.pages } }
@@ -280,8 +280,8 @@ pub fn read_up_to<B: Blob, C: Checksum>(
     ensures within { IsOk result → offset ≤ pages.len + length tip.now }
     ensures past { pages.len + length tip.now < offset
         → (result ≡ Err Error.BlobInsufficientLength) × (cache.new ≡ cache.old) }
-    ensures cause { IfErr result (IsReadingCause (B.failures blob.old) pages.physical_page_size pages.len (pages.len + length tip.now)
-        offset) }
+    ensures cause { IfErr result (IsReadingCause (B.failures blob.old) pages.physical_page_size pages.len
+        (pages.len + length tip.now) offset) }
     ensures kept { CacheHolds pages.physical_page_size pages.blob_id
         (readable C.checksum_of pages.physical_page_size (B.calls blob.old) pages.len tip.now) cache.new.pages }
     ensures same { cache.new ≡ record cache.old { pages = cache.new.pages } }

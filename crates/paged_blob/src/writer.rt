@@ -435,7 +435,8 @@ impl<C: Checksum, Phase> Writer<C, Phase> {
         // Whatever a crash leaves at any moment of the call keeps what was synced before.
         ensures any_moment { Through (Keeps C.checksum_of self.page_size
             (written C.checksum_of (B.calls blob.old) self) self.synced) (B.calls blob.old) (B.calls blob.new) }
-        ensures cause { IfErr result (λ e. IsCause (B.failures blob.old) CallKind.Write 0 e ⊎ IsCause (B.failures blob.old) CallKind.Sync 0 e) }
+        ensures cause { IfErr result (λ e. IsCause (B.failures blob.old) CallKind.Write 0 e
+            ⊎ IsCause (B.failures blob.old) CallKind.Sync 0 e) }
         ensures failures { B.failures blob.new ≡ failures_after result (B.failures blob.old) }
         ensures cache { cache.new ≡ record cache.old { pages = cache.new.pages } }
         // The pages that are kept under the writer's name stay those of its content.

@@ -1,8 +1,12 @@
 //! Values from outside: an independent program computed them from the format.
 
+ghost use Rattle.std.specs.Prelude.{◌+◌};
+ghost use Rattle.paged_format.specs.Footers.{IsPageSize};
+
 use crate::bench::MemoryDisk;
 use crate::cache::CacheRef;
-use crate::writer::Writer;
+use crate::writer::recovery::Recovery;
+use crate::writer::{Append, Writer};
 use fault_storage::Crc32;
 use paged_format::prefix_len;
 use std::alloc::Global;
@@ -50,6 +54,49 @@ fn assert_slots(rt: &impl Abort, file: &[u8], page_size: usize, slots: &[(u16, u
     }
 }
 
+// Whether each page has one slot of this length and one of that, in either order, and there are no more pages.
+fn assert_pages(rt: &impl Abort, file: &[u8], page_size: usize, lens: &[(u16, u16)]) {
+    assert!(rt; page_size > 0);
+    assert_eq!(rt; file.len() % page_size, 0);
+    assert_eq!(rt; file.len() / page_size, lens.len());
+    for (page, (less, more)) in file.chunks_exact(page_size).zip(lens) {
+        let (first, second) = slot_lens(page);
+        assert_eq!(rt; (first.min(second), first.max(second)), (*less, *more));
+    }
+}
+
+// What is left of a file in pages of so many bytes of content, cut to the first so many bytes of its own.
+fn cut_to(alloc: Global, file: &[u8], page_size: u16, size: u64) -> Result<Vec<u8>, Fail>
+    requires { IsPageSize (page_size + 12) }
+{
+    let mut disk = MemoryDisk::showing(alloc, file.to_vec(alloc)?)?;
+    let mut cache = CacheRef::new(alloc, page_size, 8);
+    let len = disk.as_bytes().len() as u64;
+    let recovery = Recovery::<Crc32>::open(alloc, &mut disk, &mut cache, len, 128)?;
+    let _cut = recovery.truncate(&mut disk, &mut cache, size)?;
+    Ok(disk.as_bytes().to_vec(alloc)?)
+}
+
+// The same, gone on with these bytes.
+fn cut_and_append(
+    alloc: Global,
+    file: &[u8],
+    page_size: u16,
+    size: u64,
+    bytes: &[u8],
+) -> Result<Vec<u8>, Fail>
+    requires { IsPageSize (page_size + 12) }
+{
+    let mut disk = MemoryDisk::showing(alloc, file.to_vec(alloc)?)?;
+    let mut cache = CacheRef::new(alloc, page_size, 8);
+    let len = disk.as_bytes().len() as u64;
+    let recovery = Recovery::<Crc32>::open(alloc, &mut disk, &mut cache, len, 128)?;
+    let cut: Writer<Crc32, Append> = recovery.truncate(&mut disk, &mut cache, size)?.into();
+    let (writer, _) = cut.append(&mut disk, &mut cache, bytes)?;
+    let _writer = writer.sync(&mut disk, &mut cache)?;
+    Ok(disk.as_bytes().to_vec(alloc)?)
+}
+
 #[test]
 fn sixty_bytes_and_four_more(rt: HostRuntime) -> Result<(), Fail> {
     let alloc = rt.alloc();
@@ -73,6 +120,10 @@ fn sixty_bytes_and_four_more(rt: HostRuntime) -> Result<(), Fail> {
     assert_eq!(rt; writer.size(), 64);
     assert_slots(&rt, disk.as_bytes(), 64, &[(52, 0), (8, 12)]);
     assert_eq!(rt; prefix_len::<Crc32>(disk.as_bytes(), 64), 64);
+    let file = cut_to(alloc, disk.as_bytes(), 52, 60)?;
+    assert_pages(&rt, &file, 64, &[(0, 52), (0, 8)]);
+    let file = cut_to(alloc, &file, 52, 52)?;
+    assert_pages(&rt, &file, 64, &[(0, 52)]);
     Ok(())
 }
 
@@ -105,8 +156,21 @@ fn a_page_that_is_filled_later(rt: HostRuntime) -> Result<(), Fail> {
     let writer = writer.sync(&mut disk, &mut cache)?;
     assert_eq!(rt; writer.size(), 104);
     assert_slots(&rt, disk.as_bytes(), 64, &[(52, 0), (1, 52)]);
+    let file = cut_to(alloc, disk.as_bytes(), 52, 52)?;
+    assert_pages(&rt, &file, 64, &[(0, 52)]);
     Ok(())
 }
+
+// A hundred bytes, and a hundred more.
+const FIRST: &str =
+    "e0580e9df5ccc568c2b4f5cb55cafad56e03d8f604ff2e188211c2d5e941a63dfd4ac362d2b5e31dbcf220b65fb6a965\
+     571e9ba03f5e5e4fc6013b33df073b6726a1469eaebb9e46a7abc53428eb610b0125e37309005fde0ad9f3fb4725c6f5\
+     dd6fc82f";
+
+const SECOND: &str =
+    "4e5dc0b39226bd00d8050adfbe1dfacbf6d1e6202e3554135e4da3785e15b2d1c30d3bd1e2fe40e68fe595102fc4554b\
+     a63fce219096e927b80fe044a54ac797e420ed6dd56acf89f5cf490376ef94fdfa3fca5f9bb754e5d4715e0a24675444\
+     6ac1b970";
 
 #[test]
 fn a_buffer_smaller_than_a_page(rt: HostRuntime) -> Result<(), Fail> {
@@ -114,27 +178,58 @@ fn a_buffer_smaller_than_a_page(rt: HostRuntime) -> Result<(), Fail> {
     let mut disk = MemoryDisk::new(alloc);
     let mut cache = CacheRef::new(alloc, 244, 8);
     let writer = Writer::<Crc32>::new(alloc, &disk, &mut cache, 128)?;
-    let first = spelled(
-        alloc,
-        "e0580e9df5ccc568c2b4f5cb55cafad56e03d8f604ff2e188211c2d5e941a63dfd4ac362d2b5e31dbcf220b65fb6a965\
-         571e9ba03f5e5e4fc6013b33df073b6726a1469eaebb9e46a7abc53428eb610b0125e37309005fde0ad9f3fb4725c6f5\
-         dd6fc82f",
-    )?;
+    let first = spelled(alloc, FIRST)?;
     let (writer, size) = writer.append(&mut disk, &mut cache, &first)?;
     assert_eq!(rt; size, 0);
     let writer = writer.sync(&mut disk, &mut cache)?;
     assert_slots(&rt, disk.as_bytes(), 256, &[(100, 0)]);
-    let second = spelled(
-        alloc,
-        "4e5dc0b39226bd00d8050adfbe1dfacbf6d1e6202e3554135e4da3785e15b2d1c30d3bd1e2fe40e68fe595102fc4554b\
-         a63fce219096e927b80fe044a54ac797e420ed6dd56acf89f5cf490376ef94fdfa3fca5f9bb754e5d4715e0a24675444\
-         6ac1b970",
-    )?;
+    let second = spelled(alloc, SECOND)?;
     let (writer, size) = writer.append(&mut disk, &mut cache, &second)?;
     assert_eq!(rt; size, 100);
     let writer = writer.sync(&mut disk, &mut cache)?;
     assert_eq!(rt; writer.size(), 200);
     assert_slots(&rt, disk.as_bytes(), 256, &[(100, 200)]);
+    Ok(())
+}
+
+// The file of a list to which these bytes were appended and synced, one after the other.
+fn appended_twice(
+    alloc: Global,
+    page_size: u16,
+    first: &[u8],
+    second: &[u8],
+) -> Result<Vec<u8>, Fail>
+    requires { IsPageSize (page_size + 12) }
+{
+    let mut disk = MemoryDisk::new(alloc);
+    let mut cache = CacheRef::new(alloc, page_size, 8);
+    let writer = Writer::<Crc32>::new(alloc, &disk, &mut cache, 128)?;
+    let (writer, _) = writer.append(&mut disk, &mut cache, first)?;
+    let writer = writer.sync(&mut disk, &mut cache)?;
+    let (writer, _) = writer.append(&mut disk, &mut cache, second)?;
+    let _writer = writer.sync(&mut disk, &mut cache)?;
+    Ok(disk.as_bytes().to_vec(alloc)?)
+}
+
+#[test]
+fn a_page_that_is_cut_and_goes_on(rt: HostRuntime) -> Result<(), Fail> {
+    let alloc = rt.alloc();
+    let file = appended_twice(
+        alloc,
+        244,
+        &spelled(alloc, FIRST)?,
+        &spelled(alloc, SECOND)?,
+    )?;
+    let cut = cut_to(alloc, &file, 244, 150)?;
+    assert_pages(&rt, &cut, 256, &[(0, 150)]);
+    let third = spelled(alloc, "15ff618d100fb4842eedd2ba61007f3046a802d0")?;
+    let longer = cut_and_append(alloc, &file, 244, 150, &third)?;
+    assert_pages(&rt, &longer, 256, &[(150, 170)]);
+    let expected = spelled(
+        alloc,
+        "8fe595102fc4554ba63f15ff618d100fb4842eedd2ba61007f3046a802d0",
+    )?;
+    assert_eq!(rt; longer.get(140..170), Some(expected.as_slice()));
     Ok(())
 }
 

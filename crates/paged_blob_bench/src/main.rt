@@ -1,0 +1,87 @@
+//! Measures what appending and syncing cost beside the checksums and one copy alone, and what a read of a kept page
+//! costs in a small and in a large list. It reads from standard input how many times each is done; standard output
+//! gets that number and a sum of the answers, standard error the processor time of one.
+#![tactic(auto)]
+
+mod work;
+
+use measurement::{measure, read_count, report_ratio};
+use std::alloc::Global;
+use std::io;
+use std::time::CpuClock;
+
+// How many times each is done where standard input gives no number.
+const DEFAULT_COUNT: u64 = 4;
+
+// How many bytes are appended.
+const APPENDED: usize = 4 << 20;
+
+// How many reads are measured at once.
+const READS: u64 = 100_000;
+
+fn measure_appends<R: Print + Eprint + CpuClock>(
+    rt: &R,
+    alloc: Global,
+    count: u64,
+) -> io::Result<()> {
+    let summed = measure(
+        rt,
+        "checksums of the pages of 4 MiB, and one copy",
+        count,
+        |_round| { work::summed_and_copied(alloc, APPENDED) },
+    )?;
+    let recorded = measure(
+        rt,
+        "the same, and what the blob in memory copies for its record",
+        count,
+        |_round| { work::summed_and_copied(alloc, APPENDED) ^ work::recorded(alloc, APPENDED) },
+    )?;
+    let appended = measure(
+        rt,
+        "4 MiB appended in pieces of 100 bytes, synced each MiB",
+        count,
+        |_round| { work::appended(alloc, APPENDED) },
+    )?;
+    report_ratio(rt, "appended over checksums and one copy", appended, summed)?;
+    report_ratio(
+        rt,
+        "appended over checksums, one copy and the record",
+        appended,
+        recorded,
+    )
+}
+
+// The time of as many reads as are measured at once, from a list of so many bytes.
+fn measure_reads<R: Print + Eprint + CpuClock>(
+    rt: &R,
+    alloc: Global,
+    name: &str,
+    size: usize,
+    count: u64,
+) -> io::Result<u64> {
+    let made = measure(rt, "the list alone", count, |_round| {
+        work::read(alloc, size, 0)
+    })?;
+    let read = measure(rt, name, count, |_round| work::read(alloc, size, READS))?;
+    Ok(read.saturating_sub(made))
+}
+
+fn main(rt: HostRuntime) -> io::Result<()> {
+    let count = read_count(&rt, rt.alloc(), DEFAULT_COUNT)?;
+    measure_appends(&rt, rt.alloc(), count)?;
+    let small = measure_reads(
+        &rt,
+        rt.alloc(),
+        "100,000 reads of 25 bytes from 64 KiB",
+        64 << 10,
+        count,
+    )?;
+    let large = measure_reads(
+        &rt,
+        rt.alloc(),
+        "100,000 reads of 25 bytes from 4 MiB",
+        4 << 20,
+        count,
+    )?;
+    report_ratio(&rt, "reads from 4 MiB over reads from 64 KiB", large, small)
+}
