@@ -17,7 +17,7 @@ const DEFAULT_COUNT: u64 = 4;
 const APPENDED: usize = 4 << 20;
 
 // How many reads are measured at once.
-const READS: u64 = 100_000;
+const READS: u64 = 5_000_000;
 
 fn measure_appends<R: Print + Eprint + CpuClock>(
     rt: &R,
@@ -28,13 +28,15 @@ fn measure_appends<R: Print + Eprint + CpuClock>(
         rt,
         "checksums of the pages of 4 MiB, and one copy",
         count,
-        |_round| { work::summed_and_copied(alloc, APPENDED) },
+        |round| { work::summed_and_copied(alloc, APPENDED, round) },
     )?;
     let recorded = measure(
         rt,
         "the same, and what the blob in memory copies for its record",
         count,
-        |_round| { work::summed_and_copied(alloc, APPENDED) ^ work::recorded(alloc, APPENDED) },
+        |round| {
+            work::summed_and_copied(alloc, APPENDED, round) ^ work::recorded(alloc, APPENDED)
+        },
     )?;
     let appended = measure(
         rt,
@@ -72,14 +74,14 @@ fn main(rt: HostRuntime) -> io::Result<()> {
     let small = measure_reads(
         &rt,
         rt.alloc(),
-        "100,000 reads of 25 bytes from 64 KiB",
+        "5,000,000 reads of 25 bytes from 64 KiB",
         64 << 10,
         count,
     )?;
     let large = measure_reads(
         &rt,
         rt.alloc(),
-        "100,000 reads of 25 bytes from 4 MiB",
+        "5,000,000 reads of 25 bytes from 4 MiB",
         4 << 20,
         count,
     )?;

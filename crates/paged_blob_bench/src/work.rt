@@ -8,7 +8,7 @@ ghost use Rattle.paged_blob.specs.Writers.{IsWriter, written};
 use fault_storage::{Checksum, Crc32};
 use paged_blob::bench::MemoryDisk;
 use paged_blob::{Blob, CacheRef, Error, Writer};
-use std::alloc::Global;
+use std::alloc::{AllocError, Global};
 
 // How many bytes of content a page of 4096 bytes has.
 const ROOM: usize = 4084;
@@ -63,7 +63,7 @@ fn append_pieces<B: Blob, C: Checksum>(
 // So many bytes, appended and synced on a new disk.
 fn try_append(alloc: Global, size: usize) -> Result<u64, Error> {
     let mut disk = MemoryDisk::new(alloc);
-    let mut cache = CacheRef::new(alloc, 4084, 1024);
+    let mut cache = CacheRef::new(alloc, 4084, 16);
     let writer = Writer::<Crc32>::new(alloc, &disk, &mut cache, 1 << 16)?;
     let writer = append_pieces(writer, &mut disk, &mut cache, size / 100)?;
     Ok(writer.size())
@@ -74,44 +74,44 @@ pub fn appended(alloc: Global, size: usize) -> u64 {
     try_append(alloc, size).unwrap_or(0)
 }
 
-/// The checksums of the pages of so many bytes, and one copy of these.
-pub fn summed_and_copied(alloc: Global, size: usize) -> u64 {
+/// The checksums of the pages of so many bytes, no two of which are equal, and one copy of these.
+pub fn summed_and_copied(alloc: Global, size: usize, round: u64) -> u64 {
     let Ok(mut copied) = Vec::with_capacity(alloc, size) else {
         return 0;
     };
-    let page = [7; ROOM];
-    let mut sum = 0u64;
-    for _ in 0..size / ROOM {
+    let mut page = [7; ROOM];
+    let mut sum = round;
+    for k in 0..size / ROOM {
+        page[0] = (k % 256) as u8;
+        page[1] = (sum % 256) as u8;
         sum = sum.rotate_left(1) ^ u64::from(Crc32::checksum(&page));
         let _ = copied.extend_from_slice(&page);
     }
     sum ^ copied.len() as u64
 }
 
-// A copy of so many first bytes: its length.
-fn copied(alloc: Global, bytes: &[u8], len: usize) -> u64 {
-    match bytes.get(..len) {
-        Some(part) => match part.to_vec(alloc) {
-            Ok(copy) => copy.len() as u64,
-            Err(_) => 0,
-        },
-        None => 0,
+// What the blob in memory copies of so many bytes in flushes of 64 KiB, synced each MiB: each flush into its file and
+// into its record, and all of the file at each sync. All of it is kept, as there.
+fn try_record(alloc: Global, size: usize) -> Result<u64, AllocError> {
+    let flushed = vec![in alloc; 7u8; 1 << 16]?;
+    let mut file = Vec::new(alloc);
+    let mut record = Vec::new(alloc);
+    for k in 0..size >> 16 {
+        record.push(flushed.to_vec(alloc)?)?;
+        file.extend_from_slice(&flushed)?;
+        if k % 16 == 15 {
+            record.push(file.to_vec(alloc)?)?;
+        }
     }
+    Ok(record.len() as u64 ^ file.len() as u64)
 }
 
-/// What the blob in memory copies beside: each page into its file, and all of the file at each sync.
+/// What the blob in memory copies of so many bytes: how often, and how many there are.
 pub fn recorded(alloc: Global, size: usize) -> u64 {
-    let Ok(bytes) = vec![in alloc; 7u8; size] else {
-        return 0;
-    };
-    let mut sum = copied(alloc, &bytes, size);
-    for k in 1..=size / (1 << 20) {
-        sum = sum.rotate_left(1) ^ copied(alloc, &bytes, k.saturating_mul(1 << 20));
-    }
-    sum
+    try_record(alloc, size).unwrap_or(0)
 }
 
-// Reads so many times 25 bytes from the beginning.
+// Reads so many times 25 bytes of the last page but one.
 fn read_often<B: Blob, C: Checksum>(
     writer: &Writer<C>,
     disk: &mut B,
@@ -123,9 +123,10 @@ fn read_often<B: Blob, C: Checksum>(
     requires cached { HoldsPagesOf (written C.checksum_of (B.calls disk.old) writer.now) cache.old writer.now.blob_id }
 {
     let mut buffer = [0; 25];
+    let offset = writer.size().saturating_sub(8000);
     let mut sum = 0u64;
     for _ in 0..count {
-        if writer.read_into(disk, cache, &mut buffer, 0).is_ok() {
+        if writer.read_into(disk, cache, &mut buffer, offset).is_ok() {
             sum = sum.rotate_left(1) ^ u64::from(buffer[0]);
         }
     }
@@ -135,7 +136,7 @@ fn read_often<B: Blob, C: Checksum>(
 // So many bytes on a new disk, of which 25 are read so many times.
 fn try_read(alloc: Global, size: usize, count: u64) -> Result<u64, Error> {
     let mut disk = MemoryDisk::new(alloc);
-    let mut cache = CacheRef::new(alloc, 4084, 64);
+    let mut cache = CacheRef::new(alloc, 4084, 16);
     let writer = Writer::<Crc32>::new(alloc, &disk, &mut cache, 1 << 16)?;
     let writer = append_pieces(writer, &mut disk, &mut cache, size / 100)?;
     Ok(read_often(&writer, &mut disk, &mut cache, count))
