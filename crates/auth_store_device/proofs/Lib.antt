@@ -1,0 +1,5 @@
+pub mod Bytes
+pub mod Outcomes
+pub mod Places
+pub mod Reached
+pub mod Steps
