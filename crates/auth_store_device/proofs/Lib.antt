@@ -1,4 +1,6 @@
 pub mod Bytes
+pub mod Carried
+pub mod Changes
 pub mod Outcomes
 pub mod Places
 pub mod Reached

@@ -71,3 +71,9 @@ pub record IsHandleOf (store : Store) (file : File) (handle : Handle) : Type 0 w
   pub offset : handle.offset ≡ 8
   pub headed : HasHeader handle.live
   pub live : IsLive file (behind_header handle.live)
+
+-- the log is open by this handle, in a store that stands to the blob's file
+pub record IsOpenLog (store : Store) (file : File) (handle : Handle) : Type 0 where
+  pub orderly : IsOrderly store
+  pub stands : Stands file (log_of store)
+  pub opened : IsHandleOf store file handle

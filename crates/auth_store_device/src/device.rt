@@ -1,16 +1,24 @@
 //! The device.
 
-ghost use Rattle.std.specs.Prelude.{◌≡◌, ◌+◌, ◌<◌, ◌∷◌, [], None, Some, true, IfOk, IfErr, OnOk, OnErr, is_none, drop};
+ghost use Rattle.std.specs.Prelude.{◌≡◌, ◌+◌, ◌-◌, ◌<◌, ◌^◌, length, Err, ◌∷◌, [], None, Some, true, IfOk, IfErr, OnOk, OnErr, is_none, drop};
 ghost use Rattle.rand_core.specs.Stream.{Stream};
 ghost use Rattle.fault_storage.specs.Stores.{crashed_store};
 ghost use Rattle.fault_storage.specs.Directory.{has_partition};
-ghost use Rattle.paged_blob.specs.Calls.{synced};
+ghost use Rattle.fault_storage_parts.specs.declared.error.Call.{Call};
+ghost use Rattle.fault_storage.specs.Changes.{FaultyWrites, FaultyResizes};
+ghost use Rattle.fault_storage.specs.Directory.{MemoryReads, MemorySyncs};
+ghost use Rattle.fault_storage.specs.Faults.{IsFaultyCall};
+ghost use Rattle.paged_blob.specs.Answers.{Records, RecordsSync, failures_after, IsCause, IsReadCause, IsSlice};
+ghost use Rattle.paged_blob.specs.Calls.{synced, wrote, resized_to, file_of};
+ghost use Rattle.paged_blob.specs.WriteModes.{is_sync};
+ghost use Rattle.paged_blob.specs.declared.error.CallKind.{CallKind};
+ghost use Rattle.auth_store_device.specs.Devices.{left_after};
 ghost use Rattle.auth_store_device.specs.Logs.{log_partition, has_log, behind_header, durable_log};
 ghost use Rattle.paged_blob.specs.Recorded.{calls_of};
 
-use crate::error::OpenError;
+use crate::log::{read_log, resize_log, sync_log, write_log};
 use fault_storage::{Config, Error as StorageError, faulty, memory};
-use paged_blob::Recorded;
+use paged_blob::{Blob, Error, Recorded, WriteMode};
 use rand_core::Rng;
 use std::alloc::{AllocError, Global};
 use std::marker::Model;
@@ -55,7 +63,7 @@ impl<R: Rng> Model for Device<R> {
 }
 
 // A copy of the bytes behind a header of eight. It fails only when out of memory.
-fn copy_behind_header(alloc: Global, bytes: &[u8]) -> Result<Vec<u8>, AllocError>
+pub(crate) fn copy_behind_header(alloc: Global, bytes: &[u8]) -> Result<Vec<u8>, AllocError>
     ensures { IfOk result (λ copy. copy.items ≡ drop 8 bytes.now) }
 {
     if bytes.len() < 8 {
@@ -158,5 +166,127 @@ impl<R: Rng + Drop> Device<R> {
             return;
         }
         self.left = Some(calls);
+    }
+}
+
+// How many calls are left after one that was let through. One that counts as not made uses none up.
+fn left_after<T>(answer: &Result<T, Error>, left: Option<u64>) -> Option<u64>
+    ensures { result ≡ left_after answer.now left }
+{
+    match answer {
+        Err(Error::NumberEnded) => left,
+        Err(Error::Memory) => left,
+        _ => left.map(|calls| calls.saturating_sub(1)),
+    }
+}
+
+impl<R: Rng + Drop> Device<R> {
+    ghost use Rattle.auth_store_device.specs.Devices.{HasEnded, IsStopped};
+
+    // Refuses a call where a count has ended or the power is cut.
+    fn stop(&mut self) -> Result<(), Error>
+        ensures ok { OnOk result ((self.new ≡ self.old) × (self.old.storage.injections < 2 ^ 64 - 1) × (self.old.refused < 2 ^ 64 - 1)
+            × (self.old.left ≡ Some 0 → ⊥)) }
+        ensures err { OnErr result (IsStopped self.old result self.new) }
+    {
+        if self.storage.injections() == u64::MAX {
+            return Err(Error::NumberEnded);
+        }
+        if self.refused == u64::MAX {
+            return Err(Error::NumberEnded);
+        }
+        if self.left == Some(0) {
+            self.refused += 1;
+            return Err(Error::PowerCut);
+        }
+        Ok(())
+    }
+}
+
+impl<R: Rng + Drop> Blob for Device<R> {
+    ghost use Rattle.auth_store_device.specs.Devices.{IsDeviceCall, mode_below, failures_of};
+
+    ghost calls = { λ d. d.calls };
+
+    ghost failures = { failures_of };
+
+    /// So many bytes from an offset on. F8: a count has ended; F10; F1: no opening stands; F9; F6; F7: they are not all
+    /// there.
+    fn read_at(&mut self, _alloc: Global, offset: u64, len: usize) -> Result<Vec<u8>, Error>
+        ensures slice { IfOk result (λ bytes. IsSlice (file_of self.old.calls) offset len bytes.items) }
+        ensures cause { IfErr result (IsReadCause (failures_of self.old) (file_of self.old.calls) offset len) }
+        ensures calls { self.new.calls ≡ self.old.calls }
+        ensures failures { failures_of self.new ≡ failures_after result (failures_of self.old) }
+        ensures device { IsDeviceCall CallKind.Read (λ blob below answer changed left. (changed ≡ blob) × IsFaultyCall (R.stream) Call.Read
+            below.config.read (MemoryReads blob.inner offset len) below answer left) self.old result self.new }
+    {
+        self.stop()?;
+        let Some(log) = &self.log else {
+            return Err(Error::BlobMissing);
+        };
+        let answer = read_log(&mut self.storage, log, offset, len);
+        self.left = left_after(&answer, self.left);
+        answer
+    }
+
+    /// Makes the log durable. F8: a count has ended; F10; F1: no opening stands; F9; F6.
+    fn sync(&mut self) -> Result<(), Error>
+        ensures calls { RecordsSync result self.old.calls self.new.calls }
+        ensures cause { IfErr result (IsCause (failures_of self.old) CallKind.Sync 0) }
+        ensures failures { failures_of self.new ≡ failures_after result (failures_of self.old) }
+        ensures device { IsDeviceCall CallKind.Sync (λ blob below answer changed left. (changed ≡ blob) × IsFaultyCall (R.stream) Call.Sync
+            below.config.sync (MemorySyncs blob.inner) below answer left) self.old result self.new }
+    {
+        self.stop()?;
+        let Some(log) = &self.log else {
+            return Err(Error::BlobMissing);
+        };
+        let answer = sync_log(self.alloc, &mut self.storage, log, &mut self.record_kept);
+        self.left = left_after(&answer, self.left);
+        answer
+    }
+
+    /// Writes bytes at an offset, with zeros in a gap before them. F8: a count has ended, or their end would pass a u64;
+    /// F10; F1: no opening stands; F9; F6.
+    fn write_at(&mut self, offset: u64, bytes: &[u8], mode: WriteMode) -> Result<(), Error>
+        ensures calls { Records result (wrote offset bytes.now (is_sync mode)) self.old.calls self.new.calls }
+        ensures cause { IfErr result (IsCause (failures_of self.old) CallKind.Write (offset + length bytes.now)) }
+        ensures failures { failures_of self.new ≡ failures_after result (failures_of self.old) }
+        ensures device { IsDeviceCall CallKind.Write (λ blob below answer changed left. FaultyWrites (R.stream) blob offset bytes.now
+            (mode_below bytes.now mode) below answer changed left) self.old result self.new }
+    {
+        self.stop()?;
+        let Some(log) = &mut self.log else {
+            return Err(Error::BlobMissing);
+        };
+        let answer = write_log(
+            self.alloc,
+            &mut self.storage,
+            log,
+            &mut self.record_kept,
+            offset,
+            bytes,
+            mode,
+        );
+        self.left = left_after(&answer, self.left);
+        answer
+    }
+
+    /// Cuts the log to a length, or grows it to that by zeros. F8: a count has ended, or its end would pass a u64; F10;
+    /// F1: no opening stands; F9; F6.
+    fn resize(&mut self, len: u64) -> Result<(), Error>
+        ensures calls { Records result (resized_to len) self.old.calls self.new.calls }
+        ensures cause { IfErr result (IsCause (failures_of self.old) CallKind.Resize len) }
+        ensures failures { failures_of self.new ≡ failures_after result (failures_of self.old) }
+        ensures device { IsDeviceCall CallKind.Resize (λ blob below answer changed left. FaultyResizes (R.stream) blob len below answer changed left)
+            self.old result self.new }
+    {
+        self.stop()?;
+        let Some(log) = &mut self.log else {
+            return Err(Error::BlobMissing);
+        };
+        let answer = resize_log(&mut self.storage, log, &mut self.record_kept, len);
+        self.left = left_after(&answer, self.left);
+        answer
     }
 }

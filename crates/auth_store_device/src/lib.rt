@@ -4,6 +4,7 @@
 
 pub mod device;
 pub mod error;
+pub mod log;
 
 pub use device::Device;
 pub use error::OpenError;
