@@ -137,6 +137,16 @@ impl<R: Rng> Storage<memory::Storage, R> {
     }
 }
 
+impl<R: Rng> Storage<memory::Storage, R> {
+    /// Makes these bytes, the header first, the base of the blob's file, and forgets its mutations: as `admit` does, of a blob that is
+    /// open, with bytes for which there was room. No word is taken (own).
+    pub fn admit_shown(&mut self, blob: &Blob<memory::Blob>, bytes: Vec<u8>)
+        ensures { self.new ≡ record self.old { inner = published blob.now.inner.number bytes.items self.old.inner } }
+    {
+        blob.inner.publish(&mut self.inner, bytes);
+    }
+}
+
 impl<R: Rng> crate::storage::Storage for Storage<memory::Storage, R> {
     type Blob = Blob<memory::Blob>;
 

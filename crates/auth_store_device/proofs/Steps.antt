@@ -1,0 +1,85 @@
+-- How a device is carried on by each call.
+use Rattle.std.proofs.Common.{◌≡◌, ℕ, ◌+◌, ◌<◌, ◌≤◌, Bool, true, false, Option, Some, None, List, [], ◌∷◌, ◌++◌, length, take, drop, sym, ◌∙◌, ap, subst, refl, arith}
+use Rattle.std.specs.Prelude.{IfSome, ◌⊎◌}
+use Rattle.std.proofs.Common.{inl, inr}
+use Rattle.std.proofs.lemmas.Bool.{both_ways, false_from_ne_true}
+use Rattle.rand_core.specs.Stream.{Stream}
+use Rattle.fault_storage_parts.specs.Files as files
+use Rattle.fault_storage_parts.specs.Files.{ArePast, IsLeftOf, durable_bytes}
+use Rattle.fault_storage.specs.declared.faulty.Blob.{Blob}
+use Rattle.fault_storage.specs.declared.faulty.Storage.{Storage}
+use Rattle.fault_storage.specs.Stores.{Store, Handle, AreLeftOf, crashed_store}
+use Rattle.fault_storage.specs.Directory.{has_partition, LacksName}
+use Rattle.fault_storage_parts.specs.declared.error.Error.{Error}
+use Rattle.fault_storage_parts.specs.declared.error.Error.TheVariants.{PartitionMissing, BlobMissing, Memory}
+use Rattle.fault_storage.proofs.Leaving.{crash-leaves}
+use Rattle.paged_blob.specs.Calls.{Call, synced, File, file_of}
+use Rattle.paged_blob.specs.Images.{IsReached}
+use Rattle.auth_store_device.specs.Logs.{IsOrderly, IsHandleOf, are_numbered, log_partition, log_name, has_log, log_of, durable_log, behind_header, HasHeader, Stands}
+use Rattle.auth_store_device.specs.Devices.{DeviceState, IsDevice, IsSettled}
+use Rattle.auth_store_device.proofs.Reached.{reached_base}
+use Rattle.auth_store_device.proofs.Places.{file-none, file-left, has-left, numbered-left}
+use Rattle.auth_store_device.proofs.Outcomes.{left-left, left-headed, past-drop}
+
+-- what choices left of each file is as orderly
+pub orderly_left : (store left : Store) → AreLeftOf store.files left.files → left.next ≡ store.next → left.partitions ≡ store.partitions
+    → IsOrderly store → IsOrderly left
+orderly_left store left by numbers listed o =
+    let file = file-left store.files left.files by in
+    let has = has-left store.files left.files by in
+    record {
+      numbered = ap (λ n. are_numbered n left.files) numbers ∙ numbered-left store.next store.files left.files by ∙ o.numbered;
+      listed = λ there. ap (has_partition log_partition) listed ∙ o.listed (sym has ∙ there);
+      headed = λ there. left-headed (log_of store).base (log_of left).base (log_of store).log (log_of left).log file o.past (o.headed (sym has ∙ there));
+      past = subst (ArePast 8) (sym file.rest) (past-drop 8 (length file.choices) (log_of store).log o.past);
+    }
+
+pub stands_left : (file : File) (log left : files.File) → IsLeftOf log.base log.log left.base left.log → Stands file log → Stands file left
+stands_left file log left by s = record { each = λ last is. s.each last (left-left log.base left.base last log.log left.log [] by is) }
+
+module _ {R : Type 0} where
+  -- a crash of a closed device
+  pub crashed : (old new : DeviceState R) (words after : Stream) → ◌≡◌ {A = Store × Stream} (new.storage.inner, after) (crashed_store old.storage.inner words)
+      → old.log ≡ None → new.log ≡ old.log → new.calls ≡ old.calls → new.refused ≡ 0 → IsDevice old → IsDevice new
+  crashed old new words after is closed log calls none d =
+      let store = old.storage.inner in
+      let left = new.storage.inner in
+      let by : AreLeftOf store.files left.files =
+      subst (AreLeftOf store.files) (sym (ap (λ (p : Store × Stream). p.0.files) is)) (crash-leaves store.files store.order words) in
+      record {
+        orderly = orderly_left store left by (ap (λ (p : Store × Stream). p.0.next) is) (ap (λ (p : Store × Stream). p.0.partitions) is) d.orderly;
+        stands = subst (λ c. Stands (file_of c) (log_of left)) (sym calls)
+            (stands_left (file_of old.calls) (log_of store) (log_of left) (file-left store.files left.files by) d.stands);
+        handle = subst (λ l. IfSome l (λ log. IsHandleOf left (file_of new.calls) log.inner)) (sym (log ∙ closed)) tt;
+        cut = λ some. absurd (omega (arith, some, none));
+      }
+
+-- a file of which nothing is pending, whose bytes are the base
+pub stands_base : (log : files.File) → log.log ≡ [] → Stands (file_of (synced (behind_header (durable_bytes log.base log.log)) true ∷ [])) log
+stands_base log none =
+    record {
+      each = λ left is.
+          let now : left ≡ durable_bytes log.base log.log = is.is ∙ ap (files.left_by is.choices log.base) none
+          ∙ sym (ap (durable_bytes log.base) none) in
+          subst (λ (b : List ℕ). IsReached (file_of (synced (behind_header (durable_bytes log.base log.log)) true ∷ [])) (behind_header b)) (sym now)
+          (reached_base (behind_header (durable_bytes log.base log.log)) false);
+    }
+
+-- where there is no log, nothing is behind its header
+pub nothing_behind : (store : Store) → has_log store ≡ false → [] ≡ behind_header (durable_log store)
+nothing_behind store none = ap (λ (log : files.File). behind_header (durable_bytes log.base log.log)) (sym (file-none store.files none))
+
+-- where the store refuses the log as one that is not there, it is not there
+pub lacks_partition : (store : Store) (e : Error) → (has_log store ≡ true → has_partition log_partition store.partitions ≡ true)
+    → LacksName log_partition log_name store e ⊎ (e ≡ Memory) → e ≡ PartitionMissing → has_log store ≡ false
+lacks_partition store e listed (inl (inl (inl (is, valid)))) missing = cc
+lacks_partition store e listed (inl (inl (inr (is, valid, none)))) missing =
+    false_from_ne_true _ (λ there. both_ways _ none (listed there))
+lacks_partition store e listed (inl (inr (is, valid, some, none))) missing = none
+lacks_partition store e listed (inr is) missing = cc
+
+pub lacks_blob : (store : Store) (e : Error) → LacksName log_partition log_name store e ⊎ (e ≡ Memory) → e ≡ BlobMissing → has_log store ≡ false
+lacks_blob store e (inl (inl (inl (is, valid)))) missing = cc
+lacks_blob store e (inl (inl (inr (is, valid, none)))) missing = cc
+lacks_blob store e (inl (inr (is, valid, some, none))) missing = none
+lacks_blob store e (inr is) missing = cc

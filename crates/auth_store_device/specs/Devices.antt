@@ -1,0 +1,130 @@
+-- The device: a log of the store that fails, the calls that were made of it, and a cut of the power.
+use Rattle.std.specs.Prelude.{◌≡◌, ℕ, ◌+◌, ◌-◌, ◌<◌, ◌^◌, ◌==◌, Bool, true, if◌then◌else◌, ◌⊎◌, Option, Some, None, is_some, IfSome, Result, Ok, Err, List, [], ◌∷◌}
+use Rattle.fault_storage_parts.specs.declared.error.Error.{Error as StorageError}
+use Rattle.fault_storage_parts.specs.declared.error.Error.TheVariants.{
+  BlobMissing,
+  PartitionMissing,
+  PartitionNameInvalid,
+  AlreadyOpen,
+  Header,
+  Injected,
+  BlobInsufficientLength,
+  NumberEnded,
+  Memory,
+}
+use Rattle.fault_storage.specs.declared.faulty.Blob.{Blob}
+use Rattle.fault_storage.specs.declared.faulty.Storage.{Storage}
+use Rattle.fault_storage.specs.declared.storage.WriteMode.{WriteMode}
+use Rattle.fault_storage.specs.declared.storage.WriteMode.TheVariants.{Plain, Sync}
+use Rattle.fault_storage.specs.Stores.{Store, Handle}
+use Rattle.paged_blob.specs.Answers.{Failures}
+use Rattle.paged_blob.specs.Calls.{Call, file_of}
+use Rattle.paged_blob.specs.declared.blob.WriteMode as blob
+use Rattle.paged_blob.specs.declared.blob.WriteMode.TheVariants as blobs
+use Rattle.paged_blob.specs.declared.error.CallKind.{CallKind}
+use Rattle.paged_blob.specs.declared.error.Error.{Error}
+use Rattle.paged_blob.specs.declared.error.Error.TheVariants as refusals
+use Rattle.auth_store_device.specs.declared.log.Told.{Told}
+use Rattle.auth_store_device.specs.declared.log.Told.TheVariants.{Made, Failed, Ended, Unmade}
+use Rattle.auth_store_device.specs.Logs.{IsOrderly, log_of, has_log, durable_log, Stands, IsHandleOf}
+
+-- A device: the store below, the open log, the calls so far, the newest first, how many more the power lasts for, where a cut was asked
+-- for, and how many were refused since the last crash.
+pub record DeviceState (R : Type 0) : Type 0 where
+  pub storage : Storage Store R
+  pub log : Option (Blob Handle)
+  pub calls : List Call
+  pub left : Option ℕ
+  pub refused : ℕ
+
+-- what is true of each device
+pub record IsDevice {R : Type 0} (state : DeviceState R) : Type 0 where
+  pub orderly : IsOrderly state.storage.inner
+  pub stands : Stands (file_of state.calls) (log_of state.storage.inner)
+  pub handle : IfSome state.log (λ log. IsHandleOf state.storage.inner (file_of state.calls) log.inner)
+  pub cut : 0 < state.refused → state.left ≡ Some 0
+
+-- the store has no mutation of the log that is pending
+pub record IsSettled (store : Store) : Type 0 where
+  pub orderly : IsOrderly store
+  pub settled : (log_of store).log ≡ []
+
+-- how many calls are left where n were to be let through, unless a cut stands
+abbrev pub after_asking : ℕ → Option ℕ → Option ℕ
+after_asking n (Some left) = if left == 0 then Some 0 else Some n
+after_asking n None = Some n
+
+-- what the store answered a change of the log, or a sync: it was made, a fault was injected, or it counts as not made
+abbrev pub told_of : {T : Type 0} → Result T StorageError → Told
+told_of (Ok _) = Made
+told_of (Err (Injected call)) = Failed
+told_of (Err NumberEnded) = Ended
+told_of (Err Memory) = Unmade
+told_of (Err BlobMissing) = Unmade
+told_of (Err PartitionMissing) = Unmade
+told_of (Err PartitionNameInvalid) = Unmade
+told_of (Err AlreadyOpen) = Unmade
+told_of (Err (Header fault)) = Unmade
+told_of (Err BlobInsufficientLength) = Unmade
+
+-- the mode in which a write reaches the store: an empty one makes nothing durable, and is a plain one
+abbrev pub mode_below : List ℕ → blob.WriteMode → WriteMode
+mode_below bytes blobs.Plain = Plain
+mode_below [] blobs.Sync = Plain
+mode_below (byte ∷ bytes) blobs.Sync = Sync
+
+-- what the store refused, as a blob of this kind of call refuses it
+abbrev pub refusal_of : CallKind → StorageError → Error
+refusal_of kind (Injected call) = refusals.Injected kind
+refusal_of kind NumberEnded = refusals.NumberEnded
+refusal_of kind Memory = refusals.Memory
+refusal_of kind BlobInsufficientLength = refusals.BlobInsufficientLength
+refusal_of kind BlobMissing = refusals.BlobMissing
+refusal_of kind PartitionMissing = refusals.BlobMissing
+refusal_of kind PartitionNameInvalid = refusals.BlobMissing
+refusal_of kind AlreadyOpen = refusals.BlobMissing
+refusal_of kind (Header fault) = refusals.BlobMissing
+
+abbrev pub answer_of : {T : Type 0} → CallKind → Result T StorageError → Result T Error
+answer_of kind (Ok value) = Ok value
+answer_of kind (Err e) = Err (refusal_of kind e)
+
+-- The call is that of the store, with its answer; or there was no room for its record, and nothing has changed.
+abbrev pub Passes : {R T : Type 0} → CallKind → (Blob Handle → Storage Store R → Result T StorageError → Blob Handle → Storage Store R → Type 0)
+    → Blob Handle → Storage Store R → Result T Error → Blob Handle → Storage Store R → Type 0
+Passes {T = T} kind Answers log storage result log_now storage_now =
+    ((result ≡ Err refusals.Memory) × (log_now ≡ log) × (storage_now ≡ storage))
+    ⊎ ((answer : Result T StorageError) × Answers log storage answer log_now storage_now × (result ≡ answer_of kind answer))
+
+-- how many calls are left after one that was let through; one that counts as not made uses none up
+abbrev pub one_less : Option ℕ → Option ℕ
+one_less None = None
+one_less (Some left) = Some (left - 1)
+
+abbrev pub left_after : {T : Type 0} → Result T Error → Option ℕ → Option ℕ
+left_after (Err refusals.NumberEnded) left = left
+left_after (Err refusals.Memory) left = left
+left_after result left = one_less left
+
+-- what has refused calls of it so far
+abbrev pub failures_of : {R : Type 0} → DeviceState R → Failures
+failures_of state = record { injected = state.storage.injections; refused = state.refused; is_open = is_some state.log }
+
+-- one of the counts stands at its last value
+abbrev pub HasEnded : {R : Type 0} → DeviceState R → Type 0
+HasEnded state = (state.storage.injections ≡ 2 ^ 64 - 1) ⊎ (state.refused ≡ 2 ^ 64 - 1)
+
+-- A call before it reaches the store: where a count has ended it is not made; under a cut it is refused, and that is counted.
+abbrev pub IsStopped : {R T : Type 0} → DeviceState R → Result T Error → DeviceState R → Type 0
+IsStopped old result new =
+    (HasEnded old × (result ≡ Err refusals.NumberEnded) × (new ≡ old))
+    ⊎ ((old.left ≡ Some 0) × (result ≡ Err refusals.PowerCut) × (new ≡ record old { refused = old.refused + 1 }))
+
+-- A call of the device: it is stopped, or the log is not open, or it is the store's own.
+abbrev pub IsDeviceCall : {R T : Type 0} → CallKind → (Blob Handle → Storage Store R → Result T StorageError → Blob Handle → Storage Store R → Type 0)
+    → DeviceState R → Result T Error → DeviceState R → Type 0
+IsDeviceCall kind Answers old result new =
+    IsStopped old result new
+    ⊎ ((old.log ≡ None) × (result ≡ Err refusals.BlobMissing) × (new ≡ old))
+    ⊎ ((old.left ≡ Some 0 → ⊥) × (new.left ≡ left_after result old.left) × (new.refused ≡ old.refused)
+    × ((log : Blob Handle) × (now : Blob Handle) × (old.log ≡ Some log) × (new.log ≡ Some now) × Passes kind Answers log old.storage result now new.storage))

@@ -1,0 +1,79 @@
+-- The device's log: one file of the store, whose bytes behind the header are those of a blob.
+use Rattle.std.specs.Prelude.{◌≡◌, ⊤, ℕ, ◌+◌, ◌≤◌, Bool, true, false, not, ◌&&◌, nat_lt, List, [], ◌∷◌, length, take, drop}
+use Rattle.std.specs.List.{list_any}
+use Rattle.fault_storage.specs.declared.stored.StoredFile.{StoredFile}
+use Rattle.fault_storage_parts.specs.declared.header.Layout.TheVariants.{V0}
+use Rattle.fault_storage_parts.specs.Files.{Mutation, ArePast, IsLeftOf, durable_bytes}
+use Rattle.fault_storage_parts.specs.Files as files
+use Rattle.fault_storage_parts.specs.Headers.{magic_of}
+use Rattle.fault_storage.specs.Stores.{Store, Handle, file_with, has_number}
+use Rattle.fault_storage.specs.Directory.{has_name, has_partition}
+use Rattle.paged_blob.specs.Calls.{File}
+use Rattle.paged_blob.specs.Images.{IsReached, IsLive}
+
+-- the partition `store`, and in it the name `log`
+abbrev pub log_partition : List ℕ
+log_partition = 115 ∷ 116 ∷ 111 ∷ 114 ∷ 101 ∷ []
+
+abbrev pub log_name : List ℕ
+log_name = 108 ∷ 111 ∷ 103 ∷ []
+
+abbrev pub is_log : StoredFile → Bool
+is_log = has_name log_partition log_name
+
+abbrev pub has_log : Store → Bool
+has_log store = list_any is_log store.files
+
+-- the file, or an empty one where there is none
+abbrev pub log_of : Store → files.File
+log_of store = file_with is_log store.files
+
+-- what is durable of it, the header first
+abbrev pub durable_log : Store → List ℕ
+durable_log store = durable_bytes (log_of store).base (log_of store).log
+
+-- bytes behind a header of eight
+abbrev pub behind_header : List ℕ → List ℕ
+behind_header bytes = drop 8 bytes
+
+-- the bytes begin with a header of the layout that has eight bytes
+pub record HasHeader (bytes : List ℕ) : Type 0 where
+  pub long : 8 ≤ length bytes
+  pub magic : take 4 bytes ≡ magic_of V0
+
+-- none of the numbers stands twice, and all are below the next one
+abbrev pub are_numbered : ℕ → List StoredFile → Bool
+are_numbered next [] = true
+are_numbered next (stored ∷ later) =
+    nat_lt stored.number next && (not (list_any (has_number stored.number) later) && are_numbered next later)
+
+-- the first file that passes one test is the first that passes the other
+abbrev pub IsFirst : (StoredFile → Bool) → (StoredFile → Bool) → List StoredFile → Type 0
+IsFirst test other [] = ⊤
+IsFirst test other (stored ∷ later) = (test stored ≡ other stored) × (other stored ≡ false → IsFirst test other later)
+
+-- Its numbers are those of one file each, and the log, where it is there, is in its partition and has a header that no mutation
+-- reaches.
+pub record IsOrderly (store : Store) : Type 0 where
+  pub numbered : are_numbered store.next store.files ≡ true
+  pub listed : has_log store ≡ true → has_partition log_partition store.partitions ≡ true
+  pub headed : has_log store ≡ true → HasHeader (log_of store).base
+  pub past : ArePast 8 (log_of store).log
+
+-- each outcome of a crash of the log is, behind the header, an image of the blob that a crash may leave
+pub record Stands (file : File) (log : files.File) : Type 0 where
+  pub each : (left : List ℕ) → IsLeftOf log.base log.log left [] → IsReached file (behind_header left)
+
+-- the handle is one of the log, and shows bytes that a read of the blob may find
+pub record IsHandleOf (store : Store) (file : File) (handle : Handle) : Type 0 where
+  pub there : has_log store ≡ true
+  pub first : IsFirst (has_number handle.number) is_log store.files
+  pub offset : handle.offset ≡ 8
+  pub headed : HasHeader handle.live
+  pub live : IsLive file (behind_header handle.live)
+
+-- the log is open by this handle, in a store that stands to the blob's file
+pub record IsOpenLog (store : Store) (file : File) (handle : Handle) : Type 0 where
+  pub orderly : IsOrderly store
+  pub stands : Stands file (log_of store)
+  pub opened : IsHandleOf store file handle

@@ -1,0 +1,227 @@
+//! The calls of the open log, each of which is recorded.
+
+ghost use Rattle.std.specs.Prelude.{◌≡◌, ◌+◌, ◌-◌, ◌<◌, ◌^◌, ◌∷◌, ℕ, Bool, List, IfOk, IfErr, true, length, drop};
+ghost use Rattle.std.specs.Vec.{vec_len, vec_capacity};
+ghost use Rattle.fault_storage_parts.specs.declared.error.Call.TheVariants.{Read, Sync};
+ghost use Rattle.fault_storage.specs.Changes.{FaultyWrites, FaultyResizes};
+ghost use Rattle.fault_storage.specs.Directory.{MemoryReads, MemorySyncs};
+ghost use Rattle.fault_storage.specs.Faults.{IsFaultyCall};
+ghost use Rattle.paged_blob.specs.Answers.{Records, RecordsSync, Failures, failures_after, IsCause, IsReadCause, IsSlice};
+ghost use Rattle.fault_storage.specs.Stores.{is_there};
+ghost use Rattle.paged_blob.specs.Calls.{File, wrote, resized_to, file_of};
+ghost use Rattle.paged_blob.specs.Recorded.{call_of, calls_of};
+ghost use Rattle.paged_blob.specs.WriteModes.{is_sync};
+ghost use Rattle.paged_blob.specs.declared.error.CallKind.{CallKind};
+ghost use Rattle.auth_store_device.specs.Devices.{Passes, mode_below, refusal_of};
+ghost use Rattle.auth_store_device.specs.Logs.{IsOpenLog};
+
+use crate::device::copy_behind_header;
+use fault_storage::storage::Blob as _;
+use fault_storage::{Error as StorageError, WriteMode as StorageMode, faulty, memory};
+use paged_blob::{CallKind, Error, Recorded, WriteMode};
+use rand_core::Rng;
+use std::alloc::{AllocError, Global};
+
+/// What the store answered a change of the log, or a sync of it.
+#[derive(Clone, Copy, Debug, PartialEq, Eq)]
+pub enum Told {
+    /// It was made.
+    Made,
+    /// A fault was injected.
+    Failed,
+    /// It counts as not made: a number would pass its type.
+    Ended,
+    /// It counts as not made for another reason.
+    Unmade,
+}
+
+impl Told {
+    ghost use Rattle.auth_store_device.specs.Devices.{told_of};
+
+    // What the answer says.
+    fn of(answer: Result<(), StorageError>) -> Told
+        ensures { result ≡ told_of answer }
+    {
+        match answer {
+            Ok(()) => Told::Made,
+            Err(StorageError::Injected(_)) => Told::Failed,
+            Err(StorageError::NumberEnded) => Told::Ended,
+            Err(_) => Told::Unmade,
+        }
+    }
+}
+
+// The store's refusal as one of a call of this kind.
+fn refusal_of(kind: CallKind, error: StorageError) -> Error
+    ensures { result ≡ refusal_of kind error }
+{
+    match error {
+        StorageError::Injected(_) => Error::Injected(kind),
+        StorageError::NumberEnded => Error::NumberEnded,
+        StorageError::Memory => Error::Memory,
+        StorageError::BlobInsufficientLength => Error::BlobInsufficientLength,
+        _ => Error::BlobMissing,
+    }
+}
+
+// The mode in which a write reaches the store: an empty one makes nothing durable, and is a plain one.
+fn mode_below(bytes: &[u8], mode: WriteMode) -> StorageMode
+    ensures { result ≡ mode_below bytes.now mode }
+{
+    if bytes.is_empty() {
+        return StorageMode::Plain;
+    }
+    match mode {
+        WriteMode::Plain => StorageMode::Plain,
+        WriteMode::Sync => StorageMode::Sync,
+    }
+}
+
+// Records the call. There is room for it.
+fn note(record_kept: &mut Vec<Recorded>, call: Recorded)
+    requires { vec_len record_kept.old < vec_capacity record_kept.old }
+    ensures { calls_of record_kept.new.items ≡ call_of call ∷ calls_of record_kept.old.items }
+{
+    let _ = record_kept.push(call);
+}
+
+/// Writes bytes of the log, behind its header. There is room for the record before the store is asked.
+pub fn write_log<R: Rng>(
+    alloc: Global,
+    storage: &mut faulty::Storage<memory::Storage, R>,
+    log: &mut faulty::Blob<memory::Blob>,
+    record_kept: &mut Vec<Recorded>,
+    offset: u64,
+    bytes: &[u8],
+    mode: WriteMode,
+) -> Result<(), Error>
+    requires room { storage.old.injections < 2 ^ 64 - 1 }
+    requires stands { IsOpenLog storage.old.inner (file_of (calls_of record_kept.old.items)) log.old.inner }
+    ensures passes { Passes CallKind.Write (λ blob below answer changed left. FaultyWrites (R.stream) blob offset bytes.now (mode_below bytes.now mode)
+        below answer changed left) log.old storage.old result log.new storage.new }
+    ensures calls { Records result (wrote offset bytes.now (is_sync mode)) (calls_of record_kept.old.items) (calls_of record_kept.new.items) }
+    ensures cause { (failures : Failures) → IfErr result (IsCause failures CallKind.Write (offset + length bytes.now)) }
+    ensures count { (refused : ℕ) → (is_open : Bool) → record { injected = storage.new.injections; refused = refused; is_open = is_open }
+        ≡ failures_after result (record { injected = storage.old.injections; refused = refused; is_open = is_open }) }
+    ensures stands { IsOpenLog storage.new.inner (file_of (calls_of record_kept.new.items)) log.new.inner }
+{
+    let copy = bytes.to_vec(alloc)?;
+    record_kept.reserve(1)?;
+    let is_sync = mode == WriteMode::Sync;
+    match Told::of(log.write_at(storage, offset, bytes, mode_below(bytes, mode))) {
+        Told::Made => {
+            note(record_kept, Recorded::Wrote(offset, copy, is_sync, true));
+            Ok(())
+        }
+        Told::Failed => {
+            note(record_kept, Recorded::Wrote(offset, copy, is_sync, false));
+            Err(Error::Injected(CallKind::Write))
+        }
+        Told::Ended => Err(Error::NumberEnded),
+        Told::Unmade => Err(Error::Memory),
+    }
+}
+
+/// Cuts the log behind its header to a length, or grows it to that. There is room for the record before the store is asked.
+pub fn resize_log<R: Rng>(
+    storage: &mut faulty::Storage<memory::Storage, R>,
+    log: &mut faulty::Blob<memory::Blob>,
+    record_kept: &mut Vec<Recorded>,
+    len: u64,
+) -> Result<(), Error>
+    requires room { storage.old.injections < 2 ^ 64 - 1 }
+    requires stands { IsOpenLog storage.old.inner (file_of (calls_of record_kept.old.items)) log.old.inner }
+    ensures passes { Passes CallKind.Resize (λ blob below answer changed left. FaultyResizes (R.stream) blob len below answer changed left)
+        log.old storage.old result log.new storage.new }
+    ensures calls { Records result (resized_to len) (calls_of record_kept.old.items) (calls_of record_kept.new.items) }
+    ensures cause { (failures : Failures) → IfErr result (IsCause failures CallKind.Resize len) }
+    ensures count { (refused : ℕ) → (is_open : Bool) → record { injected = storage.new.injections; refused = refused; is_open = is_open }
+        ≡ failures_after result (record { injected = storage.old.injections; refused = refused; is_open = is_open }) }
+    ensures stands { IsOpenLog storage.new.inner (file_of (calls_of record_kept.new.items)) log.new.inner }
+{
+    record_kept.reserve(1)?;
+    match Told::of(log.resize(storage, len)) {
+        Told::Made => {
+            note(record_kept, Recorded::ResizedTo(len, true));
+            Ok(())
+        }
+        Told::Failed => {
+            note(record_kept, Recorded::ResizedTo(len, false));
+            Err(Error::Injected(CallKind::Resize))
+        }
+        Told::Ended => Err(Error::NumberEnded),
+        Told::Unmade => Err(Error::Memory),
+    }
+}
+
+/// So many bytes of the log, from an offset behind its header on.
+pub fn read_log<R: Rng>(
+    storage: &mut faulty::Storage<memory::Storage, R>,
+    log: &faulty::Blob<memory::Blob>,
+    offset: u64,
+    len: usize,
+) -> Result<Vec<u8>, Error>
+    requires room { storage.old.injections < 2 ^ 64 - 1 }
+    ensures passes { Passes CallKind.Read (λ blob below answer changed left. (changed ≡ blob) × IsFaultyCall (R.stream) Read below.config.read
+        (MemoryReads blob.inner offset len) below answer left) log.now storage.old result log.now storage.new }
+    ensures slice { (file : File) → IsOpenLog storage.old.inner file log.now.inner → IfOk result (λ bytes. IsSlice file offset len bytes.items) }
+    ensures cause { (file : File) (failures : Failures) → IsOpenLog storage.old.inner file log.now.inner
+        → IfErr result (IsReadCause failures file offset len) }
+    ensures count { (refused : ℕ) → (is_open : Bool) → record { injected = storage.new.injections; refused = refused; is_open = is_open }
+        ≡ failures_after result (record { injected = storage.old.injections; refused = refused; is_open = is_open }) }
+    ensures store { storage.new.inner ≡ storage.old.inner }
+{
+    match log.read_at(storage, offset, len) {
+        Ok(bytes) => Ok(bytes),
+        Err(e) => Err(refusal_of(CallKind::Read, e)),
+    }
+}
+
+// A copy of the live bytes of the log behind its header. It fails only when out of memory.
+fn copy_live<R: Rng + Drop>(
+    alloc: Global,
+    storage: &faulty::Storage<memory::Storage, R>,
+    log: &faulty::Blob<memory::Blob>,
+) -> Result<Vec<u8>, AllocError>
+    requires { is_there log.now.inner.number storage.now.inner ≡ true }
+    ensures { IfOk result (λ bytes. bytes.items ≡ drop 8 log.now.inner.live) }
+{
+    match log.inner().copy_live(storage.inner())? {
+        Some(live) => copy_behind_header(alloc, &live),
+        None => Err(AllocError),
+    }
+}
+
+/// Makes the log durable. There is room for the record before the store is asked.
+pub fn sync_log<R: Rng + Drop>(
+    alloc: Global,
+    storage: &mut faulty::Storage<memory::Storage, R>,
+    log: &faulty::Blob<memory::Blob>,
+    record_kept: &mut Vec<Recorded>,
+) -> Result<(), Error>
+    requires room { storage.old.injections < 2 ^ 64 - 1 }
+    requires stands { IsOpenLog storage.old.inner (file_of (calls_of record_kept.old.items)) log.now.inner }
+    requires there { is_there log.now.inner.number storage.old.inner ≡ true }
+    ensures passes { Passes CallKind.Sync (λ blob below answer changed left. (changed ≡ blob) × IsFaultyCall (R.stream) Sync below.config.sync
+        (MemorySyncs blob.inner) below answer left) log.now storage.old result log.now storage.new }
+    ensures calls { RecordsSync result (calls_of record_kept.old.items) (calls_of record_kept.new.items) }
+    ensures cause { (failures : Failures) → IfErr result (IsCause failures CallKind.Sync 0) }
+    ensures count { (refused : ℕ) → (is_open : Bool) → record { injected = storage.new.injections; refused = refused; is_open = is_open }
+        ≡ failures_after result (record { injected = storage.old.injections; refused = refused; is_open = is_open }) }
+    ensures stands { IsOpenLog storage.new.inner (file_of (calls_of record_kept.new.items)) log.now.inner }
+{
+    let synced = copy_live(alloc, storage, log)?;
+    record_kept.reserve(1)?;
+    match Told::of(log.sync(storage)) {
+        Told::Made => {
+            note(record_kept, Recorded::Synced(synced, true));
+            Ok(())
+        }
+        Told::Failed => {
+            note(record_kept, Recorded::Synced(Vec::new(alloc), false));
+            Err(Error::Injected(CallKind::Sync))
+        }
+        Told::Ended => Err(Error::NumberEnded),
+        Told::Unmade => Err(Error::Memory),
+    }
+}
