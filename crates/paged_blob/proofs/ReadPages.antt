@@ -1,6 +1,6 @@
 -- Whole pages that are read, and kept.
 use Rattle.std.proofs.Common.{◌≡◌, ℕ, ◌+◌, ◌-◌, ◌*◌, ◌/◌, ◌%◌, ◌<◌, ◌≤◌, false, min, List, [], ◌++◌, length, take, drop, sym, ◌∙◌, ap}
-use Rattle.std.proofs.Common.{refl, ⊎_elim, arith}
+use Rattle.std.proofs.Common.{inl, inr, refl, ⊎_elim, arith}
 use Rattle.std.proofs.lemmas.Bool.{cases_lt}
 use Rattle.std.proofs.Math.Seq.{take-append-add, drop-append-add}
 use Rattle.std.proofs.lemmas.List.{append-nil, take_at, drop_all, take-append-le, drop-append-le, length-append}
@@ -14,13 +14,13 @@ use Rattle.paged_format.specs.Laws.Pages.{shown_within, length_recovered-whole}
 use Rattle.paged_blob.specs.Calls.{Call, file_of, content}
 use Rattle.paged_blob.specs.Chance.{page_at}
 use Rattle.paged_blob.specs.Caches.{Page, AreGiven, page_given}
-use Rattle.paged_blob.specs.Answers.{IsCause, IsReadCause}
+use Rattle.paged_blob.specs.Answers.{Failures, IsCause, IsReadCause}
 use Rattle.paged_blob.specs.Writers.{from_page}
 use Rattle.paged_blob.specs.Reads.{IsKeptPage, CacheHolds, ServesPages, StaysKept}
 use Rattle.paged_blob.specs.Laws.Durable.{further}
 use Rattle.paged_blob.specs.declared.error.CallKind.TheVariants.{Read}
 use Rattle.paged_blob.specs.declared.error.Error.{Error}
-use Rattle.paged_blob.specs.declared.error.Error.TheVariants.{Injected, BlobInsufficientLength, NumberEnded, Memory, PowerCut, ChecksumMismatch}
+use Rattle.paged_blob.specs.declared.error.Error.TheVariants.{Injected, BlobMissing, BlobInsufficientLength, NumberEnded, Memory, PowerCut, ChecksumMismatch}
 use Rattle.paged_blob.proofs.Scanned.{proven_pages}
 use Rattle.paged_blob.proofs.Shown.{page_shown}
 
@@ -57,23 +57,28 @@ module _ (sum : List ℕ → ℕ) (size : ℕ) (footer : 12 < size) (live : List
       omega (arith, length_recovered-whole sum size bytes (omega (arith, footer)) (omega (arith, long)) full)
 
 -- why a read of a page that is there may be refused
-pub page_cause : (calls : List Call) (page size : ℕ) (error : Error) → (file_of calls).failed ≡ false → (page + 1) * size ≤ length (content calls)
-    → IsReadCause (file_of calls) (page * size) size error → IsCause Read ((page + 1) * size) error
-page_cause calls page size (Injected injected) sound there cause = cause
-page_cause calls page size BlobInsufficientLength sound there cause =
+pub page_cause : (failures : Failures) (calls : List Call) (page size : ℕ) (error : Error) → (file_of calls).failed ≡ false → (page + 1) * size ≤ length (content calls)
+    → IsReadCause failures (file_of calls) (page * size) size error → IsCause failures Read ((page + 1) * size) error
+page_cause failures calls page size (Injected injected) sound there cause = cause
+page_cause failures calls page size BlobMissing sound there cause = cause
+page_cause failures calls page size BlobInsufficientLength sound there cause =
     omega (arith, cause.short, ap length (cause.found.content sound), there)
-page_cause calls page size NumberEnded sound there cause = omega (arith, cause)
-page_cause calls page size Memory sound there cause = tt
-page_cause calls page size PowerCut sound there cause = tt
-page_cause calls page size ChecksumMismatch sound there cause = absurd cause
+page_cause failures calls page size NumberEnded sound there (inl past) = inl (omega (arith, past))
+page_cause failures calls page size NumberEnded sound there (inr ended) = inr ended
+page_cause failures calls page size Memory sound there cause = tt
+page_cause failures calls page size PowerCut sound there cause = tt
+page_cause failures calls page size ChecksumMismatch sound there cause = absurd cause
 
-pub further_cause : (reach most : ℕ) (error : Error) → reach ≤ most → IsCause Read reach error → IsCause Read most error
-further_cause reach most (Injected injected) fits cause = cause
-further_cause reach most BlobInsufficientLength fits cause = absurd cause
-further_cause reach most NumberEnded fits cause = omega (arith, fits, cause)
-further_cause reach most Memory fits cause = tt
-further_cause reach most PowerCut fits cause = tt
-further_cause reach most ChecksumMismatch fits cause = absurd cause
+pub further_cause : (failures : Failures) (reach most : ℕ) (error : Error) → reach ≤ most → IsCause failures Read reach error
+    → IsCause failures Read most error
+further_cause failures reach most (Injected injected) fits cause = cause
+further_cause failures reach most BlobMissing fits cause = cause
+further_cause failures reach most BlobInsufficientLength fits cause = absurd cause
+further_cause failures reach most NumberEnded fits (inl past) = inl (omega (arith, fits, past))
+further_cause failures reach most NumberEnded fits (inr ended) = inr ended
+further_cause failures reach most Memory fits cause = tt
+further_cause failures reach most PowerCut fits cause = tt
+further_cause failures reach most ChecksumMismatch fits cause = absurd cause
 
 -- where a whole page ends on the blob
 pub page_ends : (page count room size : ℕ) → 0 < room → (page + 1) * room ≤ count → (page + 1) * size ≤ count / room * size

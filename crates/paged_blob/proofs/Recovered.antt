@@ -1,10 +1,8 @@
 -- After a cut a writer goes on.
-use Rattle.std.proofs.Common.{◌≡◌, ℕ, ◌+◌, ◌-◌, ◌*◌, ◌/◌, ◌%◌, ◌^◌, ◌<◌, ◌≤◌, min, List, [], length, take, drop, Option, None, Some, refl, sym, ◌∙◌, ap, subst, arith}
+use Rattle.std.proofs.Common.{◌≡◌, ℕ, ◌+◌, ◌*◌, ◌/◌, ◌^◌, ◌<◌, ◌≤◌, min, List, length, drop, Option, None, Some, sym, ◌∙◌, ap, subst, arith}
 use Rattle.std.proofs.lemmas.List.{drop_all}
 use Rattle.std.proofs.lemmas.Nat.{div-add-mod'}
 use Rattle.paged_format.specs.Footers.{content_size}
-use Rattle.paged_format.specs.Pages.{recovered}
-use Rattle.paged_format.specs.Tips.{Tip}
 use Rattle.paged_blob.specs.Calls.{Call, content, file_of}
 use Rattle.paged_blob.specs.Moments.{Through, here}
 use Rattle.paged_blob.specs.Flushes.{physical_size}
@@ -12,7 +10,6 @@ use Rattle.paged_blob.specs.Shrinks.{Withstands, IsCut}
 use Rattle.paged_blob.specs.ShrinksCode.{EndsWith, tip_of, slot_of, bytes_of}
 use Rattle.paged_blob.specs.Writers.{IsWriterOf, WriterState, Keeps}
 use Rattle.paged_blob.specs.Laws.Durable.{withstands_keeps}
-use Rattle.paged_blob.specs.declared.flush.DurableSlot.{DurableSlot}
 use Rattle.paged_blob.specs.declared.shrink.LastPage.{LastPage}
 use Rattle.paged_blob.proofs.CutBlob.{keeps_less}
 use Rattle.paged_blob.proofs.CutWriter.{cut_writer}

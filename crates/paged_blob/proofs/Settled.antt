@@ -1,7 +1,7 @@
 -- A blob of which all is durable is cut.
 use Rattle.std.proofs.Common.{◌≡◌, ℕ, ◌+◌, ◌-◌, ◌*◌, ◌/◌, ◌<◌, ◌≤◌, ◌^◌, Bool, true, false, not, ◌||◌, min, List, [], ◌∷◌, length, take, drop}
 use Rattle.std.proofs.Common.{Result, Option, None, Some, Ok, Err, OnOk, sym, ◌∙◌, ap}
-use Rattle.std.proofs.Common.{⊎_elim, refl, subst, arith}
+use Rattle.std.proofs.Common.{inl, inr, ⊎_elim, refl, subst, arith}
 use Rattle.std.proofs.lemmas.Bool.{cases_lt, cond-true, cond-false, lt-ltb, le-ltb}
 use Rattle.std.proofs.lemmas.List.{take-take, drop-take, length-take-le, length-drop}
 use Rattle.std.proofs.lemmas.Nat.{div-mul-add}
@@ -14,14 +14,14 @@ use Rattle.paged_format.specs.Laws.Pages.{vouched_cases}
 use Rattle.paged_blob.specs.Calls.{Call, resized_to, synced, Change, resize, changed, whole, File, file_of, content}
 use Rattle.paged_blob.specs.Chance.{page_at, slot_in}
 use Rattle.paged_blob.specs.Moments.{Through, here}
-use Rattle.paged_blob.specs.Answers.{Records, RecordsSync, MakesDurable, IsSlice, IsCause, IsReadCause}
+use Rattle.paged_blob.specs.Answers.{Failures, Records, RecordsSync, MakesDurable, IsSlice, IsCause, IsReadCause}
 use Rattle.paged_blob.specs.Writers.{from_page, Keeps}
 use Rattle.paged_blob.specs.Shrinks.{other_slot, slot_at, handed_over, IsLastPage, IsTrimmed, IsCut, IsCutCause}
 use Rattle.paged_blob.specs.ShrinksCode.{StandsAlone, IsLeftAlone, IsLast}
 use Rattle.paged_blob.specs.declared.shrink.LastPage.{LastPage}
 use Rattle.paged_blob.specs.declared.error.CallKind.{CallKind}
 use Rattle.paged_blob.specs.declared.error.Error.{Error}
-use Rattle.paged_blob.specs.declared.error.Error.TheVariants.{Injected, BlobInsufficientLength, NumberEnded, Memory, PowerCut, ChecksumMismatch}
+use Rattle.paged_blob.specs.declared.error.Error.TheVariants.{Injected, BlobMissing, BlobInsufficientLength, NumberEnded, Memory, PowerCut, ChecksumMismatch}
 use Rattle.paged_blob.specs.Laws.Moments.{goes_on, goes_on_sync}
 use Rattle.paged_blob.proofs.Bytes.{length-resized}
 use Rattle.paged_blob.proofs.Scanned.{sliced, proven_pages}
@@ -356,30 +356,38 @@ module _ (sum : List ℕ → ℕ) (size : ℕ) (footer : 12 < size) (calls : Lis
       sym (counts_is ∙ ap (λ n. counted_slot sum n bytes) long ∙ ap (counted_slot sum size) is)
 
   -- why that read may be refused, the cut may: the page is there
-  pub read_cause : (error : Error) → 0 < part → (file_of calls).failed ≡ false → IsReadCause (file_of calls) (page * size) size error
-      → IsCutCause (length live) error
-  read_cause (Injected injected) some sound cause = tt
-  read_cause BlobInsufficientLength some sound cause =
+  pub read_cause : (failures : Failures) (error : Error) → 0 < part → (file_of calls).failed ≡ false
+      → IsReadCause failures (file_of calls) (page * size) size error → IsCutCause failures (length live) error
+  read_cause failures (Injected injected) some sound cause = tt
+  read_cause failures BlobMissing some sound cause = cause
+  read_cause failures BlobInsufficientLength some sound cause =
       let is : cause.live ≡ content calls = cause.found.content sound in
       omega (arith, cause.short, ap length is, ap length live_is, last_there some)
-  read_cause NumberEnded some sound cause = omega (arith, cause, last_there some)
-  read_cause Memory some sound cause = tt
-  read_cause PowerCut some sound cause = tt
-  read_cause ChecksumMismatch some sound cause = absurd cause
+  read_cause failures NumberEnded some sound (inl past) = inl (omega (arith, past, last_there some))
+  read_cause failures NumberEnded some sound (inr ended) = inr ended
+  read_cause failures Memory some sound cause = tt
+  read_cause failures PowerCut some sound cause = tt
+  read_cause failures ChecksumMismatch some sound cause = absurd cause
 
 -- why one of its calls may be refused, the cut may
-pub call_cause : (kind : CallKind) (reach most : ℕ) (error : Error) → reach ≤ most → IsCause kind reach error → IsCutCause most error
-call_cause kind reach most (Injected injected) fits cause = tt
-call_cause kind reach most BlobInsufficientLength fits cause = absurd cause
-call_cause kind reach most NumberEnded fits cause = omega (arith, fits, cause)
-call_cause kind reach most Memory fits cause = tt
-call_cause kind reach most PowerCut fits cause = tt
-call_cause kind reach most ChecksumMismatch fits cause = absurd cause
+pub call_cause : (failures : Failures) (kind : CallKind) (reach most : ℕ) (error : Error) → reach ≤ most → IsCause failures kind reach error
+    → IsCutCause failures most error
+call_cause failures kind reach most (Injected injected) fits cause = tt
+call_cause failures kind reach most BlobMissing fits cause = cause
+call_cause failures kind reach most BlobInsufficientLength fits cause = absurd cause
+call_cause failures kind reach most NumberEnded fits (inl past) = inl (omega (arith, fits, past))
+call_cause failures kind reach most NumberEnded fits (inr ended) = inr ended
+call_cause failures kind reach most Memory fits cause = tt
+call_cause failures kind reach most PowerCut fits cause = tt
+call_cause failures kind reach most ChecksumMismatch fits cause = absurd cause
 
-pub fewer_cause : (reach most : ℕ) (error : Error) → reach ≤ most → IsCutCause reach error → IsCutCause most error
-fewer_cause reach most (Injected injected) fits cause = tt
-fewer_cause reach most BlobInsufficientLength fits cause = absurd cause
-fewer_cause reach most NumberEnded fits cause = omega (arith, fits, cause)
-fewer_cause reach most Memory fits cause = tt
-fewer_cause reach most PowerCut fits cause = tt
-fewer_cause reach most ChecksumMismatch fits cause = absurd cause
+pub fewer_cause : (failures : Failures) (reach most : ℕ) (error : Error) → reach ≤ most → IsCutCause failures reach error
+    → IsCutCause failures most error
+fewer_cause failures reach most (Injected injected) fits cause = tt
+fewer_cause failures reach most BlobMissing fits cause = cause
+fewer_cause failures reach most BlobInsufficientLength fits cause = absurd cause
+fewer_cause failures reach most NumberEnded fits (inl past) = inl (omega (arith, fits, past))
+fewer_cause failures reach most NumberEnded fits (inr ended) = inr ended
+fewer_cause failures reach most Memory fits cause = tt
+fewer_cause failures reach most PowerCut fits cause = tt
+fewer_cause failures reach most ChecksumMismatch fits cause = absurd cause

@@ -1,11 +1,11 @@
--- What a call's answer says of the calls that are recorded, of the count of failures, and of the bytes that were read.
-use Rattle.std.specs.Prelude.{◌≡◌, ℕ, ◌+◌, ◌<◌, ◌≤◌, ◌^◌, ⊤, Bool, true, false, IsFalse, List, [], ◌∷◌, length, take, drop, Result, Ok, Err, Contains}
+-- What a call's answer says of the calls that are recorded, of the failures, and of the bytes that were read.
+use Rattle.std.specs.Prelude.{◌≡◌, ◌⊎◌, ℕ, ◌+◌, ◌<◌, ◌≤◌, ◌^◌, ⊤, Bool, true, false, IsFalse, List, [], ◌∷◌, length, take, drop, Result, Ok, Err, Contains}
 use Rattle.paged_blob.specs.Calls.{Call, opened, synced, content, File, file_of}
 use Rattle.paged_blob.specs.Images.{IsImage, IsLive}
 use Rattle.paged_blob.specs.declared.error.CallKind.{CallKind}
 use Rattle.paged_blob.specs.declared.error.CallKind.TheVariants.{Read}
 use Rattle.paged_blob.specs.declared.error.Error.{Error}
-use Rattle.paged_blob.specs.declared.error.Error.TheVariants.{Injected, BlobInsufficientLength, NumberEnded, Memory, PowerCut}
+use Rattle.paged_blob.specs.declared.error.Error.TheVariants.{Injected, BlobMissing, BlobInsufficientLength, NumberEnded, Memory, PowerCut}
 
 -- A call that succeeds or fails is recorded, with that. One that a cut refuses, or that counts as not made, is not.
 abbrev pub Records : {T : Type 0} → Result T Error → (Bool → Call) → List Call → List Call → Type 0
@@ -28,24 +28,36 @@ RecordsSync (Err _) old new = new ≡ old
 abbrev pub RecordsOpening : List Call → List Call → Type 0
 RecordsOpening old new = (shown : List ℕ) × IsImage (file_of old) shown × (new ≡ opened shown ∷ old)
 
--- the count of failures after a call: an injected one and one that a cut refuses are counted
-abbrev pub failures_after : {T : Type 0} → Result T Error → ℕ → ℕ
+-- what has refused calls of a blob so far: how many faults were injected, how many calls a cut of the power refused, and whether an
+-- opening stands, without which none is taken
+pub record Failures : Type 0 where
+  pub injected : ℕ
+  pub refused : ℕ
+  pub is_open : Bool
+
+-- this after a call: an injected fault and a call that a cut refuses are counted
+abbrev pub failures_after : {T : Type 0} → Result T Error → Failures → Failures
 failures_after (Ok _) failures = failures
-failures_after (Err (Injected _)) failures = failures + 1
-failures_after (Err PowerCut) failures = failures + 1
+failures_after (Err (Injected _)) failures = record failures { injected = failures.injected + 1 }
+failures_after (Err PowerCut) failures = record failures { refused = failures.refused + 1 }
 failures_after (Err _) failures = failures
+
+-- a count stands at its last number
+abbrev pub HaveEnded : Failures → Type 0
+HaveEnded failures = (2 ^ 64 ≤ failures.injected + 1) ⊎ (2 ^ 64 ≤ failures.refused + 1)
 
 -- a blob's numbers end at 2^64, of which its header may take 4096
 abbrev pub IsPastNumbers : ℕ → Type 0
 IsPastNumbers reach = 2 ^ 64 ≤ reach + 4096
 
--- why a call of this kind that reaches so far may be refused
-abbrev pub IsCause : CallKind → ℕ → Error → Type 0
-IsCause kind reach (Injected injected) = injected ≡ kind
-IsCause kind reach NumberEnded = IsPastNumbers reach
-IsCause kind reach Memory = ⊤
-IsCause kind reach PowerCut = ⊤
-IsCause kind reach _ = ⊥
+-- why a call of this kind that reaches so far may be refused, after such failures
+abbrev pub IsCause : Failures → CallKind → ℕ → Error → Type 0
+IsCause failures kind reach (Injected injected) = injected ≡ kind
+IsCause failures kind reach NumberEnded = IsPastNumbers reach ⊎ HaveEnded failures
+IsCause failures kind reach Memory = ⊤
+IsCause failures kind reach PowerCut = ⊤
+IsCause failures kind reach BlobMissing = IsFalse failures.is_open
+IsCause failures kind reach _ = ⊥
 
 -- so many bytes at an offset of what a read may find
 pub record IsSlice (file : File) (offset count : ℕ) (bytes : List ℕ) : Type 0 where
@@ -61,9 +73,9 @@ pub record EndsBefore (file : File) (reach : ℕ) : Type 0 where
   pub short : length live < reach
 
 -- why a read of so many bytes at an offset may be refused
-abbrev pub IsReadCause : File → ℕ → ℕ → Error → Type 0
-IsReadCause file offset count BlobInsufficientLength = EndsBefore file (offset + count)
-IsReadCause file offset count error = IsCause Read (offset + count) error
+abbrev pub IsReadCause : Failures → File → ℕ → ℕ → Error → Type 0
+IsReadCause failures file offset count BlobInsufficientLength = EndsBefore file (offset + count)
+IsReadCause failures file offset count error = IsCause failures Read (offset + count) error
 
 -- slices one after the other, of each range an offset and a count
 abbrev pub AreSlices : File → List (ℕ × ℕ) → List (List ℕ) → Type 0
@@ -72,6 +84,7 @@ AreSlices file (range ∷ ranges) (bytes ∷ rest) = IsSlice file range.0 range.
 AreSlices file _ _ = ⊥
 
 -- why reads of these ranges may be refused: one of them may, or there is no memory for their answers
-abbrev pub IsManyCause : File → List (ℕ × ℕ) → Error → Type 0
-IsManyCause file ranges Memory = ⊤
-IsManyCause file ranges error = (range : ℕ × ℕ) × Contains ranges range × IsReadCause file range.0 range.1 error
+abbrev pub IsManyCause : Failures → File → List (ℕ × ℕ) → Error → Type 0
+IsManyCause failures file ranges Memory = ⊤
+IsManyCause failures file ranges error =
+    (range : ℕ × ℕ) × Contains ranges range × IsReadCause failures file range.0 range.1 error

@@ -5,7 +5,7 @@ use Rattle.paged_format.specs.Pages.{recovered}
 use Rattle.paged_blob.specs.Calls.{Call, content}
 use Rattle.paged_blob.specs.Caches.{Page}
 use Rattle.paged_blob.specs.Chance.{page_at}
-use Rattle.paged_blob.specs.Answers.{IsCause}
+use Rattle.paged_blob.specs.Answers.{Failures, IsCause}
 use Rattle.paged_blob.specs.declared.error.CallKind.TheVariants.{Read}
 use Rattle.paged_blob.specs.declared.error.Error.{Error}
 use Rattle.paged_blob.specs.declared.error.Error.TheVariants.{BlobInsufficientLength}
@@ -34,9 +34,9 @@ StaysKept size blob_id bytes old new =
     (more : List ℕ) → CacheHolds size blob_id (bytes ++ more) old → CacheHolds size blob_id (bytes ++ more) new
 
 -- why a read that ends there, in a content of so many bytes of which so many are on the blob, may be refused
-abbrev pub IsReadingCause : ℕ → ℕ → ℕ → ℕ → Error → Type 0
-IsReadingCause size count len end BlobInsufficientLength = len < end
-IsReadingCause size count len end error = IsCause Read (count / content_size size * size) error
+abbrev pub IsReadingCause : Failures → ℕ → ℕ → ℕ → ℕ → Error → Type 0
+IsReadingCause failures size count len end BlobInsufficientLength = len < end
+IsReadingCause failures size count len end error = IsCause failures Read (count / content_size size * size) error
 
 -- all of the content: what is on the blob, and the tip in memory
 abbrev pub readable : (List ℕ → ℕ) → ℕ → List Call → ℕ → List ℕ → List ℕ

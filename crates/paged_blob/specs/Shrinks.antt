@@ -1,5 +1,5 @@
 -- A blob whose pages hold a content up to where it ends, whatever stands behind, and how it is cut.
-use Rattle.std.specs.Prelude.{◌≡◌, ℕ, ◌+◌, ◌*◌, ◌<◌, ◌-◌, ◌/◌, ◌≤◌, ⊤, true, IsTrue, IsFalse, List, [], ◌∷◌, length, take}
+use Rattle.std.specs.Prelude.{◌≡◌, ◌⊎◌, ℕ, ◌+◌, ◌*◌, ◌<◌, ◌-◌, ◌/◌, ◌≤◌, ⊤, true, IsTrue, IsFalse, List, [], ◌∷◌, length, take}
 use Rattle.std.specs.Int.{w16, to_be_bytes}
 use Rattle.paged_format.specs.declared.footer.Slot.{Slot}
 use Rattle.paged_format.specs.declared.footer.Slot.TheVariants.{First, Second}
@@ -9,9 +9,9 @@ use Rattle.paged_blob.specs.Calls.{Call, wrote, resize, File, file_of}
 use Rattle.paged_blob.specs.Images.{greatest_length}
 use Rattle.paged_blob.specs.Chance.{page_at}
 use Rattle.paged_blob.specs.Writers.{ShowsContent, HoldsContent, EachBeginning, AreDurable}
-use Rattle.paged_blob.specs.Answers.{IsPastNumbers}
+use Rattle.paged_blob.specs.Answers.{Failures, HaveEnded, IsPastNumbers}
 use Rattle.paged_blob.specs.declared.error.Error.{Error}
-use Rattle.paged_blob.specs.declared.error.Error.TheVariants.{Injected, NumberEnded, Memory, PowerCut}
+use Rattle.paged_blob.specs.declared.error.Error.TheVariants.{Injected, BlobMissing, NumberEnded, Memory, PowerCut}
 
 -- In the pages that the content reaches, and in that in which it ends, each slot that verifies vouches for it. Pages further on are open,
 -- and so is a page that no file of so many bytes has whole.
@@ -60,12 +60,13 @@ handed_over size page counted len crc calls =
     ∷ (wrote (slot_at size page (other_slot counted)) (slot_bytes 0 crc) true true ∷ calls))
 
 -- why a cut of a blob of so many bytes may be refused
-abbrev pub IsCutCause : ℕ → Error → Type 0
-IsCutCause reach (Injected kind) = ⊤
-IsCutCause reach NumberEnded = IsPastNumbers reach
-IsCutCause reach Memory = ⊤
-IsCutCause reach PowerCut = ⊤
-IsCutCause reach _ = ⊥
+abbrev pub IsCutCause : Failures → ℕ → Error → Type 0
+IsCutCause failures reach (Injected kind) = ⊤
+IsCutCause failures reach NumberEnded = IsPastNumbers reach ⊎ HaveEnded failures
+IsCutCause failures reach Memory = ⊤
+IsCutCause failures reach PowerCut = ⊤
+IsCutCause failures reach BlobMissing = IsFalse failures.is_open
+IsCutCause failures reach _ = ⊥
 
 -- how many bytes the pages of so much content have
 abbrev pub cut_length : ℕ → ℕ → ℕ

@@ -2,7 +2,7 @@
 
 ghost use Rattle.std.specs.Prelude.{◌≡◌, ◌+◌, ℕ, List, Bool, map, length, IfOk, IfErr};
 ghost use Rattle.paged_blob.specs.Calls.{Call, wrote, resized_to, file_of};
-ghost use Rattle.paged_blob.specs.Answers.{Records, RecordsSync, failures_after, IsCause, IsSlice, IsReadCause};
+ghost use Rattle.paged_blob.specs.Answers.{Records, RecordsSync, Failures, failures_after, IsCause, IsSlice, IsReadCause};
 ghost use Rattle.paged_blob.specs.Answers.{AreSlices, IsManyCause};
 ghost use Rattle.paged_blob.specs.WriteModes.{is_sync};
 ghost use Rattle.paged_blob.specs.declared.error.CallKind.TheVariants.{Write, Resize, Sync};
@@ -26,15 +26,16 @@ pub trait Blob {
     /// Each call so far that may have changed the bytes, the newest first.
     ghost calls: { Self → List Call };
 
-    /// How many calls have failed: faults that were injected, and calls under a cut of the power.
-    ghost failures: { Self → ℕ };
+    /// What has refused its calls so far: how many faults were injected, how many calls a cut of the power refused, and
+    /// whether an opening stands.
+    ghost failures: { Self → Failures };
 
     /// So many bytes from an offset on. Where the blob ends before them: F7. While no write or resize has failed they
     /// are a slice of the content; after one has, of some bytes that a crash may leave.
     /// In the Rust: `commonware_runtime::Blob::read_at`, without an allocator.
     fn read_at(&mut self, alloc: Global, offset: u64, len: usize) -> Result<Vec<u8>, Error>
         ensures slice { IfOk result (λ bytes. IsSlice (file_of (calls self.old)) offset len bytes.items) }
-        ensures cause { IfErr result (IsReadCause (file_of (calls self.old)) offset len) }
+        ensures cause { IfErr result (IsReadCause (failures self.old) (file_of (calls self.old)) offset len) }
         ensures calls { calls self.new ≡ calls self.old }
         ensures failures { failures self.new ≡ failures_after result (failures self.old) };
 
@@ -43,19 +44,19 @@ pub trait Blob {
     /// In the Rust: `commonware_runtime::Blob::write_at`.
     fn write_at(&mut self, offset: u64, bytes: &[u8], mode: WriteMode) -> Result<(), Error>
         ensures calls { Records result (wrote offset bytes.now (is_sync mode)) (calls self.old) (calls self.new) }
-        ensures cause { IfErr result (IsCause Write (offset + length bytes.now)) }
+        ensures cause { IfErr result (IsCause (failures self.old) Write (offset + length bytes.now)) }
         ensures failures { failures self.new ≡ failures_after result (failures self.old) };
 
     /// Cuts the blob to a length, or grows it to that by zeros. In the Rust: `commonware_runtime::Blob::resize`.
     fn resize(&mut self, len: u64) -> Result<(), Error>
         ensures calls { Records result (resized_to len) (calls self.old) (calls self.new) }
-        ensures cause { IfErr result (IsCause Resize len) }
+        ensures cause { IfErr result (IsCause (failures self.old) Resize len) }
         ensures failures { failures self.new ≡ failures_after result (failures self.old) };
 
     /// Makes durable what was written. In the Rust: `commonware_runtime::Blob::sync`.
     fn sync(&mut self) -> Result<(), Error>
         ensures calls { RecordsSync result (calls self.old) (calls self.new) }
-        ensures cause { IfErr result (IsCause Sync 0) }
+        ensures cause { IfErr result (IsCause (failures self.old) Sync 0) }
         ensures failures { failures self.new ≡ failures_after result (failures self.old) };
 
     /// The bytes of each range, an offset and a length: single reads in turn, the first refusal ending them.
@@ -63,7 +64,7 @@ pub trait Blob {
     fn read_many(&mut self, alloc: Global, ranges: &[(u64, usize)]) -> Result<Vec<Vec<u8>>, Error>
         ensures slices { IfOk result (λ all. AreSlices (file_of (calls self.old)) ranges.now
             (map (λ bytes. bytes.items) all.items)) }
-        ensures cause { IfErr result (IsManyCause (file_of (calls self.old)) ranges.now) }
+        ensures cause { IfErr result (IsManyCause (failures self.old) (file_of (calls self.old)) ranges.now) }
         ensures calls { calls self.new ≡ calls self.old }
         ensures failures { failures self.new ≡ failures_after result (failures self.old) }
     {

@@ -21,6 +21,10 @@ pub enum CallKind {
 /// What a call of a blob, or over one, refuses. In the Rust: `commonware_runtime::Error`, which has more variants.
 #[derive(Clone, Copy, Debug, PartialEq, Eq, thiserror::Error)]
 pub enum Error {
+    /// F1: no opening of the blob stands, and the call changes nothing.
+    /// In the Rust: `commonware_runtime::Error::BlobMissing`.
+    #[error("F1: blob missing")]
+    BlobMissing,
     /// F6: a fault was injected into a call of this kind.
     #[error("F6: injected fault")]
     Injected(CallKind),
@@ -35,7 +39,7 @@ pub enum Error {
     /// F9: out of memory; the call counts as not made (own).
     #[error("F9: out of memory")]
     Memory,
-    /// F10: a cut of the power stands; the call changes nothing but the count of failures (own).
+    /// F10: a cut of the power stands; the call changes nothing but a count (own).
     #[error("F10: power cut")]
     PowerCut,
     /// F12: a page that was whole does not verify. In the Rust: `commonware_runtime::Error::InvalidChecksum`.

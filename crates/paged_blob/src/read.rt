@@ -44,7 +44,7 @@ fn read_page<B: Blob, C: Checksum>(
         ≤ length (recovered C.checksum_of physical_page_size (content (B.calls blob.old))) }
     ensures bytes { IfOk result (λ bytes. bytes.items ≡ page_at (content_size physical_page_size) page
         (recovered C.checksum_of physical_page_size (content (B.calls blob.old)))) }
-    ensures cause { IfErr result (IsCause Read ((page + 1) * physical_page_size)) }
+    ensures cause { IfErr result (IsCause (B.failures blob.old) Read ((page + 1) * physical_page_size)) }
     ensures calls { B.calls blob.new ≡ B.calls blob.old }
     ensures failures { B.failures blob.new ≡ failures_after result (B.failures blob.old) }
 {
@@ -101,7 +101,7 @@ fn page_into<B: Blob, C: Checksum>(
     ensures more { StaysKept pages.physical_page_size pages.blob_id
         (flushed C.checksum_of pages.physical_page_size (B.calls blob.old) pages.len) cache.old.pages cache.new.pages }
     ensures same { cache.new ≡ record cache.old { pages = cache.new.pages } }
-    ensures cause { IfErr result (IsCause Read
+    ensures cause { IfErr result (IsCause (B.failures blob.old) Read
         (pages.len / content_size pages.physical_page_size * pages.physical_page_size)) }
     ensures calls { B.calls blob.new ≡ B.calls blob.old }
     ensures failures { B.failures blob.new ≡ failures_after result (B.failures blob.old) }
@@ -141,7 +141,7 @@ fn read_flushed<B: Blob, C: Checksum>(
     ensures more { StaysKept pages.physical_page_size pages.blob_id
         (flushed C.checksum_of pages.physical_page_size (B.calls blob.old) pages.len) cache.old.pages cache.new.pages }
     ensures same { cache.new ≡ record cache.old { pages = cache.new.pages } }
-    ensures cause { IfErr result (IsCause Read
+    ensures cause { IfErr result (IsCause (B.failures blob.old) Read
         (pages.len / content_size pages.physical_page_size * pages.physical_page_size)) }
     ensures calls { B.calls blob.new ≡ B.calls blob.old }
     ensures failures { B.failures blob.new ≡ failures_after result (B.failures blob.old) }
@@ -187,7 +187,7 @@ pub fn read_into<B: Blob, C: Checksum>(
     ensures within { OnOk result (offset + length out.old ≤ pages.len + length tip.now) }
     ensures past { pages.len + length tip.now < offset + length out.old
         → (result ≡ Err Error.BlobInsufficientLength) × (out.new ≡ out.old) × (cache.new ≡ cache.old) }
-    ensures cause { IfErr result (IsReadingCause pages.physical_page_size pages.len (pages.len + length tip.now)
+    ensures cause { IfErr result (IsReadingCause (B.failures blob.old) pages.physical_page_size pages.len (pages.len + length tip.now)
         (offset + length out.old)) }
     ensures kept { CacheHolds pages.physical_page_size pages.blob_id
         (readable C.checksum_of pages.physical_page_size (B.calls blob.old) pages.len tip.now) cache.new.pages }
@@ -236,7 +236,7 @@ pub fn read_at<B: Blob, C: Checksum>(
     ensures within { IsOk result → offset + len ≤ pages.len + length tip.now }
     ensures past { pages.len + length tip.now < offset + len
         → (result ≡ Err Error.BlobInsufficientLength) × (cache.new ≡ cache.old) }
-    ensures cause { IfErr result (IsReadingCause pages.physical_page_size pages.len (pages.len + length tip.now)
+    ensures cause { IfErr result (IsReadingCause (B.failures blob.old) pages.physical_page_size pages.len (pages.len + length tip.now)
         (offset + len)) }
     ensures kept { CacheHolds pages.physical_page_size pages.blob_id
         (readable C.checksum_of pages.physical_page_size (B.calls blob.old) pages.len tip.now) cache.new.pages }
@@ -280,7 +280,7 @@ pub fn read_up_to<B: Blob, C: Checksum>(
     ensures within { IsOk result → offset ≤ pages.len + length tip.now }
     ensures past { pages.len + length tip.now < offset
         → (result ≡ Err Error.BlobInsufficientLength) × (cache.new ≡ cache.old) }
-    ensures cause { IfErr result (IsReadingCause pages.physical_page_size pages.len (pages.len + length tip.now)
+    ensures cause { IfErr result (IsReadingCause (B.failures blob.old) pages.physical_page_size pages.len (pages.len + length tip.now)
         offset) }
     ensures kept { CacheHolds pages.physical_page_size pages.blob_id
         (readable C.checksum_of pages.physical_page_size (B.calls blob.old) pages.len tip.now) cache.new.pages }

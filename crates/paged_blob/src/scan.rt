@@ -28,7 +28,7 @@ pub fn prefix_of_blob<B: Blob, C: Checksum>(
     requires proven { AreProven C.checksum_of physical_page_size (B.calls blob.old) blob_size proven }
     ensures exact { IsFalse (file_of (B.calls blob.old)).failed
         → IfOk result (λ len. len ≡ recoverable C.checksum_of physical_page_size (B.calls blob.old) blob_size) }
-    ensures cause { IfErr result (IsReadCause (file_of (B.calls blob.old)) 0 blob_size) }
+    ensures cause { IfErr result (IsReadCause (B.failures blob.old) (file_of (B.calls blob.old)) 0 blob_size) }
     ensures calls { B.calls blob.new ≡ B.calls blob.old }
     ensures failures { B.failures blob.new ≡ failures_after result (B.failures blob.old) }
 {
@@ -59,7 +59,7 @@ pub fn prefix_of_blob_at_most<B: Blob, C: Checksum>(
     ensures exact { IsFalse (file_of (B.calls blob.old)).failed
         → IfOk result (λ len. len
         ≡ min max_size (recoverable C.checksum_of physical_page_size (B.calls blob.old) blob_size)) }
-    ensures cause { IfErr result (IsReadCause (file_of (B.calls blob.old)) 0 blob_size) }
+    ensures cause { IfErr result (IsReadCause (B.failures blob.old) (file_of (B.calls blob.old)) 0 blob_size) }
     ensures calls { B.calls blob.new ≡ B.calls blob.old }
     ensures failures { B.failures blob.new ≡ failures_after result (B.failures blob.old) }
 {

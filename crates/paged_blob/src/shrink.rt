@@ -77,7 +77,7 @@ fn hand_over<B: Blob, C: Checksum>(
     ensures any_moment { let old = recovered C.checksum_of physical_page_size (file_of (B.calls blob.old)).base in
         let count = page * content_size physical_page_size + len in
         Through (Keeps C.checksum_of physical_page_size old count) (B.calls blob.old) (B.calls blob.new) }
-    ensures cause { IfErr result (IsCutCause ((page + 1) * physical_page_size)) }
+    ensures cause { IfErr result (IsCutCause (B.failures blob.old) ((page + 1) * physical_page_size)) }
     ensures failures { B.failures blob.new ≡ failures_after result (B.failures blob.old) }
 {
     let start = page * u64::from(physical_page_size);
@@ -127,7 +127,7 @@ fn leave_one_slot<B: Blob, C: Checksum>(
     ensures any_moment { let old = recovered C.checksum_of (length bytes.now) (file_of (B.calls blob.old)).base in
         let count = page * content_size (length bytes.now) + len in
         Through (Keeps C.checksum_of (length bytes.now) old count) (B.calls blob.old) (B.calls blob.new) }
-    ensures cause { IfErr result (IsCutCause ((page + 1) * length bytes.now)) }
+    ensures cause { IfErr result (IsCutCause (B.failures blob.old) ((page + 1) * length bytes.now)) }
     ensures failures { B.failures blob.new ≡ failures_after result (B.failures blob.old) }
 {
     if stands_alone(bytes, counted, len, crc) {
@@ -155,7 +155,7 @@ fn cut_behind<B: Blob, C: Checksum>(
     ensures any_moment { let old = recovered C.checksum_of physical_page_size (file_of (B.calls blob.old)).base in
         Through (Keeps C.checksum_of physical_page_size old (pages * content_size physical_page_size))
         (B.calls blob.old) (B.calls blob.new) }
-    ensures cause { IfErr result (IsCutCause (length (file_of (B.calls blob.old)).base)) }
+    ensures cause { IfErr result (IsCutCause (B.failures blob.old) (length (file_of (B.calls blob.old)).base)) }
     ensures failures { B.failures blob.new ≡ failures_after result (B.failures blob.old) }
 {
     blob.resize(pages * u64::from(physical_page_size))?;
@@ -189,7 +189,7 @@ fn cut_within<B: Blob, C: Checksum>(
     ensures any_moment { let old = recovered C.checksum_of physical_page_size (file_of (B.calls blob.old)).base in
         let kept = page * content_size physical_page_size + part in
         Through (Keeps C.checksum_of physical_page_size old kept) (B.calls blob.old) (B.calls blob.new) }
-    ensures cause { IfErr result (IsCutCause (length (file_of (B.calls blob.old)).base)) }
+    ensures cause { IfErr result (IsCutCause (B.failures blob.old) (length (file_of (B.calls blob.old)).base)) }
     ensures failures { B.failures blob.new ≡ failures_after result (B.failures blob.old) }
 {
     let size = u64::from(physical_page_size);
@@ -211,7 +211,7 @@ fn settle<B: Blob>(blob: &mut B, needs_sync: bool) -> Result<(), Error>
     requires settled { IsFalse needs_sync → (file_of (B.calls blob.old)).changes ≡ [] }
     ensures settled { OnOk result (IsSettled (B.calls blob.old) (B.calls blob.new)) }
     ensures calls { (B.calls blob.new ≡ B.calls blob.old) ⊎ RecordsSync result (B.calls blob.old) (B.calls blob.new) }
-    ensures cause { IfErr result (IsCutCause 0) }
+    ensures cause { IfErr result (IsCutCause (B.failures blob.old) 0) }
     ensures failures { B.failures blob.new ≡ failures_after result (B.failures blob.old) }
 {
     if needs_sync {
@@ -246,7 +246,7 @@ pub fn cut_blob<B: Blob, C: Checksum>(
     ensures any_moment { let old = recovered C.checksum_of physical_page_size (content (B.calls blob.old)) in
         (synced : ℕ) → Withstands C.checksum_of physical_page_size old synced (file_of (B.calls blob.old))
         → Through (Keeps C.checksum_of physical_page_size old (min size synced)) (B.calls blob.old) (B.calls blob.new) }
-    ensures cause { IfErr result (IsCutCause (length (content (B.calls blob.old)))) }
+    ensures cause { IfErr result (IsCutCause (B.failures blob.old) (length (content (B.calls blob.old)))) }
     ensures failures { B.failures blob.new ≡ failures_after result (B.failures blob.old) }
 {
     settle(blob, needs_sync)?;

@@ -66,6 +66,7 @@ fn reads_many_ranges(rt: HostRuntime) -> Result<(), Fail> {
 #[test]
 fn prints_each_refusal_with_its_number(rt: HostRuntime) -> Result<(), Fail> {
     let texts = [
+        (Error::BlobMissing, "F1: blob missing"),
         (Error::Injected(CallKind::Sync), "F6: injected fault"),
         (Error::BlobInsufficientLength, "F7: blob too short"),
         (Error::NumberEnded, "F8: number ended"),

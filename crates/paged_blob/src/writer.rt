@@ -6,7 +6,7 @@ ghost use Rattle.std.specs.Prelude.{false, None, List, IsTrue, IfOk, IfErr, OnOk
 ghost use Rattle.paged_format.specs.Footers.{IsPageSize, content_size};
 ghost use Rattle.paged_blob.specs.Calls.{Call, file_of};
 ghost use Rattle.paged_blob.specs.Moments.{Through};
-ghost use Rattle.paged_blob.specs.Answers.{failures_after, IsCause, IsPastNumbers};
+ghost use Rattle.paged_blob.specs.Answers.{failures_after, HaveEnded, IsCause, IsPastNumbers};
 ghost use Rattle.paged_blob.specs.Flushes.{physical_size, last_slot};
 ghost use Rattle.paged_blob.specs.Writers.{WriterState, written, IsWriter, IsFlushed, IsEmptyFile, Keeps, IsTaken};
 ghost use Rattle.paged_blob.specs.WritersCode.{IsTakingCause};
@@ -145,7 +145,7 @@ impl<C: Checksum, Phase> Writer<C, Phase> {
             × (self.new.tip.capacity ≡ self.old.tip.capacity) }
         ensures any_moment { Through (Keeps C.checksum_of self.old.page_size
             (written C.checksum_of (B.calls blob.old) self.old) self.old.synced) (B.calls blob.old) (B.calls blob.new) }
-        ensures cause { IfErr result (IsCause CallKind.Write 0) }
+        ensures cause { IfErr result (IsCause (B.failures blob.old) CallKind.Write 0) }
         ensures failures { B.failures blob.new ≡ failures_after result (B.failures blob.old) }
         ensures cache { cache.new ≡ record cache.old { pages = cache.new.pages } }
         ensures cached { OnOk result
@@ -196,7 +196,7 @@ impl<C: Checksum, Phase> Writer<C, Phase> {
         ensures any_moment { Through (Keeps C.checksum_of self.old.page_size
             (written C.checksum_of (B.calls blob.old) self.old ++ bytes.now) self.old.synced)
             (B.calls blob.old) (B.calls blob.new) }
-        ensures cause { IfErr result (IsCause CallKind.Write 0) }
+        ensures cause { IfErr result (IsCause (B.failures blob.old) CallKind.Write 0) }
         ensures failures { B.failures blob.new ≡ failures_after result (B.failures blob.old) }
         ensures cache { cache.new ≡ record cache.old { pages = cache.new.pages } }
         ensures cached { OnOk result
@@ -231,7 +231,7 @@ impl<C: Checksum, Phase> Writer<C, Phase> {
         ensures any_moment { Through (Keeps C.checksum_of self.old.page_size
             (written C.checksum_of (B.calls blob.old) self.old ++ bytes.now) self.old.synced)
             (B.calls blob.old) (B.calls blob.new) }
-        ensures cause { IfErr result (IsCause CallKind.Write 0) }
+        ensures cause { IfErr result (IsCause (B.failures blob.old) CallKind.Write 0) }
         ensures failures { B.failures blob.new ≡ failures_after result (B.failures blob.old) }
         ensures cache { cache.new ≡ record cache.old { pages = cache.new.pages } }
         ensures cached { HoldsPagesOf (written C.checksum_of (B.calls blob.old) self.old) cache.old self.old.blob_id
@@ -249,7 +249,8 @@ impl<C: Checksum, Phase> Writer<C, Phase> {
     }
 
     /// Appends bytes, and answers how many the list had before. They are durable after the next sync. Where a number of
-    /// the list would end: F8, and nothing changes; refused otherwise, the writer is given up.
+    /// the list would end: F8, and nothing changes; refused otherwise, also where a count of the blob's failures has
+    /// ended, the writer is given up.
     /// In the Rust: `paged::Writer::append`.
     pub fn append<B: Blob>(
         mut self,
@@ -270,10 +271,11 @@ impl<C: Checksum, Phase> Writer<C, Phase> {
         ensures any_moment { Through (Keeps C.checksum_of self.page_size
             (written C.checksum_of (B.calls blob.old) self ++ bytes.now) self.synced)
             (B.calls blob.old) (B.calls blob.new) }
-        ensures cause { IfErr result (IsCause CallKind.Write
+        ensures cause { IfErr result (IsCause (B.failures blob.old) CallKind.Write
             (physical_size self.page_size
             (length (written C.checksum_of (B.calls blob.old) self) + length bytes.now))) }
-        ensures ended { IfErr result (λ e. e ≡ Error.NumberEnded → B.calls blob.new ≡ B.calls blob.old) }
+        ensures ended { IfErr result (λ e. e ≡ Error.NumberEnded
+            → (B.calls blob.new ≡ B.calls blob.old) ⊎ HaveEnded (B.failures blob.old)) }
         ensures failures { B.failures blob.new ≡ failures_after result (B.failures blob.old) }
         ensures cache { cache.new ≡ record cache.old { pages = cache.new.pages } }
         // The pages that are kept under the writer's name stay those of its content.
@@ -308,10 +310,11 @@ impl<C: Checksum, Phase> Writer<C, Phase> {
         ensures any_moment { Through (Keeps C.checksum_of self.page_size
             (written C.checksum_of (B.calls blob.old) self ++ bytes.items) self.synced)
             (B.calls blob.old) (B.calls blob.new) }
-        ensures cause { IfErr result (IsCause CallKind.Write
+        ensures cause { IfErr result (IsCause (B.failures blob.old) CallKind.Write
             (physical_size self.page_size
             (length (written C.checksum_of (B.calls blob.old) self) + length bytes.items))) }
-        ensures ended { IfErr result (λ e. e ≡ Error.NumberEnded → B.calls blob.new ≡ B.calls blob.old) }
+        ensures ended { IfErr result (λ e. e ≡ Error.NumberEnded
+            → (B.calls blob.new ≡ B.calls blob.old) ⊎ HaveEnded (B.failures blob.old)) }
         ensures failures { B.failures blob.new ≡ failures_after result (B.failures blob.old) }
         ensures cache { cache.new ≡ record cache.old { pages = cache.new.pages } }
         // The pages that are kept under the writer's name stay those of its content.
@@ -376,7 +379,7 @@ impl<C: Checksum, Phase> Writer<C, Phase> {
             (last_slot C.checksum_of self.now.page_size self.now.slot self.now.tip.bytes)) }
         ensures any_moment { Through (Keeps C.checksum_of self.now.page_size
             (written C.checksum_of (B.calls blob.old) self.now) self.now.synced) (B.calls blob.old) (B.calls blob.new) }
-        ensures cause { IfErr result (IsCause CallKind.Write 0) }
+        ensures cause { IfErr result (IsCause (B.failures blob.old) CallKind.Write 0) }
         ensures failures { B.failures blob.new ≡ failures_after result (B.failures blob.old) }
     {
         if self.tip.is_empty() {
@@ -432,7 +435,7 @@ impl<C: Checksum, Phase> Writer<C, Phase> {
         // Whatever a crash leaves at any moment of the call keeps what was synced before.
         ensures any_moment { Through (Keeps C.checksum_of self.page_size
             (written C.checksum_of (B.calls blob.old) self) self.synced) (B.calls blob.old) (B.calls blob.new) }
-        ensures cause { IfErr result (λ e. IsCause CallKind.Write 0 e ⊎ IsCause CallKind.Sync 0 e) }
+        ensures cause { IfErr result (λ e. IsCause (B.failures blob.old) CallKind.Write 0 e ⊎ IsCause (B.failures blob.old) CallKind.Sync 0 e) }
         ensures failures { B.failures blob.new ≡ failures_after result (B.failures blob.old) }
         ensures cache { cache.new ≡ record cache.old { pages = cache.new.pages } }
         // The pages that are kept under the writer's name stay those of its content.
@@ -481,7 +484,7 @@ impl<C: Checksum, Phase> Writer<C, Phase> {
             (drop offset (written C.checksum_of (B.calls blob.old) self.now))) }
         ensures past { self.now.tip.offset + length self.now.tip.bytes < offset + length out.old
             → (result ≡ Err Error.BlobInsufficientLength) × (out.new ≡ out.old) × (cache.new ≡ cache.old) }
-        ensures cause { IfErr result (IsReadingCause self.now.page_size self.now.tip.offset
+        ensures cause { IfErr result (IsReadingCause (B.failures blob.old) self.now.page_size self.now.tip.offset
             (self.now.tip.offset + length self.now.tip.bytes) (offset + length out.old)) }
         ensures cached { HoldsPagesOf (written C.checksum_of (B.calls blob.old) self.now) cache.new self.now.blob_id }
         ensures same { cache.new ≡ record cache.old { pages = cache.new.pages } }
@@ -517,7 +520,7 @@ impl<C: Checksum, Phase> Writer<C, Phase> {
             (drop offset (written C.checksum_of (B.calls blob.old) self.now))) }
         ensures past { self.now.tip.offset + length self.now.tip.bytes < offset + len
             → (result ≡ Err Error.BlobInsufficientLength) × (cache.new ≡ cache.old) }
-        ensures cause { IfErr result (IsReadingCause self.now.page_size self.now.tip.offset
+        ensures cause { IfErr result (IsReadingCause (B.failures blob.old) self.now.page_size self.now.tip.offset
             (self.now.tip.offset + length self.now.tip.bytes) (offset + len)) }
         ensures cached { HoldsPagesOf (written C.checksum_of (B.calls blob.old) self.now) cache.new self.now.blob_id }
         ensures same { cache.new ≡ record cache.old { pages = cache.new.pages } }
@@ -553,7 +556,7 @@ impl<C: Checksum, Phase> Writer<C, Phase> {
             (drop offset (written C.checksum_of (B.calls blob.old) self.now))) }
         ensures past { self.now.tip.offset + length self.now.tip.bytes < offset
             → (result ≡ Err Error.BlobInsufficientLength) × (cache.new ≡ cache.old) }
-        ensures cause { IfErr result (IsReadingCause self.now.page_size self.now.tip.offset
+        ensures cause { IfErr result (IsReadingCause (B.failures blob.old) self.now.page_size self.now.tip.offset
             (self.now.tip.offset + length self.now.tip.bytes) offset) }
         ensures cached { HoldsPagesOf (written C.checksum_of (B.calls blob.old) self.now) cache.new self.now.blob_id }
         ensures same { cache.new ≡ record cache.old { pages = cache.new.pages } }

@@ -4,7 +4,7 @@ use Rattle.paged_blob.specs.Calls.{Call, synced}
 use Rattle.paged_blob.specs.Moments.{Through, here, then}
 use Rattle.paged_blob.specs.Answers.{Records, RecordsSync, MakesDurable}
 use Rattle.paged_blob.specs.declared.error.Error.{Error}
-use Rattle.paged_blob.specs.declared.error.Error.TheVariants.{Injected, BlobInsufficientLength, NumberEnded, Memory, PowerCut, ChecksumMismatch}
+use Rattle.paged_blob.specs.declared.error.Error.TheVariants.{Injected, BlobMissing, BlobInsufficientLength, NumberEnded, Memory, PowerCut, ChecksumMismatch}
 
 -- nothing was recorded
 stays : (P : List Call → Type 0) (old mid new : List Call) → Through P old mid → new ≡ mid → Through P old new
@@ -15,6 +15,7 @@ pub goes_on : {T : Type 0} (P : List Call → Type 0) (old mid new : List Call) 
     → Through P old mid → Records result call mid new → ((ok : Bool) → P (call ok ∷ mid)) → Through P old new
 goes_on P old mid new (Ok _) call so_far is now = subst (Through P old) (sym is) (then (call true) so_far (now true))
 goes_on P old mid new (Err (Injected kind)) call so_far is now = subst (Through P old) (sym is) (then (call false) so_far (now false))
+goes_on P old mid new (Err BlobMissing) call so_far is now = stays P old mid new so_far is
 goes_on P old mid new (Err BlobInsufficientLength) call so_far is now = stays P old mid new so_far is
 goes_on P old mid new (Err NumberEnded) call so_far is now = stays P old mid new so_far is
 goes_on P old mid new (Err Memory) call so_far is now = stays P old mid new so_far is
@@ -28,6 +29,7 @@ pub goes_on_sync : {T : Type 0} (P : List Call → Type 0) (old mid new : List C
 goes_on_sync P old mid new (Ok _) so_far (bytes, durable, is) settled failed =
     subst (Through P old) (sym is) (then (synced bytes true) so_far (settled bytes durable))
 goes_on_sync P old mid new (Err (Injected kind)) so_far is settled failed = subst (Through P old) (sym is) (then (synced [] false) so_far failed)
+goes_on_sync P old mid new (Err BlobMissing) so_far is settled failed = stays P old mid new so_far is
 goes_on_sync P old mid new (Err BlobInsufficientLength) so_far is settled failed = stays P old mid new so_far is
 goes_on_sync P old mid new (Err NumberEnded) so_far is settled failed = stays P old mid new so_far is
 goes_on_sync P old mid new (Err Memory) so_far is settled failed = stays P old mid new so_far is

@@ -58,7 +58,7 @@ impl<C: Checksum> Writer<C, Recovering> {
         ensures blob_id { IfOk result (λ w. w.blob_id ≡ cache.old.next_id) }
         ensures cache { OnOk result (cache.new ≡ record cache.old { next_id = cache.old.next_id + 1 }) }
         ensures refused { OnErr result (cache.new ≡ cache.old) }
-        ensures cause { IfErr result (λ e. IsReadCause (file_of (B.calls blob.old)) 0 blob_size e
+        ensures cause { IfErr result (λ e. IsReadCause (B.failures blob.old) (file_of (B.calls blob.old)) 0 blob_size e
             ⊎ ((e ≡ Error.NumberEnded) × (cache.old.next_id + 1 ≡ 2 ^ 64))) }
         ensures calls { B.calls blob.new ≡ B.calls blob.old }
         ensures failures { B.failures blob.new ≡ failures_after result (B.failures blob.old) }
@@ -138,7 +138,7 @@ impl<C: Checksum> Writer<C, Recovering> {
         ensures any_moment { let old = recovered C.checksum_of self.page_size (content (B.calls blob.old)) in
             (synced : ℕ) → Withstands C.checksum_of self.page_size old synced (file_of (B.calls blob.old))
             → Through (Keeps C.checksum_of self.page_size old (min size synced)) (B.calls blob.old) (B.calls blob.new) }
-        ensures cause { IfErr result (λ e. IsCutCause (length (content (B.calls blob.old))) e
+        ensures cause { IfErr result (λ e. IsCutCause (B.failures blob.old) (length (content (B.calls blob.old))) e
             ⊎ ((e ≡ Error.NumberEnded) × ((cache.old.next_id + 1 ≡ 2 ^ 64)
             ⊎ (2 ^ 64 ≤ physical_size self.page_size (min size (self.tip.offset + length self.tip.bytes)) + 4096)))) }
         ensures failures { B.failures blob.new ≡ failures_after result (B.failures blob.old) }
@@ -189,7 +189,7 @@ impl<C: Checksum, Phase> Writer<C, Phase> {
         requires { AreProven C.checksum_of self.now.page_size (B.calls blob.old) blob_size proven }
         ensures exact { IsFalse (file_of (B.calls blob.old)).failed
             → IfOk result (λ len. len ≡ recoverable C.checksum_of self.now.page_size (B.calls blob.old) blob_size) }
-        ensures cause { IfErr result (IsReadCause (file_of (B.calls blob.old)) 0 blob_size) }
+        ensures cause { IfErr result (IsReadCause (B.failures blob.old) (file_of (B.calls blob.old)) 0 blob_size) }
         ensures calls { B.calls blob.new ≡ B.calls blob.old }
         ensures failures { B.failures blob.new ≡ failures_after result (B.failures blob.old) }
     {
@@ -209,7 +209,7 @@ impl<C: Checksum, Phase> Writer<C, Phase> {
         requires { AreProven C.checksum_of self.now.page_size (B.calls blob.old) blob_size proven }
         ensures exact { IsFalse (file_of (B.calls blob.old)).failed → IfOk result (λ len. len
             ≡ min max_size (recoverable C.checksum_of self.now.page_size (B.calls blob.old) blob_size)) }
-        ensures cause { IfErr result (IsReadCause (file_of (B.calls blob.old)) 0 blob_size) }
+        ensures cause { IfErr result (IsReadCause (B.failures blob.old) (file_of (B.calls blob.old)) 0 blob_size) }
         ensures calls { B.calls blob.new ≡ B.calls blob.old }
         ensures failures { B.failures blob.new ≡ failures_after result (B.failures blob.old) }
     {

@@ -13,4 +13,4 @@ returns-clause-cause g c =
     let long : length c.deref.result.now ≡ physical_size size (length content) =
     ap length (c.deref.ensures.value ∙ c.in_ok-pages.ensures.bytes)
     ∙ length-pages_bytes g.C.Checksum.checksum_of size room (page_count size (length content)) c.args.kept content in
-    subst (λ len. IfErr c.write_at.result (IsCause Write (c.args.first * size + len))) long c.write_at.ensures.cause
+    subst (λ len. IfErr c.write_at.result (IsCause (g.B.Blob.failures c.args.blob.now) Write (c.args.first * size + len))) long c.write_at.ensures.cause

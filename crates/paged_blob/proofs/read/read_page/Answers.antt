@@ -13,13 +13,14 @@ returns-in_err-bytes-clause-cause g c =
     let size = c.args.physical_page_size in
     let calls = g.B.Blob.calls c.args.blob.now in
     let page = c.args.page in
+    let past = g.B.Blob.failures c.args.blob.now in
     let footer : 12 < size = search rules in
     let is : c.from-size.result ≡ size = search rules in
     let there = whole_there sum size footer (content calls) page c.requires.whole in
     let p = err_from_is_err_and c.from_residual.result c.from_residual.ensures.1 in
-    let P : ℕ → Type 0 = λ s. IsReadCause (file_of calls) (page * s) size c.in_err-bytes.field-0.0 in
+    let P : ℕ → Type 0 = λ s. IsReadCause past (file_of calls) (page * s) size c.in_err-bytes.field-0.0 in
     let cause : P size = subst P is c.in_err-bytes.ensures.cause in
-    rw (p.1, p.2) (page_cause calls page size c.in_err-bytes.field-0.0 c.requires.sound there cause)
+    rw (p.1, p.2) (page_cause past calls page size c.in_err-bytes.field-0.0 c.requires.sound there cause)
 
 pub returns-then-prefix_len-room-clause-cause : goal.returns-then-prefix_len-room-clause-cause
 returns-then-prefix_len-room-clause-cause g c =

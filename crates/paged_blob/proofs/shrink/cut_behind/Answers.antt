@@ -57,7 +57,7 @@ returns-in_err-resize-clause-cause g c =
     let there = pages_there sum size footer calls c.requires.settled c.args.pages 0 short within in
     let p = err_from_is_err_and c.from_residual.result c.from_residual.ensures.1 in
     let reach : c.args.pages * c.from.result ≤ length (file_of calls).base = omega (arith, there, ap (λ s. c.args.pages * s) is) in
-    rw (p.1, p.2) (call_cause Resize (c.args.pages * c.from.result) (length (file_of calls).base) c.in_err-resize.field-0.0 reach c.in_err-resize.ensures.cause)
+    rw (p.1, p.2) (call_cause (g.B.Blob.failures c.args.blob.now) Resize (c.args.pages * c.from.result) (length (file_of calls).base) c.in_err-resize.field-0.0 reach c.in_err-resize.ensures.cause)
 
 pub returns-clause-any_moment : goal.returns-clause-any_moment
 returns-clause-any_moment g c =

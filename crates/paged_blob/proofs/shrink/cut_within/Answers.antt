@@ -72,9 +72,9 @@ returns-in_err-bytes-clause-cause g c =
     let sound = c.requires.sound in
     let there = last_there sum size footer calls settled page part short within some in
     let p = err_from_is_err_and c.from_residual.result c.from_residual.ensures.1 in
-    let P : ℕ → Type 0 = λ s. IsReadCause (file_of calls) (page * s) size c.in_err-bytes.field-0.0 in
+    let P : ℕ → Type 0 = λ s. IsReadCause (g.B.Blob.failures c.args.blob.now) (file_of calls) (page * s) size c.in_err-bytes.field-0.0 in
     let cause : P size = subst P is c.in_err-bytes.ensures.cause in
-    rw (p.1, p.2) (read_cause sum size footer calls settled page part short within c.in_err-bytes.field-0.0 some sound cause)
+    rw (p.1, p.2) (read_cause sum size footer calls settled page part short within (g.B.Blob.failures c.args.blob.now) c.in_err-bytes.field-0.0 some sound cause)
 
 pub returns-in_default-clause-any_moment : goal.returns-in_default-clause-any_moment
 returns-in_default-clause-any_moment g c =

@@ -4,7 +4,7 @@ use Rattle.std.proofs.lemmas.List.Elements.{Contains-get_or}
 use Rattle.std.proofs.lemmas.Result.{err_from_is_err_and}
 use Rattle.std.proofs.Math.Seq.{take-suc}
 use Rattle.paged_blob.specs.Calls.{Call, file_of}
-use Rattle.paged_blob.specs.Answers.{IsSlice, IsReadCause}
+use Rattle.paged_blob.specs.Answers.{Failures, IsSlice, IsReadCause}
 use Rattle.paged_blob.proofs.Many.{slices-append, many_cause}
 use Rattle.paged_blob.proofs.blob.Blob.read_many.Goals as goal
 
@@ -16,10 +16,12 @@ returns-in_err-bytes-clause-cause g c =
     let range : ℕ × ℕ = get_or ranges index (0, 0) in
     let error = c.in_err-bytes.field-0.0 in
     let now = g.Self.Blob.calls c.args.self.now in
-    let P : List Call → Type 0 = λ calls. IsReadCause (file_of calls) range.0 range.1 error in
-    let cause : P now = subst P c.loop-offset.invariant.calls c.in_err-bytes.ensures.cause in
+    let past = g.Self.Blob.failures c.args.self.now in
+    let P : List Call → Type 0 = λ calls. IsReadCause past (file_of calls) range.0 range.1 error in
+    let Q : Failures → Type 0 = λ f. IsReadCause f (file_of (g.Self.Blob.calls c.loop-offset.self)) range.0 range.1 error in
+    let cause : P now = subst P c.loop-offset.invariant.calls (subst Q c.loop-offset.invariant.failures c.in_err-bytes.ensures.cause) in
     let below : index < length ranges = search rules in
-    rw (p.1, p.2) (many_cause (file_of now) ranges range error (Contains-get_or ranges index (0, 0) below) cause)
+    rw (p.1, p.2) (many_cause past (file_of now) ranges range error (Contains-get_or ranges index (0, 0) below) cause)
 
 pub loop-offset-preserved : goal.loop-offset-preserved
 loop-offset-preserved g c =

@@ -1,7 +1,7 @@
-use Rattle.std.proofs.Common.{rules, ◌≡◌, ℕ, ◌+◌, ◌^◌, ◌<◌, ◌≤◌, min, List, length, take, sym, ◌∙◌, ap, subst, arith}
+use Rattle.std.proofs.Common.{rules, ◌≡◌, ◌+◌, ◌^◌, ◌<◌, ◌≤◌, min, length, take, sym, ◌∙◌, ap, subst, arith}
 use Rattle.std.proofs.lemmas.List.{length-take}
 use Rattle.paged_format.specs.Pages.{recovered}
-use Rattle.paged_blob.specs.Calls.{content, file_of}
+use Rattle.paged_blob.specs.Calls.{content}
 use Rattle.paged_blob.specs.Flushes.{physical_size}
 use Rattle.paged_blob.specs.Writers.{WriterState}
 use Rattle.paged_blob.proofs.Recovered.{still, goes_on}
