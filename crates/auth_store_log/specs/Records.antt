@@ -15,6 +15,9 @@ pub record Format : Type 0 where
   pub key_size : ℕ
   pub value_size : ℕ
 
+abbrev pub format_of : (List ℕ → Outcome) → (List ℕ → Outcome) → ℕ → ℕ → Format
+format_of key value key_size value_size = record { key = key; value = value; key_size = key_size; value_size = value_size }
+
 -- how many bytes a record has
 abbrev pub record_size : Format → ℕ
 record_size format = fixed_size format.key_size format.value_size

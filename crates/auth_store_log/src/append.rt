@@ -34,8 +34,9 @@ pub fn append_batch<B: Blob, C: Checksum>(
     ensures any_moment { Through (Keeps C.checksum_of writer.page_size
         (written C.checksum_of (B.calls blob.old) writer ++ bytes.now) writer.synced)
         (B.calls blob.old) (B.calls blob.new) }
-    ensures cause { IfErr result (λ e. IsCause CallKind.Write (physical_size writer.page_size
-        (length (written C.checksum_of (B.calls blob.old) writer) + length bytes.now)) e ⊎ IsCause CallKind.Sync 0 e) }
+    ensures cause { IfErr result (λ e. IsCause (B.failures blob.old) CallKind.Write (physical_size writer.page_size
+        (length (written C.checksum_of (B.calls blob.old) writer) + length bytes.now)) e
+        ⊎ IsCause (B.failures blob.old) CallKind.Sync 0 e) }
     ensures failures { B.failures blob.new ≡ failures_after result (B.failures blob.old) }
     ensures cache { cache.new ≡ record cache.old { pages = cache.new.pages } }
     ensures cached { HoldsPagesOf (written C.checksum_of (B.calls blob.old) writer) cache.old writer.blob_id

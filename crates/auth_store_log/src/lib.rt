@@ -5,6 +5,7 @@
 pub mod append;
 pub mod error;
 pub mod laws;
+pub mod records;
 
 pub use append::append_batch;
 pub use error::Error;

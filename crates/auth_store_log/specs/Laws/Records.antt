@@ -139,7 +139,7 @@ count_within n count size len low high some = le_of_mul-le-mul_right {k = size} 
 times_within : (m n size len : ℕ) → m ≤ n → n * size ≤ len → m * size ≤ len
 times_within m n size len fewer low = let more = mul-le-mul_right {m = m} {n = n} size fewer in omega (arith, more, low)
 
-length-pieces : (size count : ℕ) (bytes : List ℕ) → length (pieces size count bytes) ≡ count
+pub length-pieces : (size count : ℕ) (bytes : List ℕ) → length (pieces size count bytes) ≡ count
 length-pieces size zero bytes = refl
 length-pieces size (suc count) bytes = ap suc (length-pieces size count (drop size bytes))
 
