@@ -6,6 +6,8 @@ pub mod append;
 pub mod error;
 pub mod laws;
 pub mod records;
+pub mod recover;
+mod replay;
 
 pub use append::append_batch;
 pub use error::Error;
