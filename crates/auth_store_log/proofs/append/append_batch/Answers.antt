@@ -1,0 +1,26 @@
+use Rattle.std.proofs.Common.{◌≡◌, ℕ, ◌++◌, List, subst}
+use Rattle.paged_blob.specs.Calls.{Call}
+use Rattle.paged_blob.specs.Moments.{Through}
+use Rattle.paged_blob.specs.Writers.{written, Keeps}
+use Rattle.paged_blob.specs.Laws.Moments.{joined}
+use Rattle.auth_store_log.proofs.append.append_batch.Goals as goal
+
+-- the same is kept where size, content and what is durable are the same
+kept_as : (sum : List ℕ → ℕ) (old new : List Call) (size other_size : ℕ) (content other : List ℕ) (synced other_synced : ℕ)
+    → size ≡ other_size → content ≡ other → synced ≡ other_synced
+    → Through (Keeps sum size content synced) old new → Through (Keeps sum other_size other other_synced) old new
+kept_as sum old new size other_size content other synced other_synced sizes contents syncs kept =
+    subst (λ n. Through (Keeps sum other_size other n) old new) syncs
+    (subst (λ l. Through (Keeps sum other_size l synced) old new) contents
+    (subst (λ n. Through (Keeps sum n content synced) old new) sizes kept))
+
+pub returns-clause-any_moment : goal.returns-clause-any_moment
+returns-clause-any_moment g c =
+    let sum = g.C.Checksum.checksum_of in
+    let there = c.in_ok-appended.ensures in
+    joined {P = Keeps sum c.args.writer.page_size (written sum (g.B.Blob.calls c.args.blob.now) c.args.writer ++ c.args.bytes.now) c.args.writer.synced}
+    c.append.ensures.any_moment
+    (kept_as sum (g.B.Blob.calls c.append.new.blob) (g.B.Blob.calls c.sync.new.blob) c.in_ok-appended.appended.page_size c.args.writer.page_size
+    (written sum (g.B.Blob.calls c.append.new.blob) c.in_ok-appended.appended)
+    (written sum (g.B.Blob.calls c.args.blob.now) c.args.writer ++ c.args.bytes.now) c.in_ok-appended.appended.synced c.args.writer.synced
+    there.same.0 there.content there.synced c.sync.ensures.any_moment)

@@ -1,0 +1,13 @@
+//! A log of operations over a blob that tears what is written to it: it is recovered up to its last commit, and what is
+//! appended is durable or wholly lost.
+#![tactic(auto)]
+
+pub mod append;
+pub mod error;
+pub mod laws;
+pub mod records;
+pub mod recover;
+mod replay;
+
+pub use append::append_batch;
+pub use error::Error;
