@@ -1,0 +1,3 @@
+-- What follows from the definitions. No reader has to believe it.
+pub mod Mem
+pub mod Peaks
