@@ -1,5 +1,5 @@
 -- The printed texts of the errors.
-use Rattle.std.specs.Prelude.{ℕ, List, ◌++◌, codes}
+use Rattle.std.specs.Prelude.{◌≡◌, ℕ, List, ◌++◌, ◌<◌, ◌≤◌, ◌^◌, codes}
 use Rattle.std.specs.Fmt.{decimal}
 use Rattle.merkle_core_parts.specs.declared.error.Error.{Error}
 use Rattle.merkle_core_parts.specs.declared.error.Error.TheVariants.{LocationOverflow, StaleBatch, InvalidInactivePeaks, MissingNode, Memory}
@@ -11,3 +11,20 @@ error_text StaleBatch = codes "M13: the batch begins from another tree"
 error_text InvalidInactivePeaks = codes "M16: fewer peaks than inactive ones"
 error_text (MissingNode position) = codes "M20: node " ++ decimal position ++ codes " is missing"
 error_text Memory = codes "M23: out of memory"
+
+-- why nodes over a base may not be made, of which so many are needed and so many are there: out of memory, or one that is
+-- needed is not there
+abbrev pub IsRefusalOver : {F : Type 0} → ℕ → ℕ → Error F → Type 0
+IsRefusalOver needed held (LocationOverflow location) = ⊥
+IsRefusalOver needed held StaleBatch = ⊥
+IsRefusalOver needed held InvalidInactivePeaks = ⊥
+IsRefusalOver needed held (MissingNode position) = (held ≤ position) × (position < needed)
+IsRefusalOver needed held Memory = Unit {0}
+
+-- why a leaf may not be added after so many: out of memory, or its location is past the limit
+abbrev pub IsRefusalPast : {F : Type 0} → ℕ → Error F → Type 0
+IsRefusalPast leaves (LocationOverflow location) = (location ≡ leaves) × (2 ^ 62 ≤ leaves)
+IsRefusalPast leaves StaleBatch = ⊥
+IsRefusalPast leaves InvalidInactivePeaks = ⊥
+IsRefusalPast leaves (MissingNode position) = ⊥
+IsRefusalPast leaves Memory = Unit {0}

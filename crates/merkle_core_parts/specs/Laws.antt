@@ -1,3 +1,6 @@
 -- What follows from the definitions. No reader has to believe it.
+pub mod Growth
+pub mod Made
 pub mod Mem
 pub mod Peaks
+pub mod Places

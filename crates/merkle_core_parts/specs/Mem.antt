@@ -1,5 +1,5 @@
 -- A tree that is kept in memory as the digests of its nodes.
-use Rattle.std.specs.Prelude.{◌≡◌, ℕ, ◌+◌, List, [], map, length, slice_get, slice_index_or, Some}
+use Rattle.std.specs.Prelude.{◌≡◌, ℕ, ◌+◌, List, [], ◌++◌, map, length, slice_get, slice_index_or, Some}
 use Rattle.merkle_forest.specs.Forest.{Tree, leaf, branch, position, leaf_count, size, Rule, forest_of}
 use Rattle.merkle_forest.specs.declared.bagging.Bagging.{Bagging}
 use Rattle.merkle_forest.specs.Hashing.{Hash, root_of}
@@ -47,3 +47,28 @@ abbrev pub list_root : Hash → NodeHash → Bagging → Rule → List (List ℕ
 list_root hash node bagging rule leaf_digests inactive =
     root_of hash bagging (length leaf_digests) inactive
     (forest_digests (tree_digest node leaf_digests) (forest_of rule (length leaf_digests)))
+
+-- a tree as a batch remembers it: how many leaves it has, and the digests of its peaks from left to right
+pub record Base : Type 0 where
+  pub leaves : ℕ
+  pub peaks : List (List ℕ)
+
+-- the base that a tree is
+abbrev pub base_of : Rule → Nodes → Base
+base_of rule nodes = record { leaves = nodes.leaves; peaks = peak_digests rule nodes }
+
+-- a batch of leaves: the base that they are added to, and their digests
+pub record Additions : Type 0 where
+  pub base : Base
+  pub added : List (List ℕ)
+
+-- a batch of nodes: the base that they are added to, how many leaves there are then, and the digests of the new nodes, in
+-- order of position
+pub record Growth : Type 0 where
+  pub base : Base
+  pub leaves : ℕ
+  pub digests : List (List ℕ)
+
+-- a tree with a batch's nodes after its own
+abbrev pub with_batch : Nodes → Growth → Nodes
+with_batch nodes batch = record { leaves = batch.leaves; digests = nodes.digests ++ batch.digests }

@@ -2,7 +2,9 @@
 //! commonware-storage 2026.10.0; `In the Rust` names what an item is there.
 #![tactic(auto)]
 
+pub mod batch;
 pub mod error;
+pub mod growth;
 pub mod mem;
 pub mod peaks;
 
