@@ -1,6 +1,7 @@
 -- The printed texts of the errors.
-use Rattle.std.specs.Prelude.{◌≡◌, ℕ, List, ◌++◌, ◌<◌, ◌≤◌, ◌^◌, codes}
+use Rattle.std.specs.Prelude.{◌≡◌, ℕ, List, ◌+◌, ◌++◌, ◌<◌, ◌≤◌, ◌^◌, codes}
 use Rattle.std.specs.Fmt.{decimal}
+use Rattle.merkle_core_parts.specs.Mem.{Base}
 use Rattle.merkle_core_parts.specs.declared.error.Error.{Error}
 use Rattle.merkle_core_parts.specs.declared.error.Error.TheVariants.{LocationOverflow, StaleBatch, InvalidInactivePeaks, MissingNode, Memory}
 
@@ -28,3 +29,19 @@ IsRefusalPast leaves StaleBatch = ⊥
 IsRefusalPast leaves InvalidInactivePeaks = ⊥
 IsRefusalPast leaves (MissingNode position) = ⊥
 IsRefusalPast leaves Memory = Unit {0}
+
+-- why so many leaves may not be added after so many: out of memory, or the first location past the limit is one of theirs
+abbrev pub IsRefusalOfMany : {F : Type 0} → ℕ → ℕ → Error F → Type 0
+IsRefusalOfMany leaves more (LocationOverflow location) = (location ≡ 2 ^ 62) × (2 ^ 62 < leaves + more)
+IsRefusalOfMany leaves more StaleBatch = ⊥
+IsRefusalOfMany leaves more InvalidInactivePeaks = ⊥
+IsRefusalOfMany leaves more (MissingNode position) = ⊥
+IsRefusalOfMany leaves more Memory = Unit {0}
+
+-- why a batch over this base may not be applied to that tree: out of memory, or it is another base
+abbrev pub IsRefusalOnto : {F : Type 0} → Base → Base → Error F → Type 0
+IsRefusalOnto base tree (LocationOverflow location) = ⊥
+IsRefusalOnto base tree StaleBatch = base ≡ tree → ⊥
+IsRefusalOnto base tree InvalidInactivePeaks = ⊥
+IsRefusalOnto base tree (MissingNode position) = ⊥
+IsRefusalOnto base tree Memory = Unit {0}

@@ -95,3 +95,35 @@ pub(crate) fn push_leaf<F: Family, H: Hasher<F>>(
     }
     Ok(())
 }
+
+// Appends leaves with these digests after so many, and the parents that are born with them.
+pub(crate) fn push_leaves<F: Family, H: Hasher<F>>(
+    hasher: &H,
+    base: &[H::Digest],
+    base_size: u64,
+    added: &mut Vec<H::Digest>,
+    leaves: u64,
+    digests: &[H::Digest],
+) -> Result<(), Error<F>>
+    requires few { leaves + length digests.now ≤ MAX_LEAVES }
+    requires counted { base_size + length added.old.items ≡ node_count F.merge_rule leaves }
+    ensures counted { OnOk result (base_size + length added.new.items
+        ≡ node_count F.merge_rule (leaves + length digests.now)) }
+    ensures made { OnOk result ((leaf_digests : List (List ℕ)) → length base.now ≡ base_size
+        → AreNodesOf (H.node_of hasher.now) F.merge_rule leaf_digests (record {
+          leaves = leaves;
+          digests = map H.Digest.encoding base.now ++ map H.Digest.encoding added.old.items;
+        })
+        → AreNodesOf (H.node_of hasher.now) F.merge_rule (leaf_digests ++ map H.Digest.encoding digests.now) (record {
+          leaves = leaves + length digests.now;
+          digests = map H.Digest.encoding base.now ++ map H.Digest.encoding added.new.items;
+        })) }
+    ensures refused { IfErr result (λ e. IsRefusalOver base_size (length base.now) e) }
+{
+    let mut total = leaves;
+    for digest in digests {
+        push_leaf::<F, H>(hasher, base, base_size, added, total, *digest)?;
+        total += 1;
+    }
+    Ok(())
+}

@@ -1,13 +1,15 @@
 //! The tree that is kept in memory.
 
-ghost use Rattle.std.specs.Prelude.{◌≡◌, ◌≤◌, ◌↔◌, ◌^◌, [], ℕ, List, map, length, option_map, slice_get, IsOk, IfOk, IfErr};
+ghost use Rattle.std.specs.Prelude.{◌≡◌, ◌≤◌, ◌↔◌, ◌^◌, [], ℕ, List, map, length, option_map, slice_get, IsTrue, IsOk, IfOk, IfErr, OnOk, OnErr};
 ghost use Rattle.merkle_forest.specs.Forest.{size, forest_of};
 ghost use Rattle.merkle_forest.specs.Hashing.{root_of};
 ghost use Rattle.merkle_forest.specs.Peaks.{peak_positions};
-ghost use Rattle.merkle_core_parts.specs.Mem.{peak_digests, AreNodesOf, list_root};
+ghost use Rattle.merkle_core_parts.specs.Errors.{IsRefusalOnto};
+ghost use Rattle.merkle_core_parts.specs.Mem.{node_count, peak_digests, AreNodesOf, list_root, base_of, with_batch};
 
+use crate::batch::{MerkleizedBatch, UnmerkleizedBatch};
 use crate::error::Error;
-use crate::peaks::root_of_digests;
+use crate::peaks::{have_all_peaks, peaks_of, root_of_digests};
 use merkle_forest::hasher::Hasher;
 use merkle_forest::peaks::Peaks;
 use merkle_forest::{Digest, Family, Location, Position};
@@ -114,5 +116,51 @@ impl<F: Family, D: Digest> Mem<F, D> {
         ensures refused { IfErr result (λ e. e ≡ Error.InvalidInactivePeaks) }
     {
         root_of_digests(hasher, self.leaves, &self.digests, inactive_peaks)
+    }
+
+    // The digests of the nodes, in order of position.
+    pub(crate) fn digests(&self) -> &[D]
+        ensures digests { map D.encoding result.now ≡ self.now.digests }
+        ensures counted { length result.now ≡ node_count F.merge_rule self.now.leaves }
+    {
+        &self.digests
+    }
+
+    /// A batch that adds nothing to the tree yet. It fails only when out of memory: M23.
+    /// In the Rust: `merkle::mem::Mem::new_batch`.
+    pub fn new_batch(&self) -> Result<UnmerkleizedBatch<F, D>, Error<F>>
+        ensures batch { IfOk result (λ batch. batch ≡ record { base = base_of F.merge_rule self.now; added = [] }) }
+        ensures refused { IfErr result (λ e. e ≡ Error.Memory) }
+    {
+        let peaks = peaks_of::<F, D>(self.alloc, self.leaves, &self.digests)?;
+        Ok(UnmerkleizedBatch::over(self.alloc, self.leaves, peaks))
+    }
+
+    // Whether the tree is the batch's base, by its leaf count and the digests of its peaks.
+    fn is_base_of(&self, batch: &MerkleizedBatch<F, D>) -> bool
+        ensures { IsTrue result ↔ (batch.now.base ≡ base_of F.merge_rule self.now) }
+    {
+        if self.leaves != batch.base_leaves() {
+            return false;
+        }
+        have_all_peaks::<F, D>(self.leaves, &self.digests, batch.base_peaks())
+    }
+
+    /// Adds the batch's nodes. Where the tree is not the batch's base, by its leaf count and the digests of its peaks: M13;
+    /// out of memory: M23. It then stays as it was. That trees of one leaf count and equal digests of peaks stand over one
+    /// list of leaf digests is for the caller to know.
+    /// In the Rust: `merkle::mem::Mem::apply_batch`.
+    pub fn apply_batch(&mut self, batch: &MerkleizedBatch<F, D>) -> Result<(), Error<F>>
+        ensures applied { OnOk result (self.new ≡ with_batch self.old batch.now) }
+        ensures base { OnOk result (batch.now.base ≡ base_of F.merge_rule self.old) }
+        ensures refused { IfErr result (λ e. IsRefusalOnto batch.now.base (base_of F.merge_rule self.old) e) }
+        ensures unchanged { OnErr result (self.new ≡ self.old) }
+    {
+        if !self.is_base_of(batch) {
+            return Err(Error::StaleBatch);
+        }
+        self.digests.extend_from_slice(batch.digests())?;
+        self.leaves = batch.leaves().as_u64();
+        Ok(())
     }
 }

@@ -1,6 +1,6 @@
 //! The peaks of a tree folded into its root, from left to right or from right to left, without a list of them.
 
-ghost use Rattle.std.specs.Prelude.{◌≡◌, ◌<◌, ◌≤◌, ◌+◌, ◌↔◌, ◌∷◌, [], ℕ, List, true, map, take, drop, length, IsOk, IfOk, IfErr};
+ghost use Rattle.std.specs.Prelude.{◌≡◌, ◌<◌, ◌≤◌, ◌+◌, ◌↔◌, ◌++◌, ◌∷◌, [], ℕ, List, true, map, take, drop, length, IsTrue, IsOk, IfOk, IfErr, OnOk};
 ghost use Rattle.merkle_forest.specs.Forest.{size, forest_of};
 ghost use Rattle.merkle_forest.specs.declared.bagging.Bagging.TheVariants.{ForwardFold, BackwardFold};
 ghost use Rattle.merkle_forest.specs.Hashing.{folded_onto, folded_backward, items, bagged, root_of};
@@ -14,6 +14,7 @@ use merkle_forest::hasher::Hasher;
 use merkle_forest::peaks::inactive_count;
 use merkle_forest::root::root_over_item;
 use merkle_forest::{Digest, Location};
+use std::alloc::{AllocError, Global};
 
 // The digest of the peak that begins at `first`, and the location after its last leaf.
 fn peak_at<F: Family, D: Digest>(leaves: u64, digests: &[D], first: u64) -> (D, u64)
@@ -192,4 +193,81 @@ pub(crate) fn root_of_digests<F: Family, H: Hasher<F>>(
     }
     let item = bag_peaks(hasher, leaves, digests, inactive, count);
     Ok(root_over_item(hasher, leaves, inactive as u64, &item))
+}
+
+// Appends the digests of the peaks that begin at `first` or after it, from left to right.
+fn append_peaks<F: Family, D: Digest>(
+    found: &mut Vec<D>,
+    leaves: u64,
+    digests: &[D],
+    first: u64,
+) -> Result<(), AllocError>
+    requires few { leaves ≤ MAX_LEAVES }
+    requires held { length digests.now ≡ size (forest_of F.merge_rule leaves) }
+    requires cut { is_cut first (forest_of F.merge_rule leaves) ≡ true }
+    requires within { first ≤ leaves }
+    ensures { OnOk result (map D.encoding found.new.items ≡ map D.encoding found.old.items
+        ++ digests_from F.merge_rule leaves (map D.encoding digests.now) first) }
+{
+    if first >= leaves {
+        return Ok(());
+    }
+    let (digest, next) = peak_at::<F, D>(leaves, digests, first);
+    found.push(digest)?;
+    append_peaks::<F, D>(found, leaves, digests, next)
+}
+
+// The digests of the peaks, from left to right.
+pub(crate) fn peaks_of<F: Family, D: Digest>(
+    alloc: Global,
+    leaves: u64,
+    digests: &[D],
+) -> Result<Vec<D>, AllocError>
+    requires few { leaves ≤ MAX_LEAVES }
+    requires held { length digests.now ≡ size (forest_of F.merge_rule leaves) }
+    ensures { IfOk result (λ found. map D.encoding found.items
+        ≡ digests_from F.merge_rule leaves (map D.encoding digests.now) 0) }
+{
+    let mut found = Vec::new(alloc);
+    append_peaks::<F, D>(&mut found, leaves, digests, 0)?;
+    Ok(found)
+}
+
+// Whether the peaks that begin at `first` or after it have these digests, from left to right.
+fn have_peaks<F: Family, D: Digest>(leaves: u64, digests: &[D], first: u64, peaks: &[D]) -> bool
+    requires few { leaves ≤ MAX_LEAVES }
+    requires held { length digests.now ≡ size (forest_of F.merge_rule leaves) }
+    requires cut { is_cut first (forest_of F.merge_rule leaves) ≡ true }
+    requires within { first ≤ leaves }
+    ensures { IsTrue result ↔ (map D.encoding peaks.now
+        ≡ digests_from F.merge_rule leaves (map D.encoding digests.now) first) }
+{
+    match peaks {
+        [] => {
+            if first < leaves {
+                return false;
+            }
+            true
+        }
+        [own, rest @ ..] => {
+            if first >= leaves {
+                return false;
+            }
+            let (digest, next) = peak_at::<F, D>(leaves, digests, first);
+            if own.as_bytes() != digest.as_bytes() {
+                return false;
+            }
+            have_peaks::<F, D>(leaves, digests, next, rest)
+        }
+    }
+}
+
+// Whether the peaks have these digests, from left to right.
+pub(crate) fn have_all_peaks<F: Family, D: Digest>(leaves: u64, digests: &[D], peaks: &[D]) -> bool
+    requires few { leaves ≤ MAX_LEAVES }
+    requires held { length digests.now ≡ size (forest_of F.merge_rule leaves) }
+    ensures { IsTrue result ↔ (map D.encoding peaks.now
+        ≡ digests_from F.merge_rule leaves (map D.encoding digests.now) 0) }
+{
+    have_peaks::<F, D>(leaves, digests, 0, peaks)
 }

@@ -1,17 +1,16 @@
 -- The nodes of a list's tree, as they are made one after the other.
-use Rattle.std.proofs.Common.{◌≡◌, ℕ, zero, suc, ◌+◌, ◌<◌, ◌≤◌, ◌⊎◌, inl, inr, List, [], ◌∷◌, ◌++◌, length, get_or, map, Option, Some, None, refl, sym, ◌∙◌, ap, ap₂, subst, arith, append_assoc, length-append}
+use Rattle.std.proofs.Common.{◌≡◌, ℕ, zero, suc, ◌+◌, ◌<◌, ◌≤◌, ◌⊎◌, inl, inr, List, [], ◌∷◌, ◌++◌, length, map, Option, Some, refl, sym, ◌∙◌, ap, ap₂, subst, arith, append_assoc, length-append}
 use Rattle.std.proofs.lemmas.Bool.{cases_lt}
 use Rattle.std.proofs.lemmas.List.{get_or_append_left, get_or_at, length-map, map-append}
-use Rattle.std.proofs.lemmas.Option.{slice_get_within}
-use Rattle.std.specs.Prelude.{slice_get, slice_index_or}
-use Rattle.merkle_forest.specs.Forest.{Tree, leaf, branch, position, leaf_count, size, leaves, Rule, forest_of}
+use Rattle.std.specs.Prelude.{slice_get}
+use Rattle.merkle_forest.specs.Forest.{Tree, leaf, branch, position, leaf_count, size, Rule, forest_of}
 use Rattle.merkle_forest.specs.Nodes.{IsNodeAt}
 use Rattle.merkle_forest.specs.Perfect.{IsPairing}
 use Rattle.merkle_forest.specs.Laws.ForestGrowth.{leaves-forest_of}
 use Rattle.merkle_forest.specs.Laws.Nodes.{node-fits}
 use Rattle.merkle_forest.specs.Laws.NodeGrowth.{numbered, one-node}
 use Rattle.merkle_core_parts.specs.Mem.{Nodes, NodeHash, tree_digest, AreNodesOf}
-use Rattle.merkle_core_parts.specs.Laws.Growth.{IsNew, IsNewBranch, grown}
+use Rattle.merkle_core_parts.specs.Laws.Growth.{IsNew, grown}
 use Rattle.merkle_core_parts.specs.Laws.Places.{node-left, node-right}
 
 pub get-front : (xs ys : List (List ℕ)) (i : ℕ) (x : List ℕ) → slice_get xs i ≡ Some x → slice_get (xs ++ ys) i ≡ Some x

@@ -1,7 +1,7 @@
 -- The digests at the peaks, one after the other.
-use Rattle.std.proofs.Common.{◌≡◌, ℕ, zero, suc, ◌+◌, ◌-◌, ◌<◌, ◌≤◌, inl, inr, true, eqb, List, [], ◌∷◌, length, map, take, drop, refl, ◌∙◌, ap, subst, arith, sub-one}
+use Rattle.std.proofs.Common.{◌≡◌, ℕ, zero, suc, ◌+◌, ◌-◌, ◌<◌, ◌≤◌, inl, inr, true, eqb, List, [], ◌∷◌, length, map, take, drop, refl, sym, ◌∙◌, ap, subst, arith, sub-one}
 use Rattle.std.proofs.lemmas.Bool.{cases_lt, le-leb, cond-false, ne_eqb}
-use Rattle.std.proofs.lemmas.List.{length-map}
+use Rattle.std.proofs.lemmas.List.{length-map, take_all}
 use Rattle.std.specs.Prelude.{slice_index_or}
 use Rattle.merkle_forest.specs.declared.bagging.Bagging.TheVariants.{ForwardFold, BackwardFold}
 use Rattle.merkle_forest.specs.Forest.{leaf_count, size, leaves, Rule, forest_of}
@@ -122,3 +122,16 @@ pub bagged-backward : (hash : Hash) (inactive : ℕ) (own : List ℕ) (rest : Li
 bagged-backward hash zero own rest = refl
 bagged-backward hash (suc k) own rest =
     ap (bagged hash BackwardFold) (items-some hash k (own ∷ rest)) ∙ rw sub-one refl
+
+pub nothing : {A : Type 0} (xs : List A) → length xs < 1 → xs ≡ []
+nothing [] few = refl
+nothing (x ∷ xs) few = absurd (omega arith)
+
+pub first-of : {A : Type 0} (own : A) (xs : List A) → 1 ≤ length xs → own ≡ slice_index_or xs 0 own
+    → xs ≡ own ∷ take (length xs - 1) (drop 1 xs)
+first-of own [] some is = absurd (omega arith)
+first-of own (x ∷ xs) some is = ap (λ y. y ∷ xs) (sym is)
+    ∙ ap (λ ys. own ∷ ys) (sym (take_all (length (x ∷ xs) - 1) xs (omega arith)))
+
+pub tails : (a b : List ℕ) (xs ys : List (List ℕ)) → a ∷ xs ≡ b ∷ ys → xs ≡ ys
+tails a b xs ys same = cc

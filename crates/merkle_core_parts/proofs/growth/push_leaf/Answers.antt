@@ -1,8 +1,8 @@
 use Rattle.std.proofs.Common.{◌≡◌, ◌+◌, ◌++◌, ◌∷◌, [], ℕ, List, suc, length, map, refl, sym, ◌∙◌, ap, subst, arith, length-append}
-use Rattle.merkle_forest.specs.Forest.{size, leaves, forest_of}
+use Rattle.merkle_forest.specs.Forest.{size, forest_of}
 use Rattle.merkle_forest.specs.Laws.ForestGrowth.{size_bound, leaves-forest_of}
 use Rattle.merkle_forest.specs.Laws.Parents.{length-range}
-use Rattle.merkle_core_parts.specs.Mem.{Nodes, node_count, AreNodesOf}
+use Rattle.merkle_core_parts.specs.Mem.{Nodes}
 use Rattle.merkle_core_parts.specs.Laws.Growth.{IsParent, parent}
 use Rattle.merkle_core_parts.specs.Laws.Made.{AreMade, made-leaf, made-all, known-push, known-length}
 use Rattle.merkle_core_parts.proofs.growth.push_leaf.Goals as goal
