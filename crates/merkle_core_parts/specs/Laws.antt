@@ -4,3 +4,4 @@ pub mod Made
 pub mod Mem
 pub mod Peaks
 pub mod Places
+pub mod Plain

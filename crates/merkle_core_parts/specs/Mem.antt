@@ -1,8 +1,8 @@
 -- A tree that is kept in memory as the digests of its nodes.
-use Rattle.std.specs.Prelude.{◌≡◌, ℕ, ◌+◌, List, [], ◌++◌, map, length, slice_get, slice_index_or, Some}
+use Rattle.std.specs.Prelude.{◌≡◌, ℕ, suc, ◌+◌, List, [], ◌∷◌, ◌++◌, map, length, slice_get, slice_index_or, Some}
 use Rattle.merkle_forest.specs.Forest.{Tree, leaf, branch, position, leaf_count, size, Rule, forest_of}
 use Rattle.merkle_forest.specs.declared.bagging.Bagging.{Bagging}
-use Rattle.merkle_forest.specs.Hashing.{Hash, root_of}
+use Rattle.merkle_forest.specs.Hashing.{Hash, leaf_string, node_string, root_of}
 use Rattle.merkle_forest.specs.Nodes.{IsNodeAt}
 use Rattle.merkle_forest.specs.Peaks.{positions_from}
 use Rattle.merkle_forest.specs.Trees.{peak_digests as forest_digests}
@@ -47,6 +47,16 @@ abbrev pub list_root : Hash → NodeHash → Bagging → Rule → List (List ℕ
 list_root hash node bagging rule leaf_digests inactive =
     root_of hash bagging (length leaf_digests) inactive
     (forest_digests (tree_digest node leaf_digests) (forest_of rule (length leaf_digests)))
+
+-- the digests of plain leaves from a location on: each element is hashed with the position of its leaf
+abbrev pub plain_leaf_digests : Hash → Rule → ℕ → List (List ℕ) → List (List ℕ)
+plain_leaf_digests hash rule first [] = []
+plain_leaf_digests hash rule first (element ∷ elements) =
+    hash (leaf_string (node_count rule first) element) ∷ plain_leaf_digests hash rule (suc first) elements
+
+-- a plain branch is hashed with its position
+abbrev pub plain_node : Hash → NodeHash
+plain_node hash position left right = hash (node_string position left right)
 
 -- a tree as a batch remembers it: how many leaves it has, and the digests of its peaks from left to right
 pub record Base : Type 0 where

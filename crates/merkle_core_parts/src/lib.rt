@@ -5,8 +5,12 @@
 pub mod batch;
 pub mod error;
 pub mod growth;
+pub mod laws;
 pub mod mem;
 pub mod peaks;
 
 pub use error::Error;
 pub use mem::Mem;
+
+#[cfg(test)]
+mod tests;

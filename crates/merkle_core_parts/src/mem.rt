@@ -118,6 +118,20 @@ impl<F: Family, D: Digest> Mem<F, D> {
         root_of_digests(hasher, self.leaves, &self.digests, inactive_peaks)
     }
 
+    /// A tree that is equal to this one. It fails only when out of memory: M23 (own). In the Rust: `Clone::clone`.
+    pub fn try_copy(&self) -> Result<Mem<F, D>, Error<F>>
+        ensures copy { IfOk result (λ copy. copy ≡ self.now) }
+        ensures refused { IfErr result (λ e. e ≡ Error.Memory) }
+    {
+        let digests = Vec::from_slice(self.alloc, &self.digests)?;
+        Ok(Mem {
+            alloc: self.alloc,
+            leaves: self.leaves,
+            digests,
+            family: PhantomData,
+        })
+    }
+
     // The digests of the nodes, in order of position.
     pub(crate) fn digests(&self) -> &[D]
         ensures digests { map D.encoding result.now ≡ self.now.digests }
