@@ -1,4 +1,5 @@
 -- What follows from the definitions. No reader has to believe it.
+pub mod Batches
 pub mod Growth
 pub mod Made
 pub mod Mem

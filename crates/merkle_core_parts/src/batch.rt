@@ -85,8 +85,8 @@ impl<F: Family, D: Digest> UnmerkleizedBatch<F, D> {
         Ok(batch)
     }
 
-    /// Adds a leaf of this element. Past `MAX_LEAVES`: M3 with its location; out of memory: M23. The batch is then given
-    /// up.
+    /// Adds a leaf of this element. Past `MAX_LEAVES`: M3 with its location; out of memory: M23. The batch is then
+    /// given up.
     /// In the Rust: `merkle::batch::UnmerkleizedBatch::add`, which refuses nothing.
     pub fn add<H: Hasher<F, Digest = D>>(
         self,
@@ -103,8 +103,8 @@ impl<F: Family, D: Digest> UnmerkleizedBatch<F, D> {
         self.add_leaf_digest(hasher.leaf_digest(position, element))
     }
 
-    /// Adds leaves of these digests, in their order. Past `MAX_LEAVES`: M3 with the first location past it; out of memory:
-    /// M23. The batch is then given up.
+    /// Adds leaves of these digests, in their order. Past `MAX_LEAVES`: M3 with the first location past it; out of
+    /// memory: M23. The batch is then given up.
     /// In the Rust: `merkle::batch::UnmerkleizedBatch::add_leaf_digests`, over an iterator, which refuses nothing.
     pub fn add_leaf_digests(self, digests: &[D]) -> Result<UnmerkleizedBatch<F, D>, Error<F>>
         ensures added { IfOk result (λ batch. batch ≡ record self {
@@ -121,8 +121,8 @@ impl<F: Family, D: Digest> UnmerkleizedBatch<F, D> {
         Ok(batch)
     }
 
-    /// Makes the nodes that the batch adds to its base. Where the base has fewer nodes than the one that the batch was made
-    /// over, and one of them is needed: M20 with its position; out of memory: M23. The batch is given up.
+    /// Makes the nodes that the batch adds to its base. Where the base has fewer nodes than the one that the batch was
+    /// made over, and one of them is needed: M20 with its position; out of memory: M23. The batch is given up.
     /// In the Rust: `merkle::batch::UnmerkleizedBatch::merkleize`, which shares its answer.
     pub fn merkleize<H: Hasher<F, Digest = D>>(
         self,

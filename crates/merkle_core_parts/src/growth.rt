@@ -1,9 +1,10 @@
 //! The nodes that leaves add to a tree: a leaf, and the branches that the family's merges make with it.
 //!
-//! A list of the nodes before may stand in two parts, those of a base and those that were added since. Each branch is made
-//! from the digests of its two children, which stand before it; so a leaf costs one hash for each node that it adds.
+//! The nodes before may stand in two parts, those of a base and those that were added since. Each branch is made from
+//! the digests of its two children, which stand before it; so a leaf costs one hash for each node that it adds.
 
-ghost use Rattle.std.specs.Prelude.{◌≡◌, ◌<◌, ◌≤◌, ◌+◌, ◌^◌, ◌++◌, ◌∷◌, [], ℕ, suc, List, Some, map, length, slice_get, IfOk, IfErr, OnOk};
+ghost use Rattle.std.specs.Prelude.{◌≡◌, ◌<◌, ◌≤◌, ◌+◌, ◌^◌, ◌++◌, ◌∷◌, [], ℕ, suc, List, Some, map};
+ghost use Rattle.std.specs.Prelude.{length, slice_get, IfOk, IfErr, OnOk};
 ghost use Rattle.merkle_core_parts.specs.Errors.{IsRefusalOver};
 ghost use Rattle.merkle_core_parts.specs.Mem.{node_count, AreNodesOf};
 ghost use Rattle.merkle_core_parts.specs.Laws.Growth.{IsParent};

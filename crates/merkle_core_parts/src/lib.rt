@@ -1,5 +1,5 @@
-//! The tree that is kept in memory, and the batches of its changes. The crate ports `merkle::mem` and `merkle::batch` of
-//! commonware-storage 2026.10.0; `In the Rust` names what an item is there.
+//! The tree that is kept in memory, and the batches of its changes. The crate ports `merkle::mem` and `merkle::batch`
+//! of commonware-storage 2026.10.0; `In the Rust` names what an item is there.
 #![tactic(auto)]
 
 pub mod batch;

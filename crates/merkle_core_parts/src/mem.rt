@@ -1,6 +1,7 @@
 //! The tree that is kept in memory.
 
-ghost use Rattle.std.specs.Prelude.{◌≡◌, ◌≤◌, ◌↔◌, ◌^◌, [], ℕ, List, map, length, option_map, slice_get, IsTrue, IsOk, IfOk, IfErr, OnOk, OnErr};
+ghost use Rattle.std.specs.Prelude.{◌≡◌, ◌≤◌, ◌↔◌, ◌^◌, [], ℕ, List, map, length, option_map, slice_get};
+ghost use Rattle.std.specs.Prelude.{IsTrue, IsOk, IfOk, IfErr, OnOk, OnErr};
 ghost use Rattle.merkle_forest.specs.Forest.{size, forest_of};
 ghost use Rattle.merkle_forest.specs.Hashing.{root_of};
 ghost use Rattle.merkle_forest.specs.Peaks.{peak_positions};
@@ -83,7 +84,8 @@ impl<F: Family, D: Digest> Mem<F, D> {
         self.pruning_boundary()..self.leaves()
     }
 
-    /// The peaks from left to right: the position and the height of each. In the Rust: `merkle::mem::Mem::peak_iterator`.
+    /// The peaks from left to right: the position and the height of each.
+    /// In the Rust: `merkle::mem::Mem::peak_iterator`.
     pub fn peak_iterator(&self) -> Peaks<F>
         ensures { result ≡ peak_positions (forest_of F.merge_rule self.now.leaves) }
     {
@@ -98,8 +100,8 @@ impl<F: Family, D: Digest> Mem<F, D> {
         self.digests.get(position.as_u64() as usize).copied()
     }
 
-    /// The root of the tree, of whose peaks so many come first as inactive ones. Where there are fewer: M16. It takes no
-    /// memory.
+    /// The root of the tree, of whose peaks so many come first as inactive ones. Where there are fewer: M16. It takes
+    /// no memory.
     /// In the Rust: `merkle::mem::Mem::root`.
     pub fn root<H: Hasher<F, Digest = D>>(
         &self,
@@ -107,12 +109,12 @@ impl<F: Family, D: Digest> Mem<F, D> {
         inactive_peaks: usize,
     ) -> Result<D, Error<F>>
         ensures answered { IsOk result ↔ (inactive_peaks ≤ length (peak_digests F.merge_rule self.now)) }
-        ensures root { IfOk result (λ root. D.encoding root ≡ root_of H.hash_of (H.bagging_of hasher.now) self.now.leaves
-            inactive_peaks (peak_digests F.merge_rule self.now)) }
+        ensures root { IfOk result (λ root. D.encoding root ≡ root_of H.hash_of (H.bagging_of hasher.now)
+            self.now.leaves inactive_peaks (peak_digests F.merge_rule self.now)) }
         ensures of_list { (leaf_digests : List (List ℕ))
             → AreNodesOf (H.node_of hasher.now) F.merge_rule leaf_digests self.now
-            → IfOk result (λ root. D.encoding root ≡ list_root H.hash_of (H.node_of hasher.now) (H.bagging_of hasher.now)
-            F.merge_rule leaf_digests inactive_peaks) }
+            → IfOk result (λ root. D.encoding root ≡ list_root H.hash_of (H.node_of hasher.now)
+            (H.bagging_of hasher.now) F.merge_rule leaf_digests inactive_peaks) }
         ensures refused { IfErr result (λ e. e ≡ Error.InvalidInactivePeaks) }
     {
         root_of_digests(hasher, self.leaves, &self.digests, inactive_peaks)
@@ -160,9 +162,9 @@ impl<F: Family, D: Digest> Mem<F, D> {
         have_all_peaks::<F, D>(self.leaves, &self.digests, batch.base_peaks())
     }
 
-    /// Adds the batch's nodes. Where the tree is not the batch's base, by its leaf count and the digests of its peaks: M13;
-    /// out of memory: M23. It then stays as it was. That trees of one leaf count and equal digests of peaks stand over one
-    /// list of leaf digests is for the caller to know.
+    /// Adds the batch's nodes. Where the tree is not the batch's base, by its leaf count and the digests of its peaks:
+    /// M13; out of memory: M23. It then stays as it was. That trees of one leaf count and equal digests of peaks stand
+    /// over one list of leaf digests is for the caller to know.
     /// In the Rust: `merkle::mem::Mem::apply_batch`.
     pub fn apply_batch(&mut self, batch: &MerkleizedBatch<F, D>) -> Result<(), Error<F>>
         ensures applied { OnOk result (self.new ≡ with_batch self.old batch.now) }

@@ -1,6 +1,7 @@
 //! The peaks of a tree folded into its root, from left to right or from right to left, without a list of them.
 
-ghost use Rattle.std.specs.Prelude.{◌≡◌, ◌<◌, ◌≤◌, ◌+◌, ◌↔◌, ◌++◌, ◌∷◌, [], ℕ, List, true, map, take, drop, length, IsTrue, IsOk, IfOk, IfErr, OnOk};
+ghost use Rattle.std.specs.Prelude.{◌≡◌, ◌<◌, ◌≤◌, ◌+◌, ◌↔◌, ◌++◌, ◌∷◌, [], ℕ, List, true, map, take, drop};
+ghost use Rattle.std.specs.Prelude.{length, IsTrue, IsOk, IfOk, IfErr, OnOk};
 ghost use Rattle.merkle_forest.specs.Forest.{size, forest_of};
 ghost use Rattle.merkle_forest.specs.declared.bagging.Bagging.TheVariants.{ForwardFold, BackwardFold};
 ghost use Rattle.merkle_forest.specs.Hashing.{folded_onto, folded_backward, items, bagged, root_of};

@@ -189,8 +189,8 @@ fn a_batch_tells_its_leaves_and_nodes(rt: HostRuntime) {
     assert_eq!(rt; told::<mmb::Family>(rt.alloc()), Ok((6, 6, 6, 10)));
 }
 
-// What a batch over a tree of three leaves is answered by the tree itself after another batch, by an empty one, and where
-// its nodes are to be made over the empty one.
+// What the tree of three leaves answers to a batch over it after another batch was applied. Over an empty tree the
+// nodes of such a batch cannot be made.
 fn refused<F: Family>(alloc: Global) -> Result<(), Error<F>> {
     let hasher: Standard<ByteHash> = Standard::new(Bagging::ForwardFold);
     let mut tree: Mem<F, Hash> = Mem::new(alloc);

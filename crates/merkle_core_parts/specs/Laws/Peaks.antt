@@ -1,5 +1,6 @@
 -- The digests at the peaks, one after the other.
-use Rattle.std.proofs.Common.{◌≡◌, ℕ, zero, suc, ◌+◌, ◌-◌, ◌<◌, ◌≤◌, inl, inr, true, eqb, List, [], ◌∷◌, length, map, take, drop, refl, sym, ◌∙◌, ap, subst, arith, sub-one}
+use Rattle.std.proofs.Common.{◌≡◌, ℕ, zero, suc, ◌+◌, ◌-◌, ◌<◌, ◌≤◌, inl, inr, true, eqb, List, [], ◌∷◌, length, map}
+use Rattle.std.proofs.Common.{take, drop, refl, sym, ◌∙◌, ap, subst, arith, sub-one}
 use Rattle.std.proofs.lemmas.Bool.{cases_lt, le-leb, cond-false, ne_eqb}
 use Rattle.std.proofs.lemmas.List.{length-map, take_all}
 use Rattle.std.specs.Prelude.{slice_index_or}
