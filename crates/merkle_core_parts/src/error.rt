@@ -1,0 +1,61 @@
+//! Why a call of a tree, or of a batch, is refused.
+
+ghost use Rattle.std.specs.Prelude.{◌≡◌};
+ghost use Rattle.merkle_core_parts.specs.declared.error.Error.TheVariants.{Memory};
+
+use merkle_forest::{Family, Location, Position};
+use std::alloc::{AllocError, AllocFailed};
+use std::fmt;
+
+/// What a call of a tree, or of a batch, refuses. In the Rust: `merkle::Error`, which has more variants.
+#[derive_where(Clone, Copy, Debug, PartialEq, Eq)]
+pub enum Error<F: Family> {
+    /// M3: this location is past `MAX_LEAVES`. In the Rust: `merkle::Error::LocationOverflow`.
+    LocationOverflow(Location<F>),
+    /// M13: the tree is not the one that the batch begins from. In the Rust: `merkle::Error::StaleBatch`.
+    StaleBatch,
+    /// M16: there are fewer peaks than inactive ones. In the Rust: `merkle::Error::InvalidInactivePeaks`.
+    InvalidInactivePeaks,
+    /// M20: the node at this position is needed, and is not there. In the Rust: `merkle::Error::MissingNode`.
+    MissingNode(Position<F>),
+    /// M23: out of memory (own).
+    Memory,
+}
+
+/// An error is printed by its number and what it means.
+impl<F: Family> fmt::Display for Error<F> {
+    ghost use Rattle.std.specs.Prelude.{Some};
+    ghost use Rattle.merkle_core_parts.specs.Errors.{error_text};
+
+    ghost output = { λ e. Some (error_text e) };
+
+    fn fmt<W: fmt::Write>(&self, f: &mut fmt::Formatter<W>) -> fmt::Result {
+        match self {
+            Error::LocationOverflow(location) => {
+                write!(f, "M3: location {location} is past the limit")
+            }
+            Error::StaleBatch => f.write_str("M13: the batch begins from another tree"),
+            Error::InvalidInactivePeaks => f.write_str("M16: fewer peaks than inactive ones"),
+            Error::MissingNode(position) => write!(f, "M20: node {position} is missing"),
+            Error::Memory => f.write_str("M23: out of memory"),
+        }
+    }
+}
+
+impl<F: Family> std::error::Error for Error<F> {}
+
+impl<F: Family> From<AllocError> for Error<F> {
+    ghost from_gives = { λ _ e. e ≡ Memory };
+
+    fn from(_e: AllocError) -> Error<F> {
+        Error::Memory
+    }
+}
+
+impl<F: Family, T: Drop> From<AllocFailed<T>> for Error<F> {
+    ghost from_gives = { λ _ e. e ≡ Memory };
+
+    fn from(_e: AllocFailed<T>) -> Error<F> {
+        Error::Memory
+    }
+}

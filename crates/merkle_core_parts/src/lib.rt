@@ -1,0 +1,16 @@
+//! The tree that is kept in memory, and the batches of its changes. The crate ports `merkle::mem` and `merkle::batch`
+//! of commonware-storage 2026.10.0; `In the Rust` names what an item is there.
+#![tactic(auto)]
+
+pub mod batch;
+pub mod error;
+pub mod growth;
+pub mod laws;
+pub mod mem;
+pub mod peaks;
+
+pub use error::Error;
+pub use mem::Mem;
+
+#[cfg(test)]
+mod tests;

@@ -1,0 +1,231 @@
+use super::*;
+use merkle_forest::codec::FixedBytes;
+use merkle_forest::hasher::Standard;
+use merkle_forest::{
+    Bagging, ByteHash, Digest, Family, HashFunction, Location, Position, mmb, mmr,
+};
+use std::alloc::Global;
+use std::test::Fail;
+
+type Hash = FixedBytes<32>;
+
+// What is read of a tree: its root with no inactive peak, its root with two, and how many nodes it has.
+type Read = (Hash, Hash, u64);
+
+// A tree of the elements from `first` to `last`, of one byte each, added to the tree by one batch.
+fn grown<F: Family>(
+    tree: &mut Mem<F, Hash>,
+    hasher: &Standard<ByteHash>,
+    first: u8,
+    last: u8,
+) -> Result<(), Error<F>> {
+    let mut batch = tree.new_batch()?;
+    for byte in first..=last {
+        batch = batch.add(hasher, &[byte])?;
+    }
+    let batch = batch.merkleize(tree, hasher)?;
+    tree.apply_batch(&batch)
+}
+
+// The tree of the elements 1 to 11, of one byte each, by two batches.
+fn eleven<F: Family>(alloc: Global, hasher: &Standard<ByteHash>) -> Result<Mem<F, Hash>, Error<F>> {
+    let mut tree = Mem::new(alloc);
+    grown(&mut tree, hasher, 1, 4)?;
+    grown(&mut tree, hasher, 5, 11)?;
+    Ok(tree)
+}
+
+fn read<F: Family>(alloc: Global, bagging: Bagging) -> Result<Read, Error<F>> {
+    let hasher = Standard::new(bagging);
+    let tree = eleven::<F>(alloc, &hasher)?;
+    let plain = tree.root(&hasher, 0)?;
+    let folded = tree.root(&hasher, 2)?;
+    Ok((plain, folded, tree.size().as_u64()))
+}
+
+// The expected roots and digests of this file were made by Python's hashlib: the strings of leaves, branches, folds and
+// roots hashed over a forest that is grown leaf by leaf.
+
+#[test]
+fn a_range_has_its_roots_by_forward_fold(rt: HostRuntime) {
+    let plain = FixedBytes::new([
+        0x4b, 0x85, 0xf3, 0x2d, 0x9c, 0x85, 0xdc, 0x75, 0x72, 0x66, 0x86, 0x3a, 0x4a, 0x66, 0x24,
+        0x38, 0x2b, 0xeb, 0xf8, 0x1b, 0x80, 0x3f, 0xa1, 0x32, 0x1e, 0xc6, 0xe0, 0x92, 0x49, 0x55,
+        0xd1, 0xe1,
+    ]);
+    let folded = FixedBytes::new([
+        0x02, 0x20, 0xb1, 0x3a, 0x9b, 0x47, 0x0f, 0x6f, 0x7d, 0x9b, 0x82, 0x06, 0x8d, 0x7e, 0x02,
+        0x79, 0x36, 0x26, 0x88, 0xa2, 0xde, 0xa5, 0x4b, 0x03, 0x04, 0x91, 0x23, 0x03, 0xeb, 0x33,
+        0x76, 0xbd,
+    ]);
+    assert_eq!(rt;
+        read::<mmr::Family>(rt.alloc(), Bagging::ForwardFold),
+        Ok((plain, folded, 19))
+    );
+}
+
+#[test]
+fn a_range_has_its_roots_by_backward_fold(rt: HostRuntime) {
+    let plain = FixedBytes::new([
+        0x1b, 0xc8, 0x12, 0x02, 0xf3, 0xa6, 0x1e, 0xec, 0xa0, 0x32, 0xe4, 0x1e, 0xcc, 0x6a, 0x42,
+        0xf7, 0x7e, 0x86, 0x61, 0xc0, 0x45, 0x34, 0xf3, 0xcb, 0xfd, 0x30, 0xb8, 0xf5, 0x0b, 0x38,
+        0x2b, 0x42,
+    ]);
+    let folded = FixedBytes::new([
+        0x1e, 0x2f, 0xc3, 0xb9, 0xee, 0x08, 0x72, 0x38, 0x7d, 0x31, 0xf4, 0x33, 0x4f, 0x78, 0xe8,
+        0xeb, 0x9e, 0x80, 0x4a, 0xef, 0xad, 0x99, 0x1f, 0xea, 0xb3, 0x98, 0xf2, 0x7f, 0xca, 0x84,
+        0xe2, 0x4b,
+    ]);
+    assert_eq!(rt;
+        read::<mmr::Family>(rt.alloc(), Bagging::BackwardFold),
+        Ok((plain, folded, 19))
+    );
+}
+
+#[test]
+fn a_belt_has_its_roots_by_forward_fold(rt: HostRuntime) {
+    let plain = FixedBytes::new([
+        0x9a, 0xbe, 0xeb, 0x5b, 0x40, 0x2e, 0x05, 0x6c, 0x90, 0x2c, 0x97, 0x20, 0x29, 0x34, 0x9c,
+        0x96, 0xd8, 0x4c, 0xf6, 0x9b, 0x2f, 0x3d, 0x49, 0x5c, 0xfb, 0x12, 0xb0, 0x79, 0x66, 0xc3,
+        0xfd, 0x40,
+    ]);
+    let folded = FixedBytes::new([
+        0x7f, 0xa4, 0xa1, 0xd6, 0xd6, 0x41, 0x8e, 0xa2, 0x56, 0xde, 0xe9, 0x32, 0x43, 0x22, 0xb8,
+        0x00, 0x89, 0x82, 0xd0, 0x0a, 0xc4, 0xef, 0x52, 0xad, 0xd1, 0x0b, 0x6e, 0x47, 0x1f, 0x2b,
+        0xd2, 0xfa,
+    ]);
+    assert_eq!(rt;
+        read::<mmb::Family>(rt.alloc(), Bagging::ForwardFold),
+        Ok((plain, folded, 19))
+    );
+}
+
+#[test]
+fn a_belt_has_its_roots_by_backward_fold(rt: HostRuntime) {
+    let plain = FixedBytes::new([
+        0x9f, 0xd6, 0x19, 0xa1, 0xc1, 0xee, 0x4e, 0x77, 0xb6, 0x39, 0x50, 0xc2, 0xd8, 0x63, 0xec,
+        0x98, 0x50, 0xcb, 0x54, 0x1a, 0x0a, 0x4c, 0x61, 0xb7, 0x0b, 0xd9, 0xdb, 0x1f, 0x1e, 0xea,
+        0x6d, 0x8e,
+    ]);
+    let folded = FixedBytes::new([
+        0x7a, 0x42, 0x34, 0xc8, 0x4f, 0x31, 0xb5, 0xa1, 0xbb, 0x35, 0x23, 0x7a, 0x46, 0x15, 0x21,
+        0x7e, 0x73, 0x75, 0x8b, 0x35, 0x6d, 0xd6, 0xde, 0x74, 0x57, 0x9a, 0x96, 0xba, 0x63, 0xb3,
+        0x1e, 0x6f,
+    ]);
+    assert_eq!(rt;
+        read::<mmb::Family>(rt.alloc(), Bagging::BackwardFold),
+        Ok((plain, folded, 19))
+    );
+}
+
+#[test]
+fn a_tree_of_no_leaves_has_a_root(rt: HostRuntime) {
+    let tree: Mem<mmb::Family, Hash> = Mem::new(rt.alloc());
+    let hasher: Standard<ByteHash> = Standard::new(Bagging::BackwardFold);
+    let root = FixedBytes::new([
+        0x2a, 0xe1, 0xc1, 0x9c, 0x0c, 0xbd, 0x37, 0x8e, 0x46, 0xc9, 0x27, 0xa9, 0xf3, 0x61, 0x19,
+        0x23, 0xec, 0x07, 0xcc, 0x1a, 0xe3, 0x57, 0x50, 0x2a, 0x09, 0x53, 0x6d, 0x45, 0x52, 0x75,
+        0xcf, 0x21,
+    ]);
+    assert_eq!(rt; tree.root(&hasher, 0), Ok(root));
+    assert_eq!(rt; tree.root(&hasher, 1), Err(Error::InvalidInactivePeaks));
+    assert_eq!(rt; tree.leaves().as_u64(), 0);
+}
+
+#[test]
+fn nodes_and_peaks_stand_at_their_positions(rt: HostRuntime) {
+    let hasher: Standard<ByteHash> = Standard::new(Bagging::ForwardFold);
+    let belt = eleven::<mmb::Family>(rt.alloc(), &hasher).expect(&rt, "memory");
+    let range = eleven::<mmr::Family>(rt.alloc(), &hasher).expect(&rt, "memory");
+    let seven = FixedBytes::new([
+        0xa3, 0x89, 0x65, 0xe4, 0xdc, 0x02, 0x81, 0x90, 0x5d, 0x3c, 0x23, 0x89, 0x91, 0xde, 0x81,
+        0x8b, 0x88, 0xd8, 0x1b, 0xc7, 0x63, 0x41, 0x15, 0xd8, 0x9b, 0x1f, 0x71, 0xda, 0xb9, 0x19,
+        0xd7, 0x07,
+    ]);
+    let six = FixedBytes::new([
+        0x76, 0x0d, 0xe5, 0xf6, 0x3f, 0xaa, 0x89, 0xb2, 0x66, 0xb4, 0x90, 0xd3, 0x4d, 0xcf, 0x1e,
+        0x04, 0x3f, 0xba, 0xc0, 0x01, 0xeb, 0x18, 0x43, 0xfb, 0x07, 0x2a, 0x8d, 0x12, 0x51, 0x2f,
+        0x87, 0xcd,
+    ]);
+    assert_eq!(rt; belt.get_node(Position::new(7)), Some(seven));
+    assert_eq!(rt; range.get_node(Position::new(6)), Some(six));
+    assert_eq!(rt; range.get_node(Position::new(19)), None);
+    assert_eq!(rt; range.bounds(), Location::new(0)..Location::new(11));
+    assert_eq!(rt; range.pruning_boundary(), Location::new(0));
+    let mut peaks = belt.peak_iterator();
+    assert_eq!(rt; peaks.next(), Some((Position::new(18), 3)));
+    assert_eq!(rt; peaks.next(), Some((Position::new(16), 1)));
+    assert_eq!(rt; peaks.next(), Some((Position::new(17), 0)));
+    assert_eq!(rt; peaks.next(), None);
+    let copy = belt.try_copy().expect(&rt, "memory");
+    assert_eq!(rt; copy.root(&hasher, 1), belt.root(&hasher, 1));
+    assert_eq!(rt; copy.size().as_u64(), 19);
+    assert_eq!(rt; belt.root(&hasher, 4), Err(Error::InvalidInactivePeaks));
+}
+
+// A batch of two leaves over a tree of four, and the leaf counts and sizes that it tells.
+fn told<F: Family>(alloc: Global) -> Result<(u64, u64, u64, u64), Error<F>> {
+    let hasher: Standard<ByteHash> = Standard::new(Bagging::ForwardFold);
+    let mut tree: Mem<F, Hash> = Mem::new(alloc);
+    grown(&mut tree, &hasher, 1, 4)?;
+    let digest = ByteHash::hash(&[]);
+    let batch = tree
+        .new_batch()?
+        .add_leaf_digest(digest)?
+        .add_leaf_digests(&[digest])?;
+    let leaves = batch.leaves().as_u64();
+    let batch = batch.merkleize(&tree, &hasher)?;
+    Ok((
+        leaves,
+        batch.leaves().as_u64(),
+        batch.base_size().as_u64(),
+        batch.size().as_u64(),
+    ))
+}
+
+#[test]
+fn a_batch_tells_its_leaves_and_nodes(rt: HostRuntime) {
+    assert_eq!(rt; told::<mmr::Family>(rt.alloc()), Ok((6, 6, 7, 10)));
+    assert_eq!(rt; told::<mmb::Family>(rt.alloc()), Ok((6, 6, 6, 10)));
+}
+
+// What the tree of three leaves answers to a batch over it after another batch was applied. Over an empty tree the
+// nodes of such a batch cannot be made.
+fn refused<F: Family>(alloc: Global) -> Result<(), Error<F>> {
+    let hasher: Standard<ByteHash> = Standard::new(Bagging::ForwardFold);
+    let mut tree: Mem<F, Hash> = Mem::new(alloc);
+    grown(&mut tree, &hasher, 1, 3)?;
+    let batch = tree.new_batch()?.add(&hasher, &[4])?;
+    let empty: Mem<F, Hash> = Mem::new(alloc);
+    if batch.merkleize(&empty, &hasher).is_ok() {
+        return Ok(());
+    }
+    let batch = tree
+        .new_batch()?
+        .add(&hasher, &[4])?
+        .merkleize(&tree, &hasher)?;
+    grown(&mut tree, &hasher, 5, 5)?;
+    tree.apply_batch(&batch)
+}
+
+#[test]
+fn a_batch_over_another_tree_is_refused(rt: HostRuntime) {
+    assert_eq!(rt; refused::<mmr::Family>(rt.alloc()), Err(Error::StaleBatch));
+    assert_eq!(rt; refused::<mmb::Family>(rt.alloc()), Err(Error::StaleBatch));
+}
+
+#[test]
+fn errors_are_printed_by_their_numbers(rt: HostRuntime) -> Result<(), Fail> {
+    let alloc = rt.alloc();
+    let stale: Error<mmr::Family> = Error::StaleBatch;
+    let missing: Error<mmr::Family> = Error::MissingNode(Position::new(3));
+    assert_eq!(rt;
+        format!(in alloc; "{stale}")?.as_str(),
+        "M13: the batch begins from another tree"
+    );
+    assert_eq!(rt;
+        format!(in alloc; "{missing}")?.as_str(),
+        "M20: node 3 is missing"
+    );
+    Ok(())
+}
