@@ -1,17 +1,23 @@
 //! A log that is recovered of a blob.
 
-ghost use Rattle.std.specs.Prelude.{◌≡◌, ◌+◌, ◌<◌, [], length, IsFalse, IfOk, OnOk};
+ghost use Rattle.std.specs.Prelude.{◌≡◌, ◌+◌, ◌<◌, ◌≤◌, [], take, length, IsFalse, IfOk, OnOk, Contains};
 ghost use Rattle.paged_format.specs.Footers.{IsPageSize};
 ghost use Rattle.paged_format.specs.Pages.{recovered};
 ghost use Rattle.paged_blob.specs.Calls.{content, file_of};
+ghost use Rattle.paged_blob.specs.Caches.{Page};
 ghost use Rattle.paged_blob.specs.Moments.{Through};
 ghost use Rattle.paged_blob.specs.Answers.{failures_after};
 ghost use Rattle.paged_blob.specs.Shrinks.{IsCut};
 ghost use Rattle.paged_blob.specs.Writers.{written, IsWriter, Keeps};
+ghost use Rattle.auth_store_log.specs.Records.{format_of, recovered_log};
+ghost use Rattle.auth_store_log.specs.Shown.{Stands};
 
+use crate::records::committed_len;
 use fault_storage::Checksum;
-use paged_blob::laws::what_is_shown_withstands;
+use merkle_forest::Family;
+use paged_blob::laws::{each_image_keeps_what_is_durable, what_is_shown_withstands};
 use paged_blob::{Blob, CacheRef, Error, Recovery};
+use state_ops::{FixedKey, FixedValue};
 use std::alloc::Global;
 
 // Recovers the list of bytes of a blob of so many bytes, and cuts the blob behind it.
@@ -46,4 +52,106 @@ fn settle<B: Blob, C: Checksum>(
     let recovery = Recovery::<C>::open(alloc, blob, cache, blob_size, capacity)?;
     let size = recovery.size();
     recovery.truncate(blob, cache, size)
+}
+
+// Cuts the list, all of which is durable, to its first so many bytes.
+fn cut_behind<B: Blob, C: Checksum>(
+    recovery: Recovery<C>,
+    blob: &mut B,
+    cache: &mut CacheRef,
+    count: u64,
+) -> Result<Recovery<C>, Error>
+    requires writer { IsWriter C.checksum_of (B.calls blob.old) recovery }
+    requires cut { IsCut C.checksum_of recovery.page_size (written C.checksum_of (B.calls blob.old) recovery)
+        (B.calls blob.old) }
+    requires synced { recovery.synced ≡ length (written C.checksum_of (B.calls blob.old) recovery) }
+    requires within { count ≤ length (written C.checksum_of (B.calls blob.old) recovery) }
+    ensures writer { IfOk result (λ w. IsWriter C.checksum_of (B.calls blob.new) w) }
+    ensures content { IfOk result (λ w. written C.checksum_of (B.calls blob.new) w
+        ≡ take count (written C.checksum_of (B.calls blob.old) recovery)) }
+    ensures synced { IfOk result (λ w. w.synced ≡ count) }
+    ensures page_size { IfOk result (λ w. w.page_size ≡ recovery.page_size) }
+    ensures name { IfOk result (λ w. w.blob_id < cache.new.next_id) }
+    ensures next { OnOk result (cache.new.page_size ≡ cache.old.page_size) }
+    ensures any_moment { Through (Keeps C.checksum_of recovery.page_size
+        (written C.checksum_of (B.calls blob.old) recovery) count) (B.calls blob.old) (B.calls blob.new) }
+    ensures failures { B.failures blob.new ≡ failures_after result (B.failures blob.old) }
+{
+    what_is_shown_withstands();
+    recovery.truncate(blob, cache, count)
+}
+
+// The list, all of which is durable, up to its first so many bytes: it is cut where there are more.
+fn keep_front<B: Blob, C: Checksum>(
+    recovery: Recovery<C>,
+    blob: &mut B,
+    cache: &mut CacheRef,
+    count: u64,
+) -> Result<Recovery<C>, Error>
+    requires writer { IsWriter C.checksum_of (B.calls blob.old) recovery }
+    requires cut { IsCut C.checksum_of recovery.page_size (written C.checksum_of (B.calls blob.old) recovery)
+        (B.calls blob.old) }
+    requires synced { recovery.synced ≡ length (written C.checksum_of (B.calls blob.old) recovery) }
+    requires within { count ≤ length (written C.checksum_of (B.calls blob.old) recovery) }
+    requires name { recovery.blob_id < cache.old.next_id }
+    ensures writer { IfOk result (λ w. IsWriter C.checksum_of (B.calls blob.new) w) }
+    ensures content { IfOk result (λ w. written C.checksum_of (B.calls blob.new) w
+        ≡ take count (written C.checksum_of (B.calls blob.old) recovery)) }
+    ensures synced { IfOk result (λ w. w.synced ≡ count) }
+    ensures page_size { IfOk result (λ w. w.page_size ≡ recovery.page_size) }
+    ensures name { IfOk result (λ w. w.blob_id < cache.new.next_id) }
+    ensures next { OnOk result (cache.new.page_size ≡ cache.old.page_size) }
+    ensures any_moment { Through (Keeps C.checksum_of recovery.page_size
+        (written C.checksum_of (B.calls blob.old) recovery) count) (B.calls blob.old) (B.calls blob.new) }
+    ensures failures { B.failures blob.new ≡ failures_after result (B.failures blob.old) }
+{
+    each_image_keeps_what_is_durable();
+    if count == recovery.size() {
+        return Ok(recovery);
+    }
+    cut_behind(recovery, blob, cache, count)
+}
+
+// Recovers the log of a blob of so many bytes up to its last commit, and cuts the blob there.
+fn recover_committed<F, K, V, B, C>(
+    alloc: Global,
+    blob: &mut B,
+    cache: &mut CacheRef,
+    blob_size: u64,
+    capacity: usize,
+) -> Result<(Recovery<C>, Vec<u8>), Error>
+where
+    F: Family,
+    K: FixedKey,
+    V: FixedValue,
+    B: Blob,
+    C: Checksum,
+    requires size { IsPageSize (cache.old.page_size + 12) }
+    requires sound { IsFalse (file_of (B.calls blob.old)).failed }
+    requires settled { (file_of (B.calls blob.old)).changes ≡ [] }
+    requires known { blob_size ≡ length (content (B.calls blob.old)) }
+    requires named { (page : Page) → Contains cache.old.pages page → page.blob_id < cache.old.next_id }
+    ensures writer { IfOk result (λ r. IsWriter C.checksum_of (B.calls blob.new) r.0) }
+    ensures content { IfOk result (λ r. written C.checksum_of (B.calls blob.new) r.0
+        ≡ recovered_log (format_of (K.after tt) (V.after tt) K.SIZE V.SIZE) C.checksum_of (cache.old.page_size + 12)
+        (content (B.calls blob.old))) }
+    ensures bytes { IfOk result (λ r. r.1.items
+        ≡ recovered_log (format_of (K.after tt) (V.after tt) K.SIZE V.SIZE) C.checksum_of (cache.old.page_size + 12)
+        (content (B.calls blob.old))) }
+    ensures synced { IfOk result (λ r. r.0.synced ≡ length r.1.items) }
+    ensures page_size { IfOk result (λ r. r.0.page_size ≡ cache.old.page_size + 12) }
+    ensures name { IfOk result (λ r. r.0.blob_id < cache.new.next_id) }
+    ensures next { OnOk result (cache.new.page_size ≡ cache.old.page_size) }
+    ensures any_moment { Through (Stands (format_of (K.after tt) (V.after tt) K.SIZE V.SIZE) C.checksum_of
+        (cache.old.page_size + 12) (recovered_log (format_of (K.after tt) (V.after tt) K.SIZE V.SIZE) C.checksum_of
+        (cache.old.page_size + 12) (content (B.calls blob.old)))) (B.calls blob.old) (B.calls blob.new) }
+    ensures failures { B.failures blob.new ≡ failures_after result (B.failures blob.old) }
+{
+    let recovery = settle::<B, C>(alloc, blob, cache, blob_size, capacity)?;
+    let size = recovery.size() as usize;
+    let mut bytes = recovery.read_at(blob, cache, 0, size)?;
+    let count = committed_len::<F, K, V>(alloc, &bytes)?;
+    let kept = keep_front(recovery, blob, cache, count as u64)?;
+    bytes.truncate(count);
+    Ok((kept, bytes))
 }
