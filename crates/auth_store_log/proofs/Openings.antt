@@ -1,14 +1,15 @@
 -- What holds at each moment of an opening.
-use Rattle.std.proofs.Common.{◌≡◌, ℕ, ◌+◌, ◌≤◌, List, length, take, drop, sym, ◌∙◌, ap, subst, arith}
+use Rattle.std.proofs.Common.{◌≡◌, ℕ, ◌+◌, ◌≤◌, List, [], length, take, drop, sym, ◌∙◌, ap, subst, arith}
 use Rattle.std.proofs.lemmas.List.{length-take, length-drop}
 use Rattle.std.proofs.Math.Seq.{take-length}
 use Rattle.paged_blob.specs.Calls.{Call}
 use Rattle.paged_blob.specs.Moments.{Through}
 use Rattle.paged_blob.specs.Laws.Moments.{weaker}
 use Rattle.paged_blob.specs.Writers.{Keeps, WriterState, IsWriter, written}
-use Rattle.auth_store_log.specs.Records.{Format, committed}
+use Rattle.auth_store_log.specs.Records.{Format, committed, history_bytes}
 use Rattle.auth_store_log.specs.Shown.{Stands}
-use Rattle.auth_store_log.specs.Laws.Shown.{keeps_reopens, keeps_committed}
+use Rattle.auth_store_log.specs.Laws.Shown.{keeps_reopens, keeps_committed, keeps_begun, keeps_bytes}
+use Rattle.auth_store_log.specs.Laws.First.{empty_recorded}
 
 -- how many bytes a writer has
 pub written_len : (sum : List ℕ → ℕ) (calls : List Call) (w : WriterState) → IsWriter sum calls w
@@ -39,3 +40,14 @@ pub kept_as : (sum : List ℕ → ℕ) (old new : List Call) (size other_size co
     → Through (Keeps sum size list count) old new → Through (Keeps sum other_size other count) old new
 kept_as sum old new size other_size count list other sizes lists moments =
     subst (λ l. Through (Keeps sum other_size l count) old new) lists (subst (λ n. Through (Keeps sum n list count) old new) sizes moments)
+
+-- while the first commit is on the way, the log stands that has none
+pub begins : (format : Format) (sum : List ℕ → ℕ) (mid new : List Call) (size page_size synced : ℕ) (content log : List ℕ) → page_size ≡ size
+    → content ≡ history_bytes format [] → synced ≡ 0 → log ≡ [] → Through (Keeps sum page_size content synced) mid new
+    → Through (Stands format sum size log) mid new
+begins format sum mid new size page_size synced content log sizes contents none empty moments =
+    let first : List ℕ = history_bytes format [] in
+    let kept : Through (Keeps sum size first 0) mid new =
+    subst (λ n. Through (Keeps sum size first n) mid new) none (kept_as sum mid new page_size size synced content first sizes contents moments) in
+    subst (λ l. Through (Stands format sum size l) mid new) (sym empty)
+    (weaker (λ calls keeps. (keeps_begun format sum size calls (empty_recorded format) keeps, keeps_bytes sum size calls [] first keeps)) kept)

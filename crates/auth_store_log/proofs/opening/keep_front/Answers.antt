@@ -1,9 +1,9 @@
-use Rattle.std.proofs.Common.{rules, ◌≡◌, ℕ, ◌<◌, List, sym, subst, ◌∙◌, arith}
+use Rattle.std.proofs.Common.{rules, ◌≡◌, ℕ, ◌<◌, List, subst, arith}
 use Rattle.paged_blob.specs.Calls.{Call}
 use Rattle.paged_blob.specs.Moments.{here}
 use Rattle.paged_blob.specs.Writers.{Keeps, written}
 use Rattle.auth_store_log.proofs.Openings.{written_len}
-use Rattle.auth_store_log.proofs.recover.keep_front.Goals as goal
+use Rattle.auth_store_log.proofs.opening.keep_front.Goals as goal
 
 pub returns-then-count-size-clause-any_moment : goal.returns-then-count-size-clause-any_moment
 returns-then-count-size-clause-any_moment g c =

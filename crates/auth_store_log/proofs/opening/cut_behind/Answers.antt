@@ -3,7 +3,7 @@ use Rattle.paged_format.specs.Pages.{recovered}
 use Rattle.paged_blob.specs.Calls.{Call, content, file_of, whole}
 use Rattle.paged_blob.specs.Moments.{Through}
 use Rattle.paged_blob.specs.Writers.{Keeps, written}
-use Rattle.auth_store_log.proofs.recover.cut_behind.Goals as goal
+use Rattle.auth_store_log.proofs.opening.cut_behind.Goals as goal
 
 pub returns-clause-any_moment : goal.returns-clause-any_moment
 returns-clause-any_moment g c =

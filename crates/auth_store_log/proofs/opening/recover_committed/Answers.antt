@@ -10,7 +10,7 @@ use Rattle.auth_store_log.specs.Records.{Format, format_of, committed}
 use Rattle.auth_store_log.specs.Shown.{Stands}
 use Rattle.auth_store_log.specs.Laws.Records.{committed-le}
 use Rattle.auth_store_log.proofs.Openings.{all_read, found_len, stands, kept_as}
-use Rattle.auth_store_log.proofs.recover.recover_committed.Goals as goal
+use Rattle.auth_store_log.proofs.opening.recover_committed.Goals as goal
 
 pub returns-in_err-recovery-clause-any_moment : goal.returns-in_err-recovery-clause-any_moment
 returns-in_err-recovery-clause-any_moment g c =
