@@ -78,3 +78,8 @@ pub record IsRecorded (format : Format) (operation : Operation) : Type 0 where
 abbrev pub AreRecorded : Format → List Operation → Type 0
 AreRecorded format [] = ⊤
 AreRecorded format (operation ∷ operations) = IsRecorded format operation × AreRecorded format operations
+
+-- what an opening makes of the bytes of a log: they stay, and where there are none the log begins
+abbrev pub begun : Format → List ℕ → List ℕ
+begun format [] = history_bytes format []
+begun format (byte ∷ log) = byte ∷ log

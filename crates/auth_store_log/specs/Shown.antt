@@ -39,3 +39,7 @@ abbrev pub Reopens : Format → (List ℕ → ℕ) → ℕ → List ℕ → List
 Reopens format sum size log calls =
     (image : List ℕ) → IsImage (file_of calls) image → IsFalse (is_by_chance sum size (file_of calls) image)
     → IsReopened format log (recovered_log format sum size image)
+
+-- at a moment of an opening both hold: openings show that, and what is recovered begins with the log
+abbrev pub Stands : Format → (List ℕ → ℕ) → ℕ → List ℕ → List Call → Type 0
+Stands format sum size log calls = Reopens format sum size log calls × KeepsBytes sum size log calls

@@ -5,9 +5,10 @@
 pub mod append;
 pub mod error;
 pub mod laws;
+pub mod opening;
 pub mod records;
-pub mod recover;
 mod replay;
 
 pub use append::append_batch;
 pub use error::Error;
+pub use opening::recover;

@@ -348,3 +348,6 @@ module _ (format : Format) where
   committed_begins bytes =
       let reach = up_to_last (is_commit_record format) (whole_records format bytes) * record_size format in
       ap (λ n. take n bytes) (length-take reach bytes) ∙ take_min reach bytes
+
+  pub committed-le : (bytes : List ℕ) → length (committed format bytes) ≤ length bytes
+  committed-le bytes = omega (arith, ap length (committed_begins bytes), length-take (length (committed format bytes)) bytes)

@@ -1,4 +1,4 @@
-use Rattle.std.proofs.Common.{◌≡◌, ◌∙◌, ◌≤◌, ◌-◌, take, length, get_or, arith, ap, sym, refl, List, [], ◌∷◌, drop}
+use Rattle.std.proofs.Common.{◌≡◌, ◌∙◌, ◌≤◌, ◌-◌, take, length, get_or, arith, ap, refl, List, [], ◌∷◌, drop}
 use Rattle.std.proofs.lemmas.List.{take_rest}
 use Rattle.state_ops.specs.Operation.{Operation, delete, update, ordered, commit_floor, meaning_of}
 use Rattle.auth_store_parts.specs.Map.{Map, state_of}

@@ -1,11 +1,11 @@
-use Rattle.std.proofs.Common.{rules, ◌≡◌, ℕ, ◌+◌, ◌<◌, List, length, subst, sym, ap, ◌∙◌, min, arith}
+use Rattle.std.proofs.Common.{rules, ◌≡◌, ℕ, ◌+◌, ◌<◌, List, length, subst, sym, ◌∙◌, min, arith}
 use Rattle.paged_format.specs.Pages.{recovered}
 use Rattle.paged_blob.specs.Calls.{Call, content, file_of}
 use Rattle.paged_blob.specs.Moments.{Through, here}
 use Rattle.paged_blob.specs.Shrinks.{Withstands}
 use Rattle.paged_blob.specs.Writers.{Keeps}
 use Rattle.paged_blob.specs.Laws.Durable.{withstands_keeps}
-use Rattle.auth_store_log.proofs.recover.settle.Goals as goal
+use Rattle.auth_store_log.proofs.opening.settle.Goals as goal
 
 -- a cut to the whole of the list keeps all of it
 cut_to_all : (sum : List ℕ → ℕ) (old mid new : List Call) (size page_size count : ℕ) → mid ≡ old → page_size ≡ size
