@@ -3,12 +3,14 @@
 #![tactic(auto)]
 
 pub mod append;
-pub mod error;
 pub mod laws;
 pub mod opening;
 pub mod records;
-mod replay;
+pub mod replay;
 
 pub use append::append_batch;
-pub use error::Error;
 pub use opening::recover;
+pub use replay::is_log_of_a_history;
+
+#[cfg(test)]
+mod tests;
