@@ -5,6 +5,7 @@
 pub mod device;
 pub mod error;
 pub mod log;
+pub mod opening;
 
 pub use device::Device;
 pub use error::OpenError;
