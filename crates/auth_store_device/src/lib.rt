@@ -9,3 +9,6 @@ pub mod opening;
 
 pub use device::Device;
 pub use error::OpenError;
+
+#[cfg(test)]
+mod tests;
