@@ -1,20 +1,12 @@
 -- The bytes of the log's file behind its header, of which a mutation resizes them or lays some.
-use Rattle.std.proofs.Common.{◌≡◌, ◌⊎◌, ℕ, zero, suc, ◌+◌, ◌-◌, ◌<◌, ◌≤◌, max, Bool, true, false, List, [], ◌∷◌, ◌++◌, length, get_or, take, drop, replicate}
+use Rattle.std.proofs.Common.{◌≡◌, ◌⊎◌, ℕ, suc, ◌+◌, ◌-◌, ◌<◌, ◌≤◌, max, Bool, true, false, List, [], ◌∷◌, ◌++◌, length, get_or, take, drop, replicate}
 use Rattle.std.proofs.Common.{sym, ◌∙◌, ap, inl, inr, ⊎_elim, refl, arith}
 use Rattle.std.proofs.lemmas.Bool.{cases_lt}
-use Rattle.std.proofs.lemmas.List.{length-append, length-drop, length-replicate, take-append-le, take_all, append-nil, get_or-drop, ext_get_or}
+use Rattle.std.proofs.lemmas.List.{length-append, length-drop, length-replicate, take_all, append-nil, get_or-drop, ext_get_or}
 use Rattle.fault_storage_parts.specs.Files as files
 use Rattle.fault_storage_parts.specs.Files.{with_kept}
 use Rattle.paged_blob.specs.Calls.{resized, with_bytes}
-use Rattle.paged_blob.proofs.Bytes.{
-  length-resized,
-  resized_in,
-  resized_out,
-  length-with_bytes,
-  with_bytes_in,
-  with_bytes_before,
-  with_bytes_behind,
-}
+use Rattle.paged_blob.proofs.Bytes.{length-resized, resized_in, length-with_bytes, with_bytes_in, with_bytes_before, with_bytes_behind}
 
 -- the store of files resizes and lays bytes as a blob does
 pub resized-same : (size : ℕ) (file : List ℕ) → files.resized size file ≡ resized size file

@@ -1,6 +1,6 @@
 -- How the open log is carried on by a change of it.
-use Rattle.std.proofs.Common.{◌≡◌, ℕ, ◌+◌, ◌-◌, ◌<◌, ◌≤◌, min, max, Bool, true, false, not, ◌||◌, IsFalse, List, [], ◌∷◌, ◌++◌, length, take, drop, get_or, replicate, cond}
-use Rattle.std.proofs.Common.{sym, ◌∙◌, ap, subst, inl, inr, ⊎_elim, refl, arith}
+use Rattle.std.proofs.Common.{◌≡◌, ℕ, ◌+◌, ◌-◌, ◌≤◌, Bool, true, false, ◌||◌, IsFalse, List, [], ◌∷◌, ◌++◌, length, drop, replicate, cond}
+use Rattle.std.proofs.Common.{sym, ◌∙◌, ap, subst, inl, inr, ⊎_elim, arith}
 use Rattle.std.proofs.lemmas.Bool.{true≢false, cond-true}
 use Rattle.std.proofs.lemmas.List.{length-drop}
 use Rattle.fault_storage_parts.specs.Files as files
@@ -13,7 +13,7 @@ use Rattle.paged_blob.specs.Calls as calls
 use Rattle.paged_blob.specs.Images.{IsReached, IsLive}
 use Rattle.paged_blob.specs.Laws.Durable.{same_front}
 use Rattle.paged_blob.proofs.Bytes.{length-with_bytes, with_bytes_before}
-use Rattle.auth_store_device.specs.Logs.{is_log, has_log, log_of, behind_header, HasHeader, IsOrderly, Stands, IsHandleOf, IsOpenLog}
+use Rattle.auth_store_device.specs.Logs.{is_log, has_log, log_of, behind_header, HasHeader, IsOrderly, Stands, IsFirst, IsOpenLog}
 use Rattle.auth_store_device.proofs.Bytes.{with_bytes-same, with_bytes-behind, resized-behind, all_kept}
 use Rattle.auth_store_device.proofs.Outcomes.{left-issued, past-snoc, same-header}
 use Rattle.auth_store_device.proofs.Places.{changed-first, any-first, file-changed, has-changed, numbered-changed, first-changed}
@@ -47,32 +47,55 @@ stands_issued file file_now log mutation s step = record {
       subst (λ (l : List ℕ). IsReached file_now (behind_header l)) (sym r.2.1) (step r.2.0 r.0 (s.each r.0 r.1));
 }
 
--- the log changed among the files
-pub carried : (store : Store) (file file_now : File) (handle : Handle) (live : List ℕ) (change : files.File → files.File) (order : List ℕ)
-    → IsOpenLog store file handle → HasHeader (change (log_of store)).base → ArePast 8 (change (log_of store)).log → Stands file_now (change (log_of store))
+-- the log changed among the files, found by the number of a handle
+pub changed_open : (store : Store) (file_now : File) (handle : Handle) (live : List ℕ) (change : files.File → files.File) (order : List ℕ)
+    → IsOrderly store → has_log store ≡ true → IsFirst (has_number handle.number) is_log store.files → handle.offset ≡ 8
+    → HasHeader (change (log_of store)).base → ArePast 8 (change (log_of store)).log → Stands file_now (change (log_of store))
     → HasHeader live → IsLive file_now (behind_header live)
     → IsOpenLog (record store { files = changed (has_number handle.number) change store.files; order = order }) file_now (showing live handle)
-carried store file file_now handle live change order o headed past stands live_headed shows =
-    let there = o.opened.there in
-    let first = changed-first (has_number handle.number) is_log change store.files o.opened.first in
+changed_open store file_now handle live change order orderly there first offset headed past stands live_headed shows =
+    let found = changed-first (has_number handle.number) is_log change store.files first in
     let is : change (log_of store) ≡ log_of (record store { files = changed is_log change store.files; order = order }) =
     sym (file-changed change store.files there) in
-    subst (λ l. IsOpenLog (record store { files = l; order = order }) file_now (showing live handle)) (sym first) (record {
+    subst (λ l. IsOpenLog (record store { files = l; order = order }) file_now (showing live handle)) (sym found) (record {
       orderly = record {
-        numbered = numbered-changed change store.files store.next ∙ o.orderly.numbered;
-        listed = λ _. o.orderly.listed there;
+        numbered = numbered-changed change store.files store.next ∙ orderly.numbered;
+        listed = λ _. orderly.listed there;
         headed = λ _. subst (λ (l : files.File). HasHeader l.base) is headed;
         past = subst (λ (l : files.File). ArePast 8 l.log) is past;
       };
       stands = subst (Stands file_now) is stands;
       opened = record {
         there = has-changed change store.files ∙ there;
-        first = first-changed change handle.number store.files o.opened.first;
-        offset = o.opened.offset;
+        first = first-changed change handle.number store.files first;
+        offset = offset;
         headed = live_headed;
         live = shows;
       };
     })
+
+-- the open log changed
+pub carried : (store : Store) (file file_now : File) (handle : Handle) (live : List ℕ) (change : files.File → files.File) (order : List ℕ)
+    → IsOpenLog store file handle → HasHeader (change (log_of store)).base → ArePast 8 (change (log_of store)).log → Stands file_now (change (log_of store))
+    → HasHeader live → IsLive file_now (behind_header live)
+    → IsOpenLog (record store { files = changed (has_number handle.number) change store.files; order = order }) file_now (showing live handle)
+carried store file file_now handle live change order o headed past stands live_headed shows =
+    changed_open store file_now handle live change order o.orderly o.opened.there o.opened.first o.opened.offset headed past stands live_headed shows
+
+-- a file of these bytes, of which nothing is pending
+pub stands_settled : (bytes : List ℕ) → Stands (record { base = behind_header bytes; changes = []; failed = false }) (settled_at bytes)
+stands_settled bytes = record {
+  each = λ left is. subst (λ (l : List ℕ). IsReached (record { base = behind_header bytes; changes = []; failed = false }) (behind_header l))
+      (sym is.is) (reached_base (behind_header bytes) false);
+}
+
+-- bytes are published that are those of the handle
+pub published_open : (store : Store) (handle : Handle) → IsOrderly store → has_log store ≡ true
+    → IsFirst (has_number handle.number) is_log store.files → handle.offset ≡ 8 → HasHeader handle.live
+    → IsOpenLog (published handle.number handle.live store) (record { base = behind_header handle.live; changes = []; failed = false }) handle
+published_open store handle orderly there first offset headed =
+    changed_open store (record { base = behind_header handle.live; changes = []; failed = false }) handle handle.live (λ _. settled_at handle.live)
+    (without handle.number store.order) orderly there first offset headed tt (stands_settled handle.live) headed (live_base (behind_header handle.live))
 
 -- a mutation is issued
 pub carried_issued : (store : Store) (file file_now : File) (handle : Handle) (live : List ℕ) (mutation : Mutation)
@@ -89,17 +112,7 @@ carried_issued store file file_now handle live mutation o past step live_headed 
 -- the live bytes are published
 pub carried_published : (store : Store) (file : File) (handle : Handle) → IsOpenLog store file handle
     → IsOpenLog (published handle.number handle.live store) (record { base = behind_header handle.live; changes = []; failed = false }) handle
-carried_published store file handle o =
-    carried store file (record { base = behind_header handle.live; changes = []; failed = false }) handle handle.live (λ _. settled_at handle.live)
-    (without handle.number store.order) o o.opened.headed tt
-    (record {
-      each = λ left is. subst (λ (l : List ℕ). IsReached (record { base = behind_header handle.live; changes = []; failed = false }) (behind_header l))
-          (sym (is.is ∙ none is.choices)) (reached_base (behind_header handle.live) false);
-    })
-    o.opened.headed (live_base (behind_header handle.live))
-  where
-    none : (choices : List (List Bool)) → files.left_by choices handle.live [] ≡ handle.live
-    none choices = refl
+carried_published store file handle o = published_open store handle o.orderly o.opened.there o.opened.first o.opened.offset o.opened.headed
 
 -- bytes that are laid behind the header leave it
 pub laid_headed : (offset : ℕ) (bytes live : List ℕ) → HasHeader live → HasHeader (files.with_bytes (8 + offset) bytes live)

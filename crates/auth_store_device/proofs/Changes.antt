@@ -1,11 +1,9 @@
 -- The open log is carried on by each call that the store took.
-use Rattle.std.proofs.Common.{◌≡◌, ℕ, ◌+◌, ◌-◌, ◌<◌, ◌≤◌, ◌^◌, min, max, ◌&&◌, nat_lt, Bool, true, false, cond, Option, Some, None, Result, Ok, Err, List, [], ◌∷◌, length, take, drop, sym, ◌∙◌, ap, subst, inl, inr, ⊎_elim, refl, arith}
-use Rattle.std.proofs.lemmas.Bool.{cases_Bool, cond-true, cond-false, leb-true, and_parts}
+use Rattle.std.proofs.Common.{◌≡◌, ℕ, ◌+◌, min, max, ◌&&◌, nat_lt, Bool, true, false, cond, Option, Some, None, Result, Ok, Err, List, [], ◌∷◌, length, take, drop, sym, ◌∙◌, ap, subst, inl, inr, refl, arith}
+use Rattle.std.proofs.lemmas.Bool.{leb-true, and_parts}
 use Rattle.rand_core.specs.Stream.{Stream, next_u64}
 use Rattle.fault_storage_parts.specs.Draws.{sample, kept_bytes, length_between}
 use Rattle.fault_storage_parts.specs.DrawsCode.{rate_of, mode_of}
-use Rattle.fault_storage_parts.specs.Files as files
-use Rattle.fault_storage_parts.specs.Files.{written, fixed, resized_to, with_kept}
 use Rattle.fault_storage_parts.specs.declared.config.WriteConfig.{WriteConfig}
 use Rattle.fault_storage_parts.specs.declared.config.ResizeConfig.{ResizeConfig}
 use Rattle.fault_storage_parts.specs.declared.error.Call.{Call as CallBelow}
@@ -14,20 +12,19 @@ use Rattle.fault_storage_parts.specs.declared.error.Error.{Error as StorageError
 use Rattle.fault_storage_parts.specs.declared.probability.Probability.{Probability}
 use Rattle.fault_storage.specs.declared.faulty.Blob.{Blob}
 use Rattle.fault_storage.specs.declared.faulty.Storage.{Storage}
-use Rattle.fault_storage.specs.Changes.{IsFaultyChange, FaultyWrites, FaultyResizes, made_write, failed_write, failed_length, failed_resize, resized_whole}
+use Rattle.fault_storage.specs.Changes.{IsFaultyChange, FaultyWrites, FaultyResizes, made_write, failed_write, failed_resize, resized_whole}
 use Rattle.fault_storage.specs.Directory.{MemoryReads, MemorySyncs}
 use Rattle.fault_storage.specs.Faults.{IsFaultyCall}
 use Rattle.std.specs.declared.alloc.Global.{Global}
 use Rattle.std.specs.declared.vec.Vec.{Vec}
 use Rattle.paged_blob.specs.Answers.{IsSlice}
 use Rattle.std.proofs.lemmas.List.{length-drop, drop-drop}
-use Rattle.fault_storage.specs.Stores.{Store, Handle, issued, showing, resizing, fixed_write}
+use Rattle.fault_storage.specs.Stores.{Store, Handle, resizing, fixed_write}
 use Rattle.paged_blob.specs.declared.blob.WriteMode.{WriteMode}
 use Rattle.paged_blob.specs.declared.blob.WriteMode.TheVariants as modes
 use Rattle.paged_blob.specs.WriteModes.{is_sync}
 use Rattle.paged_blob.specs.Calls.{Call, wrote, synced, resized_to as resized_call, File, file_of}
-use Rattle.auth_store_device.specs.declared.log.Told.{Told}
-use Rattle.auth_store_device.specs.declared.log.Told.TheVariants.{Made, Failed, Ended, Unmade}
+use Rattle.auth_store_device.specs.declared.log.Told.TheVariants.{Made, Failed}
 use Rattle.auth_store_device.specs.Devices.{told_of, mode_below}
 use Rattle.auth_store_device.specs.Logs.{behind_header, IsOpenLog}
 use Rattle.auth_store_device.proofs.Reached.{between_is}

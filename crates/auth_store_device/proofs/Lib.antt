@@ -1,6 +1,8 @@
 pub mod Bytes
 pub mod Carried
 pub mod Changes
+pub mod Opened
+pub mod Shown
 pub mod Outcomes
 pub mod Places
 pub mod Reached

@@ -1,5 +1,5 @@
 -- The outcomes of a crash of a file, by any choices.
-use Rattle.std.proofs.Common.{◌≡◌, ℕ, zero, suc, ◌+◌, ◌≤◌, min, Bool, List, [], ◌∷◌, ◌++◌, length, take, drop, sym, ◌∙◌, ap, refl, arith}
+use Rattle.std.proofs.Common.{◌≡◌, ℕ, zero, suc, Bool, List, [], ◌∷◌, ◌++◌, length, take, drop, sym, ◌∙◌, ap, refl, arith}
 use Rattle.std.proofs.lemmas.List.{length-take, length-append, drop-drop, take-take}
 use Rattle.fault_storage_parts.specs.Files.{Mutation, written, fixed, resized_to, ArePast, IsPast, IsLeftOf, applied, left_by, durable_bytes, durable_step}
 use Rattle.fault_storage_parts.proofs.Left.{left-keeps, left-same}

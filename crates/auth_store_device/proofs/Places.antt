@@ -1,13 +1,12 @@
 -- The log among the files of a store, found by its name or by its number.
-use Rattle.std.proofs.Common.{◌≡◌, ◌⊎◌, ℕ, ◌+◌, ◌<◌, ◌≤◌, ◌==◌, Bool, true, false, cond, not, ◌&&◌, ◌||◌, nat_lt, List, [], ◌∷◌, ◌++◌, length, take, drop}
-use Rattle.std.proofs.Common.{sym, ◌∙◌, ap, subst, inl, inr, ⊎_elim, refl, arith}
+use Rattle.std.proofs.Common.{◌≡◌, ℕ, ◌==◌, Bool, true, false, cond, not, ◌&&◌, ◌||◌, nat_lt, List, [], ◌∷◌}
+use Rattle.std.proofs.Common.{sym, ◌∙◌, ap, inl, inr, ⊎_elim, refl}
 use Rattle.std.specs.List.{list_any}
-use Rattle.std.proofs.lemmas.Bool.{cases_Bool, both_ways, and_parts, and_from, or_parts, or_cases, or_left, or_right, not-true, not_from_false, eqb-true, eq-eqb, false_from_ne_true}
-use Rattle.rand_core.specs.Stream.{Stream}
+use Rattle.std.proofs.lemmas.Bool.{cases_Bool, both_ways, or_parts}
 use Rattle.fault_storage.specs.declared.stored.StoredFile.{StoredFile}
 use Rattle.fault_storage_parts.specs.Files as files
 use Rattle.fault_storage_parts.specs.Files.{IsLeftOf}
-use Rattle.fault_storage.specs.Stores.{has_number, file_with, number_with, changed, AreLeftOf}
+use Rattle.fault_storage.specs.Stores.{has_number, file_with, changed, AreLeftOf}
 use Rattle.fault_storage.specs.Opens.{is_name}
 use Rattle.fault_storage_parts.proofs.Left.{left-same}
 use Rattle.auth_store_device.specs.Logs.{log_partition, log_name, is_log, are_numbered, IsFirst}

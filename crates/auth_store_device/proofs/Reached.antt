@@ -1,6 +1,6 @@
 -- What one change makes of an image.
 use Rattle.std.proofs.Common.{◌≡◌, ◌⊎◌, ℕ, ◌+◌, ◌-◌, ◌<◌, ◌≤◌, max, min, Bool, true, false, not, List, [], ◌∷◌, length, get_or, drop}
-use Rattle.std.proofs.Common.{sym, ◌∙◌, ap, subst, inl, inr, ⊎_elim, refl, arith}
+use Rattle.std.proofs.Common.{sym, ◌∙◌, ap, inl, inr, ⊎_elim, refl, arith}
 use Rattle.std.proofs.lemmas.List.{get_or_past, length-drop}
 use Rattle.std.proofs.lemmas.Bool.{cases_lt, and_from, and_left, and_right, or_left, or_right, eq-eqb, le-leb, lt-leb, lt-ltb, le-ltb, not_from_false}
 use Rattle.std.proofs.lemmas.Nat.{mod_below}

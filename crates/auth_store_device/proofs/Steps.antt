@@ -1,5 +1,5 @@
 -- How a device is carried on by each call.
-use Rattle.std.proofs.Common.{◌≡◌, ℕ, ◌+◌, ◌<◌, ◌≤◌, Bool, true, false, Option, Some, None, List, [], ◌∷◌, ◌++◌, length, take, drop, sym, ◌∙◌, ap, subst, refl, arith}
+use Rattle.std.proofs.Common.{◌≡◌, ℕ, ◌<◌, true, false, Option, Some, None, List, [], ◌∷◌, length, sym, ◌∙◌, ap, subst, arith}
 use Rattle.std.specs.Prelude.{IfSome, ◌⊎◌}
 use Rattle.std.proofs.Common.{inl, inr}
 use Rattle.std.proofs.lemmas.Bool.{both_ways, false_from_ne_true}
@@ -13,13 +13,17 @@ use Rattle.fault_storage.specs.Directory.{has_partition, LacksName}
 use Rattle.fault_storage_parts.specs.declared.error.Error.{Error}
 use Rattle.fault_storage_parts.specs.declared.error.Error.TheVariants.{PartitionMissing, BlobMissing, Memory}
 use Rattle.fault_storage.proofs.Leaving.{crash-leaves}
-use Rattle.paged_blob.specs.Calls.{Call, synced, File, file_of}
-use Rattle.paged_blob.specs.Images.{IsReached}
-use Rattle.auth_store_device.specs.Logs.{IsOrderly, IsHandleOf, are_numbered, log_partition, log_name, has_log, log_of, durable_log, behind_header, HasHeader, Stands}
-use Rattle.auth_store_device.specs.Devices.{DeviceState, IsDevice, IsSettled}
+use Rattle.paged_blob.specs.Calls.{Call, opened, synced, File, file_of}
+use Rattle.std.proofs.Common.{Err}
+use Rattle.paged_blob.specs.declared.error.Error as refusals
+use Rattle.paged_blob.specs.declared.error.Error.TheVariants.{NumberEnded}
+use Rattle.paged_blob.specs.Images.{IsImage, IsReached}
+use Rattle.paged_blob.proofs.Live.{reached_image}
+use Rattle.auth_store_device.specs.Logs.{IsOrderly, IsHandleOf, are_numbered, log_partition, log_name, has_log, log_of, durable_log, behind_header, Stands, IsOpenLog}
+use Rattle.auth_store_device.specs.Devices.{DeviceState, IsDevice, IsStopped, HasEnded, shown_file}
 use Rattle.auth_store_device.proofs.Reached.{reached_base}
 use Rattle.auth_store_device.proofs.Places.{file-none, file-left, has-left, numbered-left}
-use Rattle.auth_store_device.proofs.Outcomes.{left-left, left-headed, past-drop}
+use Rattle.auth_store_device.proofs.Outcomes.{durable-left, left-left, left-headed, past-drop}
 
 -- what choices left of each file is as orderly
 pub orderly_left : (store left : Store) → AreLeftOf store.files left.files → left.next ≡ store.next → left.partitions ≡ store.partitions
@@ -83,3 +87,26 @@ lacks_blob store e (inl (inl (inl (is, valid)))) missing = cc
 lacks_blob store e (inl (inl (inr (is, valid, none)))) missing = cc
 lacks_blob store e (inl (inr (is, valid, some, none))) missing = none
 lacks_blob store e (inr is) missing = cc
+
+-- what is durable is an image
+pub durable_image : (file : File) (log : files.File) → Stands file log → IsImage file (behind_header (durable_bytes log.base log.log))
+durable_image file log s =
+    reached_image file (behind_header (durable_bytes log.base log.log)) (s.each (durable_bytes log.base log.log) (durable-left log.base log.log))
+
+module _ {R : Type 0} where
+  -- a device whose log was opened
+  pub opened_device : (storage : Storage Store R) (log : Blob Handle) (calls earlier : List Call) (shown : List ℕ) (left : Option ℕ) (refused : ℕ)
+      → IsOpenLog storage.inner (shown_file shown) log.inner → calls ≡ opened shown ∷ earlier → (0 < refused → left ≡ Some 0)
+      → IsDevice (record { storage = storage; log = Some log; calls = calls; left = left; refused = refused })
+  opened_device storage log calls earlier shown left refused o recorded cut = record {
+    orderly = o.orderly;
+    stands = subst (λ c. Stands (file_of c) (log_of storage.inner)) (sym recorded) o.stands;
+    handle = subst (λ c. IsHandleOf storage.inner (file_of c) log.inner) (sym recorded) o.opened;
+    cut = cut;
+  }
+
+  -- where a count has ended, that is why a call is stopped
+  pub stopped_ended : (old new : DeviceState R) (e : refusals.Error) → IsStopped {T = Unit} old (Err e) new → HasEnded old → e ≡ NumberEnded
+  stopped_ended old new e (inl (ended, is, same)) has = cc
+  stopped_ended old new e (inr (injections, refused, cut, is, same)) (inl full) = absurd (omega (arith, injections, full))
+  stopped_ended old new e (inr (injections, refused, cut, is, same)) (inr full) = absurd (omega (arith, refused, full))

@@ -1,5 +1,5 @@
 -- The device: a log of the store that fails, the calls that were made of it, and a cut of the power.
-use Rattle.std.specs.Prelude.{◌≡◌, ℕ, ◌+◌, ◌-◌, ◌<◌, ◌^◌, ◌==◌, Bool, true, if◌then◌else◌, ◌⊎◌, Option, Some, None, is_some, IfSome, Result, Ok, Err, List, [], ◌∷◌}
+use Rattle.std.specs.Prelude.{◌≡◌, ℕ, ◌+◌, ◌-◌, ◌<◌, ◌^◌, ◌==◌, false, if◌then◌else◌, ◌⊎◌, Option, Some, None, is_some, IfSome, Result, Ok, Err, List, [], ◌∷◌}
 use Rattle.fault_storage_parts.specs.declared.error.Error.{Error as StorageError}
 use Rattle.fault_storage_parts.specs.declared.error.Error.TheVariants.{
   BlobMissing,
@@ -12,21 +12,25 @@ use Rattle.fault_storage_parts.specs.declared.error.Error.TheVariants.{
   NumberEnded,
   Memory,
 }
+use Rattle.fault_storage_parts.specs.declared.header.Versions.{Versions}
+use Rattle.fault_storage.specs.declared.storage.Opened.{Opened}
 use Rattle.fault_storage.specs.declared.faulty.Blob.{Blob}
 use Rattle.fault_storage.specs.declared.faulty.Storage.{Storage}
 use Rattle.fault_storage.specs.declared.storage.WriteMode.{WriteMode}
 use Rattle.fault_storage.specs.declared.storage.WriteMode.TheVariants.{Plain, Sync}
 use Rattle.fault_storage.specs.Stores.{Store, Handle}
 use Rattle.paged_blob.specs.Answers.{Failures}
-use Rattle.paged_blob.specs.Calls.{Call, file_of}
+use Rattle.paged_blob.specs.Calls.{Call, File, file_of}
 use Rattle.paged_blob.specs.declared.blob.WriteMode as blob
 use Rattle.paged_blob.specs.declared.blob.WriteMode.TheVariants as blobs
 use Rattle.paged_blob.specs.declared.error.CallKind.{CallKind}
 use Rattle.paged_blob.specs.declared.error.Error.{Error}
 use Rattle.paged_blob.specs.declared.error.Error.TheVariants as refusals
+use Rattle.auth_store_device.specs.declared.error.OpenError.{OpenError}
+use Rattle.auth_store_device.specs.declared.error.OpenError.TheVariants as openings
 use Rattle.auth_store_device.specs.declared.log.Told.{Told}
 use Rattle.auth_store_device.specs.declared.log.Told.TheVariants.{Made, Failed, Ended, Unmade}
-use Rattle.auth_store_device.specs.Logs.{IsOrderly, log_of, has_log, durable_log, Stands, IsHandleOf}
+use Rattle.auth_store_device.specs.Logs.{IsOrderly, log_of, Stands, IsHandleOf}
 
 -- A device: the store below, the open log, the calls so far, the newest first, how many more the power lasts for, where a cut was asked
 -- for, and how many were refused since the last crash.
@@ -118,7 +122,8 @@ HasEnded state = (state.storage.injections ≡ 2 ^ 64 - 1) ⊎ (state.refused �
 abbrev pub IsStopped : {R T : Type 0} → DeviceState R → Result T Error → DeviceState R → Type 0
 IsStopped old result new =
     (HasEnded old × (result ≡ Err refusals.NumberEnded) × (new ≡ old))
-    ⊎ ((old.left ≡ Some 0) × (result ≡ Err refusals.PowerCut) × (new ≡ record old { refused = old.refused + 1 }))
+    ⊎ ((old.storage.injections < 2 ^ 64 - 1) × (old.refused < 2 ^ 64 - 1) × (old.left ≡ Some 0) × (result ≡ Err refusals.PowerCut)
+    × (new ≡ record old { refused = old.refused + 1 }))
 
 -- A call of the device: it is stopped, or the log is not open, or it is the store's own.
 abbrev pub IsDeviceCall : {R T : Type 0} → CallKind → (Blob Handle → Storage Store R → Result T StorageError → Blob Handle → Storage Store R → Type 0)
@@ -128,3 +133,49 @@ IsDeviceCall kind Answers old result new =
     ⊎ ((old.log ≡ None) × (result ≡ Err refusals.BlobMissing) × (new ≡ old))
     ⊎ ((old.left ≡ Some 0 → ⊥) × (new.left ≡ left_after result old.left) × (new.refused ≡ old.refused)
     × ((log : Blob Handle) × (now : Blob Handle) × (old.log ≡ Some log) × (new.log ≡ Some now) × Passes kind Answers log old.storage result now new.storage))
+
+-- the one version in which the log is opened
+abbrev pub log_versions : Versions
+log_versions = record { least = 0; greatest = 0 }
+
+-- what the store refused, as an opening does
+abbrev pub opening_refusal : StorageError → OpenError
+opening_refusal (Header fault) = openings.Header fault
+opening_refusal (Injected call) = openings.Injected
+opening_refusal NumberEnded = openings.NumberEnded
+opening_refusal Memory = openings.Memory
+opening_refusal BlobMissing = openings.Memory
+opening_refusal PartitionMissing = openings.Memory
+opening_refusal PartitionNameInvalid = openings.Memory
+opening_refusal AlreadyOpen = openings.Memory
+opening_refusal BlobInsufficientLength = openings.Memory
+
+abbrev pub opening_answer : Result (Opened (Blob Handle)) StorageError → Result (Blob Handle) OpenError
+opening_answer (Ok opened) = Ok opened.blob
+opening_answer (Err e) = Err (opening_refusal e)
+
+-- how many faults were injected after an opening
+abbrev pub injected_after : {T : Type 0} → Result T OpenError → ℕ → ℕ
+injected_after (Err openings.Injected) injected = injected + 1
+injected_after result injected = injected
+
+-- the log as it was shown, of which nothing is pending
+abbrev pub shown_file : List ℕ → File
+shown_file shown = record { base = shown; changes = []; failed = false }
+
+-- how many calls a cut has refused after an opening, and how many are left until one
+abbrev pub refused_after : {T : Type 0} → Result T OpenError → ℕ → ℕ
+refused_after (Err openings.PowerCut) refused = refused + 1
+refused_after result refused = refused
+
+abbrev pub left_after_opening : {T : Type 0} → Result T OpenError → Option ℕ → Option ℕ
+left_after_opening (Err openings.NumberEnded) left = left
+left_after_opening (Err openings.Memory) left = left
+left_after_opening (Err openings.PowerCut) left = left
+left_after_opening result left = one_less left
+
+-- why an opening is refused before it reaches the store
+abbrev pub stopped_opening : Error → OpenError
+stopped_opening refusals.NumberEnded = openings.NumberEnded
+stopped_opening refusals.PowerCut = openings.PowerCut
+stopped_opening _ = openings.Memory

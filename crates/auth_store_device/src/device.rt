@@ -1,31 +1,28 @@
 //! The device.
 
-ghost use Rattle.std.specs.Prelude.{◌≡◌, ◌+◌, ◌-◌, ◌<◌, ◌^◌, length, Err, ◌∷◌, [], None, Some, true, IfOk, IfErr, OnOk, OnErr, is_none, drop};
+ghost use Rattle.std.specs.Prelude.{◌≡◌, ◌⊎◌, is_some, true, ◌+◌, ◌-◌, ◌<◌, ◌^◌, length, Err, ◌∷◌, [], None, Some, IfOk, IfErr, OnOk, OnErr, is_none, drop};
 ghost use Rattle.rand_core.specs.Stream.{Stream};
 ghost use Rattle.fault_storage.specs.Stores.{crashed_store};
-ghost use Rattle.fault_storage.specs.Directory.{has_partition};
 ghost use Rattle.fault_storage_parts.specs.declared.error.Call.{Call};
 ghost use Rattle.fault_storage.specs.Changes.{FaultyWrites, FaultyResizes};
 ghost use Rattle.fault_storage.specs.Directory.{MemoryReads, MemorySyncs};
 ghost use Rattle.fault_storage.specs.Faults.{IsFaultyCall};
-ghost use Rattle.paged_blob.specs.Answers.{Records, RecordsSync, failures_after, IsCause, IsReadCause, IsSlice};
-ghost use Rattle.paged_blob.specs.Calls.{synced, wrote, resized_to, file_of};
+ghost use Rattle.paged_blob.specs.Answers.{Records, RecordsSync, RecordsOpening, failures_after, IsCause, IsReadCause, IsSlice};
+ghost use Rattle.paged_blob.specs.Calls.{opened, content, synced, wrote, resized_to, file_of};
 ghost use Rattle.paged_blob.specs.WriteModes.{is_sync};
 ghost use Rattle.paged_blob.specs.declared.error.CallKind.{CallKind};
-ghost use Rattle.auth_store_device.specs.Devices.{left_after};
-ghost use Rattle.auth_store_device.specs.Logs.{log_partition, has_log, behind_header, durable_log};
+ghost use Rattle.auth_store_device.specs.Devices.{left_after, left_after_opening, stopped_opening};
+ghost use Rattle.auth_store_device.specs.Logs.{log_of, behind_header, durable_log};
 ghost use Rattle.paged_blob.specs.Recorded.{calls_of};
 
-use crate::log::{read_log, resize_log, sync_log, write_log};
-use fault_storage::{Config, Error as StorageError, faulty, memory};
+use crate::error::OpenError;
+use crate::log::{note, read_log, resize_log, sync_log, write_log};
+use crate::opening::{copy_durable, copy_shown, open_log};
+use fault_storage::{Config, faulty, memory};
 use paged_blob::{Blob, Error, Recorded, WriteMode};
 use rand_core::Rng;
 use std::alloc::{AllocError, Global};
 use std::marker::Model;
-
-const PARTITION: &str = "store";
-
-const NAME: &[u8] = b"log";
 
 /// A blob over a store that fails, in memory: the blob `log` of its partition `store`, of blob version 0. It is open or
 /// closed, keeps a record of all calls that were made of it, and its power may be cut after so many of them (own).
@@ -72,19 +69,6 @@ pub(crate) fn copy_behind_header(alloc: Global, bytes: &[u8]) -> Result<Vec<u8>,
     bytes[8..].to_vec(alloc)
 }
 
-// A copy of what is durable of the log behind its header. It fails only when out of memory.
-fn copy_log(alloc: Global, storage: &memory::Storage) -> Result<Vec<u8>, AllocError>
-    requires { has_log storage.now ≡ true → has_partition log_partition storage.now.partitions ≡ true }
-    ensures { IfOk result (λ bytes. bytes.items ≡ behind_header (durable_log storage.now)) }
-{
-    match storage.raw_blob(PARTITION, NAME) {
-        Ok(bytes) => copy_behind_header(alloc, &bytes),
-        Err(StorageError::PartitionMissing) => Ok(Vec::new(alloc)),
-        Err(StorageError::BlobMissing) => Ok(Vec::new(alloc)),
-        Err(_) => Err(AllocError),
-    }
-}
-
 impl<R: Rng + Drop> Device<R> {
     ghost use Rattle.auth_store_device.specs.Devices.{IsSettled, after_asking};
     ghost use Rattle.auth_store_device.specs.Logs.{behind_header, durable_log};
@@ -104,7 +88,8 @@ impl<R: Rng + Drop> Device<R> {
           refused = 0;
         }) }
     {
-        let base = copy_log(alloc, storage.inner())?;
+        let copied = copy_durable(storage.inner())?;
+        let base = copy_shown(alloc, storage.inner(), &copied)?;
         let mut record_kept = Vec::new(alloc);
         record_kept.push(Recorded::Synced(base, true))?;
         Ok(Device {
@@ -180,8 +165,63 @@ fn left_after<T>(answer: &Result<T, Error>, left: Option<u64>) -> Option<u64>
     }
 }
 
+// Why an opening is refused before it reaches the store.
+fn stopped_opening(error: Error) -> OpenError
+    ensures { result ≡ stopped_opening error }
+{
+    match error {
+        Error::NumberEnded => OpenError::NumberEnded,
+        Error::PowerCut => OpenError::PowerCut,
+        _ => OpenError::Memory,
+    }
+}
+
+// How many calls are left after an opening. One that counts as not made, or that a cut refused, uses none up.
+fn left_after_opening<T>(answer: &Result<T, OpenError>, left: Option<u64>) -> Option<u64>
+    ensures { result ≡ left_after_opening answer.now left }
+{
+    match answer {
+        Err(OpenError::NumberEnded) => left,
+        Err(OpenError::Memory) => left,
+        Err(OpenError::PowerCut) => left,
+        _ => left.map(|calls| calls.saturating_sub(1)),
+    }
+}
+
 impl<R: Rng + Drop> Device<R> {
-    ghost use Rattle.auth_store_device.specs.Devices.{HasEnded, IsStopped};
+    ghost use Rattle.auth_store_device.specs.Devices.{HasEnded, IsStopped, injected_after, refused_after};
+
+    /// Opens the log, or makes it where there is none, admits what it shows, and answers how many bytes that is. It asks for
+    /// a closed device. F8: a count has ended; F10; F9; F6; F5: its header is refused.
+    pub fn open(&mut self) -> Result<u64, OpenError>
+        requires { self.old.log ≡ None }
+        ensures shows { OnOk result (self.new.calls ≡ opened (behind_header (durable_log self.old.storage.inner)) ∷ self.old.calls) }
+        ensures records { OnOk result (RecordsOpening self.old.calls self.new.calls) }
+        ensures length { IfOk result (λ count. count ≡ length (content self.new.calls)) }
+        ensures admitted { OnOk result ((log_of self.new.storage.inner).log ≡ []) }
+        ensures is_open { OnOk result (is_some self.new.log ≡ true) }
+        ensures refused { OnErr result ((self.new.calls ≡ self.old.calls) × (self.new.log ≡ None) × (self.new.storage.inner ≡ self.old.storage.inner)) }
+        ensures count { self.new.storage.injections ≡ injected_after result self.old.storage.injections }
+        ensures ended { HasEnded self.old → result ≡ Err OpenError.NumberEnded }
+        ensures cut { self.old.left ≡ Some 0 → HasEnded self.old ⊎ (result ≡ Err OpenError.PowerCut) }
+        ensures power { result ≡ Err OpenError.PowerCut → self.old.left ≡ Some 0 }
+        ensures refusals { self.new.refused ≡ refused_after result self.old.refused }
+        ensures left { self.new.left ≡ left_after_opening result self.old.left }
+    {
+        if let Err(error) = self.stop() {
+            return Err(stopped_opening(error));
+        }
+        let copied = copy_durable(self.storage.inner())?;
+        let shown = copy_shown(self.alloc, self.storage.inner(), &copied)?;
+        self.record_kept.reserve(1)?;
+        let count = shown.len() as u64;
+        let answer = open_log(&mut self.storage, copied);
+        self.left = left_after_opening(&answer, self.left);
+        let log = answer?;
+        note(&mut self.record_kept, Recorded::Opened(shown));
+        self.log = Some(log);
+        Ok(count)
+    }
 
     // Refuses a call where a count has ended or the power is cut.
     fn stop(&mut self) -> Result<(), Error>

@@ -5,6 +5,10 @@
 pub mod device;
 pub mod error;
 pub mod log;
+pub mod opening;
 
 pub use device::Device;
 pub use error::OpenError;
+
+#[cfg(test)]
+mod tests;

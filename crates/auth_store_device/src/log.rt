@@ -78,7 +78,7 @@ fn mode_below(bytes: &[u8], mode: WriteMode) -> StorageMode
 }
 
 // Records the call. There is room for it.
-fn note(record_kept: &mut Vec<Recorded>, call: Recorded)
+pub(crate) fn note(record_kept: &mut Vec<Recorded>, call: Recorded)
     requires { vec_len record_kept.old < vec_capacity record_kept.old }
     ensures { calls_of record_kept.new.items ≡ call_of call ∷ calls_of record_kept.old.items }
 {

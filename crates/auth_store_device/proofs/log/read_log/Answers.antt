@@ -1,4 +1,4 @@
-use Rattle.std.proofs.Common.{rules, ◌≡◌}
+use Rattle.std.proofs.Common.{rules}
 use Rattle.auth_store_device.proofs.Changes.{read_slice}
 use Rattle.auth_store_device.proofs.log.read_log.Goals as goal
 

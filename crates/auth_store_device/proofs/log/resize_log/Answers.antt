@@ -1,6 +1,5 @@
-use Rattle.std.proofs.Common.{rules, arith, ◌≡◌, ◌∷◌, true, false, ℕ, List}
-use Rattle.std.proofs.lemmas.Grind.{common_steps}
-use Rattle.paged_blob.specs.Calls.{resized_to, file_of}
+use Rattle.std.proofs.Common.{rules, ◌≡◌, ◌∷◌, true, false}
+use Rattle.paged_blob.specs.Calls.{resized_to}
 use Rattle.paged_blob.specs.Recorded.{calls_of}
 use Rattle.auth_store_device.specs.Devices.{told_of}
 use Rattle.auth_store_device.proofs.Changes.{resize_made, resize_failed}

@@ -1,6 +1,5 @@
-use Rattle.std.proofs.Common.{rules, arith, ◌≡◌, ◌∷◌, true, false, ℕ, List}
-use Rattle.std.proofs.lemmas.Grind.{common_steps}
-use Rattle.paged_blob.specs.Calls.{wrote, file_of}
+use Rattle.std.proofs.Common.{rules, ◌≡◌, ◌∷◌, true, false}
+use Rattle.paged_blob.specs.Calls.{wrote}
 use Rattle.paged_blob.specs.Recorded.{calls_of}
 use Rattle.paged_blob.specs.WriteModes.{is_sync}
 use Rattle.auth_store_device.specs.Devices.{told_of}

@@ -1,5 +1,5 @@
-use Rattle.std.proofs.Common.{rules, ◌≡◌, Some, None, ℕ, List, refl, sym, ap, subst, ◌∙◌}
-use Rattle.auth_store_device.specs.Devices.{DeviceState, IsDevice}
+use Rattle.std.proofs.Common.{rules, None, refl}
+use Rattle.auth_store_device.specs.Devices.{DeviceState}
 use Rattle.paged_blob.specs.Recorded.{calls_of}
 use Rattle.auth_store_device.proofs.Steps.{crashed}
 use Rattle.auth_store_device.proofs.device.Device.crash.Goals as goal

@@ -1,0 +1,34 @@
+use Rattle.std.proofs.Common.{rules, ◌≡◌, true, false, Ok, refl}
+use Rattle.fault_storage.specs.Stores.{published}
+use Rattle.auth_store_device.specs.Logs.{has_log, durable_log}
+use Rattle.auth_store_device.proofs.Shown.{found_shows, made_shows}
+use Rattle.auth_store_device.proofs.opening.open_log.Goals as goal
+
+pub returns-in-Some-clause-opens : goal.returns-in-Some-clause-opens
+returns-in-Some-clause-opens g c = (Ok c.in-Ok.opened, c.open_versioned.new.self, search rules, refl, search rules)
+
+pub returns-in-Some-clause-shows : goal.returns-in-Some-clause-shows
+returns-in-Some-clause-shows g c =
+    let has : has_log c.args.storage.now.inner ≡ true = search rules in
+    let copied : c.in-Some.bytes.items ≡ durable_log c.args.storage.now.inner = search rules in
+    let is : c.admit_shown.new.self.inner ≡ published c.in-Ok.opened.blob.inner.number c.in-Some.bytes.items c.open_versioned.new.self.inner = search rules in
+    (found_shows g.R.Rng.stream c.args.storage.now.config.open c.args.storage.now c.open_versioned.new.self c.in-Ok.opened c.admit_shown.new.self.inner
+    c.in-Some.bytes.items (search rules) c.requires.orderly has copied is).0
+
+pub returns-in-Some-clause-admitted : goal.returns-in-Some-clause-admitted
+returns-in-Some-clause-admitted g c =
+    let has : has_log c.args.storage.now.inner ≡ true = search rules in
+    let copied : c.in-Some.bytes.items ≡ durable_log c.args.storage.now.inner = search rules in
+    let is : c.admit_shown.new.self.inner ≡ published c.in-Ok.opened.blob.inner.number c.in-Some.bytes.items c.open_versioned.new.self.inner = search rules in
+    (found_shows g.R.Rng.stream c.args.storage.now.config.open c.args.storage.now c.open_versioned.new.self c.in-Ok.opened c.admit_shown.new.self.inner
+    c.in-Some.bytes.items (search rules) c.requires.orderly has copied is).1
+
+pub returns-in-None-clause-shows : goal.returns-in-None-clause-shows
+returns-in-None-clause-shows g c =
+    let none : has_log c.args.storage.now.inner ≡ false = search rules in
+    (made_shows g.R.Rng.stream c.args.storage.now.config.open c.args.storage.now c.open_versioned.new.self c.in-Ok.opened (search rules) c.requires.orderly none).0
+
+pub returns-in-None-clause-admitted : goal.returns-in-None-clause-admitted
+returns-in-None-clause-admitted g c =
+    let none : has_log c.args.storage.now.inner ≡ false = search rules in
+    (made_shows g.R.Rng.stream c.args.storage.now.config.open c.args.storage.now c.open_versioned.new.self c.in-Ok.opened (search rules) c.requires.orderly none).1

@@ -1,0 +1,103 @@
+//! The opening of the log, which admits what it shows.
+
+ghost use Rattle.std.specs.Prelude.{◌≡◌, ◌-◌, ◌<◌, ◌^◌, [], Result, Err, IfOk, IfErr, IfNone, IfSome, OnOk, OnErr, true, false};
+ghost use Rattle.fault_storage_parts.specs.declared.error.Call.{Call};
+ghost use Rattle.fault_storage_parts.specs.declared.error.Error.{Error};
+ghost use Rattle.fault_storage.specs.declared.faulty.Blob.{Blob};
+ghost use Rattle.fault_storage.specs.declared.faulty.Storage.{Storage};
+ghost use Rattle.fault_storage.specs.declared.storage.Opened.{Opened};
+ghost use Rattle.fault_storage.specs.Stores.{Store, Handle};
+ghost use Rattle.fault_storage.specs.Directory.{has_partition};
+ghost use Rattle.fault_storage.specs.Faults.{IsFaultyCall, FaultyOpens};
+ghost use Rattle.auth_store_device.specs.Logs.{log_partition, log_name, has_log, log_of, behind_header, durable_log, IsOrderly, IsOpenLog};
+ghost use Rattle.auth_store_device.specs.Devices.{log_versions, opening_refusal, opening_answer, injected_after, shown_file};
+
+use crate::device::copy_behind_header;
+use crate::error::OpenError;
+use fault_storage::storage::Storage as _;
+use fault_storage::{Error as StorageError, Versions, faulty, memory};
+use rand_core::Rng;
+use std::alloc::{AllocError, Global};
+
+/// The partition of the log.
+pub const PARTITION: &str = "store";
+
+/// The name of the log.
+pub const NAME: &[u8] = b"log";
+
+/// What is durable of the log, its header first. None: there is none. It fails only when out of memory.
+pub fn copy_durable(storage: &memory::Storage) -> Result<Option<Vec<u8>>, AllocError>
+    requires { has_log storage.now ≡ true → has_partition log_partition storage.now.partitions ≡ true }
+    ensures none { IfOk result (λ found. IfNone found (has_log storage.now ≡ false)) }
+    ensures some { IfOk result (λ found. IfSome found (λ bytes. (has_log storage.now ≡ true) × (bytes.items ≡ durable_log storage.now))) }
+{
+    match storage.raw_blob(PARTITION, NAME) {
+        Ok(bytes) => Ok(Some(bytes)),
+        Err(StorageError::PartitionMissing) => Ok(None),
+        Err(StorageError::BlobMissing) => Ok(None),
+        Err(_) => Err(AllocError),
+    }
+}
+
+/// A copy of what the log shows of which these are the durable bytes. It fails only when out of memory.
+pub fn copy_shown(
+    alloc: Global,
+    _storage: &memory::Storage,
+    copied: &Option<Vec<u8>>,
+) -> Result<Vec<u8>, AllocError>
+    requires none { IfNone copied.now (has_log _storage.now ≡ false) }
+    requires some { IfSome copied.now (λ bytes. bytes.items ≡ durable_log _storage.now) }
+    ensures { IfOk result (λ shown. shown.items ≡ behind_header (durable_log _storage.now)) }
+{
+    match copied {
+        Some(bytes) => copy_behind_header(alloc, bytes),
+        None => Ok(Vec::new(alloc)),
+    }
+}
+
+// The store's refusal as one of an opening.
+fn opening_refusal(error: StorageError) -> OpenError
+    ensures is { result ≡ opening_refusal error }
+    ensures power { result ≡ OpenError.PowerCut → ⊥ }
+{
+    match error {
+        StorageError::Header(fault) => OpenError::Header(fault),
+        StorageError::Injected(_) => OpenError::Injected,
+        StorageError::NumberEnded => OpenError::NumberEnded,
+        _ => OpenError::Memory,
+    }
+}
+
+/// Opens the log of which these are the durable bytes, or makes it where there is none, and admits what it shows.
+pub fn open_log<R: Rng + Drop>(
+    storage: &mut faulty::Storage<memory::Storage, R>,
+    copied: Option<Vec<u8>>,
+) -> Result<faulty::Blob<memory::Blob>, OpenError>
+    requires room { storage.old.injections < 2 ^ 64 - 1 }
+    requires orderly { IsOrderly storage.old.inner }
+    requires none { IfNone copied (has_log storage.old.inner ≡ false) }
+    requires some { IfSome copied (λ bytes. (has_log storage.old.inner ≡ true) × (bytes.items ≡ durable_log storage.old.inner)) }
+    ensures opens { (answer : Result (Opened (Blob Handle)) Error) × (left : Storage Store R)
+        × IsFaultyCall (R.stream) Call.Open storage.old.config.«open» (FaultyOpens log_partition log_name log_versions) storage.old answer left
+        × (result ≡ opening_answer answer) × (storage.new ≡ record left { inner = storage.new.inner }) }
+    ensures shows { IfOk result (λ log. IsOpenLog storage.new.inner (shown_file (behind_header (durable_log storage.old.inner))) log.inner) }
+    ensures admitted { OnOk result ((log_of storage.new.inner).log ≡ []) }
+    ensures count { storage.new.injections ≡ injected_after result storage.old.injections }
+    ensures power { result ≡ Err OpenError.PowerCut → ⊥ }
+    ensures refused { OnErr result (storage.new.inner ≡ storage.old.inner) }
+{
+    let versions = Versions {
+        least: 0,
+        greatest: 0,
+    };
+    match storage.open_versioned(PARTITION, NAME, versions) {
+        Ok(opened) => match copied {
+            Some(bytes) => {
+                storage.admit_shown(&opened.blob, bytes);
+                Ok(opened.blob)
+            }
+            None => Ok(opened.blob),
+        },
+        Err(e) => Err(opening_refusal(e)),
+    }
+}

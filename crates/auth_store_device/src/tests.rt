@@ -1,0 +1,31 @@
+//! The device, opened, written, crashed and cut.
+
+use crate::Device;
+use fault_storage::{Config, faulty, memory};
+use paged_blob::{Blob, WriteMode};
+use rand_core::SeedableRng;
+use rand_pcg::Pcg32;
+use std::test::Fail;
+
+// What was synced is there after a crash, and what was not is gone: a crash keeps no resize where the retention rate is zero.
+#[test]
+fn a_crash_keeps_what_was_synced(rt: HostRuntime) -> Result<(), Fail> {
+    let alloc = rt.alloc();
+    let below = memory::Storage::new(alloc);
+    let storage = faulty::Storage::new(below, Pcg32::seed_from_u64(1), Config::default());
+    let mut device = Device::new(alloc, storage)?;
+    assert_eq!(rt; device.is_closed(), true);
+    let none = device.open()?;
+    assert_eq!(rt; none, 0);
+    device.write_at(0, &[1, 2, 3], WriteMode::Sync)?;
+    device.write_at(5, &[9], WriteMode::Plain)?;
+    device.sync()?;
+    device.resize(2)?;
+    device.close();
+    device.crash();
+    let count = device.open()?;
+    assert_eq!(rt; count, 6);
+    let bytes = device.read_at(alloc, 0, 6)?;
+    assert_eq!(rt; bytes.as_slice(), [1, 2, 3, 0, 0, 9].as_slice());
+    Ok(())
+}
