@@ -1,6 +1,7 @@
 //! Batches of changes to a tree: first the leaves that they add over a base, then the nodes that these make.
 
-ghost use Rattle.std.specs.Prelude.{◌≡◌, ◌<◌, ◌≤◌, ◌+◌, ◌^◌, ◌++◌, ◌∷◌, [], ℕ, List, map, take, length, IfOk, IfErr};
+ghost use Rattle.std.specs.Prelude.{◌≡◌, ◌<◌, ◌≤◌, ◌+◌, ◌^◌, ◌++◌, ◌∷◌, [], ℕ, List, map, take, length};
+ghost use Rattle.std.specs.Prelude.{◌-◌, option_map, slice_get, IsNone, IfOk, IfErr};
 ghost use Rattle.merkle_core_parts.specs.Errors.{IsRefusalOver, IsRefusalPast, IsRefusalOfMany};
 ghost use Rattle.merkle_core_parts.specs.Mem.{node_count, AreNodesOf, with_batch};
 
@@ -219,6 +220,22 @@ impl<F: Family, D: Digest> MerkleizedBatch<F, D> {
         ensures { result ≡ node_count F.merge_rule self.now.base.leaves }
     {
         F::location_to_position(Location::new(self.base_leaves))
+    }
+
+    /// The digest of the new node at a position. Where no new node stands there, as at a position of the base, it is None.
+    /// In the Rust: `merkle::batch::MerkleizedBatch::get_node`.
+    pub fn get_node(&self, position: Position<F>) -> Option<D>
+        ensures before { position < node_count F.merge_rule self.now.base.leaves → IsNone result }
+        ensures there { node_count F.merge_rule self.now.base.leaves ≤ position → option_map D.encoding result
+            ≡ slice_get self.now.digests (position - node_count F.merge_rule self.now.base.leaves) }
+    {
+        let base_size = self.base_size().as_u64();
+        if position.as_u64() < base_size {
+            return None;
+        }
+        self.digests
+            .get((position.as_u64() - base_size) as usize)
+            .copied()
     }
 
     // How many leaves the base has.

@@ -163,6 +163,31 @@ fn nodes_and_peaks_stand_at_their_positions(rt: HostRuntime) {
     assert_eq!(rt; belt.root(&hasher, 4), Err(Error::InvalidInactivePeaks));
 }
 
+// The node at a position of the tree of eleven leaves, as the batch that made the last seven of them shows it.
+fn shown<F: Family>(alloc: Global, position: u64) -> Result<Option<Hash>, Error<F>> {
+    let hasher: Standard<ByteHash> = Standard::new(Bagging::ForwardFold);
+    let mut tree: Mem<F, Hash> = Mem::new(alloc);
+    grown(&mut tree, &hasher, 1, 4)?;
+    let mut batch = tree.new_batch()?;
+    for byte in 5..=11u8 {
+        batch = batch.add(&hasher, &[byte])?;
+    }
+    let batch = batch.merkleize(&tree, &hasher)?;
+    Ok(batch.get_node(Position::new(position)))
+}
+
+#[test]
+fn a_batch_shows_its_new_nodes(rt: HostRuntime) {
+    let seven = FixedBytes::new([
+        0xa3, 0x89, 0x65, 0xe4, 0xdc, 0x02, 0x81, 0x90, 0x5d, 0x3c, 0x23, 0x89, 0x91, 0xde, 0x81,
+        0x8b, 0x88, 0xd8, 0x1b, 0xc7, 0x63, 0x41, 0x15, 0xd8, 0x9b, 0x1f, 0x71, 0xda, 0xb9, 0x19,
+        0xd7, 0x07,
+    ]);
+    assert_eq!(rt; shown::<mmb::Family>(rt.alloc(), 7), Ok(Some(seven)));
+    assert_eq!(rt; shown::<mmb::Family>(rt.alloc(), 5), Ok(None));
+    assert_eq!(rt; shown::<mmb::Family>(rt.alloc(), 19), Ok(None));
+}
+
 // A batch of two leaves over a tree of four, and the leaf counts and sizes that it tells.
 fn told<F: Family>(alloc: Global) -> Result<(u64, u64, u64, u64), Error<F>> {
     let hasher: Standard<ByteHash> = Standard::new(Bagging::ForwardFold);
