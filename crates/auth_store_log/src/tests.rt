@@ -2,7 +2,8 @@
 
 use crate::{append_batch, recover};
 use fault_storage::Crc32;
-use merkle_forest::{FixedBytes, mmr};
+use merkle_forest::codec::FixedBytes;
+use merkle_forest::mmr;
 use paged_blob::bench::MemoryDisk;
 use paged_blob::{CacheRef, Writer};
 use std::alloc::Global;
