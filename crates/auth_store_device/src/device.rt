@@ -1,13 +1,15 @@
 //! The device.
 
-ghost use Rattle.std.specs.Prelude.{◌≡◌, ◌⊎◌, is_some, true, ◌+◌, ◌-◌, ◌<◌, ◌^◌, length, Err, ◌∷◌, [], None, Some, IfOk, IfErr, OnOk, OnErr, is_none, drop};
+ghost use Rattle.std.specs.Prelude.{◌≡◌, ◌⊎◌, ◌+◌, ◌-◌, ◌<◌, ◌^◌, ◌∷◌, [], length, drop, true, is_some, is_none};
+ghost use Rattle.std.specs.Prelude.{Err, None, Some, IfOk, IfErr, OnOk, OnErr};
 ghost use Rattle.rand_core.specs.Stream.{Stream};
 ghost use Rattle.fault_storage.specs.Stores.{crashed_store};
 ghost use Rattle.fault_storage_parts.specs.declared.error.Call.{Call};
 ghost use Rattle.fault_storage.specs.Changes.{FaultyWrites, FaultyResizes};
 ghost use Rattle.fault_storage.specs.Directory.{MemoryReads, MemorySyncs};
 ghost use Rattle.fault_storage.specs.Faults.{IsFaultyCall};
-ghost use Rattle.paged_blob.specs.Answers.{Records, RecordsSync, RecordsOpening, failures_after, IsCause, IsReadCause, IsSlice};
+ghost use Rattle.paged_blob.specs.Answers.{Records, RecordsSync, RecordsOpening, failures_after};
+ghost use Rattle.paged_blob.specs.Answers.{IsCause, IsReadCause, IsSlice};
 ghost use Rattle.paged_blob.specs.Calls.{opened, content, synced, wrote, resized_to, file_of};
 ghost use Rattle.paged_blob.specs.WriteModes.{is_sync};
 ghost use Rattle.paged_blob.specs.declared.error.CallKind.{CallKind};
@@ -73,8 +75,9 @@ impl<R: Rng + Drop> Device<R> {
     ghost use Rattle.auth_store_device.specs.Devices.{IsSettled, after_asking};
     ghost use Rattle.auth_store_device.specs.Logs.{behind_header, durable_log};
 
-    /// A closed device over a store; the durable bytes of its log, where there is one, are what its record begins with. The caller
-    /// answers for it that no mutation of the log is pending, and that its header is of the layout with eight bytes. F9.
+    /// A closed device over a store; the durable bytes of its log, where there is one, are what its record begins with.
+    /// The caller answers for it that no mutation of the log is pending, and that its header is of the layout with
+    /// eight bytes. F9.
     pub fn new(
         alloc: Global,
         storage: faulty::Storage<memory::Storage, R>,
@@ -116,13 +119,16 @@ impl<R: Rng + Drop> Device<R> {
         self.log.is_none()
     }
 
-    /// A crash of the store: of what is not durable it leaves what is drawn, in the order of issue. It ends a cut, and the count of
-    /// refused calls. It takes no memory, so it always succeeds.
+    /// A crash of the store: of what is not durable it leaves what is drawn, in the order of issue. It ends a cut, and
+    /// the count of refused calls. It takes no memory, so it always succeeds.
     pub fn crash(&mut self)
         requires { self.old.log ≡ None }
-        ensures store { (self.new.storage.inner, R.stream self.new.storage.rng) ≡ crashed_store self.old.storage.inner (R.stream self.old.storage.rng) }
-        ensures rest { (self.new.storage.injections ≡ self.old.storage.injections) × (self.new.storage.config ≡ self.old.storage.config) }
-        ensures device { (self.new.log ≡ None) × (self.new.calls ≡ self.old.calls) × (self.new.left ≡ None) × (self.new.refused ≡ 0) }
+        ensures store { (self.new.storage.inner, R.stream self.new.storage.rng)
+            ≡ crashed_store self.old.storage.inner (R.stream self.old.storage.rng) }
+        ensures rest { (self.new.storage.injections ≡ self.old.storage.injections)
+            × (self.new.storage.config ≡ self.old.storage.config) }
+        ensures device { (self.new.log ≡ None) × (self.new.calls ≡ self.old.calls) × (self.new.left ≡ None)
+            × (self.new.refused ≡ 0) }
     {
         self.storage.crash();
         self.left = None;
@@ -191,16 +197,18 @@ fn left_after_opening<T>(answer: &Result<T, OpenError>, left: Option<u64>) -> Op
 impl<R: Rng + Drop> Device<R> {
     ghost use Rattle.auth_store_device.specs.Devices.{HasEnded, IsStopped, injected_after, refused_after};
 
-    /// Opens the log, or makes it where there is none, admits what it shows, and answers how many bytes that is. It asks for
-    /// a closed device. F8: a count has ended; F10; F9; F6; F5: its header is refused.
+    /// Opens the log, or makes it where there is none, admits what it shows, and answers how many bytes that is. It asks
+    /// for a closed device. F8: a count has ended; F10; F9; F6; F5: its header is refused.
     pub fn open(&mut self) -> Result<u64, OpenError>
         requires { self.old.log ≡ None }
-        ensures shows { OnOk result (self.new.calls ≡ opened (behind_header (durable_log self.old.storage.inner)) ∷ self.old.calls) }
+        ensures shows { OnOk result (self.new.calls
+            ≡ opened (behind_header (durable_log self.old.storage.inner)) ∷ self.old.calls) }
         ensures records { OnOk result (RecordsOpening self.old.calls self.new.calls) }
         ensures length { IfOk result (λ count. count ≡ length (content self.new.calls)) }
         ensures admitted { OnOk result ((log_of self.new.storage.inner).log ≡ []) }
         ensures is_open { OnOk result (is_some self.new.log ≡ true) }
-        ensures refused { OnErr result ((self.new.calls ≡ self.old.calls) × (self.new.log ≡ None) × (self.new.storage.inner ≡ self.old.storage.inner)) }
+        ensures refused { OnErr result ((self.new.calls ≡ self.old.calls) × (self.new.log ≡ None)
+            × (self.new.storage.inner ≡ self.old.storage.inner)) }
         ensures count { self.new.storage.injections ≡ injected_after result self.old.storage.injections }
         ensures ended { HasEnded self.old → result ≡ Err OpenError.NumberEnded }
         ensures cut { self.old.left ≡ Some 0 → HasEnded self.old ⊎ (result ≡ Err OpenError.PowerCut) }
@@ -225,8 +233,8 @@ impl<R: Rng + Drop> Device<R> {
 
     // Refuses a call where a count has ended or the power is cut.
     fn stop(&mut self) -> Result<(), Error>
-        ensures ok { OnOk result ((self.new ≡ self.old) × (self.old.storage.injections < 2 ^ 64 - 1) × (self.old.refused < 2 ^ 64 - 1)
-            × (self.old.left ≡ Some 0 → ⊥)) }
+        ensures ok { OnOk result ((self.new ≡ self.old) × (self.old.storage.injections < 2 ^ 64 - 1)
+            × (self.old.refused < 2 ^ 64 - 1) × (self.old.left ≡ Some 0 → ⊥)) }
         ensures err { OnErr result (IsStopped self.old result self.new) }
     {
         if self.storage.injections() == u64::MAX {
@@ -257,8 +265,9 @@ impl<R: Rng + Drop> Blob for Device<R> {
         ensures cause { IfErr result (IsReadCause (failures_of self.old) (file_of self.old.calls) offset len) }
         ensures calls { self.new.calls ≡ self.old.calls }
         ensures failures { failures_of self.new ≡ failures_after result (failures_of self.old) }
-        ensures device { IsDeviceCall CallKind.Read (λ blob below answer changed left. (changed ≡ blob) × IsFaultyCall (R.stream) Call.Read
-            below.config.read (MemoryReads blob.inner offset len) below answer left) self.old result self.new }
+        ensures device { IsDeviceCall CallKind.Read (λ blob below answer changed left. (changed ≡ blob)
+            × IsFaultyCall (R.stream) Call.Read below.config.read (MemoryReads blob.inner offset len) below answer left)
+            self.old result self.new }
     {
         self.stop()?;
         let Some(log) = &self.log else {
@@ -274,8 +283,9 @@ impl<R: Rng + Drop> Blob for Device<R> {
         ensures calls { RecordsSync result self.old.calls self.new.calls }
         ensures cause { IfErr result (IsCause (failures_of self.old) CallKind.Sync 0) }
         ensures failures { failures_of self.new ≡ failures_after result (failures_of self.old) }
-        ensures device { IsDeviceCall CallKind.Sync (λ blob below answer changed left. (changed ≡ blob) × IsFaultyCall (R.stream) Call.Sync
-            below.config.sync (MemorySyncs blob.inner) below answer left) self.old result self.new }
+        ensures device { IsDeviceCall CallKind.Sync (λ blob below answer changed left. (changed ≡ blob)
+            × IsFaultyCall (R.stream) Call.Sync below.config.sync (MemorySyncs blob.inner) below answer left)
+            self.old result self.new }
     {
         self.stop()?;
         let Some(log) = &self.log else {
@@ -286,14 +296,15 @@ impl<R: Rng + Drop> Blob for Device<R> {
         answer
     }
 
-    /// Writes bytes at an offset, with zeros in a gap before them. F8: a count has ended, or their end would pass a u64;
-    /// F10; F1: no opening stands; F9; F6.
+    /// Writes bytes at an offset, with zeros in a gap before them. F8: a count has ended, or their end would pass a
+    /// u64; F10; F1: no opening stands; F9; F6.
     fn write_at(&mut self, offset: u64, bytes: &[u8], mode: WriteMode) -> Result<(), Error>
         ensures calls { Records result (wrote offset bytes.now (is_sync mode)) self.old.calls self.new.calls }
         ensures cause { IfErr result (IsCause (failures_of self.old) CallKind.Write (offset + length bytes.now)) }
         ensures failures { failures_of self.new ≡ failures_after result (failures_of self.old) }
-        ensures device { IsDeviceCall CallKind.Write (λ blob below answer changed left. FaultyWrites (R.stream) blob offset bytes.now
-            (mode_below bytes.now mode) below answer changed left) self.old result self.new }
+        ensures device { IsDeviceCall CallKind.Write (λ blob below answer changed left.
+            FaultyWrites (R.stream) blob offset bytes.now (mode_below bytes.now mode) below answer changed left)
+            self.old result self.new }
     {
         self.stop()?;
         let Some(log) = &mut self.log else {
@@ -318,8 +329,8 @@ impl<R: Rng + Drop> Blob for Device<R> {
         ensures calls { Records result (resized_to len) self.old.calls self.new.calls }
         ensures cause { IfErr result (IsCause (failures_of self.old) CallKind.Resize len) }
         ensures failures { failures_of self.new ≡ failures_after result (failures_of self.old) }
-        ensures device { IsDeviceCall CallKind.Resize (λ blob below answer changed left. FaultyResizes (R.stream) blob len below answer changed left)
-            self.old result self.new }
+        ensures device { IsDeviceCall CallKind.Resize (λ blob below answer changed left.
+            FaultyResizes (R.stream) blob len below answer changed left) self.old result self.new }
     {
         self.stop()?;
         let Some(log) = &mut self.log else {

@@ -6,7 +6,8 @@ ghost use Rattle.fault_storage_parts.specs.declared.error.Call.TheVariants.{Read
 ghost use Rattle.fault_storage.specs.Changes.{FaultyWrites, FaultyResizes};
 ghost use Rattle.fault_storage.specs.Directory.{MemoryReads, MemorySyncs};
 ghost use Rattle.fault_storage.specs.Faults.{IsFaultyCall};
-ghost use Rattle.paged_blob.specs.Answers.{Records, RecordsSync, Failures, failures_after, IsCause, IsReadCause, IsSlice};
+ghost use Rattle.paged_blob.specs.Answers.{Records, RecordsSync, Failures, failures_after};
+ghost use Rattle.paged_blob.specs.Answers.{IsCause, IsReadCause, IsSlice};
 ghost use Rattle.fault_storage.specs.Stores.{is_there};
 ghost use Rattle.paged_blob.specs.Calls.{File, wrote, resized_to, file_of};
 ghost use Rattle.paged_blob.specs.Recorded.{call_of, calls_of};
@@ -97,11 +98,14 @@ pub fn write_log<R: Rng>(
 ) -> Result<(), Error>
     requires room { storage.old.injections < 2 ^ 64 - 1 }
     requires stands { IsOpenLog storage.old.inner (file_of (calls_of record_kept.old.items)) log.old.inner }
-    ensures passes { Passes CallKind.Write (λ blob below answer changed left. FaultyWrites (R.stream) blob offset bytes.now (mode_below bytes.now mode)
-        below answer changed left) log.old storage.old result log.new storage.new }
-    ensures calls { Records result (wrote offset bytes.now (is_sync mode)) (calls_of record_kept.old.items) (calls_of record_kept.new.items) }
+    ensures passes { Passes CallKind.Write (λ blob below answer changed left.
+        FaultyWrites (R.stream) blob offset bytes.now (mode_below bytes.now mode) below answer changed left)
+        log.old storage.old result log.new storage.new }
+    ensures calls { Records result (wrote offset bytes.now (is_sync mode)) (calls_of record_kept.old.items)
+        (calls_of record_kept.new.items) }
     ensures cause { (failures : Failures) → IfErr result (IsCause failures CallKind.Write (offset + length bytes.now)) }
-    ensures count { (refused : ℕ) → (is_open : Bool) → record { injected = storage.new.injections; refused = refused; is_open = is_open }
+    ensures count { (refused : ℕ) → (is_open : Bool)
+        → record { injected = storage.new.injections; refused = refused; is_open = is_open }
         ≡ failures_after result (record { injected = storage.old.injections; refused = refused; is_open = is_open }) }
     ensures stands { IsOpenLog storage.new.inner (file_of (calls_of record_kept.new.items)) log.new.inner }
 {
@@ -122,7 +126,8 @@ pub fn write_log<R: Rng>(
     }
 }
 
-/// Cuts the log behind its header to a length, or grows it to that. There is room for the record before the store is asked.
+/// Cuts the log behind its header to a length, or grows it to that. There is room for the record before the store is
+/// asked.
 pub fn resize_log<R: Rng>(
     storage: &mut faulty::Storage<memory::Storage, R>,
     log: &mut faulty::Blob<memory::Blob>,
@@ -131,11 +136,12 @@ pub fn resize_log<R: Rng>(
 ) -> Result<(), Error>
     requires room { storage.old.injections < 2 ^ 64 - 1 }
     requires stands { IsOpenLog storage.old.inner (file_of (calls_of record_kept.old.items)) log.old.inner }
-    ensures passes { Passes CallKind.Resize (λ blob below answer changed left. FaultyResizes (R.stream) blob len below answer changed left)
-        log.old storage.old result log.new storage.new }
+    ensures passes { Passes CallKind.Resize (λ blob below answer changed left.
+        FaultyResizes (R.stream) blob len below answer changed left) log.old storage.old result log.new storage.new }
     ensures calls { Records result (resized_to len) (calls_of record_kept.old.items) (calls_of record_kept.new.items) }
     ensures cause { (failures : Failures) → IfErr result (IsCause failures CallKind.Resize len) }
-    ensures count { (refused : ℕ) → (is_open : Bool) → record { injected = storage.new.injections; refused = refused; is_open = is_open }
+    ensures count { (refused : ℕ) → (is_open : Bool)
+        → record { injected = storage.new.injections; refused = refused; is_open = is_open }
         ≡ failures_after result (record { injected = storage.old.injections; refused = refused; is_open = is_open }) }
     ensures stands { IsOpenLog storage.new.inner (file_of (calls_of record_kept.new.items)) log.new.inner }
 {
@@ -162,12 +168,15 @@ pub fn read_log<R: Rng>(
     len: usize,
 ) -> Result<Vec<u8>, Error>
     requires room { storage.old.injections < 2 ^ 64 - 1 }
-    ensures passes { Passes CallKind.Read (λ blob below answer changed left. (changed ≡ blob) × IsFaultyCall (R.stream) Read below.config.read
-        (MemoryReads blob.inner offset len) below answer left) log.now storage.old result log.now storage.new }
-    ensures slice { (file : File) → IsOpenLog storage.old.inner file log.now.inner → IfOk result (λ bytes. IsSlice file offset len bytes.items) }
+    ensures passes { Passes CallKind.Read (λ blob below answer changed left. (changed ≡ blob)
+        × IsFaultyCall (R.stream) Read below.config.read (MemoryReads blob.inner offset len) below answer left)
+        log.now storage.old result log.now storage.new }
+    ensures slice { (file : File) → IsOpenLog storage.old.inner file log.now.inner
+        → IfOk result (λ bytes. IsSlice file offset len bytes.items) }
     ensures cause { (file : File) (failures : Failures) → IsOpenLog storage.old.inner file log.now.inner
         → IfErr result (IsReadCause failures file offset len) }
-    ensures count { (refused : ℕ) → (is_open : Bool) → record { injected = storage.new.injections; refused = refused; is_open = is_open }
+    ensures count { (refused : ℕ) → (is_open : Bool)
+        → record { injected = storage.new.injections; refused = refused; is_open = is_open }
         ≡ failures_after result (record { injected = storage.old.injections; refused = refused; is_open = is_open }) }
     ensures store { storage.new.inner ≡ storage.old.inner }
 {
@@ -202,11 +211,13 @@ pub fn sync_log<R: Rng + Drop>(
     requires room { storage.old.injections < 2 ^ 64 - 1 }
     requires stands { IsOpenLog storage.old.inner (file_of (calls_of record_kept.old.items)) log.now.inner }
     requires there { is_there log.now.inner.number storage.old.inner ≡ true }
-    ensures passes { Passes CallKind.Sync (λ blob below answer changed left. (changed ≡ blob) × IsFaultyCall (R.stream) Sync below.config.sync
-        (MemorySyncs blob.inner) below answer left) log.now storage.old result log.now storage.new }
+    ensures passes { Passes CallKind.Sync (λ blob below answer changed left. (changed ≡ blob)
+        × IsFaultyCall (R.stream) Sync below.config.sync (MemorySyncs blob.inner) below answer left)
+        log.now storage.old result log.now storage.new }
     ensures calls { RecordsSync result (calls_of record_kept.old.items) (calls_of record_kept.new.items) }
     ensures cause { (failures : Failures) → IfErr result (IsCause failures CallKind.Sync 0) }
-    ensures count { (refused : ℕ) → (is_open : Bool) → record { injected = storage.new.injections; refused = refused; is_open = is_open }
+    ensures count { (refused : ℕ) → (is_open : Bool)
+        → record { injected = storage.new.injections; refused = refused; is_open = is_open }
         ≡ failures_after result (record { injected = storage.old.injections; refused = refused; is_open = is_open }) }
     ensures stands { IsOpenLog storage.new.inner (file_of (calls_of record_kept.new.items)) log.now.inner }
 {

@@ -1,6 +1,7 @@
 //! The opening of the log, which admits what it shows.
 
-ghost use Rattle.std.specs.Prelude.{◌≡◌, ◌-◌, ◌<◌, ◌^◌, [], Result, Err, IfOk, IfErr, IfNone, IfSome, OnOk, OnErr, true, false};
+ghost use Rattle.std.specs.Prelude.{◌≡◌, ◌-◌, ◌<◌, ◌^◌, [], true, false, Result, Err};
+ghost use Rattle.std.specs.Prelude.{IfOk, IfErr, IfNone, IfSome, OnOk, OnErr};
 ghost use Rattle.fault_storage_parts.specs.declared.error.Call.{Call};
 ghost use Rattle.fault_storage_parts.specs.declared.error.Error.{Error};
 ghost use Rattle.fault_storage.specs.declared.faulty.Blob.{Blob};
@@ -9,8 +10,10 @@ ghost use Rattle.fault_storage.specs.declared.storage.Opened.{Opened};
 ghost use Rattle.fault_storage.specs.Stores.{Store, Handle};
 ghost use Rattle.fault_storage.specs.Directory.{has_partition};
 ghost use Rattle.fault_storage.specs.Faults.{IsFaultyCall, FaultyOpens};
-ghost use Rattle.auth_store_device.specs.Logs.{log_partition, log_name, has_log, log_of, behind_header, durable_log, IsOrderly, IsOpenLog};
-ghost use Rattle.auth_store_device.specs.Devices.{log_versions, opening_refusal, opening_answer, injected_after, shown_file};
+ghost use Rattle.auth_store_device.specs.Logs.{log_partition, log_name, has_log, log_of, behind_header, durable_log};
+ghost use Rattle.auth_store_device.specs.Logs.{IsOrderly, IsOpenLog};
+ghost use Rattle.auth_store_device.specs.Devices.{log_versions, opening_refusal, opening_answer, injected_after};
+ghost use Rattle.auth_store_device.specs.Devices.{shown_file};
 
 use crate::device::copy_behind_header;
 use crate::error::OpenError;
@@ -29,7 +32,8 @@ pub const NAME: &[u8] = b"log";
 pub fn copy_durable(storage: &memory::Storage) -> Result<Option<Vec<u8>>, AllocError>
     requires { has_log storage.now ≡ true → has_partition log_partition storage.now.partitions ≡ true }
     ensures none { IfOk result (λ found. IfNone found (has_log storage.now ≡ false)) }
-    ensures some { IfOk result (λ found. IfSome found (λ bytes. (has_log storage.now ≡ true) × (bytes.items ≡ durable_log storage.now))) }
+    ensures some { IfOk result (λ found. IfSome found (λ bytes. (has_log storage.now ≡ true)
+        × (bytes.items ≡ durable_log storage.now))) }
 {
     match storage.raw_blob(PARTITION, NAME) {
         Ok(bytes) => Ok(Some(bytes)),
@@ -76,11 +80,14 @@ pub fn open_log<R: Rng + Drop>(
     requires room { storage.old.injections < 2 ^ 64 - 1 }
     requires orderly { IsOrderly storage.old.inner }
     requires none { IfNone copied (has_log storage.old.inner ≡ false) }
-    requires some { IfSome copied (λ bytes. (has_log storage.old.inner ≡ true) × (bytes.items ≡ durable_log storage.old.inner)) }
+    requires some { IfSome copied (λ bytes. (has_log storage.old.inner ≡ true)
+        × (bytes.items ≡ durable_log storage.old.inner)) }
     ensures opens { (answer : Result (Opened (Blob Handle)) Error) × (left : Storage Store R)
-        × IsFaultyCall (R.stream) Call.Open storage.old.config.«open» (FaultyOpens log_partition log_name log_versions) storage.old answer left
+        × IsFaultyCall (R.stream) Call.Open storage.old.config.«open»
+        (FaultyOpens log_partition log_name log_versions) storage.old answer left
         × (result ≡ opening_answer answer) × (storage.new ≡ record left { inner = storage.new.inner }) }
-    ensures shows { IfOk result (λ log. IsOpenLog storage.new.inner (shown_file (behind_header (durable_log storage.old.inner))) log.inner) }
+    ensures shows { IfOk result (λ log. IsOpenLog storage.new.inner
+        (shown_file (behind_header (durable_log storage.old.inner))) log.inner) }
     ensures admitted { OnOk result ((log_of storage.new.inner).log ≡ []) }
     ensures count { storage.new.injections ≡ injected_after result storage.old.injections }
     ensures power { result ≡ Err OpenError.PowerCut → ⊥ }
