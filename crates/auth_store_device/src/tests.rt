@@ -2,12 +2,13 @@
 
 use crate::Device;
 use fault_storage::{Config, faulty, memory};
-use paged_blob::{Blob, WriteMode};
+use paged_blob::{Blob, Error, WriteMode};
 use rand_core::SeedableRng;
 use rand_pcg::Pcg32;
 use std::test::Fail;
 
-// What was synced is there after a crash, and what was not is gone: a crash keeps no resize where the retention rate is zero.
+// What was synced is there after a crash, and what was not is gone: a crash keeps no resize where the retention rate is
+// zero.
 #[test]
 fn a_crash_keeps_what_was_synced(rt: HostRuntime) -> Result<(), Fail> {
     let alloc = rt.alloc();
@@ -27,5 +28,33 @@ fn a_crash_keeps_what_was_synced(rt: HostRuntime) -> Result<(), Fail> {
     assert_eq!(rt; count, 6);
     let bytes = device.read_at(alloc, 0, 6)?;
     assert_eq!(rt; bytes.as_slice(), [1, 2, 3, 0, 0, 9].as_slice());
+    Ok(())
+}
+
+// A cut after one call lets one through.
+#[test]
+fn calls_behind_a_cut_are_refused(rt: HostRuntime) -> Result<(), Fail> {
+    let alloc = rt.alloc();
+    let below = memory::Storage::new(alloc);
+    let storage = faulty::Storage::new(below, Pcg32::seed_from_u64(2), Config::default());
+    let mut device = Device::new(alloc, storage)?;
+    let _none = device.open()?;
+    device.cut_after(1);
+    assert_eq!(rt; device.sync().err(), None);
+    assert_eq!(rt; device.sync().err(), Some(Error::PowerCut));
+    Ok(())
+}
+
+#[test]
+fn a_closed_device_has_no_blob(rt: HostRuntime) -> Result<(), Fail> {
+    let alloc = rt.alloc();
+    let below = memory::Storage::new(alloc);
+    let storage = faulty::Storage::new(below, Pcg32::seed_from_u64(3), Config::default());
+    let mut device = Device::new(alloc, storage)?;
+    let missing = Some(Error::BlobMissing);
+    assert_eq!(rt; device.write_at(0, &[1], WriteMode::Plain).err(), missing);
+    assert_eq!(rt; device.read_at(alloc, 0, 1).err(), missing);
+    assert_eq!(rt; device.resize(1).err(), missing);
+    assert_eq!(rt; device.sync().err(), missing);
     Ok(())
 }
