@@ -138,8 +138,8 @@ impl<R: Rng> Storage<memory::Storage, R> {
 }
 
 impl<R: Rng> Storage<memory::Storage, R> {
-    /// Makes these bytes, the header first, the base of the blob's file, and forgets its mutations: as `admit` does, of a blob that is
-    /// open, with bytes for which there was room. No word is taken (own).
+    /// Makes these bytes, the header first, the base of the blob's file, and forgets its mutations: as `admit` does, of
+    /// a blob that is open, with bytes for which there was room. No word is taken (own).
     pub fn admit_shown(&mut self, blob: &Blob<memory::Blob>, bytes: Vec<u8>)
         ensures { self.new ≡ record self.old { inner = published blob.now.inner.number bytes.items self.old.inner } }
     {

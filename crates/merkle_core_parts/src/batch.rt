@@ -123,7 +123,8 @@ impl<F: Family, D: Digest> UnmerkleizedBatch<F, D> {
     }
 
     /// Makes the nodes that the batch adds to its base. Where the base has fewer nodes than the one that the batch was
-    /// made over, and one of them is needed: M20 with its position; out of memory: M23. The batch is given up.
+    /// made over, and one of them is needed: M20 with its position; out of memory: M23. The batch is given up. That the
+    /// tree handed in is that base is on the caller; over one of another leaf count the digests are of no tree.
     /// In the Rust: `merkle::batch::UnmerkleizedBatch::merkleize`, which shares its answer.
     pub fn merkleize<H: Hasher<F, Digest = D>>(
         self,
