@@ -1,4 +1,7 @@
 -- What follows from the definitions. No reader has to believe it.
 pub mod Records
+pub mod Recorded
 pub mod First
+pub mod Floors
+pub mod Once
 pub mod Shown

@@ -1,9 +1,9 @@
 -- The records of a log: operations of one size, one after the other without a gap; and where the last commit among them ends.
-use Rattle.std.specs.Prelude.{◌≡◌, ℕ, zero, suc, ◌*◌, ◌/◌, ⊤, Bool, false, if◌then◌else◌, List, [], ◌∷◌, length, take, drop, Ok, Err}
+use Rattle.std.specs.Prelude.{◌≡◌, ℕ, zero, suc, ◌*◌, ◌/◌, ◌^◌, ◌≤◌, ⊤, Bool, false, if◌then◌else◌, List, [], ◌∷◌, length, take, drop, Ok, Err}
 use Rattle.std.specs.List.{flat_map, list_any}
 use Rattle.merkle_forest.specs.Codec.{Outcome}
 use Rattle.state_ops_parts.specs.Grammar.{Found}
-use Rattle.state_ops.specs.Operation.{Operation, fixed_size, fixed_encoding}
+use Rattle.state_ops.specs.Operation.{Operation, delete, update, commit_floor, fixed_size, fixed_encoding}
 use Rattle.state_ops.specs.Reading.{operation_at}
 use Rattle.auth_store_parts.specs.History.{History, log_of, is_commit}
 use Rattle.paged_format.specs.Pages.{recovered}
@@ -78,6 +78,22 @@ pub record IsRecorded (format : Format) (operation : Operation) : Type 0 where
 abbrev pub AreRecorded : Format → List Operation → Type 0
 AreRecorded format [] = ⊤
 AreRecorded format (operation ∷ operations) = IsRecorded format operation × AreRecorded format operations
+
+-- no log has these bytes
+abbrev pub IsNoLog : Format → List ℕ → Type 0
+IsNoLog format bytes =
+    (log : List Operation) → AreRecorded format log → log_bytes format.key_size format.value_size log ≡ bytes → ⊥
+
+-- the floor of a commit is at most the greatest number of operations
+abbrev pub FloorFits : Operation → Type 0
+FloorFits (delete key) = ⊤
+FloorFits (update fields) = ⊤
+FloorFits (commit_floor metadata floor) = floor ≤ 2 ^ 62
+
+-- so is that of each of these
+abbrev pub FloorsFit : List Operation → Type 0
+FloorsFit [] = ⊤
+FloorsFit (operation ∷ operations) = FloorFits operation × FloorsFit operations
 
 -- what an opening makes of the bytes of a log: they stay, and where there are none the log begins
 abbrev pub begun : Format → List ℕ → List ℕ

@@ -1,10 +1,11 @@
 //! What holds of all logs.
 
-ghost use Rattle.std.specs.Prelude.{◌≡◌, ◌⊎◌, ◌≤◌, ◌++◌, ℕ, List, [], ◌∷◌, None, Some, length, take};
-ghost use Rattle.auth_store_parts.specs.History.{History, Commit, log_of};
+ghost use Rattle.std.specs.Prelude.{◌≡◌, ◌⊎◌, ◌≤◌, ◌^◌, ◌++◌, ℕ, List, [], ◌∷◌, None, Some, length, take};
+ghost use Rattle.state_ops.specs.Operation.{Operation};
+ghost use Rattle.auth_store_parts.specs.History.{History, Commit, AreStates, log_of};
 ghost use Rattle.paged_blob.specs.Calls.{Call};
 ghost use Rattle.paged_blob.specs.Writers.{Keeps};
-ghost use Rattle.auth_store_log.specs.Records.{Format, committed, history_bytes, AreRecorded};
+ghost use Rattle.auth_store_log.specs.Records.{Format, committed, log_bytes, history_bytes, AreRecorded, FloorsFit};
 ghost use Rattle.auth_store_log.specs.Shown.{MayShow, KeepsBytes, KeepsLog, Reopens};
 
 /// The log of a history ends with a commit, so that all of it is committed; of a beginning that has the log before the
@@ -67,4 +68,32 @@ pub fn what_is_committed_is_shown()
     ensures begun { (format : Format) (sum : List ℕ → ℕ) (size : ℕ) (calls : List Call)
         → AreRecorded format (log_of []) → Keeps sum size (history_bytes format []) 0 calls
         → Reopens format sum size [] calls }
+{}
+
+/// The floors in the log of a history fit, where the log has no more operations than there may be.
+pub fn a_log_has_floors_within()
+    ensures { (history : History) → length (log_of history) ≤ 2 ^ 62 → FloorsFit (log_of history) }
+{}
+
+/// What is recorded, or has floors that fit, in two parts is so as a whole; and floors that fit do so in each part.
+pub fn parts_of_a_log()
+    ensures recorded { (format : Format) (one other : List Operation) → AreRecorded format one
+        → AreRecorded format other → AreRecorded format (one ++ other) }
+    ensures floors { (one other : List Operation) → FloorsFit one → FloorsFit other → FloorsFit (one ++ other) }
+    ensures apart { (one other : List Operation) → FloorsFit (one ++ other) → FloorsFit one × FloorsFit other }
+{}
+
+/// The bytes of a log are those of no other log, and so of no other history; and where they begin with those of another
+/// log, the log begins with it.
+pub fn one_history_a_log()
+    ensures log { (format : Format) (one other : List Operation) → AreRecorded format one → AreRecorded format other
+        → log_bytes format.key_size format.value_size one ≡ log_bytes format.key_size format.value_size other
+        → one ≡ other }
+    ensures history { (format : Format) (one other : History) → AreStates one → AreStates other
+        → AreRecorded format (log_of one) → AreRecorded format (log_of other)
+        → history_bytes format one ≡ history_bytes format other → one ≡ other }
+    ensures beginning { (format : Format) (one other : History) → AreRecorded format (log_of one)
+        → AreRecorded format (log_of other)
+        → take (length (history_bytes format one)) (history_bytes format other) ≡ history_bytes format one
+        → (more : List Operation) × (log_of other ≡ log_of one ++ more) }
 {}

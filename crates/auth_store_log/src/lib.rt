@@ -3,13 +3,19 @@
 #![tactic(auto)]
 
 pub mod append;
+pub mod encoding;
+pub mod error;
 pub mod laws;
 pub mod opening;
+pub mod operations;
 pub mod records;
 pub mod replay;
 
 pub use append::append_batch;
+pub use encoding::bytes_of;
+pub use error::LogError;
 pub use opening::recover;
+pub use operations::operations_of;
 pub use replay::is_log_of_a_history;
 
 #[cfg(test)]

@@ -13,7 +13,7 @@ use Rattle.state_ops_parts.specs.Grammar.{Found, ReadsAs, item_at, told, after_z
 use Rattle.state_ops.specs.Operation.{ordered, Code, Operation, delete, update, commit_floor, fixed_encoding, meaning_of}
 use Rattle.state_ops.specs.Reading as reading
 use Rattle.state_ops.specs.Reading.{ordered_at, IsField, HasEncoding}
-use Rattle.state_ops.proofs.Again.{read_again}
+use Rattle.state_ops.specs.Laws.Again.{read_again}
 
 -- an operation but for what its update says
 abbrev shape : {U : Type 0} → all.Operation U → all.Operation (Unit {0})

@@ -1,2 +1,3 @@
 pub mod Operation
 pub mod Reading
+pub mod Laws

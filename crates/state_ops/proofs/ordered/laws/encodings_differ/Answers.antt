@@ -1,4 +1,4 @@
-use Rattle.state_ops.proofs.Again.{read_once}
+use Rattle.state_ops.specs.Laws.Again.{read_once}
 use Rattle.state_ops.proofs.ordered.laws.encodings_differ.Goals as goal
 
 pub returns : goal.returns

@@ -28,7 +28,7 @@ module _ (key value : List ℕ → Outcome) (ks vs : ℕ) where
   fields (commit_floor None floor) has = (tt, has.1)
   fields (commit_floor (Some bytes) floor) has = (has.0.1, has.1)
 
-  sizes : (operation : Operation) → HasEncoding key value ks vs operation → HasSizes spelled ks vs (ks + vs + ks) operation
+  pub sizes : (operation : Operation) → HasEncoding key value ks vs operation → HasSizes spelled ks vs (ks + vs + ks) operation
   sizes (delete k) has = has.0
   sizes (update (ordered k v n)) has =
       omega (arith, length-append k (v ++ n), length-append v n, has.0.0, has.1.0.0, has.1.1.0)
