@@ -8,6 +8,7 @@ ghost use Rattle.paged_format.specs.Pages.{recovered};
 ghost use Rattle.paged_blob.specs.Calls.{content, file_of};
 ghost use Rattle.paged_blob.specs.Chance.{page_at};
 ghost use Rattle.paged_blob.specs.Caches.{Page};
+ghost use Rattle.paged_blob.specs.CachedContent.{KeepsOthers};
 ghost use Rattle.paged_blob.specs.Answers.{failures_after, IsCause};
 ghost use Rattle.paged_blob.specs.Reads.{flushed, readable, CacheHolds, ServesPages, StaysKept, IsReadingCause};
 ghost use Rattle.paged_blob.specs.declared.error.CallKind.TheVariants.{Read};
@@ -101,6 +102,7 @@ fn page_into<B: Blob, C: Checksum>(
     ensures more { StaysKept pages.physical_page_size pages.blob_id
         (flushed C.checksum_of pages.physical_page_size (B.calls blob.old) pages.len) cache.old.pages cache.new.pages }
     ensures same { cache.new ≡ record cache.old { pages = cache.new.pages } }
+    ensures others { KeepsOthers cache.old cache.new pages.blob_id }
     ensures cause { IfErr result (IsCause (B.failures blob.old) Read
         (pages.len / content_size pages.physical_page_size * pages.physical_page_size)) }
     ensures calls { B.calls blob.new ≡ B.calls blob.old }
@@ -141,6 +143,7 @@ fn read_flushed<B: Blob, C: Checksum>(
     ensures more { StaysKept pages.physical_page_size pages.blob_id
         (flushed C.checksum_of pages.physical_page_size (B.calls blob.old) pages.len) cache.old.pages cache.new.pages }
     ensures same { cache.new ≡ record cache.old { pages = cache.new.pages } }
+    ensures others { KeepsOthers cache.old cache.new pages.blob_id }
     ensures cause { IfErr result (IsCause (B.failures blob.old) Read
         (pages.len / content_size pages.physical_page_size * pages.physical_page_size)) }
     ensures calls { B.calls blob.new ≡ B.calls blob.old }
@@ -192,6 +195,7 @@ pub fn read_into<B: Blob, C: Checksum>(
     ensures kept { CacheHolds pages.physical_page_size pages.blob_id
         (readable C.checksum_of pages.physical_page_size (B.calls blob.old) pages.len tip.now) cache.new.pages }
     ensures same { cache.new ≡ record cache.old { pages = cache.new.pages } }
+    ensures others { KeepsOthers cache.old cache.new pages.blob_id }
     ensures calls { B.calls blob.new ≡ B.calls blob.old }
     ensures failures { B.failures blob.new ≡ failures_after result (B.failures blob.old) }
 {
@@ -241,6 +245,7 @@ pub fn read_at<B: Blob, C: Checksum>(
     ensures kept { CacheHolds pages.physical_page_size pages.blob_id
         (readable C.checksum_of pages.physical_page_size (B.calls blob.old) pages.len tip.now) cache.new.pages }
     ensures same { cache.new ≡ record cache.old { pages = cache.new.pages } }
+    ensures others { KeepsOthers cache.old cache.new pages.blob_id }
     ensures calls { B.calls blob.new ≡ B.calls blob.old }
     ensures failures { B.failures blob.new ≡ failures_after result (B.failures blob.old) }
 {
@@ -285,6 +290,7 @@ pub fn read_up_to<B: Blob, C: Checksum>(
     ensures kept { CacheHolds pages.physical_page_size pages.blob_id
         (readable C.checksum_of pages.physical_page_size (B.calls blob.old) pages.len tip.now) cache.new.pages }
     ensures same { cache.new ≡ record cache.old { pages = cache.new.pages } }
+    ensures others { KeepsOthers cache.old cache.new pages.blob_id }
     ensures calls { B.calls blob.new ≡ B.calls blob.old }
     ensures failures { B.failures blob.new ≡ failures_after result (B.failures blob.old) }
 {

@@ -489,6 +489,7 @@ impl<C: Checksum, Phase> Writer<C, Phase> {
             (self.now.tip.offset + length self.now.tip.bytes) (offset + length out.old)) }
         ensures cached { HoldsPagesOf (written C.checksum_of (B.calls blob.old) self.now) cache.new self.now.blob_id }
         ensures same { cache.new ≡ record cache.old { pages = cache.new.pages } }
+        ensures others { KeepsOthers cache.old cache.new self.now.blob_id }
         ensures calls { B.calls blob.new ≡ B.calls blob.old }
         ensures failures { B.failures blob.new ≡ failures_after result (B.failures blob.old) }
     {
@@ -525,6 +526,7 @@ impl<C: Checksum, Phase> Writer<C, Phase> {
             (self.now.tip.offset + length self.now.tip.bytes) (offset + len)) }
         ensures cached { HoldsPagesOf (written C.checksum_of (B.calls blob.old) self.now) cache.new self.now.blob_id }
         ensures same { cache.new ≡ record cache.old { pages = cache.new.pages } }
+        ensures others { KeepsOthers cache.old cache.new self.now.blob_id }
         ensures calls { B.calls blob.new ≡ B.calls blob.old }
         ensures failures { B.failures blob.new ≡ failures_after result (B.failures blob.old) }
     {
@@ -561,6 +563,7 @@ impl<C: Checksum, Phase> Writer<C, Phase> {
             (self.now.tip.offset + length self.now.tip.bytes) offset) }
         ensures cached { HoldsPagesOf (written C.checksum_of (B.calls blob.old) self.now) cache.new self.now.blob_id }
         ensures same { cache.new ≡ record cache.old { pages = cache.new.pages } }
+        ensures others { KeepsOthers cache.old cache.new self.now.blob_id }
         ensures calls { B.calls blob.new ≡ B.calls blob.old }
         ensures failures { B.failures blob.new ≡ failures_after result (B.failures blob.old) }
     {

@@ -134,6 +134,9 @@ impl<C: Checksum> Writer<C, Recovering> {
         ensures name { IfOk result (λ w. w.blob_id ≡ cache.old.next_id) }
         ensures cache { OnOk result (cache.new ≡ record cache.old { next_id = cache.old.next_id + 1 }) }
         ensures pages { cache.new.pages ≡ cache.old.pages }
+        // Refused too, the cache has given one name at most.
+        ensures given { (cache.new ≡ record cache.old { next_id = cache.new.next_id })
+            × (cache.old.next_id ≤ cache.new.next_id) }
         // Whatever a crash leaves at any moment of the call keeps what was durable of these bytes.
         ensures any_moment { let old = recovered C.checksum_of self.page_size (content (B.calls blob.old)) in
             (synced : ℕ) → Withstands C.checksum_of self.page_size old synced (file_of (B.calls blob.old))

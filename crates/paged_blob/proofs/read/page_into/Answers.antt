@@ -1,4 +1,4 @@
-use Rattle.std.proofs.Common.{rules, ◌≡◌, ◌≤◌, ◌<◌, ◌+◌, ◌*◌, length, take, drop, ap, sym, refl, ◌∙◌, arith}
+use Rattle.std.proofs.Common.{rules, ◌≡◌, ◌≤◌, ◌<◌, ◌+◌, ◌*◌, ◌/◌, length, take, drop, ap, sym, refl, ◌∙◌, arith}
 use Rattle.std.proofs.lemmas.Grind.{common_steps}
 use Rattle.std.proofs.lemmas.List.{length-take-le}
 use Rattle.paged_format.specs.Footers.{content_size}
@@ -7,6 +7,7 @@ use Rattle.paged_blob.specs.Calls.{content}
 use Rattle.paged_blob.specs.Caches.{Page}
 use Rattle.paged_blob.specs.Chance.{page_at}
 use Rattle.paged_blob.specs.Reads.{flushed}
+use Rattle.paged_blob.proofs.CachedLaws.{others_given}
 use Rattle.paged_blob.proofs.ReadPages.{kept_long, kept_piece, page_of_front, piece_of, serves_given, stays_given}
 use Rattle.paged_blob.proofs.read.page_into.Goals as goal
 
@@ -103,3 +104,9 @@ returns-clause-bytes g c =
     let piece : c.copy_from_slice.new.self ≡ take (length c.args.out.now) (drop c.args.from c.deref-2.result.now) = grind (arith, common_steps) in
     piece ∙ ap (λ bytes. take (length c.args.out.now) (drop c.args.from bytes)) (c.deref-2.ensures.value ∙ read)
     ∙ piece_of room page c.args.from (length c.args.out.now) all c.requires.within
+
+pub returns-clause-others : goal.returns-clause-others
+returns-clause-others g c =
+    let before = c.args.cache.now in
+    others_given before c.cache.new.self c.args.pages.blob_id (c.args.page * c.from.result / before.page_size) before.page_size c.deref.result.now
+    (length c.deref.result.now / before.page_size) c.cache.ensures.pages

@@ -6,6 +6,7 @@ use Rattle.paged_format.specs.Pages.{recovered}
 use Rattle.paged_blob.specs.Calls.{Call, content}
 use Rattle.paged_blob.specs.Caches.{Cache}
 use Rattle.paged_blob.specs.Reads.{flushed, ServesPages, StaysKept}
+use Rattle.paged_blob.proofs.CachedLaws.{others_joined}
 use Rattle.paged_blob.proofs.ReadPages.{parts, one_more, longer}
 use Rattle.paged_blob.proofs.read.read_flushed.Goals as goal
 
@@ -46,6 +47,7 @@ loop-done-preserved g c =
       bytes = more;
       kept = subst Q i.calls c.in_ok-page_into.ensures.kept;
       more = λ after holds. still after (i.more after holds);
+      others = others_joined c.args.cache.now c.loop-done.cache c.page_into.new.cache c.args.pages.blob_id i.others c.in_ok-page_into.ensures.others;
       same = c.in_ok-page_into.ensures.same ∙ ap put i.same;
       calls = c.in_ok-page_into.ensures.calls ∙ i.calls;
       failures = c.in_ok-page_into.ensures.failures ∙ i.failures;

@@ -1,4 +1,5 @@
 use Rattle.std.proofs.Common.{◌≡◌, ◌≤◌, ◌-◌, length, take, drop}
+use Rattle.paged_blob.specs.CachedContent.{KeepsOthers}
 use Rattle.paged_blob.specs.Reads.{flushed, ServesPages, StaysKept}
 use Rattle.paged_blob.proofs.read.read_flushed.Given as goal
 
@@ -11,6 +12,7 @@ invariant-loop-done g l = record {
       (flushed g.C.Checksum.checksum_of l.pages.physical_page_size (g.B.Blob.calls l.fn.blob) l.pages.len) l.cache.pages;
   more : StaysKept l.pages.physical_page_size l.pages.blob_id
       (flushed g.C.Checksum.checksum_of l.pages.physical_page_size (g.B.Blob.calls l.fn.blob) l.pages.len) l.initial.cache.pages l.cache.pages;
+  others : KeepsOthers l.initial.cache l.cache l.pages.blob_id;
   same : l.cache ≡ record l.initial.cache { pages = l.cache.pages };
   calls : g.B.Blob.calls l.blob ≡ g.B.Blob.calls l.fn.blob;
   failures : g.B.Blob.failures l.blob ≡ g.B.Blob.failures l.fn.blob;

@@ -3,6 +3,7 @@ use Rattle.paged_format.specs.Footers.{content_size}
 use Rattle.paged_format.specs.Pages.{recovered}
 use Rattle.paged_blob.specs.Calls.{content}
 use Rattle.paged_blob.specs.Caches.{Cache}
+use Rattle.paged_blob.specs.CachedContent.{KeepsOthers}
 use Rattle.paged_blob.specs.Reads.{readable, CacheHolds}
 use Rattle.paged_blob.specs.declared.read.FlushedPages.{FlushedPages}
 use Rattle.paged_blob.proofs.WriterReads.{readable_is, tip_shown, kept_read, kept_after}
@@ -57,3 +58,7 @@ returns-clause-cached g c =
     kept_after sum calls w c.read_up_to.new.cache w.blob_id sizes
     (subst (Q (record { physical_page_size = w.page_size; blob_id = w.blob_id; len = w.tip.offset })) tip_is
     (subst (λ p. Q p c.as_bytes.result.now) made c.read_up_to.ensures.kept))
+
+pub returns-clause-others : goal.returns-clause-others
+returns-clause-others g c =
+    subst (λ (p : FlushedPages). KeepsOthers c.args.cache.now c.read_up_to.new.cache p.blob_id) c.flushed_pages-pages.ensures c.read_up_to.ensures.others
