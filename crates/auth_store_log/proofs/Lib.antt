@@ -1,3 +1,4 @@
 pub mod Found
+pub mod Causes
 pub mod Reading
 pub mod Openings

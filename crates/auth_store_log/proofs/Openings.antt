@@ -7,7 +7,7 @@ use Rattle.paged_blob.specs.Moments.{Through}
 use Rattle.paged_blob.specs.Laws.Moments.{weaker}
 use Rattle.paged_blob.specs.Writers.{Keeps, WriterState, IsWriter, written}
 use Rattle.auth_store_log.specs.Records.{Format, committed, history_bytes}
-use Rattle.auth_store_log.specs.Shown.{Stands}
+use Rattle.auth_store_log.specs.Shown.{IsKeptThrough}
 use Rattle.auth_store_log.specs.Laws.Shown.{keeps_reopens, keeps_committed, keeps_begun, keeps_bytes}
 use Rattle.auth_store_log.specs.Laws.First.{empty_recorded}
 
@@ -31,7 +31,7 @@ found_len format bytes list count found same =
 -- while what is committed of a list is durable, and nothing else is written, the log stands
 pub stands : (format : Format) (sum : List ℕ → ℕ) (size : ℕ) (list : List ℕ) (count : ℕ) (old new : List Call)
     → length (committed format list) ≤ count → Through (Keeps sum size list count) old new
-    → Through (Stands format sum size (committed format list)) old new
+    → Through (IsKeptThrough format sum size (committed format list)) old new
 stands format sum size list count old new durable moments =
     weaker (λ calls keeps. (keeps_reopens format sum size calls list count durable keeps, keeps_committed format sum size calls list count durable keeps)) moments
 
@@ -44,10 +44,10 @@ kept_as sum old new size other_size count list other sizes lists moments =
 -- while the first commit is on the way, the log stands that has none
 pub begins : (format : Format) (sum : List ℕ → ℕ) (mid new : List Call) (size page_size synced : ℕ) (content log : List ℕ) → page_size ≡ size
     → content ≡ history_bytes format [] → synced ≡ 0 → log ≡ [] → Through (Keeps sum page_size content synced) mid new
-    → Through (Stands format sum size log) mid new
+    → Through (IsKeptThrough format sum size log) mid new
 begins format sum mid new size page_size synced content log sizes contents none empty moments =
     let first : List ℕ = history_bytes format [] in
     let kept : Through (Keeps sum size first 0) mid new =
     subst (λ n. Through (Keeps sum size first n) mid new) none (kept_as sum mid new page_size size synced content first sizes contents moments) in
-    subst (λ l. Through (Stands format sum size l) mid new) (sym empty)
+    subst (λ l. Through (IsKeptThrough format sum size l) mid new) (sym empty)
     (weaker (λ calls keeps. (keeps_begun format sum size calls (empty_recorded format) keeps, keeps_bytes sum size calls [] first keeps)) kept)

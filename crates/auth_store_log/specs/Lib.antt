@@ -1,3 +1,4 @@
 pub mod Records
+pub mod Causes
 pub mod Shown
 pub mod Laws

@@ -41,5 +41,5 @@ Reopens format sum size log calls =
     → IsReopened format log (recovered_log format sum size image)
 
 -- at a moment of an opening both hold: openings show that, and what is recovered begins with the log
-abbrev pub Stands : Format → (List ℕ → ℕ) → ℕ → List ℕ → List Call → Type 0
-Stands format sum size log calls = Reopens format sum size log calls × KeepsBytes sum size log calls
+abbrev pub IsKeptThrough : Format → (List ℕ → ℕ) → ℕ → List ℕ → List Call → Type 0
+IsKeptThrough format sum size log calls = Reopens format sum size log calls × KeepsBytes sum size log calls

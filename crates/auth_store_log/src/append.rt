@@ -1,6 +1,6 @@
 //! Bytes that are appended and made durable in one.
 
-ghost use Rattle.std.specs.Prelude.{◌≡◌, ◌⊎◌, ◌+◌, ◌++◌, length, IfOk, IfErr};
+ghost use Rattle.std.specs.Prelude.{◌≡◌, ◌⊎◌, ◌+◌, ◌<◌, ◌++◌, length, IfOk, IfErr};
 ghost use Rattle.paged_format.specs.Footers.{content_size};
 ghost use Rattle.paged_blob.specs.Moments.{Through};
 ghost use Rattle.paged_blob.specs.Answers.{failures_after, IsCause};
@@ -8,6 +8,7 @@ ghost use Rattle.paged_blob.specs.Flushes.{physical_size};
 ghost use Rattle.paged_blob.specs.Writers.{written, IsWriter, Keeps};
 ghost use Rattle.paged_blob.specs.CachedContent.{HoldsPagesOf, KeepsOthers};
 ghost use Rattle.paged_blob.specs.declared.error.CallKind.{CallKind};
+ghost use Rattle.auth_store_log.specs.Causes.{AreNamed};
 
 use fault_storage::Checksum;
 use paged_blob::{Blob, CacheRef, Error, Writer};
@@ -42,6 +43,7 @@ pub fn append_batch<B: Blob, C: Checksum>(
     ensures cached { HoldsPagesOf (written C.checksum_of (B.calls blob.old) writer) cache.old writer.blob_id
         → HoldsPagesOf (written C.checksum_of (B.calls blob.old) writer ++ bytes.now) cache.new writer.blob_id }
     ensures others { KeepsOthers cache.old cache.new writer.blob_id }
+    ensures named { AreNamed cache.old → writer.blob_id < cache.old.next_id → AreNamed cache.new }
 {
     let (appended, _) = writer.append(blob, cache, bytes)?;
     appended.sync(blob, cache)

@@ -1,16 +1,17 @@
 //! A log that is recovered of a blob.
 
-ghost use Rattle.std.specs.Prelude.{◌≡◌, ◌+◌, ◌<◌, ◌≤◌, [], take, length, IsFalse, IfOk, IfErr, OnOk, Contains};
+ghost use Rattle.std.specs.Prelude.{◌≡◌, ◌+◌, ◌<◌, ◌≤◌, [], take, length, IsFalse, IfOk, IfErr, OnOk};
 ghost use Rattle.paged_format.specs.Footers.{IsPageSize};
 ghost use Rattle.paged_format.specs.Pages.{recovered};
 ghost use Rattle.paged_blob.specs.Calls.{content, file_of};
-ghost use Rattle.paged_blob.specs.Caches.{Page};
 ghost use Rattle.paged_blob.specs.Moments.{Through};
 ghost use Rattle.paged_blob.specs.Answers.{failures_after};
 ghost use Rattle.paged_blob.specs.Shrinks.{IsCut};
 ghost use Rattle.paged_blob.specs.Writers.{written, IsWriter, Keeps};
+ghost use Rattle.paged_blob.specs.CachedContent.{HoldsPagesOf};
+ghost use Rattle.auth_store_log.specs.Causes.{IsLogCause, AreNamed, log_reach};
 ghost use Rattle.auth_store_log.specs.Records.{format_of, begun, history_bytes, recovered_log};
-ghost use Rattle.auth_store_log.specs.Shown.{Stands};
+ghost use Rattle.auth_store_log.specs.Shown.{IsKeptThrough};
 
 use crate::append::append_batch;
 use crate::records::committed_len;
@@ -45,6 +46,11 @@ fn settle<B: Blob, C: Checksum>(
     ensures name { IfOk result (λ w. w.blob_id + 1 ≡ cache.new.next_id) }
     ensures cache { OnOk result (cache.new ≡ record cache.old { next_id = cache.old.next_id + 2 }) }
     ensures pages { cache.new.pages ≡ cache.old.pages }
+    // Refused too, the cache has given names at most.
+    ensures given { (cache.new ≡ record cache.old { next_id = cache.new.next_id })
+        × (cache.old.next_id ≤ cache.new.next_id) }
+    ensures cause { IfErr result (IsLogCause (B.failures blob.old) (cache.old.next_id + 2)
+        (length (content (B.calls blob.old)))) }
     ensures any_moment { let list = recovered C.checksum_of (cache.old.page_size + 12) (content (B.calls blob.old)) in
         Through (Keeps C.checksum_of (cache.old.page_size + 12) list (length list))
         (B.calls blob.old) (B.calls blob.new) }
@@ -73,8 +79,12 @@ fn cut_behind<B: Blob, C: Checksum>(
         ≡ take count (written C.checksum_of (B.calls blob.old) recovery)) }
     ensures synced { IfOk result (λ w. w.synced ≡ count) }
     ensures page_size { IfOk result (λ w. w.page_size ≡ recovery.page_size) }
-    ensures name { IfOk result (λ w. w.blob_id < cache.new.next_id) }
-    ensures next { OnOk result (cache.new.page_size ≡ cache.old.page_size) }
+    ensures name { IfOk result (λ w. (cache.old.next_id ≤ w.blob_id) × (w.blob_id < cache.new.next_id)) }
+    ensures pages { cache.new.pages ≡ cache.old.pages }
+    ensures given { (cache.new ≡ record cache.old { next_id = cache.new.next_id })
+        × (cache.old.next_id ≤ cache.new.next_id) }
+    ensures cause { IfErr result (IsLogCause (B.failures blob.old) (cache.old.next_id + 1)
+        (length (content (B.calls blob.old)))) }
     ensures any_moment { Through (Keeps C.checksum_of recovery.page_size
         (written C.checksum_of (B.calls blob.old) recovery) count) (B.calls blob.old) (B.calls blob.new) }
     ensures failures { B.failures blob.new ≡ failures_after result (B.failures blob.old) }
@@ -96,13 +106,21 @@ fn keep_front<B: Blob, C: Checksum>(
     requires synced { recovery.synced ≡ length (written C.checksum_of (B.calls blob.old) recovery) }
     requires within { count ≤ length (written C.checksum_of (B.calls blob.old) recovery) }
     requires name { recovery.blob_id < cache.old.next_id }
+    requires named { AreNamed cache.old }
+    requires cached { HoldsPagesOf (written C.checksum_of (B.calls blob.old) recovery) cache.old recovery.blob_id }
     ensures writer { IfOk result (λ w. IsWriter C.checksum_of (B.calls blob.new) w) }
     ensures content { IfOk result (λ w. written C.checksum_of (B.calls blob.new) w
         ≡ take count (written C.checksum_of (B.calls blob.old) recovery)) }
     ensures synced { IfOk result (λ w. w.synced ≡ count) }
     ensures page_size { IfOk result (λ w. w.page_size ≡ recovery.page_size) }
-    ensures name { IfOk result (λ w. w.blob_id < cache.new.next_id) }
-    ensures next { OnOk result (cache.new.page_size ≡ cache.old.page_size) }
+    ensures name { IfOk result (λ w. (recovery.blob_id ≤ w.blob_id) × (w.blob_id < cache.new.next_id)) }
+    ensures named { AreNamed cache.new }
+    ensures given { (cache.new ≡ record cache.old { next_id = cache.new.next_id })
+        × (cache.old.next_id ≤ cache.new.next_id) }
+    ensures cached { IfOk result (λ w. HoldsPagesOf (take count (written C.checksum_of (B.calls blob.old) recovery))
+        cache.new w.blob_id) }
+    ensures cause { IfErr result (IsLogCause (B.failures blob.old) (cache.old.next_id + 1)
+        (length (content (B.calls blob.old)))) }
     ensures any_moment { Through (Keeps C.checksum_of recovery.page_size
         (written C.checksum_of (B.calls blob.old) recovery) count) (B.calls blob.old) (B.calls blob.new) }
     ensures failures { B.failures blob.new ≡ failures_after result (B.failures blob.old) }
@@ -132,7 +150,7 @@ where
     requires sound { IsFalse (file_of (B.calls blob.old)).failed }
     requires settled { (file_of (B.calls blob.old)).changes ≡ [] }
     requires known { blob_size ≡ length (content (B.calls blob.old)) }
-    requires named { (page : Page) → Contains cache.old.pages page → page.blob_id < cache.old.next_id }
+    requires named { AreNamed cache.old }
     ensures writer { IfOk result (λ r. IsWriter C.checksum_of (B.calls blob.new) r.0) }
     ensures content { IfOk result (λ r. written C.checksum_of (B.calls blob.new) r.0
         ≡ recovered_log (format_of (K.after tt) (V.after tt) K.SIZE V.SIZE) C.checksum_of (cache.old.page_size + 12)
@@ -142,9 +160,13 @@ where
         (content (B.calls blob.old))) }
     ensures synced { IfOk result (λ r. r.0.synced ≡ length r.1.items) }
     ensures page_size { IfOk result (λ r. r.0.page_size ≡ cache.old.page_size + 12) }
-    ensures name { IfOk result (λ r. r.0.blob_id < cache.new.next_id) }
-    ensures next { OnOk result (cache.new.page_size ≡ cache.old.page_size) }
-    ensures any_moment { Through (Stands (format_of (K.after tt) (V.after tt) K.SIZE V.SIZE) C.checksum_of
+    ensures name { IfOk result (λ r. (cache.old.next_id ≤ r.0.blob_id) × (r.0.blob_id < cache.new.next_id)) }
+    ensures named { AreNamed cache.new }
+    ensures same { cache.new ≡ record cache.old { next_id = cache.new.next_id; pages = cache.new.pages } }
+    ensures cached { IfOk result (λ r. HoldsPagesOf r.1.items cache.new r.0.blob_id) }
+    ensures cause { IfErr result (IsLogCause (B.failures blob.old) (cache.old.next_id + 3)
+        (length (content (B.calls blob.old)))) }
+    ensures any_moment { Through (IsKeptThrough (format_of (K.after tt) (V.after tt) K.SIZE V.SIZE) C.checksum_of
         (cache.old.page_size + 12) (recovered_log (format_of (K.after tt) (V.after tt) K.SIZE V.SIZE) C.checksum_of
         (cache.old.page_size + 12) (content (B.calls blob.old)))) (B.calls blob.old) (B.calls blob.new) }
     ensures failures { B.failures blob.new ≡ failures_after result (B.failures blob.old) }
@@ -170,10 +192,10 @@ fn first_bytes<F: Family, K: FixedKey, V: FixedValue>(alloc: Global) -> Result<V
 
 /// Recovers the log of a blob of so many bytes: it is cut behind the last commit, whatever stands there, and where there
 /// is no commit it begins with that of nothing. Answers the writer that goes on behind it, and its bytes, all durable.
-/// It is refused where a call of the blob, of its writer or of the cache is; no clause says more of why yet. At each
-/// moment what a crash shows is the log that was recovered, or where there was none, none or the empty one. That the
-/// blob was opened and nothing was done since, that it has so many bytes, and that the cache gave each name of its pages
-/// before is on the caller.
+/// It is refused where a call of the blob, of its writer or of the cache is, never because the blob is too short or does
+/// not verify. At each moment what a crash shows is the log that was recovered, or where there was none, none or the
+/// empty one. That the blob was opened and nothing was done since, that it has so many bytes, and that the cache gave
+/// each name of its pages before is on the caller.
 pub fn recover<F, K, V, B, C>(
     alloc: Global,
     blob: &mut B,
@@ -191,7 +213,7 @@ where
     requires sound { IsFalse (file_of (B.calls blob.old)).failed }
     requires settled { (file_of (B.calls blob.old)).changes ≡ [] }
     requires known { blob_size ≡ length (content (B.calls blob.old)) }
-    requires named { (page : Page) → Contains cache.old.pages page → page.blob_id < cache.old.next_id }
+    requires named { AreNamed cache.old }
     ensures writer { IfOk result (λ r. IsWriter C.checksum_of (B.calls blob.new) r.0) }
     ensures content { IfOk result (λ r. written C.checksum_of (B.calls blob.new) r.0 ≡ r.1.items) }
     ensures bytes { IfOk result (λ r. r.1.items ≡ begun (format_of (K.after tt) (V.after tt) K.SIZE V.SIZE)
@@ -199,7 +221,15 @@ where
         (content (B.calls blob.old)))) }
     ensures synced { IfOk result (λ r. r.0.synced ≡ length r.1.items) }
     ensures page_size { IfOk result (λ r. r.0.page_size ≡ cache.old.page_size + 12) }
-    ensures any_moment { Through (Stands (format_of (K.after tt) (V.after tt) K.SIZE V.SIZE) C.checksum_of
+    ensures cause { IfErr result (IsLogCause (B.failures blob.old) (cache.old.next_id + 3)
+        (log_reach (format_of (K.after tt) (V.after tt) K.SIZE V.SIZE) (cache.old.page_size + 12)
+        (content (B.calls blob.old)))) }
+    // The writer has a new name; the pages that are kept under it are those of the log, and all have names.
+    ensures name { IfOk result (λ r. (cache.old.next_id ≤ r.0.blob_id) × (r.0.blob_id < cache.new.next_id)) }
+    ensures cached { IfOk result (λ r. HoldsPagesOf r.1.items cache.new r.0.blob_id) }
+    ensures named { AreNamed cache.new }
+    ensures same { cache.new ≡ record cache.old { next_id = cache.new.next_id; pages = cache.new.pages } }
+    ensures any_moment { Through (IsKeptThrough (format_of (K.after tt) (V.after tt) K.SIZE V.SIZE) C.checksum_of
         (cache.old.page_size + 12) (recovered_log (format_of (K.after tt) (V.after tt) K.SIZE V.SIZE) C.checksum_of
         (cache.old.page_size + 12) (content (B.calls blob.old)))) (B.calls blob.old) (B.calls blob.new) }
     ensures failures { B.failures blob.new ≡ failures_after result (B.failures blob.old) }

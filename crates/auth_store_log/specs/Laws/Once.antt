@@ -1,14 +1,13 @@
 -- The bytes of a log are those of no other.
-use Rattle.std.proofs.Common.{◌≡◌, ℕ, ◌+◌, ◌*◌, ◌<◌, ◌≤◌, List, [], ◌∷◌, ◌++◌, length, take, drop, append_assoc, Ok, refl, sym, ◌∙◌, ap, subst, arith}
-use Rattle.std.proofs.lemmas.List.{append-nil, take_at, drop_at, take-append-drop, length-append}
-use Rattle.merkle_forest.specs.Codec.{Outcome}
+use Rattle.std.proofs.Common.{◌≡◌, ℕ, List, [], ◌∷◌, ◌++◌, length, take, drop, append_assoc, Ok, refl, sym, ◌∙◌, ap, arith}
+use Rattle.std.proofs.lemmas.List.{append-nil, take-append-drop, length-append}
 use Rattle.state_ops_parts.specs.Grammar.{Found}
 use Rattle.state_ops.specs.Operation.{Operation, delete, update, ordered, commit_floor}
 use Rattle.auth_store_parts.specs.Map.{Map, with_entry, without_key}
 use Rattle.auth_store_parts.specs.History.{History, log_of, history_from, history_of, IsState, AreStates}
 use Rattle.auth_store_parts.specs.Laws.Lookups.{IsState-with_entry, IsState-without_key}
 use Rattle.auth_store_parts.specs.Laws.Logs.{history_of-log_of}
-use Rattle.auth_store_log.specs.Records.{Format, record_size, record_of, operation_in, log_bytes, history_bytes, IsRecorded, AreRecorded}
+use Rattle.auth_store_log.specs.Records.{Format, record_of, operation_in, log_bytes, history_bytes, IsRecorded, AreRecorded}
 use Rattle.auth_store_log.specs.Laws.Recorded.{record_front}
 
 -- what a log has behind these operations, whose bytes are these

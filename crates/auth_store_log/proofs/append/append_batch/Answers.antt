@@ -1,8 +1,10 @@
-use Rattle.std.proofs.Common.{◌≡◌, ℕ, ◌++◌, List, subst}
+use Rattle.std.proofs.Common.{◌≡◌, ℕ, ◌++◌, List, ap, subst, arith}
 use Rattle.paged_blob.specs.Calls.{Call}
 use Rattle.paged_blob.specs.Moments.{Through}
 use Rattle.paged_blob.specs.Writers.{written, Keeps}
 use Rattle.paged_blob.specs.Laws.Moments.{joined}
+use Rattle.paged_blob.specs.Caches.{Cache}
+use Rattle.auth_store_log.proofs.Causes.{names_kept}
 use Rattle.auth_store_log.proofs.append.append_batch.Goals as goal
 
 -- the same is kept where size, content and what is durable are the same
@@ -24,3 +26,17 @@ returns-clause-any_moment g c =
     (written sum (g.B.Blob.calls c.append.new.blob) c.in_ok-appended.appended)
     (written sum (g.B.Blob.calls c.args.blob.now) c.args.writer ++ c.args.bytes.now) c.in_ok-appended.appended.synced c.args.writer.synced
     there.same.0 there.content there.synced c.sync.ensures.any_moment)
+
+pub returns-in_err-appended-clause-named : goal.returns-in_err-appended-clause-named
+returns-in_err-appended-clause-named g c = λ named given.
+    let one : c.append.new.cache.next_id ≡ c.args.cache.now.next_id = ap (λ (k : Cache). k.next_id) c.append.ensures.cache in
+    names_kept c.args.cache.now c.append.new.cache c.args.writer.blob_id c.append.ensures.others (omega (arith, one)) given named
+
+pub returns-clause-named : goal.returns-clause-named
+returns-clause-named g c = λ named given.
+    let one : c.append.new.cache.next_id ≡ c.args.cache.now.next_id = ap (λ (k : Cache). k.next_id) c.append.ensures.cache in
+    let two : c.sync.new.cache.next_id ≡ c.append.new.cache.next_id = ap (λ (k : Cache). k.next_id) c.sync.ensures.cache in
+    let w = c.in_ok-appended.appended in
+    let same = c.in_ok-appended.ensures.same.1 in
+    names_kept c.append.new.cache c.sync.new.cache w.blob_id c.sync.ensures.others (omega (arith, two)) (omega (arith, same, given, one))
+    (names_kept c.args.cache.now c.append.new.cache c.args.writer.blob_id c.append.ensures.others (omega (arith, one)) given named)

@@ -1,7 +1,7 @@
-use Rattle.std.proofs.Common.{◌≡◌, ◌+◌, ◌++◌, ℕ, List, take, subst, sym, ap, ◌∙◌}
+use Rattle.std.proofs.Common.{◌++◌, List, take, subst, sym, ap, ◌∙◌}
 use Rattle.state_ops.specs.Operation.{Operation, meaning_of}
 use Rattle.auth_store_parts.specs.History.{meanings}
-use Rattle.auth_store_log.specs.Records.{format_of, log_bytes, record_of, FloorsFit, AreRecorded}
+use Rattle.auth_store_log.specs.Records.{format_of, log_bytes, FloorsFit, AreRecorded}
 use Rattle.auth_store_log.proofs.Reading.{meaning_more, bytes_more, fits_more}
 use Rattle.auth_store_log.proofs.encoding.bytes_of.Goals as goal
 

@@ -1,12 +1,24 @@
-use Rattle.std.proofs.Common.{rules, ◌≡◌, ℕ, ◌+◌, List, [], ◌∷◌, ◌++◌, length, refl, sym, ap, ◌∙◌, arith}
+use Rattle.std.proofs.Common.{rules, ◌≡◌, ℕ, ◌+◌, ◌*◌, List, [], ◌∷◌, ◌++◌, length, refl, sym, ap, subst, ⊎_elim, ◌∙◌, arith}
 use Rattle.std.specs.Vec.{vec_len}
 use Rattle.std.proofs.lemmas.Bool.{eqb-true}
 use Rattle.paged_blob.specs.Calls.{Call, content}
 use Rattle.paged_blob.specs.Laws.Moments.{joined}
 use Rattle.paged_blob.specs.Writers.{WriterState, written}
-use Rattle.auth_store_log.specs.Records.{Format, format_of, begun, recovered_log}
-use Rattle.auth_store_log.specs.Shown.{Stands}
+use Rattle.auth_store_log.specs.Records.{Format, format_of, record_size, begun, recovered_log}
+use Rattle.auth_store_log.specs.Shown.{IsKeptThrough}
 use Rattle.auth_store_log.proofs.Openings.{begins}
+use Rattle.std.specs.Prelude.{IfErr}
+use Rattle.std.proofs.lemmas.Result.{err_from_is_err_and}
+use Rattle.auth_store_parts.specs.History.{log_of}
+use Rattle.paged_blob.specs.Answers.{Failures}
+use Rattle.paged_blob.specs.CachedContent.{HoldsPagesOf}
+use Rattle.paged_blob.specs.Flushes.{physical_size}
+use Rattle.paged_blob.specs.declared.error.CallKind.TheVariants.{Write, Sync}
+use Rattle.paged_blob.specs.declared.error.Error.{Error}
+use Rattle.auth_store_log.specs.Causes.{IsLogCause, log_reach}
+use Rattle.auth_store_log.specs.Laws.Records.{log_sized}
+use Rattle.auth_store_log.specs.Laws.First.{empty_recorded}
+use Rattle.auth_store_log.proofs.Causes.{further, call_cause}
 use Rattle.auth_store_log.proofs.opening.recover.Goals as goal
 
 -- a list of no items
@@ -28,7 +40,7 @@ returns-in_err-begun-clause-any_moment g c =
     no_items c.in_ok-recovery.bytes.items (sym counted ∙ eqb-true (vec_len c.in_ok-recovery.bytes) 0 (sym c.if-not-is_empty.ensures)) in
     let empty : log ≡ [] = sym there.bytes ∙ none in
     let left : written sum mid c.from-writer.result ≡ [] = ap (λ w. written sum mid w) c.from-writer.ensures ∙ there.content ∙ empty in
-    joined {P = Stands format sum size log} c.recover_committed.ensures.any_moment
+    joined {P = IsKeptThrough format sum size log} c.recover_committed.ensures.any_moment
     (begins format sum mid (g.B.Blob.calls c.append_batch.new.blob) size c.from-writer.result.page_size c.from-writer.result.synced
     (written sum mid c.from-writer.result ++ c.deref.result.now) log
     (ap (λ (w : WriterState). w.page_size) c.from-writer.ensures ∙ there.page_size)
@@ -50,7 +62,7 @@ returns-clause-any_moment g c =
     no_items c.in_ok-recovery.bytes.items (sym counted ∙ eqb-true (vec_len c.in_ok-recovery.bytes) 0 (sym c.if-not-is_empty.ensures)) in
     let empty : log ≡ [] = sym there.bytes ∙ none in
     let left : written sum mid c.from-writer.result ≡ [] = ap (λ w. written sum mid w) c.from-writer.ensures ∙ there.content ∙ empty in
-    joined {P = Stands format sum size log} c.recover_committed.ensures.any_moment
+    joined {P = IsKeptThrough format sum size log} c.recover_committed.ensures.any_moment
     (begins format sum mid (g.B.Blob.calls c.append_batch.new.blob) size c.from-writer.result.page_size c.from-writer.result.synced
     (written sum mid c.from-writer.result ++ c.deref.result.now) log
     (ap (λ (w : WriterState). w.page_size) c.from-writer.ensures ∙ there.page_size)
@@ -89,3 +101,63 @@ returns-clause-bytes g c =
     let empty : log ≡ [] = sym there.bytes ∙ none in
     let left : written sum mid c.from-writer.result ≡ [] = ap (λ w. written sum mid w) c.from-writer.ensures ∙ there.content ∙ empty in
     c.in_ok-first.ensures.exact ∙ ap (begun format) (sym empty)
+
+pub returns-in_err-begun-clause-cause : goal.returns-in_err-begun-clause-cause
+returns-in_err-begun-clause-cause g c =
+    let format : Format = format_of (g.K.Read.after tt) (g.V.Read.after tt) g.K.FixedSize.SIZE g.V.FixedSize.SIZE in
+    let sum = g.C.Checksum.checksum_of in
+    let calls : List Call = g.B.Blob.calls c.args.blob.now in
+    let mid : List Call = g.B.Blob.calls c.recover_committed.new.blob in
+    let size : ℕ = c.args.cache.now.page_size + 12 in
+    let log : List ℕ = recovered_log format sum size (content calls) in
+    let there = c.in_ok-recovery.ensures in
+    let counted : vec_len c.in_ok-recovery.bytes ≡ length c.in_ok-recovery.bytes.items = search rules in
+    let none : c.in_ok-recovery.bytes.items ≡ [] =
+    no_items c.in_ok-recovery.bytes.items (sym counted ∙ eqb-true (vec_len c.in_ok-recovery.bytes) 0 (sym c.if-not-is_empty.ensures)) in
+    let empty : log ≡ [] = sym there.bytes ∙ none in
+    let w : WriterState = c.from-writer.result in
+    let left : written sum mid w ≡ [] = ap (λ v. written sum mid v) c.from-writer.ensures ∙ there.content ∙ empty in
+    let failures : Failures = g.B.Blob.failures c.args.blob.now in
+    let between : Failures = g.B.Blob.failures c.recover_committed.new.blob in
+    let last : ℕ = c.args.cache.now.next_id + 3 in
+    let reach : ℕ = log_reach format size (content calls) in
+    let first : length c.deref.result.now ≡ length (log_of []) * record_size format =
+    ap length (c.deref.ensures.value ∙ c.in_ok-first.ensures.exact) ∙ log_sized format (log_of []) (empty_recorded format) in
+    let bytes : length (written sum mid w) + length c.deref.result.now ≡ record_size format = omega (arith, ap length left, first) in
+    let pages : w.page_size ≡ size = ap (λ (v : WriterState). v.page_size) c.from-writer.ensures ∙ there.page_size in
+    let far : physical_size w.page_size (length (written sum mid w) + length c.deref.result.now) ≡ physical_size size (record_size format) =
+    ap (λ p. physical_size p (length (written sum mid w) + length c.deref.result.now)) pages ∙ ap (physical_size size) bytes in
+    let e : Error = c.in_err-begun.field-0.0 in
+    let why : IsLogCause between last reach e =
+    ⊎_elim
+    (λ write. further between last last (physical_size w.page_size (length (written sum mid w) + length c.deref.result.now)) reach e (omega arith)
+    (omega (arith, far)) (call_cause between last (physical_size w.page_size (length (written sum mid w) + length c.deref.result.now)) Write e write))
+    (λ sync. further between last last 0 reach e (omega arith) (omega arith) (call_cause between last 0 Sync e sync))
+    c.in_err-begun.ensures.cause in
+    let p = err_from_is_err_and c.from_residual-in_err-begun.result c.from_residual-in_err-begun.ensures.1 in
+    subst (λ r. IfErr r (λ x. IsLogCause failures last reach x)) (sym p.1)
+    (subst (λ x. IsLogCause failures last reach x) (sym p.2) (subst (λ f. IsLogCause f last reach e) there.failures why))
+
+pub returns-clause-cached : goal.returns-clause-cached
+returns-clause-cached g c =
+    let format : Format = format_of (g.K.Read.after tt) (g.V.Read.after tt) g.K.FixedSize.SIZE g.V.FixedSize.SIZE in
+    let sum = g.C.Checksum.checksum_of in
+    let calls : List Call = g.B.Blob.calls c.args.blob.now in
+    let mid : List Call = g.B.Blob.calls c.recover_committed.new.blob in
+    let size : ℕ = c.args.cache.now.page_size + 12 in
+    let log : List ℕ = recovered_log format sum size (content calls) in
+    let there = c.in_ok-recovery.ensures in
+    let counted : vec_len c.in_ok-recovery.bytes ≡ length c.in_ok-recovery.bytes.items = search rules in
+    let none : c.in_ok-recovery.bytes.items ≡ [] =
+    no_items c.in_ok-recovery.bytes.items (sym counted ∙ eqb-true (vec_len c.in_ok-recovery.bytes) 0 (sym c.if-not-is_empty.ensures)) in
+    let empty : log ≡ [] = sym there.bytes ∙ none in
+    let w : WriterState = c.from-writer.result in
+    let left : written sum mid w ≡ [] = ap (λ v. written sum mid v) c.from-writer.ensures ∙ there.content ∙ empty in
+    let new = c.append_batch.new.cache in
+    let id : w.blob_id ≡ c.in_ok-recovery.recovery.blob_id = ap (λ (v : WriterState). v.blob_id) c.from-writer.ensures in
+    let P : List ℕ → ℕ → Type 0 = λ list name. HoldsPagesOf list c.recover_committed.new.cache name in
+    let before : P (written sum mid w) w.blob_id =
+    subst (λ l. P l w.blob_id) (none ∙ sym left) (subst (P c.in_ok-recovery.bytes.items) (sym id) there.cached) in
+    let all : written sum mid w ++ c.deref.result.now ≡ c.in_ok-first.first.items = ap (λ l. l ++ c.deref.result.now) left ∙ c.deref.ensures.value in
+    subst (λ name. HoldsPagesOf c.in_ok-first.first.items new name) (sym c.in_ok-begun.ensures.same.1)
+    (subst (λ l. HoldsPagesOf l new w.blob_id) all (c.append_batch.ensures.cached before))

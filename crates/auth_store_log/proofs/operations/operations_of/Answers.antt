@@ -1,4 +1,4 @@
-use Rattle.std.proofs.Common.{◌≡◌, true, false, List, sym, ap, subst, ◌∙◌}
+use Rattle.std.proofs.Common.{◌≡◌, true, false, List, sym, subst, ◌∙◌}
 use Rattle.state_ops.specs.Operation.{Operation}
 use Rattle.auth_store_parts.specs.History.{meanings, log_of, history_of}
 use Rattle.auth_store_log.specs.Records.{format_of}
