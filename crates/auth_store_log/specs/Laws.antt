@@ -4,4 +4,5 @@ pub mod Recorded
 pub mod First
 pub mod Floors
 pub mod Once
+pub mod Places
 pub mod Shown

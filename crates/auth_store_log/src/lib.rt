@@ -15,7 +15,7 @@ pub use append::append_batch;
 pub use encoding::bytes_of;
 pub use error::LogError;
 pub use opening::recover;
-pub use operations::operations_of;
+pub use operations::{operations_of, read_operation};
 pub use replay::is_log_of_a_history;
 
 #[cfg(test)]

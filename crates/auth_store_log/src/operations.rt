@@ -1,16 +1,23 @@
 //! The operations of a log, from its bytes.
 
-ghost use Rattle.std.specs.Prelude.{◌≡◌, ◌++◌, ◌⊎◌, ℕ, List, IfOk, IfErr};
+ghost use Rattle.std.specs.Prelude.{◌≡◌, ◌+◌, ◌*◌, ◌<◌, ◌≤◌, ◌++◌, ◌⊎◌, ℕ, List, length, take, drop, slice_get};
+ghost use Rattle.std.specs.Prelude.{Some, Err, IfOk, IfErr, IfSome, OnSome, IfNone};
+ghost use Rattle.paged_format.specs.Footers.{content_size};
+ghost use Rattle.paged_blob.specs.CachedContent.{HoldsPagesOf, KeepsOthers};
+ghost use Rattle.paged_blob.specs.Writers.{written, IsWriter};
 ghost use Rattle.state_ops.specs.Operation.{Operation, meaning_of};
 ghost use Rattle.auth_store_parts.specs.History as history;
-ghost use Rattle.auth_store_log.specs.Records.{format_of, record_of, log_bytes, history_bytes};
+ghost use Rattle.auth_store_log.specs.Causes.{AreNamed, IsRecordCause, failures_after_reading};
+ghost use Rattle.auth_store_log.specs.Records.{format_of, record_size, record_of, log_bytes, history_bytes};
 ghost use Rattle.auth_store_log.specs.Records.{IsRecorded, AreRecorded, IsNoLog};
 
 use crate::error::LogError;
+use crate::records::record_len;
 use crate::replay::is_log_of_a_history;
+use fault_storage::Checksum;
 use merkle_forest::Family;
 use merkle_forest::codec::{Cursor, Error as Fault};
-use paged_blob::Error;
+use paged_blob::{Blob, CacheRef, Error, Writer};
 use state_ops::ordered::read;
 use state_ops::{FixedKey, FixedValue, OrderedOperation};
 use std::alloc::Global;
@@ -93,4 +100,70 @@ pub fn operations_of<F: Family, K: FixedKey, V: FixedValue>(
         return Err(LogError::Corrupt);
     }
     Ok(log)
+}
+
+// Where the record at an index stands in a log of so many bytes, and how many bytes it has. None where the log ends
+// before it does.
+fn place_of<K: FixedKey, V: FixedValue>(index: u64, len: u64) -> Option<(u64, usize)>
+    ensures some { IfSome result (λ place.
+        (place.0 ≡ index * record_size (format_of (K.after tt) (V.after tt) K.SIZE V.SIZE))
+        × (place.1 ≡ record_size (format_of (K.after tt) (V.after tt) K.SIZE V.SIZE))) }
+    ensures within { OnSome result
+        ((index + 1) * record_size (format_of (K.after tt) (V.after tt) K.SIZE V.SIZE) ≤ len) }
+    ensures none { IfNone result
+        (len < (index + 1) * record_size (format_of (K.after tt) (V.after tt) K.SIZE V.SIZE)) }
+{
+    let size = record_len::<K, V>();
+    if size > len as u128 {
+        return None;
+    }
+    let size = size as u64;
+    let offset = index.checked_mul(size)?;
+    if offset > len - size {
+        return None;
+    }
+    Some((offset, size as usize))
+}
+
+/// The operation at an index of the log that a writer has, read through the cache. Where the log ends before it: F7.
+/// Where no operation has the record that stands there: Corrupt, so that the bytes are no log. Else it is refused only
+/// where a read of the blob is, or when out of memory. That the writer is that of the blob, that the cache's pages are
+/// as large as its, and that those under its name are of its list is on the caller.
+pub fn read_operation<F, K, V, B, C>(
+    writer: &Writer<C>,
+    alloc: Global,
+    blob: &mut B,
+    cache: &mut CacheRef,
+    index: u64,
+) -> Result<OrderedOperation<F, K, V>, LogError>
+where
+    F: Family,
+    K: FixedKey,
+    V: FixedValue,
+    B: Blob,
+    C: Checksum,
+    requires writer { IsWriter C.checksum_of (B.calls blob.old) writer.now }
+    requires pages { cache.old.page_size ≡ content_size writer.now.page_size }
+    requires cached { HoldsPagesOf (written C.checksum_of (B.calls blob.old) writer.now) cache.old writer.now.blob_id }
+    ensures operation { IfOk result (λ o. (log : List Operation)
+        → AreRecorded (format_of (K.after tt) (V.after tt) K.SIZE V.SIZE) log
+        → log_bytes K.SIZE V.SIZE log ≡ written C.checksum_of (B.calls blob.old) writer.now
+        → slice_get log index ≡ Some (meaning_of K.encoding V.encoding o)) }
+    ensures cause { IfErr result (IsRecordCause (format_of (K.after tt) (V.after tt) K.SIZE V.SIZE)
+        (B.failures blob.old) writer.now.page_size writer.now.tip.offset
+        (written C.checksum_of (B.calls blob.old) writer.now)
+        ((index + 1) * record_size (format_of (K.after tt) (V.after tt) K.SIZE V.SIZE))) }
+    ensures cached { HoldsPagesOf (written C.checksum_of (B.calls blob.old) writer.now) cache.new writer.now.blob_id }
+    ensures same { cache.new ≡ record cache.old { pages = cache.new.pages } }
+    ensures others { KeepsOthers cache.old cache.new writer.now.blob_id }
+    ensures named { AreNamed cache.old → writer.now.blob_id < cache.old.next_id → AreNamed cache.new }
+    ensures calls { B.calls blob.new ≡ B.calls blob.old }
+    ensures failures { B.failures blob.new ≡ failures_after_reading result (B.failures blob.old) }
+{
+    let Some((offset, size)) = place_of::<K, V>(index, writer.size()) else {
+        return Err(LogError::Refused(Error::BlobInsufficientLength));
+    };
+    let bytes = writer.read_at(blob, cache, offset, size)?;
+    let mut cursor = Cursor::new(&bytes);
+    next_operation(alloc, &mut cursor)
 }
