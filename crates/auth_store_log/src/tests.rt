@@ -1,5 +1,7 @@
 //! Logs that are cut short, and what is recovered of them.
 
+mod operations;
+
 use crate::{append_batch, recover};
 use fault_storage::Crc32;
 use merkle_forest::codec::FixedBytes;
