@@ -5,7 +5,8 @@ use Rattle.std.specs.Prelude.{◌||◌}
 use Rattle.std.proofs.lemmas.List.{drop-drop}
 use Rattle.std.proofs.Math.Nat.{div-eq_of_lt, div-mul-le_self, mul-le-mul_right}
 use Rattle.merkle_forest.specs.declared.codec.error.Error.{Error}
-use Rattle.merkle_forest.specs.declared.codec.error.Error.TheVariants.{EndOfBuffer, ExtraData, InvalidVarint, InvalidBool, InvalidEnum, InvalidLength, Invalid, Memory}
+use Rattle.merkle_forest.specs.declared.codec.error.Error.TheVariants.{EndOfBuffer, ExtraData, InvalidVarint, InvalidBool, InvalidEnum, InvalidLength, Invalid}
+use Rattle.merkle_forest.specs.declared.codec.error.Error.TheVariants.{Memory}
 use Rattle.merkle_forest.specs.Codec.{Refuses}
 use Rattle.state_ops.specs.Operation.{Operation}
 use Rattle.auth_store_parts.specs.History.{is_commit}

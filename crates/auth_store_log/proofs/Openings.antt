@@ -33,7 +33,9 @@ pub stands : (format : Format) (sum : List ℕ → ℕ) (size : ℕ) (list : Lis
     → length (committed format list) ≤ count → Through (Keeps sum size list count) old new
     → Through (IsKeptThrough format sum size (committed format list)) old new
 stands format sum size list count old new durable moments =
-    weaker (λ calls keeps. (keeps_reopens format sum size calls list count durable keeps, keeps_committed format sum size calls list count durable keeps)) moments
+    weaker
+    (λ calls keeps. (keeps_reopens format sum size calls list count durable keeps, keeps_committed format sum size calls list count durable keeps))
+    moments
 
 -- the same is kept where size and list are the same
 pub kept_as : (sum : List ℕ → ℕ) (old new : List Call) (size other_size count : ℕ) (list other : List ℕ) → size ≡ other_size → list ≡ other

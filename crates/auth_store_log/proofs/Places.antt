@@ -40,4 +40,5 @@ module _ (format : Format) (index : ℕ) (list bytes : List ℕ) (read : bytes �
   no_log within none log are same =
       let there = stands_in format log index are (omega (arith, within, ap length same)) in
       none there.operation [] there.recorded
-      (read ∙ ap (λ l. take (record_size format) (drop (index * record_size format) l)) (sym same) ∙ there.bytes ∙ sym (append-nil (record_of format there.operation)))
+      (read ∙ ap (λ l. take (record_size format) (drop (index * record_size format) l)) (sym same) ∙ there.bytes
+      ∙ sym (append-nil (record_of format there.operation)))

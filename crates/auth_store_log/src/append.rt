@@ -14,8 +14,8 @@ use fault_storage::Checksum;
 use paged_blob::{Blob, CacheRef, Error, Writer};
 
 /// Appends bytes and makes them durable, and all before them: the list has them after the answer, whatever a crash
-/// leaves. Refused where a call of the blob is, or where a number of the list would end: F8; the writer is given up, and
-/// what a crash then shows is the list with some of the bytes, and what was durable stays.
+/// leaves. Refused where a call of the blob is, or where a number of the list would end: F8; the writer is given up,
+/// and what a crash then shows is the list with some of the bytes, and what was durable stays.
 pub fn append_batch<B: Blob, C: Checksum>(
     writer: Writer<C>,
     blob: &mut B,

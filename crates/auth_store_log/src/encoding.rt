@@ -3,7 +3,8 @@
 ghost use Rattle.std.specs.Prelude.{◌≡◌, IfOk, OnOk};
 ghost use Rattle.state_ops.specs.Operation.{meaning_of};
 ghost use Rattle.auth_store_parts.specs.History.{meanings};
-ghost use Rattle.auth_store_log.specs.Records.{format_of, record_of, log_bytes, FloorFits, FloorsFit, IsRecorded, AreRecorded};
+ghost use Rattle.auth_store_log.specs.Records.{format_of, record_of, log_bytes, FloorFits, FloorsFit, IsRecorded};
+ghost use Rattle.auth_store_log.specs.Records.{AreRecorded};
 
 use merkle_forest::Family;
 use state_ops::{FixedKey, FixedValue, OrderedOperation, OrderedUpdate};

@@ -2,10 +2,12 @@
 
 ghost use Rattle.std.specs.Prelude.{◌≡◌, ◌⊎◌, ◌≤◌, ◌^◌, ◌++◌, ℕ, List, [], ◌∷◌, None, Some, length, take};
 ghost use Rattle.state_ops.specs.Operation.{Operation};
+ghost use Rattle.state_ops.specs.Reading.{HasEncoding};
 ghost use Rattle.auth_store_parts.specs.History.{History, Commit, AreStates, log_of};
 ghost use Rattle.paged_blob.specs.Calls.{Call};
 ghost use Rattle.paged_blob.specs.Writers.{Keeps};
-ghost use Rattle.auth_store_log.specs.Records.{Format, committed, log_bytes, history_bytes, AreRecorded, FloorsFit};
+ghost use Rattle.auth_store_log.specs.Records.{Format, committed, log_bytes, history_bytes};
+ghost use Rattle.auth_store_log.specs.Records.{IsRecorded, AreRecorded, FloorsFit};
 ghost use Rattle.auth_store_log.specs.Shown.{MayShow, KeepsBytes, KeepsLog, Reopens};
 
 /// The log of a history ends with a commit, so that all of it is committed; of a beginning that has the log before the
@@ -68,6 +70,13 @@ pub fn what_is_committed_is_shown()
     ensures begun { (format : Format) (sum : List ℕ → ℕ) (size : ℕ) (calls : List Call)
         → AreRecorded format (log_of []) → Keeps sum size (history_bytes format []) 0 calls
         → Reopens format sum size [] calls }
+{}
+
+/// An operation that has an encoding is recorded: its record is read as it again.
+pub fn what_is_encoded_is_recorded()
+    ensures { (format : Format) (operation : Operation)
+        → HasEncoding format.key format.value format.key_size format.value_size operation
+        → IsRecorded format operation }
 {}
 
 /// The floors in the log of a history fit, where the log has no more operations than there may be.

@@ -6,6 +6,7 @@ ghost use Rattle.paged_format.specs.Footers.{content_size};
 ghost use Rattle.paged_blob.specs.CachedContent.{HoldsPagesOf, KeepsOthers};
 ghost use Rattle.paged_blob.specs.Writers.{written, IsWriter};
 ghost use Rattle.state_ops.specs.Operation.{Operation, meaning_of};
+ghost use Rattle.state_ops.specs.Reading.{OperationLacks};
 ghost use Rattle.auth_store_parts.specs.History as history;
 ghost use Rattle.auth_store_log.specs.Causes.{AreNamed, IsRecordCause, failures_after_reading};
 ghost use Rattle.auth_store_log.specs.Records.{format_of, record_size, record_of, log_bytes, history_bytes};
@@ -25,6 +26,7 @@ use std::alloc::Global;
 // What a fault of a record is to its log.
 fn refusal_of(fault: Fault) -> LogError
     ensures corrupt { result ≡ LogError.Corrupt → fault ≡ Fault.Memory → ⊥ }
+    ensures lacking { result ≡ LogError.Refused Error.Memory → fault ≡ Fault.Memory }
     ensures memory { (result ≡ LogError.Refused Error.Memory) ⊎ (result ≡ LogError.Corrupt) }
 {
     match fault {
@@ -33,8 +35,9 @@ fn refusal_of(fault: Fault) -> LogError
     }
 }
 
-/// The operation whose record stands at the front; the cursor is then behind it. Where none stands there: Corrupt. After
-/// a refusal the cursor's position is open.
+/// The operation whose record stands at the front; the cursor is then behind it. Where none stands there: Corrupt. It
+/// is out of memory only where a key or a value that stands there may take memory. After a refusal the cursor's
+/// position is open.
 pub fn next_operation<F: Family, K: FixedKey, V: FixedValue>(
     alloc: Global,
     cursor: &mut Cursor<'_>,
@@ -46,6 +49,8 @@ pub fn next_operation<F: Family, K: FixedKey, V: FixedValue>(
     ensures corrupt { IfErr result (λ e. e ≡ LogError.Corrupt → (operation : Operation) (rest : List ℕ)
         → IsRecorded (format_of (K.after tt) (V.after tt) K.SIZE V.SIZE) operation
         → cursor.old ≡ record_of (format_of (K.after tt) (V.after tt) K.SIZE V.SIZE) operation ++ rest → ⊥) }
+    ensures lacking { IfErr result (λ e. e ≡ LogError.Refused Error.Memory → OperationLacks (K.after tt) (V.after tt)
+        (K.may_lack tt) (V.may_lack tt) K.SIZE V.SIZE cursor.old) }
     ensures memory { IfErr result (λ e. (e ≡ LogError.Refused Error.Memory) ⊎ (e ≡ LogError.Corrupt)) }
 {
     match read::<F, K, V>(alloc, cursor) {
@@ -76,8 +81,8 @@ fn read_all<F: Family, K: FixedKey, V: FixedValue>(
     Ok(log)
 }
 
-/// The operations of a log, from all of its bytes: they are the log of a history, which has states. Where no history has
-/// a log of these bytes: Corrupt. Otherwise it fails only when out of memory.
+/// The operations of a log, from all of its bytes: they are the log of a history, which has states. Where no history
+/// has a log of these bytes: Corrupt. Otherwise it fails only when out of memory.
 pub fn operations_of<F: Family, K: FixedKey, V: FixedValue>(
     alloc: Global,
     bytes: &[u8],

@@ -34,7 +34,8 @@ module _ (format : Format) where
       let there = stands_in log index are.1 (omega (arith, within, length-append front later, are.0.sized)) in
       let one_more : suc index * size ≡ size + index * size = omega arith in
       let behind : drop (suc index * size) (front ++ later) ≡ drop (index * size) later =
-      ap (λ n. drop n (front ++ later)) one_more ∙ sym (drop-drop (index * size) size (front ++ later)) ∙ ap (drop (index * size)) (drop_at front later size are.0.sized) in
+      ap (λ n. drop n (front ++ later)) one_more ∙ sym (drop-drop (index * size) size (front ++ later))
+      ∙ ap (drop (index * size)) (drop_at front later size are.0.sized) in
       record {
         operation = there.operation;
         recorded = there.recorded;

@@ -4,7 +4,8 @@ use Rattle.std.proofs.Common.{refl, sym, ◌∙◌, ap, subst, ◌⊎◌, inl, i
 use Rattle.std.specs.Prelude.{is_some, ◌||◌}
 use Rattle.std.specs.List.{list_any}
 use Rattle.std.proofs.lemmas.Bool.{cases_lt, cases_Bool, or_parts}
-use Rattle.std.proofs.lemmas.List.{append-nil, take-append-drop, take-append-le, take_all, take_min, take-take, drop-take, length-append, length-take, length-take-le}
+use Rattle.std.proofs.lemmas.List.{append-nil, take-append-drop, take-append-le, take_all, take_min, take-take, drop-take, length-append, length-take}
+use Rattle.std.proofs.lemmas.List.{length-take-le}
 use Rattle.std.proofs.lemmas.Nat.{div-mul-add}
 use Rattle.std.proofs.lemmas.List.Folds.{list_any-append}
 use Rattle.std.proofs.lemmas.Grind.{flat_map-append}
@@ -13,7 +14,8 @@ use Rattle.std.proofs.Math.Nat.{le-div_iff_mul-le, div-mul-le_self, div-eq_of_eq
 use Rattle.state_ops.specs.Operation.{Operation, delete, update, ordered, commit_floor}
 use Rattle.auth_store_parts.specs.Map.{Map, value_at, next_key}
 use Rattle.auth_store_parts.specs.History.{History, Commit, latest_map, log_of, deletes, updates, is_kept, batch_operations, inactivity_floor, is_commit}
-use Rattle.auth_store_log.specs.Records.{Format, record_size, record_of, is_commit_found, is_commit_record, pieces, whole_records, up_to_last, committed, log_bytes, history_bytes, IsRecorded, AreRecorded}
+use Rattle.auth_store_log.specs.Records.{Format, record_size, record_of, is_commit_found, is_commit_record, pieces, whole_records, up_to_last, committed}
+use Rattle.auth_store_log.specs.Records.{log_bytes, history_bytes, IsRecorded, AreRecorded}
 
 or_false : (a b : Bool) → b ≡ false → (a || b) ≡ a
 or_false true b none = refl
