@@ -1,6 +1,6 @@
 -- The open log is carried on by each call that the store took.
-use Rattle.std.proofs.Common.{◌≡◌, ℕ, ◌+◌, min, max, ◌&&◌, nat_lt, Bool, true, false, cond, Option, Some, None, Result, Ok, Err, List, [], ◌∷◌, length, take, drop, sym, ◌∙◌, ap, subst, inl, inr, refl, arith}
-use Rattle.std.proofs.lemmas.Bool.{leb-true, and_parts}
+use Rattle.std.proofs.Common.{◌≡◌, ℕ, ◌+◌, ◌-◌, ◌^◌, ◌<◌, ◌≤◌, min, max, ◌&&◌, nat_lt, Bool, true, false, cond, Option, Some, None, Result, Ok, Err, List, [], ◌∷◌, length, take, drop, sym, ◌∙◌, ap, subst, inl, inr, refl, arith}
+use Rattle.std.proofs.lemmas.Bool.{leb-true, leb-false, and_parts}
 use Rattle.rand_core.specs.Stream.{Stream, next_u64}
 use Rattle.fault_storage_parts.specs.Draws.{sample, kept_bytes, length_between}
 use Rattle.fault_storage_parts.specs.DrawsCode.{rate_of, mode_of}
@@ -9,6 +9,7 @@ use Rattle.fault_storage_parts.specs.declared.config.ResizeConfig.{ResizeConfig}
 use Rattle.fault_storage_parts.specs.declared.error.Call.{Call as CallBelow}
 use Rattle.fault_storage_parts.specs.declared.error.Call.TheVariants.{Read, Write, Sync, Resize}
 use Rattle.fault_storage_parts.specs.declared.error.Error.{Error as StorageError}
+use Rattle.fault_storage_parts.specs.declared.error.Error.TheVariants.{Injected, Memory}
 use Rattle.fault_storage_parts.specs.declared.probability.Probability.{Probability}
 use Rattle.fault_storage.specs.declared.faulty.Blob.{Blob}
 use Rattle.fault_storage.specs.declared.faulty.Storage.{Storage}
@@ -17,7 +18,8 @@ use Rattle.fault_storage.specs.Directory.{MemoryReads, MemorySyncs}
 use Rattle.fault_storage.specs.Faults.{IsFaultyCall}
 use Rattle.std.specs.declared.alloc.Global.{Global}
 use Rattle.std.specs.declared.vec.Vec.{Vec}
-use Rattle.paged_blob.specs.Answers.{IsSlice}
+use Rattle.paged_blob.specs.Answers.{Failures, IsReadCause, IsSlice}
+use Rattle.paged_blob.specs.declared.error.CallKind.TheVariants as kinds
 use Rattle.std.proofs.lemmas.List.{length-drop, drop-drop}
 use Rattle.fault_storage.specs.Stores.{Store, Handle, resizing, fixed_write}
 use Rattle.paged_blob.specs.declared.blob.WriteMode.{WriteMode}
@@ -25,8 +27,9 @@ use Rattle.paged_blob.specs.declared.blob.WriteMode.TheVariants as modes
 use Rattle.paged_blob.specs.WriteModes.{is_sync}
 use Rattle.paged_blob.specs.Calls.{Call, wrote, synced, resized_to as resized_call, File, file_of}
 use Rattle.auth_store_device.specs.declared.log.Told.TheVariants.{Made, Failed}
-use Rattle.auth_store_device.specs.Devices.{told_of, mode_below}
+use Rattle.auth_store_device.specs.Devices.{told_of, mode_below, refusal_of}
 use Rattle.auth_store_device.specs.Logs.{behind_header, IsOpenLog}
+use Rattle.auth_store_device.proofs.Outcomes.{made-headed}
 use Rattle.auth_store_device.proofs.Reached.{between_is}
 use Rattle.auth_store_device.proofs.Carried.{plain_carried, empty_carried, synced_carried, torn_carried, resized_carried, part_carried, nowhere_carried, carried_published}
 
@@ -185,6 +188,27 @@ module _ {R : Type 0} (stream : R → Stream) where
         slice = is ∙ ap (λ n. take count (drop (n + offset) handle.live)) o.opened.offset
             ∙ ap (take count) (ap (λ n. drop n handle.live) (omega arith) ∙ sym (drop-drop offset 8 handle.live));
       }
+
+  -- and why one is refused
+  pub read_cause : (rate : Probability) (handle : Handle) (offset count : ℕ) (old new : Storage Store R) (e : StorageError) (file : File) (failures : Failures)
+      → old.injections < 2 ^ 64 - 1 → IsFaultyCall {T = Vec ℕ Global} stream Read rate (MemoryReads handle offset count) old (Err e) new
+      → IsOpenLog old.inner file handle → IsReadCause failures file offset count (refusal_of kinds.Read e)
+  read_cause rate handle offset count old new e file failures some (inl (full, is, same)) o = absurd (omega (arith, some, full))
+  read_cause rate handle offset count old new e file failures some (inr (inl (room, inl is, (below, inl (short, has)), same))) o = cc
+  read_cause rate handle offset count old new e file failures some (inr (inl (room, inl is, (below, inr (want, has)), same))) o = cc
+  read_cause rate handle offset count old new e file failures some (inr (inl (room, inr is, answers, same))) o =
+      let want : Memory ≡ e = cc in subst (λ x. IsReadCause failures file offset count (refusal_of kinds.Read x)) want tt
+  read_cause rate handle offset count old new e file failures some (inr (inr (inl (room, drawn, is, same, words)))) o =
+      let injected : Injected Read ≡ e = cc in subst (λ x. IsReadCause failures file offset count (refusal_of kinds.Read x)) injected refl
+  read_cause rate handle offset count old new e file failures some (inr (inr (inr (room, drawn, made, (below, inr (want, has)), same, words)))) o =
+      subst (λ x. IsReadCause failures file offset count (refusal_of kinds.Read x)) (sym want) tt
+  read_cause rate handle offset count old new e file failures some (inr (inr (inr (room, drawn, made, (below, inl (short, has)), same, words)))) o =
+      let live = handle.live in
+      let long : 8 ≤ length live = (made-headed live o.opened.headed).long in
+      let ends : length live < handle.offset + offset + count = leb-false (handle.offset + offset + count) (length live) has in
+      let eight : handle.offset ≡ 8 = o.opened.offset in
+      subst (λ x. IsReadCause failures file offset count (refusal_of kinds.Read x)) (sym short)
+      (record { live = behind_header live; found = o.opened.live; short = omega (arith, long, ends, eight, length-drop 8 live) })
 
   -- what a sync made durable is what was live
   pub sync_made : (rate : Probability) (handle : Handle) (old new : Storage Store R) (answer : Result Unit StorageError) (calls now : List Call)

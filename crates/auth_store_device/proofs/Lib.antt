@@ -1,6 +1,7 @@
 pub mod Bytes
 pub mod Carried
 pub mod Changes
+pub mod Headers
 pub mod Opened
 pub mod Shown
 pub mod Outcomes

@@ -1,20 +1,23 @@
 //! The device.
 
-ghost use Rattle.std.specs.Prelude.{◌≡◌, ◌⊎◌, ◌+◌, ◌-◌, ◌<◌, ◌^◌, ◌∷◌, [], length, drop, true, is_some, is_none};
+ghost use Rattle.std.specs.Prelude.{◌≡◌, ◌⊎◌, ◌+◌, ◌-◌, ◌<◌, ◌^◌, ◌∷◌, [], ℕ, List, length, drop, true, is_some, is_none};
 ghost use Rattle.std.specs.Prelude.{Err, None, Some, IfOk, IfErr, OnOk, OnErr};
 ghost use Rattle.rand_core.specs.Stream.{Stream};
 ghost use Rattle.fault_storage.specs.Stores.{crashed_store};
 ghost use Rattle.fault_storage_parts.specs.declared.error.Call.{Call};
+ghost use Rattle.fault_storage_parts.specs.declared.error.HeaderError.{HeaderError};
+ghost use Rattle.fault_storage_parts.specs.Files.{IsLeftOf};
 ghost use Rattle.fault_storage.specs.Changes.{FaultyWrites, FaultyResizes};
 ghost use Rattle.fault_storage.specs.Directory.{MemoryReads, MemorySyncs};
 ghost use Rattle.fault_storage.specs.Faults.{IsFaultyCall};
 ghost use Rattle.paged_blob.specs.Answers.{Records, RecordsSync, RecordsOpening, failures_after};
 ghost use Rattle.paged_blob.specs.Answers.{IsCause, IsReadCause, IsSlice};
+ghost use Rattle.paged_blob.specs.Images.{IsImage};
 ghost use Rattle.paged_blob.specs.Calls.{opened, content, synced, wrote, resized_to, file_of};
 ghost use Rattle.paged_blob.specs.WriteModes.{is_sync};
 ghost use Rattle.paged_blob.specs.declared.error.CallKind.{CallKind};
-ghost use Rattle.auth_store_device.specs.Devices.{left_after, left_after_opening, stopped_opening};
-ghost use Rattle.auth_store_device.specs.Logs.{log_of, behind_header, durable_log};
+ghost use Rattle.auth_store_device.specs.Devices.{left_after, left_after_opening, stopped_opening, is_cut, log_fault};
+ghost use Rattle.auth_store_device.specs.Logs.{has_log, log_of, behind_header, durable_log, HasOwnHeader};
 ghost use Rattle.paged_blob.specs.Recorded.{calls_of};
 
 use crate::error::OpenError;
@@ -112,6 +115,13 @@ impl<R: Rng + Drop> Device<R> {
         self.storage.config()
     }
 
+    /// Whether a cut of the power stands, under which each call is refused.
+    pub fn is_cut(&self) -> bool
+        ensures { result ≡ is_cut self.now.left }
+    {
+        self.left == Some(0)
+    }
+
     /// Whether no opening stands.
     pub fn is_closed(&self) -> bool
         ensures { result ≡ is_none self.now.log }
@@ -127,6 +137,7 @@ impl<R: Rng + Drop> Device<R> {
             ≡ crashed_store self.old.storage.inner (R.stream self.old.storage.rng) }
         ensures rest { (self.new.storage.injections ≡ self.old.storage.injections)
             × (self.new.storage.config ≡ self.old.storage.config) }
+        ensures header { HasOwnHeader self.old.storage.inner → HasOwnHeader self.new.storage.inner }
         ensures device { (self.new.log ≡ None) × (self.new.calls ≡ self.old.calls) × (self.new.left ≡ None)
             × (self.new.refused ≡ 0) }
     {
@@ -140,6 +151,28 @@ impl<R: Rng + Drop> Device<R> {
         ensures { self.new ≡ record self.old { log = None } }
     {
         self.log = None;
+    }
+
+    /// The law that a device has refused calls by a cut since the last crash only where a cut stands (own).
+    pub fn refuses_only_under_a_cut(&self)
+        ensures { 0 < self.now.refused → self.now.left ≡ Some 0 }
+    {
+        let _ = &self.left;
+    }
+
+    /// The law that each outcome of a crash of the log is an image of the calls (own).
+    pub fn crash_leaves_an_image(&self)
+        ensures { (left : List ℕ) → IsLeftOf (log_of self.now.storage.inner).base (log_of self.now.storage.inner).log left []
+            → IsImage (file_of self.now.calls) (behind_header left) }
+    {
+        let _ = &self.record_kept;
+    }
+
+    /// The law that a log that is open begins with the header of one that the device made (own).
+    pub fn open_log_has_own_header(&self)
+        ensures { is_some self.now.log ≡ true → HasOwnHeader self.now.storage.inner }
+    {
+        let _ = &self.log;
     }
 
     /// Other settings from now on.
@@ -195,7 +228,7 @@ fn left_after_opening<T>(answer: &Result<T, OpenError>, left: Option<u64>) -> Op
 }
 
 impl<R: Rng + Drop> Device<R> {
-    ghost use Rattle.auth_store_device.specs.Devices.{HasEnded, IsStopped, injected_after, refused_after};
+    ghost use Rattle.auth_store_device.specs.Devices.{HasEnded, IsStopped, IsOpeningCall, injected_after, refused_after};
 
     /// Opens the log, or makes it where there is none, admits what it shows, and answers how many bytes that is. It asks
     /// for a closed device. F8: a count has ended; F10; F9; F6; F5: its header is refused.
@@ -213,6 +246,12 @@ impl<R: Rng + Drop> Device<R> {
         ensures ended { HasEnded self.old → result ≡ Err OpenError.NumberEnded }
         ensures cut { self.old.left ≡ Some 0 → HasEnded self.old ⊎ (result ≡ Err OpenError.PowerCut) }
         ensures power { result ≡ Err OpenError.PowerCut → self.old.left ≡ Some 0 }
+        ensures header { (fault : HeaderError) → result ≡ Err (OpenError.Header fault)
+            → log_fault self.old.storage.inner ≡ Some fault }
+        ensures fine { OnOk result (has_log self.old.storage.inner ≡ true → log_fault self.old.storage.inner ≡ None) }
+        ensures own { (fault : HeaderError) → HasOwnHeader self.old.storage.inner
+            → result ≡ Err (OpenError.Header fault) → ⊥ }
+        ensures draw { IsOpeningCall (R.stream) self.old result self.new }
         ensures refusals { self.new.refused ≡ refused_after result self.old.refused }
         ensures left { self.new.left ≡ left_after_opening result self.old.left }
     {

@@ -1,9 +1,10 @@
 //! The opening of the log, which admits what it shows.
 
-ghost use Rattle.std.specs.Prelude.{◌≡◌, ◌-◌, ◌<◌, ◌^◌, [], true, false, Result, Err};
+ghost use Rattle.std.specs.Prelude.{◌≡◌, ◌-◌, ◌<◌, ◌^◌, [], true, false, None, Some, Result, Err};
 ghost use Rattle.std.specs.Prelude.{IfOk, IfErr, IfNone, IfSome, OnOk, OnErr};
 ghost use Rattle.fault_storage_parts.specs.declared.error.Call.{Call};
 ghost use Rattle.fault_storage_parts.specs.declared.error.Error.{Error};
+ghost use Rattle.fault_storage_parts.specs.declared.error.HeaderError.{HeaderError};
 ghost use Rattle.fault_storage.specs.declared.faulty.Blob.{Blob};
 ghost use Rattle.fault_storage.specs.declared.faulty.Storage.{Storage};
 ghost use Rattle.fault_storage.specs.declared.storage.Opened.{Opened};
@@ -13,7 +14,7 @@ ghost use Rattle.fault_storage.specs.Faults.{IsFaultyCall, FaultyOpens};
 ghost use Rattle.auth_store_device.specs.Logs.{log_partition, log_name, has_log, log_of, behind_header, durable_log};
 ghost use Rattle.auth_store_device.specs.Logs.{IsOrderly, IsOpenLog};
 ghost use Rattle.auth_store_device.specs.Devices.{log_versions, opening_refusal, opening_answer, injected_after};
-ghost use Rattle.auth_store_device.specs.Devices.{shown_file};
+ghost use Rattle.auth_store_device.specs.Devices.{shown_file, log_fault};
 
 use crate::device::copy_behind_header;
 use crate::error::OpenError;
@@ -86,6 +87,9 @@ pub fn open_log<R: Rng + Drop>(
         × IsFaultyCall (R.stream) Call.Open storage.old.config.«open»
         (FaultyOpens log_partition log_name log_versions) storage.old answer left
         × (result ≡ opening_answer answer) × (storage.new ≡ record left { inner = storage.new.inner }) }
+    ensures header { (fault : HeaderError) → result ≡ Err (OpenError.Header fault)
+        → (has_log storage.old.inner ≡ true) × (log_fault storage.old.inner ≡ Some fault) }
+    ensures fine { OnOk result (has_log storage.old.inner ≡ true → log_fault storage.old.inner ≡ None) }
     ensures shows { IfOk result (λ log. IsOpenLog storage.new.inner
         (shown_file (behind_header (durable_log storage.old.inner))) log.inner) }
     ensures admitted { OnOk result ((log_of storage.new.inner).log ≡ []) }
