@@ -17,13 +17,18 @@ ghost use Rattle.paged_blob.specs.Calls.{opened, content, synced, wrote, resized
 ghost use Rattle.paged_blob.specs.WriteModes.{is_sync};
 ghost use Rattle.paged_blob.specs.declared.error.CallKind.{CallKind};
 ghost use Rattle.auth_store_device.specs.Devices.{left_after, left_after_opening, stopped_opening, is_cut, log_fault};
+ghost use Rattle.auth_store_device.specs.Openings.{openings_of};
+ghost use Rattle.auth_store_device.specs.Settings.{AreFirst};
 ghost use Rattle.auth_store_device.specs.Logs.{has_log, log_of, behind_header, durable_log, HasOwnHeader};
 ghost use Rattle.paged_blob.specs.Recorded.{calls_of};
 
 use crate::error::OpenError;
 use crate::log::{note, read_log, resize_log, sync_log, write_log};
 use crate::opening::{copy_durable, copy_shown, open_log};
-use fault_storage::{Config, faulty, memory};
+use crate::openings::Openings;
+use fault_storage::{
+    Config, PartialWriteMode, Probability, ResizeConfig, WriteConfig, faulty, memory,
+};
 use paged_blob::{Blob, Error, Recorded, WriteMode};
 use rand_core::Rng;
 use std::alloc::{AllocError, Global};
@@ -74,8 +79,29 @@ pub(crate) fn copy_behind_header(alloc: Global, bytes: &[u8]) -> Result<Vec<u8>,
     bytes[8..].to_vec(alloc)
 }
 
+// The settings of a device that is made of no file.
+fn first_settings() -> Config
+    ensures { AreFirst result }
+{
+    let half = Probability {
+        numerator: 1,
+        denominator: 2,
+    };
+    Config::default()
+        .write(WriteConfig {
+            rate: Probability::ZERO,
+            retention: half,
+            mode: PartialWriteMode::Subset,
+        })
+        .resize(ResizeConfig {
+            rate: Probability::ZERO,
+            retention: half,
+        })
+}
+
 impl<R: Rng + Drop> Device<R> {
     ghost use Rattle.auth_store_device.specs.Devices.{IsSettled, after_asking};
+    ghost use Rattle.auth_store_device.specs.Settings.{IsNew};
     ghost use Rattle.auth_store_device.specs.Logs.{behind_header, durable_log};
 
     /// A closed device over a store; the durable bytes of its log, where there is one, are what its record begins with.
@@ -108,11 +134,28 @@ impl<R: Rng + Drop> Device<R> {
         })
     }
 
+    /// A closed device over a store in memory that has no file yet, whose faults and choices are drawn of these words:
+    /// nothing fails, and of what is not durable a crash keeps each byte, and each resize, one time in two. F9.
+    pub fn empty(alloc: Global, rng: R) -> Result<Device<R>, AllocError>
+        ensures new { IfOk result (IsNew rng) }
+        ensures own { IfOk result (λ device. HasOwnHeader device.storage.inner) }
+    {
+        let below = memory::Storage::new(alloc);
+        Device::new(alloc, faulty::Storage::new(below, rng, first_settings()))
+    }
+
     /// The settings by which the store fails.
     pub fn config(&self) -> Config
         ensures { result ≡ self.now.storage.config }
     {
         self.storage.config()
+    }
+
+    /// Its openings so far, the oldest first: what each showed, and what stood before it. It takes no memory.
+    pub fn openings(&self) -> Openings<'_>
+        ensures { result ≡ openings_of self.now.calls }
+    {
+        Openings::of(&self.record_kept)
     }
 
     /// Whether a cut of the power stands, under which each call is refused.
