@@ -24,7 +24,7 @@ ghost use Rattle.paged_blob.specs.Recorded.{calls_of};
 
 use crate::error::OpenError;
 use crate::log::{note, read_log, resize_log, sync_log, write_log};
-use crate::opening::{copy_durable, copy_shown, open_log};
+use crate::opening::{Durable, copy_log, open_log};
 use crate::openings::Openings;
 use fault_storage::{
     Config, PartialWriteMode, Probability, ResizeConfig, WriteConfig, faulty, memory,
@@ -120,10 +120,9 @@ impl<R: Rng + Drop> Device<R> {
           refused = 0;
         }) }
     {
-        let copied = copy_durable(storage.inner())?;
-        let base = copy_shown(alloc, storage.inner(), &copied)?;
+        let durable = copy_log(alloc, storage.inner())?;
         let mut record_kept = Vec::new(alloc);
-        record_kept.push(Recorded::Synced(base, true))?;
+        record_kept.push(Recorded::Synced(durable.shown, true))?;
         Ok(Device {
             alloc,
             storage,
@@ -301,11 +300,10 @@ impl<R: Rng + Drop> Device<R> {
         if let Err(error) = self.stop() {
             return Err(stopped_opening(error));
         }
-        let copied = copy_durable(self.storage.inner())?;
-        let shown = copy_shown(self.alloc, self.storage.inner(), &copied)?;
+        let Durable { whole, shown } = copy_log(self.alloc, self.storage.inner())?;
         self.record_kept.reserve(1)?;
         let count = shown.len() as u64;
-        let answer = open_log(&mut self.storage, copied);
+        let answer = open_log(&mut self.storage, whole);
         self.left = left_after_opening(&answer, self.left);
         let log = answer?;
         note(&mut self.record_kept, Recorded::Opened(shown));

@@ -5,8 +5,8 @@
 pub(crate) mod chance;
 pub mod device;
 pub mod error;
-pub mod log;
-pub mod opening;
+pub(crate) mod log;
+pub(crate) mod opening;
 pub mod openings;
 
 pub use device::Device;
