@@ -1,5 +1,6 @@
 -- Slots of pages, and the files that may have had them.
-use Rattle.std.proofs.Common.{◌≡◌, ℕ, zero, suc, ◌+◌, ◌*◌, ◌/◌, ◌<◌, ◌≤◌, ◌==◌, ◌&&◌, nat_lt, nat_le, Bool, true, false, ◌||◌, List, [], ◌∷◌, length, take, drop, get_or}
+use Rattle.std.proofs.Common.{◌≡◌, ℕ, zero, suc, ◌+◌, ◌*◌, ◌/◌, ◌<◌, ◌≤◌, ◌==◌, ◌&&◌, nat_lt, nat_le, Bool, true, false, ◌||◌, List, [], ◌∷◌, length}
+use Rattle.std.proofs.Common.{take, drop, get_or}
 use Rattle.std.proofs.Common.{sym, ◌∙◌, ap, refl, arith}
 use Rattle.std.specs.Int.{w16, w32, from_be_bytes}
 use Rattle.std.proofs.lemmas.List.{drop_more, length-drop, length-take-le, take_more}
@@ -100,7 +101,8 @@ module _ (size : ℕ) (slot : Slot) (shown page : List ℕ)
         ap (λ l. bytes_eq l d) third ∙ ap (bytes_eq (bytes page)) fourth ∙ ap (λ b. b && bytes_eq (bytes page) (bytes shown)) (sym found)
 
 -- a slot that the newest file has was written
-written_now : (size page : ℕ) (slot : Slot) (shown base : List ℕ) (changes : List Change) → has_slot size slot shown (page_at size page (whole base changes)) ≡ true
+written_now : (size page : ℕ) (slot : Slot) (shown base : List ℕ) (changes : List Change)
+    → has_slot size slot shown (page_at size page (whole base changes)) ≡ true
     → was_written size page slot shown base changes ≡ true
 written_now size page slot shown base [] has = has
 written_now size page slot shown base (change ∷ earlier) has = or_left _ _ has
@@ -151,7 +153,8 @@ written-step size page slot shown before (ResizedTo length_asked ok) file now fo
     )
 
 -- one of calls with which no file begins anew
-pub none-at : (calls : List Recorded) (place : ℕ) (d : Recorded) → list_any is_base calls ≡ false → place < length calls → is_base (get_or calls place d) ≡ false
+pub none-at : (calls : List Recorded) (place : ℕ) (d : Recorded) → list_any is_base calls ≡ false → place < length calls
+    → is_base (get_or calls place d) ≡ false
 none-at [] place d none below = absurd (omega (arith, below))
 none-at (call ∷ later) zero d none below = (or_parts (is_base call) (list_any is_base later) none).0
 none-at (call ∷ later) (suc place) d none below = none-at later place d (or_parts (is_base call) (list_any is_base later) none).1 (omega (arith, below))
@@ -170,7 +173,8 @@ page-long size page bytes some there =
     length-take-le size (drop (page * size) bytes) (omega (arith, whole_pages, within, length-drop (page * size) bytes))
 
 -- when a slot is by chance
-module _ (sum : List ℕ → ℕ) (size page : ℕ) (slot : Slot) (file : File) (bytes here : List ℕ) (same : here ≡ page_at size page bytes) (long : length here ≡ size)
+module _ (sum : List ℕ → ℕ) (size page : ℕ) (slot : Slot) (file : File) (bytes here : List ℕ) (same : here ≡ page_at size page bytes)
+    (long : length here ≡ size)
   where
     pub chance-none : false ≡ verifies sum (length here) slot here → false ≡ is_chance_slot sum size file bytes page slot
     unfolding is_chance_slot

@@ -1,5 +1,6 @@
 -- The open log is carried on by each call that the store took.
-use Rattle.std.proofs.Common.{◌≡◌, ℕ, ◌+◌, ◌-◌, ◌^◌, ◌<◌, ◌≤◌, min, max, ◌&&◌, nat_lt, Bool, true, false, cond, Option, Some, None, Result, Ok, Err, List, [], ◌∷◌, length, take, drop, sym, ◌∙◌, ap, subst, inl, inr, refl, arith}
+use Rattle.std.proofs.Common.{◌≡◌, ℕ, ◌+◌, ◌-◌, ◌^◌, ◌<◌, ◌≤◌, min, max, ◌&&◌, nat_lt, Bool, true, false, cond, Option, Some, None, Result, Ok, Err}
+use Rattle.std.proofs.Common.{List, [], ◌∷◌, length, take, drop, sym, ◌∙◌, ap, subst, inl, inr, refl, arith}
 use Rattle.std.proofs.lemmas.Bool.{leb-true, leb-false, and_parts}
 use Rattle.rand_core.specs.Stream.{Stream, next_u64}
 use Rattle.fault_storage_parts.specs.Draws.{sample, kept_bytes, length_between}
@@ -31,7 +32,8 @@ use Rattle.auth_store_device.specs.Devices.{told_of, mode_below, refusal_of}
 use Rattle.auth_store_device.specs.Logs.{behind_header, IsOpenLog}
 use Rattle.auth_store_device.proofs.Outcomes.{made-headed}
 use Rattle.auth_store_device.proofs.Reached.{between_is}
-use Rattle.auth_store_device.proofs.Carried.{plain_carried, empty_carried, synced_carried, torn_carried, resized_carried, part_carried, nowhere_carried, carried_published}
+use Rattle.auth_store_device.proofs.Carried.{plain_carried, empty_carried, synced_carried, torn_carried, resized_carried, part_carried}
+use Rattle.auth_store_device.proofs.Carried.{nowhere_carried, carried_published}
 
 module _ {R : Type 0} (stream : R → Stream) where
   -- a change that was made
@@ -72,7 +74,8 @@ from_eight store file file_now handle change step o =
 
 made_at : (config : WriteConfig) (mode : WriteMode) (offset : ℕ) (bytes : List ℕ) (store : Store) (calls : List Call) (number : ℕ) (live : List ℕ)
     → IsOpenLog store (file_of calls) (at_eight number live)
-    → IsOpenLog (made_write config (mode_below bytes mode) offset bytes (at_eight number live) store).1 (file_of (wrote offset bytes (is_sync mode) true ∷ calls))
+    → IsOpenLog (made_write config (mode_below bytes mode) offset bytes (at_eight number live) store).1 (file_of (wrote offset bytes
+    (is_sync mode) true ∷ calls))
     (made_write config (mode_below bytes mode) offset bytes (at_eight number live) store).0
 made_at config modes.Plain offset bytes store calls number live o =
     plain_carried store (file_of calls) (at_eight number live) offset bytes (mode_of config.mode) (rate_of config.retention) o
@@ -130,7 +133,8 @@ module _ {R : Type 0} (stream : R → Stream) where
       (made_write old.config.write (mode_below bytes mode) offset bytes)
       (made_at old.config.write mode offset bytes old.inner calls) o))
 
-  pub write_failed : (blob changed : Blob Handle) (offset : ℕ) (bytes : List ℕ) (mode : WriteMode) (old new : Storage Store R) (answer : Result Unit StorageError)
+  pub write_failed : (blob changed : Blob Handle) (offset : ℕ) (bytes : List ℕ) (mode : WriteMode) (old new : Storage Store R)
+      (answer : Result Unit StorageError)
       (calls now : List Call) → FaultyWrites stream blob offset bytes (mode_below bytes mode) old answer changed new → told_of answer ≡ Failed
       → now ≡ wrote offset bytes (is_sync mode) false ∷ calls → IsOpenLog old.inner (file_of calls) blob.inner
       → IsOpenLog new.inner (file_of now) changed.inner
@@ -220,7 +224,8 @@ module _ {R : Type 0} (stream : R → Stream) where
   sync_made rate handle old new answer calls now (inr (inr (inl (room, drawn, is, same, words)))) told recorded o = let e = sym told ∙ ap told_of is in cc
   sync_made rate handle old new (Ok _) calls now (inr (inr (inr (room, drawn, made, (there, is), kept, words)))) told recorded o =
       subst (λ c. IsOpenLog new.inner (file_of c) handle) (sym recorded)
-      (subst (λ s. IsOpenLog s (file_of (synced (behind_header handle.live) true ∷ calls)) handle) (sym is) (carried_published old.inner (file_of calls) handle o))
+      (subst (λ s. IsOpenLog s (file_of (synced (behind_header handle.live) true ∷ calls)) handle) (sym is) (carried_published old.inner
+      (file_of calls) handle o))
   sync_made rate handle old new (Err e) calls now (inr (inr (inr (room, drawn, made, (same, inl (is, none)), kept, words)))) told recorded o =
       let unmade = sym told ∙ ap (λ x. told_of {T = Unit} (Err x)) is in cc
   sync_made rate handle old new (Err e) calls now (inr (inr (inr (room, drawn, made, (same, inr (is, some)), kept, words)))) told recorded o =

@@ -38,7 +38,8 @@ from-push file [] call = refl
 from-push file (first ∷ before) call = from-push (file_after first file) before call
 
 -- the openings of a record, by its first calls and then the others
-openings-push : (before : List Recorded) (call : Recorded) → openings_of (calls_of (before ++ call ∷ [])) ≡ openings_of (calls_of before) ++ opening_in before call
+openings-push : (before : List Recorded) (call : Recorded) → openings_of (calls_of (before ++ call ∷ [])) ≡ openings_of
+    (calls_of before) ++ opening_in before call
 openings-push before call = ap openings_of (calls-push before call) ∙ one call
   where
     one : (c : Recorded) → openings_of (call_of c ∷ calls_of before) ≡ openings_of (calls_of before) ++ opening_in before c

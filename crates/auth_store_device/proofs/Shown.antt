@@ -36,7 +36,8 @@ use Rattle.auth_store_device.specs.Logs.{IsFirst}
 use Rattle.auth_store_device.proofs.Places.{changed-first, file-changed}
 use Rattle.auth_store_device.proofs.Steps.{nothing_behind}
 use Rattle.paged_blob.specs.Images.{IsLive}
-use Rattle.auth_store_device.specs.Logs.{is_log, log_partition, log_name, has_log, log_of, durable_log, behind_header, HasHeader, IsOrderly, BeginsAsMade, Stands, IsOpenLog}
+use Rattle.auth_store_device.specs.Logs.{is_log, log_partition, log_name, has_log, log_of, durable_log, behind_header, HasHeader, IsOrderly}
+use Rattle.auth_store_device.specs.Logs.{BeginsAsMade, Stands, IsOpenLog}
 use Rattle.auth_store_device.proofs.Headers.{fault_of, front_magic, fine_made}
 use Rattle.auth_store_device.proofs.Carried.{published_open, stands_settled}
 use Rattle.auth_store_device.proofs.Opened.{filter-none, file-added, has-added, numbered-added, first-added, first-found}
@@ -57,7 +58,8 @@ torn_fourth bytes t =
     ⊎_elim
     (λ lt. inl (ap (λ l. get_or l 3 0) t.is ∙ get_or_append_left (take t.count region) zeros 0 3 (omega (arith, kept, lt))
     ∙ get_or-take t.count region 3 0 lt ∙ region-at t.version 3 (omega arith)))
-    (λ le. inr (ap (λ l. get_or l 3 0) t.is ∙ get_or-append_right (take t.count region) zeros t.count 3 0 kept le ∙ zeros-at (length bytes - t.count) (3 - t.count)))
+    (λ le. inr (ap (λ l. get_or l 3 0) t.is ∙ get_or-append_right (take t.count region) zeros t.count 3 0 kept le
+    ∙ zeros-at (length bytes - t.count) (3 - t.count)))
     (cases_lt 3 t.count)
 
 -- a file with a header was not left half made
@@ -188,7 +190,8 @@ module _ {R : Type 0} (stream : R → Stream) (rate : Probability) (old mid : St
         is ∙ ap (λ (h : Handle). published h.number bytes mid.inner) r.0 ∙ ap (λ b. published number b mid.inner) copied
         ∙ ap (published number (durable_log store)) r.1 in (
           subst (λ s. IsOpenLog s (shown_file (behind_header (durable_log store))) opened.blob.inner) (sym now)
-              (subst (IsOpenLog (published number (durable_log store) store) (shown_file (behind_header (durable_log store)))) (sym r.0) (found_open store o has r.2)),
+              (subst (IsOpenLog (published number (durable_log store) store) (shown_file (behind_header (durable_log store)))) (sym r.0)
+              (found_open store o has r.2)),
           ap (λ (s : Store). (log_of s).log) now
               ∙ ap (λ (f : files.File). f.log) (published_log number (durable_log store) store (first-found store.next store.files o.numbered has) has),
         )

@@ -20,8 +20,10 @@ use Rattle.paged_blob.specs.declared.error.Error as refusals
 use Rattle.paged_blob.specs.declared.error.Error.TheVariants.{NumberEnded}
 use Rattle.paged_blob.specs.Images.{IsImage, IsReached}
 use Rattle.paged_blob.proofs.Live.{reached_image}
-use Rattle.auth_store_device.specs.Logs.{IsOrderly, IsHandleOf, are_numbered, log_partition, log_name, has_log, log_of, durable_log, behind_header, Stands, IsOpenLog, HasOwnHeader}
-use Rattle.auth_store_device.specs.Devices.{DeviceState, IsDevice, IsStopped, HasEnded, shown_file, log_fault, log_versions, opening_answer, opening_refusal, TellsOpening, IsOpeningCall}
+use Rattle.auth_store_device.specs.Logs.{IsOrderly, IsHandleOf, are_numbered, log_partition, log_name, has_log, log_of, durable_log, behind_header}
+use Rattle.auth_store_device.specs.Logs.{Stands, IsOpenLog, HasOwnHeader}
+use Rattle.auth_store_device.specs.Devices.{DeviceState, IsDevice, IsStopped, HasEnded, shown_file, log_fault, log_versions, opening_answer}
+use Rattle.auth_store_device.specs.Devices.{opening_refusal, TellsOpening, IsOpeningCall}
 use Rattle.auth_store_device.specs.declared.error.OpenError.{OpenError}
 use Rattle.fault_storage_parts.specs.declared.error.HeaderError.{HeaderError}
 use Rattle.fault_storage.specs.declared.storage.Opened.{Opened}

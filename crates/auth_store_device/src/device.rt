@@ -1,6 +1,7 @@
 //! The device.
 
-ghost use Rattle.std.specs.Prelude.{◌≡◌, ◌⊎◌, ◌+◌, ◌-◌, ◌<◌, ◌^◌, ◌∷◌, [], ℕ, List, length, drop, true, is_some, is_none};
+ghost use Rattle.std.specs.Prelude.{◌≡◌, ◌⊎◌, ◌+◌, ◌-◌, ◌<◌, ◌^◌, ◌∷◌, [], ℕ, List, length, drop};
+ghost use Rattle.std.specs.Prelude.{true, is_some, is_none};
 ghost use Rattle.std.specs.Prelude.{Err, None, Some, IfOk, IfErr, OnOk, OnErr};
 ghost use Rattle.rand_core.specs.Stream.{Stream};
 ghost use Rattle.fault_storage.specs.Stores.{crashed_store};
@@ -204,8 +205,8 @@ impl<R: Rng + Drop> Device<R> {
 
     /// The law that each outcome of a crash of the log is an image of the calls (own).
     pub fn crash_leaves_an_image(&self)
-        ensures { (left : List ℕ) → IsLeftOf (log_of self.now.storage.inner).base (log_of self.now.storage.inner).log left []
-            → IsImage (file_of self.now.calls) (behind_header left) }
+        ensures { let log = log_of self.now.storage.inner in
+            (left : List ℕ) → IsLeftOf log.base log.log left [] → IsImage (file_of self.now.calls) (behind_header left) }
     {
         let _ = &self.record_kept;
     }
@@ -270,10 +271,11 @@ fn left_after_opening<T>(answer: &Result<T, OpenError>, left: Option<u64>) -> Op
 }
 
 impl<R: Rng + Drop> Device<R> {
-    ghost use Rattle.auth_store_device.specs.Devices.{HasEnded, IsStopped, IsOpeningCall, injected_after, refused_after};
+    ghost use Rattle.auth_store_device.specs.Devices.{HasEnded, IsStopped, IsOpeningCall};
+    ghost use Rattle.auth_store_device.specs.Devices.{injected_after, refused_after};
 
-    /// Opens the log, or makes it where there is none, admits what it shows, and answers how many bytes that is. It asks
-    /// for a closed device. F8: a count has ended; F10; F9; F6; F5: its header is refused.
+    /// Opens the log, or makes it where there is none, admits what it shows, and answers how many bytes that is. It
+    /// asks for a closed device. F8: a count has ended; F10; F9; F6; F5: its header is refused.
     pub fn open(&mut self) -> Result<u64, OpenError>
         requires { self.old.log ≡ None }
         ensures shows { OnOk result (self.new.calls

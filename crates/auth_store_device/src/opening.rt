@@ -43,8 +43,8 @@ fn copy_durable(storage: &memory::Storage) -> Result<Option<Vec<u8>>, AllocError
     }
 }
 
-/// A log, as it is durable: its bytes with the header first, or None where there is none, and a copy of those behind the
-/// header.
+/// A log, as it is durable: its bytes with the header first, or None where there is none, and a copy of those behind
+/// the header.
 #[derive(Drop)]
 pub(crate) struct Durable {
     /// All bytes.

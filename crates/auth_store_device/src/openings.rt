@@ -112,10 +112,10 @@ impl<'a> Opening<'a> {
         }
     }
 
-    /// Whether the opening is by chance, where pages have so many bytes, with checksums CRC-32: a slot of the bytes that
-    /// it showed verifies, and neither the base nor the base with the first of the mutations, each whole, has in the
-    /// same place that slot and the bytes that it vouches for. It fails only when out of memory. That a page may have so
-    /// many bytes is on the caller.
+    /// Whether the opening is by chance, where pages have so many bytes, with checksums CRC-32: a slot of the bytes
+    /// that it showed verifies, and neither the base nor the base with the first of the mutations, each whole, has in
+    /// the same place that slot and the bytes that it vouches for. It fails only when out of memory. That a page may
+    /// have so many bytes is on the caller.
     pub fn by_chance(&self, alloc: Global, physical_page_size: u32) -> Result<bool, AllocError>
         requires { IsPageSize physical_page_size }
         ensures { IfOk result (λ is. is

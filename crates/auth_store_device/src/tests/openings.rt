@@ -40,8 +40,8 @@ fn by_chance(alloc: Global, device: &Device<Pcg32>) -> Result<Vec<bool>, Fail> {
     Ok(all)
 }
 
-// A device with two openings: between them two bytes were synced, a write failed, all of which was kept, and the log was
-// resized, of which the crash kept nothing.
+// A device with two openings: between them two bytes were synced, a write failed, all of which was kept, and the log
+// was resized, of which the crash kept nothing.
 fn opened_again(alloc: Global) -> Result<Device<Pcg32>, Fail> {
     let mut device = opened(alloc)?;
     device.write_at(0, &[7, 8], WriteMode::Plain)?;
@@ -111,8 +111,8 @@ fn what_was_written_is_not_by_chance(rt: HostRuntime) -> Result<(), Fail> {
     Ok(())
 }
 
-// The crash keeps the byte 9 and the slot that vouches for it, and not the byte 8 that was written between them: no file
-// ever had that slot over a 9.
+// The crash keeps the byte 9 and the slot that vouches for it, and not the byte 8 that was written between them: no
+// file ever had that slot over a 9.
 #[test]
 fn what_nobody_wrote_is_by_chance(rt: HostRuntime) -> Result<(), Fail> {
     let alloc = rt.alloc();

@@ -24,7 +24,8 @@ returns g c =
     let some : 0 < slot_len size c.args.slot page = omega arith in
     let within : slot_len size c.args.slot page ≤ size - 12 = omega arith in
     let vouched = vouches-some g.C.Checksum.checksum_of size page (slot_len size c.args.slot page) (slot_crc size c.args.slot page) some within in
-    let said : c.slot_crc.result == c.checksum.result ≡ slot_crc size c.args.slot page == g.C.Checksum.checksum_of (take (slot_len size c.args.slot page) page) =
+    let said : c.slot_crc.result == c.checksum.result ≡ slot_crc size c.args.slot page == g.C.Checksum.checksum_of (take
+    (slot_len size c.args.slot page) page) =
     ap (λ n. n == c.checksum.result) c.slot_crc.ensures
     ∙ ap (λ n. slot_crc size c.args.slot page == n)
     (c.checksum.ensures ∙ ap (λ n. g.C.Checksum.checksum_of (take n page)) c.slot_len-len.ensures) in

@@ -26,17 +26,20 @@ returns-in-Some-clause-admitted g c =
 pub returns-in-None-clause-shows : goal.returns-in-None-clause-shows
 returns-in-None-clause-shows g c =
     let none : has_log c.args.storage.now.inner ≡ false = search rules in
-    (made_shows g.R.Rng.stream c.args.storage.now.config.open c.args.storage.now c.open_versioned.new.self c.in-Ok.opened (search rules) c.requires.orderly none).0
+    (made_shows g.R.Rng.stream c.args.storage.now.config.open c.args.storage.now c.open_versioned.new.self c.in-Ok.opened
+    (search rules) c.requires.orderly none).0
 
 pub returns-in-None-clause-admitted : goal.returns-in-None-clause-admitted
 returns-in-None-clause-admitted g c =
     let none : has_log c.args.storage.now.inner ≡ false = search rules in
-    (made_shows g.R.Rng.stream c.args.storage.now.config.open c.args.storage.now c.open_versioned.new.self c.in-Ok.opened (search rules) c.requires.orderly none).1
+    (made_shows g.R.Rng.stream c.args.storage.now.config.open c.args.storage.now c.open_versioned.new.self c.in-Ok.opened
+    (search rules) c.requires.orderly none).1
 
 pub returns-in-Some-clause-fine : goal.returns-in-Some-clause-fine
 returns-in-Some-clause-fine g c =
     let has : has_log c.args.storage.now.inner ≡ true = search rules in
-    λ _. found_fine g.R.Rng.stream c.args.storage.now.config.open c.args.storage.now c.open_versioned.new.self c.in-Ok.opened (search rules) c.requires.orderly has
+    λ _. found_fine g.R.Rng.stream c.args.storage.now.config.open c.args.storage.now c.open_versioned.new.self c.in-Ok.opened
+    (search rules) c.requires.orderly has
 
 pub returns-in-Err-clause-header : goal.returns-in-Err-clause-header
 returns-in-Err-clause-header g c = λ fault is.

@@ -15,7 +15,8 @@ returns-in-Err-clause-ended g c = λ has.
 pub invariant_of-self-2 : goal.invariant_of-self-2
 invariant_of-self-2 g c =
     let at = c.self.inside in
-    let recorded : calls_of c.note.new.record_kept.items ≡ opened (behind_header (durable_log at.storage.inner)) ∷ calls_of at.record_kept.items = search rules in
+    let recorded : calls_of c.note.new.record_kept.items ≡ opened (behind_header
+    (durable_log at.storage.inner)) ∷ calls_of at.record_kept.items = search rules in
     let cut : 0 < at.refused → c.left_after_opening-self-inside.result ≡ Some 0 = search rules in
     opened_device c.open_log-answer.new.storage c.in_ok-log.log (calls_of c.note.new.record_kept.items) (calls_of at.record_kept.items)
     (behind_header (durable_log at.storage.inner)) c.left_after_opening-self-inside.result at.refused (search rules) recorded cut
