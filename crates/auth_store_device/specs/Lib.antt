@@ -4,3 +4,4 @@ pub mod Devices
 pub mod Openings
 pub mod OpeningsCode
 pub mod Settings
+pub mod Laws

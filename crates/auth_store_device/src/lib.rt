@@ -5,6 +5,7 @@
 pub(crate) mod chance;
 pub mod device;
 pub mod error;
+pub mod laws;
 pub(crate) mod log;
 pub(crate) mod opening;
 pub mod openings;
