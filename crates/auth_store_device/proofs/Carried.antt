@@ -1,5 +1,5 @@
 -- How the open log is carried on by a change of it.
-use Rattle.std.proofs.Common.{◌≡◌, ℕ, ◌+◌, ◌-◌, ◌≤◌, Bool, true, false, ◌||◌, IsFalse, List, [], ◌∷◌, ◌++◌, length, drop, replicate, cond}
+use Rattle.std.proofs.Common.{◌≡◌, ℕ, ◌+◌, ◌-◌, ◌≤◌, Bool, true, false, ◌||◌, IsFalse, List, [], ◌∷◌, ◌++◌, length, take, drop, replicate, cond}
 use Rattle.std.proofs.Common.{sym, ◌∙◌, ap, subst, inl, inr, ⊎_elim, arith}
 use Rattle.std.proofs.lemmas.Bool.{true≢false, cond-true}
 use Rattle.std.proofs.lemmas.List.{length-drop}
@@ -13,9 +13,9 @@ use Rattle.paged_blob.specs.Calls as calls
 use Rattle.paged_blob.specs.Images.{IsReached, IsLive}
 use Rattle.paged_blob.specs.Laws.Durable.{same_front}
 use Rattle.paged_blob.proofs.Bytes.{length-with_bytes, with_bytes_before}
-use Rattle.auth_store_device.specs.Logs.{is_log, has_log, log_of, behind_header, HasHeader, IsOrderly, Stands, IsFirst, IsOpenLog}
+use Rattle.auth_store_device.specs.Logs.{is_log, has_log, log_of, behind_header, HasHeader, BeginsAsMade, IsOrderly, Stands, IsFirst, IsOpenLog}
 use Rattle.auth_store_device.proofs.Bytes.{with_bytes-same, with_bytes-behind, resized-behind, all_kept}
-use Rattle.auth_store_device.proofs.Outcomes.{left-issued, past-snoc, same-header}
+use Rattle.auth_store_device.proofs.Outcomes.{left-issued, past-snoc, made-headed}
 use Rattle.auth_store_device.proofs.Places.{changed-first, any-first, file-changed, has-changed, numbered-changed, first-changed}
 use Rattle.auth_store_device.proofs.Reached.{reached_whole, reached_same, reached_empty, reached_torn, reached_between, IsBetween, live_base, reached_base}
 
@@ -50,8 +50,8 @@ stands_issued file file_now log mutation s step = record {
 -- the log changed among the files, found by the number of a handle
 pub changed_open : (store : Store) (file_now : File) (handle : Handle) (live : List ℕ) (change : files.File → files.File) (order : List ℕ)
     → IsOrderly store → has_log store ≡ true → IsFirst (has_number handle.number) is_log store.files → handle.offset ≡ 8
-    → HasHeader (change (log_of store)).base → ArePast 8 (change (log_of store)).log → Stands file_now (change (log_of store))
-    → HasHeader live → IsLive file_now (behind_header live)
+    → BeginsAsMade (change (log_of store)).base → ArePast 8 (change (log_of store)).log → Stands file_now (change (log_of store))
+    → BeginsAsMade live → IsLive file_now (behind_header live)
     → IsOpenLog (record store { files = changed (has_number handle.number) change store.files; order = order }) file_now (showing live handle)
 changed_open store file_now handle live change order orderly there first offset headed past stands live_headed shows =
     let found = changed-first (has_number handle.number) is_log change store.files first in
@@ -61,7 +61,7 @@ changed_open store file_now handle live change order orderly there first offset 
       orderly = record {
         numbered = numbered-changed change store.files store.next ∙ orderly.numbered;
         listed = λ _. orderly.listed there;
-        headed = λ _. subst (λ (l : files.File). HasHeader l.base) is headed;
+        headed = λ _. subst (λ (l : files.File). HasHeader l.base) is (made-headed (change (log_of store)).base headed);
         past = subst (λ (l : files.File). ArePast 8 l.log) is past;
       };
       stands = subst (Stands file_now) is stands;
@@ -69,6 +69,7 @@ changed_open store file_now handle live change order orderly there first offset 
         there = has-changed change store.files ∙ there;
         first = first-changed change handle.number store.files first;
         offset = offset;
+        own = λ _. subst (λ (l : files.File). BeginsAsMade l.base) is headed;
         headed = live_headed;
         live = shows;
       };
@@ -76,8 +77,8 @@ changed_open store file_now handle live change order orderly there first offset 
 
 -- the open log changed
 pub carried : (store : Store) (file file_now : File) (handle : Handle) (live : List ℕ) (change : files.File → files.File) (order : List ℕ)
-    → IsOpenLog store file handle → HasHeader (change (log_of store)).base → ArePast 8 (change (log_of store)).log → Stands file_now (change (log_of store))
-    → HasHeader live → IsLive file_now (behind_header live)
+    → IsOpenLog store file handle → BeginsAsMade (change (log_of store)).base → ArePast 8 (change (log_of store)).log
+    → Stands file_now (change (log_of store)) → BeginsAsMade live → IsLive file_now (behind_header live)
     → IsOpenLog (record store { files = changed (has_number handle.number) change store.files; order = order }) file_now (showing live handle)
 carried store file file_now handle live change order o headed past stands live_headed shows =
     changed_open store file_now handle live change order o.orderly o.opened.there o.opened.first o.opened.offset headed past stands live_headed shows
@@ -91,7 +92,7 @@ stands_settled bytes = record {
 
 -- bytes are published that are those of the handle
 pub published_open : (store : Store) (handle : Handle) → IsOrderly store → has_log store ≡ true
-    → IsFirst (has_number handle.number) is_log store.files → handle.offset ≡ 8 → HasHeader handle.live
+    → IsFirst (has_number handle.number) is_log store.files → handle.offset ≡ 8 → BeginsAsMade handle.live
     → IsOpenLog (published handle.number handle.live store) (record { base = behind_header handle.live; changes = []; failed = false }) handle
 published_open store handle orderly there first offset headed =
     changed_open store (record { base = behind_header handle.live; changes = []; failed = false }) handle handle.live (λ _. settled_at handle.live)
@@ -101,12 +102,12 @@ published_open store handle orderly there first offset headed =
 pub carried_issued : (store : Store) (file file_now : File) (handle : Handle) (live : List ℕ) (mutation : Mutation)
     → IsOpenLog store file handle → IsPast 8 mutation
     → ((choice : List Bool) (left : List ℕ) → IsReached file (behind_header left) → IsReached file_now (behind_header (applied choice mutation left)))
-    → HasHeader live → IsLive file_now (behind_header live)
+    → BeginsAsMade live → IsLive file_now (behind_header live)
     → IsOpenLog (issued handle.number mutation store) file_now (showing live handle)
 carried_issued store file file_now handle live mutation o past step live_headed shows =
     let there : is_there handle.number store ≡ true = any-first (has_number handle.number) is_log store.files o.opened.first ∙ o.opened.there in
     subst (λ s. IsOpenLog s file_now (showing live handle)) (sym (cond-true _ _ _ there))
-    (carried store file file_now handle live (with_issued mutation) (store.order ++ handle.number ∷ []) o (o.orderly.headed o.opened.there)
+    (carried store file file_now handle live (with_issued mutation) (store.order ++ handle.number ∷ []) o (o.opened.own o.opened.there)
     (past-snoc 8 (log_of store).log mutation o.orderly.past past) (stands_issued file file_now (log_of store) mutation o.stands step) live_headed shows)
 
 -- the live bytes are published
@@ -115,18 +116,19 @@ pub carried_published : (store : Store) (file : File) (handle : Handle) → IsOp
 carried_published store file handle o = published_open store handle o.orderly o.opened.there o.opened.first o.opened.offset o.opened.headed
 
 -- bytes that are laid behind the header leave it
-pub laid_headed : (offset : ℕ) (bytes live : List ℕ) → HasHeader live → HasHeader (files.with_bytes (8 + offset) bytes live)
+pub laid_headed : (offset : ℕ) (bytes live : List ℕ) → BeginsAsMade live → BeginsAsMade (files.with_bytes (8 + offset) bytes live)
 laid_headed offset bytes live headed =
     let same = with_bytes-same (8 + offset) bytes live in
     let long = length-with_bytes (8 + offset) bytes live in
-    subst HasHeader (sym same)
-    (same-header live (with_bytes (8 + offset) bytes live)
-    (same_front 8 (with_bytes (8 + offset) bytes live) live (omega (arith, long)) headed.long
-    (λ i below. with_bytes_before (8 + offset) bytes live i (omega (arith, below)))) headed)
+    ap (take 8) same
+    ∙ same_front 8 (with_bytes (8 + offset) bytes live) live (omega (arith, long)) (made-headed live headed).long
+    (λ i below. with_bytes_before (8 + offset) bytes live i (omega (arith, below)))
+    ∙ headed
 
 -- so does a mutation that is past it
-pub applied_headed : (choice : List Bool) (mutation : Mutation) (live : List ℕ) → IsPast 8 mutation → HasHeader live → HasHeader (applied choice mutation live)
-applied_headed choice mutation live past headed = same-header live (applied choice mutation live) (applied-keeps 8 choice mutation live past headed.long).1 headed
+pub applied_headed : (choice : List Bool) (mutation : Mutation) (live : List ℕ) → IsPast 8 mutation → BeginsAsMade live
+    → BeginsAsMade (applied choice mutation live)
+applied_headed choice mutation live past headed = (applied-keeps 8 choice mutation live past (made-headed live headed).long).1 ∙ headed
 
 -- a plain write
 pub plain_carried : (store : Store) (file : File) (handle : Handle) (offset : ℕ) (bytes : List ℕ) (mode : Mode) (rate : Rate)
@@ -207,7 +209,7 @@ pub part_carried : (store : Store) (file : File) (handle : Handle) (size reached
     (showing (files.resized reached handle.live) handle)
 part_carried store file handle size reached rate between o =
     let now = after_change (resize size) false file in
-    let long = o.opened.headed.long in
+    let long = (made-headed handle.live o.opened.headed).long in
     let some : 8 ≤ reached = ⊎_elim (λ shrunk. omega (arith, shrunk.0)) (λ grown. omega (arith, grown.0, long)) between in
     let all : reached ≡ 8 + (reached - 8) = omega (arith, some) in
     let within : IsBetween (length (behind_header handle.live)) size (reached - 8) =
@@ -234,6 +236,7 @@ nowhere_carried store file handle size o = record {
     there = o.opened.there;
     first = o.opened.first;
     offset = o.opened.offset;
+    own = o.opened.own;
     headed = o.opened.headed;
     live = live_failed file (behind_header handle.live) (resize size) (reached_same file (behind_header handle.live) size false o.opened.live.reached);
   };

@@ -1,6 +1,7 @@
 -- The open log is carried on by each call that the store took.
-use Rattle.std.proofs.Common.{◌≡◌, ℕ, ◌+◌, min, max, ◌&&◌, nat_lt, Bool, true, false, cond, Option, Some, None, Result, Ok, Err, List, [], ◌∷◌, length, take, drop, sym, ◌∙◌, ap, subst, inl, inr, refl, arith}
-use Rattle.std.proofs.lemmas.Bool.{leb-true, and_parts}
+use Rattle.std.proofs.Common.{◌≡◌, ℕ, ◌+◌, ◌-◌, ◌^◌, ◌<◌, ◌≤◌, min, max, ◌&&◌, nat_lt, Bool, true, false, cond, Option, Some, None, Result, Ok, Err}
+use Rattle.std.proofs.Common.{List, [], ◌∷◌, length, take, drop, sym, ◌∙◌, ap, subst, inl, inr, refl, arith}
+use Rattle.std.proofs.lemmas.Bool.{leb-true, leb-false, and_parts}
 use Rattle.rand_core.specs.Stream.{Stream, next_u64}
 use Rattle.fault_storage_parts.specs.Draws.{sample, kept_bytes, length_between}
 use Rattle.fault_storage_parts.specs.DrawsCode.{rate_of, mode_of}
@@ -9,6 +10,7 @@ use Rattle.fault_storage_parts.specs.declared.config.ResizeConfig.{ResizeConfig}
 use Rattle.fault_storage_parts.specs.declared.error.Call.{Call as CallBelow}
 use Rattle.fault_storage_parts.specs.declared.error.Call.TheVariants.{Read, Write, Sync, Resize}
 use Rattle.fault_storage_parts.specs.declared.error.Error.{Error as StorageError}
+use Rattle.fault_storage_parts.specs.declared.error.Error.TheVariants.{Injected, Memory}
 use Rattle.fault_storage_parts.specs.declared.probability.Probability.{Probability}
 use Rattle.fault_storage.specs.declared.faulty.Blob.{Blob}
 use Rattle.fault_storage.specs.declared.faulty.Storage.{Storage}
@@ -17,7 +19,8 @@ use Rattle.fault_storage.specs.Directory.{MemoryReads, MemorySyncs}
 use Rattle.fault_storage.specs.Faults.{IsFaultyCall}
 use Rattle.std.specs.declared.alloc.Global.{Global}
 use Rattle.std.specs.declared.vec.Vec.{Vec}
-use Rattle.paged_blob.specs.Answers.{IsSlice}
+use Rattle.paged_blob.specs.Answers.{Failures, IsReadCause, IsSlice}
+use Rattle.paged_blob.specs.declared.error.CallKind.TheVariants as kinds
 use Rattle.std.proofs.lemmas.List.{length-drop, drop-drop}
 use Rattle.fault_storage.specs.Stores.{Store, Handle, resizing, fixed_write}
 use Rattle.paged_blob.specs.declared.blob.WriteMode.{WriteMode}
@@ -25,10 +28,12 @@ use Rattle.paged_blob.specs.declared.blob.WriteMode.TheVariants as modes
 use Rattle.paged_blob.specs.WriteModes.{is_sync}
 use Rattle.paged_blob.specs.Calls.{Call, wrote, synced, resized_to as resized_call, File, file_of}
 use Rattle.auth_store_device.specs.declared.log.Told.TheVariants.{Made, Failed}
-use Rattle.auth_store_device.specs.Devices.{told_of, mode_below}
+use Rattle.auth_store_device.specs.Devices.{told_of, mode_below, refusal_of}
 use Rattle.auth_store_device.specs.Logs.{behind_header, IsOpenLog}
+use Rattle.auth_store_device.proofs.Outcomes.{made-headed}
 use Rattle.auth_store_device.proofs.Reached.{between_is}
-use Rattle.auth_store_device.proofs.Carried.{plain_carried, empty_carried, synced_carried, torn_carried, resized_carried, part_carried, nowhere_carried, carried_published}
+use Rattle.auth_store_device.proofs.Carried.{plain_carried, empty_carried, synced_carried, torn_carried, resized_carried, part_carried}
+use Rattle.auth_store_device.proofs.Carried.{nowhere_carried, carried_published}
 
 module _ {R : Type 0} (stream : R → Stream) where
   -- a change that was made
@@ -69,7 +74,8 @@ from_eight store file file_now handle change step o =
 
 made_at : (config : WriteConfig) (mode : WriteMode) (offset : ℕ) (bytes : List ℕ) (store : Store) (calls : List Call) (number : ℕ) (live : List ℕ)
     → IsOpenLog store (file_of calls) (at_eight number live)
-    → IsOpenLog (made_write config (mode_below bytes mode) offset bytes (at_eight number live) store).1 (file_of (wrote offset bytes (is_sync mode) true ∷ calls))
+    → IsOpenLog (made_write config (mode_below bytes mode) offset bytes (at_eight number live) store).1 (file_of (wrote offset bytes
+    (is_sync mode) true ∷ calls))
     (made_write config (mode_below bytes mode) offset bytes (at_eight number live) store).0
 made_at config modes.Plain offset bytes store calls number live o =
     plain_carried store (file_of calls) (at_eight number live) offset bytes (mode_of config.mode) (rate_of config.retention) o
@@ -127,7 +133,8 @@ module _ {R : Type 0} (stream : R → Stream) where
       (made_write old.config.write (mode_below bytes mode) offset bytes)
       (made_at old.config.write mode offset bytes old.inner calls) o))
 
-  pub write_failed : (blob changed : Blob Handle) (offset : ℕ) (bytes : List ℕ) (mode : WriteMode) (old new : Storage Store R) (answer : Result Unit StorageError)
+  pub write_failed : (blob changed : Blob Handle) (offset : ℕ) (bytes : List ℕ) (mode : WriteMode) (old new : Storage Store R)
+      (answer : Result Unit StorageError)
       (calls now : List Call) → FaultyWrites stream blob offset bytes (mode_below bytes mode) old answer changed new → told_of answer ≡ Failed
       → now ≡ wrote offset bytes (is_sync mode) false ∷ calls → IsOpenLog old.inner (file_of calls) blob.inner
       → IsOpenLog new.inner (file_of now) changed.inner
@@ -186,6 +193,27 @@ module _ {R : Type 0} (stream : R → Stream) where
             ∙ ap (take count) (ap (λ n. drop n handle.live) (omega arith) ∙ sym (drop-drop offset 8 handle.live));
       }
 
+  -- and why one is refused
+  pub read_cause : (rate : Probability) (handle : Handle) (offset count : ℕ) (old new : Storage Store R) (e : StorageError) (file : File) (failures : Failures)
+      → old.injections < 2 ^ 64 - 1 → IsFaultyCall {T = Vec ℕ Global} stream Read rate (MemoryReads handle offset count) old (Err e) new
+      → IsOpenLog old.inner file handle → IsReadCause failures file offset count (refusal_of kinds.Read e)
+  read_cause rate handle offset count old new e file failures some (inl (full, is, same)) o = absurd (omega (arith, some, full))
+  read_cause rate handle offset count old new e file failures some (inr (inl (room, inl is, (below, inl (short, has)), same))) o = cc
+  read_cause rate handle offset count old new e file failures some (inr (inl (room, inl is, (below, inr (want, has)), same))) o = cc
+  read_cause rate handle offset count old new e file failures some (inr (inl (room, inr is, answers, same))) o =
+      let want : Memory ≡ e = cc in subst (λ x. IsReadCause failures file offset count (refusal_of kinds.Read x)) want tt
+  read_cause rate handle offset count old new e file failures some (inr (inr (inl (room, drawn, is, same, words)))) o =
+      let injected : Injected Read ≡ e = cc in subst (λ x. IsReadCause failures file offset count (refusal_of kinds.Read x)) injected refl
+  read_cause rate handle offset count old new e file failures some (inr (inr (inr (room, drawn, made, (below, inr (want, has)), same, words)))) o =
+      subst (λ x. IsReadCause failures file offset count (refusal_of kinds.Read x)) (sym want) tt
+  read_cause rate handle offset count old new e file failures some (inr (inr (inr (room, drawn, made, (below, inl (short, has)), same, words)))) o =
+      let live = handle.live in
+      let long : 8 ≤ length live = (made-headed live o.opened.headed).long in
+      let ends : length live < handle.offset + offset + count = leb-false (handle.offset + offset + count) (length live) has in
+      let eight : handle.offset ≡ 8 = o.opened.offset in
+      subst (λ x. IsReadCause failures file offset count (refusal_of kinds.Read x)) (sym short)
+      (record { live = behind_header live; found = o.opened.live; short = omega (arith, long, ends, eight, length-drop 8 live) })
+
   -- what a sync made durable is what was live
   pub sync_made : (rate : Probability) (handle : Handle) (old new : Storage Store R) (answer : Result Unit StorageError) (calls now : List Call)
       → IsFaultyCall stream Sync rate (MemorySyncs handle) old answer new → told_of answer ≡ Made
@@ -196,7 +224,8 @@ module _ {R : Type 0} (stream : R → Stream) where
   sync_made rate handle old new answer calls now (inr (inr (inl (room, drawn, is, same, words)))) told recorded o = let e = sym told ∙ ap told_of is in cc
   sync_made rate handle old new (Ok _) calls now (inr (inr (inr (room, drawn, made, (there, is), kept, words)))) told recorded o =
       subst (λ c. IsOpenLog new.inner (file_of c) handle) (sym recorded)
-      (subst (λ s. IsOpenLog s (file_of (synced (behind_header handle.live) true ∷ calls)) handle) (sym is) (carried_published old.inner (file_of calls) handle o))
+      (subst (λ s. IsOpenLog s (file_of (synced (behind_header handle.live) true ∷ calls)) handle) (sym is) (carried_published old.inner
+      (file_of calls) handle o))
   sync_made rate handle old new (Err e) calls now (inr (inr (inr (room, drawn, made, (same, inl (is, none)), kept, words)))) told recorded o =
       let unmade = sym told ∙ ap (λ x. told_of {T = Unit} (Err x)) is in cc
   sync_made rate handle old new (Err e) calls now (inr (inr (inr (room, drawn, made, (same, inr (is, some)), kept, words)))) told recorded o =

@@ -1,9 +1,12 @@
 pub mod Bytes
 pub mod Carried
+pub mod Chances
 pub mod Changes
+pub mod Headers
 pub mod Opened
 pub mod Shown
 pub mod Outcomes
 pub mod Places
+pub mod Replays
 pub mod Reached
 pub mod Steps

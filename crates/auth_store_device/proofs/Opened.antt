@@ -2,7 +2,8 @@
 use Rattle.std.proofs.Common.{◌≡◌, ℕ, ◌+◌, ◌<◌, ◌==◌, Bool, true, false, cond, not, ◌&&◌, ◌||◌, nat_lt, List, [], ◌∷◌, filter}
 use Rattle.std.proofs.Common.{sym, ◌∙◌, ap, inl, inr, refl, arith}
 use Rattle.std.specs.List.{list_any}
-use Rattle.std.proofs.lemmas.Bool.{cases_Bool, both_ways, and_parts, and_from, or_parts, or_right, lt-ltb, ltb-true, not_from_false, not-true, eqb-true, eq-eqb, false_from_ne_true}
+use Rattle.std.proofs.lemmas.Bool.{cases_Bool, both_ways, and_parts, and_from, or_parts, or_right, lt-ltb, ltb-true, not_from_false, not-true}
+use Rattle.std.proofs.lemmas.Bool.{eqb-true, eq-eqb, false_from_ne_true}
 use Rattle.fault_storage.specs.declared.stored.StoredFile.{StoredFile}
 use Rattle.fault_storage.specs.Stores.{has_number, file_with, number_with}
 use Rattle.fault_storage.specs.Opens.{is_before}
@@ -18,7 +19,8 @@ filter-none (stored ∷ later) none =
     ∙ ap (λ l. stored ∷ l) (filter-none later both.1)
 
 -- a file that is put in its place is found there
-pub file-added : (added : StoredFile) (all : List StoredFile) → is_log added ≡ true → list_any is_log all ≡ false → file_with is_log (in_order added all) ≡ added.file
+pub file-added : (added : StoredFile) (all : List StoredFile) → is_log added ≡ true → list_any is_log all ≡ false
+    → file_with is_log (in_order added all) ≡ added.file
 file-added added [] is none = ap (λ b. cond b added.file (record { base = []; log = [] })) is
 file-added added (stored ∷ later) is none =
     let both = or_parts (is_log stored) (list_any is_log later) none in
@@ -71,7 +73,8 @@ numbered-added next added (stored ∷ later) is numbered =
     let rest = and_parts _ _ parts.1 in
     let small : stored.number < next = ltb-true _ _ parts.0 in
     let other : has_number stored.number added ≡ false =
-    false_from_ne_true (added.number == stored.number) (λ e. let same : added.number ≡ stored.number = eqb-true _ _ e in absurd (omega (arith, small, is, same))) in
+    false_from_ne_true (added.number == stored.number) (λ e. let same : added.number ≡ stored.number = eqb-true _ _ e in absurd (omega
+    (arith, small, is, same))) in
     elim (cases_Bool (is_before added.name stored.name)) [
       | inl before ↦ simp before (and_from _ _ (lt-ltb added.number (next + 1) (omega (arith, is)))
           (and_from _ _ (not_from_false _ (ap (λ n. list_any (has_number n) (stored ∷ later)) is ∙ below-not next (stored ∷ later) numbered))

@@ -3,7 +3,8 @@ use Rattle.std.proofs.Common.{◌≡◌, ℕ, zero, suc, Bool, List, [], ◌∷�
 use Rattle.std.proofs.lemmas.List.{length-take, length-append, drop-drop, take-take}
 use Rattle.fault_storage_parts.specs.Files.{Mutation, written, fixed, resized_to, ArePast, IsPast, IsLeftOf, applied, left_by, durable_bytes, durable_step}
 use Rattle.fault_storage_parts.proofs.Left.{left-keeps, left-same}
-use Rattle.auth_store_device.specs.Logs.{HasHeader}
+use Rattle.fault_storage_parts.specs.Headers.{created}
+use Rattle.auth_store_device.specs.Logs.{HasHeader, BeginsAsMade}
 
 -- further choices, for what earlier ones left
 left-further : (choices others : List (List Bool)) (base : List ℕ) (log : List Mutation)
@@ -41,6 +42,16 @@ same-header bytes other same headed =
     record {
       long = omega (arith, long, length-take 8 other, length-take 8 bytes, headed.long);
       magic = sym (take-take 4 8 other (omega arith)) ∙ ap (take 4) same ∙ take-take 4 8 bytes (omega arith) ∙ headed.magic;
+    }
+
+-- a log that the device makes has a header
+pub made-headed : (bytes : List ℕ) → BeginsAsMade bytes → HasHeader bytes
+unfolding created
+made-headed bytes made =
+    let long = ap length made in
+    record {
+      long = omega (arith, long, length-take 8 bytes);
+      magic = sym (take-take 4 8 bytes (omega arith)) ∙ ap (take 4) made;
     }
 
 pub left-headed : (base left : List ℕ) (log later : List Mutation) → IsLeftOf base log left later → ArePast 8 log → HasHeader base → HasHeader left

@@ -20,7 +20,8 @@ changed-first test other change (stored ∷ later) first =
     ∙ ⊎_elim
     (λ is. ap (λ b. cond b (record stored { file = change stored.file } ∷ later) (stored ∷ changed test change later)) is
     ∙ sym (ap (λ b. cond b (record stored { file = change stored.file } ∷ later) (stored ∷ changed other change later)) is))
-    (λ is_not. ap (λ l. cond (other stored) (record stored { file = change stored.file } ∷ later) (stored ∷ l)) (changed-first test other change later (first.1 is_not)))
+    (λ is_not. ap (λ l. cond (other stored) (record stored { file = change stored.file } ∷ later) (stored ∷ l)) (changed-first test other change later
+    (first.1 is_not)))
     (cases_Bool (other stored))
 
 pub any-first : (test other : StoredFile → Bool) (all : List StoredFile) → IsFirst test other all → list_any test all ≡ list_any other all
@@ -64,11 +65,13 @@ module _ (change : files.File → files.File) where
         ∙ ap (λ b. nat_lt stored.number next && (not (list_any (has_number stored.number) later) && b)) (numbered-changed later next))
   ]
 
-  pub first-changed : (number : ℕ) (all : List StoredFile) → IsFirst (has_number number) is_log all → IsFirst (has_number number) is_log (changed is_log change all)
+  pub first-changed : (number : ℕ) (all : List StoredFile) → IsFirst (has_number number) is_log all
+      → IsFirst (has_number number) is_log (changed is_log change all)
   first-changed number [] first = first
   first-changed number (stored ∷ later) first = at (is_log stored) refl (λ is_not. first-changed number later (first.1 is_not))
     where
-      at : (b : Bool) → is_log stored ≡ b → (is_log stored ≡ false → IsFirst (has_number number) is_log (changed is_log change later)) → IsFirst (has_number number) is_log
+      at : (b : Bool) → is_log stored ≡ b → (is_log stored ≡ false → IsFirst (has_number number) is_log (changed is_log change later))
+          → IsFirst (has_number number) is_log
           (cond b (record stored { file = change stored.file } ∷ later) (stored ∷ changed is_log change later))
       at true is rest = (first.0, λ is_not. absurd (both_ways (is_log stored) is_not is))
       at false is rest = (first.0, rest)
@@ -79,7 +82,8 @@ pub file-left : (all lefts : List StoredFile) → AreLeftOf all lefts
 file-left [] [] by = left-same [] []
 file-left [] (left ∷ others) by = absurd by
 file-left (stored ∷ later) [] by = absurd by
-file-left (stored ∷ later) (left ∷ others) by = at (is_log stored) (is_log left) (ap (λ name. is_name log_partition log_name name) by.0) by.2 (file-left later others by.3)
+file-left (stored ∷ later) (left ∷ others) by = at (is_log stored) (is_log left) (ap (λ name. is_name log_partition log_name name) by.0) by.2
+    (file-left later others by.3)
   where
     at : (b c : Bool) → c ≡ b → IsLeftOf stored.file.base stored.file.log left.file.base left.file.log
         → IsLeftOf (file_with is_log later).base (file_with is_log later).log (file_with is_log others).base (file_with is_log others).log

@@ -1,13 +1,16 @@
 -- An opening of the log, and its admission.
-use Rattle.std.proofs.Common.{◌≡◌, ◌⊎◌, ℕ, ◌+◌, ◌-◌, ◌≤◌, Bool, true, false, cond, ◌||◌, nat_le, List, [], ◌∷◌, ◌++◌, length, take, drop, get_or, replicate}
+use Rattle.std.proofs.Common.{◌≡◌, ◌⊎◌, ℕ, ◌+◌, ◌-◌, ◌≤◌, Bool, true, false, cond, ◌||◌, List, [], ◌∷◌, ◌++◌, length, take, drop, get_or, replicate}
 use Rattle.std.proofs.Common.{sym, ◌∙◌, ap, subst, inl, inr, ⊎_elim, refl, arith}
-use Rattle.std.specs.Prelude.{unwrap_or}
+use Rattle.std.specs.Prelude.{unwrap_or, None, Some, Err}
+use Rattle.fault_storage_parts.specs.declared.error.HeaderError.{HeaderError}
+use Rattle.fault_storage_parts.specs.declared.error.Error.{Error as StorageError}
+use Rattle.fault_storage_parts.specs.declared.error.Error.TheVariants as errors
 use Rattle.std.specs.List.{list_any}
 use Rattle.std.specs.Str.{bytes_eq}
 use Rattle.std.proofs.lemmas.Bool.{cases_lt, both_ways, or_right}
-use Rattle.std.proofs.lemmas.List.{take-take, get_or-take, length-take-le, get_or_append_left, get_or-append_right}
+use Rattle.std.proofs.lemmas.List.{get_or-take, length-take-le, get_or_append_left, get_or-append_right}
 use Rattle.fault_storage_parts.specs.Files as files
-use Rattle.fault_storage_parts.specs.Headers.{magic_of, created, IsTornCreation, IsUnmade, layout_with, data_offset_of, resolved_of}
+use Rattle.fault_storage_parts.specs.Headers.{created, IsTornCreation, IsUnmade, layout_with, data_offset_of, resolved_of}
 use Rattle.fault_storage_parts.specs.declared.header.Layout.TheVariants.{V0, V1}
 use Rattle.fault_storage_parts.proofs.Torn.{length-created, region-at, zeros-at}
 use Rattle.fault_storage.specs.Stores.{Store, Handle, settled_at}
@@ -28,26 +31,18 @@ use Rattle.fault_storage.specs.declared.storage.Opened.{Opened}
 use Rattle.fault_storage.specs.Stores.{has_number, file_with}
 use Rattle.fault_storage.specs.Directory.{MemoryOpens}
 use Rattle.fault_storage.specs.Faults.{IsFaultyCall, FaultyOpens, unwrapped}
-use Rattle.auth_store_device.specs.Devices.{log_versions, shown_file}
+use Rattle.auth_store_device.specs.Devices.{log_versions, log_fault, shown_file}
 use Rattle.auth_store_device.specs.Logs.{IsFirst}
 use Rattle.auth_store_device.proofs.Places.{changed-first, file-changed}
 use Rattle.auth_store_device.proofs.Steps.{nothing_behind}
 use Rattle.paged_blob.specs.Images.{IsLive}
-use Rattle.auth_store_device.specs.Logs.{is_log, log_partition, log_name, has_log, log_of, durable_log, behind_header, HasHeader, IsOrderly, Stands, IsOpenLog}
+use Rattle.auth_store_device.specs.Logs.{is_log, log_partition, log_name, has_log, log_of, durable_log, behind_header, HasHeader, IsOrderly}
+use Rattle.auth_store_device.specs.Logs.{BeginsAsMade, Stands, IsOpenLog}
+use Rattle.auth_store_device.proofs.Headers.{fault_of, front_magic, fine_made}
 use Rattle.auth_store_device.proofs.Carried.{published_open, stands_settled}
 use Rattle.auth_store_device.proofs.Opened.{filter-none, file-added, has-added, numbered-added, first-added, first-found}
-use Rattle.auth_store_device.proofs.Outcomes.{left-headed, durable-left}
+use Rattle.auth_store_device.proofs.Outcomes.{left-headed, durable-left, made-headed}
 use Rattle.auth_store_device.proofs.Reached.{live_base}
-
-front_four : (bytes : List ℕ) → 8 ≤ length bytes → take 4 (front_of bytes) ≡ take 4 bytes
-front_four bytes long = at (nat_le (length bytes) 4096)
-  where
-    at : (b : Bool) → take 4 (take (cond b (length bytes) 12) bytes) ≡ take 4 bytes
-    at true = take-take 4 (length bytes) bytes (omega (arith, long))
-    at false = take-take 4 12 bytes (omega arith)
-
-front_magic : (bytes : List ℕ) → HasHeader bytes → take 4 (front_of bytes) ≡ magic_of V0
-front_magic bytes headed = front_four bytes headed.long ∙ headed.magic
 
 -- the data begin at 8
 pub begins : (bytes : List ℕ) → HasHeader bytes → (resolved_of (front_of bytes) (length bytes)).data_offset ≡ 8
@@ -63,7 +58,8 @@ torn_fourth bytes t =
     ⊎_elim
     (λ lt. inl (ap (λ l. get_or l 3 0) t.is ∙ get_or_append_left (take t.count region) zeros 0 3 (omega (arith, kept, lt))
     ∙ get_or-take t.count region 3 0 lt ∙ region-at t.version 3 (omega arith)))
-    (λ le. inr (ap (λ l. get_or l 3 0) t.is ∙ get_or-append_right (take t.count region) zeros t.count 3 0 kept le ∙ zeros-at (length bytes - t.count) (3 - t.count)))
+    (λ le. inr (ap (λ l. get_or l 3 0) t.is ∙ get_or-append_right (take t.count region) zeros t.count 3 0 kept le
+    ∙ zeros-at (length bytes - t.count) (3 - t.count)))
     (cases_lt 3 t.count)
 
 -- a file with a header was not left half made
@@ -75,9 +71,9 @@ made bytes headed (inr (few, torn)) =
     ⊎_elim (λ is. omega (arith, fourth, is)) (λ is. omega (arith, fourth, is)) (torn_fourth (front_of bytes) torn)
 
 -- a file that is made anew
-pub created_headed : HasHeader (created V0 0)
+pub created_made : BeginsAsMade (created V0 0)
 unfolding created
-created_headed = record { long = omega arith; magic = refl }
+created_made = refl
 
 pub created_behind : drop 8 (created V0 0) ≡ []
 unfolding created
@@ -95,21 +91,20 @@ listed_added partition partitions same = at (has_partition partition partitions)
     at true is = is
     at false is = snoc partitions
 
--- the log that was there is open, and admitted
-pub found_open : (store : Store) → IsOrderly store → has_log store ≡ true
-    → IsOpenLog (published (number_with is_log store.files) (durable_log store) store)
-    (record { base = behind_header (durable_log store); changes = []; failed = false }) (handle_in log_partition log_name store.files)
-found_open store o there =
-    let durable = durable_log store in
-    let headed : HasHeader durable =
-    left-headed (log_of store).base durable (log_of store).log [] (durable-left (log_of store).base (log_of store).log) o.past (o.headed there) in
-    published_open store (handle_in log_partition log_name store.files) o there (first-found store.next store.files o.numbered there)
-    (begins durable headed) headed
-
 -- the header of the durable bytes
 pub durable_headed : (store : Store) → IsOrderly store → has_log store ≡ true → HasHeader (durable_log store)
 durable_headed store o there =
     left-headed (log_of store).base (durable_log store) (log_of store).log [] (durable-left (log_of store).base (log_of store).log) o.past (o.headed there)
+
+-- the log that was there is open, and admitted
+pub found_open : (store : Store) → IsOrderly store → has_log store ≡ true → fault_of (durable_log store) ≡ None
+    → IsOpenLog (published (number_with is_log store.files) (durable_log store) store)
+    (record { base = behind_header (durable_log store); changes = []; failed = false }) (handle_in log_partition log_name store.files)
+found_open store o there fine =
+    let durable = durable_log store in
+    let headed : HasHeader durable = durable_headed store o there in
+    published_open store (handle_in log_partition log_name store.files) o there (first-found store.next store.files o.numbered there)
+    (begins durable headed) (fine_made durable headed fine)
 
 -- a log was made anew
 abbrev added : Store → StoredFile
@@ -131,7 +126,7 @@ made_open store versions zero o none =
       orderly = record {
         numbered = numbered-added store.next new store.files refl o.numbered;
         listed = λ _. listed_added log_partition store.partitions refl;
-        headed = λ _. subst (λ (l : files.File). HasHeader l.base) file created_headed;
+        headed = λ _. subst (λ (l : files.File). HasHeader l.base) file (made-headed (created V0 0) created_made);
         past = subst (λ (l : files.File). ArePast 8 l.log) file tt;
       };
       stands = subst (Stands (record { base = []; changes = []; failed = false })) file
@@ -140,7 +135,8 @@ made_open store versions zero o none =
         there = has-added new store.files refl;
         first = first-added store.next new store.files refl refl o.numbered none;
         offset = refl;
-        headed = created_headed;
+        own = λ _. subst (λ (l : files.File). BeginsAsMade l.base) file created_made;
+        headed = created_made;
         live = subst (IsLive (record { base = []; changes = []; failed = false })) (sym created_behind) (live_base []);
       };
     } in
@@ -172,8 +168,9 @@ module _ {R : Type 0} (stream : R → Stream) (rate : Probability) (old mid : St
     answered (inr (inr (inr (room, drawn, made, answers, same, words)))) = answers
 
     pub found_handle : MemoryOpens old.inner log_partition log_name log_versions (Ok (unwrapped opened)) mid.inner → IsOrderly old.inner
-        → has_log old.inner ≡ true → (opened.blob.inner ≡ handle_in log_partition log_name old.inner.files) × (mid.inner ≡ old.inner)
-    found_handle (valid, inl (there, fine, is, same)) o has = (ap (λ (x : Opened Handle). x.blob) is, same)
+        → has_log old.inner ≡ true
+        → (opened.blob.inner ≡ handle_in log_partition log_name old.inner.files) × (mid.inner ≡ old.inner) × (fault_of (durable_log old.inner) ≡ None)
+    found_handle (valid, inl (there, fine, is, same)) o has = (ap (λ (x : Opened Handle). x.blob) is, same, fine)
     found_handle (valid, inr (inl none, is, same)) o has = absurd (both_ways _ none has)
     found_handle (valid, inr (inr (there, unmade), is, same)) o has = absurd (made (durable_log old.inner) (durable_headed old.inner o has) unmade)
 
@@ -193,7 +190,8 @@ module _ {R : Type 0} (stream : R → Stream) (rate : Probability) (old mid : St
         is ∙ ap (λ (h : Handle). published h.number bytes mid.inner) r.0 ∙ ap (λ b. published number b mid.inner) copied
         ∙ ap (published number (durable_log store)) r.1 in (
           subst (λ s. IsOpenLog s (shown_file (behind_header (durable_log store))) opened.blob.inner) (sym now)
-              (subst (IsOpenLog (published number (durable_log store) store) (shown_file (behind_header (durable_log store)))) (sym r.0) (found_open store o has)),
+              (subst (IsOpenLog (published number (durable_log store) store) (shown_file (behind_header (durable_log store)))) (sym r.0)
+              (found_open store o has r.2)),
           ap (λ (s : Store). (log_of s).log) now
               ∙ ap (λ (f : files.File). f.log) (published_log number (durable_log store) store (first-found store.next store.files o.numbered has) has),
         )
@@ -210,3 +208,22 @@ module _ {R : Type 0} (stream : R → Stream) (rate : Probability) (old mid : St
               (nothing_behind store none) (made_open store log_versions refl o none))),
           ap (λ (s : Store). (log_of s).log) r.1 ∙ ap (λ (f : files.File). f.log) (placed_log (created V0 0) store none),
         )
+
+    pub found_fine : IsFaultyCall stream Open rate (FaultyOpens log_partition log_name log_versions) old (Ok opened) mid → IsOrderly old.inner
+        → has_log old.inner ≡ true → log_fault old.inner ≡ None
+    found_fine call o has = (found_handle (answered call) o has).2
+
+-- why the header was refused, where it was
+module _ {R : Type 0} (stream : R → Stream) (rate : Probability) (old mid : Storage Store R) (e : StorageError) (fault : HeaderError)
+  where
+    pub refused_header : IsFaultyCall stream Open rate (FaultyOpens log_partition log_name log_versions) old (Err e) mid → e ≡ errors.Header fault
+        → (has_log old.inner ≡ true) × (log_fault old.inner ≡ Some fault)
+    refused_header (inl (full, is, same)) why = cc
+    refused_header (inr (inl (room, inl is, answers, same))) why = cc
+    refused_header (inr (inl (room, inr is, answers, same))) why = cc
+    refused_header (inr (inr (inl (room, drawn, is, same, words)))) why = cc
+    refused_header (inr (inr (inr (room, drawn, made, (kept, inl (is, valid)), same, words)))) why = cc
+    refused_header (inr (inr (inr (room, drawn, made, (kept, inr (inl (other, there, is, found))), same, words)))) why =
+        let one : other ≡ fault = cc in (there, found ∙ ap Some one)
+    refused_header (inr (inr (inr (room, drawn, made, (kept, inr (inr (inl (is, ended)))), same, words)))) why = cc
+    refused_header (inr (inr (inr (room, drawn, made, (kept, inr (inr (inr is))), same, words)))) why = cc

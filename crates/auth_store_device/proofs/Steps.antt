@@ -1,5 +1,5 @@
 -- How a device is carried on by each call.
-use Rattle.std.proofs.Common.{◌≡◌, ℕ, ◌<◌, true, false, Option, Some, None, List, [], ◌∷◌, length, sym, ◌∙◌, ap, subst, arith}
+use Rattle.std.proofs.Common.{◌≡◌, ℕ, ◌<◌, true, false, Option, Some, None, List, [], ◌∷◌, length, sym, ◌∙◌, ap, subst, refl, arith}
 use Rattle.std.specs.Prelude.{IfSome, ◌⊎◌}
 use Rattle.std.proofs.Common.{inl, inr}
 use Rattle.std.proofs.lemmas.Bool.{both_ways, false_from_ne_true}
@@ -13,14 +13,23 @@ use Rattle.fault_storage.specs.Directory.{has_partition, LacksName}
 use Rattle.fault_storage_parts.specs.declared.error.Error.{Error}
 use Rattle.fault_storage_parts.specs.declared.error.Error.TheVariants.{PartitionMissing, BlobMissing, Memory}
 use Rattle.fault_storage.proofs.Leaving.{crash-leaves}
+use Rattle.fault_storage_parts.proofs.Left.{left-keeps}
 use Rattle.paged_blob.specs.Calls.{Call, opened, synced, File, file_of}
-use Rattle.std.proofs.Common.{Err}
+use Rattle.std.proofs.Common.{Result, Ok, Err}
 use Rattle.paged_blob.specs.declared.error.Error as refusals
 use Rattle.paged_blob.specs.declared.error.Error.TheVariants.{NumberEnded}
 use Rattle.paged_blob.specs.Images.{IsImage, IsReached}
 use Rattle.paged_blob.proofs.Live.{reached_image}
-use Rattle.auth_store_device.specs.Logs.{IsOrderly, IsHandleOf, are_numbered, log_partition, log_name, has_log, log_of, durable_log, behind_header, Stands, IsOpenLog}
-use Rattle.auth_store_device.specs.Devices.{DeviceState, IsDevice, IsStopped, HasEnded, shown_file}
+use Rattle.auth_store_device.specs.Logs.{IsOrderly, IsHandleOf, are_numbered, log_partition, log_name, has_log, log_of, durable_log, behind_header}
+use Rattle.auth_store_device.specs.Logs.{Stands, IsOpenLog, HasOwnHeader}
+use Rattle.auth_store_device.specs.Devices.{DeviceState, IsDevice, IsStopped, HasEnded, shown_file, log_fault, log_versions, opening_answer}
+use Rattle.auth_store_device.specs.Devices.{opening_refusal, TellsOpening, IsOpeningCall}
+use Rattle.auth_store_device.specs.declared.error.OpenError.{OpenError}
+use Rattle.fault_storage_parts.specs.declared.error.HeaderError.{HeaderError}
+use Rattle.fault_storage.specs.declared.storage.Opened.{Opened}
+use Rattle.fault_storage.specs.Faults.{IsFaultyCall, FaultyOpens}
+use Rattle.fault_storage_parts.specs.declared.error.Call.TheVariants.{Open}
+use Rattle.auth_store_device.proofs.Headers.{made_fine}
 use Rattle.auth_store_device.proofs.Reached.{reached_base}
 use Rattle.auth_store_device.proofs.Places.{file-none, file-left, has-left, numbered-left}
 use Rattle.auth_store_device.proofs.Outcomes.{durable-left, left-left, left-headed, past-drop}
@@ -40,6 +49,25 @@ orderly_left store left by numbers listed o =
 
 pub stands_left : (file : File) (log left : files.File) → IsLeftOf log.base log.log left.base left.log → Stands file log → Stands file left
 stands_left file log left by s = record { each = λ last is. s.each last (left-left log.base left.base last log.log left.log [] by is) }
+
+-- where the log begins as one that the device makes, what a crash leaves of it does
+pub own_left : (store left : Store) → AreLeftOf store.files left.files → IsOrderly store → HasOwnHeader store → HasOwnHeader left
+own_left store left by o own there =
+    let has : has_log store ≡ true = sym (has-left store.files left.files by) ∙ there in
+    left-keeps 8 (log_of store).base (log_of left).base (log_of store).log (log_of left).log (file-left store.files left.files by) (o.headed has).long o.past
+    ∙ own has
+
+pub own_crashed : (store left : Store) (words after : Stream) → ◌≡◌ {A = Store × Stream} (left, after) (crashed_store store words)
+    → IsOrderly store → HasOwnHeader store → HasOwnHeader left
+own_crashed store left words after is =
+    own_left store left (subst (AreLeftOf store.files) (sym (ap (λ (p : Store × Stream). p.0.files) is)) (crash-leaves store.files store.order words))
+
+-- and no opening refuses its header
+pub own_fine : (store : Store) → IsOrderly store → HasOwnHeader store → has_log store ≡ true → log_fault store ≡ None
+own_fine store o own there =
+    let file = log_of store in
+    let durable = durable_log store in
+    made_fine durable (left-keeps 8 file.base durable file.log [] (durable-left file.base file.log) (o.headed there).long o.past ∙ own there)
 
 module _ {R : Type 0} where
   -- a crash of a closed device
@@ -110,3 +138,26 @@ module _ {R : Type 0} where
   stopped_ended old new e (inl (ended, is, same)) has = cc
   stopped_ended old new e (inr (injections, refused, cut, is, same)) (inl full) = absurd (omega (arith, injections, full))
   stopped_ended old new e (inr (injections, refused, cut, is, same)) (inr full) = absurd (omega (arith, refused, full))
+
+-- what the device answers of an opening tells of the store's answer
+pub tells_ok : (answer : Result (Opened (Blob Handle)) Error) (log : Blob Handle) (count : ℕ) → Ok log ≡ opening_answer answer → TellsOpening answer (Ok count)
+tells_ok (Ok shown) log count is = refl
+tells_ok (Err e) log count is = cc
+
+pub tells_err : (answer : Result (Opened (Blob Handle)) Error) (e : OpenError) (result : Result ℕ OpenError) → result ≡ Err e
+    → Err e ≡ opening_answer answer → TellsOpening answer result
+tells_err (Ok shown) e result told is = cc
+tells_err (Err refusal) e result told is = let same : e ≡ opening_refusal refusal = cc in told ∙ ap Err same
+
+-- a header that is the device's own is not refused
+pub own_refused : (store : Store) (fault : HeaderError) → IsOrderly store → HasOwnHeader store → (has_log store ≡ true) × (log_fault store ≡ Some fault) → ⊥
+own_refused store fault o own (there, found) = let none = own_fine store o own there in cc
+
+module _ {R : Type 0} (stream : R → Stream) where
+  -- an opening that reached the store
+  pub draws_opening : (before old new : DeviceState R) (result : Result ℕ OpenError) (answer : Result (Opened (Blob Handle)) Error) (below : Storage Store R)
+      → before ≡ old → (before.left ≡ Some 0 → ⊥)
+      → IsFaultyCall stream Open before.storage.config.«open» (FaultyOpens log_partition log_name log_versions) before.storage answer below
+      → TellsOpening answer result → new.storage ≡ record below { inner = new.storage.inner } → IsOpeningCall stream old result new
+  draws_opening before old new result answer below same lasts call tells left =
+      subst (λ (s : DeviceState R). IsOpeningCall stream s result new) same (inr (inr (lasts, (answer, below, call, tells, left))))

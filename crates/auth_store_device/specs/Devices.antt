@@ -1,5 +1,8 @@
 -- The device: a log of the store that fails, the calls that were made of it, and a cut of the power.
-use Rattle.std.specs.Prelude.{◌≡◌, ℕ, ◌+◌, ◌-◌, ◌<◌, ◌^◌, ◌==◌, false, if◌then◌else◌, ◌⊎◌, Option, Some, None, is_some, IfSome, Result, Ok, Err, List, [], ◌∷◌}
+use Rattle.std.specs.Prelude.{◌≡◌, ℕ, ◌+◌, ◌-◌, ◌<◌, ◌^◌, ◌==◌, Bool, false, if◌then◌else◌, ◌⊎◌, Option, Some, None, is_some, IfSome}
+use Rattle.std.specs.Prelude.{Result, Ok, Err, IsOk, List, [], ◌∷◌}
+use Rattle.rand_core.specs.Stream.{Stream}
+use Rattle.fault_storage_parts.specs.declared.error.Call.TheVariants.{Open}
 use Rattle.fault_storage_parts.specs.declared.error.Error.{Error as StorageError}
 use Rattle.fault_storage_parts.specs.declared.error.Error.TheVariants.{
   BlobMissing,
@@ -12,12 +15,15 @@ use Rattle.fault_storage_parts.specs.declared.error.Error.TheVariants.{
   NumberEnded,
   Memory,
 }
+use Rattle.fault_storage_parts.specs.declared.error.HeaderError.{HeaderError}
 use Rattle.fault_storage_parts.specs.declared.header.Versions.{Versions}
 use Rattle.fault_storage.specs.declared.storage.Opened.{Opened}
 use Rattle.fault_storage.specs.declared.faulty.Blob.{Blob}
 use Rattle.fault_storage.specs.declared.faulty.Storage.{Storage}
 use Rattle.fault_storage.specs.declared.storage.WriteMode.{WriteMode}
 use Rattle.fault_storage.specs.declared.storage.WriteMode.TheVariants.{Plain, Sync}
+use Rattle.fault_storage.specs.Directory.{fault_in}
+use Rattle.fault_storage.specs.Faults.{IsFaultyCall, FaultyOpens}
 use Rattle.fault_storage.specs.Stores.{Store, Handle}
 use Rattle.paged_blob.specs.Answers.{Failures}
 use Rattle.paged_blob.specs.Calls.{Call, File, file_of}
@@ -30,7 +36,7 @@ use Rattle.auth_store_device.specs.declared.error.OpenError.{OpenError}
 use Rattle.auth_store_device.specs.declared.error.OpenError.TheVariants as openings
 use Rattle.auth_store_device.specs.declared.log.Told.{Told}
 use Rattle.auth_store_device.specs.declared.log.Told.TheVariants.{Made, Failed, Ended, Unmade}
-use Rattle.auth_store_device.specs.Logs.{IsOrderly, log_of, Stands, IsHandleOf}
+use Rattle.auth_store_device.specs.Logs.{log_partition, log_name, IsOrderly, log_of, Stands, IsHandleOf}
 
 -- A device: the store below, the open log, the calls so far, the newest first, how many more the power lasts for, where a cut was asked
 -- for, and how many were refused since the last crash.
@@ -52,6 +58,11 @@ pub record IsDevice {R : Type 0} (state : DeviceState R) : Type 0 where
 pub record IsSettled (store : Store) : Type 0 where
   pub orderly : IsOrderly store
   pub settled : (log_of store).log ≡ []
+
+-- whether a cut of the power stands
+abbrev pub is_cut : Option ℕ → Bool
+is_cut (Some left) = left == 0
+is_cut None = false
 
 -- how many calls are left where n were to be let through, unless a cut stands
 abbrev pub after_asking : ℕ → Option ℕ → Option ℕ
@@ -138,6 +149,10 @@ IsDeviceCall kind Answers old result new =
 abbrev pub log_versions : Versions
 log_versions = record { least = 0; greatest = 0 }
 
+-- the first fault of the log's header, where it is opened in that version
+abbrev pub log_fault : Store → Option HeaderError
+log_fault store = fault_in log_partition log_name log_versions store.files
+
 -- what the store refused, as an opening does
 abbrev pub opening_refusal : StorageError → OpenError
 opening_refusal (Header fault) = openings.Header fault
@@ -179,3 +194,19 @@ abbrev pub stopped_opening : Error → OpenError
 stopped_opening refusals.NumberEnded = openings.NumberEnded
 stopped_opening refusals.PowerCut = openings.PowerCut
 stopped_opening _ = openings.Memory
+
+-- an opening's answer is Ok where the store's is, and else the store's refusal
+abbrev pub TellsOpening : Result (Opened (Blob Handle)) StorageError → Result ℕ OpenError → Type 0
+TellsOpening (Ok opened) result = IsOk result
+TellsOpening (Err e) result = result ≡ Err (opening_refusal e)
+
+-- An opening of the device: it is stopped; or there is no memory for what it shows, and nothing has changed; or it is the store's own, whose
+-- draws and count of faults stay, and of which the files are admitted.
+abbrev pub IsOpeningCall : {R : Type 0} → (R → Stream) → DeviceState R → Result ℕ OpenError → DeviceState R → Type 0
+IsOpeningCall {R = R} stream old result new =
+    ((e : Error) × IsStopped {T = Unit} old (Err e) new × (result ≡ Err (stopped_opening e)))
+    ⊎ ((result ≡ Err openings.Memory) × (new ≡ old))
+    ⊎ ((old.left ≡ Some 0 → ⊥)
+    × ((answer : Result (Opened (Blob Handle)) StorageError) × (below : Storage Store R)
+    × IsFaultyCall stream Open old.storage.config.«open» (FaultyOpens log_partition log_name log_versions) old.storage answer below
+    × TellsOpening answer result × (new.storage ≡ record below { inner = new.storage.inner })))

@@ -5,7 +5,7 @@ use Rattle.fault_storage.specs.declared.stored.StoredFile.{StoredFile}
 use Rattle.fault_storage_parts.specs.declared.header.Layout.TheVariants.{V0}
 use Rattle.fault_storage_parts.specs.Files.{Mutation, ArePast, IsLeftOf, durable_bytes}
 use Rattle.fault_storage_parts.specs.Files as files
-use Rattle.fault_storage_parts.specs.Headers.{magic_of}
+use Rattle.fault_storage_parts.specs.Headers.{magic_of, created}
 use Rattle.fault_storage.specs.Stores.{Store, Handle, file_with, has_number}
 use Rattle.fault_storage.specs.Directory.{has_name, has_partition}
 use Rattle.paged_blob.specs.Calls.{File}
@@ -41,6 +41,14 @@ pub record HasHeader (bytes : List ℕ) : Type 0 where
   pub long : 8 ≤ length bytes
   pub magic : take 4 bytes ≡ magic_of V0
 
+-- the bytes begin with the header of a log that the device makes: of that layout, and of version 0
+abbrev pub BeginsAsMade : List ℕ → Type 0
+BeginsAsMade bytes = take 8 bytes ≡ created V0 0
+
+-- the log, where there is one, begins so
+abbrev pub HasOwnHeader : Store → Type 0
+HasOwnHeader store = has_log store ≡ true → BeginsAsMade (log_of store).base
+
 -- none of the numbers stands twice, and all are below the next one
 abbrev pub are_numbered : ℕ → List StoredFile → Bool
 are_numbered next [] = true
@@ -64,12 +72,13 @@ pub record IsOrderly (store : Store) : Type 0 where
 pub record Stands (file : File) (log : files.File) : Type 0 where
   pub each : (left : List ℕ) → IsLeftOf log.base log.log left [] → IsReached file (behind_header left)
 
--- the handle is one of the log, and shows bytes that a read of the blob may find
+-- the handle is one of the log, begins as that does, as a log that the device makes, and shows bytes that a read of the blob may find
 pub record IsHandleOf (store : Store) (file : File) (handle : Handle) : Type 0 where
   pub there : has_log store ≡ true
   pub first : IsFirst (has_number handle.number) is_log store.files
   pub offset : handle.offset ≡ 8
-  pub headed : HasHeader handle.live
+  pub own : HasOwnHeader store
+  pub headed : BeginsAsMade handle.live
   pub live : IsLive file (behind_header handle.live)
 
 -- the log is open by this handle, in a store that stands to the blob's file

@@ -1,26 +1,35 @@
 //! The device.
 
-ghost use Rattle.std.specs.Prelude.{◌≡◌, ◌⊎◌, ◌+◌, ◌-◌, ◌<◌, ◌^◌, ◌∷◌, [], length, drop, true, is_some, is_none};
+ghost use Rattle.std.specs.Prelude.{◌≡◌, ◌⊎◌, ◌+◌, ◌-◌, ◌<◌, ◌^◌, ◌∷◌, [], ℕ, List, length, drop};
+ghost use Rattle.std.specs.Prelude.{true, is_some, is_none};
 ghost use Rattle.std.specs.Prelude.{Err, None, Some, IfOk, IfErr, OnOk, OnErr};
 ghost use Rattle.rand_core.specs.Stream.{Stream};
 ghost use Rattle.fault_storage.specs.Stores.{crashed_store};
 ghost use Rattle.fault_storage_parts.specs.declared.error.Call.{Call};
+ghost use Rattle.fault_storage_parts.specs.declared.error.HeaderError.{HeaderError};
+ghost use Rattle.fault_storage_parts.specs.Files.{IsLeftOf};
 ghost use Rattle.fault_storage.specs.Changes.{FaultyWrites, FaultyResizes};
 ghost use Rattle.fault_storage.specs.Directory.{MemoryReads, MemorySyncs};
 ghost use Rattle.fault_storage.specs.Faults.{IsFaultyCall};
 ghost use Rattle.paged_blob.specs.Answers.{Records, RecordsSync, RecordsOpening, failures_after};
 ghost use Rattle.paged_blob.specs.Answers.{IsCause, IsReadCause, IsSlice};
+ghost use Rattle.paged_blob.specs.Images.{IsImage};
 ghost use Rattle.paged_blob.specs.Calls.{opened, content, synced, wrote, resized_to, file_of};
 ghost use Rattle.paged_blob.specs.WriteModes.{is_sync};
 ghost use Rattle.paged_blob.specs.declared.error.CallKind.{CallKind};
-ghost use Rattle.auth_store_device.specs.Devices.{left_after, left_after_opening, stopped_opening};
-ghost use Rattle.auth_store_device.specs.Logs.{log_of, behind_header, durable_log};
+ghost use Rattle.auth_store_device.specs.Devices.{left_after, left_after_opening, stopped_opening, is_cut, log_fault};
+ghost use Rattle.auth_store_device.specs.Openings.{openings_of};
+ghost use Rattle.auth_store_device.specs.Settings.{AreFirst};
+ghost use Rattle.auth_store_device.specs.Logs.{has_log, log_of, behind_header, durable_log, HasOwnHeader};
 ghost use Rattle.paged_blob.specs.Recorded.{calls_of};
 
 use crate::error::OpenError;
 use crate::log::{note, read_log, resize_log, sync_log, write_log};
-use crate::opening::{copy_durable, copy_shown, open_log};
-use fault_storage::{Config, faulty, memory};
+use crate::opening::{Durable, copy_log, open_log};
+use crate::openings::Openings;
+use fault_storage::{
+    Config, PartialWriteMode, Probability, ResizeConfig, WriteConfig, faulty, memory,
+};
 use paged_blob::{Blob, Error, Recorded, WriteMode};
 use rand_core::Rng;
 use std::alloc::{AllocError, Global};
@@ -71,8 +80,29 @@ pub(crate) fn copy_behind_header(alloc: Global, bytes: &[u8]) -> Result<Vec<u8>,
     bytes[8..].to_vec(alloc)
 }
 
+// The settings of a device that is made of no file.
+fn first_settings() -> Config
+    ensures { AreFirst result }
+{
+    let half = Probability {
+        numerator: 1,
+        denominator: 2,
+    };
+    Config::default()
+        .write(WriteConfig {
+            rate: Probability::ZERO,
+            retention: half,
+            mode: PartialWriteMode::Subset,
+        })
+        .resize(ResizeConfig {
+            rate: Probability::ZERO,
+            retention: half,
+        })
+}
+
 impl<R: Rng + Drop> Device<R> {
     ghost use Rattle.auth_store_device.specs.Devices.{IsSettled, after_asking};
+    ghost use Rattle.auth_store_device.specs.Settings.{IsNew};
     ghost use Rattle.auth_store_device.specs.Logs.{behind_header, durable_log};
 
     /// A closed device over a store; the durable bytes of its log, where there is one, are what its record begins with.
@@ -91,10 +121,9 @@ impl<R: Rng + Drop> Device<R> {
           refused = 0;
         }) }
     {
-        let copied = copy_durable(storage.inner())?;
-        let base = copy_shown(alloc, storage.inner(), &copied)?;
+        let durable = copy_log(alloc, storage.inner())?;
         let mut record_kept = Vec::new(alloc);
-        record_kept.push(Recorded::Synced(base, true))?;
+        record_kept.push(Recorded::Synced(durable.shown, true))?;
         Ok(Device {
             alloc,
             storage,
@@ -105,11 +134,35 @@ impl<R: Rng + Drop> Device<R> {
         })
     }
 
+    /// A closed device over a store in memory that has no file yet, whose faults and choices are drawn of these words:
+    /// nothing fails, and of what is not durable a crash keeps each byte, and each resize, one time in two. F9.
+    pub fn empty(alloc: Global, rng: R) -> Result<Device<R>, AllocError>
+        ensures new { IfOk result (IsNew rng) }
+        ensures own { IfOk result (λ device. HasOwnHeader device.storage.inner) }
+    {
+        let below = memory::Storage::new(alloc);
+        Device::new(alloc, faulty::Storage::new(below, rng, first_settings()))
+    }
+
     /// The settings by which the store fails.
     pub fn config(&self) -> Config
         ensures { result ≡ self.now.storage.config }
     {
         self.storage.config()
+    }
+
+    /// Its openings so far, the oldest first: what each showed, and what stood before it. It takes no memory.
+    pub fn openings(&self) -> Openings<'_>
+        ensures { result ≡ openings_of self.now.calls }
+    {
+        Openings::of(&self.record_kept)
+    }
+
+    /// Whether a cut of the power stands, under which each call is refused.
+    pub fn is_cut(&self) -> bool
+        ensures { result ≡ is_cut self.now.left }
+    {
+        self.left == Some(0)
     }
 
     /// Whether no opening stands.
@@ -127,6 +180,7 @@ impl<R: Rng + Drop> Device<R> {
             ≡ crashed_store self.old.storage.inner (R.stream self.old.storage.rng) }
         ensures rest { (self.new.storage.injections ≡ self.old.storage.injections)
             × (self.new.storage.config ≡ self.old.storage.config) }
+        ensures header { HasOwnHeader self.old.storage.inner → HasOwnHeader self.new.storage.inner }
         ensures device { (self.new.log ≡ None) × (self.new.calls ≡ self.old.calls) × (self.new.left ≡ None)
             × (self.new.refused ≡ 0) }
     {
@@ -140,6 +194,28 @@ impl<R: Rng + Drop> Device<R> {
         ensures { self.new ≡ record self.old { log = None } }
     {
         self.log = None;
+    }
+
+    /// The law that a device has refused calls by a cut since the last crash only where a cut stands (own).
+    pub fn refuses_only_under_a_cut(&self)
+        ensures { 0 < self.now.refused → self.now.left ≡ Some 0 }
+    {
+        let _ = &self.left;
+    }
+
+    /// The law that each outcome of a crash of the log is an image of the calls (own).
+    pub fn crash_leaves_an_image(&self)
+        ensures { let log = log_of self.now.storage.inner in
+            (left : List ℕ) → IsLeftOf log.base log.log left [] → IsImage (file_of self.now.calls) (behind_header left) }
+    {
+        let _ = &self.record_kept;
+    }
+
+    /// The law that a log that is open begins with the header of one that the device made (own).
+    pub fn open_log_has_own_header(&self)
+        ensures { is_some self.now.log ≡ true → HasOwnHeader self.now.storage.inner }
+    {
+        let _ = &self.log;
     }
 
     /// Other settings from now on.
@@ -195,10 +271,11 @@ fn left_after_opening<T>(answer: &Result<T, OpenError>, left: Option<u64>) -> Op
 }
 
 impl<R: Rng + Drop> Device<R> {
-    ghost use Rattle.auth_store_device.specs.Devices.{HasEnded, IsStopped, injected_after, refused_after};
+    ghost use Rattle.auth_store_device.specs.Devices.{HasEnded, IsStopped, IsOpeningCall};
+    ghost use Rattle.auth_store_device.specs.Devices.{injected_after, refused_after};
 
-    /// Opens the log, or makes it where there is none, admits what it shows, and answers how many bytes that is. It asks
-    /// for a closed device. F8: a count has ended; F10; F9; F6; F5: its header is refused.
+    /// Opens the log, or makes it where there is none, admits what it shows, and answers how many bytes that is. It
+    /// asks for a closed device. F8: a count has ended; F10; F9; F6; F5: its header is refused.
     pub fn open(&mut self) -> Result<u64, OpenError>
         requires { self.old.log ≡ None }
         ensures shows { OnOk result (self.new.calls
@@ -213,17 +290,22 @@ impl<R: Rng + Drop> Device<R> {
         ensures ended { HasEnded self.old → result ≡ Err OpenError.NumberEnded }
         ensures cut { self.old.left ≡ Some 0 → HasEnded self.old ⊎ (result ≡ Err OpenError.PowerCut) }
         ensures power { result ≡ Err OpenError.PowerCut → self.old.left ≡ Some 0 }
+        ensures header { (fault : HeaderError) → result ≡ Err (OpenError.Header fault)
+            → log_fault self.old.storage.inner ≡ Some fault }
+        ensures fine { OnOk result (has_log self.old.storage.inner ≡ true → log_fault self.old.storage.inner ≡ None) }
+        ensures own { (fault : HeaderError) → HasOwnHeader self.old.storage.inner
+            → result ≡ Err (OpenError.Header fault) → ⊥ }
+        ensures draw { IsOpeningCall (R.stream) self.old result self.new }
         ensures refusals { self.new.refused ≡ refused_after result self.old.refused }
         ensures left { self.new.left ≡ left_after_opening result self.old.left }
     {
         if let Err(error) = self.stop() {
             return Err(stopped_opening(error));
         }
-        let copied = copy_durable(self.storage.inner())?;
-        let shown = copy_shown(self.alloc, self.storage.inner(), &copied)?;
+        let Durable { whole, shown } = copy_log(self.alloc, self.storage.inner())?;
         self.record_kept.reserve(1)?;
         let count = shown.len() as u64;
-        let answer = open_log(&mut self.storage, copied);
+        let answer = open_log(&mut self.storage, whole);
         self.left = left_after_opening(&answer, self.left);
         let log = answer?;
         note(&mut self.record_kept, Recorded::Opened(shown));

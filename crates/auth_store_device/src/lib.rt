@@ -2,13 +2,17 @@
 //! and which may be cut off from its power after so many of them.
 #![tactic(auto)]
 
+pub(crate) mod chance;
 pub mod device;
 pub mod error;
-pub mod log;
-pub mod opening;
+pub mod laws;
+pub(crate) mod log;
+pub(crate) mod opening;
+pub mod openings;
 
 pub use device::Device;
 pub use error::OpenError;
+pub use openings::{Mutation, Mutations, Opening, Openings};
 
 #[cfg(test)]
 mod tests;

@@ -87,7 +87,7 @@ pub(crate) fn note(record_kept: &mut Vec<Recorded>, call: Recorded)
 }
 
 /// Writes bytes of the log, behind its header. There is room for the record before the store is asked.
-pub fn write_log<R: Rng>(
+pub(crate) fn write_log<R: Rng>(
     alloc: Global,
     storage: &mut faulty::Storage<memory::Storage, R>,
     log: &mut faulty::Blob<memory::Blob>,
@@ -128,7 +128,7 @@ pub fn write_log<R: Rng>(
 
 /// Cuts the log behind its header to a length, or grows it to that. There is room for the record before the store is
 /// asked.
-pub fn resize_log<R: Rng>(
+pub(crate) fn resize_log<R: Rng>(
     storage: &mut faulty::Storage<memory::Storage, R>,
     log: &mut faulty::Blob<memory::Blob>,
     record_kept: &mut Vec<Recorded>,
@@ -161,7 +161,7 @@ pub fn resize_log<R: Rng>(
 }
 
 /// So many bytes of the log, from an offset behind its header on.
-pub fn read_log<R: Rng>(
+pub(crate) fn read_log<R: Rng>(
     storage: &mut faulty::Storage<memory::Storage, R>,
     log: &faulty::Blob<memory::Blob>,
     offset: u64,
@@ -195,14 +195,12 @@ fn copy_live<R: Rng + Drop>(
     requires { is_there log.now.inner.number storage.now.inner ≡ true }
     ensures { IfOk result (λ bytes. bytes.items ≡ drop 8 log.now.inner.live) }
 {
-    match log.inner().copy_live(storage.inner())? {
-        Some(live) => copy_behind_header(alloc, &live),
-        None => Err(AllocError),
-    }
+    let live = log.inner().copy_live(storage.inner())?.unwrap();
+    copy_behind_header(alloc, &live)
 }
 
 /// Makes the log durable. There is room for the record before the store is asked.
-pub fn sync_log<R: Rng + Drop>(
+pub(crate) fn sync_log<R: Rng + Drop>(
     alloc: Global,
     storage: &mut faulty::Storage<memory::Storage, R>,
     log: &faulty::Blob<memory::Blob>,
@@ -210,7 +208,6 @@ pub fn sync_log<R: Rng + Drop>(
 ) -> Result<(), Error>
     requires room { storage.old.injections < 2 ^ 64 - 1 }
     requires stands { IsOpenLog storage.old.inner (file_of (calls_of record_kept.old.items)) log.now.inner }
-    requires there { is_there log.now.inner.number storage.old.inner ≡ true }
     ensures passes { Passes CallKind.Sync (λ blob below answer changed left. (changed ≡ blob)
         × IsFaultyCall (R.stream) Sync below.config.sync (MemorySyncs blob.inner) below answer left)
         log.now storage.old result log.now storage.new }

@@ -1,9 +1,10 @@
 //! The opening of the log, which admits what it shows.
 
-ghost use Rattle.std.specs.Prelude.{◌≡◌, ◌-◌, ◌<◌, ◌^◌, [], true, false, Result, Err};
+ghost use Rattle.std.specs.Prelude.{◌≡◌, ◌-◌, ◌<◌, ◌^◌, [], true, false, None, Some, Result, Err};
 ghost use Rattle.std.specs.Prelude.{IfOk, IfErr, IfNone, IfSome, OnOk, OnErr};
 ghost use Rattle.fault_storage_parts.specs.declared.error.Call.{Call};
 ghost use Rattle.fault_storage_parts.specs.declared.error.Error.{Error};
+ghost use Rattle.fault_storage_parts.specs.declared.error.HeaderError.{HeaderError};
 ghost use Rattle.fault_storage.specs.declared.faulty.Blob.{Blob};
 ghost use Rattle.fault_storage.specs.declared.faulty.Storage.{Storage};
 ghost use Rattle.fault_storage.specs.declared.storage.Opened.{Opened};
@@ -13,7 +14,7 @@ ghost use Rattle.fault_storage.specs.Faults.{IsFaultyCall, FaultyOpens};
 ghost use Rattle.auth_store_device.specs.Logs.{log_partition, log_name, has_log, log_of, behind_header, durable_log};
 ghost use Rattle.auth_store_device.specs.Logs.{IsOrderly, IsOpenLog};
 ghost use Rattle.auth_store_device.specs.Devices.{log_versions, opening_refusal, opening_answer, injected_after};
-ghost use Rattle.auth_store_device.specs.Devices.{shown_file};
+ghost use Rattle.auth_store_device.specs.Devices.{shown_file, log_fault};
 
 use crate::device::copy_behind_header;
 use crate::error::OpenError;
@@ -22,14 +23,14 @@ use fault_storage::{Error as StorageError, Versions, faulty, memory};
 use rand_core::Rng;
 use std::alloc::{AllocError, Global};
 
-/// The partition of the log.
-pub const PARTITION: &str = "store";
+// The partition of the log.
+const PARTITION: &str = "store";
 
-/// The name of the log.
-pub const NAME: &[u8] = b"log";
+// The name of the log.
+const NAME: &[u8] = b"log";
 
-/// What is durable of the log, its header first. None: there is none. It fails only when out of memory.
-pub fn copy_durable(storage: &memory::Storage) -> Result<Option<Vec<u8>>, AllocError>
+// What is durable of the log, its header first. None: there is none. It fails only when out of memory.
+fn copy_durable(storage: &memory::Storage) -> Result<Option<Vec<u8>>, AllocError>
     requires { has_log storage.now ≡ true → has_partition log_partition storage.now.partitions ≡ true }
     ensures none { IfOk result (λ found. IfNone found (has_log storage.now ≡ false)) }
     ensures some { IfOk result (λ found. IfSome found (λ bytes. (has_log storage.now ≡ true)
@@ -37,25 +38,41 @@ pub fn copy_durable(storage: &memory::Storage) -> Result<Option<Vec<u8>>, AllocE
 {
     match storage.raw_blob(PARTITION, NAME) {
         Ok(bytes) => Ok(Some(bytes)),
-        Err(StorageError::PartitionMissing) => Ok(None),
-        Err(StorageError::BlobMissing) => Ok(None),
-        Err(_) => Err(AllocError),
+        Err(StorageError::Memory) => Err(AllocError),
+        Err(_) => Ok(None),
     }
 }
 
-/// A copy of what the log shows of which these are the durable bytes. It fails only when out of memory.
-pub fn copy_shown(
-    alloc: Global,
-    _storage: &memory::Storage,
-    copied: &Option<Vec<u8>>,
-) -> Result<Vec<u8>, AllocError>
-    requires none { IfNone copied.now (has_log _storage.now ≡ false) }
-    requires some { IfSome copied.now (λ bytes. bytes.items ≡ durable_log _storage.now) }
-    ensures { IfOk result (λ shown. shown.items ≡ behind_header (durable_log _storage.now)) }
+/// A log, as it is durable: its bytes with the header first, or None where there is none, and a copy of those behind
+/// the header.
+#[derive(Drop)]
+pub(crate) struct Durable {
+    /// All bytes.
+    pub(crate) whole: Option<Vec<u8>>,
+    /// Those behind the header.
+    pub(crate) shown: Vec<u8>,
+}
+
+/// The log of a store, as it is durable. It fails only when out of memory.
+pub(crate) fn copy_log(alloc: Global, storage: &memory::Storage) -> Result<Durable, AllocError>
+    requires { has_log storage.now ≡ true → has_partition log_partition storage.now.partitions ≡ true }
+    ensures none { IfOk result (λ log. IfNone log.whole (has_log storage.now ≡ false)) }
+    ensures some { IfOk result (λ log. IfSome log.whole (λ bytes. (has_log storage.now ≡ true)
+        × (bytes.items ≡ durable_log storage.now))) }
+    ensures shown { IfOk result (λ log. log.shown.items ≡ behind_header (durable_log storage.now)) }
 {
-    match copied {
-        Some(bytes) => copy_behind_header(alloc, bytes),
-        None => Ok(Vec::new(alloc)),
+    match copy_durable(storage)? {
+        Some(bytes) => {
+            let shown = copy_behind_header(alloc, &bytes)?;
+            Ok(Durable {
+                whole: Some(bytes),
+                shown,
+            })
+        }
+        None => Ok(Durable {
+            whole: None,
+            shown: Vec::new(alloc),
+        }),
     }
 }
 
@@ -68,12 +85,13 @@ fn opening_refusal(error: StorageError) -> OpenError
         StorageError::Header(fault) => OpenError::Header(fault),
         StorageError::Injected(_) => OpenError::Injected,
         StorageError::NumberEnded => OpenError::NumberEnded,
+        // Out of memory. The refusals beside it are none of an opening of a name that is valid.
         _ => OpenError::Memory,
     }
 }
 
 /// Opens the log of which these are the durable bytes, or makes it where there is none, and admits what it shows.
-pub fn open_log<R: Rng + Drop>(
+pub(crate) fn open_log<R: Rng + Drop>(
     storage: &mut faulty::Storage<memory::Storage, R>,
     copied: Option<Vec<u8>>,
 ) -> Result<faulty::Blob<memory::Blob>, OpenError>
@@ -86,6 +104,9 @@ pub fn open_log<R: Rng + Drop>(
         × IsFaultyCall (R.stream) Call.Open storage.old.config.«open»
         (FaultyOpens log_partition log_name log_versions) storage.old answer left
         × (result ≡ opening_answer answer) × (storage.new ≡ record left { inner = storage.new.inner }) }
+    ensures header { (fault : HeaderError) → result ≡ Err (OpenError.Header fault)
+        → (has_log storage.old.inner ≡ true) × (log_fault storage.old.inner ≡ Some fault) }
+    ensures fine { OnOk result (has_log storage.old.inner ≡ true → log_fault storage.old.inner ≡ None) }
     ensures shows { IfOk result (λ log. IsOpenLog storage.new.inner
         (shown_file (behind_header (durable_log storage.old.inner))) log.inner) }
     ensures admitted { OnOk result ((log_of storage.new.inner).log ≡ []) }

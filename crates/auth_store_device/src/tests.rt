@@ -1,7 +1,9 @@
 //! The device, opened, written, crashed and cut.
 
-use crate::Device;
-use fault_storage::{Config, faulty, memory};
+mod openings;
+
+use crate::{Device, OpenError};
+use fault_storage::{Config, HeaderError, PartialWriteMode, faulty, memory};
 use paged_blob::{Blob, Error, WriteMode};
 use rand_core::SeedableRng;
 use rand_pcg::Pcg32;
@@ -56,5 +58,39 @@ fn a_closed_device_has_no_blob(rt: HostRuntime) -> Result<(), Fail> {
     assert_eq!(rt; device.read_at(alloc, 0, 1).err(), missing);
     assert_eq!(rt; device.resize(1).err(), missing);
     assert_eq!(rt; device.sync().err(), missing);
+    Ok(())
+}
+
+// A device of a seed begins with nothing, and is cut once asked.
+#[test]
+fn a_device_of_a_seed_is_empty(rt: HostRuntime) -> Result<(), Fail> {
+    let alloc = rt.alloc();
+    let mut device = Device::empty(alloc, Pcg32::seed_from_u64(7))?;
+    assert_eq!(rt; device.is_closed(), true);
+    assert_eq!(rt; device.is_cut(), false);
+    assert_eq!(rt; device.config().write.mode, PartialWriteMode::Subset);
+    assert_eq!(rt; device.openings().count(), 0);
+    let none = device.open()?;
+    assert_eq!(rt; none, 0);
+    device.cut_after(0);
+    assert_eq!(rt; device.is_cut(), true);
+    device.close();
+    assert_eq!(rt; device.open().err(), Some(OpenError::PowerCut));
+    device.crash();
+    assert_eq!(rt; device.is_cut(), false);
+    Ok(())
+}
+
+// A log that another wrote in version 5 is refused by its header.
+#[test]
+fn a_header_of_another_version_is_refused(rt: HostRuntime) -> Result<(), Fail> {
+    let alloc = rt.alloc();
+    let mut below = memory::Storage::new(alloc);
+    let log = [0x43, 0x57, 0x49, 0x43, 0, 0, 0, 5].to_vec(alloc)?;
+    below.set_raw_blob("store", b"log", log)?;
+    let storage = faulty::Storage::new(below, Pcg32::seed_from_u64(8), Config::default());
+    let mut device = Device::new(alloc, storage)?;
+    let refusal = OpenError::Header(HeaderError::BlobVersion);
+    assert_eq!(rt; device.open().err(), Some(refusal));
     Ok(())
 }

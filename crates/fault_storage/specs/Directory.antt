@@ -187,7 +187,8 @@ MemoryOpens old partition name versions result new = MatchResult result
     × (new ≡ placed partition name (created V0 versions.greatest) old))))
     (λ e. (new ≡ old)
     × (((e ≡ PartitionNameInvalid) × (is_partition_name partition ≡ false))
-    ⊎ ((fault : HeaderError) × (e ≡ Header fault) × (fault_in partition name versions old.files ≡ Some fault))
+    ⊎ ((fault : HeaderError) × (list_any (has_name partition name) old.files ≡ true) × (e ≡ Header fault)
+    × (fault_in partition name versions old.files ≡ Some fault))
     ⊎ ((e ≡ NumberEnded) × (old.next ≡ 2 ^ 64 - 1))
     ⊎ (e ≡ Memory)))
 

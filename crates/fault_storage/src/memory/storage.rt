@@ -294,7 +294,8 @@ impl Storage {
             × (fault_in partition.now name.now versions self.now.files ≡ None) × (opened.blob ≡ handle_in partition.now name.now self.now.files)
             × (opened.size ≡ (shown_in partition.now name.now self.now.files).size)
             × (opened.version ≡ (shown_in partition.now name.now self.now.files).version))) }
-        ensures err { IfErr result (λ e. ((fault : HeaderError) × (e ≡ Error.Header fault)
+        ensures err { IfErr result (λ e. ((fault : HeaderError)
+            × (list_any (has_name partition.now name.now) self.now.files ≡ true) × (e ≡ Error.Header fault)
             × (fault_in partition.now name.now versions self.now.files ≡ Some fault)) ⊎ (e ≡ Error.Memory)) }
     {
         let Some(durable) = durable_of(self.alloc, &self.files, partition, name)? else {

@@ -1,7 +1,7 @@
 use Rattle.std.proofs.Common.{rules, ◌≡◌, true, false, Ok, refl}
 use Rattle.fault_storage.specs.Stores.{published}
 use Rattle.auth_store_device.specs.Logs.{has_log, durable_log}
-use Rattle.auth_store_device.proofs.Shown.{found_shows, made_shows}
+use Rattle.auth_store_device.proofs.Shown.{found_fine, found_shows, made_shows, refused_header}
 use Rattle.auth_store_device.proofs.opening.open_log.Goals as goal
 
 pub returns-in-Some-clause-opens : goal.returns-in-Some-clause-opens
@@ -26,9 +26,21 @@ returns-in-Some-clause-admitted g c =
 pub returns-in-None-clause-shows : goal.returns-in-None-clause-shows
 returns-in-None-clause-shows g c =
     let none : has_log c.args.storage.now.inner ≡ false = search rules in
-    (made_shows g.R.Rng.stream c.args.storage.now.config.open c.args.storage.now c.open_versioned.new.self c.in-Ok.opened (search rules) c.requires.orderly none).0
+    (made_shows g.R.Rng.stream c.args.storage.now.config.open c.args.storage.now c.open_versioned.new.self c.in-Ok.opened
+    (search rules) c.requires.orderly none).0
 
 pub returns-in-None-clause-admitted : goal.returns-in-None-clause-admitted
 returns-in-None-clause-admitted g c =
     let none : has_log c.args.storage.now.inner ≡ false = search rules in
-    (made_shows g.R.Rng.stream c.args.storage.now.config.open c.args.storage.now c.open_versioned.new.self c.in-Ok.opened (search rules) c.requires.orderly none).1
+    (made_shows g.R.Rng.stream c.args.storage.now.config.open c.args.storage.now c.open_versioned.new.self c.in-Ok.opened
+    (search rules) c.requires.orderly none).1
+
+pub returns-in-Some-clause-fine : goal.returns-in-Some-clause-fine
+returns-in-Some-clause-fine g c =
+    let has : has_log c.args.storage.now.inner ≡ true = search rules in
+    λ _. found_fine g.R.Rng.stream c.args.storage.now.config.open c.args.storage.now c.open_versioned.new.self c.in-Ok.opened
+    (search rules) c.requires.orderly has
+
+pub returns-in-Err-clause-header : goal.returns-in-Err-clause-header
+returns-in-Err-clause-header g c = λ fault is.
+    refused_header g.R.Rng.stream c.args.storage.now.config.open c.args.storage.now c.open_versioned.new.self c.in-Err.e fault (search rules) (search rules)

@@ -1,0 +1,232 @@
+//! The openings of a device, lent from its record.
+
+ghost use Rattle.std.specs.Prelude.{◌≡◌, ◌≤◌, [], false, length, take, drop, map, reverse, IfOk, IfSome, IfNone};
+ghost use Rattle.std.specs.Iterator.{YieldsFirst, YieldsFirstBy, item_count};
+ghost use Rattle.std.specs.List.{list_any};
+ghost use Rattle.fault_storage_parts.specs.Crc32.{crc32};
+ghost use Rattle.paged_format.specs.Footers.{IsPageSize};
+ghost use Rattle.paged_blob.specs.Calls.{File, file_of};
+ghost use Rattle.paged_blob.specs.Chance.{is_by_chance};
+ghost use Rattle.paged_blob.specs.Recorded.{calls_of};
+ghost use Rattle.auth_store_device.specs.Openings.{openings_of, mutations_of, plain};
+ghost use Rattle.auth_store_device.specs.OpeningsCode.{is_base, file_after, file_from};
+ghost use Rattle.auth_store_device.specs.Devices.{shown_file};
+
+use crate::chance::has_chance_slot;
+use fault_storage::Crc32;
+use paged_blob::Recorded;
+use std::alloc::{AllocError, Global};
+use std::marker::Model;
+
+/// The openings that are left of a record, the oldest first (own).
+#[derive(Debug, Drop)]
+pub struct Openings<'a> {
+    record_kept: &'a [Recorded],
+    place: usize,
+}
+
+impl<'a> Model for Openings<'a> {
+    ghost use Rattle.std.specs.Prelude.{List, ◌≤◌, length, take, drop};
+    ghost use Rattle.auth_store_device.specs.Openings.{Showing};
+    ghost use Rattle.auth_store_device.specs.OpeningsCode.{openings_from};
+
+    ghost Value = { List Showing };
+
+    ghost view = { λ it. openings_from (take it.place it.record_kept.now) (drop it.place it.record_kept.now) };
+
+    ghost invariant = { λ it. it.place ≤ length it.record_kept.now };
+}
+
+impl<'a> Openings<'a> {
+    /// Those of a record that has the oldest call first.
+    pub(crate) fn of(record_kept: &'a [Recorded]) -> Openings<'a>
+        ensures { result ≡ openings_of (calls_of record_kept.now) }
+    {
+        Openings {
+            record_kept,
+            place: 0,
+        }
+    }
+}
+
+impl<'a> Iterator for Openings<'a> {
+    type Item = Opening<'a>;
+
+    ghost next_gives = { YieldsFirst (λ s. s) };
+
+    ghost remaining = { item_count (λ s. s) };
+
+    fn next(&mut self) -> Option<Opening<'a>> {
+        while self.place < self.record_kept.len() {
+            let place = self.place;
+            self.place += 1;
+            if let Recorded::Opened(shown) = &self.record_kept[place] {
+                return Some(Opening {
+                    earlier: &self.record_kept[..place],
+                    shown,
+                });
+            }
+        }
+        None
+    }
+}
+
+/// An opening of the device: what it showed, and the calls before it (own).
+#[derive(Debug, Drop)]
+pub struct Opening<'a> {
+    earlier: &'a [Recorded],
+    shown: &'a [u8],
+}
+
+impl<'a> Model for Opening<'a> {
+    ghost use Rattle.paged_blob.specs.Recorded.{calls_of};
+    ghost use Rattle.auth_store_device.specs.Openings.{Showing};
+
+    ghost Value = { Showing };
+
+    ghost view = { λ it. record { before = calls_of it.earlier.now; shown = it.shown.now } };
+}
+
+impl<'a> Opening<'a> {
+    /// The bytes that were durable at the sync or opening before, behind the header.
+    pub fn base(&self) -> &'a [u8]
+        ensures { result.now ≡ (file_of self.now.before).base }
+    {
+        since_base(self.earlier).base
+    }
+
+    /// The bytes that the opening showed, behind the header.
+    pub fn shown(&self) -> &'a [u8]
+        ensures { result.now ≡ self.now.shown }
+    {
+        self.shown
+    }
+
+    /// The writes and resizes between the base and the opening, whole, the oldest first; those that failed are among
+    /// them.
+    pub fn mutations(&self) -> Mutations<'a>
+        ensures { result ≡ mutations_of self.now }
+    {
+        Mutations {
+            calls: since_base(self.earlier).calls,
+        }
+    }
+
+    /// Whether the opening is by chance, where pages have so many bytes, with checksums CRC-32: a slot of the bytes
+    /// that it showed verifies, and neither the base nor the base with the first of the mutations, each whole, has in
+    /// the same place that slot and the bytes that it vouches for. It fails only when out of memory. That a page may
+    /// have so many bytes is on the caller.
+    pub fn by_chance(&self, alloc: Global, physical_page_size: u32) -> Result<bool, AllocError>
+        requires { IsPageSize physical_page_size }
+        ensures { IfOk result (λ is. is
+            ≡ is_by_chance crc32 physical_page_size (file_of self.now.before) self.now.shown) }
+    {
+        let since = since_base(self.earlier);
+        has_chance_slot::<Crc32>(alloc, &since, self.shown, physical_page_size as usize)
+    }
+}
+
+/// A write or a resize that was asked for, whole (own).
+#[derive(Debug, Drop)]
+pub enum Mutation<'a> {
+    /// A write.
+    Write {
+        /// Where its bytes begin.
+        offset: u64,
+        /// The bytes.
+        bytes: &'a [u8],
+    },
+    /// A resize.
+    Resize {
+        /// The length that was asked for.
+        length: u64,
+    },
+}
+
+/// The mutations that are left of calls, the oldest first (own).
+#[derive(Debug, Drop)]
+pub struct Mutations<'a> {
+    calls: &'a [Recorded],
+}
+
+impl<'a> Model for Mutations<'a> {
+    ghost use Rattle.std.specs.Prelude.{List, map};
+    ghost use Rattle.paged_blob.specs.Calls.{Change};
+    ghost use Rattle.auth_store_device.specs.Openings.{plain};
+    ghost use Rattle.auth_store_device.specs.OpeningsCode.{changes_in};
+
+    ghost Value = { List Change };
+
+    ghost view = { λ it. map plain (changes_in it.calls.now) };
+}
+
+impl<'a> Iterator for Mutations<'a> {
+    ghost use Rattle.auth_store_device.specs.Mutations.{change_of};
+
+    type Item = Mutation<'a>;
+
+    ghost next_gives = { YieldsFirstBy change_of (λ s. s) };
+
+    ghost remaining = { item_count (λ s. s) };
+
+    fn next(&mut self) -> Option<Mutation<'a>> {
+        while let Some((call, later)) = self.calls.split_first() {
+            self.calls = later;
+            match call {
+                Recorded::Wrote(offset, bytes, _, _) => {
+                    return Some(Mutation::Write {
+                        offset: *offset,
+                        bytes,
+                    });
+                }
+                Recorded::ResizedTo(length, _) => {
+                    return Some(Mutation::Resize { length: *length });
+                }
+                _ => {}
+            }
+        }
+        None
+    }
+}
+
+/// A base, and the calls since, none of which begins the file anew.
+#[derive(Drop)]
+pub(crate) struct Since<'a> {
+    /// The bytes that were durable.
+    pub(crate) base: &'a [u8],
+    /// The calls since, the oldest first.
+    pub(crate) calls: &'a [Recorded],
+}
+
+// The bytes with which the file begins anew, where it does with this call.
+fn base_in(call: &Recorded) -> Option<&[u8]>
+    ensures none { IfNone result (is_base call.now ≡ false) }
+    ensures some { IfSome result (λ base. (file : File) → file_after call.now file ≡ shown_file base.now) }
+{
+    match call {
+        Recorded::Opened(shown) => Some(shown),
+        Recorded::Synced(bytes, true) => Some(bytes),
+        _ => None,
+    }
+}
+
+/// The last base of a record, and the calls since; nothing and all of them where there is none.
+pub(crate) fn since_base(earlier: &[Recorded]) -> Since<'_>
+    ensures file { file_of (calls_of earlier.now) ≡ file_from (shown_file result.base.now) result.calls.now }
+    ensures calls { list_any is_base result.calls.now ≡ false }
+{
+    let mut count = earlier.len();
+    while count > 0 {
+        if let Some(base) = base_in(&earlier[count - 1]) {
+            return Since {
+                base,
+                calls: &earlier[count..],
+            };
+        }
+        count -= 1;
+    }
+    Since {
+        base: &[],
+        calls: earlier,
+    }
+}
