@@ -90,3 +90,9 @@ after-before next (u ∷ us) k old from lt =
     let other : u.0 ≡ k → ⊥ = λ same. absurd (omega (arith, same, from.0, lt)) in
     ap (value_after us k) (cond-false (eqb u.0 k) u.1 old (ne_eqb u.0 k other))
     ∙ after-before u.0 us k old from.1 (omega (arith, lt, from.0))
+
+-- one more replacement is the last one
+pub replaced-more : (xs : List (List ℕ)) (us : List Replacement) (u : Replacement)
+    → replaced xs (us ++ u ∷ []) ≡ slice_set (replaced xs us) u.0 u.1
+replaced-more xs [] u = refl
+replaced-more xs (v ∷ us) u = replaced-more (slice_set xs v.0 v.1) us u
