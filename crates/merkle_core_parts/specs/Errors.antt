@@ -3,7 +3,8 @@ use Rattle.std.specs.Prelude.{◌≡◌, ℕ, List, ◌+◌, ◌++◌, ◌<◌, 
 use Rattle.std.specs.Fmt.{decimal}
 use Rattle.merkle_core_parts.specs.Mem.{Base, Replacement}
 use Rattle.merkle_core_parts.specs.declared.error.Error.{Error}
-use Rattle.merkle_core_parts.specs.declared.error.Error.TheVariants.{LocationOverflow, LeafOutOfBounds, StaleBatch, InvalidInactivePeaks, MissingNode, Memory}
+use Rattle.merkle_core_parts.specs.declared.error.Error.TheVariants.{LocationOverflow, LeafOutOfBounds, StaleBatch}
+use Rattle.merkle_core_parts.specs.declared.error.Error.TheVariants.{InvalidInactivePeaks, MissingNode, Memory}
 
 -- an error's number and what it means
 abbrev pub error_text : {F : Type 0} → Error F → List ℕ

@@ -17,8 +17,9 @@ use merkle_forest::{Digest, Location, Position};
 use std::alloc::{AllocError, Global};
 use std::marker::{Model, PhantomData};
 
-/// Leaves that are to be added to a tree, its base, and leaves that are to get other digests. Contracts see the base, as
-/// its leaf count and the digests of its peaks, the digests of the new leaves, and then the updates, one after the other.
+/// Leaves that are to be added to a tree, its base, and leaves that are to get other digests. Contracts see the base,
+/// as its leaf count and the digests of its peaks, the digests of the new leaves, and then the updates, one after the
+/// other.
 /// In the Rust: `merkle::batch::UnmerkleizedBatch`.
 #[derive(Debug, Drop)]
 pub struct UnmerkleizedBatch<F: Family, D: Digest> {
@@ -140,8 +141,8 @@ impl<F: Family, D: Digest> UnmerkleizedBatch<F, D> {
         Ok(())
     }
 
-    /// Gives the leaf at a location this digest, a leaf of the base or one that was added. Where no leaf stands there: M7
-    /// with the location; out of memory: M23. The batch is then given up.
+    /// Gives the leaf at a location this digest, a leaf of the base or one that was added. Where no leaf stands there:
+    /// M7 with the location; out of memory: M23. The batch is then given up.
     /// In the Rust: `merkle::batch::UnmerkleizedBatch::update_leaf_digest`.
     pub fn update_leaf_digest(
         self,
@@ -160,8 +161,8 @@ impl<F: Family, D: Digest> UnmerkleizedBatch<F, D> {
         Ok(batch)
     }
 
-    /// Gives the leaf at a location the digest of this element. Where no leaf stands there: M7 with the location; out of
-    /// memory: M23. The batch is then given up.
+    /// Gives the leaf at a location the digest of this element. Where no leaf stands there: M7 with the location; out
+    /// of memory: M23. The batch is then given up.
     /// In the Rust: `merkle::batch::UnmerkleizedBatch::update_leaf`.
     pub fn update_leaf<H: Hasher<F, Digest = D>>(
         self,
@@ -205,9 +206,9 @@ impl<F: Family, D: Digest> UnmerkleizedBatch<F, D> {
     }
 
     /// Makes the nodes that the batch adds to its base, and those of the base that its updates change. A node that is
-    /// needed and that the base does not have: M20 with its position; out of memory: M23. The batch is given up. That the
-    /// tree handed in is the one that the batch was made over is on the caller; over one of another leaf count the digests
-    /// are of no tree.
+    /// needed and that the base does not have: M20 with its position; out of memory: M23. The batch is given up. That
+    /// the tree handed in is the one that the batch was made over is on the caller; over one of another leaf count the
+    /// digests are of no tree.
     /// In the Rust: `merkle::batch::UnmerkleizedBatch::merkleize`, which shares its answer.
     pub fn merkleize<H: Hasher<F, Digest = D>>(
         self,
@@ -285,9 +286,9 @@ fn push_updates<F: Family, D: Digest>(
     Ok(())
 }
 
-/// Nodes that are to be added to a tree, their base, and nodes of it that get other digests. Contracts see the base, as
-/// its leaf count and the digests of its peaks, how many leaves there are with the new ones, the digests of the new nodes
-/// in order of position, and the digests of the changed ones, each at its position.
+/// Nodes that are to be added to a tree, their base, and nodes of it that get other digests. Contracts see the base,
+/// as its leaf count and the digests of its peaks, how many leaves there are with the new ones, the digests of the new
+/// nodes in order of position, and the digests of the changed ones, each at its position.
 /// In the Rust: `merkle::batch::MerkleizedBatch`.
 #[derive(Debug, Drop)]
 pub struct MerkleizedBatch<F: Family, D: Digest> {
@@ -341,7 +342,8 @@ impl<F: Family, D: Digest> MerkleizedBatch<F, D> {
         F::location_to_position(Location::new(self.base_leaves))
     }
 
-    /// The digest of the new node at a position. Where no new node stands there, as at a position of the base, it is None.
+    /// The digest of the new node at a position. Where no new node stands there, as at a position of the base, it is
+    /// None.
     /// In the Rust: `merkle::batch::MerkleizedBatch::get_node`.
     pub fn get_node(&self, position: Position<F>) -> Option<D>
         ensures before { position < node_count F.merge_rule self.now.base.leaves → IsNone result }

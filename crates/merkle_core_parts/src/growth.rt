@@ -1,7 +1,7 @@
 //! The nodes that leaves add to a tree: a leaf, and the branches that the family's merges make with it.
 //!
-//! A branch is made from its two children. They are nodes that were made since, or peaks of the base: so no other node of
-//! the base is read, and a leaf costs one hash for each node that it adds.
+//! A branch is made from its two children. They are nodes that were made since, or peaks of the base: so no other node
+//! of the base is read, and a leaf costs one hash for each node that it adds.
 
 ghost use Rattle.std.specs.Prelude.{◌≡◌, ◌<◌, ◌≤◌, ◌+◌, ◌^◌, ℕ, suc, List, Some, map, length, slice_get};
 ghost use Rattle.std.specs.Prelude.{option_map, find, ◌==◌, IsSome, OnOk};

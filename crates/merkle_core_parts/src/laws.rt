@@ -17,8 +17,8 @@ pub fn plain_roots_are_tree_roots<F: Family>()
         inactive ≡ tree_root hash bagging F.merge_rule elements inactive }
 {}
 
-/// A batch's nodes, made over one tree of a list of leaf digests, make of each tree of that list one of the list that the
-/// batch makes of it.
+/// A batch's nodes, made over one tree of a list of leaf digests, make of each tree of that list one of the list that
+/// the batch makes of it.
 pub fn nodes_fit_each_tree_of_the_list<F: Family>()
     ensures { (node : NodeHash) (some list : List (List ℕ)) (one other : Nodes) (batch : Growth)
         → length some ≤ length list

@@ -6,7 +6,8 @@ ghost use Rattle.merkle_forest.specs.Forest.{size, forest_of};
 ghost use Rattle.merkle_forest.specs.Hashing.{root_of};
 ghost use Rattle.merkle_forest.specs.Peaks.{peak_positions};
 ghost use Rattle.merkle_core_parts.specs.Errors.{IsRefusalOnto};
-ghost use Rattle.merkle_core_parts.specs.Mem.{node_count, node_at, peak_digests, AreNodesOf, list_root, base_of, with_batch};
+ghost use Rattle.merkle_core_parts.specs.Mem.{node_count, node_at, peak_digests, AreNodesOf, list_root};
+ghost use Rattle.merkle_core_parts.specs.Mem.{base_of, with_batch};
 
 use crate::batch::{MerkleizedBatch, UnmerkleizedBatch};
 use crate::error::Error;
@@ -159,9 +160,9 @@ impl<F: Family, D: Digest> Mem<F, D> {
         have_all_peaks::<F, D>(self.leaves, &self.digests, batch.base_peaks())
     }
 
-    /// Adds the batch's nodes, and changes those that it changes. Where the tree is not the batch's base, by its leaf count and the digests of its peaks:
-    /// M13; out of memory: M23. It then stays as it was. That trees of one leaf count and equal digests of peaks stand
-    /// over one list of leaf digests is for the caller to know.
+    /// Adds the batch's nodes, and changes those that it changes. Where the tree is not the batch's base, by its leaf
+    /// count and the digests of its peaks: M13; out of memory: M23. It then stays as it was. That trees of one leaf
+    /// count and equal digests of peaks stand over one list of leaf digests is for the caller to know.
     /// In the Rust: `merkle::mem::Mem::apply_batch`.
     pub fn apply_batch(&mut self, batch: &MerkleizedBatch<F, D>) -> Result<(), Error<F>>
         ensures applied { OnOk result (self.new ≡ with_batch self.old batch.now) }

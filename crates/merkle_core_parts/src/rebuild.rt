@@ -30,7 +30,8 @@ struct Place {
 // Puts each digest at its index less `first`, where that is an index of the list, one after the other.
 fn put_digests<D: Digest>(digests: &mut [D], first: u64, changes: &[(u64, D)])
     ensures { (k : ℕ) → slice_get (map D.encoding digests.new) k
-        ≡ option_map (value_after (encoded D.encoding changes.now) (first + k)) (slice_get (map D.encoding digests.old) k) }
+        ≡ option_map (value_after (encoded D.encoding changes.now) (first + k))
+        (slice_get (map D.encoding digests.old) k) }
 {
     for (index, digest) in changes {
         if *index >= first {
@@ -101,8 +102,8 @@ fn leaf_span(height: u32) -> u64
     1u64 << height
 }
 
-// The digest of the node at a place of the forest of so many leaves, after the updates from `next` on, and which of them
-// is the first past its leaves. Appends the nodes that change.
+// The digest of the node at a place of the forest of so many leaves, after the updates from `next` on, and which of
+// them is the first past its leaves. Appends the nodes that change.
 fn rebuild<F: Family, H: Hasher<F>>(
     hasher: &H,
     base: &Mem<F, H::Digest>,

@@ -214,8 +214,8 @@ fn a_batch_tells_its_leaves_and_nodes(rt: HostRuntime) {
     assert_eq!(rt; told::<mmb::Family>(rt.alloc()), Ok((6, 6, 6, 10)));
 }
 
-// The tree of the elements 1 to 11, of which one batch changes the third to 21, the sixth to 23 and the tenth to 24, and
-// adds 25.
+// The tree of the elements 1 to 11, of which one batch changes the third to 21, the sixth to 23 and the tenth to 24,
+// and adds 25.
 fn updated<F: Family>(alloc: Global, bagging: Bagging) -> Result<Read, Error<F>> {
     let hasher: Standard<ByteHash> = Standard::new(bagging);
     let mut tree = eleven::<F>(alloc, &hasher)?;

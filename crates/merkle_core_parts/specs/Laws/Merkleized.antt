@@ -1,5 +1,6 @@
 -- A batch's nodes over the tree of a list are those of the list that the batch makes of it.
-use Rattle.std.proofs.Common.{◌≡◌, ℕ, zero, suc, ◌+◌, ◌-◌, ◌<◌, ◌≤◌, ◌⊎◌, inl, inr, ltb, List, [], ◌∷◌, ◌++◌, length, Option, Some, None, refl, sym, ◌∙◌, ap, ap₂, subst, arith, length-append}
+use Rattle.std.proofs.Common.{◌≡◌, ℕ, zero, suc, ◌+◌, ◌-◌, ◌<◌, ◌≤◌, ◌⊎◌, inl, inr, ltb, List, [], ◌∷◌, ◌++◌, length}
+use Rattle.std.proofs.Common.{Option, Some, None, refl, sym, ◌∙◌, ap, ap₂, subst, arith, length-append}
 use Rattle.std.proofs.lemmas.Bool.{cond-true, cond-false, lt-ltb, le-ltb}
 use Rattle.std.specs.Prelude.{slice_get, slice_index_or, IfSome, IsSome}
 use Rattle.std.specs.Option.{option_map}
@@ -9,7 +10,8 @@ use Rattle.merkle_forest.specs.Perfect.{IsPairing}
 use Rattle.merkle_forest.specs.Laws.ForestGrowth.{leaves-forest_of}
 use Rattle.merkle_forest.specs.Laws.Nodes.{node-fits}
 use Rattle.merkle_forest.specs.Laws.NodeGrowth.{numbered}
-use Rattle.merkle_core_parts.specs.Mem.{Nodes, Additions, Growth, Replacement, NodeHash, node_count, node_at, tree_digest, AreNodesOf, replaced, with_leaves, with_batch}
+use Rattle.merkle_core_parts.specs.Mem.{Nodes, Additions, Growth, Replacement, NodeHash, node_count, node_at}
+use Rattle.merkle_core_parts.specs.Mem.{tree_digest, AreNodesOf, replaced, with_leaves, with_batch}
 use Rattle.merkle_core_parts.specs.Laws.Batches.{get-back}
 use Rattle.merkle_core_parts.specs.Laws.Kept.{later}
 use Rattle.merkle_core_parts.specs.Laws.Made.{AreMade, HavePeaks, known_over, digest_at, known-some, get-front}

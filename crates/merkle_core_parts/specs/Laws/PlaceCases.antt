@@ -10,7 +10,8 @@ use Rattle.merkle_forest.specs.Laws.NodeGrowth.{numbered, one-node}
 use Rattle.merkle_core_parts.specs.Mem.{Replacement, NodeHash, encoded, node_count}
 use Rattle.merkle_core_parts.specs.Laws.Places.{node-left, node-right}
 use Rattle.merkle_core_parts.specs.Laws.Due.{not-due, due-first}
-use Rattle.merkle_core_parts.specs.Laws.Rebuilt.{Digests, IsSetting, ArePending, IsDue, AreTaken, IsRight, IsPlace, IsRebuilt, after-leaf, untouched-rebuilt, leaf-rebuilt, branch-rebuilt}
+use Rattle.merkle_core_parts.specs.Laws.Rebuilt.{Digests, IsSetting, ArePending, IsDue, AreTaken, IsRight, IsPlace}
+use Rattle.merkle_core_parts.specs.Laws.Rebuilt.{IsRebuilt, after-leaf, untouched-rebuilt, leaf-rebuilt, branch-rebuilt}
 
 pub place-fits : (rule : Rule) → IsPairing rule → (n first p h : ℕ) → n ≤ 2 ^ 62 → IsPlace rule n first p h
     → (h ≤ 62) × (first + 2 ^ h ≤ n)

@@ -2,7 +2,8 @@ use Rattle.std.proofs.Common.{◌≡◌, ◌+◌, ◌-◌, ◌^◌, suc, Some, d
 use Rattle.merkle_forest.specs.Forest.{leaf_count}
 use Rattle.merkle_core_parts.specs.Mem.{encoded, node_at}
 use Rattle.merkle_core_parts.specs.Laws.Rebuilt.{IsDue, IsRebuilt, AreTaken}
-use Rattle.merkle_core_parts.specs.Laws.PlaceCases.{place-fits, place-below, place-branch, place-halves, case-untouched, case-leaf, case-branch, encoded-push}
+use Rattle.merkle_core_parts.specs.Laws.PlaceCases.{place-fits, place-below, place-branch, place-halves, case-untouched}
+use Rattle.merkle_core_parts.specs.Laws.PlaceCases.{case-leaf, case-branch, encoded-push}
 use Rattle.merkle_core_parts.proofs.rebuild.+rebuild.Goals as goal
 
 pub leaf_span-requires : goal.leaf_span-requires

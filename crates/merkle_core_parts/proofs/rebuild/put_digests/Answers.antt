@@ -5,7 +5,8 @@ use Rattle.merkle_core_parts.specs.Mem.{encoded}
 use Rattle.merkle_core_parts.specs.Laws.Replaced.{value_after}
 use Rattle.merkle_core_parts.specs.Laws.Encoded.{take-encoded, put-none, put-there, more-after}
 use Rattle.merkle_core_parts.proofs.rebuild.put_digests.Goals as goal
-use Rattle.merkle_core_parts.proofs.rebuild.put_digests.Goals.{then-index-first+then-place-digests, then-index-first+else-place-digests, else-index-first}
+use Rattle.merkle_core_parts.proofs.rebuild.put_digests.Goals.{then-index-first+then-place-digests}
+use Rattle.merkle_core_parts.proofs.rebuild.put_digests.Goals.{then-index-first+else-place-digests, else-index-first}
 
 pub loop-index-preserved : goal.loop-index-preserved
 loop-index-preserved g c k =
