@@ -1,8 +1,19 @@
 -- What follows from the definitions. No reader has to believe it.
 pub mod Batches
+pub mod Bounds
+pub mod Due
+pub mod Encoded
 pub mod Growth
+pub mod Kept
 pub mod Made
 pub mod Mem
+pub mod Merkleized
+pub mod PeakSteps
 pub mod Peaks
+pub mod PlaceCases
 pub mod Places
 pub mod Plain
+pub mod Rebuilt
+pub mod Replaced
+pub mod Sorted
+pub mod Updated

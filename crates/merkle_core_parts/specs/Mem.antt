@@ -1,5 +1,5 @@
 -- A tree that is kept in memory as the digests of its nodes.
-use Rattle.std.specs.Prelude.{◌≡◌, ℕ, suc, ◌+◌, List, [], ◌∷◌, ◌++◌, map, length, slice_get, slice_index_or, Some}
+use Rattle.std.specs.Prelude.{◌≡◌, ℕ, suc, ◌+◌, List, [], ◌∷◌, ◌++◌, map, length, slice_get, slice_set, slice_index_or, Option, Some}
 use Rattle.merkle_forest.specs.Forest.{Tree, leaf, branch, position, leaf_count, size, Rule, forest_of}
 use Rattle.merkle_forest.specs.declared.bagging.Bagging.{Bagging}
 use Rattle.merkle_forest.specs.Hashing.{Hash, leaf_string, node_string, root_of}
@@ -16,6 +16,10 @@ pub record Nodes : Type 0 where
 abbrev pub node_count : Rule → ℕ → ℕ
 node_count rule leaves = size (forest_of rule leaves)
 
+-- the digest of the node at a position; None where none stands there
+abbrev pub node_at : Nodes → ℕ → Option (List ℕ)
+node_at nodes position = slice_get nodes.digests position
+
 -- the digest of a branch, from its position and the digests of its two children
 abbrev pub NodeHash : Type 0
 NodeHash = ℕ → List ℕ → List ℕ → List ℕ
@@ -29,6 +33,7 @@ tree_digest node leaf_digests start (branch p left right) =
 -- these are the nodes of the tree over these leaf digests, as the rule grows it and branches are hashed
 pub record AreNodesOf (node : NodeHash) (rule : Rule) (leaf_digests : List (List ℕ)) (nodes : Nodes) : Type 0 where
   pub counted : nodes.leaves ≡ length leaf_digests
+  pub held : length nodes.digests ≡ node_count rule (length leaf_digests)
   pub digests : (first : ℕ) (tree : Tree) → IsNodeAt first tree (forest_of rule (length leaf_digests))
       → slice_get nodes.digests (position tree) ≡ Some (tree_digest node leaf_digests first tree)
 
@@ -67,18 +72,39 @@ pub record Base : Type 0 where
 abbrev pub base_of : Rule → Nodes → Base
 base_of rule nodes = record { leaves = nodes.leaves; peaks = peak_digests rule nodes }
 
--- a batch of leaves: the base that they are added to, and their digests
+-- a digest that is to stand at an index of a list
+abbrev pub Replacement : Type 0
+Replacement = ℕ × List ℕ
+
+-- a list after these replacements, one after the other
+abbrev pub replaced : List (List ℕ) → List Replacement → List (List ℕ)
+replaced digests [] = digests
+replaced digests (one ∷ more) = replaced (slice_set digests one.0 one.1) more
+
+-- the bytes of the digests that are to stand somewhere
+abbrev pub encoded : {D : Type 0} → (D → List ℕ) → List (ℕ × D) → List Replacement
+encoded encoding digests = map (λ one. (one.0, encoding one.1)) digests
+
+-- a batch of leaves: the base, the digests of the leaves that are added to it, and then the leaves of either that get
+-- another digest, one after the other, each at its location
 pub record Additions : Type 0 where
   pub base : Base
   pub added : List (List ℕ)
+  pub updates : List Replacement
 
--- a batch of nodes: the base that they are added to, how many leaves there are then, and the digests of the new nodes, in
--- order of position
+-- the leaf digests of the base with a batch's leaves
+abbrev pub with_leaves : List (List ℕ) → Additions → List (List ℕ)
+with_leaves leaf_digests batch = replaced (leaf_digests ++ batch.added) batch.updates
+
+-- a batch of nodes: the base, how many leaves there are then, the digests of the new nodes in order of position, and the
+-- nodes of the base that get another digest, each at its position
 pub record Growth : Type 0 where
   pub base : Base
   pub leaves : ℕ
   pub digests : List (List ℕ)
+  pub changed : List Replacement
 
--- a tree with a batch's nodes after its own
+-- a tree with a batch's nodes after its own, and its own changed as the batch says
 abbrev pub with_batch : Nodes → Growth → Nodes
-with_batch nodes batch = record { leaves = batch.leaves; digests = nodes.digests ++ batch.digests }
+with_batch nodes batch =
+    record { leaves = batch.leaves; digests = replaced (nodes.digests ++ batch.digests) batch.changed }

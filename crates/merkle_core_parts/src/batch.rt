@@ -1,21 +1,25 @@
 //! Batches of changes to a tree: first the leaves that they add over a base, then the nodes that these make.
 
-ghost use Rattle.std.specs.Prelude.{◌≡◌, ◌<◌, ◌≤◌, ◌+◌, ◌^◌, ◌++◌, ◌∷◌, [], ℕ, List, map, take, length};
+ghost use Rattle.std.specs.Prelude.{◌≡◌, ◌<◌, ◌≤◌, ◌+◌, ◌^◌, ◌++◌, ◌∷◌, [], ℕ, List, map, length};
 ghost use Rattle.std.specs.Prelude.{◌-◌, option_map, slice_get, IsNone, IfOk, IfErr};
-ghost use Rattle.merkle_core_parts.specs.Errors.{IsRefusalOver, IsRefusalPast, IsRefusalOfMany};
-ghost use Rattle.merkle_core_parts.specs.Mem.{node_count, AreNodesOf, with_batch};
+ghost use Rattle.std.specs.Prelude.{◌↔◌, IsOk, OnOk, None, find, nat_le};
+ghost use Rattle.merkle_core_parts.specs.Errors.{IsRefusalOver, IsRefusalPast, IsRefusalOfMany, IsRefusalAt};
+ghost use Rattle.merkle_core_parts.specs.Errors.{first_past, IsRefusalOfUpdates};
+ghost use Rattle.merkle_core_parts.specs.Mem.{node_count, node_at, encoded, AreNodesOf, with_leaves, with_batch};
 
 use crate::error::Error;
 use crate::growth::push_leaves;
 use crate::mem::Mem;
+use crate::rebuild::{put_all, rebuild_peaks, sort_updates};
 use merkle_forest::family::{Family, MAX_LEAVES};
 use merkle_forest::hasher::Hasher;
 use merkle_forest::{Digest, Location, Position};
-use std::alloc::Global;
+use std::alloc::{AllocError, Global};
 use std::marker::{Model, PhantomData};
 
-/// Leaves that are to be added to a tree, its base. Contracts see the base, as its leaf count and the digests of its
-/// peaks, and the digests of the leaves.
+/// Leaves that are to be added to a tree, its base, and leaves that are to get other digests. Contracts see the base,
+/// as its leaf count and the digests of its peaks, the digests of the new leaves, and then the updates, one after the
+/// other.
 /// In the Rust: `merkle::batch::UnmerkleizedBatch`.
 #[derive(Debug, Drop)]
 pub struct UnmerkleizedBatch<F: Family, D: Digest> {
@@ -23,18 +27,20 @@ pub struct UnmerkleizedBatch<F: Family, D: Digest> {
     base_leaves: u64,
     base_peaks: Vec<D>,
     added: Vec<D>,
+    updates: Vec<(u64, D)>,
     family: PhantomData<F>,
 }
 
 impl<F: Family, D: Digest> Model for UnmerkleizedBatch<F, D> {
     ghost use Rattle.std.specs.Prelude.{◌≤◌, ◌+◌, ◌^◌, map, length};
-    ghost use Rattle.merkle_core_parts.specs.Mem.{Additions};
+    ghost use Rattle.merkle_core_parts.specs.Mem.{Additions, encoded};
 
     ghost Value = { Additions };
 
     ghost view = { λ b. record {
       base = record { leaves = b.base_leaves; peaks = map D.encoding b.base_peaks.items };
       added = map D.encoding b.added.items;
+      updates = encoded D.encoding b.updates.items;
     } };
 
     ghost invariant = { λ b. b.base_leaves + length b.added.items ≤ 2 ^ 62 };
@@ -51,6 +57,7 @@ impl<F: Family, D: Digest> UnmerkleizedBatch<F, D> {
         ensures { result ≡ record {
           base = record { leaves = base_leaves; peaks = map D.encoding base_peaks.items };
           added = [];
+          updates = [];
         } }
     {
         UnmerkleizedBatch {
@@ -58,6 +65,7 @@ impl<F: Family, D: Digest> UnmerkleizedBatch<F, D> {
             base_leaves,
             base_peaks,
             added: Vec::new(alloc),
+            updates: Vec::new(alloc),
             family: PhantomData,
         }
     }
@@ -122,9 +130,85 @@ impl<F: Family, D: Digest> UnmerkleizedBatch<F, D> {
         Ok(batch)
     }
 
-    /// Makes the nodes that the batch adds to its base. Where the base has fewer nodes than the one that the batch was
-    /// made over, and one of them is needed: M20 with its position; out of memory: M23. The batch is given up. That the
-    /// tree handed in is that base is on the caller; over one of another leaf count the digests are of no tree.
+    // Whether a leaf stands at this location: M7 with it where none does.
+    fn check_location(&self, location: Location<F>) -> Result<(), Error<F>>
+        ensures within { IsOk result ↔ (location < self.now.base.leaves + length self.now.added) }
+        ensures refused { IfErr result (λ e. e ≡ Error.LeafOutOfBounds location) }
+    {
+        if location >= self.leaves() {
+            return Err(Error::LeafOutOfBounds(location));
+        }
+        Ok(())
+    }
+
+    /// Gives the leaf at a location this digest, a leaf of the base or one that was added. Where no leaf stands there:
+    /// M7 with the location; out of memory: M23. The batch is then given up.
+    /// In the Rust: `merkle::batch::UnmerkleizedBatch::update_leaf_digest`.
+    pub fn update_leaf_digest(
+        self,
+        location: Location<F>,
+        digest: D,
+    ) -> Result<UnmerkleizedBatch<F, D>, Error<F>>
+        ensures updated { IfOk result (λ batch. batch ≡ record self {
+          updates = self.updates ++ (location, D.encoding digest) ∷ [];
+        }) }
+        ensures within { OnOk result (location < self.base.leaves + length self.added) }
+        ensures refused { IfErr result (λ e. IsRefusalAt (self.base.leaves + length self.added) location e) }
+    {
+        self.check_location(location)?;
+        let mut batch = self;
+        batch.updates.push((location.as_u64(), digest))?;
+        Ok(batch)
+    }
+
+    /// Gives the leaf at a location the digest of this element. Where no leaf stands there: M7 with the location; out
+    /// of memory: M23. The batch is then given up.
+    /// In the Rust: `merkle::batch::UnmerkleizedBatch::update_leaf`.
+    pub fn update_leaf<H: Hasher<F, Digest = D>>(
+        self,
+        hasher: &H,
+        location: Location<F>,
+        element: &[u8],
+    ) -> Result<UnmerkleizedBatch<F, D>, Error<F>>
+        ensures updated { IfOk result (λ batch. batch ≡ record self {
+          updates = self.updates
+              ++ (location, H.leaf_of hasher.now (node_count F.merge_rule location) element.now) ∷ [];
+        }) }
+        ensures within { OnOk result (location < self.base.leaves + length self.added) }
+        ensures refused { IfErr result (λ e. IsRefusalAt (self.base.leaves + length self.added) location e) }
+    {
+        self.check_location(location)?;
+        let position = F::location_to_position(location);
+        self.update_leaf_digest(location, hasher.leaf_digest(position, element))
+    }
+
+    /// Gives leaves these digests, each at its location, in their order. Where no leaf stands at one: M7 with the first
+    /// such location; out of memory: M23. The batch is then given up.
+    /// In the Rust: `merkle::batch::UnmerkleizedBatch::update_leaf_batched`.
+    pub fn update_leaf_batched(
+        self,
+        updates: &[(Location<F>, D)],
+    ) -> Result<UnmerkleizedBatch<F, D>, Error<F>>
+        ensures updated { IfOk result (λ batch. batch ≡ record self {
+          updates = self.updates ++ encoded D.encoding updates.now;
+        }) }
+        ensures within { OnOk result
+            (first_past (self.base.leaves + length self.added) (encoded D.encoding updates.now) ≡ None) }
+        ensures refused { IfErr result (λ e. IsRefusalOfUpdates (self.base.leaves + length self.added)
+            (encoded D.encoding updates.now) e) }
+    {
+        if let Some(location) = first_out_of(self.leaves(), updates) {
+            return Err(Error::LeafOutOfBounds(location));
+        }
+        let mut batch = self;
+        push_updates(&mut batch.updates, updates)?;
+        Ok(batch)
+    }
+
+    /// Makes the nodes that the batch adds to its base, and those of the base that its updates change. A node that is
+    /// needed and that the base does not have: M20 with its position; out of memory: M23. The batch is given up. That
+    /// the tree handed in is the one that the batch was made over is on the caller; over one of another leaf count the
+    /// digests are of no tree.
     /// In the Rust: `merkle::batch::UnmerkleizedBatch::merkleize`, which shares its answer.
     pub fn merkleize<H: Hasher<F, Digest = D>>(
         self,
@@ -135,43 +219,76 @@ impl<F: Family, D: Digest> UnmerkleizedBatch<F, D> {
         ensures leaves { IfOk result (λ batch. batch.leaves ≡ self.base.leaves + length self.added) }
         ensures of_list { (leaf_digests : List (List ℕ)) → base.now.leaves ≡ self.base.leaves
             → AreNodesOf (H.node_of hasher.now) F.merge_rule leaf_digests base.now
-            → IfOk result (λ batch. AreNodesOf (H.node_of hasher.now) F.merge_rule (leaf_digests ++ self.added)
+            → IfOk result (λ batch. AreNodesOf (H.node_of hasher.now) F.merge_rule (with_leaves leaf_digests self)
             (with_batch base.now batch)) }
         ensures refused { IfErr result (λ e. IsRefusalOver (node_count F.merge_rule self.base.leaves)
-            (length base.now.digests) e) }
+            (node_at base.now) e) }
     {
+        let leaves = self.leaves().as_u64();
         let base_size = F::location_to_position(Location::new(self.base_leaves)).as_u64();
-        let held = first_digests(base.digests(), base_size);
+        let mut updates = self.updates;
+        let mut added = self.added;
+        put_all(&mut added, self.base_leaves, &updates);
+        sort_updates(&mut updates)?;
+        let mut changed = Vec::new(self.alloc);
+        let peaks = rebuild_peaks::<F, H>(
+            self.alloc,
+            hasher,
+            base,
+            self.base_leaves,
+            &updates,
+            &mut changed,
+        )?;
         let mut digests = Vec::new(self.alloc);
         push_leaves::<F, H>(
             hasher,
-            held,
-            base_size,
-            &mut digests,
             self.base_leaves,
-            &self.added,
+            base_size,
+            &peaks,
+            &mut digests,
+            &added,
         )?;
-        let leaves = self.base_leaves + self.added.len() as u64;
         Ok(MerkleizedBatch {
             base_leaves: self.base_leaves,
             base_peaks: self.base_peaks,
             leaves,
             digests,
+            changed,
             family: PhantomData,
         })
     }
 }
 
-// The first so many digests, or all where there are fewer.
-fn first_digests<D: Digest>(digests: &[D], count: u64) -> &[D]
-    ensures { result.now ≡ take count digests.now }
+// The first location that is not below a leaf count.
+fn first_out_of<F: Family, D: Digest>(
+    leaves: Location<F>,
+    updates: &[(Location<F>, D)],
+) -> Option<Location<F>>
+    ensures { result ≡ option_map (λ update. update.0) (find (λ update. nat_le leaves update.0) updates.now) }
 {
-    let count = (count as usize).min(digests.len());
-    &digests[..count]
+    updates
+        .iter()
+        .find(|update| update.0 >= leaves)
+        .map(|update| update.0)
 }
 
-/// Nodes that are to be added to a tree, their base. Contracts see the base, as its leaf count and the digests of its
-/// peaks, how many leaves there are with the new ones, and the digests of the new nodes in order of position.
+// Appends updates, in their order.
+fn push_updates<F: Family, D: Digest>(
+    updates: &mut Vec<(u64, D)>,
+    more: &[(Location<F>, D)],
+) -> Result<(), AllocError>
+    ensures { OnOk result (encoded D.encoding updates.new.items
+        ≡ encoded D.encoding updates.old.items ++ encoded D.encoding more.now) }
+{
+    for (location, digest) in more {
+        updates.push((location.as_u64(), *digest))?;
+    }
+    Ok(())
+}
+
+/// Nodes that are to be added to a tree, their base, and nodes of it that get other digests. Contracts see the base,
+/// as its leaf count and the digests of its peaks, how many leaves there are with the new ones, the digests of the new
+/// nodes in order of position, and the digests of the changed ones, each at its position.
 /// In the Rust: `merkle::batch::MerkleizedBatch`.
 #[derive(Debug, Drop)]
 pub struct MerkleizedBatch<F: Family, D: Digest> {
@@ -179,12 +296,13 @@ pub struct MerkleizedBatch<F: Family, D: Digest> {
     base_peaks: Vec<D>,
     leaves: u64,
     digests: Vec<D>,
+    changed: Vec<(u64, D)>,
     family: PhantomData<F>,
 }
 
 impl<F: Family, D: Digest> Model for MerkleizedBatch<F, D> {
     ghost use Rattle.std.specs.Prelude.{◌≡◌, ◌≤◌, ◌+◌, ◌^◌, map, length};
-    ghost use Rattle.merkle_core_parts.specs.Mem.{Growth, node_count};
+    ghost use Rattle.merkle_core_parts.specs.Mem.{Growth, encoded, node_count};
 
     ghost Value = { Growth };
 
@@ -192,6 +310,7 @@ impl<F: Family, D: Digest> Model for MerkleizedBatch<F, D> {
       base = record { leaves = b.base_leaves; peaks = map D.encoding b.base_peaks.items };
       leaves = b.leaves;
       digests = map D.encoding b.digests.items;
+      changed = encoded D.encoding b.changed.items;
     } };
 
     ghost invariant = { λ b. (b.base_leaves ≤ b.leaves) × (b.leaves ≤ 2 ^ 62)
@@ -212,8 +331,8 @@ impl<F: Family, D: Digest> MerkleizedBatch<F, D> {
         ensures size { result ≡ node_count F.merge_rule self.now.leaves }
         ensures held { result ≡ node_count F.merge_rule self.now.base.leaves + length self.now.digests }
     {
-        let _ = &self.digests;
-        F::location_to_position(self.leaves())
+        let base_size = F::location_to_position(Location::new(self.base_leaves));
+        base_size + self.digests.len() as u64
     }
 
     /// How many nodes the base has. In the Rust: `merkle::batch::MerkleizedBatch::base_size`.
@@ -223,7 +342,8 @@ impl<F: Family, D: Digest> MerkleizedBatch<F, D> {
         F::location_to_position(Location::new(self.base_leaves))
     }
 
-    /// The digest of the new node at a position. Where no new node stands there, as at a position of the base, it is None.
+    /// The digest of the new node at a position. Where no new node stands there, as at a position of the base, it is
+    /// None.
     /// In the Rust: `merkle::batch::MerkleizedBatch::get_node`.
     pub fn get_node(&self, position: Position<F>) -> Option<D>
         ensures before { position < node_count F.merge_rule self.now.base.leaves → IsNone result }
@@ -260,5 +380,12 @@ impl<F: Family, D: Digest> MerkleizedBatch<F, D> {
             ≡ node_count F.merge_rule self.now.leaves }
     {
         &self.digests
+    }
+
+    // The digests of the changed nodes, each with its position.
+    pub(crate) fn changed(&self) -> &[(u64, D)]
+        ensures { encoded D.encoding result.now ≡ self.now.changed }
+    {
+        &self.changed
     }
 }

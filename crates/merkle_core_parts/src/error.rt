@@ -12,6 +12,8 @@ use std::fmt;
 pub enum Error<F: Family> {
     /// M3: this location is past `MAX_LEAVES`. In the Rust: `merkle::Error::LocationOverflow`.
     LocationOverflow(Location<F>),
+    /// M7: no leaf stands at this location. In the Rust: `merkle::Error::LeafOutOfBounds`.
+    LeafOutOfBounds(Location<F>),
     /// M13: the tree is not the one that the batch begins from. In the Rust: `merkle::Error::StaleBatch`.
     StaleBatch,
     /// M16: there are fewer peaks than inactive ones. In the Rust: `merkle::Error::InvalidInactivePeaks`.
@@ -34,6 +36,7 @@ impl<F: Family> fmt::Display for Error<F> {
             Error::LocationOverflow(location) => {
                 write!(f, "M3: location {location} is past the limit")
             }
+            Error::LeafOutOfBounds(location) => write!(f, "M7: no leaf at location {location}"),
             Error::StaleBatch => f.write_str("M13: the batch begins from another tree"),
             Error::InvalidInactivePeaks => f.write_str("M16: fewer peaks than inactive ones"),
             Error::MissingNode(position) => write!(f, "M20: node {position} is missing"),

@@ -1,98 +1,124 @@
 //! The nodes that leaves add to a tree: a leaf, and the branches that the family's merges make with it.
 //!
-//! The nodes before may stand in two parts, those of a base and those that were added since. Each branch is made from
-//! the digests of its two children, which stand before it; so a leaf costs one hash for each node that it adds.
+//! A branch is made from its two children. They are nodes that were made since, or peaks of the base: so no other node
+//! of the base is read, and a leaf costs one hash for each node that it adds.
 
-ghost use Rattle.std.specs.Prelude.{◌≡◌, ◌<◌, ◌≤◌, ◌+◌, ◌^◌, ◌++◌, ◌∷◌, [], ℕ, suc, List, Some, map};
-ghost use Rattle.std.specs.Prelude.{length, slice_get, IfOk, IfErr, OnOk};
-ghost use Rattle.merkle_core_parts.specs.Errors.{IsRefusalOver};
-ghost use Rattle.merkle_core_parts.specs.Mem.{node_count, AreNodesOf};
+ghost use Rattle.std.specs.Prelude.{◌≡◌, ◌<◌, ◌≤◌, ◌+◌, ◌^◌, ℕ, suc, List, Some, map, length, slice_get};
+ghost use Rattle.std.specs.Prelude.{option_map, find, ◌==◌, IsSome, OnOk};
+ghost use Rattle.merkle_forest.specs.Forest.{leaf};
+ghost use Rattle.merkle_core_parts.specs.Mem.{node_count, encoded};
 ghost use Rattle.merkle_core_parts.specs.Laws.Growth.{IsParent};
-ghost use Rattle.merkle_core_parts.specs.Laws.Made.{AreMade};
+ghost use Rattle.merkle_core_parts.specs.Laws.Made.{known_over, HavePeaks, IsHashed, AreMade};
+ghost use Rattle.merkle_core_parts.specs.Laws.Rebuilt.{Digests};
 
-use crate::error::Error;
+use merkle_forest::Digest;
 use merkle_forest::family::{Family, MAX_LEAVES};
 use merkle_forest::hasher::Hasher;
-use merkle_forest::{Digest, Position};
+use std::alloc::AllocError;
 
-// The digest of the node at a position, of which the first `base_size` are those of the base. Where the base lacks it:
-// M20.
-fn node_at<F: Family, D: Digest>(
-    base: &[D],
+// The digest of the peak at a position.
+fn peak_digest<D: Digest>(peaks: &[(u64, D)], position: u64) -> Option<D>
+    ensures { result ≡ option_map (λ peak. peak.1) (find (λ peak. peak.0 == position) peaks.now) }
+{
+    peaks
+        .iter()
+        .find(|peak| peak.0 == position)
+        .map(|peak| peak.1)
+}
+
+// The digest at an index. Past the list it is None.
+fn digest_of<D: Digest>(digests: &[D], index: u64) -> Option<D>
+    ensures { option_map D.encoding result ≡ slice_get (map D.encoding digests.now) index }
+{
+    digests.get(index as usize).copied()
+}
+
+// The digest of a peak of the base, or of a node that was added to it.
+fn known_digest<D: Digest>(
+    peaks: &[(u64, D)],
     base_size: u64,
     added: &[D],
     position: u64,
-) -> Result<D, Error<F>>
-    requires { position < base_size + length added.now }
-    ensures found { length base.now ≡ base_size → IfOk result (λ digest.
-        slice_get (map D.encoding base.now ++ map D.encoding added.now) position ≡ Some (D.encoding digest)) }
-    ensures refused { IfErr result (λ e. IsRefusalOver base_size (length base.now) e) }
+) -> Option<D>
+    ensures { option_map D.encoding result
+        ≡ known_over base_size (encoded D.encoding peaks.now) (map D.encoding added.now) position }
 {
-    if position >= base_size {
-        return Ok(added[(position - base_size) as usize]);
+    if position < base_size {
+        return peak_digest(peaks, position);
     }
-    match base.get(position as usize) {
-        Some(digest) => Ok(*digest),
-        None => Err(Error::MissingNode(Position::new(position))),
+    digest_of(added, position - base_size)
+}
+
+// The digest of a child of a branch that is made next.
+fn child_digest<D: Digest>(peaks: &[(u64, D)], base_size: u64, added: &[D], position: u64) -> D
+    requires { IsSome (known_over base_size (encoded D.encoding peaks.now) (map D.encoding added.now) position) }
+    ensures { known_over base_size (encoded D.encoding peaks.now) (map D.encoding added.now) position
+        ≡ Some (D.encoding result) }
+{
+    match known_digest(peaks, base_size, added, position) {
+        Some(digest) => digest,
+        None => unreachable!(),
     }
 }
 
 // Appends the parent that is born next with the leaf after so many.
 fn push_parent<F: Family, H: Hasher<F>>(
     hasher: &H,
-    base: &[H::Digest],
+    base: u64,
     base_size: u64,
+    peaks: &[(u64, H::Digest)],
     added: &mut Vec<H::Digest>,
     leaves: u64,
     height: u32,
-) -> Result<(), Error<F>>
+) -> Result<(), AllocError>
     requires few { leaves < MAX_LEAVES }
     requires small { base_size + length added.old.items < 2 ^ 64 }
+    requires over { base ≤ leaves }
+    requires sized { base_size ≡ node_count F.merge_rule base }
+    requires peaks { HavePeaks F.merge_rule base (encoded H.Digest.encoding peaks.now) }
     requires parent { IsParent F.merge_rule leaves (base_size + length added.old.items) height }
     ensures counted { OnOk result (length added.new.items ≡ length added.old.items + 1) }
-    ensures made { OnOk result ((leaf_digests : List (List ℕ)) → length base.now ≡ base_size
-        → length leaf_digests ≡ suc leaves
-        → AreMade (H.node_of hasher.now) F.merge_rule leaf_digests (base_size + length added.old.items)
-        (map H.Digest.encoding base.now ++ map H.Digest.encoding added.old.items)
-        → AreMade (H.node_of hasher.now) F.merge_rule leaf_digests (suc (base_size + length added.old.items))
-        (map H.Digest.encoding base.now ++ map H.Digest.encoding added.new.items)) }
-    ensures refused { IfErr result (λ e. IsRefusalOver base_size (length base.now) e) }
+    ensures made { OnOk result ((after : Digests) → IsHashed F.merge_rule (H.node_of hasher.now) base after
+        → AreMade F.merge_rule after base (suc leaves) (base_size + length added.old.items)
+        (known_over base_size (encoded H.Digest.encoding peaks.now) (map H.Digest.encoding added.old.items))
+        → AreMade F.merge_rule after base (suc leaves) (suc (base_size + length added.old.items))
+        (known_over base_size (encoded H.Digest.encoding peaks.now) (map H.Digest.encoding added.new.items))) }
 {
     let position = base_size + added.len() as u64;
     let (left, right) = F::child_positions(position, height);
-    let left = node_at::<F, H::Digest>(base, base_size, added, left)?;
-    let right = node_at::<F, H::Digest>(base, base_size, added, right)?;
+    let left = child_digest(peaks, base_size, added, left);
+    let right = child_digest(peaks, base_size, added, right);
     added.push(hasher.digest_of_branch(position, &left, &right))?;
     Ok(())
 }
 
 // Appends the leaf after so many, with this digest, and the parents that are born with it.
-pub(crate) fn push_leaf<F: Family, H: Hasher<F>>(
+fn push_leaf<F: Family, H: Hasher<F>>(
     hasher: &H,
-    base: &[H::Digest],
+    base: u64,
     base_size: u64,
+    peaks: &[(u64, H::Digest)],
     added: &mut Vec<H::Digest>,
     leaves: u64,
     digest: H::Digest,
-) -> Result<(), Error<F>>
+) -> Result<(), AllocError>
     requires few { leaves < MAX_LEAVES }
     requires counted { base_size + length added.old.items ≡ node_count F.merge_rule leaves }
+    requires over { base ≤ leaves }
+    requires sized { base_size ≡ node_count F.merge_rule base }
+    requires peaks { HavePeaks F.merge_rule base (encoded H.Digest.encoding peaks.now) }
     ensures counted { OnOk result (base_size + length added.new.items ≡ node_count F.merge_rule (suc leaves)) }
-    ensures made { OnOk result ((leaf_digests : List (List ℕ)) → length base.now ≡ base_size
-        → AreNodesOf (H.node_of hasher.now) F.merge_rule leaf_digests (record {
-          leaves = leaves;
-          digests = map H.Digest.encoding base.now ++ map H.Digest.encoding added.old.items;
-        })
-        → AreNodesOf (H.node_of hasher.now) F.merge_rule (leaf_digests ++ H.Digest.encoding digest ∷ []) (record {
-          leaves = suc leaves;
-          digests = map H.Digest.encoding base.now ++ map H.Digest.encoding added.new.items;
-        })) }
-    ensures refused { IfErr result (λ e. IsRefusalOver base_size (length base.now) e) }
+    ensures made { OnOk result ((after : Digests) → IsHashed F.merge_rule (H.node_of hasher.now) base after
+        → after leaves (leaf (node_count F.merge_rule leaves)) ≡ H.Digest.encoding digest
+        → AreMade F.merge_rule after base leaves (node_count F.merge_rule leaves)
+        (known_over base_size (encoded H.Digest.encoding peaks.now) (map H.Digest.encoding added.old.items))
+        → AreMade F.merge_rule after base (suc leaves) (node_count F.merge_rule (suc leaves))
+        (known_over base_size (encoded H.Digest.encoding peaks.now) (map H.Digest.encoding added.new.items))) }
 {
     let (first, count) = F::parent_range(leaves);
     added.push(digest)?;
     for index in 0..count {
-        push_parent::<F, H>(hasher, base, base_size, added, leaves, first + index)?;
+        push_parent::<F, H>(hasher, base, base_size, peaks, added, leaves, first + index)?;
     }
     Ok(())
 }
@@ -100,31 +126,31 @@ pub(crate) fn push_leaf<F: Family, H: Hasher<F>>(
 // Appends leaves with these digests after so many, and the parents that are born with them.
 pub(crate) fn push_leaves<F: Family, H: Hasher<F>>(
     hasher: &H,
-    base: &[H::Digest],
+    base: u64,
     base_size: u64,
+    peaks: &[(u64, H::Digest)],
     added: &mut Vec<H::Digest>,
-    leaves: u64,
     digests: &[H::Digest],
-) -> Result<(), Error<F>>
-    requires few { leaves + length digests.now ≤ MAX_LEAVES }
-    requires counted { base_size + length added.old.items ≡ node_count F.merge_rule leaves }
+) -> Result<(), AllocError>
+    requires few { base + length digests.now ≤ MAX_LEAVES }
+    requires none { length added.old.items ≡ 0 }
+    requires sized { base_size ≡ node_count F.merge_rule base }
+    requires peaks { HavePeaks F.merge_rule base (encoded H.Digest.encoding peaks.now) }
     ensures counted { OnOk result (base_size + length added.new.items
-        ≡ node_count F.merge_rule (leaves + length digests.now)) }
-    ensures made { OnOk result ((leaf_digests : List (List ℕ)) → length base.now ≡ base_size
-        → AreNodesOf (H.node_of hasher.now) F.merge_rule leaf_digests (record {
-          leaves = leaves;
-          digests = map H.Digest.encoding base.now ++ map H.Digest.encoding added.old.items;
-        })
-        → AreNodesOf (H.node_of hasher.now) F.merge_rule (leaf_digests ++ map H.Digest.encoding digests.now) (record {
-          leaves = leaves + length digests.now;
-          digests = map H.Digest.encoding base.now ++ map H.Digest.encoding added.new.items;
-        })) }
-    ensures refused { IfErr result (λ e. IsRefusalOver base_size (length base.now) e) }
+        ≡ node_count F.merge_rule (base + length digests.now)) }
+    ensures made { OnOk result ((after : Digests) → IsHashed F.merge_rule (H.node_of hasher.now) base after
+        → ((k : ℕ) (d : List ℕ) → slice_get (map H.Digest.encoding digests.now) k ≡ Some d
+        → after (base + k) (leaf (node_count F.merge_rule (base + k))) ≡ d)
+        → AreMade F.merge_rule after base base (node_count F.merge_rule base)
+        (known_over base_size (encoded H.Digest.encoding peaks.now) (map H.Digest.encoding added.old.items))
+        → AreMade F.merge_rule after base (base + length digests.now)
+        (node_count F.merge_rule (base + length digests.now))
+        (known_over base_size (encoded H.Digest.encoding peaks.now) (map H.Digest.encoding added.new.items))) }
 {
-    let mut total = leaves;
+    let mut leaves = base;
     for digest in digests {
-        push_leaf::<F, H>(hasher, base, base_size, added, total, *digest)?;
-        total += 1;
+        push_leaf::<F, H>(hasher, base, base_size, peaks, added, leaves, *digest)?;
+        leaves += 1;
     }
     Ok(())
 }

@@ -1,10 +1,10 @@
 //! What the definitions say, beyond what the code needs of them.
 
-ghost use Rattle.std.specs.Prelude.{◌≡◌, ◌++◌, ℕ, List, length};
+ghost use Rattle.std.specs.Prelude.{◌≡◌, ◌≤◌, ◌++◌, ◌∷◌, [], ℕ, List, length, slice_set};
 ghost use Rattle.merkle_forest.specs.declared.bagging.Bagging.{Bagging};
 ghost use Rattle.merkle_forest.specs.Hashing.{Hash};
 ghost use Rattle.merkle_forest.specs.Trees.{tree_root};
-ghost use Rattle.merkle_core_parts.specs.Mem.{Nodes, Growth, NodeHash, AreNodesOf, node_count, with_batch};
+ghost use Rattle.merkle_core_parts.specs.Mem.{Nodes, Additions, Growth, NodeHash, AreNodesOf, with_leaves, with_batch};
 ghost use Rattle.merkle_core_parts.specs.Mem.{plain_leaf_digests, plain_node, list_root};
 
 use merkle_forest::Family;
@@ -17,13 +17,24 @@ pub fn plain_roots_are_tree_roots<F: Family>()
         inactive ≡ tree_root hash bagging F.merge_rule elements inactive }
 {}
 
-/// A batch's nodes, made over one tree of a list of leaf digests, make of each tree of that list one of the longer
-/// list.
+/// A batch's nodes, made over one tree of a list of leaf digests, make of each tree of that list one of the list that
+/// the batch makes of it.
 pub fn nodes_fit_each_tree_of_the_list<F: Family>()
-    ensures { (node : NodeHash) (some more : List (List ℕ)) (one other : Nodes) (batch : Growth)
-        → length one.digests ≡ node_count F.merge_rule (length some)
-        → length other.digests ≡ node_count F.merge_rule (length some)
-        → AreNodesOf node F.merge_rule some other
-        → AreNodesOf node F.merge_rule (some ++ more) (with_batch one batch)
-        → AreNodesOf node F.merge_rule (some ++ more) (with_batch other batch) }
+    ensures { (node : NodeHash) (some list : List (List ℕ)) (one other : Nodes) (batch : Growth)
+        → length some ≤ length list
+        → AreNodesOf node F.merge_rule some one → AreNodesOf node F.merge_rule some other
+        → AreNodesOf node F.merge_rule list (with_batch one batch)
+        → AreNodesOf node F.merge_rule list (with_batch other batch) }
+{}
+
+/// A leaf that a batch gives a digest has it in the list that the batch makes, and no other leaf changes.
+pub fn an_update_replaces_one_leaf<F: Family>()
+    ensures { (leaf_digests : List (List ℕ)) (batch : Additions) (location : ℕ) (digest : List ℕ)
+        → with_leaves leaf_digests (record batch { updates = batch.updates ++ (location, digest) ∷ [] })
+        ≡ slice_set (with_leaves leaf_digests batch) location digest }
+{}
+
+/// The tree of no leaves has the nodes of the empty list.
+pub fn no_leaves_have_no_nodes<F: Family>()
+    ensures { (node : NodeHash) → AreNodesOf node F.merge_rule [] (record { leaves = 0; digests = [] }) }
 {}

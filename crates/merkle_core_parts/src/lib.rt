@@ -8,6 +8,7 @@ pub mod growth;
 pub mod laws;
 pub mod mem;
 pub mod peaks;
+pub mod rebuild;
 
 pub use error::Error;
 pub use mem::Mem;

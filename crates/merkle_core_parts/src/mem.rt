@@ -1,16 +1,18 @@
 //! The tree that is kept in memory.
 
-ghost use Rattle.std.specs.Prelude.{◌≡◌, ◌≤◌, ◌↔◌, ◌^◌, [], ℕ, List, map, length, option_map, slice_get};
+ghost use Rattle.std.specs.Prelude.{◌≡◌, ◌≤◌, ◌↔◌, ◌^◌, [], ℕ, List, map, length, option_map};
 ghost use Rattle.std.specs.Prelude.{IsTrue, IsOk, IfOk, IfErr, OnOk, OnErr};
 ghost use Rattle.merkle_forest.specs.Forest.{size, forest_of};
 ghost use Rattle.merkle_forest.specs.Hashing.{root_of};
 ghost use Rattle.merkle_forest.specs.Peaks.{peak_positions};
 ghost use Rattle.merkle_core_parts.specs.Errors.{IsRefusalOnto};
-ghost use Rattle.merkle_core_parts.specs.Mem.{node_count, peak_digests, AreNodesOf, list_root, base_of, with_batch};
+ghost use Rattle.merkle_core_parts.specs.Mem.{node_count, node_at, peak_digests, AreNodesOf, list_root};
+ghost use Rattle.merkle_core_parts.specs.Mem.{base_of, with_batch};
 
 use crate::batch::{MerkleizedBatch, UnmerkleizedBatch};
 use crate::error::Error;
 use crate::peaks::{have_all_peaks, peaks_of, root_of_digests};
+use crate::rebuild::put_all;
 use merkle_forest::hasher::Hasher;
 use merkle_forest::peaks::Peaks;
 use merkle_forest::{Digest, Family, Location, Position};
@@ -95,7 +97,7 @@ impl<F: Family, D: Digest> Mem<F, D> {
     /// The digest of the node at a position. Where no node stands there it is None.
     /// In the Rust: `merkle::mem::Mem::get_node`.
     pub fn get_node(&self, position: Position<F>) -> Option<D>
-        ensures { option_map D.encoding result ≡ slice_get self.now.digests position }
+        ensures { option_map D.encoding result ≡ node_at self.now position }
     {
         self.digests.get(position.as_u64() as usize).copied()
     }
@@ -134,18 +136,14 @@ impl<F: Family, D: Digest> Mem<F, D> {
         })
     }
 
-    // The digests of the nodes, in order of position.
-    pub(crate) fn digests(&self) -> &[D]
-        ensures digests { map D.encoding result.now ≡ self.now.digests }
-        ensures counted { length result.now ≡ node_count F.merge_rule self.now.leaves }
-    {
-        &self.digests
-    }
-
     /// A batch that adds nothing to the tree yet. It fails only when out of memory: M23.
     /// In the Rust: `merkle::mem::Mem::new_batch`.
     pub fn new_batch(&self) -> Result<UnmerkleizedBatch<F, D>, Error<F>>
-        ensures batch { IfOk result (λ batch. batch ≡ record { base = base_of F.merge_rule self.now; added = [] }) }
+        ensures batch { IfOk result (λ batch. batch ≡ record {
+          base = base_of F.merge_rule self.now;
+          added = [];
+          updates = [];
+        }) }
         ensures refused { IfErr result (λ e. e ≡ Error.Memory) }
     {
         let peaks = peaks_of::<F, D>(self.alloc, self.leaves, &self.digests)?;
@@ -162,9 +160,9 @@ impl<F: Family, D: Digest> Mem<F, D> {
         have_all_peaks::<F, D>(self.leaves, &self.digests, batch.base_peaks())
     }
 
-    /// Adds the batch's nodes. Where the tree is not the batch's base, by its leaf count and the digests of its peaks:
-    /// M13; out of memory: M23. It then stays as it was. That trees of one leaf count and equal digests of peaks stand
-    /// over one list of leaf digests is for the caller to know.
+    /// Adds the batch's nodes, and changes those that it changes. Where the tree is not the batch's base, by its leaf
+    /// count and the digests of its peaks: M13; out of memory: M23. It then stays as it was. That trees of one leaf
+    /// count and equal digests of peaks stand over one list of leaf digests is for the caller to know.
     /// In the Rust: `merkle::mem::Mem::apply_batch`.
     pub fn apply_batch(&mut self, batch: &MerkleizedBatch<F, D>) -> Result<(), Error<F>>
         ensures applied { OnOk result (self.new ≡ with_batch self.old batch.now) }
@@ -176,6 +174,7 @@ impl<F: Family, D: Digest> Mem<F, D> {
             return Err(Error::StaleBatch);
         }
         self.digests.extend_from_slice(batch.digests())?;
+        put_all(&mut self.digests, 0, batch.changed());
         self.leaves = batch.leaves().as_u64();
         Ok(())
     }

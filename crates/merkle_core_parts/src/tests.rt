@@ -1,6 +1,6 @@
 use super::*;
 use merkle_forest::codec::FixedBytes;
-use merkle_forest::hasher::Standard;
+use merkle_forest::hasher::{Hasher, Standard};
 use merkle_forest::{
     Bagging, ByteHash, Digest, Family, HashFunction, Location, Position, mmb, mmr,
 };
@@ -212,6 +212,98 @@ fn told<F: Family>(alloc: Global) -> Result<(u64, u64, u64, u64), Error<F>> {
 fn a_batch_tells_its_leaves_and_nodes(rt: HostRuntime) {
     assert_eq!(rt; told::<mmr::Family>(rt.alloc()), Ok((6, 6, 7, 10)));
     assert_eq!(rt; told::<mmb::Family>(rt.alloc()), Ok((6, 6, 6, 10)));
+}
+
+// The tree of the elements 1 to 11, of which one batch changes the third to 21, the sixth to 23 and the tenth to 24,
+// and adds 25.
+fn updated<F: Family>(alloc: Global, bagging: Bagging) -> Result<Read, Error<F>> {
+    let hasher: Standard<ByteHash> = Standard::new(bagging);
+    let mut tree = eleven::<F>(alloc, &hasher)?;
+    let sixth = hasher.leaf_digest(F::location_to_position(Location::new(5)), &[23]);
+    let tenth = hasher.leaf_digest(F::location_to_position(Location::new(9)), &[24]);
+    let batch = tree
+        .new_batch()?
+        .update_leaf_digest(Location::new(5), tenth)?
+        .update_leaf(&hasher, Location::new(2), &[21])?
+        .add(&hasher, &[99])?
+        .update_leaf_batched(&[(Location::new(9), tenth), (Location::new(5), sixth)])?
+        .update_leaf(&hasher, Location::new(11), &[25])?
+        .merkleize(&tree, &hasher)?;
+    tree.apply_batch(&batch)?;
+    let plain = tree.root(&hasher, 0)?;
+    let folded = tree.root(&hasher, 1)?;
+    Ok((plain, folded, tree.size().as_u64()))
+}
+
+#[test]
+fn updated_leaves_have_their_roots(rt: HostRuntime) {
+    let range_plain = FixedBytes::new([
+        0xfc, 0xa1, 0x86, 0xdb, 0xff, 0x8f, 0x3c, 0x8f, 0xa2, 0x2d, 0x27, 0x8c, 0x49, 0xf3, 0x23,
+        0x52, 0x6e, 0xb4, 0x88, 0xe9, 0xe7, 0xf3, 0xd1, 0x9b, 0x1f, 0x5f, 0xe6, 0xac, 0xe0, 0x3d,
+        0xd1, 0xd8,
+    ]);
+    let range_folded = FixedBytes::new([
+        0xdb, 0x8a, 0xbb, 0x34, 0x57, 0xf4, 0xce, 0x31, 0x81, 0x64, 0x91, 0xaa, 0xfd, 0x05, 0x6e,
+        0x1c, 0xe4, 0x91, 0xab, 0xed, 0xd7, 0x97, 0x0d, 0x38, 0x0d, 0x7a, 0x48, 0x13, 0x49, 0x9c,
+        0xc1, 0x54,
+    ]);
+    let belt_plain = FixedBytes::new([
+        0xa2, 0xda, 0x24, 0x1d, 0x6f, 0x7d, 0x5c, 0x27, 0xc3, 0x2c, 0xda, 0x3a, 0xe4, 0x07, 0x01,
+        0x71, 0x88, 0x7a, 0xc4, 0xa1, 0x7a, 0xed, 0x0f, 0x35, 0x06, 0xe3, 0xb6, 0x5b, 0xbf, 0x06,
+        0x5a, 0xf9,
+    ]);
+    let belt_folded = FixedBytes::new([
+        0x2c, 0x0a, 0xf3, 0xcd, 0x7f, 0xcc, 0x90, 0xb6, 0x78, 0x96, 0x9d, 0x55, 0x4e, 0x90, 0x55,
+        0x5d, 0x85, 0x0e, 0x56, 0x5c, 0x92, 0x37, 0x4f, 0x97, 0xc3, 0x13, 0x3a, 0x2f, 0x52, 0xeb,
+        0xd6, 0x27,
+    ]);
+    assert_eq!(rt;
+        updated::<mmr::Family>(rt.alloc(), Bagging::BackwardFold),
+        Ok((range_plain, range_folded, 22))
+    );
+    assert_eq!(rt;
+        updated::<mmb::Family>(rt.alloc(), Bagging::ForwardFold),
+        Ok((belt_plain, belt_folded, 21))
+    );
+}
+
+// What a batch over the tree of eleven leaves answers to an update past its leaves.
+fn updated_past<F: Family>(alloc: Global) -> Result<(), Error<F>> {
+    let hasher: Standard<ByteHash> = Standard::new(Bagging::ForwardFold);
+    let tree = eleven::<F>(alloc, &hasher)?;
+    let batch = tree
+        .new_batch()?
+        .update_leaf(&hasher, Location::new(10), &[1])?;
+    batch.update_leaf(&hasher, Location::new(11), &[1])?;
+    Ok(())
+}
+
+// And what it answers to a list of updates, of which two are past its leaves.
+fn many_updated_past<F: Family>(alloc: Global) -> Result<(), Error<F>> {
+    let hasher: Standard<ByteHash> = Standard::new(Bagging::ForwardFold);
+    let tree = eleven::<F>(alloc, &hasher)?;
+    let digest = ByteHash::hash(&[]);
+    let batch = tree
+        .new_batch()?
+        .update_leaf_batched(&[(Location::new(10), digest)])?;
+    batch.update_leaf_batched(&[
+        (Location::new(3), digest),
+        (Location::new(12), digest),
+        (Location::new(40), digest),
+    ])?;
+    Ok(())
+}
+
+#[test]
+fn updates_past_the_leaves_are_refused(rt: HostRuntime) {
+    let one = Error::LeafOutOfBounds(Location::new(11));
+    let many = Error::LeafOutOfBounds(Location::new(12));
+    assert_eq!(rt; updated_past::<mmr::Family>(rt.alloc()), Err(one));
+    assert_eq!(rt; many_updated_past::<mmr::Family>(rt.alloc()), Err(many));
+    let one = Error::LeafOutOfBounds(Location::new(11));
+    let many = Error::LeafOutOfBounds(Location::new(12));
+    assert_eq!(rt; updated_past::<mmb::Family>(rt.alloc()), Err(one));
+    assert_eq!(rt; many_updated_past::<mmb::Family>(rt.alloc()), Err(many));
 }
 
 // What the tree of three leaves answers to a batch over it after another batch was applied. Over an empty tree the

@@ -1,12 +1,12 @@
 -- What a leaf adds to a forest: itself, and branches whose children stand before them.
-use Rattle.std.proofs.Common.{◌≡◌, ℕ, zero, suc, ◌+◌, ◌^◌, ◌<◌, ◌⊎◌, inl, inr, List, [], ◌∷◌, length, map, ◌∙◌, ap, subst, arith}
+use Rattle.std.proofs.Common.{◌≡◌, ℕ, zero, suc, ◌+◌, ◌^◌, ◌<◌, ◌⊎◌, inl, inr, List, [], ◌∷◌, length, map, refl, ◌∙◌, ap, subst, arith}
 use Rattle.std.proofs.lemmas.List.{length-map}
 use Rattle.std.specs.List.{range_with_len}
 use Rattle.merkle_forest.specs.Forest.{Tree, leaf, branch, position, height, leaf_count, size, leaves, Rule, merged, forest_of, IsPairOfEquals}
 use Rattle.merkle_forest.specs.Perfect.{IsPairing}
-use Rattle.merkle_forest.specs.Nodes.{IsWithin, IsNodeAt, IsBranchOf, AreParents}
+use Rattle.merkle_forest.specs.Nodes.{IsWithin, IsNodeAt, IsPeakAt, IsBranchOf, AreParents}
 use Rattle.merkle_forest.specs.Laws.ForestGrowth.{leaves-merged, size-merged, pair_within, peaks_after_merges-keeps_next, leaves-forest_of}
-use Rattle.merkle_forest.specs.Laws.Nodes.{within-self}
+use Rattle.merkle_forest.specs.Laws.Nodes.{peak-node}
 use Rattle.merkle_forest.specs.Laws.NodeGrowth.{numbered}
 use Rattle.merkle_forest.specs.Laws.Parents.{range-get}
 
@@ -31,18 +31,21 @@ pub record IsGrown (rule : Rule) (n : ℕ) (peaks : List Tree) : Type 0 where
   pub each : (first : ℕ) (tree : Tree) → IsNodeAt first tree peaks
       → IsNodeAt first tree (forest_of rule n) ⊎ IsNew n (size (forest_of rule n)) first tree
 
-within : (peaks : List Tree) (index : ℕ) → IsPairOfEquals (map height peaks) index → suc index < length peaks
+pub within : (peaks : List Tree) (index : ℕ) → IsPairOfEquals (map height peaks) index → suc index < length peaks
 within peaks index pair = rw (← length-map peaks height) (pair_within (map height peaks) index pair)
 
--- a merge makes one branch, over two nodes
-record IsMerge (p : ℕ) (peaks after : List Tree) : Type 0 where
-  left : Tree
-  right : Tree
-  left_first : ℕ
-  right_first : ℕ
-  left_stands : IsNodeAt left_first left peaks
-  right_stands : IsNodeAt right_first right peaks
-  from : (f : ℕ) (n : Tree) → IsNodeAt f n after → (n ≡ branch p left right) ⊎ IsNodeAt f n peaks
+-- a tree is a peak
+abbrev pub IsPeak : Tree → List Tree → Type 0
+IsPeak tree peaks = (first : ℕ) × IsPeakAt first tree peaks
+
+-- a merge makes one branch, over two peaks
+pub record IsMerge (p : ℕ) (peaks after : List Tree) : Type 0 where
+  pub left : Tree
+  pub right : Tree
+  pub left_peak : IsPeak left peaks
+  pub right_peak : IsPeak right peaks
+  pub from : (f : ℕ) (n : Tree) → IsNodeAt f n after → (n ≡ branch p left right) ⊎ IsNodeAt f n peaks
+  pub peak_from : (n : Tree) → IsPeak n after → (n ≡ branch p left right) ⊎ IsPeak n peaks
 
 two : (p : ℕ) (r l : Tree) (ts : List Tree) (f : ℕ) (n : Tree) → IsNodeAt f n (branch p l r ∷ ts)
     → (n ≡ branch p l r) ⊎ IsNodeAt f n (r ∷ l ∷ ts)
@@ -61,17 +64,31 @@ past_newest p left right t ts after same from f n (inl stands) =
 past_newest p left right t ts after same from f n (inr stands) =
     elim (from f n stands) [ inl new ↦ inl new | inr old ↦ inr (inr old) ]
 
-merged-makes : (p index : ℕ) (peaks : List Tree) → suc index < length peaks → IsMerge p peaks (merged p index peaks)
+two_peaks : (p : ℕ) (r l : Tree) (ts : List Tree) (n : Tree) → IsPeak n (branch p l r ∷ ts)
+    → (n ≡ branch p l r) ⊎ IsPeak n (r ∷ l ∷ ts)
+two_peaks p r l ts n (f, inl new) = inl new.1
+two_peaks p r l ts n (f, inr old) = inr (f, inr (inr old))
+
+peak_past : (t n : Tree) (ts : List Tree) → IsPeak n ts → IsPeak n (t ∷ ts)
+peak_past t n ts peak = (peak.0, inr peak.1)
+
+peaks_past_newest : (p : ℕ) (left right t : Tree) (ts after : List Tree)
+    → ((n : Tree) → IsPeak n after → (n ≡ branch p left right) ⊎ IsPeak n ts)
+    → (n : Tree) → IsPeak n (t ∷ after) → (n ≡ branch p left right) ⊎ IsPeak n (t ∷ ts)
+peaks_past_newest p left right t ts after from n (f, inl stands) = inr (leaves ts, inl (refl, stands.1))
+peaks_past_newest p left right t ts after from n (f, inr stands) =
+    elim (from n (f, stands)) [ inl new ↦ inl new | inr old ↦ inr (peak_past t n ts old) ]
+
+pub merged-makes : (p index : ℕ) (peaks : List Tree) → suc index < length peaks → IsMerge p peaks (merged p index peaks)
 merged-makes p zero [] lt = absurd (omega arith)
 merged-makes p zero (r ∷ []) lt = absurd (omega arith)
 merged-makes p zero (r ∷ l ∷ ts) lt = record {
   left = l;
   right = r;
-  left_first = leaves ts;
-  right_first = leaf_count l + leaves ts;
-  left_stands = inr (inl (within-self (leaves ts) l));
-  right_stands = inl (within-self (leaf_count l + leaves ts) r);
+  left_peak = (leaves ts, inr (inl (refl, refl)));
+  right_peak = (leaf_count l + leaves ts, inl (refl, refl));
   from = two p r l ts;
+  peak_from = two_peaks p r l ts;
 }
 merged-makes p (suc index) [] lt = absurd (omega arith)
 merged-makes p (suc index) (t ∷ ts) lt =
@@ -79,11 +96,10 @@ merged-makes p (suc index) (t ∷ ts) lt =
     record {
       left = it.left;
       right = it.right;
-      left_first = it.left_first;
-      right_first = it.right_first;
-      left_stands = inr it.left_stands;
-      right_stands = inr it.right_stands;
+      left_peak = peak_past t it.left ts it.left_peak;
+      right_peak = peak_past t it.right ts it.right_peak;
       from = past_newest p it.left it.right t ts (merged p index ts) (leaves-merged p index ts (omega arith)) it.from;
+      peak_from = peaks_past_newest p it.left it.right t ts (merged p index ts) it.peak_from;
     }
 
 below-merged : (nodes : ℕ) (left right n : Tree) (f : ℕ) (peaks : List Tree)
@@ -103,8 +119,8 @@ each-merged rule n peaks after f t grown it (inl new) = inr (inr (record {
   right = it.right;
   is = new;
   after = grown.large;
-  left_before = grown.below it.left_first it.left it.left_stands;
-  right_before = grown.below it.right_first it.right it.right_stands;
+  left_before = grown.below it.left_peak.0 it.left (peak-node it.left_peak.0 it.left peaks it.left_peak.1);
+  right_before = grown.below it.right_peak.0 it.right (peak-node it.right_peak.0 it.right peaks it.right_peak.1);
 }))
 each-merged rule n peaks after f t grown it (inr old) = grown.each f t old
 

@@ -52,3 +52,7 @@ root-of_list hash node bagging rule leaf_digests nodes inactive are =
 pub nodes-none : (rule : Rule) → node_count rule 0 ≡ 0
 unfolding forest_of
 nodes-none rule = refl
+
+pub nodes-empty : (rule : Rule) (node : NodeHash) → AreNodesOf node rule [] (record { leaves = 0; digests = [] })
+unfolding forest_of
+nodes-empty rule node = record { counted = refl; held = refl; digests = λ first tree stands. absurd stands }

@@ -1,17 +1,19 @@
-use Rattle.std.proofs.Common.{◌≡◌, ◌+◌, ◌++◌, ◌∷◌, [], ℕ, List, suc, length, map}
-use Rattle.merkle_core_parts.specs.Mem.{node_count, AreNodesOf}
-use Rattle.merkle_core_parts.specs.Laws.Made.{AreMade}
+use Rattle.std.proofs.Common.{◌≡◌, ◌+◌, suc, length, map}
+use Rattle.merkle_forest.specs.Forest.{leaf}
+use Rattle.merkle_core_parts.specs.Mem.{node_count, encoded}
+use Rattle.merkle_core_parts.specs.Laws.Made.{AreMade, IsHashed, known_over}
+use Rattle.merkle_core_parts.specs.Laws.Rebuilt.{Digests}
 use Rattle.merkle_core_parts.proofs.growth.push_leaf.Given as goal
 
 abbrev pub invariant-loop-index : goal.invariant-loop-index
 invariant-loop-index g l = record {
   counted : l.base_size + length l.added.items ≡ suc (node_count g.F.Family.merge_rule l.leaves) + l.index;
-  made : (leaf_digests : List (List ℕ)) → length l.base ≡ l.base_size
-      → AreNodesOf (g.H.Hasher.node_of l.hasher) g.F.Family.merge_rule leaf_digests (record {
-        leaves = l.leaves;
-        digests = map g.H.Digest.Write.encoding l.base ++ map g.H.Digest.Write.encoding l.fn.added.items;
-      })
-      → AreMade (g.H.Hasher.node_of l.hasher) g.F.Family.merge_rule
-      (leaf_digests ++ g.H.Digest.Write.encoding l.fn.digest ∷ []) (l.base_size + length l.added.items)
-      (map g.H.Digest.Write.encoding l.base ++ map g.H.Digest.Write.encoding l.added.items);
+  made : (after : Digests) → IsHashed g.F.Family.merge_rule (g.H.Hasher.node_of l.hasher) l.base after
+      → after l.leaves (leaf (node_count g.F.Family.merge_rule l.leaves)) ≡ g.H.Digest.Write.encoding l.fn.digest
+      → AreMade g.F.Family.merge_rule after l.base l.leaves (node_count g.F.Family.merge_rule l.leaves)
+      (known_over l.base_size (encoded g.H.Digest.Write.encoding l.peaks)
+      (map g.H.Digest.Write.encoding l.fn.added.items))
+      → AreMade g.F.Family.merge_rule after l.base (suc l.leaves) (l.base_size + length l.added.items)
+      (known_over l.base_size (encoded g.H.Digest.Write.encoding l.peaks)
+      (map g.H.Digest.Write.encoding l.added.items));
 }

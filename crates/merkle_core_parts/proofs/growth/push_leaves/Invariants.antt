@@ -1,19 +1,22 @@
-use Rattle.std.proofs.Common.{◌≡◌, ◌+◌, ◌++◌, ℕ, List, length, map, take}
-use Rattle.merkle_core_parts.specs.Mem.{node_count, AreNodesOf}
+use Rattle.std.proofs.Common.{◌≡◌, ◌+◌, ℕ, List, Some, length, map}
+use Rattle.std.specs.Prelude.{slice_get}
+use Rattle.merkle_forest.specs.Forest.{leaf}
+use Rattle.merkle_core_parts.specs.Mem.{node_count, encoded}
+use Rattle.merkle_core_parts.specs.Laws.Made.{AreMade, IsHashed, known_over}
+use Rattle.merkle_core_parts.specs.Laws.Rebuilt.{Digests}
 use Rattle.merkle_core_parts.proofs.growth.push_leaves.Given as goal
 
 abbrev pub invariant-loop-digest : goal.invariant-loop-digest
 invariant-loop-digest g l = record {
-  total : l.total ≡ l.leaves + l.digest-index;
-  counted : l.base_size + length l.added.items ≡ node_count g.F.Family.merge_rule l.total;
-  made : (leaf_digests : List (List ℕ)) → length l.base ≡ l.base_size
-      → AreNodesOf (g.H.Hasher.node_of l.hasher) g.F.Family.merge_rule leaf_digests (record {
-        leaves = l.leaves;
-        digests = map g.H.Digest.Write.encoding l.base ++ map g.H.Digest.Write.encoding l.fn.added.items;
-      })
-      → AreNodesOf (g.H.Hasher.node_of l.hasher) g.F.Family.merge_rule
-      (leaf_digests ++ map g.H.Digest.Write.encoding (take l.digest-index l.digests)) (record {
-        leaves = l.total;
-        digests = map g.H.Digest.Write.encoding l.base ++ map g.H.Digest.Write.encoding l.added.items;
-      });
+  total : l.leaves ≡ l.base + l.digest-index;
+  counted : l.base_size + length l.added.items ≡ node_count g.F.Family.merge_rule l.leaves;
+  made : (after : Digests) → IsHashed g.F.Family.merge_rule (g.H.Hasher.node_of l.hasher) l.base after
+      → ((k : ℕ) (d : List ℕ) → slice_get (map g.H.Digest.Write.encoding l.digests) k ≡ Some d
+      → after (l.base + k) (leaf (node_count g.F.Family.merge_rule (l.base + k))) ≡ d)
+      → AreMade g.F.Family.merge_rule after l.base l.base (node_count g.F.Family.merge_rule l.base)
+      (known_over l.base_size (encoded g.H.Digest.Write.encoding l.peaks)
+      (map g.H.Digest.Write.encoding l.fn.added.items))
+      → AreMade g.F.Family.merge_rule after l.base l.leaves (node_count g.F.Family.merge_rule l.leaves)
+      (known_over l.base_size (encoded g.H.Digest.Write.encoding l.peaks)
+      (map g.H.Digest.Write.encoding l.added.items));
 }

@@ -1,59 +1,89 @@
-use Rattle.std.proofs.Common.{◌≡◌, ◌+◌, ◌++◌, ℕ, suc, Some, length, map, sym, ◌∙◌, ap, subst, arith, rules}
-use Rattle.std.specs.Prelude.{slice_get}
-use Rattle.merkle_forest.specs.Forest.{branch, position, forest_of}
-use Rattle.merkle_forest.specs.Nodes.{IsNodeAt, IsBranchOf}
+use Rattle.std.proofs.Common.{◌≡◌, ◌+◌, ℕ, suc, Some, length, map, sym, ◌∙◌, ap, subst, arith, rules}
+use Rattle.std.proofs.lemmas.List.{length-map}
+use Rattle.std.specs.Prelude.{IsSome}
+use Rattle.merkle_forest.specs.Forest.{position}
+use Rattle.merkle_forest.specs.Nodes.{IsBranchOf}
+use Rattle.merkle_core_parts.specs.Mem.{encoded}
 use Rattle.merkle_core_parts.specs.Laws.Growth.{parent-branch}
-use Rattle.merkle_core_parts.specs.Laws.Made.{AreMade, made-branch, known-push, known-length}
+use Rattle.merkle_core_parts.specs.Laws.Made.{AreMade, known_over, known-child, left-kept, right-kept, made-branch, mapped-push}
 use Rattle.merkle_core_parts.proofs.growth.push_parent.Goals as goal
 
-pub node_at-requires : goal.node_at-requires
-node_at-requires g c =
+pub child_positions-left-requires : goal.child_positions-left-requires
+child_positions-left-requires g c =
     let parent = c.requires.parent in
-    let at : c.args.base_size + c.len.result ≡ c.args.base_size + length c.args.added.now.items = search rules in
-    let children = c.child_positions-left.ensures parent.left parent.right
-    (subst (λ p. IsBranchOf g.F.Family.merge_rule p c.args.height parent.left parent.right) (sym at)
-    (parent-branch g.F.Family.merge_rule c.args.leaves _ c.args.height c.requires.few parent)) in
-    omega (arith, children.0, parent.left_before, ap length c.deref.ensures.value)
+    let at : c.args.base_size + c.len.result ≡ c.args.base_size + length c.args.added.now.items = search rules in (
+      parent.left,
+      parent.right,
+      subst (λ p. IsBranchOf g.F.Family.merge_rule p c.args.height parent.left parent.right) (sym at)
+          (parent-branch g.F.Family.merge_rule c.args.leaves _ c.args.height c.requires.few parent),
+    )
 
-pub node_at-requires-2 : goal.node_at-requires-2
-node_at-requires-2 g c =
+pub child_digest-left-requires : goal.child_digest-left-requires
+child_digest-left-requires g c =
+    let encoding = g.H.Digest.Write.encoding in
+    let rule = g.F.Family.merge_rule in
     let parent = c.requires.parent in
     let at : c.args.base_size + c.len.result ≡ c.args.base_size + length c.args.added.now.items = search rules in
     let children = c.child_positions-left.ensures parent.left parent.right
-    (subst (λ p. IsBranchOf g.F.Family.merge_rule p c.args.height parent.left parent.right) (sym at)
-    (parent-branch g.F.Family.merge_rule c.args.leaves _ c.args.height c.requires.few parent)) in
-    omega (arith, children.1, parent.right_before, ap length c.deref-2.ensures.value)
+    (subst (λ p. IsBranchOf rule p c.args.height parent.left parent.right) (sym at)
+    (parent-branch rule c.args.leaves _ c.args.height c.requires.few parent)) in
+    subst (λ xs. IsSome (known_over c.args.base_size (encoded encoding c.args.peaks.now) (map encoding xs)
+    c.child_positions-left.result.0)) (sym c.deref.ensures.value)
+    (subst (λ p. IsSome (known_over c.args.base_size (encoded encoding c.args.peaks.now)
+    (map encoding c.args.added.now.items) p)) (sym children.0)
+    (known-child rule encoding c.args.base c.args.base_size
+    (encoded encoding c.args.peaks.now) c.args.added.now.items (position parent.left) c.requires.sized
+    c.requires.peaks
+    (left-kept rule g.met.F.Family.merges_equals c.args.base c.args.leaves (c.args.base_size + length c.args.added.now.items) c.args.height c.requires.over
+    (omega (arith, c.requires.sized)) parent)
+    parent.left_before))
+
+pub child_digest-right-requires : goal.child_digest-right-requires
+child_digest-right-requires g c =
+    let encoding = g.H.Digest.Write.encoding in
+    let rule = g.F.Family.merge_rule in
+    let parent = c.requires.parent in
+    let at : c.args.base_size + c.len.result ≡ c.args.base_size + length c.args.added.now.items = search rules in
+    let children = c.child_positions-left.ensures parent.left parent.right
+    (subst (λ p. IsBranchOf rule p c.args.height parent.left parent.right) (sym at)
+    (parent-branch rule c.args.leaves _ c.args.height c.requires.few parent)) in
+    subst (λ xs. IsSome (known_over c.args.base_size (encoded encoding c.args.peaks.now) (map encoding xs)
+    c.child_positions-left.result.1)) (sym c.deref-2.ensures.value)
+    (subst (λ p. IsSome (known_over c.args.base_size (encoded encoding c.args.peaks.now)
+    (map encoding c.args.added.now.items) p)) (sym children.1)
+    (known-child rule encoding c.args.base c.args.base_size
+    (encoded encoding c.args.peaks.now) c.args.added.now.items (position parent.right) c.requires.sized
+    c.requires.peaks
+    (right-kept rule g.met.F.Family.merges_equals c.args.base c.args.leaves (c.args.base_size + length c.args.added.now.items) c.args.height c.requires.over
+    (omega (arith, c.requires.sized)) parent)
+    parent.right_before))
 
 pub returns-clause-made : goal.returns-clause-made
-returns-clause-made g c leaf_digests held counted made =
+returns-clause-made g c after hashed made =
     let encoding = g.H.Digest.Write.encoding in
     let rule = g.F.Family.merge_rule in
     let node = g.H.Hasher.node_of c.args.hasher.now in
     let parent = c.requires.parent in
     let items = c.args.added.now.items in
-    let base = c.args.base.now in
+    let peaks = encoded encoding c.args.peaks.now in
     let count : ℕ = c.args.base_size + length items in
-    let known = map encoding base ++ map encoding items in
-    let x = encoding c.in_ok-left.left in
-    let y = encoding c.in_ok-right.right in
+    let x = encoding c.child_digest-left.result in
+    let y = encoding c.child_digest-right.result in
     let at : c.args.base_size + c.len.result ≡ count = search rules in
     let children = c.child_positions-left.ensures parent.left parent.right
     (subst (λ p. IsBranchOf rule p c.args.height parent.left parent.right) (sym at)
     (parent-branch rule c.args.leaves count c.args.height c.requires.few parent)) in
-    let is_x : slice_get known (position parent.left) ≡ Some x =
-    subst (λ p. slice_get known p ≡ Some x) children.0
-    (subst (λ ys. slice_get (map encoding base ++ map encoding ys) c.child_positions-left.result.0 ≡ Some x)
-    c.deref.ensures.value (c.in_ok-left.ensures.found held)) in
-    let is_y : slice_get known (position parent.right) ≡ Some y =
-    subst (λ p. slice_get known p ≡ Some y) children.1
-    (subst (λ ys. slice_get (map encoding base ++ map encoding ys) c.child_positions-left.result.1 ≡ Some y)
-    c.deref-2.ensures.value (c.in_ok-right.ensures.found held)) in
-    let stands : IsNodeAt parent.first (branch count parent.left parent.right) (forest_of rule (length leaf_digests)) =
-    subst (λ n. IsNodeAt parent.first (branch count parent.left parent.right) (forest_of rule n)) (sym counted)
-    parent.stands in
-    let all : length known ≡ count = omega (arith, held, known-length encoding base items) in
-    subst (AreMade node rule leaf_digests (suc count))
-    (known-push encoding base items c.push.new.self.items c.digest_of_branch.result (node count x y)
-    (c.digest_of_branch.ensures ∙ ap (λ p. node p x y) at) c.in_ok-push.ensures.items)
-    (made-branch node rule g.met.F.Family.merges_equals leaf_digests count known parent.first parent.left parent.right
-    x y made all stands parent.left_before parent.right_before is_x is_y)
+    let is_x : known_over c.args.base_size peaks (map encoding items) (position parent.left) ≡ Some x =
+    subst (λ p. known_over c.args.base_size peaks (map encoding items) p ≡ Some x) children.0
+    (subst (λ xs. known_over c.args.base_size peaks (map encoding xs) c.child_positions-left.result.0 ≡ Some x)
+    c.deref.ensures.value c.child_digest-left.ensures) in
+    let is_y : known_over c.args.base_size peaks (map encoding items) (position parent.right) ≡ Some y =
+    subst (λ p. known_over c.args.base_size peaks (map encoding items) p ≡ Some y) children.1
+    (subst (λ xs. known_over c.args.base_size peaks (map encoding xs) c.child_positions-left.result.1 ≡ Some y)
+    c.deref-2.ensures.value c.child_digest-right.ensures) in
+    subst (λ ds. AreMade rule after c.args.base (suc c.args.leaves) (suc count) (known_over c.args.base_size peaks ds))
+    (mapped-push encoding items c.push.new.self.items c.digest_of_branch.result c.in_ok-push.ensures.items)
+    (made-branch rule g.met.F.Family.merges_equals node after c.args.base c.args.leaves c.args.base_size count
+    c.args.height peaks (map encoding items) x y (encoding c.digest_of_branch.result) hashed made
+    (omega (arith, length-map items encoding)) c.requires.sized c.requires.over parent is_x is_y
+    (c.digest_of_branch.ensures ∙ ap (λ p. node p x y) at))
