@@ -1,0 +1,78 @@
+-- What follows from the operations of a log: its commits, and where the value of a key stands.
+use Rattle.std.proofs.Common.{◌≡◌, ℕ, ◌+◌, ◌≤◌, List, [], ◌∷◌, Option, None, Some, option_map, slice_get, length, map, take, drop, ◌-◌, refl, ap, sym, ◌∙◌, subst, arith}
+use Rattle.std.specs.Prelude.{unwrap_or}
+use Rattle.std.proofs.Math.Seq.{take-length}
+use Rattle.state_ops.specs.Operation.{Operation, delete, update, ordered, commit_floor}
+use Rattle.auth_store_ledger.specs.Map.{Map, value_at, next_key, with_entry, without_key}
+use Rattle.auth_store_ledger.specs.History.{History, AreStates, IsState, latest_map, log_of, history_of, history_from, active_location, active_update, is_commit}
+use Rattle.auth_store_ledger.specs.Store.{commit_count, HasValueAt}
+use Rattle.auth_store_parts.specs.Laws.Lookups.{IsState-with_entry, IsState-without_key}
+use Rattle.auth_store_parts.specs.Laws.Actives.{active_stands, active_update-log_of}
+
+-- a history has a commit for each of the operations that is one
+pub length-history_from : (state : Map) (history : History) (operations : List Operation)
+    → length (history_from state history operations) ≡ length history + commit_count operations
+length-history_from state history [] = omega arith
+length-history_from state history (delete key ∷ later) = length-history_from (without_key state key) history later
+length-history_from state history (update (ordered key value next) ∷ later) =
+    length-history_from (with_entry state key value) history later
+length-history_from state history (commit_floor metadata floor ∷ later) =
+    let more = length-history_from state (record { map = state; metadata = metadata } ∷ history) later in
+    omega (arith, more)
+
+-- the states of a history that operations stand for are states
+pub AreStates-history_from : (state : Map) (history : History) (operations : List Operation) → IsState state
+    → AreStates history → AreStates (history_from state history operations)
+AreStates-history_from state history [] is are = are
+AreStates-history_from state history (delete key ∷ later) is are =
+    AreStates-history_from (without_key state key) history later (IsState-without_key state key is) are
+AreStates-history_from state history (update (ordered key value next) ∷ later) is are =
+    AreStates-history_from (with_entry state key value) history later (IsState-with_entry state key value is) are
+AreStates-history_from state history (commit_floor metadata floor ∷ later) is are =
+    AreStates-history_from state (record { map = state; metadata = metadata } ∷ history) later is (is, are)
+
+pub AreStates-history_of : (operations : List Operation) → AreStates (history_of operations)
+AreStates-history_of [] = tt
+AreStates-history_of (operation ∷ later) = AreStates-history_from [] [] later tt tt
+
+-- the active update of a key stands where its value is found
+pub located : (key : List ℕ) (log : List Operation) (fields : List ℕ × List ℕ) → AreStates (history_of log)
+    → log ≡ log_of (history_of log) → active_update key log ≡ Some fields
+    → HasValueAt key (history_of log) (active_location key log)
+located key log fields states whole is =
+    let history = history_of log in
+    let there : active_update key (log_of history) ≡ Some fields = ap (active_update key) (sym whole) ∙ is in
+    let stands = active_stands key (log_of history) fields there in
+    record {
+      value = fields.0;
+      next = fields.1;
+      stands = ap (λ l. slice_get (log_of history) (active_location key l)) whole ∙ stands.update_at;
+      is = has_fields (next_key (latest_map history) key) (value_at (latest_map history) key) (sym (active_update-log_of key history states) ∙ there);
+    }
+  where
+    has_fields : (next : List ℕ) (at : Option (List ℕ))
+        → option_map {U = List ℕ × List ℕ} (λ value. (value, next)) at ≡ Some fields → at ≡ Some fields.0
+    has_fields next None e = absurd (cc)
+    has_fields next (Some v) e = ap Some (ap (λ (o : Option (List ℕ × List ℕ)). (unwrap_or o (v, v)).0) e)
+
+-- where a key has no active update it has no value
+pub unlocated : (key : List ℕ) (log : List Operation) → AreStates (history_of log) → log ≡ log_of (history_of log)
+    → active_update key log ≡ None → value_at (latest_map (history_of log)) key ≡ None
+unlocated key log states whole is =
+    has_none (next_key (latest_map (history_of log)) key) (value_at (latest_map (history_of log)) key)
+    (sym (active_update-log_of key (history_of log) states) ∙ (ap (active_update key) (sym whole) ∙ is))
+  where
+    has_none : (next : List ℕ) (at : Option (List ℕ))
+        → option_map {U = List ℕ × List ℕ} (λ value. (value, next)) at ≡ None → at ≡ None
+    has_none next None e = refl
+    has_none next (Some v) e = absurd (cc)
+
+-- the first operation is no commit of the history
+pub counted : {X : Type 0} (f : X → Operation) (xs : List X) → 1 ≤ length xs
+    → commit_count (map f (take (length xs - 1) (drop 1 xs))) ≡ length (history_of (map f xs))
+counted f [] some = absurd (omega arith)
+counted f (x ∷ xs) some =
+    let count : length (x ∷ xs) - 1 ≡ length xs = omega arith in
+    ap (λ n. commit_count (map f (take n xs))) count
+    ∙ (ap (λ l. commit_count (map f l)) (take-length xs)
+    ∙ omega (arith, length-history_from [] [] (map f xs)))

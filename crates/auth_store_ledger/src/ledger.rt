@@ -1,0 +1,251 @@
+//! What a store knows of its history, in memory.
+
+ghost use Rattle.std.specs.Prelude.{◌≡◌, ◌<◌, ◌≤◌, ◌^◌, ◌↔◌, ◌⊎◌, ◌++◌, length, option_map, slice_get, Ok, Some, None};
+ghost use Rattle.std.specs.Prelude.{IfOk, IsOkAnd, IsTrue, IfErr, OnOk, OnErr, MatchOption};
+ghost use Rattle.state_ops.specs.Operation.{meaning_of};
+ghost use Rattle.auth_store_ledger.specs.Batch as words;
+ghost use Rattle.auth_store_ledger.specs.History as spec;
+ghost use Rattle.auth_store_ledger.specs.Map.{value_at};
+ghost use Rattle.auth_store_log.specs.Records.{format_of, log_bytes, AreRecorded};
+ghost use Rattle.auth_store_ledger.specs.Store.{IsChunkWidth, Keeps, HasValueAt, commit_count, setting_of_width, floor_of, root_of_history, commit_after};
+
+pub mod commit;
+pub mod laws;
+pub mod log;
+pub mod prove;
+pub mod root;
+
+use crate::batch::Batch;
+use crate::error::LedgerError;
+use crate::history;
+use auth_store_log::laws::a_log_has_floors_within;
+use commit::{Committed, append_commit};
+use log::Log;
+use merkle_forest::{Family, HashFunction};
+use prove::update_at;
+use root::root_of_log;
+use state_ops::{FixedKey, FixedValue, Operation, OrderedOperation};
+use std::alloc::Global;
+use std::marker::{Model, PhantomData};
+
+/// The greatest number of operations in a log: 2^62.
+pub const MAX_OPERATIONS: u64 = 0x4000_0000_0000_0000;
+
+/// A history of a store of keys `K` and values `V`, whose root is hashed by `H` over trees of the family `F` and over
+/// chunks of `N` bytes. Its contracts see it as the history (own).
+#[derive(Drop)]
+pub struct Ledger<F: Family, H: HashFunction, K: FixedKey, V: FixedValue, const N: usize> {
+    alloc: Global,
+    log: Log<F, K, V>,
+    commits: u64,
+    floor: u64,
+    root: H::Digest,
+    family: PhantomData<F>,
+}
+
+impl<F: Family, H: HashFunction, K: FixedKey, V: FixedValue, const N: usize> Model
+    for Ledger<F, H, K, V, N> {
+    ghost Value = { spec.History };
+
+    ghost view = { λ s. spec.history_of s.log };
+
+    ghost invariant = { λ s. IsChunkWidth N × Keeps (setting_of_width F.merge_rule H.hash_of N) K.SIZE V.SIZE
+        s.log s.commits s.floor (H.Digest.encoding s.root) };
+}
+
+/// Whether a chunk may have this many bytes: a power of two from 1 to 4096.
+pub fn is_chunk_width(n: usize) -> bool
+    ensures { IsTrue result ↔ IsChunkWidth n }
+{
+    matches!(
+        n,
+        1 | 2 | 4 | 8 | 16 | 32 | 64 | 128 | 256 | 512 | 1024 | 2048 | 4096
+    )
+}
+
+// Whether the operation is a commit.
+fn ends_batch<F: Family, K: FixedKey, V: FixedValue>(operation: &OrderedOperation<F, K, V>) -> bool
+    ensures { result ≡ spec.is_commit (meaning_of K.encoding V.encoding operation.now) }
+{
+    matches!(operation, Operation::CommitFloor(_, _))
+}
+
+// How many commits the operations have.
+fn commits_in<F: Family, K: FixedKey, V: FixedValue>(
+    operations: &[OrderedOperation<F, K, V>],
+) -> u64
+    ensures { result ≡ commit_count (spec.meanings K.encoding V.encoding operations.now) }
+{
+    let mut count = 0u64;
+    let mut rest = operations;
+    while let [operation, later @ ..] = rest {
+        if ends_batch(operation) {
+            count += 1;
+        }
+        rest = later;
+    }
+    count
+}
+
+// How many commits the history has that operations stand for: the first one is none of them.
+fn commits_of<F: Family, K: FixedKey, V: FixedValue>(
+    operations: &[OrderedOperation<F, K, V>],
+) -> u64
+    ensures { result ≡ length (spec.history_of (spec.meanings K.encoding V.encoding operations.now)) }
+{
+    match operations {
+        [] => 0,
+        [_, later @ ..] => commits_in(later),
+    }
+}
+
+// The floor that the last commit of operations records.
+fn floor_of<F: Family, K: FixedKey, V: FixedValue>(operations: &[OrderedOperation<F, K, V>]) -> u64
+    ensures { result ≡ spec.last_floor (spec.meanings K.encoding V.encoding operations.now) }
+{
+    let mut floor = 0u64;
+    let mut rest = operations;
+    while let [operation, later @ ..] = rest {
+        if let Operation::CommitFloor(_, recorded) = operation {
+            floor = recorded.as_u64();
+        }
+        rest = later;
+    }
+    floor
+}
+
+impl<F: Family, H: HashFunction, K: FixedKey, V: FixedValue, const N: usize> Ledger<F, H, K, V, N> {
+    /// The history whose log these operations are. It is refused where they are more than 2^62, or out of memory.
+    pub fn of(
+        alloc: Global,
+        operations: Vec<OrderedOperation<F, K, V>>,
+    ) -> Result<Ledger<F, H, K, V, N>, LedgerError>
+        requires width { IsChunkWidth N }
+        requires log { spec.meanings K.encoding V.encoding operations.items
+            ≡ spec.log_of (spec.history_of (spec.meanings K.encoding V.encoding operations.items)) }
+        ensures ok { IfOk result (λ ledger. ledger
+            ≡ spec.history_of (spec.meanings K.encoding V.encoding operations.items)) }
+        ensures refused { IfErr result (λ e. (e ≡ LedgerError.Memory) ⊎ ((e ≡ LedgerError.NumberEnded)
+            × (2 ^ 62 < length operations.items))) }
+    {
+        if operations.len() as u64 > MAX_OPERATIONS {
+            return Err(LedgerError::NumberEnded);
+        }
+        let commits = commits_of(&operations);
+        let floor = floor_of(&operations);
+        let mut log = Log::new(alloc);
+        log.append(operations)?;
+        let root = root_of_log::<F, H, K, V, N>(alloc, &log, floor)?;
+        Ok(Ledger {
+            alloc,
+            log,
+            commits,
+            floor,
+            root,
+            family: PhantomData,
+        })
+    }
+
+    /// Takes the batch with its commit into the history, and answers the bytes that its log grows by. It is refused
+    /// where the log would pass 2^62 operations, or out of memory; the history then stays as it was.
+    pub fn commit(
+        &mut self,
+        batch: Batch<K, V>,
+        metadata: Option<V>,
+    ) -> Result<Vec<u8>, LedgerError>
+        ensures ok { let said = words.meanings K.encoding V.encoding batch.words.items in
+            OnOk result (self.new ≡ commit_after said (option_map V.encoding metadata) self.old) }
+        ensures bytes { IfOk result (λ bytes. log_bytes K.SIZE V.SIZE (spec.log_of self.new)
+            ≡ log_bytes K.SIZE V.SIZE (spec.log_of self.old) ++ bytes.items) }
+        ensures within { OnOk result (length (spec.log_of self.new) ≤ 2 ^ 62) }
+        ensures err { OnErr result (self.new ≡ self.old) }
+        ensures refused { let said = words.meanings K.encoding V.encoding batch.words.items in
+            let next = commit_after said (option_map V.encoding metadata) self.old in
+            IfErr result (λ e. (e ≡ LedgerError.Memory) ⊎ ((e ≡ LedgerError.NumberEnded)
+            × (2 ^ 62 < length (spec.log_of next)))) }
+    {
+        let changes = history::changes_of(self.alloc, self.log.operations(), &batch)?;
+        if changes.len() as u64 >= MAX_OPERATIONS - self.log.len() as u64 {
+            return Err(LedgerError::NumberEnded);
+        }
+        let Committed { floor, root, bytes } = append_commit::<F, H, K, V, N>(
+            self.alloc,
+            &mut self.log,
+            changes,
+            metadata,
+        )?;
+        self.commits += 1;
+        self.floor = floor;
+        self.root = root;
+        Ok(bytes)
+    }
+
+    /// Where in the log the update stands that gives the key its value. None: the key isn't there.
+    pub fn location(&self, key: &K) -> Option<u64>
+        ensures { MatchOption result (value_at (spec.latest_map self.now) (K.encoding key.now) ≡ None)
+            (λ index. HasValueAt (K.encoding key.now) self.now index) }
+    {
+        let location = history::active_location(key, self.log.operations());
+        match update_at(self.log.operations(), location) {
+            Some(_) => Some(location as u64),
+            None => None,
+        }
+    }
+
+    /// The operations of the log, the first one first.
+    pub fn operations(&self) -> &[OrderedOperation<F, K, V>]
+        ensures { spec.meanings K.encoding V.encoding result.now ≡ spec.log_of self.now }
+    {
+        self.log.operations()
+    }
+
+    /// The root of the history.
+    pub fn root(&self) -> H::Digest
+        ensures { H.Digest.encoding result ≡ root_of_history
+            (setting_of_width F.merge_rule H.hash_of N) K.SIZE V.SIZE self.now }
+    {
+        self.root
+    }
+
+    /// How many commits the history has.
+    pub fn commits(&self) -> u64
+        ensures { result ≡ length self.now }
+    {
+        self.commits
+    }
+
+    /// The floor that the last commit of the log records: the location of an operation.
+    pub fn floor(&self) -> u64
+        ensures { result ≡ floor_of self.now }
+    {
+        self.floor
+    }
+
+    /// How many operations the log has.
+    pub fn len(&self) -> u64
+        ensures { result ≡ length (spec.log_of self.now) }
+    {
+        self.log.len() as u64
+    }
+
+    /// What holds of every ledger: the operations of its log are read again as they were written.
+    pub fn is_recorded(&self)
+        ensures { AreRecorded (format_of (K.after tt) (V.after tt) K.SIZE V.SIZE) (spec.log_of self.now) }
+    {
+        a_log_has_floors_within();
+        self.log.is_recorded();
+    }
+
+    /// What holds of every ledger: its chunks have a width that may be, each commit of its history has a state, and
+    /// its log has at most 2^62 operations.
+    pub fn holds_a_history(&self)
+        ensures width { IsChunkWidth N }
+        ensures states { spec.AreStates self.now }
+        ensures few { length (spec.log_of self.now) ≤ 2 ^ 62 }
+    {
+        let _ = &self.log;
+    }
+}
+
+#[cfg(test)]
+mod tests;

@@ -1,0 +1,144 @@
+//! The log of a store: its operations with their encodings.
+
+ghost use Rattle.std.specs.Prelude.{◌≡◌, ◌≤◌, ◌++◌, ◌∷◌, [], List, map, take, drop, length, IfOk, OnOk, OnErr};
+ghost use Rattle.std.specs.List.{flat_map};
+ghost use Rattle.state_ops.specs.Operation as meaning;
+ghost use Rattle.auth_store_ledger.specs.History.{meanings};
+ghost use Rattle.auth_store_log.specs.Records.{format_of, log_bytes, AreRecorded, FloorsFit};
+ghost use Rattle.auth_store_ledger.specs.Store as spec;
+
+use auth_store_log::encoding::record_bytes;
+use merkle_forest::Family;
+use state_ops::{FixedKey, FixedValue, OrderedOperation};
+use std::alloc::{AllocError, Global};
+use std::marker::Model;
+
+/// Operations with the fixed encoding of each, which is made once. Its contracts see it as what the operations say.
+#[derive(Drop)]
+pub struct Log<F: Family, K: FixedKey, V: FixedValue> {
+    alloc: Global,
+    operations: Vec<OrderedOperation<F, K, V>>,
+    encodings: Vec<Vec<u8>>,
+}
+
+impl<F: Family, K: FixedKey, V: FixedValue> Model for Log<F, K, V> {
+    ghost Value = { List meaning.Operation };
+
+    ghost view = { λ log. meanings K.encoding V.encoding log.operations.items };
+
+    ghost invariant = { λ log. (map (λ e. e.items) log.encodings.items ≡ spec.encodings K.SIZE V.SIZE
+        (meanings K.encoding V.encoding log.operations.items))
+        × spec.AreWritten (format_of (K.after tt) (V.after tt) K.SIZE V.SIZE)
+        (meanings K.encoding V.encoding log.operations.items) };
+}
+
+/// The fixed encodings of the operations. It fails only when out of memory.
+fn encodings_of<F: Family, K: FixedKey, V: FixedValue>(
+    alloc: Global,
+    operations: &[OrderedOperation<F, K, V>],
+) -> Result<Vec<Vec<u8>>, AllocError>
+    ensures encoded { IfOk result (λ encoded. map (λ e. e.items) encoded.items
+        ≡ spec.encodings K.SIZE V.SIZE (meanings K.encoding V.encoding operations.now)) }
+    ensures written { OnOk result (spec.AreWritten (format_of (K.after tt) (V.after tt) K.SIZE V.SIZE)
+        (meanings K.encoding V.encoding operations.now)) }
+{
+    let mut encoded = Vec::new(alloc);
+    for operation in operations {
+        let record = record_bytes(alloc, operation)?;
+        encoded.push(record)?;
+    }
+    Ok(encoded)
+}
+
+impl<F: Family, K: FixedKey, V: FixedValue> Log<F, K, V> {
+    /// A log of no operations.
+    pub fn new(alloc: Global) -> Log<F, K, V>
+        ensures { result ≡ [] }
+    {
+        Log {
+            alloc,
+            operations: Vec::new(alloc),
+            encodings: Vec::new(alloc),
+        }
+    }
+
+    /// How many operations there are.
+    pub fn len(&self) -> usize
+        ensures { result ≡ length self.now }
+    {
+        self.operations.len()
+    }
+
+    /// The operations, the first of the log first.
+    pub fn operations(&self) -> &[OrderedOperation<F, K, V>]
+        ensures { meanings K.encoding V.encoding result.now ≡ self.now }
+    {
+        &self.operations
+    }
+
+    /// The fixed encodings of the operations.
+    pub fn encodings(&self) -> &[Vec<u8>]
+        ensures { map (λ e. e.items) result.now ≡ spec.encodings K.SIZE V.SIZE self.now }
+    {
+        &self.encodings
+    }
+
+    /// What holds of every log: where the floors of its commits fit, its operations are read again as they were
+    /// written.
+    pub fn is_recorded(&self)
+        ensures { FloorsFit self.now → AreRecorded (format_of (K.after tt) (V.after tt) K.SIZE V.SIZE) self.now }
+    {
+        let _ = &self.operations;
+    }
+
+    /// Appends an operation. It fails only when out of memory, and the log then stays as it was.
+    pub fn push(&mut self, operation: OrderedOperation<F, K, V>) -> Result<(), AllocError>
+        ensures ok { OnOk result (self.new ≡ self.old ++ meaning.meaning_of K.encoding V.encoding operation ∷ []) }
+        ensures err { OnErr result (self.new ≡ self.old) }
+    {
+        let encoding = record_bytes(self.alloc, &operation)?;
+        self.operations.reserve(1)?;
+        self.encodings.push(encoding)?;
+        Ok(self.operations.push(operation)?)
+    }
+
+    /// Appends operations. It fails only when out of memory, and the log then stays as it was.
+    pub fn append(&mut self, operations: Vec<OrderedOperation<F, K, V>>) -> Result<(), AllocError>
+        ensures ok { OnOk result (self.new ≡ self.old ++ meanings K.encoding V.encoding operations.items) }
+        ensures err { OnErr result (self.new ≡ self.old) }
+    {
+        let mut operations = operations;
+        let mut encodings = encodings_of(self.alloc, &operations)?;
+        self.operations.reserve(operations.len())?;
+        self.encodings.append(&mut encodings)?;
+        Ok(self.operations.append(&mut operations)?)
+    }
+
+    /// Leaves the first `count` operations.
+    pub fn truncate(&mut self, count: usize)
+        ensures { self.new ≡ take count self.old }
+    {
+        self.operations.truncate(count);
+        self.encodings.truncate(count);
+    }
+
+    /// The fixed encodings of the operations after the first `count`, one after the other. It fails only when out of
+    /// memory.
+    pub fn bytes_after(&self, count: usize) -> Result<Vec<u8>, AllocError>
+        requires { count ≤ length self.now }
+        ensures { IfOk result (λ bytes. bytes.items ≡ log_bytes K.SIZE V.SIZE (drop count self.now)) }
+    {
+        joined(self.alloc, &self.encodings[count..])
+    }
+}
+
+// These bytes, one after the other. It fails only when out of memory.
+fn joined(alloc: Global, parts: &[Vec<u8>]) -> Result<Vec<u8>, AllocError>
+    ensures { IfOk result (λ bytes. bytes.items ≡ flat_map (λ part. part.items) parts.now) }
+{
+    let mut bytes = Vec::new(alloc);
+    for part in parts {
+        bytes.extend_from_slice(part)?;
+    }
+    Ok(bytes)
+}
