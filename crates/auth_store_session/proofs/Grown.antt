@@ -1,0 +1,73 @@
+-- What stands where a batch was refused after the history had grown by it.
+use Rattle.std.proofs.Common.{◌≡◌, ◌⊎◌, ⊎_elim, ◌+◌, ◌<◌, ◌≤◌, ℕ, Bool, true, false, List, [], ◌∷◌, Some, None, inl, inr, refl, subst, sym, length}
+use Rattle.std.specs.Prelude.{Option, IfSome, IsSomeAnd}
+use Rattle.fault_storage_parts.specs.Crc32.{crc32}
+use Rattle.paged_blob.specs.Answers.{Failures}
+use Rattle.paged_blob.specs.Caches.{Cache}
+use Rattle.paged_blob.specs.Calls.{Call}
+use Rattle.paged_blob.specs.Writers.{Keeps, written, IsWriterOf}
+use Rattle.paged_format.specs.Tips.{Tip}
+use Rattle.paged_blob.specs.declared.flush.DurableSlot.{DurableSlot}
+use Rattle.auth_store_parts.specs.History.{History, Commit, AreStates, log_of}
+use Rattle.auth_store_log.specs.Records.{Format, history_bytes, AreRecorded}
+use Rattle.auth_store_log.specs.Shown.{IsShown, MayShow}
+use Rattle.auth_store_session.specs.declared.error.StoreError.{StoreError}
+use Rattle.auth_store_session.specs.declared.error.StoreError.TheVariants.{Fault, PowerCut, NumberEnded, Memory, Corrupt, Failed, Header}
+use Rattle.auth_store_ledger.specs.declared.error.LedgerError.{LedgerError}
+use Rattle.auth_store_ledger.specs.declared.error.LedgerError.TheVariants as ledgers
+use Rattle.auth_store_session.specs.Refusals.{of_ledger}
+use Rattle.auth_store_session.specs.Stores.{LiveState, IsLive, IsWritten, Shows, IsRefusal, IsCommitRefusal}
+
+-- what may refuse with less reason may refuse with more, also under a cut
+pub wider : (is_cut : Bool) (before after : Failures) (One Other : Type 0) (e : StoreError) → (One → Other)
+    → IsCommitRefusal false before after One e → IsCommitRefusal is_cut before after Other e
+wider is_cut before after One Other (Fault kind) more cause = cause
+wider is_cut before after One Other PowerCut more (inl none) = absurd (cc)
+wider is_cut before after One Other PowerCut more (inr counted) = inr counted
+wider is_cut before after One Other NumberEnded more (inl ended) = inl ended
+wider is_cut before after One Other NumberEnded more (inr one) = inr (more one)
+wider is_cut before after One Other Memory more cause = cause
+wider is_cut before after One Other Corrupt more cause = cause
+wider is_cut before after One Other Failed more cause = cause
+wider is_cut before after One Other (Header fault) more cause = cause
+
+-- what shows a history shows it with a commit that may be pending
+pub perhaps : (format : Format) (size : ℕ) (history : History) (commit : Commit) (calls : List Call)
+    → MayShow format crc32 size history None calls → MayShow format crc32 size history (Some commit) calls
+perhaps format size history commit calls shows = λ image is chance. one_of (shows image is chance)
+  where
+    one_of : {bytes : List ℕ} → IsShown format history None bytes → IsShown format history (Some commit) bytes
+    one_of (inl log) = inl (inl log)
+    one_of (inr none) = inr none
+
+-- what a writer keeps of a live store
+pub keeps_live : (format : Format) (calls : List Call) (cache : Cache) (now : LiveState)
+    → ((sum : List ℕ → ℕ) (size : ℕ) (calls : List Call) (content : List ℕ) (synced : ℕ) (tip : Tip) (slot : Option DurableSlot)
+    → 12 ≤ size → IsWriterOf sum size calls content synced tip slot → Keeps sum size content synced calls)
+    → 12 ≤ now.writer.page_size → IsLive format calls cache now
+    → Keeps crc32 (cache.page_size + 12) (history_bytes format now.history) (length (history_bytes format now.history)) calls
+keeps_live format calls cache now keeps some is =
+    let w = now.writer in
+    let all = keeps crc32 w.page_size calls (written crc32 calls w) w.synced w.tip w.slot some is.writer in
+    subst (λ size. Keeps crc32 size (history_bytes format now.history) (length (history_bytes format now.history)) calls) is.sized
+    (subst (λ synced. Keeps crc32 w.page_size (history_bytes format now.history) synced calls) is.synced
+    (subst (λ content. Keeps crc32 w.page_size content w.synced calls) is.content all))
+
+-- what a ledger refuses
+pub ledger_refused : (is_cut : Bool) (failures : Failures) (One Other : Type 0) (e : LedgerError)
+    → (e ≡ ledgers.Memory) ⊎ ((e ≡ ledgers.NumberEnded) × One)
+    → IsCommitRefusal is_cut failures failures (One ⊎ Other) (of_ledger e)
+ledger_refused is_cut failures One Other e (inl is) =
+    subst (λ x. IsCommitRefusal is_cut failures failures (One ⊎ Other) (of_ledger x)) (sym is) tt
+ledger_refused is_cut failures One Other e (inr is) =
+    subst (λ x. IsCommitRefusal is_cut failures failures (One ⊎ Other) (of_ledger x)) (sym is.0) (inr (inl is.1))
+
+-- what came back is as it was, or nothing did
+pub kept_or : {L : Type 0} (kept : Option L) (P Q : L → Type 0) (A B : Type 0) → IfSome kept (λ k. P k × Q k)
+    → (kept ≡ None → A × B) → IsSomeAnd kept P ⊎ ((kept ≡ None) × A × B)
+kept_or (Some k) P Q A B all lost = inl all.0
+kept_or None P Q A B all lost = let both = lost refl in inr (refl, both.0, both.1)
+
+pub kept_live : {L : Type 0} (kept : Option L) (P Q : L → Type 0) → IfSome kept (λ k. P k × Q k) → IfSome kept Q
+kept_live (Some k) P Q all = all.1
+kept_live None P Q all = tt

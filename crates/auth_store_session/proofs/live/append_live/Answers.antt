@@ -1,0 +1,62 @@
+use Rattle.std.proofs.Common.{◌≡◌, ◌∙◌, ◌+◌, ◌++◌, ap, sym, subst, List, ℕ, false, length, length-append, arith}
+use Rattle.std.specs.Prelude.{IfErr, IsTrue}
+use Rattle.std.proofs.lemmas.Result.{err_from_is_err_and}
+use Rattle.fault_storage_parts.specs.Crc32.{crc32}
+use Rattle.paged_format.specs.Footers.{IsPageSize}
+use Rattle.paged_blob.specs.Answers.{Failures}
+use Rattle.paged_blob.specs.Caches.{Cache}
+use Rattle.paged_blob.specs.CachedContent.{HoldsPagesOf}
+use Rattle.paged_blob.specs.Flushes.{physical_size}
+use Rattle.paged_blob.specs.Writers.{written}
+use Rattle.auth_store_log.specs.Records.{format_of, history_bytes}
+use Rattle.auth_store_session.specs.declared.error.StoreError.{StoreError}
+use Rattle.auth_store_session.specs.Refusals.{of_blob}
+use Rattle.auth_store_session.specs.Stores.{IsCommitRefusal, EndsDisk}
+use Rattle.auth_store_session.proofs.Refused.{open_after, append_refused}
+use Rattle.auth_store_session.proofs.live.append_live.Goals as goal
+
+pub returns-in_err-appended-clause-open : goal.returns-in_err-appended-clause-open
+returns-in_err-appended-clause-open g c = ap (λ (f : Failures). f.is_open) c.append_batch.ensures.failures
+    ∙ open_after c.append_batch.result (g.B.Blob.failures c.args.blob.now) c.requires.open
+
+pub returns-in_err-appended-clause-refused : goal.returns-in_err-appended-clause-refused
+returns-in_err-appended-clause-refused g c =
+    let before : Failures = g.B.Blob.failures c.args.blob.now in
+    let size = c.args.cache.now.page_size + 12 in
+    let list = written crc32 (g.B.Blob.calls c.args.blob.now) c.args.writer in
+    let e = c.in_err-appended.field-0.0 in
+    let log = history_bytes (format_of (g.K.Read.after tt) (g.V.Read.after tt) g.K.FixedSize.SIZE g.V.FixedSize.SIZE) c.args.ledger in
+    let long : length log ≡ length list + length c.args.bytes.now = ap length c.requires.grown ∙ length-append list c.args.bytes.now in
+    let p = err_from_is_err_and c.from_residual.result c.from_residual.ensures.1 in
+    let why = append_refused (Unit {0}) before (physical_size c.args.writer.page_size (length list + length c.args.bytes.now)) e c.requires.open
+    c.in_err-appended.ensures.cause in
+    subst (λ r. IfErr r (IsCommitRefusal false before (g.B.Blob.failures c.append_batch.new.blob) (EndsDisk size log))) (sym p.1)
+    (subst (λ (x : StoreError). IsCommitRefusal false before (g.B.Blob.failures c.append_batch.new.blob) (EndsDisk size log) x) (sym p.2)
+    (rw (long, sym c.requires.sized, c.in_err-appended.ensures.failures) why))
+
+pub returns-clause-live : goal.returns-clause-live
+returns-clause-live g c =
+    let list = written crc32 (g.B.Blob.calls c.args.blob.now) c.args.writer in
+    let same = c.in_ok-appended.ensures.same in
+    let cache : c.append_batch.new.cache.page_size ≡ c.args.cache.now.page_size = ap (λ (k : Cache). k.page_size) c.append_batch.ensures.cache in
+    let next : c.append_batch.new.cache.next_id ≡ c.args.cache.now.next_id = ap (λ (k : Cache). k.next_id) c.append_batch.ensures.cache in
+    record {
+      writer = c.in_ok-appended.ensures.writer;
+      content = c.in_ok-appended.ensures.content ∙ sym c.requires.grown;
+      synced = c.in_ok-appended.ensures.synced ∙ (sym (length-append list c.args.bytes.now) ∙ ap length (sym c.requires.grown));
+      sized = omega (arith, same.0, c.requires.sized, cache);
+      named = omega (arith, same.1, c.requires.named, next);
+      cached = subst (λ id. HoldsPagesOf (history_bytes (format_of (g.K.Read.after tt) (g.V.Read.after tt) g.K.FixedSize.SIZE g.V.FixedSize.SIZE)
+          c.args.ledger) c.append_batch.new.cache id) (sym same.1)
+          (subst (λ l. HoldsPagesOf l c.append_batch.new.cache c.args.writer.blob_id) (sym c.requires.grown)
+          (c.append_batch.ensures.cached c.requires.cached));
+      recorded = c.requires.recorded;
+    }
+
+pub returns-clause-cache : goal.returns-clause-cache
+returns-clause-cache g c =
+    let cache : c.append_batch.new.cache.page_size ≡ c.args.cache.now.page_size = ap (λ (k : Cache). k.page_size) c.append_batch.ensures.cache in
+    record {
+      size = subst (λ n. IsPageSize (n + 12)) (sym cache) c.requires.cache.size;
+      named = c.append_batch.ensures.named c.requires.cache.named c.requires.named;
+    }

@@ -1,0 +1,64 @@
+use Rattle.std.proofs.Common.{◌≡◌, ◌∙◌, ◌⊎◌, ⊎_elim, ◌+◌, ◌*◌, ◌<◌, ◌≤◌, ◌^◌, ap, sym, subst, List, ℕ, length, arith}
+use Rattle.std.specs.Prelude.{IfErr}
+use Rattle.std.proofs.lemmas.List.{length-map}
+use Rattle.std.proofs.lemmas.Result.{err_from_is_err_and}
+use Rattle.fault_storage_parts.specs.Crc32.{crc32}
+use Rattle.paged_format.specs.Footers.{IsPageSize}
+use Rattle.paged_blob.specs.Answers.{Failures}
+use Rattle.paged_blob.specs.Caches.{Cache}
+use Rattle.paged_blob.specs.CachedContent.{HoldsPagesOf}
+use Rattle.paged_blob.specs.Calls.{content}
+use Rattle.state_ops.specs.Operation.{Operation, meaning_of}
+use Rattle.auth_store_parts.specs.History.{meanings, log_of}
+use Rattle.auth_store_ledger.specs.declared.error.LedgerError.{LedgerError}
+use Rattle.auth_store_ledger.specs.declared.error.LedgerError.TheVariants as ledgers
+use Rattle.auth_store_log.specs.Records.{Format, format_of, history_bytes, log_bytes, recovered_log, AreRecorded}
+use Rattle.auth_store_session.specs.declared.error.StoreError.{StoreError}
+use Rattle.auth_store_session.specs.Refusals.{of_ledger}
+use Rattle.auth_store_session.specs.Stores.{IsOpenRefusal, IsNoHistory, EndsOpening}
+use Rattle.auth_store_session.proofs.Long.{log_long}
+use Rattle.auth_store_session.proofs.live.recover_live.Goals as goal
+
+pub returns-in_err-ledger-clause-refused : goal.returns-in_err-ledger-clause-refused
+returns-in_err-ledger-clause-refused g c =
+    let format : Format = format_of (g.K.Read.after tt) (g.V.Read.after tt) g.K.FixedSize.SIZE g.V.FixedSize.SIZE in
+    let size = c.args.cache.now.page_size + 12 in
+    let shown = content (g.B.Blob.calls c.args.blob.now) in
+    let Refused : StoreError → Type 0 = IsOpenRefusal (g.B.Blob.failures c.args.blob.now) (g.B.Blob.failures c.recover.new.blob)
+    (EndsOpening size (g.K.FixedSize.SIZE, g.V.FixedSize.SIZE) c.args.cache.now.next_id (length shown))
+    (IsNoHistory format (recovered_log format crc32 size shown)) in
+    let ops = meanings g.K.Write.encoding g.V.Write.encoding c.in_ok-operations.operations.items in
+    let count = length-map c.in_ok-operations.operations.items (meaning_of g.K.Write.encoding g.V.Write.encoding) in
+    let long = log_long format ops c.in_ok-operations.ensures.recorded in
+    let bytes = ap length c.in_ok-operations.ensures.bytes in
+    let p = err_from_is_err_and c.from_residual-in_err-ledger.result c.from_residual-in_err-ledger.ensures.1 in
+    subst (λ r. IfErr r Refused) (sym p.1)
+    (subst Refused (sym p.2)
+    (⊎_elim
+    (λ (lacks : c.in_err-ledger.field-0.0 ≡ ledgers.Memory). subst (λ (e : LedgerError). Refused (of_ledger e)) (sym lacks) tt)
+    (λ many. absurd (omega (arith, many.1, count, long, bytes, c.deref.ensures.len)))
+    c.in_err-ledger.ensures.refused))
+
+pub returns-clause-live : goal.returns-clause-live
+returns-clause-live g c =
+    let format : Format = format_of (g.K.Read.after tt) (g.V.Read.after tt) g.K.FixedSize.SIZE g.V.FixedSize.SIZE in
+    let list : List ℕ = c.in_ok-writer.bytes.items in
+    let ops : List Operation = meanings g.K.Write.encoding g.V.Write.encoding c.in_ok-operations.operations.items in
+    let log : ops ≡ log_of c.in_ok-ledger.ledger = c.in_ok-operations.ensures.whole ∙ ap log_of (sym c.in_ok-ledger.ensures.ok) in
+    let bytes : list ≡ history_bytes format c.in_ok-ledger.ledger = sym c.deref.ensures.value
+    ∙ (sym c.in_ok-operations.ensures.bytes ∙ ap (log_bytes g.K.FixedSize.SIZE g.V.FixedSize.SIZE) log) in
+    record {
+      writer = c.in_ok-writer.ensures.writer;
+      content = c.in_ok-writer.ensures.content ∙ bytes;
+      synced = c.in_ok-writer.ensures.synced ∙ ap length bytes;
+      sized = c.in_ok-writer.ensures.page_size ∙ ap (λ (k : Cache). k.page_size + 12) (sym c.recover.ensures.same);
+      named = c.in_ok-writer.ensures.name.1;
+      cached = subst (λ l. HoldsPagesOf l c.recover.new.cache c.in_ok-writer.writer.blob_id) bytes c.in_ok-writer.ensures.cached;
+      recorded = subst (AreRecorded format) log c.in_ok-operations.ensures.recorded;
+    }
+
+pub returns-clause-cache : goal.returns-clause-cache
+returns-clause-cache g c = record {
+  size = subst (λ n. IsPageSize (n + 12)) (sym (ap (λ (k : Cache). k.page_size) c.recover.ensures.same)) c.requires.cache.size;
+  named = c.recover.ensures.named;
+}

@@ -1,0 +1,4 @@
+pub mod Refusals
+pub mod Stores
+pub mod Machine
+pub mod Standing

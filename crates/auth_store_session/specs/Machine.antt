@@ -1,0 +1,267 @@
+-- The machine of a session: what each request answers, and what it leaves.
+use Rattle.std.specs.Prelude.{◌≡◌, ◌<◌, ◌≤◌, ◌+◌, ◌^◌, ◌⊎◌, ℕ, ⊤, Bool, true, false, IsTrue, IsFalse, List, [], ◌∷◌, length, Option, None, Some, option_map}
+use Rattle.merkle_forest.specs.Forest.{Rule}
+use Rattle.merkle_forest.specs.Hashing.{Hash}
+use Rattle.state_proofs.specs.Canonical.{Setting}
+use Rattle.state_ops.specs.Operation.{fixed_size}
+use Rattle.paged_blob.specs.Flushes.{physical_size}
+use Rattle.auth_store_parts.specs.Batch.{Word, map_after}
+use Rattle.auth_store_parts.specs.Map.{value_at}
+use Rattle.auth_store_parts.specs.History.{History, Commit, latest_map, log_of}
+use Rattle.auth_store_ledger.specs.Store.{setting_of_width, floor_of, root_of_history, commit_after}
+use Rattle.auth_store_log.specs.Records.{log_bytes}
+use Rattle.auth_store_ledger.specs.Proving.{honest_proof}
+use Rattle.auth_store_session.specs.declared.error.StoreError.{StoreError}
+use Rattle.auth_store_session.specs.declared.error.StoreError.TheVariants as refusals
+
+-- what stays the same in a run: trees, hashes and chunks, how the family encodes a pending digest, the sizes of keys and of
+-- values, and how many bytes a page of the disk has
+pub record Machine : Type 0 where
+  pub setting : Setting
+  pub pending : Option (List ℕ) → List ℕ
+  pub key_size : ℕ
+  pub value_size : ℕ
+  pub page_size : ℕ
+
+abbrev pub machine : Rule → Hash → (Option (List ℕ) → List ℕ) → ℕ → ℕ → ℕ → ℕ → Machine
+machine rule hash pending width key value page = record {
+  setting = setting_of_width rule hash width;
+  pending = pending;
+  key_size = key;
+  value_size = value;
+  page_size = page;
+}
+
+-- Where a session stands: closed, with the history that the next opening shows, perhaps with the commit that is pending; open
+-- with a history; or open and failed, with the commit that failed, which the next opening shows or not.
+pub data State : Type 0 where
+  closed : History → Option Commit → State
+  live : History → State
+  failed : History → Commit → State
+
+-- what a session is asked
+pub data Request : Type 0 where
+  ask_open : Request
+  ask_commit : List Word → Option (List ℕ) → Request
+  ask_get : List ℕ → Request
+  ask_root : Request
+  ask_commits : Request
+  ask_floor : Request
+  ask_len : Request
+  ask_proof : List ℕ → Request
+  ask_close : Request
+  ask_crash : Request
+  ask_config : Request
+  ask_cut : Request
+
+-- what it answers
+pub data Answer : Type 0 where
+  opened : Answer
+  committed : List ℕ → Answer
+  value : Option (List ℕ) → Answer
+  root_is : List ℕ → Answer
+  commits_are : ℕ → Answer
+  floor_is : ℕ → Answer
+  len_is : ℕ → Answer
+  proof : Option (List ℕ × List ℕ) → Answer
+  has_closed : Answer
+  has_crashed : Answer
+  is_set : Answer
+  refused : StoreError → Answer
+  not_open : Answer
+  still_open : Answer
+
+-- What the machine sees of the device under it and of its cache: how many faults were injected and how many calls a cut refused so
+-- far, how many names the cache has given, how many bytes the log has on the disk, and whether a cut of the power stands.
+pub record Power : Type 0 where
+  pub injected : ℕ
+  pub refused : ℕ
+  pub names : ℕ
+  pub size : ℕ
+  pub is_cut : Bool
+
+-- one of these numbers is about to pass its type
+abbrev pub IsEnding : Power → Type 0
+IsEnding power =
+    (2 ^ 64 ≤ power.injected + 1) ⊎ (2 ^ 64 ≤ power.refused + 1) ⊎ (2 ^ 64 ≤ power.names + 3) ⊎ (2 ^ 64 ≤ power.size + 4096)
+
+-- the key's value with its honest proof, where the latest map has the key
+abbrev pub proof_of : Machine → History → List ℕ → Option (List ℕ × List ℕ)
+proof_of m history key = option_map (λ v. (v, honest_proof m.pending m.setting m.key_size m.value_size history key))
+    (value_at (latest_map history) key)
+
+-- the history, or the history with the pending commit
+abbrev pub IsShownOf : History → Option Commit → History → Type 0
+IsShownOf history None shown = shown ≡ history
+IsShownOf history (Some commit) shown = (shown ≡ history) ⊎ (shown ≡ commit ∷ history)
+
+-- Why a call of the device may refuse a request: a fault was injected in it, a cut of the power stands, a number ended, or there was
+-- no memory.
+abbrev pub MayRefuse : Power → Power → StoreError → Type 0
+MayRefuse before after (refusals.Fault kind) = before.injected < after.injected
+MayRefuse before after refusals.PowerCut = IsTrue after.is_cut
+MayRefuse before after refusals.NumberEnded = IsEnding before
+MayRefuse before after refusals.Memory = ⊤
+MayRefuse before after _ = ⊥
+
+-- the commit of a batch: the latest map after its words, with its metadata
+abbrev pub commit_of : List Word → Option (List ℕ) → History → Commit
+commit_of words metadata history = record { map = map_after words (latest_map history); metadata = metadata }
+
+-- the log of the history would have more than 2^62 operations
+abbrev pub PassesLimit : History → Type 0
+PassesLimit history = 2 ^ 62 < length (log_of history)
+
+-- the pages of the history's log would end past the numbers of the disk
+abbrev pub PassesDisk : Machine → History → Type 0
+PassesDisk m history =
+    2 ^ 64 ≤ physical_size m.page_size (length (log_bytes m.key_size m.value_size (log_of history))) + 4096
+
+-- the pages of the first operation of a log would
+abbrev pub PassesFirst : Machine → Type 0
+PassesFirst m = 2 ^ 64 ≤ physical_size m.page_size (fixed_size m.key_size m.value_size) + 4096
+
+-- why an opening may be refused
+abbrev pub MayRefuseOpening : Machine → Power → Power → StoreError → Type 0
+MayRefuseOpening m before after refusals.NumberEnded = IsEnding before ⊎ PassesFirst m
+MayRefuseOpening m before after error = MayRefuse before after error
+
+-- why a commit that leads to this history may be refused
+abbrev pub MayRefuseCommit : Machine → Power → Power → History → StoreError → Type 0
+MayRefuseCommit m before after next refusals.NumberEnded =
+    IsEnding before ⊎ PassesLimit next ⊎ PassesDisk m next
+MayRefuseCommit m before after next error = MayRefuse before after error
+
+-- An opening shows the history that stands, with the pending commit or without it, and no cut stood before; or it is refused,
+-- and nothing changes.
+abbrev pub IsOpening : Machine → Power → Power → History → Option Commit → Answer → State → Type 0
+IsOpening m before after history pending answer next =
+    ((answer ≡ opened) × IsFalse before.is_cut
+    × ((shown : History) × IsShownOf history pending shown × (next ≡ live shown)))
+    ⊎ ((error : StoreError) × (answer ≡ refused error) × (next ≡ closed history pending)
+    × MayRefuseOpening m before after error)
+
+-- a closed session can only be opened, and crash
+abbrev pub IsStepClosed : Machine → Power → Power → History → Option Commit → Request → Answer → State → Type 0
+IsStepClosed m before after history pending ask_open answer next = IsOpening m before after history pending answer next
+IsStepClosed m before after history pending ask_crash answer next =
+    (answer ≡ has_crashed) × (next ≡ closed history pending)
+IsStepClosed m before after history pending ask_config answer next = (answer ≡ is_set) × (next ≡ closed history pending)
+IsStepClosed m before after history pending ask_cut answer next = (answer ≡ is_set) × (next ≡ closed history pending)
+IsStepClosed m before after history pending _ answer next = (answer ≡ not_open) × (next ≡ closed history pending)
+
+-- A commit is in, with the root of the history with it, and no cut stood before; or it is refused, and the store is as it was or has
+-- failed. Where the log would pass 2^62 operations it stays as it was.
+abbrev pub IsCommitting : Machine → Power → Power → History → List Word → Option (List ℕ) → Answer → State → Type 0
+IsCommitting m before after history words metadata answer next =
+    let later = commit_after words metadata history in
+    ((answer ≡ committed (root_of_history m.setting m.key_size m.value_size later)) × (next ≡ live later)
+    × (length (log_of later) ≤ 2 ^ 62) × IsFalse before.is_cut)
+    ⊎ ((error : StoreError) × (answer ≡ refused error) × MayRefuseCommit m before after later error
+    × ((next ≡ live history) ⊎ ((next ≡ failed history (commit_of words metadata history)) × (length (log_of later) ≤ 2 ^ 62))))
+
+-- an answer, or a refusal that changes nothing
+abbrev pub IsAnswered : Power → Power → History → Answer → Answer → State → Type 0
+IsAnswered before after history said answer next =
+    (next ≡ live history)
+    × ((answer ≡ said) ⊎ ((error : StoreError) × (answer ≡ refused error) × MayRefuse before after error))
+
+-- a step of an open store that has not failed
+abbrev pub IsStepLive : Machine → Power → Power → History → Request → Answer → State → Type 0
+IsStepLive m before after history ask_open answer next = (answer ≡ still_open) × (next ≡ live history)
+IsStepLive m before after history ask_crash answer next = (answer ≡ still_open) × (next ≡ live history)
+IsStepLive m before after history ask_config answer next = (answer ≡ is_set) × (next ≡ live history)
+IsStepLive m before after history ask_cut answer next = (answer ≡ is_set) × (next ≡ live history)
+IsStepLive m before after history ask_close answer next = (answer ≡ has_closed) × (next ≡ closed history None)
+IsStepLive m before after history (ask_commit words metadata) answer next =
+    IsCommitting m before after history words metadata answer next
+IsStepLive m before after history (ask_get key) answer next =
+    IsAnswered before after history (value (value_at (latest_map history) key)) answer next
+IsStepLive m before after history (ask_proof key) answer next =
+    IsAnswered before after history (proof (proof_of m history key)) answer next
+IsStepLive m before after history ask_root answer next =
+    (answer ≡ root_is (root_of_history m.setting m.key_size m.value_size history)) × (next ≡ live history)
+IsStepLive m before after history ask_commits answer next = (answer ≡ commits_are (length history)) × (next ≡ live history)
+IsStepLive m before after history ask_floor answer next = (answer ≡ floor_is (floor_of history)) × (next ≡ live history)
+IsStepLive m before after history ask_len answer next =
+    (answer ≡ len_is (length (log_of history))) × (next ≡ live history)
+
+-- a failed store can only be closed
+abbrev pub IsStepFailed : History → Commit → Request → Answer → State → Type 0
+IsStepFailed history commit ask_open answer next = (answer ≡ still_open) × (next ≡ failed history commit)
+IsStepFailed history commit ask_crash answer next = (answer ≡ still_open) × (next ≡ failed history commit)
+IsStepFailed history commit ask_config answer next = (answer ≡ is_set) × (next ≡ failed history commit)
+IsStepFailed history commit ask_cut answer next = (answer ≡ is_set) × (next ≡ failed history commit)
+IsStepFailed history commit ask_close answer next = (answer ≡ has_closed) × (next ≡ closed history (Some commit))
+IsStepFailed history commit _ answer next = (answer ≡ refused refusals.Failed) × (next ≡ failed history commit)
+
+-- One step, from a state to the next, with the power before it and after it.
+abbrev pub IsStep : Machine → Power → Power → State → Request → Answer → State → Type 0
+IsStep m before after (closed history pending) request answer next =
+    IsStepClosed m before after history pending request answer next
+IsStep m before after (live history) request answer next = IsStepLive m before after history request answer next
+IsStep m before after (failed history commit) request answer next = IsStepFailed history commit request answer next
+
+-- A run: an answer for each request, one step after the other; each step meets the power that the one before left.
+abbrev pub IsRun : Machine → Power → State → List Request → List Answer → Power → State → Type 0
+IsRun m before first [] [] after last = (after ≡ before) × (last ≡ first)
+IsRun m before first [] (answer ∷ answers) after last = ⊥
+IsRun m before first (request ∷ requests) [] after last = ⊥
+IsRun m before first (request ∷ requests) (answer ∷ answers) after last =
+    (now : Power) × (next : State) × IsStep m before now first request answer next
+    × IsRun m now next requests answers after last
+
+-- an answer of this kind, or a refusal
+abbrev pub IsSaid : (Answer → Bool) → Answer → Type 0
+IsSaid is_kind (refused error) = ⊤
+IsSaid is_kind answer = IsTrue (is_kind answer)
+
+abbrev pub is_opened : Answer → Bool
+is_opened opened = true
+is_opened _ = false
+
+abbrev pub is_root_of_commit : Answer → Bool
+is_root_of_commit (committed root) = true
+is_root_of_commit _ = false
+
+abbrev pub is_value : Answer → Bool
+is_value (value found) = true
+is_value _ = false
+
+abbrev pub is_root : Answer → Bool
+is_root (root_is root) = true
+is_root _ = false
+
+abbrev pub is_commits : Answer → Bool
+is_commits (commits_are count) = true
+is_commits _ = false
+
+abbrev pub is_floor : Answer → Bool
+is_floor (floor_is location) = true
+is_floor _ = false
+
+abbrev pub is_len : Answer → Bool
+is_len (len_is count) = true
+is_len _ = false
+
+abbrev pub is_proof : Answer → Bool
+is_proof (proof found) = true
+is_proof _ = false
+
+-- What kind of answer a request has, of a session with an open store or without one, whatever its openings show.
+abbrev pub IsAnswerTo : Bool → Request → Answer → Type 0
+IsAnswerTo is_open ask_config answer = answer ≡ is_set
+IsAnswerTo is_open ask_cut answer = answer ≡ is_set
+IsAnswerTo false ask_open answer = IsSaid is_opened answer
+IsAnswerTo false ask_crash answer = answer ≡ has_crashed
+IsAnswerTo false _ answer = answer ≡ not_open
+IsAnswerTo true ask_open answer = answer ≡ still_open
+IsAnswerTo true ask_crash answer = answer ≡ still_open
+IsAnswerTo true ask_close answer = answer ≡ has_closed
+IsAnswerTo true (ask_commit words metadata) answer = IsSaid is_root_of_commit answer
+IsAnswerTo true (ask_get key) answer = IsSaid is_value answer
+IsAnswerTo true ask_root answer = IsSaid is_root answer
+IsAnswerTo true ask_commits answer = IsSaid is_commits answer
+IsAnswerTo true ask_floor answer = IsSaid is_floor answer
+IsAnswerTo true ask_len answer = IsSaid is_len answer
+IsAnswerTo true (ask_proof key) answer = IsSaid is_proof answer

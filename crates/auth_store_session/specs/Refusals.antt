@@ -1,0 +1,49 @@
+-- The refusals of a store by their numbers, and from those of what it stands on.
+use Rattle.std.specs.Prelude.{ℕ, List, codes, Some, None}
+use Rattle.paged_blob.specs.declared.error.Error.{Error}
+use Rattle.paged_blob.specs.declared.error.Error.TheVariants as blobs
+use Rattle.auth_store_device.specs.declared.error.OpenError.{OpenError}
+use Rattle.auth_store_device.specs.declared.error.OpenError.TheVariants as openings
+use Rattle.auth_store_log.specs.declared.error.LogError.{LogError}
+use Rattle.auth_store_log.specs.declared.error.LogError.TheVariants as logs
+use Rattle.auth_store_ledger.specs.declared.error.LedgerError.{LedgerError}
+use Rattle.auth_store_ledger.specs.declared.error.LedgerError.TheVariants as ledgers
+use Rattle.auth_store_session.specs.declared.error.StoreError.{StoreError}
+use Rattle.auth_store_session.specs.declared.error.StoreError.TheVariants.{Fault, PowerCut, NumberEnded, Memory, Corrupt, Failed, Header}
+
+abbrev pub number_of : StoreError → List ℕ
+number_of (Fault kind) = codes "S1"
+number_of PowerCut = codes "S2"
+number_of NumberEnded = codes "S3"
+number_of Memory = codes "S4"
+number_of Corrupt = codes "S5"
+number_of Failed = codes "S6"
+number_of (Header fault) = codes "S12"
+
+-- what a ledger refuses
+abbrev pub of_ledger : LedgerError → StoreError
+of_ledger ledgers.NumberEnded = NumberEnded
+of_ledger ledgers.Memory = Memory
+
+-- what a call of the open log, or over it, refuses
+abbrev pub of_blob : Error → StoreError
+of_blob (blobs.Injected kind) = Fault (Some kind)
+of_blob blobs.PowerCut = PowerCut
+of_blob blobs.NumberEnded = NumberEnded
+of_blob blobs.Memory = Memory
+of_blob blobs.BlobMissing = Corrupt
+of_blob blobs.BlobInsufficientLength = Corrupt
+of_blob blobs.ChecksumMismatch = Corrupt
+
+-- what reading a log refuses
+abbrev pub of_log : LogError → StoreError
+of_log logs.Corrupt = Corrupt
+of_log (logs.Refused error) = of_blob error
+
+-- what an opening of the device refuses
+abbrev pub of_opening : OpenError → StoreError
+of_opening (openings.Header fault) = Header fault
+of_opening openings.Injected = Fault None
+of_opening openings.NumberEnded = NumberEnded
+of_opening openings.Memory = Memory
+of_opening openings.PowerCut = PowerCut

@@ -1,0 +1,128 @@
+-- Which states of the machine a session stands for, and when its calls are steps of the machine.
+use Rattle.std.specs.Prelude.{◌≡◌, ◌⊎◌, ◌+◌, ◌≤◌, ◌^◌, ℕ, ⊤, false, IsFalse, List, [], ◌∷◌, length, Option, Some, None, IfSome, Result, Ok, Err, MatchResult}
+use Rattle.fault_storage_parts.specs.Crc32.{crc32}
+use Rattle.paged_blob.specs.Caches.{Cache}
+use Rattle.paged_blob.specs.Calls.{Call, opened, file_of}
+use Rattle.paged_blob.specs.Images.{IsImage}
+use Rattle.paged_blob.specs.Moments.{Through}
+use Rattle.paged_blob.specs.Chance.{NoneByChance}
+use Rattle.auth_store_parts.specs.Batch.{Word}
+use Rattle.auth_store_parts.specs.History.{History, Commit, log_of}
+use Rattle.auth_store_device.specs.Devices.{DeviceState, is_cut, log_fault}
+use Rattle.auth_store_device.specs.Logs.{behind_header, durable_log, HasOwnHeader}
+use Rattle.auth_store_log.specs.Records.{Format, recovered_log}
+use Rattle.auth_store_log.specs.Shown.{IsKeptThrough}
+use Rattle.auth_store_ledger.specs.Store.{commit_after, root_of_history}
+use Rattle.auth_store_session.specs.declared.error.StoreError.{StoreError}
+use Rattle.auth_store_session.specs.declared.error.StoreError.TheVariants as refusals
+use Rattle.auth_store_session.specs.Machine.{Machine, Power, State, closed, live, failed, Request, ask_close, Answer, IsStep, IsRun, MayRefuseOpening, MayRefuseCommit, commit_of}
+use Rattle.auth_store_session.specs.Stores.{StoreState, IsCache, IsLiveAt, IsNoHistory, Shows}
+
+-- a session: the device and the cache while no store is open, or the store
+pub record SessionState (R : Type 0) : Type 0 where
+  pub parts : Option (DeviceState R × Cache)
+  pub store : Option (StoreState R)
+
+-- what the machine sees of a device and a cache
+abbrev pub power_of : {R : Type 0} → DeviceState R → Cache → Power
+power_of device cache = record {
+  injected = device.storage.injections;
+  refused = device.refused;
+  names = cache.next_id;
+  size = length (behind_header (durable_log device.storage.inner));
+  is_cut = is_cut device.left;
+}
+
+-- the digest's encoding where a root is answered
+abbrev pub result_of : {D E : Type 0} → (D → List ℕ) → Result D E → Result (List ℕ) E
+result_of encoding (Ok root) = Ok (encoding root)
+result_of encoding (Err e) = Err e
+
+-- a commit of a batch: it is in, with the root of the history with it, and no cut stood before; or it is refused, and the store is as
+-- it was, or has failed, and openings show it or not
+abbrev pub Commits : {R : Type 0} → Machine → Format → List Word → Option (List ℕ) → History → StoreState R
+    → Result (List ℕ) StoreError → StoreState R → Type 0
+Commits m format words metadata history old result new =
+    let later = commit_after words metadata history in
+    MatchResult result
+    (λ root. (root ≡ root_of_history m.setting m.key_size m.value_size later) × IsLiveAt new later
+    × (length (log_of later) ≤ 2 ^ 62) × IsFalse (is_cut old.device.left))
+    (λ error. MayRefuseCommit m (power_of old.device old.cache) (power_of new.device new.cache) later error
+    × (IsLiveAt new history ⊎ ((new.live ≡ None) × (length (log_of later) ≤ 2 ^ 62)
+    × Shows format m.page_size history (Some (commit_of words metadata history)) new.device.calls)))
+
+-- The calls of an opening: none, or the opening of these bytes, and at each moment after it openings show what is recovered of them.
+abbrev pub IsOpenedThrough : Format → ℕ → List ℕ → List Call → List Call → Type 0
+IsOpenedThrough format size shown old new =
+    (new ≡ old)
+    ⊎ (IsImage (file_of old) shown
+    × Through (IsKeptThrough format crc32 size (recovered_log format crc32 size shown)) (opened shown ∷ old) new)
+
+-- Why an opening is refused, chance or not.
+abbrev pub IsOpenError : {R : Type 0} → Machine → Format → DeviceState R → Cache → DeviceState R → Cache → StoreError → Type 0
+IsOpenError m format old cache new now refusals.Corrupt =
+    IsNoHistory format (recovered_log format crc32 m.page_size (behind_header (durable_log old.storage.inner)))
+IsOpenError m format old cache new now (refusals.Header fault) = log_fault old.storage.inner ≡ Some fault
+IsOpenError m format old cache new now error = MayRefuseOpening m (power_of old cache) (power_of new now) error
+
+-- so for what a session has: there is none where it has neither device nor store, which no session has
+abbrev pub power_in : {R : Type 0} → Option (DeviceState R × Cache) → Option (StoreState R) → Power
+power_in (Some parts) store = power_of parts.0 parts.1
+power_in None (Some store) = power_of store.device store.cache
+power_in None None = record { injected = 0; refused = 0; names = 0; size = 0; is_cut = false }
+
+-- the calls that were made of its device
+abbrev pub calls_in : {R : Type 0} → Option (DeviceState R × Cache) → Option (StoreState R) → List Call
+calls_in (Some parts) store = parts.0.calls
+calls_in None (Some store) = store.device.calls
+calls_in None None = []
+
+-- how many bytes a page of it has on the disk
+abbrev pub page_size_in : {R : Type 0} → Option (DeviceState R × Cache) → Option (StoreState R) → ℕ
+page_size_in (Some parts) store = parts.1.page_size + 12
+page_size_in None (Some store) = store.cache.page_size + 12
+page_size_in None None = 0
+
+-- A session has a closed device or an open store, and not both.
+abbrev pub IsSession : {R : Type 0} → Option (DeviceState R × Cache) → Option (StoreState R) → Type 0
+IsSession (Some parts) None = (parts.0.log ≡ None) × IsCache parts.1
+IsSession None (Some store) = ⊤
+IsSession _ _ = ⊥
+
+-- it stands for a state
+abbrev pub StandsFor : {R : Type 0} → Format → Option (DeviceState R × Cache) → Option (StoreState R) → State → Type 0
+StandsFor format (Some parts) None (closed history pending) =
+    Shows format (parts.1.page_size + 12) history pending parts.0.calls × HasOwnHeader parts.0.storage.inner
+StandsFor format None (Some store) (live history) = IsLiveAt store history
+StandsFor format None (Some store) (failed history commit) =
+    (store.live ≡ None) × Shows format (store.cache.page_size + 12) history (Some commit) store.device.calls
+StandsFor format _ _ _ = ⊥
+
+-- Where no opening is by chance, the call is a step of the machine from each state for which the session stood, to one for which it
+-- stands.
+abbrev pub Steps : {R : Type 0} → Machine → Format → SessionState R → Request → Answer → SessionState R → Type 0
+Steps m format old request answer new =
+    NoneByChance crc32 (page_size_in new.parts new.store) (calls_in new.parts new.store)
+    → (state : State) → StandsFor format old.parts old.store state
+    → (next : State) × IsStep m (power_in old.parts old.store) (power_in new.parts new.store) state request answer next
+    × StandsFor format new.parts new.store next
+
+-- so a call of an open store
+abbrev pub StepsOpen : {R : Type 0} → Machine → Format → StoreState R → Request → Answer → StoreState R → Type 0
+StepsOpen m format old request answer new =
+    NoneByChance crc32 m.page_size new.device.calls → (state : State) → StandsFor format None (Some old) state
+    → (next : State) × IsStep m (power_of old.device old.cache) (power_of new.device new.cache) state request answer next
+    × StandsFor format None (Some new) next
+
+-- the request leaves an open store open
+abbrev pub IsLeftOpen : Request → Type 0
+IsLeftOpen ask_close = ⊥
+IsLeftOpen _ = ⊤
+
+-- so many steps, one after the other
+abbrev pub Runs : {R : Type 0} → Machine → Format → SessionState R → List Request → List Answer → SessionState R → Type 0
+Runs m format old requests answers new =
+    NoneByChance crc32 (page_size_in new.parts new.store) (calls_in new.parts new.store)
+    → (first : State) → StandsFor format old.parts old.store first
+    → (last : State) × IsRun m (power_in old.parts old.store) first requests answers (power_in new.parts new.store) last
+    × StandsFor format new.parts new.store last

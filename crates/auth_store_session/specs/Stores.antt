@@ -1,0 +1,97 @@
+-- An open store over its device: what holds of it while it has not failed, and what its calls say.
+use Rattle.std.specs.Prelude.{◌≡◌, ◌⊎◌, ◌+◌, ◌<◌, ◌≤◌, ◌^◌, ℕ, ⊤, Bool, true, List, [], ◌∷◌, length, Option, Some, None, is_some, IfSome}
+use Rattle.fault_storage_parts.specs.Crc32.{crc32}
+use Rattle.paged_format.specs.Footers.{IsPageSize}
+use Rattle.paged_blob.specs.Answers.{Failures, HaveEnded}
+use Rattle.paged_blob.specs.Caches.{Cache}
+use Rattle.paged_blob.specs.CachedContent.{HoldsPagesOf}
+use Rattle.paged_blob.specs.Calls.{Call}
+use Rattle.state_ops.specs.Operation.{fixed_size}
+use Rattle.paged_blob.specs.Flushes.{physical_size}
+use Rattle.paged_blob.specs.Writers.{WriterState, IsWriter, written}
+use Rattle.auth_store_parts.specs.History.{History, Commit, AreStates, log_of}
+use Rattle.auth_store_device.specs.Devices.{DeviceState}
+use Rattle.auth_store_log.specs.Records.{Format, AreRecorded, begun, history_bytes}
+use Rattle.auth_store_log.specs.Causes.{AreNamed}
+use Rattle.auth_store_log.specs.Shown.{MayShow}
+use Rattle.auth_store_session.specs.declared.error.StoreError.{StoreError}
+use Rattle.auth_store_session.specs.declared.error.StoreError.TheVariants.{Fault, PowerCut, NumberEnded, Memory, Corrupt, Failed, Header}
+
+-- an open store that has not failed: its history, and the writer of its log
+pub record LiveState : Type 0 where
+  pub history : History
+  pub writer : WriterState
+
+-- an open store: its device and its cache, and what it has while it has not failed
+pub record StoreState (R : Type 0) : Type 0 where
+  pub device : DeviceState R
+  pub cache : Cache
+  pub live : Option LiveState
+
+-- the cache has pages of a size that may be, under names that it has given
+pub record IsCache (cache : Cache) : Type 0 where
+  pub size : IsPageSize (cache.page_size + 12)
+  pub named : AreNamed cache
+
+-- What is written is the log of the history, all of it durable, and the cache has pages of it alone.
+pub record IsLive (format : Format) (calls : List Call) (cache : Cache) (live : LiveState) : Type 0 where
+  pub writer : IsWriter crc32 calls live.writer
+  pub content : written crc32 calls live.writer ≡ history_bytes format live.history
+  pub synced : live.writer.synced ≡ length (history_bytes format live.history)
+  pub sized : live.writer.page_size ≡ cache.page_size + 12
+  pub named : live.writer.blob_id < cache.next_id
+  pub cached : HoldsPagesOf (history_bytes format live.history) cache live.writer.blob_id
+  pub recorded : AreRecorded format (log_of live.history)
+
+-- what is true of each open store
+pub record IsStore {R : Type 0} (format : Format) (state : StoreState R) : Type 0 where
+  pub opened : is_some state.device.log ≡ true
+  pub cache : IsCache state.cache
+  pub live : IfSome state.live (IsLive format state.device.calls state.cache)
+
+-- Why a call over the blob may refuse: a count was raised, a number ended, or there was no memory.
+abbrev pub IsRefusal : Failures → Failures → Type 0 → StoreError → Type 0
+IsRefusal before after Ends (Fault kind) = before.injected < after.injected
+IsRefusal before after Ends PowerCut = before.refused < after.refused
+IsRefusal before after Ends NumberEnded = HaveEnded before ⊎ Ends
+IsRefusal before after Ends Memory = ⊤
+IsRefusal before after Ends _ = ⊥
+
+-- The log that is recovered has a commit, and is the log of no history.
+abbrev pub IsNoHistory : Format → List ℕ → Type 0
+IsNoHistory format log =
+    (history : History) → AreStates history → AreRecorded format (log_of history) → history_bytes format history ≡ begun format log → ⊥
+
+-- the pages of so many bytes that have the log end past the numbers of the disk
+abbrev pub EndsDisk : ℕ → List ℕ → Type 0
+EndsDisk size log = 2 ^ 64 ≤ physical_size size (length log) + 4096
+
+-- the names of a cache, the bytes of a blob, or the pages of the first operation of a log end a number
+abbrev pub EndsOpening : ℕ → ℕ × ℕ → ℕ → ℕ → Type 0
+EndsOpening size sizes names length =
+    (2 ^ 64 ≤ names + 3) ⊎ (2 ^ 64 ≤ length + 4096) ⊎ (2 ^ 64 ≤ physical_size size (fixed_size sizes.0 sizes.1) + 4096)
+
+-- a history of states whose operations are read again as they were written
+pub record IsWritten (format : Format) (history : History) : Type 0 where
+  pub states : AreStates history
+  pub recorded : AreRecorded format (log_of history)
+
+-- Each opening that is not by chance shows the log of the history, or with the pending commit.
+pub record Shows (format : Format) (size : ℕ) (history : History) (pending : Option Commit) (calls : List Call) : Type 0 where
+  pub written : IsWritten format history
+  pub next : IfSome pending (λ commit. IsWritten format (commit ∷ history))
+  pub shown : MayShow format crc32 size history pending calls
+
+-- why an opening may: so, or what it recovered is the log of no history
+abbrev pub IsOpenRefusal : Failures → Failures → Type 0 → Type 0 → StoreError → Type 0
+IsOpenRefusal before after Ends IsNone Corrupt = IsNone
+IsOpenRefusal before after Ends IsNone error = IsRefusal before after Ends error
+
+-- why a commit may: so, or where a cut stands
+abbrev pub IsCommitRefusal : Bool → Failures → Failures → Type 0 → StoreError → Type 0
+IsCommitRefusal is_cut before after Ends PowerCut = (is_cut ≡ true) ⊎ (before.refused < after.refused)
+IsCommitRefusal is_cut before after Ends error = IsRefusal before after Ends error
+
+-- the store has not failed, and this is its history
+abbrev pub IsLiveAt : {R : Type 0} → StoreState R → History → Type 0
+IsLiveAt store history = (now : LiveState) × (store.live ≡ Some now) × (now.history ≡ history)

@@ -1,0 +1,292 @@
+//! What an open store has while it has not failed, over a blob of any make.
+
+ghost use Rattle.std.specs.Prelude.{◌≡◌, ◌⊎◌, ◌+◌, ◌++◌, ◌≤◌, ◌<◌, ◌^◌, [], length, true, false, IsFalse, IfOk, IfErr, OnOk, OnErr, IfSome};
+ghost use Rattle.std.specs.Prelude.{option_map, Some, None, Err, MatchResult, IsSomeAnd};
+ghost use Rattle.fault_storage_parts.specs.Crc32.{crc32};
+ghost use Rattle.paged_blob.specs.CachedContent.{HoldsPagesOf};
+ghost use Rattle.paged_blob.specs.Calls.{content, file_of};
+ghost use Rattle.paged_blob.specs.Moments.{Grows, Through};
+ghost use Rattle.paged_blob.specs.Writers.{IsWriter, Keeps, written};
+ghost use Rattle.auth_store_parts.specs.Batch as words;
+ghost use Rattle.auth_store_parts.specs.History.{latest_map, log_of};
+ghost use Rattle.auth_store_parts.specs.Map.{value_at};
+ghost use Rattle.auth_store_ledger.specs.Store.{IsChunkWidth, commit_after, root_of_history, setting_of_width};
+ghost use Rattle.auth_store_log.specs.Records.{format_of, begun, history_bytes, recovered_log, AreRecorded};
+ghost use Rattle.auth_store_log.specs.Shown.{IsKeptThrough};
+ghost use Rattle.auth_store_session.specs.Machine.{commit_of, PassesLimit};
+ghost use Rattle.auth_store_session.specs.Stores.{IsCache, IsLive, IsNoHistory, IsRefusal, IsOpenRefusal, IsCommitRefusal, EndsDisk, EndsOpening, Shows};
+
+use crate::error::StoreError;
+use auth_store_ledger::{Batch, Ledger};
+use auth_store_log::laws::a_kept_log_is_shown;
+use auth_store_log::{append_batch, operations_of, read_operation, recover};
+use fault_storage::Crc32;
+use merkle_forest::{Family, HashFunction};
+use paged_blob::laws::each_image_keeps_what_is_durable;
+use paged_blob::{Blob, CacheRef, Writer};
+use state_ops::{FixedKey, FixedValue, Operation};
+use std::alloc::Global;
+use std::marker::Model;
+
+/// The history in memory, and the writer of its log.
+#[derive(Drop)]
+pub struct Live<F: Family, H: HashFunction, K: FixedKey, V: FixedValue, const N: usize> {
+    /// The history.
+    pub ledger: Ledger<F, H, K, V, N>,
+    /// The writer of its log.
+    pub writer: Writer<Crc32>,
+}
+
+impl<F: Family, H: HashFunction, K: FixedKey, V: FixedValue, const N: usize> Model
+    for Live<F, H, K, V, N> {
+    ghost use Rattle.auth_store_session.specs.Stores.{LiveState};
+
+    ghost Value = { LiveState };
+
+    ghost view = { λ l. record { history = l.ledger; writer = l.writer } };
+}
+
+/// Recovers the log of a blob that was opened, of so many bytes, and takes the history whose log it is. S5: it is the
+/// log of no history. S1 to S4 where a call of the blob, the cache or memory is wanting.
+pub fn recover_live<B, F, H, K, V, const N: usize>(
+    alloc: Global,
+    blob: &mut B,
+    cache: &mut CacheRef,
+    blob_size: u64,
+    capacity: usize,
+) -> Result<Live<F, H, K, V, N>, StoreError>
+where
+    B: Blob,
+    F: Family,
+    H: HashFunction,
+    K: FixedKey,
+    V: FixedValue,
+    requires width { IsChunkWidth N }
+    requires cache { IsCache cache.old }
+    requires sound { IsFalse (file_of (B.calls blob.old)).failed }
+    requires settled { (file_of (B.calls blob.old)).changes ≡ [] }
+    requires known { blob_size ≡ length (content (B.calls blob.old)) }
+    requires open { (B.failures blob.old).is_open ≡ true }
+    ensures live { IfOk result (IsLive (format_of (K.after tt) (V.after tt) K.SIZE V.SIZE) (B.calls blob.new)
+        cache.new) }
+    ensures history { IfOk result (λ live. history_bytes (format_of (K.after tt) (V.after tt) K.SIZE V.SIZE)
+        live.history ≡ begun (format_of (K.after tt) (V.after tt) K.SIZE V.SIZE)
+        (recovered_log (format_of (K.after tt) (V.after tt) K.SIZE V.SIZE) crc32 (cache.old.page_size + 12)
+        (content (B.calls blob.old)))) }
+    ensures any_moment { Through (IsKeptThrough (format_of (K.after tt) (V.after tt) K.SIZE V.SIZE) crc32
+        (cache.old.page_size + 12) (recovered_log (format_of (K.after tt) (V.after tt) K.SIZE V.SIZE) crc32
+        (cache.old.page_size + 12) (content (B.calls blob.old)))) (B.calls blob.old) (B.calls blob.new) }
+    ensures cache { IsCache cache.new }
+    ensures page_size { cache.new.page_size ≡ cache.old.page_size }
+    ensures open { (B.failures blob.new).is_open ≡ true }
+    ensures refused { IfErr result (IsOpenRefusal (B.failures blob.old) (B.failures blob.new)
+        (EndsOpening (cache.old.page_size + 12) (K.SIZE, V.SIZE) cache.old.next_id
+        (length (content (B.calls blob.old))))
+        (IsNoHistory (format_of (K.after tt) (V.after tt) K.SIZE V.SIZE)
+        (recovered_log (format_of (K.after tt) (V.after tt) K.SIZE V.SIZE) crc32 (cache.old.page_size + 12)
+        (content (B.calls blob.old))))) }
+{
+    let (writer, bytes) = recover::<F, K, V, B, Crc32>(alloc, blob, cache, blob_size, capacity)?;
+    let operations = operations_of::<F, K, V>(alloc, &bytes)?;
+    let ledger = Ledger::of(alloc, operations)?;
+    Ok(Live { ledger, writer })
+}
+
+// Makes the bytes durable by which the log of the history has grown, and answers the store with them.
+fn append_live<B, F, H, K, V, const N: usize>(
+    ledger: Ledger<F, H, K, V, N>,
+    writer: Writer<Crc32>,
+    blob: &mut B,
+    cache: &mut CacheRef,
+    bytes: &[u8],
+) -> Result<Live<F, H, K, V, N>, StoreError>
+where
+    B: Blob,
+    F: Family,
+    H: HashFunction,
+    K: FixedKey,
+    V: FixedValue,
+    requires cache { IsCache cache.old }
+    requires open { (B.failures blob.old).is_open ≡ true }
+    requires writer { IsWriter crc32 (B.calls blob.old) writer }
+    requires grown { history_bytes (format_of (K.after tt) (V.after tt) K.SIZE V.SIZE) ledger
+        ≡ written crc32 (B.calls blob.old) writer ++ bytes.now }
+    requires synced { writer.synced ≡ length (written crc32 (B.calls blob.old) writer) }
+    requires sized { writer.page_size ≡ cache.old.page_size + 12 }
+    requires named { writer.blob_id < cache.old.next_id }
+    requires cached { HoldsPagesOf (written crc32 (B.calls blob.old) writer) cache.old writer.blob_id }
+    requires recorded { AreRecorded (format_of (K.after tt) (V.after tt) K.SIZE V.SIZE) (log_of ledger) }
+    ensures live { IfOk result (IsLive (format_of (K.after tt) (V.after tt) K.SIZE V.SIZE) (B.calls blob.new)
+        cache.new) }
+    ensures history { IfOk result (λ now. now.history ≡ ledger) }
+    ensures any_moment { Through (Keeps crc32 (cache.old.page_size + 12)
+        (history_bytes (format_of (K.after tt) (V.after tt) K.SIZE V.SIZE) ledger)
+        (length (written crc32 (B.calls blob.old) writer))) (B.calls blob.old) (B.calls blob.new) }
+    ensures cache { IsCache cache.new }
+    ensures page_size { cache.new.page_size ≡ cache.old.page_size }
+    ensures open { (B.failures blob.new).is_open ≡ true }
+    ensures refused { IfErr result (IsCommitRefusal false (B.failures blob.old) (B.failures blob.new)
+        (EndsDisk (cache.old.page_size + 12) (history_bytes (format_of (K.after tt) (V.after tt) K.SIZE V.SIZE)
+        ledger))) }
+{
+    let appended = append_batch(writer, blob, cache, bytes)?;
+    Ok(Live {
+        ledger,
+        writer: appended,
+    })
+}
+
+// Takes a batch with its commit into the history and makes it durable. Refused before anything is appended, what was
+// handed in comes back; refused later, nothing does, and so it is where a cut stands.
+fn grow_live<B, F, H, K, V, const N: usize>(
+    mut ledger: Ledger<F, H, K, V, N>,
+    writer: Writer<Crc32>,
+    blob: &mut B,
+    cache: &mut CacheRef,
+    is_cut: bool,
+    batch: Batch<K, V>,
+    metadata: Option<V>,
+) -> Result<Live<F, H, K, V, N>, (Option<Live<F, H, K, V, N>>, StoreError)>
+where
+    B: Blob,
+    F: Family,
+    H: HashFunction,
+    K: FixedKey,
+    V: FixedValue,
+    requires cache { IsCache cache.old }
+    requires open { (B.failures blob.old).is_open ≡ true }
+    requires live { IsLive (format_of (K.after tt) (V.after tt) K.SIZE V.SIZE) (B.calls blob.old) cache.old
+        (record { history = ledger; writer = writer }) }
+    ensures live { IfOk result (IsLive (format_of (K.after tt) (V.after tt) K.SIZE V.SIZE) (B.calls blob.new)
+        cache.new) }
+    ensures next { let said = words.meanings K.encoding V.encoding batch.words.items in
+        let next = commit_after said (option_map V.encoding metadata) ledger in
+        IfOk result (λ now. (now.history ≡ next) × (length (log_of next) ≤ 2 ^ 62) × IsFalse is_cut) }
+    ensures kept { IfErr result (λ refused. IfSome refused.0 (λ kept. (kept.history ≡ ledger)
+        × IsLive (format_of (K.after tt) (V.after tt) K.SIZE V.SIZE) (B.calls blob.new) cache.new kept)) }
+    ensures failed { let said = words.meanings K.encoding V.encoding batch.words.items in
+        let noted = option_map V.encoding metadata in
+        IfErr result (λ refused. refused.0 ≡ None → (length (log_of (commit_after said noted ledger)) ≤ 2 ^ 62)
+        × Shows (format_of (K.after tt) (V.after tt) K.SIZE V.SIZE) (cache.old.page_size + 12) ledger
+        (Some (commit_of said noted ledger)) (B.calls blob.new)) }
+    ensures refused { let said = words.meanings K.encoding V.encoding batch.words.items in
+        let next = commit_after said (option_map V.encoding metadata) ledger in
+        IfErr result (λ refused. IsCommitRefusal is_cut (B.failures blob.old) (B.failures blob.new)
+        (PassesLimit next ⊎ EndsDisk (cache.old.page_size + 12)
+        (history_bytes (format_of (K.after tt) (V.after tt) K.SIZE V.SIZE) next)) refused.1) }
+    ensures cache { IsCache cache.new }
+    ensures page_size { cache.new.page_size ≡ cache.old.page_size }
+    ensures open { (B.failures blob.new).is_open ≡ true }
+    ensures grows { Grows (B.calls blob.old) (B.calls blob.new) }
+{
+    each_image_keeps_what_is_durable();
+    a_kept_log_is_shown();
+    ledger.holds_a_history();
+    let bytes = match ledger.commit(batch, metadata) {
+        Ok(bytes) => bytes,
+        Err(error) => return Err((Some(Live { ledger, writer }), StoreError::from(error))),
+    };
+    ledger.holds_a_history();
+    ledger.is_recorded();
+    if is_cut {
+        return Err((None, StoreError::PowerCut));
+    }
+    match append_live(ledger, writer, blob, cache, &bytes) {
+        Ok(live) => Ok(live),
+        Err(error) => Err((None, error)),
+    }
+}
+
+/// Takes a batch with its commit into the history and makes it durable, and answers the new root. Refused before
+/// anything is appended, the store is as it was; refused later, it has failed, and so it has where a cut stands.
+pub fn commit_live<B, F, H, K, V, const N: usize>(
+    store: &mut Option<Live<F, H, K, V, N>>,
+    blob: &mut B,
+    cache: &mut CacheRef,
+    is_cut: bool,
+    batch: Batch<K, V>,
+    metadata: Option<V>,
+) -> Result<H::Digest, StoreError>
+where
+    B: Blob,
+    F: Family,
+    H: HashFunction,
+    K: FixedKey,
+    V: FixedValue,
+    requires cache { IsCache cache.old }
+    requires open { (B.failures blob.old).is_open ≡ true }
+    requires live { IfSome store.old (IsLive (format_of (K.after tt) (V.after tt) K.SIZE V.SIZE) (B.calls blob.old)
+        cache.old) }
+    ensures live { IfSome store.new (IsLive (format_of (K.after tt) (V.after tt) K.SIZE V.SIZE) (B.calls blob.new)
+        cache.new) }
+    ensures failed { store.old ≡ None → (result ≡ Err StoreError.Failed) × (store.new ≡ None)
+        × (blob.new ≡ blob.old) × (cache.new ≡ cache.old) }
+    ensures commits { let said = words.meanings K.encoding V.encoding batch.words.items in
+        let noted = option_map V.encoding metadata in
+        IfSome store.old (λ was. let next = commit_after said noted was.history in MatchResult result
+        (λ root. (H.Digest.encoding root
+        ≡ root_of_history (setting_of_width F.merge_rule H.hash_of N) K.SIZE V.SIZE next)
+        × IsSomeAnd store.new (λ now. now.history ≡ next) × (length (log_of next) ≤ 2 ^ 62) × IsFalse is_cut)
+        (λ e. IsCommitRefusal is_cut (B.failures blob.old) (B.failures blob.new) (PassesLimit next
+        ⊎ EndsDisk (cache.old.page_size + 12)
+        (history_bytes (format_of (K.after tt) (V.after tt) K.SIZE V.SIZE) next)) e
+        × (IsSomeAnd store.new (λ now. now.history ≡ was.history) ⊎ ((store.new ≡ None)
+        × (length (log_of next) ≤ 2 ^ 62) × Shows (format_of (K.after tt) (V.after tt) K.SIZE V.SIZE)
+        (cache.old.page_size + 12) was.history (Some (commit_of said noted was.history)) (B.calls blob.new))))) }
+    ensures cache { IsCache cache.new }
+    ensures page_size { cache.new.page_size ≡ cache.old.page_size }
+    ensures open { (B.failures blob.new).is_open ≡ true }
+    ensures grows { Grows (B.calls blob.old) (B.calls blob.new) }
+{
+    let Some(Live { ledger, writer }) = store.take() else {
+        return Err(StoreError::Failed);
+    };
+    match grow_live(ledger, writer, blob, cache, is_cut, batch, metadata) {
+        Ok(live) => {
+            let root = live.ledger.root();
+            *store = Some(live);
+            Ok(root)
+        }
+        Err((kept, error)) => {
+            *store = kept;
+            Err(error)
+        }
+    }
+}
+
+/// The value of the key in the latest state, read from the log through the cache, or `None` where there is none.
+pub fn get_live<B, F, H, K, V, const N: usize>(
+    alloc: Global,
+    live: &Live<F, H, K, V, N>,
+    blob: &mut B,
+    cache: &mut CacheRef,
+    key: &K,
+) -> Result<Option<V>, StoreError>
+where
+    B: Blob,
+    F: Family,
+    H: HashFunction,
+    K: FixedKey,
+    V: FixedValue,
+    requires cache { IsCache cache.old }
+    requires open { (B.failures blob.old).is_open ≡ true }
+    requires live { IsLive (format_of (K.after tt) (V.after tt) K.SIZE V.SIZE) (B.calls blob.old) cache.old live.now }
+    ensures ok { IfOk result (λ found. option_map V.encoding found
+        ≡ value_at (latest_map live.now.history) (K.encoding key.now)) }
+    ensures live { IsLive (format_of (K.after tt) (V.after tt) K.SIZE V.SIZE) (B.calls blob.new) cache.new live.now }
+    ensures calls { B.calls blob.new ≡ B.calls blob.old }
+    ensures cache { IsCache cache.new }
+    ensures page_size { cache.new.page_size ≡ cache.old.page_size }
+    ensures open { (B.failures blob.new).is_open ≡ true }
+    ensures refused { IfErr result (IsRefusal (B.failures blob.old) (B.failures blob.new) ⊥) }
+{
+    let Some(index) = live.ledger.location(key) else {
+        return Ok(None);
+    };
+    let operation = read_operation::<F, K, V, B, Crc32>(&live.writer, alloc, blob, cache, index)?;
+    match operation {
+        Operation::Update(update) => Ok(Some(update.value)),
+        Operation::Delete(_) => Err(StoreError::Corrupt),
+        Operation::CommitFloor(_, _) => Err(StoreError::Corrupt),
+    }
+}
