@@ -193,9 +193,9 @@ fn first_bytes<F: Family, K: FixedKey, V: FixedValue>(alloc: Global) -> Result<V
 /// Recovers the log of a blob of so many bytes: it is cut behind the last commit, whatever stands there, and where
 /// there is no commit it begins with that of nothing. Answers the writer that goes on behind it, and its bytes, all
 /// durable. It is refused where a call of the blob, of its writer or of the cache is, never because the blob is too
-/// short or does not verify. At each moment what a crash shows is the log that was recovered, or where there was none, none or the
-/// empty one. That the blob was opened and nothing was done since, that it has so many bytes, and that the cache gave
-/// each name of its pages before is on the caller.
+/// short or does not verify. At each moment what a crash shows is the log that was recovered, or where there was none,
+/// none or the empty one. That the blob was opened and nothing was done since, that it has so many bytes, and that the
+/// cache gave each name of its pages before is on the caller.
 pub fn recover<F, K, V, B, C>(
     alloc: Global,
     blob: &mut B,
