@@ -1,5 +1,5 @@
 -- Encodings of a log's operations, one by one.
-use Rattle.std.proofs.Common.{◌≡◌, ℕ, zero, suc, List, [], ◌∷◌, map, Option, Some, None, ap}
+use Rattle.std.proofs.Common.{◌≡◌, ℕ, zero, suc, List, [], ◌∷◌, map, Some, ap}
 use Rattle.std.specs.Prelude.{slice_get, slice_index_or}
 use Rattle.state_ops.specs.Operation.{Operation}
 

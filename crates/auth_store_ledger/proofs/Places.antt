@@ -1,10 +1,10 @@
 -- What follows from the operations of a log: its commits, and where the value of a key stands.
-use Rattle.std.proofs.Common.{◌≡◌, ℕ, ◌+◌, ◌≤◌, List, [], ◌∷◌, Option, None, Some, option_map, slice_get, length, map, take, drop, ◌-◌, refl, ap, sym, ◌∙◌, subst, arith}
+use Rattle.std.proofs.Common.{◌≡◌, ℕ, ◌+◌, ◌≤◌, List, [], ◌∷◌, Option, None, Some, option_map, slice_get, length, map, take, drop, ◌-◌, refl, ap, sym, ◌∙◌, arith}
 use Rattle.std.specs.Prelude.{unwrap_or}
 use Rattle.std.proofs.Math.Seq.{take-length}
 use Rattle.state_ops.specs.Operation.{Operation, delete, update, ordered, commit_floor}
 use Rattle.auth_store_ledger.specs.Map.{Map, value_at, next_key, with_entry, without_key}
-use Rattle.auth_store_ledger.specs.History.{History, AreStates, IsState, latest_map, log_of, history_of, history_from, active_location, active_update, is_commit}
+use Rattle.auth_store_ledger.specs.History.{History, AreStates, IsState, latest_map, log_of, history_of, history_from, active_location, active_update}
 use Rattle.auth_store_ledger.specs.Store.{commit_count, HasValueAt}
 use Rattle.auth_store_parts.specs.Laws.Lookups.{IsState-with_entry, IsState-without_key}
 use Rattle.auth_store_parts.specs.Laws.Actives.{active_stands, active_update-log_of}

@@ -1,5 +1,5 @@
 -- What stands where a batch was refused after the history had grown by it.
-use Rattle.std.proofs.Common.{◌≡◌, ◌⊎◌, ⊎_elim, ◌+◌, ◌<◌, ◌≤◌, ℕ, Bool, true, false, List, [], ◌∷◌, Some, None, inl, inr, refl, subst, sym, length}
+use Rattle.std.proofs.Common.{◌≡◌, ◌⊎◌, ◌+◌, ◌≤◌, ℕ, Bool, false, List, Some, None, inl, inr, refl, subst, sym, length}
 use Rattle.std.specs.Prelude.{Option, IfSome, IsSomeAnd}
 use Rattle.fault_storage_parts.specs.Crc32.{crc32}
 use Rattle.paged_blob.specs.Answers.{Failures}
@@ -8,15 +8,15 @@ use Rattle.paged_blob.specs.Calls.{Call}
 use Rattle.paged_blob.specs.Writers.{Keeps, written, IsWriterOf}
 use Rattle.paged_format.specs.Tips.{Tip}
 use Rattle.paged_blob.specs.declared.flush.DurableSlot.{DurableSlot}
-use Rattle.auth_store_parts.specs.History.{History, Commit, AreStates, log_of}
-use Rattle.auth_store_log.specs.Records.{Format, history_bytes, AreRecorded}
+use Rattle.auth_store_parts.specs.History.{History, Commit}
+use Rattle.auth_store_log.specs.Records.{Format, history_bytes}
 use Rattle.auth_store_log.specs.Shown.{IsShown, MayShow}
 use Rattle.auth_store_session.specs.declared.error.StoreError.{StoreError}
 use Rattle.auth_store_session.specs.declared.error.StoreError.TheVariants.{Fault, PowerCut, NumberEnded, Memory, Corrupt, Failed, Header}
 use Rattle.auth_store_ledger.specs.declared.error.LedgerError.{LedgerError}
 use Rattle.auth_store_ledger.specs.declared.error.LedgerError.TheVariants as ledgers
 use Rattle.auth_store_session.specs.Refusals.{of_ledger}
-use Rattle.auth_store_session.specs.Stores.{LiveState, IsLive, IsWritten, Shows, IsRefusal, IsCommitRefusal}
+use Rattle.auth_store_session.specs.Stores.{LiveState, IsLive, IsCommitRefusal}
 
 -- what may refuse with less reason may refuse with more, also under a cut
 pub wider : (is_cut : Bool) (before after : Failures) (One Other : Type 0) (e : StoreError) → (One → Other)

@@ -1,5 +1,5 @@
 -- How long a log is, and its bytes.
-use Rattle.std.proofs.Common.{◌≡◌, ◌+◌, ◌*◌, ◌<◌, ◌≤◌, ◌^◌, ℕ, List, [], ◌∷◌, ◌++◌, length, length-append, ap, arith}
+use Rattle.std.proofs.Common.{◌*◌, ◌≤◌, List, [], ◌∷◌, length, length-append, arith}
 use Rattle.state_ops.specs.Operation.{Operation}
 use Rattle.auth_store_log.specs.Records.{Format, record_size, record_of, log_bytes, AreRecorded}
 

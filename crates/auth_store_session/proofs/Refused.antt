@@ -1,10 +1,10 @@
 -- Why a call over the blob refuses, from the causes of its parts.
-use Rattle.std.proofs.Common.{◌≡◌, ◌⊎◌, ◌+◌, ◌<◌, ◌≤◌, ◌^◌, ℕ, true, false, inl, inr, rules, ⊎_elim, arith, length, List, max}
+use Rattle.std.proofs.Common.{◌≡◌, ◌⊎◌, ◌+◌, ◌<◌, ◌≤◌, ◌^◌, ℕ, true, false, inl, inr, rules, ⊎_elim, arith, max}
 use Rattle.std.proofs.lemmas.Bool.{cases_lt}
 use Rattle.std.specs.Prelude.{Result, Ok, Err, IsFalse}
-use Rattle.paged_blob.specs.Answers.{Failures, failures_after, HaveEnded, IsPastNumbers, IsCause}
+use Rattle.paged_blob.specs.Answers.{Failures, failures_after, IsPastNumbers, IsCause}
 use Rattle.paged_blob.specs.declared.error.CallKind.{CallKind}
-use Rattle.paged_blob.specs.declared.error.CallKind.TheVariants.{Read, Write, Sync}
+use Rattle.paged_blob.specs.declared.error.CallKind.TheVariants.{Write, Sync}
 use Rattle.paged_blob.specs.declared.error.Error.{Error}
 use Rattle.paged_blob.specs.declared.error.Error.TheVariants.{Injected, BlobMissing, BlobInsufficientLength, NumberEnded, Memory, PowerCut, ChecksumMismatch}
 use Rattle.auth_store_log.specs.Causes.{IsLogCause}

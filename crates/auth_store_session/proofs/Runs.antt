@@ -1,5 +1,5 @@
 -- A run and one step more.
-use Rattle.std.proofs.Common.{◌≡◌, List, [], ◌∷◌, ◌++◌, refl, subst}
+use Rattle.std.proofs.Common.{List, [], ◌∷◌, ◌++◌, refl, subst}
 use Rattle.auth_store_session.specs.Machine.{Machine, Power, State, Request, Answer, IsStep, IsRun}
 
 pub one_more : (m : Machine) (before : Power) (first : State) (requests : List Request) (answers : List Answer)

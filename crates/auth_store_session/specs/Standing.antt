@@ -1,5 +1,5 @@
 -- Which states of the machine a session stands for, and when its calls are steps of the machine.
-use Rattle.std.specs.Prelude.{◌≡◌, ◌⊎◌, ◌+◌, ◌≤◌, ◌^◌, ℕ, ⊤, false, IsFalse, List, [], ◌∷◌, length, Option, Some, None, IfSome, Result, Ok, Err, MatchResult}
+use Rattle.std.specs.Prelude.{◌≡◌, ◌⊎◌, ◌+◌, ◌≤◌, ◌^◌, ℕ, ⊤, false, IsFalse, List, [], ◌∷◌, length, Option, Some, None, Result, Ok, Err, MatchResult}
 use Rattle.fault_storage_parts.specs.Crc32.{crc32}
 use Rattle.paged_blob.specs.Caches.{Cache}
 use Rattle.paged_blob.specs.Calls.{Call, opened, file_of}
@@ -7,7 +7,7 @@ use Rattle.paged_blob.specs.Images.{IsImage}
 use Rattle.paged_blob.specs.Moments.{Through}
 use Rattle.paged_blob.specs.Chance.{NoneByChance}
 use Rattle.auth_store_parts.specs.Batch.{Word}
-use Rattle.auth_store_parts.specs.History.{History, Commit, log_of}
+use Rattle.auth_store_parts.specs.History.{History, log_of}
 use Rattle.auth_store_device.specs.Devices.{DeviceState, is_cut, log_fault}
 use Rattle.auth_store_device.specs.Logs.{behind_header, durable_log, HasOwnHeader}
 use Rattle.auth_store_log.specs.Records.{Format, recovered_log}

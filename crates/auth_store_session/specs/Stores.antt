@@ -1,5 +1,5 @@
 -- An open store over its device: what holds of it while it has not failed, and what its calls say.
-use Rattle.std.specs.Prelude.{◌≡◌, ◌⊎◌, ◌+◌, ◌<◌, ◌≤◌, ◌^◌, ℕ, ⊤, Bool, true, List, [], ◌∷◌, length, Option, Some, None, is_some, IfSome}
+use Rattle.std.specs.Prelude.{◌≡◌, ◌⊎◌, ◌+◌, ◌<◌, ◌≤◌, ◌^◌, ℕ, ⊤, Bool, true, List, ◌∷◌, length, Option, Some, is_some, IfSome}
 use Rattle.fault_storage_parts.specs.Crc32.{crc32}
 use Rattle.paged_format.specs.Footers.{IsPageSize}
 use Rattle.paged_blob.specs.Answers.{Failures, HaveEnded}
@@ -15,7 +15,7 @@ use Rattle.auth_store_log.specs.Records.{Format, AreRecorded, begun, history_byt
 use Rattle.auth_store_log.specs.Causes.{AreNamed}
 use Rattle.auth_store_log.specs.Shown.{MayShow}
 use Rattle.auth_store_session.specs.declared.error.StoreError.{StoreError}
-use Rattle.auth_store_session.specs.declared.error.StoreError.TheVariants.{Fault, PowerCut, NumberEnded, Memory, Corrupt, Failed, Header}
+use Rattle.auth_store_session.specs.declared.error.StoreError.TheVariants.{Fault, PowerCut, NumberEnded, Memory, Corrupt}
 
 -- an open store that has not failed: its history, and the writer of its log
 pub record LiveState : Type 0 where

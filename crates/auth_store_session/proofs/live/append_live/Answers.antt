@@ -1,5 +1,5 @@
-use Rattle.std.proofs.Common.{◌≡◌, ◌∙◌, ◌+◌, ◌++◌, ap, sym, subst, List, ℕ, false, length, length-append, arith}
-use Rattle.std.specs.Prelude.{IfErr, IsTrue}
+use Rattle.std.proofs.Common.{◌≡◌, ◌∙◌, ◌+◌, ap, sym, subst, false, length, length-append, arith}
+use Rattle.std.specs.Prelude.{IfErr}
 use Rattle.std.proofs.lemmas.Result.{err_from_is_err_and}
 use Rattle.fault_storage_parts.specs.Crc32.{crc32}
 use Rattle.paged_format.specs.Footers.{IsPageSize}
@@ -10,7 +10,6 @@ use Rattle.paged_blob.specs.Flushes.{physical_size}
 use Rattle.paged_blob.specs.Writers.{written}
 use Rattle.auth_store_log.specs.Records.{format_of, history_bytes}
 use Rattle.auth_store_session.specs.declared.error.StoreError.{StoreError}
-use Rattle.auth_store_session.specs.Refusals.{of_blob}
 use Rattle.auth_store_session.specs.Stores.{IsCommitRefusal, EndsDisk}
 use Rattle.auth_store_session.proofs.Refused.{open_after, append_refused}
 use Rattle.auth_store_session.proofs.live.append_live.Goals as goal

@@ -1,14 +1,11 @@
-use Rattle.std.proofs.Common.{◌≡◌, ◌∙◌, ◌+◌, ◌<◌, ap, sym, subst, List, ℕ, Option, Some, rules, arith}
+use Rattle.std.proofs.Common.{◌≡◌, ◌∙◌, ap, sym, subst, Some, rules}
 use Rattle.std.specs.Prelude.{IfErr}
-use Rattle.std.proofs.lemmas.Option.{slice_get_within}
 use Rattle.std.proofs.lemmas.Result.{err_from_is_err_and}
 use Rattle.paged_blob.specs.Answers.{Failures}
-use Rattle.state_ops.specs.Operation.{Operation, update, ordered, meaning_of}
 use Rattle.auth_store_parts.specs.History.{latest_map, log_of}
 use Rattle.auth_store_parts.specs.Map.{value_at}
 use Rattle.auth_store_log.specs.Records.{Format, format_of}
 use Rattle.auth_store_session.specs.declared.error.StoreError.{StoreError}
-use Rattle.auth_store_session.specs.Refusals.{of_log}
 use Rattle.auth_store_session.specs.Stores.{LiveState, IsLive, IsRefusal}
 use Rattle.auth_store_session.proofs.Reading.{read_refused, same_value, not_deleted, not_committed}
 use Rattle.auth_store_session.proofs.live.get_live.Goals as goal

@@ -1,4 +1,4 @@
-use Rattle.std.proofs.Common.{rules, ◌≡◌, ◌⊎◌, ◌+◌, ◌≤◌, ◌^◌, ap, sym, subst, inl, inr, List, ℕ, false, Some, None, length, option_map}
+use Rattle.std.proofs.Common.{rules, ◌⊎◌, ◌+◌, ◌≤◌, ◌^◌, ap, sym, subst, inr, List, ℕ, false, length, option_map}
 use Rattle.fault_storage_parts.specs.Crc32.{crc32}
 use Rattle.paged_blob.specs.Answers.{Failures}
 use Rattle.paged_blob.specs.Calls.{Call}
@@ -12,7 +12,7 @@ use Rattle.auth_store_ledger.specs.Store.{commit_after}
 use Rattle.auth_store_log.specs.Records.{Format, format_of, history_bytes, AreRecorded}
 use Rattle.auth_store_session.specs.declared.error.StoreError.{StoreError}
 use Rattle.auth_store_session.specs.Machine.{commit_of, PassesLimit}
-use Rattle.auth_store_session.specs.Stores.{LiveState, IsWritten, Shows, IsCommitRefusal, EndsDisk}
+use Rattle.auth_store_session.specs.Stores.{LiveState, IsCommitRefusal, EndsDisk}
 use Rattle.auth_store_session.proofs.Grown.{wider, perhaps, keeps_live, ledger_refused}
 use Rattle.auth_store_session.proofs.live.grow_live.Goals as goal
 

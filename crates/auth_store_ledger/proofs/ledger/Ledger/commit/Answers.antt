@@ -1,9 +1,9 @@
-use Rattle.std.proofs.Common.{◌≡◌, ◌≤◌, ◌<◌, ◌^◌, ◌∙◌, ap, sym, List, ◌++◌, length, option_map, inr, refl, arith}
+use Rattle.std.proofs.Common.{◌≤◌, ◌^◌, ◌∙◌, ap, sym, ◌++◌, length, option_map, inr, refl, arith}
 use Rattle.std.proofs.lemmas.List.{length-map}
 use Rattle.auth_store_ledger.specs.Batch as words
 use Rattle.auth_store_ledger.specs.History as spec
 use Rattle.auth_store_ledger.specs.History.{History, log_of}
-use Rattle.state_ops.specs.Operation.{Operation, meaning_of}
+use Rattle.state_ops.specs.Operation.{meaning_of}
 use Rattle.auth_store_ledger.specs.Store.{commit_after}
 use Rattle.auth_store_log.specs.Records.{log_bytes}
 use Rattle.auth_store_ledger.proofs.Stores.{commits_few, committed_length, next_length, next_stands, next_keeps, next_bytes}

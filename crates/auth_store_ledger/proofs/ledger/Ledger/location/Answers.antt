@@ -1,5 +1,4 @@
-use Rattle.std.proofs.Common.{◌≡◌, ◌∙◌, ap, sym, subst, Option, List, ℕ, Some, None, slice_get}
-use Rattle.state_ops.specs.Operation.{Operation}
+use Rattle.std.proofs.Common.{◌≡◌, ◌∙◌, ap, sym, subst, slice_get}
 use Rattle.auth_store_ledger.specs.History.{History, history_of, active_location, latest_map, update_fields}
 use Rattle.auth_store_ledger.specs.Map.{value_at}
 use Rattle.auth_store_ledger.specs.Store.{HasValueAt}

@@ -1,6 +1,6 @@
-use Rattle.std.proofs.Common.{◌≡◌, ◌∙◌, ap, sym, List, ◌++◌, length, arith}
+use Rattle.std.proofs.Common.{◌≡◌, ◌∙◌, ap, sym, ◌++◌, length, arith}
 use Rattle.std.proofs.lemmas.List.{length-map}
-use Rattle.state_ops.specs.Operation.{Operation, meaning_of}
+use Rattle.state_ops.specs.Operation.{meaning_of}
 use Rattle.auth_store_ledger.specs.History.{meanings, history_of, log_of}
 use Rattle.auth_store_ledger.proofs.Places.{AreStates-history_of}
 use Rattle.auth_store_ledger.proofs.ledger.Ledger.of.Goals as goal

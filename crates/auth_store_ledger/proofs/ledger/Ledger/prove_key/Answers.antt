@@ -1,5 +1,5 @@
-use Rattle.std.proofs.Common.{◌≡◌, ◌≤◌, ◌^◌, ◌∙◌, ap, subst, List, [], ℕ, length, Option, Some, None, Ok, IfOk, IfSome, option_map, arith}
-use Rattle.auth_store_ledger.specs.Claims.{IsTrueOf, has_value}
+use Rattle.std.proofs.Common.{◌≡◌, ◌≤◌, ◌^◌, ◌∙◌, ap, subst, List, [], ℕ, length, Ok, IfSome, option_map, arith}
+use Rattle.auth_store_ledger.specs.Claims.{has_value}
 use Rattle.auth_store_ledger.specs.Map.{next_key, value_at}
 use Rattle.auth_store_ledger.specs.History.{History, AreStates, latest_map, log_of}
 use Rattle.auth_store_ledger.specs.Proving.{honest_proof}

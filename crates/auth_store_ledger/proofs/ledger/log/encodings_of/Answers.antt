@@ -1,4 +1,4 @@
-use Rattle.std.proofs.Common.{◌≡◌, ◌∷◌, [], ◌++◌, ◌+◌, ◌∙◌, ap, sym, List, ℕ, map, take}
+use Rattle.std.proofs.Common.{◌≡◌, ◌∷◌, [], ◌++◌, ◌+◌, ◌∙◌, ap, sym, List, map, take}
 use Rattle.std.proofs.lemmas.List.{map_more}
 use Rattle.state_ops.specs.Operation.{Operation, meaning_of, fixed_encoding}
 use Rattle.auth_store_log.specs.Records.{Format, format_of}

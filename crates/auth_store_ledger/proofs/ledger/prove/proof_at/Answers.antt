@@ -1,4 +1,4 @@
-use Rattle.std.proofs.Common.{◌≡◌, ◌∙◌, ◌++◌, List, ℕ, [], Ok, map, ap, sym, append-nil}
+use Rattle.std.proofs.Common.{◌≡◌, ◌∙◌, ◌++◌, List, ℕ, [], map, ap, sym, append-nil}
 use Rattle.state_proofs.specs.Canonical.{Setting, State}
 use Rattle.state_proofs.specs.Encoded.{key_value_proof_encoding}
 use Rattle.state_proofs.specs.Honest.{honest_parts}

@@ -1,4 +1,4 @@
-use Rattle.std.proofs.Common.{◌≡◌, ◌∙◌, ℕ, List, Option, Some, option_map, ap}
+use Rattle.std.proofs.Common.{◌≡◌, ◌∙◌, ℕ, List, Some, option_map, ap}
 use Rattle.std.specs.Prelude.{slice_get}
 use Rattle.state_ops.specs.Operation.{Operation}
 use Rattle.state_proofs.specs.Canonical.{Setting}

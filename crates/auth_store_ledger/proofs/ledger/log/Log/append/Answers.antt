@@ -1,6 +1,6 @@
-use Rattle.std.proofs.Common.{◌≡◌, ◌++◌, ◌∙◌, ap, sym, subst, List, ℕ, map}
+use Rattle.std.proofs.Common.{◌≡◌, ◌++◌, ◌∙◌, ap, sym, subst, map}
 use Rattle.std.proofs.lemmas.List.{map-append}
-use Rattle.state_ops.specs.Operation.{Operation, meaning_of, fixed_encoding}
+use Rattle.state_ops.specs.Operation.{meaning_of, fixed_encoding}
 use Rattle.auth_store_ledger.specs.Store.{AreWritten, encodings}
 use Rattle.auth_store_log.specs.Records.{Format, format_of}
 use Rattle.auth_store_ledger.proofs.Written.{written_together, encoded_together}

@@ -1,4 +1,4 @@
-use Rattle.std.proofs.Common.{◌≡◌, ◌∷◌, [], ◌++◌, ◌∙◌, ap, List, ℕ, map}
+use Rattle.std.proofs.Common.{◌≡◌, ◌∷◌, [], ◌++◌, ◌∙◌, ap, List, map}
 use Rattle.std.proofs.lemmas.List.{map-append}
 use Rattle.state_ops.specs.Operation.{Operation, meaning_of, fixed_encoding}
 use Rattle.auth_store_log.specs.Records.{Format, format_of}
