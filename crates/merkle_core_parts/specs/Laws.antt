@@ -4,6 +4,7 @@ pub mod Bounds
 pub mod Due
 pub mod Encoded
 pub mod Growth
+pub mod Held
 pub mod Kept
 pub mod Made
 pub mod Mem

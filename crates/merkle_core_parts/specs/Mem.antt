@@ -1,24 +1,41 @@
 -- A tree that is kept in memory as the digests of its nodes.
-use Rattle.std.specs.Prelude.{◌≡◌, ℕ, suc, ◌+◌, List, [], ◌∷◌, ◌++◌, map, length, slice_get, slice_set, slice_index_or, Option, Some}
+use Rattle.std.specs.Prelude.{◌≡◌, ◌==◌, ℕ, suc, ◌+◌, ◌-◌, ◌≤◌, ◌⊎◌, List, [], ◌∷◌, ◌++◌, map, length, drop, find}
+use Rattle.std.specs.Prelude.{slice_get, slice_set, slice_index_or, Option, Some, option_map, unwrap_or, nat_le, nat_lt, if◌then◌else◌}
 use Rattle.merkle_forest.specs.Forest.{Tree, leaf, branch, position, leaf_count, size, Rule, forest_of}
 use Rattle.merkle_forest.specs.declared.bagging.Bagging.{Bagging}
 use Rattle.merkle_forest.specs.Hashing.{Hash, leaf_string, node_string, root_of}
-use Rattle.merkle_forest.specs.Nodes.{IsNodeAt}
-use Rattle.merkle_forest.specs.Peaks.{positions_from}
+use Rattle.merkle_forest.specs.Nodes.{IsNodeAt, IsPeakAt}
+use Rattle.merkle_forest.specs.Peaks.{positions_from, peak_positions}
 use Rattle.merkle_forest.specs.Trees.{peak_digests as forest_digests}
 
--- what is kept: how many leaves the tree has, and the digest of the node at each position
+-- a digest at an index of a list, or at a position of a tree
+abbrev pub Replacement : Type 0
+Replacement = ℕ × List ℕ
+
+-- What is kept: how many leaves the tree has, the location before which it is pruned, the digests that stay pinned before
+-- it, each at its position, and the digests of all nodes from there on, in order of position.
 pub record Nodes : Type 0 where
   pub leaves : ℕ
+  pub boundary : ℕ
+  pub pinned : List Replacement
   pub digests : List (List ℕ)
 
 -- how many nodes a tree of so many leaves has
 abbrev pub node_count : Rule → ℕ → ℕ
 node_count rule leaves = size (forest_of rule leaves)
 
+-- the digest at a position, of those that stand at positions
+abbrev pub digest_at : List Replacement → ℕ → Option (List ℕ)
+digest_at digests position = option_map (λ one. one.1) (find (λ one. one.0 == position) digests)
+
+-- the digest at a position, where these stand before a node count and those from it on
+abbrev pub known_over : ℕ → List Replacement → List (List ℕ) → ℕ → Option (List ℕ)
+known_over start before digests position =
+    if nat_lt position start then digest_at before position else slice_get digests (position - start)
+
 -- the digest of the node at a position; None where none stands there
-abbrev pub node_at : Nodes → ℕ → Option (List ℕ)
-node_at nodes position = slice_get nodes.digests position
+abbrev pub node_at : Rule → Nodes → ℕ → Option (List ℕ)
+node_at rule nodes position = known_over (node_count rule nodes.boundary) nodes.pinned nodes.digests position
 
 -- the digest of a branch, from its position and the digests of its two children
 abbrev pub NodeHash : Type 0
@@ -30,22 +47,46 @@ tree_digest node leaf_digests start (leaf p) = slice_index_or leaf_digests start
 tree_digest node leaf_digests start (branch p left right) =
     node p (tree_digest node leaf_digests start left) (tree_digest node leaf_digests (start + leaf_count left) right)
 
--- these are the nodes of the tree over these leaf digests, as the rule grows it and branches are hashed
+-- the positions of the nodes that stay pinned where a tree is pruned before a location, from left to right
+abbrev pub pinned_positions : Rule → ℕ → List ℕ
+pinned_positions rule boundary = map (λ peak. peak.0) (peak_positions (forest_of rule boundary))
+
+-- the shape of what is kept: the pinned digests stand at those positions, and from the boundary on no node is missing
+pub record AreKeptNodes (rule : Rule) (nodes : Nodes) : Type 0 where
+  pub within : nodes.boundary ≤ nodes.leaves
+  pub pinned : map (λ one. one.0) nodes.pinned ≡ pinned_positions rule nodes.boundary
+  pub counted : node_count rule nodes.boundary + length nodes.digests ≡ node_count rule nodes.leaves
+
+-- a tree is a peak
+abbrev pub IsPeak : Tree → List Tree → Type 0
+IsPeak tree peaks = (first : ℕ) × IsPeakAt first tree peaks
+
+-- a peak of the forest of so many leaves stands at this position
+abbrev pub IsPeakPosition : Rule → ℕ → ℕ → Type 0
+IsPeakPosition rule leaves p = (tree : Tree) × IsPeak tree (forest_of rule leaves) × (position tree ≡ p)
+
+-- a node at this position is kept where a tree is pruned before a location: it is none of the forest of the leaves before
+-- it, or one of that forest's peaks
+abbrev pub IsKept : Rule → ℕ → ℕ → Type 0
+IsKept rule boundary p = (node_count rule boundary ≤ p) ⊎ IsPeakPosition rule boundary p
+
+-- these are the nodes of the tree over these leaf digests, as the rule grows it and branches are hashed: all that are kept
 pub record AreNodesOf (node : NodeHash) (rule : Rule) (leaf_digests : List (List ℕ)) (nodes : Nodes) : Type 0 where
   pub counted : nodes.leaves ≡ length leaf_digests
-  pub held : length nodes.digests ≡ node_count rule (length leaf_digests)
+  pub shape : AreKeptNodes rule nodes
   pub digests : (first : ℕ) (tree : Tree) → IsNodeAt first tree (forest_of rule (length leaf_digests))
-      → slice_get nodes.digests (position tree) ≡ Some (tree_digest node leaf_digests first tree)
+      → IsKept rule nodes.boundary (position tree)
+      → node_at rule nodes (position tree) ≡ Some (tree_digest node leaf_digests first tree)
 
--- of the tree of so many leaves with these digests of nodes: those of the peaks that begin at a location or after it,
+-- of the tree of so many leaves with these digests at its nodes: those of the peaks that begin at a location or after it,
 -- from left to right
-abbrev pub digests_from : Rule → ℕ → List (List ℕ) → ℕ → List (List ℕ)
-digests_from rule leaves digests first =
-    map (λ peak. slice_index_or digests peak.0 []) (positions_from first (forest_of rule leaves))
+abbrev pub digests_from : Rule → ℕ → (ℕ → Option (List ℕ)) → ℕ → List (List ℕ)
+digests_from rule leaves digest_of first =
+    map (λ peak. unwrap_or (digest_of peak.0) []) (positions_from first (forest_of rule leaves))
 
 -- those of all peaks
 abbrev pub peak_digests : Rule → Nodes → List (List ℕ)
-peak_digests rule nodes = digests_from rule nodes.leaves nodes.digests 0
+peak_digests rule nodes = digests_from rule nodes.leaves (node_at rule nodes) 0
 
 -- the root of the tree over these leaf digests, of whose peaks so many come first as inactive ones
 abbrev pub list_root : Hash → NodeHash → Bagging → Rule → List (List ℕ) → ℕ → List ℕ
@@ -72,14 +113,25 @@ pub record Base : Type 0 where
 abbrev pub base_of : Rule → Nodes → Base
 base_of rule nodes = record { leaves = nodes.leaves; peaks = peak_digests rule nodes }
 
--- a digest that is to stand at an index of a list
-abbrev pub Replacement : Type 0
-Replacement = ℕ × List ℕ
-
 -- a list after these replacements, one after the other
 abbrev pub replaced : List (List ℕ) → List Replacement → List (List ℕ)
 replaced digests [] = digests
 replaced digests (one ∷ more) = replaced (slice_set digests one.0 one.1) more
+
+-- what stands at an index after these replacements, where `old` stood before
+abbrev pub value_after : List Replacement → ℕ → List ℕ → List ℕ
+value_after [] index old = old
+value_after (one ∷ more) index old = value_after more index (if one.0 == index then one.1 else old)
+
+-- the digests from a position on after these replacements
+abbrev pub replaced_from : ℕ → List (List ℕ) → List Replacement → List (List ℕ)
+replaced_from position [] changes = []
+replaced_from position (digest ∷ digests) changes =
+    value_after changes position digest ∷ replaced_from (suc position) digests changes
+
+-- digests that stand at positions after these replacements
+abbrev pub replaced_at : List Replacement → List Replacement → List Replacement
+replaced_at digests changes = map (λ one. (one.0, value_after changes one.0 one.1)) digests
 
 -- the bytes of the digests that are to stand somewhere
 abbrev pub encoded : {D : Type 0} → (D → List ℕ) → List (ℕ × D) → List Replacement
@@ -105,6 +157,20 @@ pub record Growth : Type 0 where
   pub changed : List Replacement
 
 -- a tree with a batch's nodes after its own, and its own changed as the batch says
-abbrev pub with_batch : Nodes → Growth → Nodes
-with_batch nodes batch =
-    record { leaves = batch.leaves; digests = replaced (nodes.digests ++ batch.digests) batch.changed }
+abbrev pub with_batch : Rule → Nodes → Growth → Nodes
+with_batch rule nodes batch = record {
+  leaves = batch.leaves;
+  boundary = nodes.boundary;
+  pinned = replaced_at nodes.pinned batch.changed;
+  digests = replaced_from (node_count rule nodes.boundary) (nodes.digests ++ batch.digests) batch.changed;
+}
+
+-- a tree pruned before a location, if it was not already pruned up to there
+abbrev pub pruned_before : Rule → Nodes → ℕ → Nodes
+pruned_before rule nodes location =
+    if nat_le location nodes.boundary then nodes else record {
+      leaves = nodes.leaves;
+      boundary = location;
+      pinned = map (λ p. (p, unwrap_or (node_at rule nodes p) [])) (pinned_positions rule location);
+      digests = drop (node_count rule location - node_count rule nodes.boundary) nodes.digests;
+    }

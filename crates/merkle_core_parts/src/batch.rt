@@ -220,9 +220,9 @@ impl<F: Family, D: Digest> UnmerkleizedBatch<F, D> {
         ensures of_list { (leaf_digests : List (List ℕ)) → base.now.leaves ≡ self.base.leaves
             → AreNodesOf (H.node_of hasher.now) F.merge_rule leaf_digests base.now
             → IfOk result (λ batch. AreNodesOf (H.node_of hasher.now) F.merge_rule (with_leaves leaf_digests self)
-            (with_batch base.now batch)) }
+            (with_batch F.merge_rule base.now batch)) }
         ensures refused { IfErr result (λ e. IsRefusalOver (node_count F.merge_rule self.base.leaves)
-            (node_at base.now) e) }
+            (node_at F.merge_rule base.now) e) }
     {
         let leaves = self.leaves().as_u64();
         let base_size = F::location_to_position(Location::new(self.base_leaves)).as_u64();
@@ -322,6 +322,7 @@ impl<F: Family, D: Digest> MerkleizedBatch<F, D> {
     pub fn leaves(&self) -> Location<F>
         ensures leaves { result ≡ self.now.leaves }
         ensures few { result ≤ 2 ^ 62 }
+        ensures grown { self.now.base.leaves ≤ result }
     {
         Location::new(self.leaves)
     }

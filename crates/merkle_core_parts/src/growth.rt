@@ -7,8 +7,9 @@ ghost use Rattle.std.specs.Prelude.{◌≡◌, ◌<◌, ◌≤◌, ◌+◌, ◌^
 ghost use Rattle.std.specs.Prelude.{option_map, find, ◌==◌, IsSome, OnOk};
 ghost use Rattle.merkle_forest.specs.Forest.{leaf};
 ghost use Rattle.merkle_core_parts.specs.Mem.{node_count, encoded};
+ghost use Rattle.merkle_core_parts.specs.Mem.{known_over};
 ghost use Rattle.merkle_core_parts.specs.Laws.Growth.{IsParent};
-ghost use Rattle.merkle_core_parts.specs.Laws.Made.{known_over, HavePeaks, IsHashed, AreMade};
+ghost use Rattle.merkle_core_parts.specs.Laws.Made.{HavePeaks, IsHashed, AreMade};
 ghost use Rattle.merkle_core_parts.specs.Laws.Rebuilt.{Digests};
 
 use merkle_forest::Digest;
@@ -34,7 +35,7 @@ fn digest_of<D: Digest>(digests: &[D], index: u64) -> Option<D>
 }
 
 // The digest of a peak of the base, or of a node that was added to it.
-fn known_digest<D: Digest>(
+pub(crate) fn known_digest<D: Digest>(
     peaks: &[(u64, D)],
     base_size: u64,
     added: &[D],

@@ -17,14 +17,14 @@ pub fn plain_roots_are_tree_roots<F: Family>()
         inactive ≡ tree_root hash bagging F.merge_rule elements inactive }
 {}
 
-/// A batch's nodes, made over one tree of a list of leaf digests, make of each tree of that list one of the list that
-/// the batch makes of it.
+/// A batch's nodes, made over one tree of a list of leaf digests, make of each tree of that list that is pruned as far or
+/// further one of the list that the batch makes of it.
 pub fn nodes_fit_each_tree_of_the_list<F: Family>()
     ensures { (node : NodeHash) (some list : List (List ℕ)) (one other : Nodes) (batch : Growth)
-        → length some ≤ length list
+        → length some ≤ length list → one.boundary ≤ other.boundary
         → AreNodesOf node F.merge_rule some one → AreNodesOf node F.merge_rule some other
-        → AreNodesOf node F.merge_rule list (with_batch one batch)
-        → AreNodesOf node F.merge_rule list (with_batch other batch) }
+        → AreNodesOf node F.merge_rule list (with_batch F.merge_rule one batch)
+        → AreNodesOf node F.merge_rule list (with_batch F.merge_rule other batch) }
 {}
 
 /// A leaf that a batch gives a digest has it in the list that the batch makes, and no other leaf changes.
@@ -36,5 +36,6 @@ pub fn an_update_replaces_one_leaf<F: Family>()
 
 /// The tree of no leaves has the nodes of the empty list.
 pub fn no_leaves_have_no_nodes<F: Family>()
-    ensures { (node : NodeHash) → AreNodesOf node F.merge_rule [] (record { leaves = 0; digests = [] }) }
+    ensures { (node : NodeHash) → AreNodesOf node F.merge_rule []
+        (record { leaves = 0; boundary = 0; pinned = []; digests = [] }) }
 {}

@@ -1,18 +1,19 @@
 //! The tree that is kept in memory.
 
-ghost use Rattle.std.specs.Prelude.{◌≡◌, ◌≤◌, ◌↔◌, ◌^◌, [], ℕ, List, map, length, option_map};
+ghost use Rattle.std.specs.Prelude.{◌≡◌, ◌<◌, ◌≤◌, ◌+◌, ◌↔◌, ◌^◌, [], ℕ, List, Some, map, length, option_map};
 ghost use Rattle.std.specs.Prelude.{IsTrue, IsOk, IfOk, IfErr, OnOk, OnErr};
 ghost use Rattle.merkle_forest.specs.Forest.{size, forest_of};
 ghost use Rattle.merkle_forest.specs.Hashing.{root_of};
 ghost use Rattle.merkle_forest.specs.Peaks.{peak_positions};
 ghost use Rattle.merkle_core_parts.specs.Errors.{IsRefusalOnto};
 ghost use Rattle.merkle_core_parts.specs.Mem.{node_count, node_at, peak_digests, AreNodesOf, list_root};
-ghost use Rattle.merkle_core_parts.specs.Mem.{base_of, with_batch};
+ghost use Rattle.merkle_core_parts.specs.Mem.{base_of, with_batch, IsPeakPosition};
 
 use crate::batch::{MerkleizedBatch, UnmerkleizedBatch};
 use crate::error::Error;
-use crate::peaks::{have_all_peaks, peaks_of, root_of_digests};
-use crate::rebuild::put_all;
+use crate::growth::known_digest;
+use crate::peaks::{have_all_peaks, peaks_of, root_of_tree};
+use crate::rebuild::{put_all, put_pinned};
 use merkle_forest::hasher::Hasher;
 use merkle_forest::peaks::Peaks;
 use merkle_forest::{Digest, Family, Location, Position};
@@ -20,36 +21,55 @@ use std::alloc::Global;
 use std::marker::{Model, PhantomData};
 use std::ops::Range;
 
-/// A tree that is kept in memory as the digests of its nodes. Contracts see the number of its leaves and those digests,
-/// each at its position; whose list of leaf digests they are is said for the hasher that a call takes.
+/// A tree that is kept in memory as the digests of its nodes, and that may be pruned. Contracts see the number of its
+/// leaves, the location before which it is pruned, the digests that stay pinned before it, each at its position, and
+/// those of all nodes from there on; whose list of leaf digests they are is said for the hasher that a call takes.
 /// In the Rust: `merkle::mem::Mem`.
 #[derive(Debug, Drop)]
 pub struct Mem<F: Family, D: Digest> {
     alloc: Global,
     leaves: u64,
+    boundary: u64,
+    // How many nodes the leaves before the boundary have: where `digests` begins.
+    start: u64,
+    pinned: Vec<(u64, D)>,
     digests: Vec<D>,
     family: PhantomData<F>,
 }
 
 impl<F: Family, D: Digest> Model for Mem<F, D> {
-    ghost use Rattle.std.specs.Prelude.{◌≡◌, ◌≤◌, ◌^◌, map, length};
-    ghost use Rattle.merkle_core_parts.specs.Mem.{Nodes, node_count};
+    ghost use Rattle.std.specs.Prelude.{◌≡◌, ◌≤◌, ◌^◌, map};
+    ghost use Rattle.merkle_core_parts.specs.Mem.{Nodes, AreKeptNodes, node_count, encoded};
 
     ghost Value = { Nodes };
 
-    ghost view = { λ m. record { leaves = m.leaves; digests = map D.encoding m.digests.items } };
+    ghost view = { λ m. record {
+      leaves = m.leaves;
+      boundary = m.boundary;
+      pinned = encoded D.encoding m.pinned.items;
+      digests = map D.encoding m.digests.items;
+    } };
 
-    ghost invariant = { λ m. (m.leaves ≤ 2 ^ 62) × (length m.digests.items ≡ node_count F.merge_rule m.leaves) };
+    ghost invariant = { λ m. (m.leaves ≤ 2 ^ 62) × (m.start ≡ node_count F.merge_rule m.boundary)
+        × AreKeptNodes F.merge_rule (record {
+          leaves = m.leaves;
+          boundary = m.boundary;
+          pinned = encoded D.encoding m.pinned.items;
+          digests = map D.encoding m.digests.items;
+        }) };
 }
 
 impl<F: Family, D: Digest> Mem<F, D> {
     /// A tree of no leaves. It takes no memory yet. In the Rust: `merkle::mem::Mem::new`.
     pub fn new(alloc: Global) -> Mem<F, D>
-        ensures { result ≡ record { leaves = 0; digests = [] } }
+        ensures { result ≡ record { leaves = 0; boundary = 0; pinned = []; digests = [] } }
     {
         Mem {
             alloc,
             leaves: 0,
+            boundary: 0,
+            start: 0,
+            pinned: Vec::new(alloc),
             digests: Vec::new(alloc),
             family: PhantomData,
         }
@@ -63,24 +83,25 @@ impl<F: Family, D: Digest> Mem<F, D> {
         Location::new(self.leaves)
     }
 
-    /// How many nodes the tree has. In the Rust: `merkle::mem::Mem::size`.
+    /// How many nodes the tree has, with those that are pruned. In the Rust: `merkle::mem::Mem::size`.
     pub fn size(&self) -> Position<F>
         ensures size { result ≡ size (forest_of F.merge_rule self.now.leaves) }
-        ensures held { result ≡ length self.now.digests }
+        ensures held { result ≡ node_count F.merge_rule self.now.boundary + length self.now.digests }
     {
-        Position::new(self.digests.len() as u64)
+        Position::new(self.start + self.digests.len() as u64)
     }
 
-    /// The location before which leaves are pruned: none are. In the Rust: `merkle::mem::Mem::pruning_boundary`.
+    /// The location before which leaves are pruned. In the Rust: `merkle::mem::Mem::pruning_boundary`.
     pub fn pruning_boundary(&self) -> Location<F>
-        ensures { result ≡ 0 }
+        ensures boundary { result ≡ self.now.boundary }
+        ensures within { result ≤ self.now.leaves }
     {
-        Location::new(0)
+        Location::new(self.boundary)
     }
 
     /// The locations of the leaves that are not pruned. In the Rust: `merkle::mem::Mem::bounds`.
     pub fn bounds(&self) -> Range<Location<F>>
-        ensures start { result.start ≡ 0 }
+        ensures start { result.start ≡ self.now.boundary }
         ensures end { result.end ≡ self.now.leaves }
     {
         self.pruning_boundary()..self.leaves()
@@ -94,12 +115,26 @@ impl<F: Family, D: Digest> Mem<F, D> {
         Peaks::of_leaves(self.leaves())
     }
 
-    /// The digest of the node at a position. Where no node stands there it is None.
+    /// The digest of the node at a position. Where no node stands there, or it is pruned, it is None; a pinned one is
+    /// there.
     /// In the Rust: `merkle::mem::Mem::get_node`.
     pub fn get_node(&self, position: Position<F>) -> Option<D>
-        ensures { option_map D.encoding result ≡ node_at self.now position }
+        ensures { option_map D.encoding result ≡ node_at F.merge_rule self.now position }
     {
-        self.digests.get(position.as_u64() as usize).copied()
+        known_digest(&self.pinned, self.start, &self.digests, position.as_u64())
+    }
+
+    // The digest of a peak of the first leaves of the tree, of so many.
+    pub(crate) fn peak_digest(&self, leaves: u64, position: u64) -> D
+        requires from { self.now.boundary ≤ leaves }
+        requires within { leaves ≤ self.now.leaves }
+        requires peak { IsPeakPosition F.merge_rule leaves position }
+        ensures { node_at F.merge_rule self.now position ≡ Some (D.encoding result) }
+    {
+        match known_digest(&self.pinned, self.start, &self.digests, position) {
+            Some(digest) => digest,
+            None => unreachable!(),
+        }
     }
 
     /// The root of the tree, of whose peaks so many come first as inactive ones. Where there are fewer: M16. It takes
@@ -119,7 +154,7 @@ impl<F: Family, D: Digest> Mem<F, D> {
             (H.bagging_of hasher.now) F.merge_rule leaf_digests inactive_peaks) }
         ensures refused { IfErr result (λ e. e ≡ Error.InvalidInactivePeaks) }
     {
-        root_of_digests(hasher, self.leaves, &self.digests, inactive_peaks)
+        root_of_tree(hasher, self.leaves, self, inactive_peaks)
     }
 
     /// A tree that is equal to this one. It fails only when out of memory: M23 (own). In the Rust: `Clone::clone`.
@@ -127,10 +162,14 @@ impl<F: Family, D: Digest> Mem<F, D> {
         ensures copy { IfOk result (λ copy. copy ≡ self.now) }
         ensures refused { IfErr result (λ e. e ≡ Error.Memory) }
     {
+        let pinned = Vec::from_slice(self.alloc, &self.pinned)?;
         let digests = Vec::from_slice(self.alloc, &self.digests)?;
         Ok(Mem {
             alloc: self.alloc,
             leaves: self.leaves,
+            boundary: self.boundary,
+            start: self.start,
+            pinned,
             digests,
             family: PhantomData,
         })
@@ -146,7 +185,7 @@ impl<F: Family, D: Digest> Mem<F, D> {
         }) }
         ensures refused { IfErr result (λ e. e ≡ Error.Memory) }
     {
-        let peaks = peaks_of::<F, D>(self.alloc, self.leaves, &self.digests)?;
+        let peaks = peaks_of::<F, D>(self.alloc, self.leaves, self)?;
         Ok(UnmerkleizedBatch::over(self.alloc, self.leaves, peaks))
     }
 
@@ -157,7 +196,7 @@ impl<F: Family, D: Digest> Mem<F, D> {
         if self.leaves != batch.base_leaves() {
             return false;
         }
-        have_all_peaks::<F, D>(self.leaves, &self.digests, batch.base_peaks())
+        have_all_peaks::<F, D>(self.leaves, self, batch.base_peaks())
     }
 
     /// Adds the batch's nodes, and changes those that it changes. Where the tree is not the batch's base, by its leaf
@@ -165,7 +204,7 @@ impl<F: Family, D: Digest> Mem<F, D> {
     /// count and equal digests of peaks stand over one list of leaf digests is for the caller to know.
     /// In the Rust: `merkle::mem::Mem::apply_batch`.
     pub fn apply_batch(&mut self, batch: &MerkleizedBatch<F, D>) -> Result<(), Error<F>>
-        ensures applied { OnOk result (self.new ≡ with_batch self.old batch.now) }
+        ensures applied { OnOk result (self.new ≡ with_batch F.merge_rule self.old batch.now) }
         ensures base { OnOk result (batch.now.base ≡ base_of F.merge_rule self.old) }
         ensures refused { IfErr result (λ e. IsRefusalOnto batch.now.base (base_of F.merge_rule self.old) e) }
         ensures unchanged { OnErr result (self.new ≡ self.old) }
@@ -174,7 +213,8 @@ impl<F: Family, D: Digest> Mem<F, D> {
             return Err(Error::StaleBatch);
         }
         self.digests.extend_from_slice(batch.digests())?;
-        put_all(&mut self.digests, 0, batch.changed());
+        put_all(&mut self.digests, self.start, batch.changed());
+        put_pinned(&mut self.pinned, batch.changed());
         self.leaves = batch.leaves().as_u64();
         Ok(())
     }

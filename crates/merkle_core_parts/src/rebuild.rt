@@ -5,9 +5,10 @@ ghost use Rattle.std.specs.Prelude.{option_map, IsTrue, IfOk, IfErr, OnOk};
 ghost use Rattle.merkle_forest.specs.Forest.{Tree, position, leaf_count, forest_of};
 ghost use Rattle.merkle_forest.specs.Nodes.{IsNodeAt};
 ghost use Rattle.merkle_core_parts.specs.Errors.{IsRefusalOver};
-ghost use Rattle.merkle_core_parts.specs.Mem.{node_count, node_at, encoded};
+ghost use Rattle.merkle_core_parts.specs.Mem.{node_count, node_at, encoded, replaced_at};
+ghost use Rattle.merkle_core_parts.specs.Mem.{value_after};
 ghost use Rattle.merkle_core_parts.specs.Laws.Made.{HavePeaks};
-ghost use Rattle.merkle_core_parts.specs.Laws.Replaced.{value_after, AreFrom};
+ghost use Rattle.merkle_core_parts.specs.Laws.Replaced.{AreFrom};
 ghost use Rattle.merkle_core_parts.specs.Laws.Rebuilt.{Digests, IsSetting, ArePending, IsDue, AreTaken, IsRight};
 ghost use Rattle.merkle_core_parts.specs.Laws.Rebuilt.{IsPlace, IsRebuilt};
 ghost use Rattle.merkle_core_parts.specs.Laws.Updated.{AreRebuilt};
@@ -51,6 +52,38 @@ pub(crate) fn put_all<D: Digest>(digests: &mut Vec<D>, first: u64, changes: &[(u
     ensures counted { length digests.new.items ≡ length digests.old.items }
 {
     put_digests(digests, first, changes);
+}
+
+// What stands at a position after these changes, one after the other, where `digest` stood before.
+fn last_digest<D: Digest>(changes: &[(u64, D)], position: u64, digest: D) -> D
+    ensures { D.encoding result ≡ value_after (encoded D.encoding changes.now) position (D.encoding digest) }
+{
+    let mut last = digest;
+    for (at, changed) in changes {
+        if *at == position {
+            last = *changed;
+        }
+    }
+    last
+}
+
+// Changes digests that stand at positions, one after the other.
+fn put_at_positions<D: Digest>(digests: &mut [(u64, D)], changes: &[(u64, D)])
+    ensures { encoded D.encoding digests.new
+        ≡ replaced_at (encoded D.encoding digests.old) (encoded D.encoding changes.now) }
+{
+    for place in 0..digests.len() {
+        let one = digests[place];
+        digests[place] = (one.0, last_digest(changes, one.0, one.1));
+    }
+}
+
+// The same in a vector.
+pub(crate) fn put_pinned<D: Digest>(digests: &mut Vec<(u64, D)>, changes: &[(u64, D)])
+    ensures { encoded D.encoding digests.new.items
+        ≡ replaced_at (encoded D.encoding digests.old.items) (encoded D.encoding changes.now) }
+{
+    put_at_positions(digests, changes);
 }
 
 // Sorts updates by location. Those at one location keep their order.
@@ -116,7 +149,7 @@ fn rebuild<F: Family, H: Hasher<F>>(
     requires few { leaves ≤ MAX_LEAVES }
     requires place { IsPlace F.merge_rule leaves place.first place.position place.height }
     ensures rebuilt { IfOk result (λ made. (boundary : ℕ) (before after : Digests) (tree : Tree)
-        → IsSetting F.merge_rule (H.node_of hasher.now) leaves boundary (node_at base.now) before after
+        → IsSetting F.merge_rule (H.node_of hasher.now) leaves boundary (node_at F.merge_rule base.now) before after
         → ArePending F.merge_rule leaves boundary before after place.first
         (drop next (encoded H.Digest.encoding updates.now))
         → IsRight F.merge_rule leaves after (encoded H.Digest.encoding changed.old.items)
@@ -125,7 +158,7 @@ fn rebuild<F: Family, H: Hasher<F>>(
         (encoded H.Digest.encoding changed.old.items) (encoded H.Digest.encoding changed.new.items)
         (H.Digest.encoding made.0) (place.first + leaf_count tree)
         (drop made.1 (encoded H.Digest.encoding updates.now))) }
-    ensures refused { IfErr result (λ e. IsRefusalOver (node_count F.merge_rule leaves) (node_at base.now) e) }
+    ensures refused { IfErr result (λ e. IsRefusalOver (node_count F.merge_rule leaves) (node_at F.merge_rule base.now) e) }
 {
     if !is_due(updates, next, place.first + leaf_span(place.height)) {
         return match base.get_node(Position::new(place.position)) {
@@ -169,12 +202,12 @@ pub(crate) fn rebuild_peaks<F: Family, H: Hasher<F>>(
     requires { leaves ≤ MAX_LEAVES }
     ensures peaks { IfOk result (λ peaks. HavePeaks F.merge_rule leaves (encoded H.Digest.encoding peaks.items)) }
     ensures rebuilt { IfOk result (λ peaks. (boundary : ℕ) (before after : Digests)
-        → IsSetting F.merge_rule (H.node_of hasher.now) leaves boundary (node_at base.now) before after
+        → IsSetting F.merge_rule (H.node_of hasher.now) leaves boundary (node_at F.merge_rule base.now) before after
         → ArePending F.merge_rule leaves boundary before after 0 (encoded H.Digest.encoding updates.now)
         → IsRight F.merge_rule leaves after (encoded H.Digest.encoding changed.old.items)
         → AreRebuilt F.merge_rule leaves before after (encoded H.Digest.encoding changed.old.items)
         (encoded H.Digest.encoding changed.new.items) (encoded H.Digest.encoding peaks.items)) }
-    ensures refused { IfErr result (λ e. IsRefusalOver (node_count F.merge_rule leaves) (node_at base.now) e) }
+    ensures refused { IfErr result (λ e. IsRefusalOver (node_count F.merge_rule leaves) (node_at F.merge_rule base.now) e) }
 {
     let mut peaks = Vec::new(alloc);
     let mut first = 0;

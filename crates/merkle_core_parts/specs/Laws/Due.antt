@@ -3,7 +3,8 @@ use Rattle.std.proofs.Common.{◌≡◌, ◌↔◌, ℕ, suc, ◌<◌, inl, inr,
 use Rattle.std.proofs.lemmas.Bool.{cases_lt, lt-ltb, le-ltb, cond-true, cond-false, ne_eqb}
 use Rattle.std.specs.Prelude.{IsTrue, nat_lt}
 use Rattle.merkle_core_parts.specs.Mem.{Replacement}
-use Rattle.merkle_core_parts.specs.Laws.Replaced.{value_after, AreFrom, after-before}
+use Rattle.merkle_core_parts.specs.Mem.{value_after}
+use Rattle.merkle_core_parts.specs.Laws.Replaced.{AreFrom, after-before}
 use Rattle.merkle_core_parts.specs.Laws.Rebuilt.{IsDue, AreTaken, AreTakenTo}
 
 below : (m n : ℕ) → IsTrue (nat_lt m n) → m < n

@@ -1,12 +1,13 @@
 -- Digests that are to stand somewhere, as the code holds them.
 use Rattle.std.proofs.Common.{◌≡◌, ℕ, zero, suc, ◌+◌, ◌-◌, ◌<◌, ◌≤◌, ◌⊎◌, inl, inr, cond, eqb, List, [], ◌∷◌, ◌++◌}
-use Rattle.std.proofs.Common.{length, map, take, drop, set, get_or, Option, Some, None, refl, sym, ◌∙◌, ap, arith}
+use Rattle.std.proofs.Common.{length, map, take, drop, set, get_or, Option, Some, None, refl, sym, ◌∙◌, ap, ap₂, arith}
 use Rattle.std.proofs.Common.{eq-eqb}
 use Rattle.std.proofs.lemmas.Bool.{cases_lt, cases_eq, ne_eqb}
 use Rattle.std.specs.Prelude.{slice_get, slice_set}
 use Rattle.std.specs.Option.{option_map}
 use Rattle.merkle_core_parts.specs.Mem.{Replacement, encoded}
-use Rattle.merkle_core_parts.specs.Laws.Replaced.{value_after, after-more, get-set, left_alone}
+use Rattle.merkle_core_parts.specs.Mem.{value_after, replaced_at}
+use Rattle.merkle_core_parts.specs.Laws.Replaced.{after-more, get-set, left_alone}
 
 pub take-encoded : {D : Type 0} (encoding : D → List ℕ) (us : List (ℕ × D)) (i : ℕ) (u d : ℕ × D) → i < length us
     → u ≡ get_or us i d
@@ -78,3 +79,23 @@ pub more-after : (us : List Replacement) (u : Replacement) (n : ℕ) (o : Option
     ≡ option_map (value_after (us ++ u ∷ []) n) o
 more-after us u n None = refl
 more-after us u n (Some x) = ap (λ y. Some y) (sym (after-more us u n x))
+
+-- one more of the digests that stand at positions is changed
+pub put-next : {D : Type 0} (encoding : D → List ℕ) (xs : List (ℕ × D)) (old us : List Replacement) (i p : ℕ) (d new : D)
+    (other : ℕ × D) → i < length xs → (p, d) ≡ get_or xs i other
+    → encoded encoding xs ≡ replaced_at (take i old) us ++ drop i old → encoding new ≡ value_after us p (encoding d)
+    → encoded encoding (set xs i (p, new)) ≡ replaced_at (take (suc i) old) us ++ drop (suc i) old
+put-next encoding [] old us i p d new other lt at is made = absurd (omega arith)
+put-next encoding (x ∷ xs) [] us zero p d new other lt at is made = absurd cc
+put-next encoding (x ∷ xs) [] us (suc i) p d new other lt at is made = absurd cc
+put-next {D} encoding (x ∷ xs) (o ∷ old) us zero p d new other lt at is made =
+    let first : ◌≡◌ {A = Replacement} (x.0, encoding x.1) o = cc in
+    let rest : encoded encoding xs ≡ old = cc in
+    let here : ◌≡◌ {A = Replacement} (p, encoding d) o = ap (λ (u : ℕ × D). (u.0, encoding u.1)) at ∙ first in
+    ap₂ (λ (u : Replacement) (us : List Replacement). u ∷ us)
+    (ap (λ b. (p, b)) made ∙ ap (λ (u : Replacement). (u.0, value_after us u.0 u.1)) here) rest
+put-next encoding (x ∷ xs) (o ∷ old) us (suc i) p d new other lt at is made =
+    let first : ◌≡◌ {A = Replacement} (x.0, encoding x.1) (o.0, value_after us o.0 o.1) = cc in
+    let rest : encoded encoding xs ≡ replaced_at (take i old) us ++ drop i old = cc in
+    ap₂ (λ (u : Replacement) (us : List Replacement). u ∷ us) first
+    (put-next encoding xs old us i p d new other (omega arith) at rest made)

@@ -4,11 +4,12 @@ use Rattle.std.proofs.lemmas.List.{length-map}
 use Rattle.std.specs.List.{range_with_len}
 use Rattle.merkle_forest.specs.Forest.{Tree, leaf, branch, position, height, leaf_count, size, leaves, Rule, merged, forest_of, IsPairOfEquals}
 use Rattle.merkle_forest.specs.Perfect.{IsPairing}
-use Rattle.merkle_forest.specs.Nodes.{IsWithin, IsNodeAt, IsPeakAt, IsBranchOf, AreParents}
+use Rattle.merkle_forest.specs.Nodes.{IsWithin, IsNodeAt, IsBranchOf, AreParents}
 use Rattle.merkle_forest.specs.Laws.ForestGrowth.{leaves-merged, size-merged, pair_within, peaks_after_merges-keeps_next, leaves-forest_of}
 use Rattle.merkle_forest.specs.Laws.Nodes.{peak-node}
 use Rattle.merkle_forest.specs.Laws.NodeGrowth.{numbered}
 use Rattle.merkle_forest.specs.Laws.Parents.{range-get}
+use Rattle.merkle_core_parts.specs.Mem.{IsPeak}
 
 -- a branch at a position after s, whose children stand before it
 pub record IsNewBranch (s : ℕ) (tree : Tree) : Type 0 where
@@ -33,10 +34,6 @@ pub record IsGrown (rule : Rule) (n : ℕ) (peaks : List Tree) : Type 0 where
 
 pub within : (peaks : List Tree) (index : ℕ) → IsPairOfEquals (map height peaks) index → suc index < length peaks
 within peaks index pair = rw (← length-map peaks height) (pair_within (map height peaks) index pair)
-
--- a tree is a peak
-abbrev pub IsPeak : Tree → List Tree → Type 0
-IsPeak tree peaks = (first : ℕ) × IsPeakAt first tree peaks
 
 -- a merge makes one branch, over two peaks
 pub record IsMerge (p : ℕ) (peaks after : List Tree) : Type 0 where

@@ -5,16 +5,8 @@ use Rattle.merkle_forest.specs.Perfect.{IsPairing}
 use Rattle.merkle_forest.specs.Nodes.{IsNodeAt}
 use Rattle.merkle_forest.specs.Laws.ForestGrowth.{size-merged, size-mono, peaks_after_merges-keeps_next}
 use Rattle.merkle_forest.specs.Laws.NodeGrowth.{numbered}
-use Rattle.merkle_core_parts.specs.Mem.{node_count}
-use Rattle.merkle_core_parts.specs.Laws.Growth.{IsNew, IsPeak, IsMerge, grown, merged-makes, within}
-
--- a peak of the forest of so many leaves stands at this position
-abbrev pub IsPeakPosition : Rule → ℕ → ℕ → Type 0
-IsPeakPosition rule b p = (tree : Tree) × IsPeak tree (forest_of rule b) × (position tree ≡ p)
-
--- a position is none before that forest's node count, or that of one of its peaks
-abbrev pub IsKept : Rule → ℕ → ℕ → Type 0
-IsKept rule b p = (node_count rule b ≤ p) ⊎ IsPeakPosition rule b p
+use Rattle.merkle_core_parts.specs.Mem.{node_count, IsPeak, IsKept}
+use Rattle.merkle_core_parts.specs.Laws.Growth.{IsNew, IsMerge, grown, merged-makes, within}
 
 -- the children of the nodes after it, and the peaks, are such
 pub record AreKept (rule : Rule) (b : ℕ) (peaks : List Tree) : Type 0 where

@@ -1,5 +1,5 @@
 -- The nodes that leaves add to a tree, as they are made one after the other.
-use Rattle.std.proofs.Common.{◌≡◌, ℕ, zero, suc, ◌+◌, ◌-◌, ◌<◌, ◌≤◌, ◌⊎◌, inl, inr, cond, eqb, ltb, List, [], ◌∷◌, ◌++◌, length, map}
+use Rattle.std.proofs.Common.{◌≡◌, ℕ, zero, suc, ◌+◌, ◌-◌, ◌<◌, ◌≤◌, ◌⊎◌, inl, inr, eqb, ltb, List, [], ◌∷◌, ◌++◌, length, map}
 use Rattle.std.proofs.Common.{Option, Some, get_or, refl, sym, ◌∙◌, ap, ap₂, subst, arith, eq-eqb}
 use Rattle.std.proofs.lemmas.Bool.{cases_lt, cases_eq, cond-true, cond-false, lt-ltb, le-ltb, ne_eqb}
 use Rattle.std.proofs.lemmas.List.{length-map, map-append}
@@ -11,8 +11,9 @@ use Rattle.merkle_forest.specs.Nodes.{IsNodeAt}
 use Rattle.merkle_forest.specs.Perfect.{IsPairing}
 use Rattle.merkle_forest.specs.Laws.NodeGrowth.{numbered, one-node}
 use Rattle.merkle_core_parts.specs.Mem.{NodeHash, Replacement, encoded, node_count}
-use Rattle.merkle_core_parts.specs.Laws.Growth.{IsNew, IsParent, IsPeak, grown}
-use Rattle.merkle_core_parts.specs.Laws.Kept.{IsKept, kept}
+use Rattle.merkle_core_parts.specs.Mem.{IsKept, IsPeak, digest_at, known_over}
+use Rattle.merkle_core_parts.specs.Laws.Growth.{IsNew, IsParent, grown}
+use Rattle.merkle_core_parts.specs.Laws.Kept.{kept}
 use Rattle.merkle_core_parts.specs.Laws.Places.{node-left, node-right}
 use Rattle.merkle_core_parts.specs.Laws.Rebuilt.{Digests}
 
@@ -26,14 +27,6 @@ get-last [] x zero is = refl
 get-last [] x (suc i) is = absurd (omega arith)
 get-last (y ∷ xs) x zero is = absurd (omega arith)
 get-last (y ∷ xs) x (suc i) is = get-last xs x i (omega arith)
-
--- the digest at a position, of those that stand at positions
-abbrev pub digest_at : List Replacement → ℕ → Option (List ℕ)
-digest_at digests p = option_map (λ one. one.1) (find (λ one. eqb one.0 p) digests)
-
--- what is known while nodes are made over a base of so many nodes: the digests of its peaks, and the new nodes so far
-abbrev pub known_over : ℕ → List Replacement → List (List ℕ) → ℕ → Option (List ℕ)
-known_over base_size peaks added p = cond (ltb p base_size) (digest_at peaks p) (slice_get added (p - base_size))
 
 -- each peak of the base is among them
 abbrev pub HavePeaks : Rule → ℕ → List Replacement → Type 0

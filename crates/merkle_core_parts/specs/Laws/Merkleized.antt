@@ -11,24 +11,23 @@ use Rattle.merkle_forest.specs.Laws.ForestGrowth.{leaves-forest_of}
 use Rattle.merkle_forest.specs.Laws.Nodes.{node-fits}
 use Rattle.merkle_forest.specs.Laws.NodeGrowth.{numbered}
 use Rattle.merkle_core_parts.specs.Mem.{Nodes, Additions, Growth, Replacement, NodeHash, node_count, node_at}
-use Rattle.merkle_core_parts.specs.Mem.{tree_digest, AreNodesOf, replaced, with_leaves, with_batch}
-use Rattle.merkle_core_parts.specs.Laws.Batches.{get-back}
+use Rattle.merkle_core_parts.specs.Mem.{tree_digest, AreNodesOf, IsKept, replaced_from, replaced_at, with_leaves, with_batch}
+use Rattle.merkle_core_parts.specs.Mem.{known_over, digest_at, value_after}
+use Rattle.merkle_core_parts.specs.Laws.Batches.{get-back, known-old, known-new, shape-with}
+use Rattle.merkle_core_parts.specs.Laws.Held.{right-there}
 use Rattle.merkle_core_parts.specs.Laws.Kept.{later}
-use Rattle.merkle_core_parts.specs.Laws.Made.{AreMade, HavePeaks, known_over, digest_at, known-some, get-front}
+use Rattle.merkle_core_parts.specs.Laws.Made.{AreMade, HavePeaks, known-some, get-front}
 use Rattle.merkle_core_parts.specs.Laws.Mem.{get_some}
 use Rattle.merkle_core_parts.specs.Laws.Rebuilt.{IsSetting, ArePending, IsRight}
-use Rattle.merkle_core_parts.specs.Laws.Replaced.{value_after, get-replaced, length-replaced, AreFrom}
+use Rattle.merkle_core_parts.specs.Laws.Replaced.{get-replaced, length-replaced, AreFrom, get-replaced_from, known-replaced}
 use Rattle.merkle_core_parts.specs.Laws.Updated.{AreRebuilt}
-
-if_some : (o : Option (List ℕ)) (x : List ℕ) → o ≡ Some x → IfSome o (λ d. d ≡ x)
-if_some o x is = subst (λ p. IfSome p (λ d. d ≡ x)) (sym is) refl
 
 pub setting-of : (rule : Rule) (node : NodeHash) (list after : List (List ℕ)) (base : Nodes) (n : ℕ) → n ≡ length list
     → AreNodesOf node rule list base
-    → IsSetting rule node n 0 (node_at base) (tree_digest node list) (tree_digest node after)
+    → IsSetting rule node n 0 (node_at rule base) (tree_digest node list) (tree_digest node after)
 setting-of rule node list after base n is are = record {
-  known_is = λ f t stands. if_some (node_at base (position t)) (tree_digest node list f t)
-      (are.digests f t (subst (λ k. IsNodeAt f t (forest_of rule k)) is stands));
+  known_is = λ f t stands. right-there node rule list base are f t
+      (subst (λ k. IsNodeAt f t (forest_of rule k)) is stands);
   same = λ f p l r stands left right. ap₂ (node p) left right;
   hashed = λ f p l r stands past. refl;
 }
@@ -100,27 +99,28 @@ whole_at : (rule : Rule) (node : NodeHash) (list : List (List ℕ)) (batch : Add
     → AreRebuilt rule n (tree_digest node list) (tree_digest node (with_leaves list batch)) [] growth.changed peaks
     → AreMade rule (tree_digest node (with_leaves list batch)) n m (node_count rule m)
     (known_over base_size peaks growth.digests)
-    → IsNodeAt f t (forest_of rule m) → position t < node_count rule m
+    → IsNodeAt f t (forest_of rule m) → position t < node_count rule m → IsKept rule base.boundary (position t)
     → IsNodeAt f t (forest_of rule n) ⊎ (size (forest_of rule n) ≤ position t)
-    → slice_get (with_batch base growth).digests (position t)
+    → node_at rule (with_batch rule base growth) (position t)
     ≡ Some (tree_digest node (with_leaves list batch) f t)
-whole_at rule node list batch base growth n m base_size peaks f t is sized are rebuilt made stands below (inl old) =
-    get-replaced (base.digests ++ growth.digests) growth.changed (position t)
+whole_at rule node list batch base growth n m base_size peaks f t is sized are rebuilt made stands below keeps (inl old) =
+    known-replaced (node_count rule base.boundary) base.pinned (base.digests ++ growth.digests) growth.changed (position t)
     ∙ ap (option_map (value_after growth.changed (position t)))
-    (get-front base.digests growth.digests (position t) (tree_digest node list f t)
-    (are.digests f t (subst (λ k. IsNodeAt f t (forest_of rule k)) is old)))
+    (known-old (node_count rule base.boundary) base.pinned base.digests growth.digests (tree_digest node list f t) (position t)
+    (are.digests f t (subst (λ k. IsNodeAt f t (forest_of rule k)) is old) keeps))
     ∙ ap (λ d. Some d) (rebuilt.done f t old)
-whole_at rule node list batch base growth n m base_size peaks f t is sized are rebuilt made stands below (inr new) =
-    let held : length base.digests ≡ base_size = are.held ∙ ap (node_count rule) (sym is) ∙ sym sized in
+whole_at rule node list batch base growth n m base_size peaks f t is sized are rebuilt made stands below keeps (inr new) =
+    let held : node_count rule base.boundary + length base.digests ≡ base_size =
+    are.shape.counted ∙ ap (node_count rule) (are.counted ∙ sym is) ∙ sym sized in
     let known : slice_get growth.digests (position t - base_size)
     ≡ Some (tree_digest node (with_leaves list batch) f t) =
     sym (cond-false (ltb (position t) base_size) (digest_at peaks (position t))
     (slice_get growth.digests (position t - base_size)) (le-ltb (position t) base_size (omega (arith, new, sized))))
     ∙ made.each f t stands (inl new) below in
-    get-replaced (base.digests ++ growth.digests) growth.changed (position t)
+    known-replaced (node_count rule base.boundary) base.pinned (base.digests ++ growth.digests) growth.changed (position t)
     ∙ ap (option_map (value_after growth.changed (position t)))
-    (get-back base.digests growth.digests (position t) (omega (arith, held, new, sized))
-    ∙ ap (λ k. slice_get growth.digests (position t - k)) held ∙ known)
+    (known-new (node_count rule base.boundary) base.pinned base.digests growth.digests base_size (position t) held
+    (omega (arith, new, sized)) ∙ known)
     ∙ ap (λ d. Some d) (rebuilt.low (position t) (tree_digest node (with_leaves list batch) f t) new)
 
 pub whole : (rule : Rule) → IsPairing rule → (node : NodeHash) (list : List (List ℕ)) (batch : Additions) (base : Nodes)
@@ -131,24 +131,23 @@ pub whole : (rule : Rule) → IsPairing rule → (node : NodeHash) (list : List 
     (node_count rule (n + length batch.added)) (known_over base_size peaks growth.digests)
     → base_size + length growth.digests ≡ node_count rule (n + length batch.added)
     → growth.leaves ≡ n + length batch.added
-    → AreNodesOf node rule (with_leaves list batch) (with_batch base growth)
+    → AreNodesOf node rule (with_leaves list batch) (with_batch rule base growth)
 whole rule pairs node list batch base growth n base_size peaks is sized are rebuilt made counted leaves =
     let long : length (with_leaves list batch) ≡ n + length batch.added =
     length-replaced (list ++ batch.added) batch.updates ∙ length-append list batch.added
     ∙ ap (λ k. k + length batch.added) (sym is) in
-    let same : node_count rule (length (with_leaves list batch)) ≡ node_count rule (n + length batch.added) =
-    ap (node_count rule) long in
-    let base_held : length base.digests ≡ base_size = are.held ∙ ap (node_count rule) (sym is) ∙ sym sized in
+    let here : base.leaves ≡ n = are.counted ∙ sym is in
+    let held : node_count rule base.leaves ≡ base_size = ap (node_count rule) here ∙ sym sized in
+    let grown : node_count rule growth.leaves ≡ node_count rule (n + length batch.added) = ap (node_count rule) leaves in
     record {
       counted = leaves ∙ sym long;
-      held = length-replaced (base.digests ++ growth.digests) growth.changed
-          ∙ omega (arith, length-append base.digests growth.digests, base_held, counted, same);
-      digests = λ f t stands.
-          (let here : IsNodeAt f t (forest_of rule (n + length batch.added)) =
+      shape = shape-with rule base growth are.shape (omega (arith, here, leaves)) (omega (arith, held, counted, grown));
+      digests = λ f t stands keeps.
+          (let there : IsNodeAt f t (forest_of rule (n + length batch.added)) =
           subst (λ k. IsNodeAt f t (forest_of rule k)) long stands in
           whole_at rule node list batch base growth n (n + length batch.added) base_size peaks f t is sized are rebuilt made
-          here ((numbered rule pairs (n + length batch.added)).below f t here)
-          (later rule pairs n (length batch.added) f t here));
+          there ((numbered rule pairs (n + length batch.added)).below f t there) keeps
+          (later rule pairs n (length batch.added) f t there));
     }
 
 -- lists that have the same at each index
@@ -162,8 +161,27 @@ list-same (x ∷ xs) (y ∷ ys) each =
     ap₂ (λ z zs. z ∷ zs) same (list-same xs ys (λ k. each (suc k)))
 
 -- digests that were put in their places
-pub put-all : (old new : List (List ℕ)) (us : List Replacement)
-    → ((k : ℕ) → slice_get new k ≡ option_map (value_after us (0 + k)) (slice_get old k)) → new ≡ replaced old us
-put-all old new us each =
-    list-same new (replaced old us) (λ k. let zero_sum : 0 + k ≡ k = omega arith in
-    each k ∙ ap (λ n. option_map (value_after us n) (slice_get old k)) zero_sum ∙ sym (get-replaced old us k))
+pub put-all : (first : ℕ) (old new : List (List ℕ)) (us : List Replacement)
+    → ((k : ℕ) → slice_get new k ≡ option_map (value_after us (first + k)) (slice_get old k)) → new ≡ replaced_from first old us
+put-all first old new us each =
+    list-same new (replaced_from first old us) (λ k. each k ∙ sym (get-replaced_from first old us k))
+
+-- what a tree has become that has a batch's nodes
+pub applied : (rule : Rule) (nodes : Nodes) (batch : Growth) (n : ℕ) (pinned : List Replacement) (digests : List (List ℕ))
+    → n ≡ batch.leaves → pinned ≡ replaced_at nodes.pinned batch.changed
+    → digests ≡ replaced_from (node_count rule nodes.boundary) (nodes.digests ++ batch.digests) batch.changed
+    → ◌≡◌ {A = Nodes} (record { leaves = n; boundary = nodes.boundary; pinned = pinned; digests = digests })
+    (with_batch rule nodes batch)
+applied rule nodes batch n pinned digests is_n is_pinned is_digests =
+    ap₂ (λ (k : ℕ) (ds : List (List ℕ)). record {
+      leaves = k;
+      boundary = nodes.boundary;
+      pinned = pinned;
+      digests = ds;
+    }) is_n is_digests
+    ∙ ap (λ (ps : List Replacement). record {
+      leaves = batch.leaves;
+      boundary = nodes.boundary;
+      pinned = ps;
+      digests = replaced_from (node_count rule nodes.boundary) (nodes.digests ++ batch.digests) batch.changed;
+    }) is_pinned

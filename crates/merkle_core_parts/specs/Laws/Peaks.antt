@@ -3,7 +3,7 @@ use Rattle.std.proofs.Common.{◌≡◌, ℕ, zero, suc, ◌+◌, ◌-◌, ◌<�
 use Rattle.std.proofs.Common.{take, drop, refl, sym, ◌∙◌, ap, subst, arith, sub-one}
 use Rattle.std.proofs.lemmas.Bool.{cases_lt, le-leb, cond-false, ne_eqb}
 use Rattle.std.proofs.lemmas.List.{length-map, take_all}
-use Rattle.std.specs.Prelude.{slice_index_or}
+use Rattle.std.specs.Prelude.{slice_index_or, Option, Some, unwrap_or}
 use Rattle.merkle_forest.specs.declared.bagging.Bagging.TheVariants.{ForwardFold, BackwardFold}
 use Rattle.merkle_forest.specs.Forest.{leaf_count, size, leaves, Rule, forest_of}
 use Rattle.merkle_forest.specs.Hashing.{Hash, fold_string, folded_onto, folded_forward, folded_backward, items, bagged}
@@ -36,22 +36,22 @@ peak-below rule pairs n first p h cut before answer =
     )
 
 -- no peak begins after all leaves
-pub digests-end : (rule : Rule) → IsPairing rule → (n first : ℕ) (digests : List (List ℕ)) → n ≤ first
+pub digests-end : (rule : Rule) → IsPairing rule → (n first : ℕ) (digests : ℕ → Option (List ℕ)) → n ≤ first
     → digests_from rule n digests first ≡ []
 digests-end rule pairs n first digests after =
-    ap (λ peaks. map (λ peak. slice_index_or digests peak.0 []) (map position_and_height peaks))
+    ap (λ peaks. map (λ peak. unwrap_or (digests peak.0) []) (map position_and_height peaks))
     (located_from-end (forest_of rule n) first (omega (arith, after, leaves-forest_of rule pairs n)))
 
 -- at a peak there are its digest and those of the peaks after it
-pub digests-step : (rule : Rule) (n first p h next : ℕ) (digests : List (List ℕ)) (own : List ℕ)
-    → IsStep rule n first p h next → slice_index_or digests p [] ≡ own
+pub digests-step : (rule : Rule) (n first p h next : ℕ) (digests : ℕ → Option (List ℕ)) (own : List ℕ)
+    → IsStep rule n first p h next → digests p ≡ Some own
     → digests_from rule n digests first ≡ own ∷ digests_from rule n digests next
 digests-step rule n first p h next digests own it is =
-    ap (map (λ peak. slice_index_or digests peak.0 [])) it.positions
-    ∙ ap (λ d. d ∷ digests_from rule n digests next) is
+    ap (map (λ peak. unwrap_or (digests peak.0) [])) it.positions
+    ∙ ap (λ o. unwrap_or o [] ∷ digests_from rule n digests next) is
 
 -- a peak that begins before the last leaf has its digest there
-pub digests-some : (rule : Rule) → IsPairing rule → (n first : ℕ) (digests : List (List ℕ))
+pub digests-some : (rule : Rule) → IsPairing rule → (n first : ℕ) (digests : ℕ → Option (List ℕ))
     → is_cut first (forest_of rule n) ≡ true → first < n → 0 < length (digests_from rule n digests first)
 digests-some rule pairs n first digests cut before =
     let found = begins rule pairs n first cut before in
@@ -61,7 +61,7 @@ digests-some rule pairs n first digests cut before =
     rw (length-map, length-map) (omega (arith, some))
 
 -- so where digests are left, leaves are
-pub digests-left : (rule : Rule) → IsPairing rule → (n first : ℕ) (digests : List (List ℕ))
+pub digests-left : (rule : Rule) → IsPairing rule → (n first : ℕ) (digests : ℕ → Option (List ℕ))
     → 0 < length (digests_from rule n digests first) → first < n
 digests-left rule pairs n first digests some =
     elim (cases_lt first n) [
@@ -75,7 +75,7 @@ all_inactive count [] within = refl
 all_inactive count (peak ∷ peaks) within =
     rw (le-leb (end_of peak) count within.0) (ap (λ n. suc n) (all_inactive count peaks within.1))
 
-pub length-digests : (rule : Rule) → IsPairing rule → (n : ℕ) (digests : List (List ℕ))
+pub length-digests : (rule : Rule) → IsPairing rule → (n : ℕ) (digests : ℕ → Option (List ℕ))
     → inactive_peaks n (located (forest_of rule n)) ≡ length (digests_from rule n digests 0)
 length-digests rule pairs n digests =
     let all : leaves (forest_of rule n) ≡ n = leaves-forest_of rule pairs n in

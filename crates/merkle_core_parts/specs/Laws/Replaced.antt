@@ -1,15 +1,11 @@
 -- What stands at an index of a list after replacements.
-use Rattle.std.proofs.Common.{◌≡◌, ℕ, zero, suc, ◌<◌, ◌≤◌, inl, inr, Bool, true, false, cond, eqb, List, [], ◌∷◌, ◌++◌}
-use Rattle.std.proofs.Common.{length, Option, Some, None, refl, sym, ◌∙◌, ap, arith, eq-eqb}
-use Rattle.std.proofs.lemmas.Bool.{cases_eq, cond-true, cond-false, ne_eqb}
+use Rattle.std.proofs.Common.{◌≡◌, ℕ, zero, suc, ◌+◌, ◌-◌, ◌<◌, ◌≤◌, inl, inr, Bool, true, false, cond, eqb, ltb, List, [], ◌∷◌, ◌++◌}
+use Rattle.std.proofs.Common.{length, map, Option, Some, None, refl, sym, ◌∙◌, ap, arith, eq-eqb}
+use Rattle.std.proofs.lemmas.Bool.{cases_eq, cases_lt, cond-true, cond-false, ne_eqb, lt-ltb, le-ltb}
 use Rattle.std.specs.Prelude.{slice_get, slice_set}
 use Rattle.std.specs.Option.{option_map}
-use Rattle.merkle_core_parts.specs.Mem.{Replacement, replaced}
-
--- what stands at an index after these replacements, where `old` stood before
-abbrev pub value_after : List Replacement → ℕ → List ℕ → List ℕ
-value_after [] index old = old
-value_after (one ∷ more) index old = value_after more index (cond (eqb one.0 index) one.1 old)
+use Rattle.std.specs.List.{find}
+use Rattle.merkle_core_parts.specs.Mem.{Replacement, replaced, replaced_from, replaced_at, value_after, digest_at, known_over}
 
 set_same : (xs : List (List ℕ)) (i k : ℕ) (d : List ℕ) → i ≡ k
     → slice_get (slice_set xs i d) k ≡ option_map (λ x. d) (slice_get xs k)
@@ -97,3 +93,66 @@ pub replaced-more : (xs : List (List ℕ)) (us : List Replacement) (u : Replacem
     → replaced xs (us ++ u ∷ []) ≡ slice_set (replaced xs us) u.0 u.1
 replaced-more xs [] u = refl
 replaced-more xs (v ∷ us) u = replaced-more (slice_set xs v.0 v.1) us u
+
+-- the digests from a position on after replacements, index by index
+pub get-replaced_from : (s : ℕ) (ds : List (List ℕ)) (us : List Replacement) (k : ℕ)
+    → slice_get (replaced_from s ds us) k ≡ option_map (value_after us (s + k)) (slice_get ds k)
+get-replaced_from s [] us k = refl
+get-replaced_from s (d ∷ ds) us zero = let same : s ≡ s + 0 = omega arith in ap (λ n. Some (value_after us n d)) same
+get-replaced_from s (d ∷ ds) us (suc k) =
+    let same : suc s + k ≡ s + suc k = omega arith in
+    get-replaced_from (suc s) ds us k ∙ ap (λ n. option_map (value_after us n) (slice_get ds k)) same
+
+pub length-replaced_from : (s : ℕ) (ds : List (List ℕ)) (us : List Replacement)
+    → length (replaced_from s ds us) ≡ length ds
+length-replaced_from s [] us = refl
+length-replaced_from s (d ∷ ds) us = ap (λ n. suc n) (length-replaced_from (suc s) ds us)
+
+-- those at positions, position by position
+pub digest-replaced_at : (ps us : List Replacement) (p : ℕ)
+    → digest_at (replaced_at ps us) p ≡ option_map (value_after us p) (digest_at ps p)
+digest-replaced_at [] us p = refl
+digest-replaced_at (o ∷ ps) us p =
+    elim (cases_eq o.0 p) [
+      | inl same ↦
+          ap (option_map (λ (one : Replacement). one.1))
+          (cond-true (eqb o.0 p) (Some (o.0, value_after us o.0 o.1)) (find (λ one. eqb one.0 p) (replaced_at ps us))
+          (eq-eqb o.0 p same))
+          ∙ ap (λ n. Some (value_after us n o.1)) same
+          ∙ sym (ap (λ r. option_map (value_after us p) (option_map (λ (one : Replacement). one.1) r))
+          (cond-true (eqb o.0 p) (Some o) (find (λ one. eqb one.0 p) ps) (eq-eqb o.0 p same)))
+      | inr apart ↦
+          ap (option_map (λ (one : Replacement). one.1))
+          (cond-false (eqb o.0 p) (Some (o.0, value_after us o.0 o.1)) (find (λ one. eqb one.0 p) (replaced_at ps us))
+          (ne_eqb o.0 p apart))
+          ∙ digest-replaced_at ps us p
+          ∙ sym (ap (λ r. option_map (value_after us p) (option_map (λ (one : Replacement). one.1) r))
+          (cond-false (eqb o.0 p) (Some o) (find (λ one. eqb one.0 p) ps) (ne_eqb o.0 p apart)))
+    ]
+
+pub positions-replaced_at : (ps us : List Replacement)
+    → map (λ (one : Replacement). one.0) (replaced_at ps us) ≡ map (λ (one : Replacement). one.0) ps
+positions-replaced_at [] us = refl
+positions-replaced_at (o ∷ ps) us = ap (λ qs. o.0 ∷ qs) (positions-replaced_at ps us)
+
+-- both
+pub known-replaced : (start : ℕ) (ps : List Replacement) (ds : List (List ℕ)) (us : List Replacement) (p : ℕ)
+    → known_over start (replaced_at ps us) (replaced_from start ds us) p
+    ≡ option_map (value_after us p) (known_over start ps ds p)
+known-replaced start ps ds us p =
+    elim (cases_lt p start) [
+      | inl before ↦
+          cond-true (ltb p start) (digest_at (replaced_at ps us) p) (slice_get (replaced_from start ds us) (p - start))
+          (lt-ltb p start before)
+          ∙ digest-replaced_at ps us p
+          ∙ sym (ap (option_map (value_after us p)) (cond-true (ltb p start) (digest_at ps p) (slice_get ds (p - start))
+          (lt-ltb p start before)))
+      | inr after ↦
+          (let same : start + (p - start) ≡ p = omega (arith, after) in
+          cond-false (ltb p start) (digest_at (replaced_at ps us) p) (slice_get (replaced_from start ds us) (p - start))
+          (le-ltb p start after)
+          ∙ get-replaced_from start ds us (p - start)
+          ∙ ap (λ n. option_map (value_after us n) (slice_get ds (p - start))) same
+          ∙ sym (ap (option_map (value_after us p)) (cond-false (ltb p start) (digest_at ps p) (slice_get ds (p - start))
+          (le-ltb p start after))))
+    ]

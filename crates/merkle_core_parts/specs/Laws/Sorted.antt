@@ -6,7 +6,8 @@ use Rattle.std.specs.Ordering.{is_lt, nat_cmp}
 use Rattle.std.specs.declared.cmp.Ordering.TheVariants.{Less, Equal, Greater}
 use Rattle.std.specs.List.Sorted.{ties, IsStableByKey, IsNonDecreasingBy}
 use Rattle.merkle_core_parts.specs.Mem.{encoded}
-use Rattle.merkle_core_parts.specs.Laws.Replaced.{value_after, AreFrom}
+use Rattle.merkle_core_parts.specs.Mem.{value_after}
+use Rattle.merkle_core_parts.specs.Laws.Replaced.{AreFrom}
 
 from_sorted : {D : Type 0} (encoding : D → List ℕ) (b : ℕ) (v : ℕ × D) (vs : List (ℕ × D)) → b ≤ v.0
     → IsNonDecreasingBy (λ (u : ℕ × D). u.0) (v ∷ vs) → AreFrom b (encoded encoding (v ∷ vs))

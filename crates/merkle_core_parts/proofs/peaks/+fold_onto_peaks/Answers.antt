@@ -1,17 +1,17 @@
-use Rattle.std.proofs.Common.{◌-◌, map, take, sym, ◌∙◌, ap, arith}
+use Rattle.std.proofs.Common.{◌-◌, take, sym, ◌∙◌, ap, arith}
 use Rattle.merkle_forest.specs.Hashing.{folded_onto}
-use Rattle.merkle_core_parts.specs.Mem.{digests_from}
+use Rattle.merkle_core_parts.specs.Mem.{digests_from, node_at}
 use Rattle.merkle_core_parts.specs.Laws.Peaks.{digests-left, fold-step}
 use Rattle.merkle_core_parts.proofs.peaks.+fold_onto_peaks.Goals as goal
 
 pub peak_at-digest-requires-clause-before : goal.peak_at-digest-requires-clause-before
 peak_at-digest-requires-clause-before g t c =
     digests-left g.F.Family.merge_rule g.met.F.Family.merges_equals c.args.leaves c.args.first
-    (map g.H.Digest.Write.encoding c.args.digests.now) (omega arith)
+    (node_at g.F.Family.merge_rule c.args.tree.now) (omega arith)
 
 pub returns-clause-folded : goal.returns-clause-folded
 returns-clause-folded g t c =
-    let next = digests_from g.F.Family.merge_rule c.args.leaves (map g.H.Digest.Write.encoding c.args.digests.now)
+    let next = digests_from g.F.Family.merge_rule c.args.leaves (node_at g.F.Family.merge_rule c.args.tree.now)
     c.peak_at-digest.result.1 in
     c.fold_onto_peaks.ensures.folded
     ∙ ap (λ d. folded_onto g.H.Hasher.hash_of d (take (c.args.count - 1) next)) c.fold-folded.ensures

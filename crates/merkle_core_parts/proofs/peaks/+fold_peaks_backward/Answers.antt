@@ -1,5 +1,6 @@
-use Rattle.std.proofs.Common.{map, sym, ◌∙◌, ap, ◌∷◌}
+use Rattle.std.proofs.Common.{sym, ◌∙◌, ap, ◌∷◌}
 use Rattle.merkle_forest.specs.Hashing.{folded_backward, fold_string}
+use Rattle.merkle_core_parts.specs.Mem.{node_at}
 use Rattle.merkle_core_parts.specs.Laws.Peaks.{digests-end, digests-some, back-step}
 use Rattle.merkle_core_parts.proofs.peaks.+fold_peaks_backward.Goals as goal
 
@@ -10,7 +11,7 @@ returns-then-next-leaves g t c =
     sym (ap (folded_backward hash) c.peak_at-digest.ensures.digest
     ∙ ap (λ rest. folded_backward hash (own ∷ rest))
     (digests-end g.F.Family.merge_rule g.met.F.Family.merges_equals c.args.leaves c.peak_at-digest.result.1
-    (map g.H.Digest.Write.encoding c.args.digests.now) c.if-next-leaves.true))
+    (node_at g.F.Family.merge_rule c.args.tree.now) c.if-next-leaves.true))
 
 pub returns : goal.returns
 returns g t c =
@@ -20,5 +21,5 @@ returns g t c =
     ∙ ap (λ rest. hash (fold_string own rest)) c.fold_peaks_backward-rest.ensures
     ∙ sym (ap (folded_backward hash) c.peak_at-digest.ensures.digest
     ∙ back-step hash own _ (digests-some g.F.Family.merge_rule g.met.F.Family.merges_equals c.args.leaves
-    c.peak_at-digest.result.1 (map g.H.Digest.Write.encoding c.args.digests.now) c.peak_at-digest.ensures.cut
+    c.peak_at-digest.result.1 (node_at g.F.Family.merge_rule c.args.tree.now) c.peak_at-digest.ensures.cut
     c.if-next-leaves.false))

@@ -1,9 +1,9 @@
-use Rattle.std.proofs.Common.{◌≡◌, ◌<◌, ◌-◌, ◌∷◌, [], length, map, take, drop, sym, ◌∙◌, ap}
+use Rattle.std.proofs.Common.{◌≡◌, ◌<◌, ◌-◌, ◌∷◌, [], length, take, drop, sym, ◌∙◌, ap}
 use Rattle.merkle_forest.specs.Forest.{forest_of}
 use Rattle.merkle_forest.specs.declared.bagging.Bagging.TheVariants.{BackwardFold}
 use Rattle.merkle_forest.specs.Hashing.{fold_string, folded_onto, folded_backward, items, bagged}
 use Rattle.merkle_forest.specs.Laws.Peaks.{cut-zero}
-use Rattle.merkle_core_parts.specs.Mem.{digests_from}
+use Rattle.merkle_core_parts.specs.Mem.{digests_from, node_at}
 use Rattle.merkle_core_parts.specs.Laws.Peaks.{digests-end, digests-some, back-step, bagged-backward}
 use Rattle.merkle_core_parts.proofs.peaks.bag_backward.Goals as goal
 
@@ -14,7 +14,7 @@ pub returns-then-next-leaves : goal.returns-then-next-leaves
 returns-then-next-leaves g c =
     let hash = g.H.Hasher.hash_of in
     let own = g.H.Digest.Write.encoding c.peak_at-first.result.0 in
-    let digests = map g.H.Digest.Write.encoding c.args.digests.now in
+    let digests = node_at g.F.Family.merge_rule c.args.tree.now in
     let next = digests_from g.F.Family.merge_rule c.args.leaves digests c.peak_at-first.result.1 in
     let none : drop (c.args.inactive - 1) next ≡ [] =
     ap (λ n. drop n next) (sym c.saturating_sub-more.ensures)
@@ -31,7 +31,7 @@ pub returns : goal.returns
 returns g c =
     let hash = g.H.Hasher.hash_of in
     let own = g.H.Digest.Write.encoding c.peak_at-first.result.0 in
-    let digests = map g.H.Digest.Write.encoding c.args.digests.now in
+    let digests = node_at g.F.Family.merge_rule c.args.tree.now in
     let next = digests_from g.F.Family.merge_rule c.args.leaves digests c.peak_at-first.result.1 in
     let front = folded_onto hash own (take (c.args.inactive - 1) next) in
     let last = digests_from g.F.Family.merge_rule c.args.leaves digests c.fold_onto_peaks-folded.result.1 in

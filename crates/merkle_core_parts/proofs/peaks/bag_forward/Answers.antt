@@ -1,10 +1,10 @@
-use Rattle.std.proofs.Common.{◌-◌, length, map, sym, ◌∙◌, ap, arith}
+use Rattle.std.proofs.Common.{◌-◌, length, sym, ◌∙◌, ap, arith}
 use Rattle.std.proofs.lemmas.List.{take_all}
 use Rattle.merkle_forest.specs.Forest.{forest_of}
 use Rattle.merkle_forest.specs.declared.bagging.Bagging.TheVariants.{ForwardFold}
 use Rattle.merkle_forest.specs.Hashing.{folded_onto, items, bagged}
 use Rattle.merkle_forest.specs.Laws.Peaks.{cut-zero}
-use Rattle.merkle_core_parts.specs.Mem.{digests_from}
+use Rattle.merkle_core_parts.specs.Mem.{digests_from, node_at}
 use Rattle.merkle_core_parts.specs.Laws.Peaks.{bagged-forward}
 use Rattle.merkle_core_parts.proofs.peaks.bag_forward.Goals as goal
 
@@ -15,10 +15,10 @@ pub returns : goal.returns
 returns g c inactive =
     let hash = g.H.Hasher.hash_of in
     let own = g.H.Digest.Write.encoding c.peak_at-first.result.0 in
-    let next = digests_from g.F.Family.merge_rule c.args.leaves (map g.H.Digest.Write.encoding c.args.digests.now)
+    let next = digests_from g.F.Family.merge_rule c.args.leaves (node_at g.F.Family.merge_rule c.args.tree.now)
     c.peak_at-first.result.1 in
     let all = ap length c.peak_at-first.ensures.digest in
     c.fold_onto_peaks-folded.ensures.folded
-    ∙ ap (folded_onto hash own) (take_all (c.args.count - 1) next (omega (arith, c.requires.counted, all)))
+    ∙ ap (folded_onto hash own) (take_all (c.args.count - 1) next (omega (arith, c.requires.all, all)))
     ∙ sym (ap (λ digests. bagged hash ForwardFold (items hash inactive digests)) c.peak_at-first.ensures.digest
     ∙ bagged-forward hash inactive own next)

@@ -24,10 +24,10 @@ overflow_add-place g t c =
 pub returns-in-Some-clause-rebuilt : goal.returns-in-Some-clause-rebuilt
 returns-in-Some-clause-rebuilt g t c boundary before after tree setting pending right stands at =
     let encoding = g.H.Digest.Write.encoding in
-    let found : node_at c.args.base.now c.args.place.position ≡ Some (encoding c.in-Some.digest) =
-    ap (node_at c.args.base.now) (sym c.new.ensures) ∙ sym c.in-Some.ensures in
+    let found : node_at g.F.Family.merge_rule c.args.base.now c.args.place.position ≡ Some (encoding c.in-Some.digest) =
+    ap (node_at g.F.Family.merge_rule c.args.base.now) (sym c.new.ensures) ∙ sym c.in-Some.ensures in
     case-untouched g.F.Family.merge_rule g.met.F.Family.merges_equals (g.H.Hasher.node_of c.args.hasher.now)
-    c.args.leaves boundary (node_at c.args.base.now) before after setting c.args.place.first c.args.place.position
+    c.args.leaves boundary (node_at g.F.Family.merge_rule c.args.base.now) before after setting c.args.place.first c.args.place.position
     c.args.place.height tree (encoded encoding c.args.changed.now.items)
     (drop c.args.next (encoded encoding c.args.updates.now)) (encoding c.in-Some.digest) c.requires.place stands at
     pending
@@ -132,7 +132,7 @@ returns-clause-rebuilt g t c boundary before after tree setting pending right st
     (encoded-push encoding c.rebuild-2.new.changed.items c.push-2.new.self.items c.args.place.position
     c.digest_of_branch-digest.result c.in_ok-push-2.ensures.items)
     (case-branch g.F.Family.merge_rule g.met.F.Family.merges_equals (g.H.Hasher.node_of c.args.hasher.now)
-    c.args.leaves boundary (node_at c.args.base.now) before after setting first c.args.place.position
+    c.args.leaves boundary (node_at g.F.Family.merge_rule c.args.base.now) before after setting first c.args.place.position
     c.args.place.height c.child_positions-at_left.result.0 c.child_positions-at_left.result.1
     (first + c.leaf_span-2.result) tree (encoded encoding c.args.changed.now.items)
     (encoded encoding c.rebuild.new.changed.items) (encoded encoding c.rebuild-2.new.changed.items) us middle rest

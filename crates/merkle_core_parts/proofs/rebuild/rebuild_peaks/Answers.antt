@@ -5,7 +5,7 @@ use Rattle.merkle_forest.specs.Peaks.{is_cut}
 use Rattle.merkle_forest.specs.Laws.Nodes.{peak-node}
 use Rattle.merkle_forest.specs.Laws.Peaks.{cut-zero}
 use Rattle.merkle_core_parts.specs.Mem.{encoded}
-use Rattle.merkle_core_parts.specs.Laws.Made.{digest_at}
+use Rattle.merkle_core_parts.specs.Mem.{digest_at}
 use Rattle.merkle_core_parts.specs.Laws.Peaks.{begins}
 use Rattle.merkle_core_parts.specs.Laws.PlaceCases.{encoded-push}
 use Rattle.merkle_core_parts.specs.Laws.PeakSteps.{peak-step, found-step, peak-before}

@@ -4,7 +4,7 @@ use Rattle.merkle_forest.specs.Forest.{Tree, position, forest_of}
 use Rattle.merkle_forest.specs.Nodes.{IsPeakAt}
 use Rattle.merkle_forest.specs.Peaks.{is_cut}
 use Rattle.merkle_core_parts.specs.Mem.{encoded, node_at}
-use Rattle.merkle_core_parts.specs.Laws.Made.{digest_at}
+use Rattle.merkle_core_parts.specs.Mem.{digest_at}
 use Rattle.merkle_core_parts.specs.Laws.Rebuilt.{Digests, IsSetting, ArePending, IsRight}
 use Rattle.merkle_core_parts.specs.Laws.Updated.{IsProgress}
 use Rattle.merkle_core_parts.proofs.rebuild.rebuild_peaks.Given as goal
@@ -16,7 +16,7 @@ invariant-loop-first g l = record {
   found : (f : ℕ) (t : Tree) → IsPeakAt f t (forest_of g.F.Family.merge_rule l.leaves) → f < l.first
       → IsSome (digest_at (encoded g.H.Digest.Write.encoding l.peaks.items) (position t));
   made : (boundary : ℕ) (before after : Digests)
-      → IsSetting g.F.Family.merge_rule (g.H.Hasher.node_of l.hasher) l.leaves boundary (node_at l.base) before after
+      → IsSetting g.F.Family.merge_rule (g.H.Hasher.node_of l.hasher) l.leaves boundary (node_at g.F.Family.merge_rule l.base) before after
       → ArePending g.F.Family.merge_rule l.leaves boundary before after 0 (encoded g.H.Digest.Write.encoding l.updates)
       → IsRight g.F.Family.merge_rule l.leaves after (encoded g.H.Digest.Write.encoding l.fn.changed.items)
       → IsProgress g.F.Family.merge_rule l.leaves boundary before after l.first

@@ -3,8 +3,9 @@ use Rattle.std.proofs.lemmas.List.{length-map}
 use Rattle.std.specs.Prelude.{slice_get, option_map}
 use Rattle.merkle_forest.specs.Forest.{leaf}
 use Rattle.merkle_core_parts.specs.Mem.{Nodes, Additions, Growth, encoded, node_count, tree_digest, AreNodesOf, with_leaves, with_batch}
-use Rattle.merkle_core_parts.specs.Laws.Made.{AreMade, HavePeaks, known_over}
-use Rattle.merkle_core_parts.specs.Laws.Replaced.{value_after, AreFrom}
+use Rattle.merkle_core_parts.specs.Mem.{known_over, value_after}
+use Rattle.merkle_core_parts.specs.Laws.Made.{AreMade, HavePeaks}
+use Rattle.merkle_core_parts.specs.Laws.Replaced.{AreFrom}
 use Rattle.merkle_core_parts.specs.Laws.Rebuilt.{Digests, IsRight}
 use Rattle.merkle_core_parts.specs.Laws.Updated.{AreRebuilt}
 use Rattle.merkle_core_parts.specs.Laws.Merkleized.{setting-of, pending-of, right-none, new-leaf, base-made, whole}
@@ -88,5 +89,5 @@ returns-clause-of_list g c list same are =
     let leaves : growth.leaves ≡ n + length batch.added =
     c.as_u64-leaves.ensures ∙ c.leaves.ensures.leaves
     ∙ ap (λ (b : Additions). b.base.leaves + length b.added) (sym is_batch) in
-    subst (λ b. AreNodesOf node rule (with_leaves list b) (with_batch base growth)) is_batch
+    subst (λ b. AreNodesOf node rule (with_leaves list b) (with_batch rule base growth)) is_batch
     (whole rule pairs node list batch base growth n base_size peaks is sized are rebuilt made counted leaves)

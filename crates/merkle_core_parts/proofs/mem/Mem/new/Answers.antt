@@ -1,6 +1,21 @@
-use Rattle.std.proofs.Common.{length, sym, ◌∙◌, ap, arith}
-use Rattle.merkle_core_parts.specs.Laws.Mem.{nodes-none}
+use Rattle.std.proofs.Common.{[], map, sym, ap, subst, arith}
+use Rattle.merkle_core_parts.specs.Mem.{AreKeptNodes, encoded}
+use Rattle.merkle_core_parts.specs.Laws.Mem.{nodes-none, kept-empty}
 use Rattle.merkle_core_parts.proofs.mem.Mem.new.Goals as goal
 
 pub invariant_of-result : goal.invariant_of-result
-invariant_of-result g c = (omega arith, ap length c.new.ensures.items ∙ sym (nodes-none g.F.Family.merge_rule))
+invariant_of-result g c =
+    let encoding = g.D.Write.encoding in
+    let rule = g.F.Family.merge_rule in (
+      omega arith,
+      sym (nodes-none rule),
+      subst (λ ps. AreKeptNodes rule (record {
+        leaves = 0;
+        boundary = 0;
+        pinned = ps;
+        digests = map encoding c.new-2.result.items;
+      }))
+          (ap (encoded encoding) (sym c.new.ensures.items))
+          (subst (λ ds. AreKeptNodes rule (record { leaves = 0; boundary = 0; pinned = []; digests = ds }))
+          (ap (map encoding) (sym c.new-2.ensures.items)) (kept-empty rule)),
+    )
