@@ -56,3 +56,9 @@ abbrev pub IsRefusalOnto : {F : Type 0} → Base → Base → Error F → Type 0
 IsRefusalOnto base tree StaleBatch = base ≡ tree → ⊥
 IsRefusalOnto base tree Memory = Unit {0}
 IsRefusalOnto base tree other = ⊥
+
+-- why a tree of so many leaves may not be pruned before a location: out of memory, or it is past the leaves
+abbrev pub IsRefusalToPrune : {F : Type 0} → ℕ → ℕ → Error F → Type 0
+IsRefusalToPrune leaves asked (LeafOutOfBounds location) = (location ≡ asked) × (leaves < asked)
+IsRefusalToPrune leaves asked Memory = Unit {0}
+IsRefusalToPrune leaves asked other = ⊥

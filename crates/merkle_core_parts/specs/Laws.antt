@@ -14,6 +14,7 @@ pub mod Peaks
 pub mod PlaceCases
 pub mod Places
 pub mod Plain
+pub mod Pruned
 pub mod Rebuilt
 pub mod Replaced
 pub mod Sorted

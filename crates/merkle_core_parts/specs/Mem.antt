@@ -165,12 +165,21 @@ with_batch rule nodes batch = record {
   digests = replaced_from (node_count rule nodes.boundary) (nodes.digests ++ batch.digests) batch.changed;
 }
 
--- a tree pruned before a location, if it was not already pruned up to there
+-- the digests that stay pinned where a tree is pruned before a location, each at its position, from left to right
+abbrev pub pinned_digests : Rule → Nodes → ℕ → List Replacement
+pinned_digests rule nodes location =
+    map (λ peak. (peak.0, unwrap_or (node_at rule nodes peak.0) [])) (peak_positions (forest_of rule location))
+
+-- a tree without the nodes before a location, but for the pinned ones
+abbrev pub cut_before : Rule → Nodes → ℕ → Nodes
+cut_before rule nodes location = record {
+  leaves = nodes.leaves;
+  boundary = location;
+  pinned = pinned_digests rule nodes location;
+  digests = drop (node_count rule location - node_count rule nodes.boundary) nodes.digests;
+}
+
+-- a tree pruned before a location; where it is pruned up to there already, it stays
 abbrev pub pruned_before : Rule → Nodes → ℕ → Nodes
 pruned_before rule nodes location =
-    if nat_le location nodes.boundary then nodes else record {
-      leaves = nodes.leaves;
-      boundary = location;
-      pinned = map (λ p. (p, unwrap_or (node_at rule nodes p) [])) (pinned_positions rule location);
-      digests = drop (node_count rule location - node_count rule nodes.boundary) nodes.digests;
-    }
+    if nat_le location nodes.boundary then nodes else cut_before rule nodes location

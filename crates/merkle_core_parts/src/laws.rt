@@ -5,6 +5,7 @@ ghost use Rattle.merkle_forest.specs.declared.bagging.Bagging.{Bagging};
 ghost use Rattle.merkle_forest.specs.Hashing.{Hash};
 ghost use Rattle.merkle_forest.specs.Trees.{tree_root};
 ghost use Rattle.merkle_core_parts.specs.Mem.{Nodes, Additions, Growth, NodeHash, AreNodesOf, with_leaves, with_batch};
+ghost use Rattle.merkle_core_parts.specs.Mem.{AreKeptNodes, pruned_before};
 ghost use Rattle.merkle_core_parts.specs.Mem.{plain_leaf_digests, plain_node, list_root};
 
 use merkle_forest::Family;
@@ -38,4 +39,13 @@ pub fn an_update_replaces_one_leaf<F: Family>()
 pub fn no_leaves_have_no_nodes<F: Family>()
     ensures { (node : NodeHash) → AreNodesOf node F.merge_rule []
         (record { leaves = 0; boundary = 0; pinned = []; digests = [] }) }
+{}
+
+/// A tree that is pruned before a batch is applied to it is the one that is pruned after it. That it accepts the same
+/// batches is a clause of `Mem::prune`, that its base stays.
+pub fn pruning_and_applying_commute<F: Family>()
+    ensures { (nodes : Nodes) (batch : Growth) (location : ℕ)
+        → AreKeptNodes F.merge_rule nodes → location ≤ nodes.leaves
+        → with_batch F.merge_rule (pruned_before F.merge_rule nodes location) batch
+        ≡ pruned_before F.merge_rule (with_batch F.merge_rule nodes batch) location }
 {}

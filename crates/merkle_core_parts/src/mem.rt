@@ -1,18 +1,18 @@
 //! The tree that is kept in memory.
 
 ghost use Rattle.std.specs.Prelude.{◌≡◌, ◌<◌, ◌≤◌, ◌+◌, ◌↔◌, ◌^◌, [], ℕ, List, Some, map, length, option_map};
-ghost use Rattle.std.specs.Prelude.{IsTrue, IsOk, IfOk, IfErr, OnOk, OnErr};
+ghost use Rattle.std.specs.Prelude.{IsTrue, IsSome, IsOk, IfOk, IfErr, OnOk, OnErr};
 ghost use Rattle.merkle_forest.specs.Forest.{size, forest_of};
 ghost use Rattle.merkle_forest.specs.Hashing.{root_of};
 ghost use Rattle.merkle_forest.specs.Peaks.{peak_positions};
-ghost use Rattle.merkle_core_parts.specs.Errors.{IsRefusalOnto};
+ghost use Rattle.merkle_core_parts.specs.Errors.{IsRefusalOnto, IsRefusalToPrune};
 ghost use Rattle.merkle_core_parts.specs.Mem.{node_count, node_at, peak_digests, AreNodesOf, list_root};
-ghost use Rattle.merkle_core_parts.specs.Mem.{base_of, with_batch, IsPeakPosition};
+ghost use Rattle.merkle_core_parts.specs.Mem.{base_of, with_batch, pruned_before, IsKept, IsPeakPosition, NodeHash};
 
 use crate::batch::{MerkleizedBatch, UnmerkleizedBatch};
 use crate::error::Error;
 use crate::growth::known_digest;
-use crate::peaks::{have_all_peaks, peaks_of, root_of_tree};
+use crate::peaks::{have_all_peaks, peaks_of, pinned_of, root_of_tree};
 use crate::rebuild::{put_all, put_pinned};
 use merkle_forest::hasher::Hasher;
 use merkle_forest::peaks::Peaks;
@@ -173,6 +173,55 @@ impl<F: Family, D: Digest> Mem<F, D> {
             digests,
             family: PhantomData,
         })
+    }
+
+    /// Prunes the leaves before a location: of the nodes that they have only those stay that later roots and branches are
+    /// made from. Where leaves are pruned up to there already nothing changes. Past the leaves: M7 with the location; out
+    /// of memory: M23. The tree then stays as it was.
+    /// In the Rust: `merkle::mem::Mem::prune`.
+    pub fn prune(&mut self, location: Location<F>) -> Result<(), Error<F>>
+        ensures pruned { OnOk result (self.new ≡ pruned_before F.merge_rule self.old location) }
+        ensures within { OnOk result (location ≤ self.old.leaves) }
+        ensures base { base_of F.merge_rule self.new ≡ base_of F.merge_rule self.old }
+        ensures kept { (p : ℕ) → IsKept F.merge_rule self.new.boundary p
+            → node_at F.merge_rule self.new p ≡ node_at F.merge_rule self.old p }
+        ensures dropped { (p : ℕ) → IsSome (node_at F.merge_rule self.new p) → IsKept F.merge_rule self.new.boundary p }
+        ensures of_list { (node : NodeHash) (leaf_digests : List (List ℕ))
+            → AreNodesOf node F.merge_rule leaf_digests self.old
+            → AreNodesOf node F.merge_rule leaf_digests self.new }
+        ensures refused { IfErr result (λ e. IsRefusalToPrune self.old.leaves location e) }
+        ensures unchanged { OnErr result (self.new ≡ self.old) }
+    {
+        let boundary = location.as_u64();
+        if boundary > self.leaves {
+            return Err(Error::LeafOutOfBounds(location));
+        }
+        if boundary <= self.boundary {
+            return Ok(());
+        }
+        let start = F::location_to_position(location).as_u64();
+        let pinned = pinned_of::<F, D>(self.alloc, boundary, self)?;
+        let dropped = (start - self.start) as usize;
+        let digests = Vec::from_slice(self.alloc, &self.digests[dropped..])?;
+        self.boundary = boundary;
+        self.start = start;
+        self.pinned = pinned;
+        self.digests = digests;
+        Ok(())
+    }
+
+    /// Prunes all leaves. It fails only when out of memory: M23. The tree then stays as it was.
+    /// In the Rust: `merkle::mem::Mem::prune_all`, which refuses nothing.
+    pub fn prune_all(&mut self) -> Result<(), Error<F>>
+        ensures pruned { OnOk result (self.new ≡ pruned_before F.merge_rule self.old self.old.leaves) }
+        ensures base { base_of F.merge_rule self.new ≡ base_of F.merge_rule self.old }
+        ensures of_list { (node : NodeHash) (leaf_digests : List (List ℕ))
+            → AreNodesOf node F.merge_rule leaf_digests self.old
+            → AreNodesOf node F.merge_rule leaf_digests self.new }
+        ensures refused { IfErr result (λ e. e ≡ Error.Memory) }
+        ensures unchanged { OnErr result (self.new ≡ self.old) }
+    {
+        self.prune(self.leaves())
     }
 
     /// A batch that adds nothing to the tree yet. It fails only when out of memory: M23.

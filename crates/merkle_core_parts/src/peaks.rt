@@ -6,7 +6,7 @@ ghost use Rattle.merkle_forest.specs.Forest.{forest_of};
 ghost use Rattle.merkle_forest.specs.declared.bagging.Bagging.TheVariants.{ForwardFold, BackwardFold};
 ghost use Rattle.merkle_forest.specs.Hashing.{folded_onto, folded_backward, items, bagged, root_of};
 ghost use Rattle.merkle_forest.specs.Peaks.{is_cut};
-ghost use Rattle.merkle_core_parts.specs.Mem.{digests_from, node_at};
+ghost use Rattle.merkle_core_parts.specs.Mem.{digests_from, node_at, encoded, pinned_digests};
 
 use crate::error::Error;
 use crate::mem::Mem;
@@ -241,6 +241,27 @@ pub(crate) fn peaks_of<F: Family, D: Digest>(
 {
     let mut found = Vec::new(alloc);
     append_peaks::<F, D>(&mut found, leaves, tree, 0)?;
+    Ok(found)
+}
+
+// The positions and the digests of the peaks, from left to right.
+pub(crate) fn pinned_of<F: Family, D: Digest>(
+    alloc: Global,
+    leaves: u64,
+    tree: &Mem<F, D>,
+) -> Result<Vec<(u64, D)>, AllocError>
+    requires few { leaves ≤ MAX_LEAVES }
+    requires kept { tree.now.boundary ≤ leaves }
+    requires counted { leaves ≤ tree.now.leaves }
+    ensures { IfOk result (λ found. encoded D.encoding found.items ≡ pinned_digests F.merge_rule tree.now leaves) }
+{
+    let mut found = Vec::new(alloc);
+    let mut first = 0;
+    while first < leaves {
+        let (position, height) = F::peak_from(leaves, first);
+        found.push((position, tree.peak_digest(leaves, position)))?;
+        first += 1u64 << height;
+    }
     Ok(found)
 }
 

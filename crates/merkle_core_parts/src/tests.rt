@@ -1,4 +1,5 @@
 use super::*;
+use crate::batch::MerkleizedBatch;
 use merkle_forest::codec::FixedBytes;
 use merkle_forest::hasher::{Hasher, Standard};
 use merkle_forest::{
@@ -329,6 +330,134 @@ fn refused<F: Family>(alloc: Global) -> Result<(), Error<F>> {
 fn a_batch_over_another_tree_is_refused(rt: HostRuntime) {
     assert_eq!(rt; refused::<mmr::Family>(rt.alloc()), Err(Error::StaleBatch));
     assert_eq!(rt; refused::<mmb::Family>(rt.alloc()), Err(Error::StaleBatch));
+}
+
+// The tree of the elements 1 to 11, pruned before the sixth leaf.
+fn pruned<F: Family>(alloc: Global, hasher: &Standard<ByteHash>) -> Result<Mem<F, Hash>, Error<F>> {
+    let mut tree = eleven::<F>(alloc, hasher)?;
+    tree.prune(Location::new(5))?;
+    Ok(tree)
+}
+
+// A batch over such a tree, which changes its seventh leaf to 23 and adds 25.
+fn change<F: Family>(
+    tree: &Mem<F, Hash>,
+    hasher: &Standard<ByteHash>,
+) -> Result<MerkleizedBatch<F, Hash>, Error<F>> {
+    tree.new_batch()?
+        .update_leaf(hasher, Location::new(6), &[23])?
+        .add(hasher, &[25])?
+        .merkleize(tree, hasher)
+}
+
+// What is read of the pruned tree with that batch.
+fn changed_after_pruning<F: Family>(alloc: Global, bagging: Bagging) -> Result<Read, Error<F>> {
+    let hasher: Standard<ByteHash> = Standard::new(bagging);
+    let mut tree = pruned::<F>(alloc, &hasher)?;
+    let batch = change(&tree, &hasher)?;
+    tree.apply_batch(&batch)?;
+    let plain = tree.root(&hasher, 0)?;
+    let folded = tree.root(&hasher, 1)?;
+    Ok((plain, folded, tree.size().as_u64()))
+}
+
+// And where the tree is pruned, up to its last leaf, between the batch and its applying.
+fn pruned_before_applying<F: Family>(alloc: Global, bagging: Bagging) -> Result<Read, Error<F>> {
+    let hasher: Standard<ByteHash> = Standard::new(bagging);
+    let mut tree = eleven::<F>(alloc, &hasher)?;
+    let batch = change(&tree, &hasher)?;
+    tree.prune_all()?;
+    tree.apply_batch(&batch)?;
+    let plain = tree.root(&hasher, 0)?;
+    let folded = tree.root(&hasher, 1)?;
+    Ok((plain, folded, tree.size().as_u64()))
+}
+
+#[test]
+fn a_pruned_tree_has_the_roots_of_all_leaves(rt: HostRuntime) {
+    let range_plain = FixedBytes::new([
+        0x33, 0x33, 0x8e, 0xa8, 0x4c, 0x53, 0xe2, 0xe2, 0xf4, 0x8c, 0x83, 0x33, 0xae, 0xeb, 0x60,
+        0x83, 0x9f, 0x1d, 0x3b, 0x31, 0xe5, 0x42, 0x09, 0xaa, 0xc5, 0xc8, 0x86, 0x19, 0x27, 0xf6,
+        0xe9, 0xb3,
+    ]);
+    let range_folded = FixedBytes::new([
+        0xa5, 0x24, 0xd6, 0xe3, 0xc1, 0x52, 0x2d, 0x76, 0x96, 0xdd, 0xbf, 0x20, 0x30, 0x75, 0x0d,
+        0x61, 0x9a, 0x0e, 0x4d, 0x9f, 0xb6, 0x89, 0x0e, 0x10, 0x4e, 0x03, 0x25, 0xf2, 0xfb, 0x54,
+        0x42, 0xc0,
+    ]);
+    let belt_plain = FixedBytes::new([
+        0x78, 0xd4, 0xff, 0x98, 0xa5, 0x54, 0xcd, 0xc8, 0x92, 0xfa, 0xc5, 0x5e, 0xf5, 0x52, 0xf4,
+        0x12, 0xe2, 0xb9, 0x69, 0x86, 0x57, 0xe5, 0x09, 0x52, 0xa1, 0x2e, 0x1e, 0x1d, 0x8b, 0x6c,
+        0xe1, 0xda,
+    ]);
+    let belt_folded = FixedBytes::new([
+        0x59, 0x8c, 0x92, 0x30, 0xe4, 0xaa, 0x36, 0x1f, 0x7f, 0xb4, 0x48, 0x46, 0x90, 0x70, 0xc2,
+        0xc7, 0x17, 0x54, 0x39, 0xaf, 0xce, 0xa3, 0x3c, 0xe1, 0x96, 0xeb, 0x2c, 0xbf, 0x90, 0xc6,
+        0x87, 0x17,
+    ]);
+    assert_eq!(rt;
+        changed_after_pruning::<mmr::Family>(rt.alloc(), Bagging::BackwardFold),
+        Ok((range_plain, range_folded, 22))
+    );
+    assert_eq!(rt;
+        pruned_before_applying::<mmr::Family>(rt.alloc(), Bagging::BackwardFold),
+        Ok((range_plain, range_folded, 22))
+    );
+    assert_eq!(rt;
+        changed_after_pruning::<mmb::Family>(rt.alloc(), Bagging::ForwardFold),
+        Ok((belt_plain, belt_folded, 21))
+    );
+    assert_eq!(rt;
+        pruned_before_applying::<mmb::Family>(rt.alloc(), Bagging::ForwardFold),
+        Ok((belt_plain, belt_folded, 21))
+    );
+}
+
+#[test]
+fn pinned_nodes_stay_and_others_are_dropped(rt: HostRuntime) {
+    let hasher: Standard<ByteHash> = Standard::new(Bagging::ForwardFold);
+    let range = pruned::<mmr::Family>(rt.alloc(), &hasher).expect(&rt, "memory");
+    let belt = pruned::<mmb::Family>(rt.alloc(), &hasher).expect(&rt, "memory");
+    let six = FixedBytes::new([
+        0x76, 0x0d, 0xe5, 0xf6, 0x3f, 0xaa, 0x89, 0xb2, 0x66, 0xb4, 0x90, 0xd3, 0x4d, 0xcf, 0x1e,
+        0x04, 0x3f, 0xba, 0xc0, 0x01, 0xeb, 0x18, 0x43, 0xfb, 0x07, 0x2a, 0x8d, 0x12, 0x51, 0x2f,
+        0x87, 0xcd,
+    ]);
+    let seven = FixedBytes::new([
+        0xa3, 0x89, 0x65, 0xe4, 0xdc, 0x02, 0x81, 0x90, 0x5d, 0x3c, 0x23, 0x89, 0x91, 0xde, 0x81,
+        0x8b, 0x88, 0xd8, 0x1b, 0xc7, 0x63, 0x41, 0x15, 0xd8, 0x9b, 0x1f, 0x71, 0xda, 0xb9, 0x19,
+        0xd7, 0x07,
+    ]);
+    let nine = FixedBytes::new([
+        0x42, 0x22, 0x76, 0xa3, 0x97, 0xb7, 0x72, 0x5c, 0x82, 0x89, 0xf9, 0xec, 0xdd, 0xcf, 0x19,
+        0xd3, 0xcf, 0xb5, 0x0e, 0x32, 0x9e, 0x9c, 0x4a, 0x2d, 0x5d, 0xae, 0x8a, 0x34, 0xdb, 0x2e,
+        0x69, 0x55,
+    ]);
+    assert_eq!(rt; range.get_node(Position::new(6)), Some(six));
+    assert_eq!(rt; range.get_node(Position::new(9)), Some(nine));
+    assert_eq!(rt; range.get_node(Position::new(3)), None);
+    assert_eq!(rt; belt.get_node(Position::new(7)), Some(seven));
+    assert_eq!(rt; belt.get_node(Position::new(5)), None);
+    assert_eq!(rt; range.bounds(), Location::new(5)..Location::new(11));
+    assert_eq!(rt; belt.pruning_boundary(), Location::new(5));
+    assert_eq!(rt; range.size().as_u64(), 19);
+    let copy = belt.try_copy().expect(&rt, "memory");
+    assert_eq!(rt; copy.root(&hasher, 1), belt.root(&hasher, 1));
+    assert_eq!(rt; copy.pruning_boundary(), Location::new(5));
+}
+
+#[test]
+fn a_tree_is_pruned_forward_and_within_its_leaves(rt: HostRuntime) {
+    let hasher: Standard<ByteHash> = Standard::new(Bagging::ForwardFold);
+    let mut tree = pruned::<mmb::Family>(rt.alloc(), &hasher).expect(&rt, "memory");
+    assert_eq!(rt;
+        tree.prune(Location::new(12)),
+        Err(Error::LeafOutOfBounds(Location::new(12)))
+    );
+    assert_eq!(rt; tree.prune(Location::new(2)), Ok(()));
+    assert_eq!(rt; tree.pruning_boundary(), Location::new(5));
+    assert_eq!(rt; tree.prune_all(), Ok(()));
+    assert_eq!(rt; tree.bounds(), Location::new(11)..Location::new(11));
 }
 
 #[test]

@@ -1,5 +1,5 @@
 -- The nodes of a list's tree.
-use Rattle.std.proofs.Common.{◌≡◌, ◌≤◌, ℕ, zero, suc, inl, inr, List, [], ◌∷◌, ◌++◌, length, map, Option, Some, refl, ◌∙◌, ap, ap₂, subst, arith}
+use Rattle.std.proofs.Common.{◌≡◌, ◌≤◌, ℕ, zero, suc, inl, inr, List, [], ◌∷◌, ◌++◌, length, map, Option, Some, refl, sym, ◌∙◌, ap, ap₂, subst, arith}
 use Rattle.std.proofs.lemmas.List.{map-append}
 use Rattle.std.specs.Prelude.{slice_get, slice_index_or, unwrap_or}
 use Rattle.merkle_forest.specs.declared.bagging.Bagging.{Bagging}
@@ -7,7 +7,7 @@ use Rattle.merkle_forest.specs.Forest.{Tree, position, leaves, Rule, forest_of}
 use Rattle.merkle_forest.specs.Hashing.{Hash, root_of}
 use Rattle.merkle_forest.specs.Nodes.{IsPeakAt}
 use Rattle.merkle_forest.specs.Peaks.{position_and_height}
-use Rattle.merkle_forest.specs.Trees.{located, peak_digests as forest_digests}
+use Rattle.merkle_forest.specs.Trees.{Located, located, peak_digests as forest_digests}
 use Rattle.merkle_forest.specs.Perfect.{IsPairing}
 use Rattle.merkle_forest.specs.Laws.Nodes.{peak-node}
 use Rattle.merkle_forest.specs.Laws.Peaks.{located_from-zero}
@@ -26,9 +26,13 @@ at_peaks : (digests : ℕ → Option (List ℕ)) (digest : ℕ → Tree → List
     → map (λ peak. unwrap_or (digests peak.0) []) (map position_and_height (located peaks)) ≡ forest_digests digest peaks
 at_peaks digests digest [] each = refl
 at_peaks digests digest (t ∷ ts) each =
-    rw (map-append, map-append, map-append)
-    (ap₂ (λ front own. front ++ own ∷ []) (at_peaks digests digest ts (λ first tree stands. each first tree (inr stands)))
-    (ap (λ o. unwrap_or o []) (each (leaves ts) t (inl (refl, refl)))))
+    let last = (leaves ts, t) ∷ [] in
+    let own : ℕ × ℕ → List ℕ = λ peak. unwrap_or (digests peak.0) [] in
+    ap (map own) (map-append position_and_height (located ts) last)
+    ∙ map-append own (map position_and_height (located ts)) (position_and_height (leaves ts, t) ∷ [])
+    ∙ ap₂ (λ front d. front ++ d ∷ []) (at_peaks digests digest ts (λ first tree stands. each first tree (inr stands)))
+    (ap (λ o. unwrap_or o []) (each (leaves ts) t (inl (refl, refl))))
+    ∙ sym (map-append (λ (peak : Located). digest peak.0 peak.1) (located ts) last)
 
 pub peaks-of : (rule : Rule) → IsPairing rule → (node : NodeHash) (leaf_digests : List (List ℕ)) (nodes : Nodes)
     → AreNodesOf node rule leaf_digests nodes
