@@ -1,15 +1,20 @@
 -- The printed texts of the errors, and which calls refuse what.
-use Rattle.std.specs.Prelude.{◌≡◌, ℕ, List, ◌+◌, ◌++◌, ◌<◌, ◌≤◌, ◌^◌, codes, nat_le, find, Option, option_map, Some, None}
+use Rattle.std.specs.Prelude.{◌≡◌, ℕ, List, ◌+◌, ◌++◌, ◌<◌, ◌≤◌, ◌^◌, codes, nat_le, nat_lt, ◌||◌, find, Option, option_map, Some, None}
 use Rattle.std.specs.Fmt.{decimal}
-use Rattle.merkle_core_parts.specs.Mem.{Base, Replacement}
+use Rattle.merkle_forest.specs.Forest.{Rule}
+use Rattle.merkle_core_parts.specs.Mem.{Base, Replacement, node_count}
 use Rattle.merkle_core_parts.specs.declared.error.Error.{Error}
-use Rattle.merkle_core_parts.specs.declared.error.Error.TheVariants.{LocationOverflow, LeafOutOfBounds, StaleBatch}
+use Rattle.merkle_core_parts.specs.declared.error.Error.TheVariants.{LocationOverflow, InvalidSize, LeafOutOfBounds}
+use Rattle.merkle_core_parts.specs.declared.error.Error.TheVariants.{ElementPruned, InvalidPinnedNodes, StaleBatch}
 use Rattle.merkle_core_parts.specs.declared.error.Error.TheVariants.{InvalidInactivePeaks, MissingNode, Memory}
 
 -- an error's number and what it means
 abbrev pub error_text : {F : Type 0} → Error F → List ℕ
 error_text (LocationOverflow location) = codes "M3: location " ++ decimal location ++ codes " is past the limit"
+error_text InvalidSize = codes "M6: no tree has so many nodes"
 error_text (LeafOutOfBounds location) = codes "M7: no leaf at location " ++ decimal location
+error_text (ElementPruned position) = codes "M10: leaf " ++ decimal position ++ codes " is pruned"
+error_text InvalidPinnedNodes = codes "M12: too few or too many pinned nodes"
 error_text StaleBatch = codes "M13: the batch begins from another tree"
 error_text InvalidInactivePeaks = codes "M16: fewer peaks than inactive ones"
 error_text (MissingNode position) = codes "M20: node " ++ decimal position ++ codes " is missing"
@@ -34,22 +39,29 @@ IsRefusalOfMany leaves more (LocationOverflow location) = (location ≡ 2 ^ 62) 
 IsRefusalOfMany leaves more Memory = Unit {0}
 IsRefusalOfMany leaves more other = ⊥
 
--- why a leaf may not get another digest, where there are so many leaves: out of memory, or it is none of them
-abbrev pub IsRefusalAt : {F : Type 0} → ℕ → ℕ → Error F → Type 0
-IsRefusalAt leaves asked (LeafOutOfBounds location) = (location ≡ asked) × (leaves ≤ asked)
-IsRefusalAt leaves asked Memory = Unit {0}
-IsRefusalAt leaves asked other = ⊥
+-- why a leaf may not get another digest, where there are so many leaves and those before a location are pruned: out of
+-- memory, it is none of them, or it is pruned
+abbrev pub IsRefusalAt : {F : Type 0} → Rule → ℕ → ℕ → ℕ → Error F → Type 0
+IsRefusalAt rule boundary leaves asked (LeafOutOfBounds location) = (location ≡ asked) × (leaves ≤ asked)
+IsRefusalAt rule boundary leaves asked (ElementPruned position) =
+    (position ≡ node_count rule asked) × (asked < boundary) × (asked < leaves)
+IsRefusalAt rule boundary leaves asked Memory = Unit {0}
+IsRefusalAt rule boundary leaves asked other = ⊥
 
--- the first of these locations that is past so many leaves
-abbrev pub first_past : ℕ → List Replacement → Option ℕ
-first_past leaves updates = option_map (λ one. one.0) (find (λ one. nat_le leaves one.0) updates)
+-- the first of these locations that is pruned, or past so many leaves
+abbrev pub first_refused : ℕ → ℕ → List Replacement → Option ℕ
+first_refused boundary leaves updates =
+    option_map (λ one. one.0) (find (λ one. nat_lt one.0 boundary || nat_le leaves one.0) updates)
 
--- why leaves may not get these digests, where there are so many leaves: out of memory, or one is none of them, of which the
--- first is named
-abbrev pub IsRefusalOfUpdates : {F : Type 0} → ℕ → List Replacement → Error F → Type 0
-IsRefusalOfUpdates leaves updates (LeafOutOfBounds location) = first_past leaves updates ≡ Some location
-IsRefusalOfUpdates leaves updates Memory = Unit {0}
-IsRefusalOfUpdates leaves updates other = ⊥
+-- why leaves may not get these digests: out of memory, or one is pruned or none of the leaves, of which the first is named
+abbrev pub IsRefusalOfUpdates : {F : Type 0} → Rule → ℕ → ℕ → List Replacement → Error F → Type 0
+IsRefusalOfUpdates rule boundary leaves updates (LeafOutOfBounds location) =
+    (first_refused boundary leaves updates ≡ Some location) × (leaves ≤ location)
+IsRefusalOfUpdates rule boundary leaves updates (ElementPruned position) =
+    (location : ℕ) × (first_refused boundary leaves updates ≡ Some location) × (position ≡ node_count rule location)
+    × (location < leaves)
+IsRefusalOfUpdates rule boundary leaves updates Memory = Unit {0}
+IsRefusalOfUpdates rule boundary leaves updates other = ⊥
 
 -- why a batch over this base may not be applied to that tree: out of memory, or it is another base
 abbrev pub IsRefusalOnto : {F : Type 0} → Base → Base → Error F → Type 0

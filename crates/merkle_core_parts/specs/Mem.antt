@@ -137,10 +137,11 @@ replaced_at digests changes = map (λ one. (one.0, value_after changes one.0 one
 abbrev pub encoded : {D : Type 0} → (D → List ℕ) → List (ℕ × D) → List Replacement
 encoded encoding digests = map (λ one. (one.0, encoding one.1)) digests
 
--- a batch of leaves: the base, the digests of the leaves that are added to it, and then the leaves of either that get
--- another digest, one after the other, each at its location
+-- a batch of leaves: the base, the location before which it is pruned, the digests of the leaves that are added to it, and
+-- then the leaves of either that get another digest, one after the other, each at its location
 pub record Additions : Type 0 where
   pub base : Base
+  pub boundary : ℕ
   pub added : List (List ℕ)
   pub updates : List Replacement
 
@@ -148,10 +149,11 @@ pub record Additions : Type 0 where
 abbrev pub with_leaves : List (List ℕ) → Additions → List (List ℕ)
 with_leaves leaf_digests batch = replaced (leaf_digests ++ batch.added) batch.updates
 
--- a batch of nodes: the base, how many leaves there are then, the digests of the new nodes in order of position, and the
+-- a batch of nodes: the base, the location before which it is pruned, how many leaves there are then, the digests of the new nodes in order of position, and the
 -- nodes of the base that get another digest, each at its position
 pub record Growth : Type 0 where
   pub base : Base
+  pub boundary : ℕ
   pub leaves : ℕ
   pub digests : List (List ℕ)
   pub changed : List Replacement

@@ -2,9 +2,9 @@
 
 ghost use Rattle.std.specs.Prelude.{◌≡◌, ◌<◌, ◌≤◌, ◌+◌, ◌^◌, ◌++◌, ◌∷◌, [], ℕ, List, map, length};
 ghost use Rattle.std.specs.Prelude.{◌-◌, option_map, slice_get, IsNone, IfOk, IfErr};
-ghost use Rattle.std.specs.Prelude.{◌↔◌, IsOk, OnOk, None, find, nat_le};
+ghost use Rattle.std.specs.Prelude.{◌↔◌, IsOk, ◌||◌, OnOk, None, find, nat_le, nat_lt};
 ghost use Rattle.merkle_core_parts.specs.Errors.{IsRefusalOver, IsRefusalPast, IsRefusalOfMany, IsRefusalAt};
-ghost use Rattle.merkle_core_parts.specs.Errors.{first_past, IsRefusalOfUpdates};
+ghost use Rattle.merkle_core_parts.specs.Errors.{first_refused, IsRefusalOfUpdates};
 ghost use Rattle.merkle_core_parts.specs.Mem.{node_count, node_at, encoded, AreNodesOf, with_leaves, with_batch};
 
 use crate::error::Error;
@@ -18,14 +18,15 @@ use std::alloc::{AllocError, Global};
 use std::marker::{Model, PhantomData};
 
 /// Leaves that are to be added to a tree, its base, and leaves that are to get other digests. Contracts see the base,
-/// as its leaf count and the digests of its peaks, the digests of the new leaves, and then the updates, one after the
-/// other.
+/// as its leaf count and the digests of its peaks, the location before which it is pruned, the digests of the new
+/// leaves, and then the updates, one after the other.
 /// In the Rust: `merkle::batch::UnmerkleizedBatch`.
 #[derive(Debug, Drop)]
 pub struct UnmerkleizedBatch<F: Family, D: Digest> {
     alloc: Global,
     base_leaves: u64,
     base_peaks: Vec<D>,
+    boundary: u64,
     added: Vec<D>,
     updates: Vec<(u64, D)>,
     family: PhantomData<F>,
@@ -39,6 +40,7 @@ impl<F: Family, D: Digest> Model for UnmerkleizedBatch<F, D> {
 
     ghost view = { λ b. record {
       base = record { leaves = b.base_leaves; peaks = map D.encoding b.base_peaks.items };
+      boundary = b.boundary;
       added = map D.encoding b.added.items;
       updates = encoded D.encoding b.updates.items;
     } };
@@ -47,15 +49,18 @@ impl<F: Family, D: Digest> Model for UnmerkleizedBatch<F, D> {
 }
 
 impl<F: Family, D: Digest> UnmerkleizedBatch<F, D> {
-    // A batch that adds nothing to the base of so many leaves, with these digests of peaks.
+    // A batch that adds nothing to the base of so many leaves, with these digests of peaks, that is pruned before a
+    // location.
     pub(crate) fn over(
         alloc: Global,
         base_leaves: u64,
         base_peaks: Vec<D>,
+        boundary: u64,
     ) -> UnmerkleizedBatch<F, D>
         requires { base_leaves ≤ MAX_LEAVES }
         ensures { result ≡ record {
           base = record { leaves = base_leaves; peaks = map D.encoding base_peaks.items };
+          boundary = boundary;
           added = [];
           updates = [];
         } }
@@ -64,6 +69,7 @@ impl<F: Family, D: Digest> UnmerkleizedBatch<F, D> {
             alloc,
             base_leaves,
             base_peaks,
+            boundary,
             added: Vec::new(alloc),
             updates: Vec::new(alloc),
             family: PhantomData,
@@ -130,19 +136,34 @@ impl<F: Family, D: Digest> UnmerkleizedBatch<F, D> {
         Ok(batch)
     }
 
-    // Whether a leaf stands at this location: M7 with it where none does.
-    fn check_location(&self, location: Location<F>) -> Result<(), Error<F>>
-        ensures within { IsOk result ↔ (location < self.now.base.leaves + length self.now.added) }
-        ensures refused { IfErr result (λ e. e ≡ Error.LeafOutOfBounds location) }
+    // Why the leaf at a location gets no other digest: M7 with it where there is none, else M10 with its position.
+    fn refusal_at(&self, location: Location<F>) -> Error<F>
+        ensures past { self.now.base.leaves + length self.now.added ≤ location
+            → result ≡ Error.LeafOutOfBounds location }
+        ensures pruned { location < self.now.base.leaves + length self.now.added
+            → result ≡ Error.ElementPruned (node_count F.merge_rule location) }
     {
         if location >= self.leaves() {
-            return Err(Error::LeafOutOfBounds(location));
+            return Error::LeafOutOfBounds(location);
+        }
+        Error::ElementPruned(F::location_to_position(location))
+    }
+
+    // Whether a leaf stands at this location that is not pruned.
+    fn check_location(&self, location: Location<F>) -> Result<(), Error<F>>
+        ensures within { IsOk result ↔ ((self.now.boundary ≤ location)
+            × (location < self.now.base.leaves + length self.now.added)) }
+        ensures refused { IfErr result (λ e. IsRefusalAt F.merge_rule self.now.boundary
+            (self.now.base.leaves + length self.now.added) location e) }
+    {
+        if location.as_u64() < self.boundary || location >= self.leaves() {
+            return Err(self.refusal_at(location));
         }
         Ok(())
     }
 
     /// Gives the leaf at a location this digest, a leaf of the base or one that was added. Where no leaf stands there:
-    /// M7 with the location; out of memory: M23. The batch is then given up.
+    /// M7 with the location; where it is pruned: M10 with its position; out of memory: M23. The batch is then given up.
     /// In the Rust: `merkle::batch::UnmerkleizedBatch::update_leaf_digest`.
     pub fn update_leaf_digest(
         self,
@@ -152,8 +173,9 @@ impl<F: Family, D: Digest> UnmerkleizedBatch<F, D> {
         ensures updated { IfOk result (λ batch. batch ≡ record self {
           updates = self.updates ++ (location, D.encoding digest) ∷ [];
         }) }
-        ensures within { OnOk result (location < self.base.leaves + length self.added) }
-        ensures refused { IfErr result (λ e. IsRefusalAt (self.base.leaves + length self.added) location e) }
+        ensures within { OnOk result ((self.boundary ≤ location) × (location < self.base.leaves + length self.added)) }
+        ensures refused { IfErr result (λ e. IsRefusalAt F.merge_rule self.boundary
+            (self.base.leaves + length self.added) location e) }
     {
         self.check_location(location)?;
         let mut batch = self;
@@ -161,8 +183,8 @@ impl<F: Family, D: Digest> UnmerkleizedBatch<F, D> {
         Ok(batch)
     }
 
-    /// Gives the leaf at a location the digest of this element. Where no leaf stands there: M7 with the location; out
-    /// of memory: M23. The batch is then given up.
+    /// Gives the leaf at a location the digest of this element. Where no leaf stands there: M7 with the location; where
+    /// it is pruned: M10 with its position; out of memory: M23. The batch is then given up.
     /// In the Rust: `merkle::batch::UnmerkleizedBatch::update_leaf`.
     pub fn update_leaf<H: Hasher<F, Digest = D>>(
         self,
@@ -174,16 +196,18 @@ impl<F: Family, D: Digest> UnmerkleizedBatch<F, D> {
           updates = self.updates
               ++ (location, H.leaf_of hasher.now (node_count F.merge_rule location) element.now) ∷ [];
         }) }
-        ensures within { OnOk result (location < self.base.leaves + length self.added) }
-        ensures refused { IfErr result (λ e. IsRefusalAt (self.base.leaves + length self.added) location e) }
+        ensures within { OnOk result ((self.boundary ≤ location) × (location < self.base.leaves + length self.added)) }
+        ensures refused { IfErr result (λ e. IsRefusalAt F.merge_rule self.boundary
+            (self.base.leaves + length self.added) location e) }
     {
         self.check_location(location)?;
         let position = F::location_to_position(location);
         self.update_leaf_digest(location, hasher.leaf_digest(position, element))
     }
 
-    /// Gives leaves these digests, each at its location, in their order. Where no leaf stands at one: M7 with the first
-    /// such location; out of memory: M23. The batch is then given up.
+    /// Gives leaves these digests, each at its location, in their order. Where no leaf stands at one, or it is pruned,
+    /// the first such is named: M7 with the location, M10 with its position; out of memory: M23. The batch is then given
+    /// up.
     /// In the Rust: `merkle::batch::UnmerkleizedBatch::update_leaf_batched`.
     pub fn update_leaf_batched(
         self,
@@ -193,12 +217,12 @@ impl<F: Family, D: Digest> UnmerkleizedBatch<F, D> {
           updates = self.updates ++ encoded D.encoding updates.now;
         }) }
         ensures within { OnOk result
-            (first_past (self.base.leaves + length self.added) (encoded D.encoding updates.now) ≡ None) }
-        ensures refused { IfErr result (λ e. IsRefusalOfUpdates (self.base.leaves + length self.added)
-            (encoded D.encoding updates.now) e) }
+            (first_refused self.boundary (self.base.leaves + length self.added) (encoded D.encoding updates.now) ≡ None) }
+        ensures refused { IfErr result (λ e. IsRefusalOfUpdates F.merge_rule self.boundary
+            (self.base.leaves + length self.added) (encoded D.encoding updates.now) e) }
     {
-        if let Some(location) = first_out_of(self.leaves(), updates) {
-            return Err(Error::LeafOutOfBounds(location));
+        if let Some(location) = first_out_of(Location::new(self.boundary), self.leaves(), updates) {
+            return Err(self.refusal_at(location));
         }
         let mut batch = self;
         push_updates(&mut batch.updates, updates)?;
@@ -216,6 +240,7 @@ impl<F: Family, D: Digest> UnmerkleizedBatch<F, D> {
         hasher: &H,
     ) -> Result<MerkleizedBatch<F, D>, Error<F>>
         ensures base { IfOk result (λ batch. batch.base ≡ self.base) }
+        ensures boundary { IfOk result (λ batch. batch.boundary ≡ self.boundary) }
         ensures leaves { IfOk result (λ batch. batch.leaves ≡ self.base.leaves + length self.added) }
         ensures of_list { (leaf_digests : List (List ℕ)) → base.now.leaves ≡ self.base.leaves
             → AreNodesOf (H.node_of hasher.now) F.merge_rule leaf_digests base.now
@@ -251,6 +276,7 @@ impl<F: Family, D: Digest> UnmerkleizedBatch<F, D> {
         Ok(MerkleizedBatch {
             base_leaves: self.base_leaves,
             base_peaks: self.base_peaks,
+            boundary: self.boundary,
             leaves,
             digests,
             changed,
@@ -259,16 +285,18 @@ impl<F: Family, D: Digest> UnmerkleizedBatch<F, D> {
     }
 }
 
-// The first location that is not below a leaf count.
+// The first location that is before a boundary, or not below a leaf count.
 fn first_out_of<F: Family, D: Digest>(
+    boundary: Location<F>,
     leaves: Location<F>,
     updates: &[(Location<F>, D)],
 ) -> Option<Location<F>>
-    ensures { result ≡ option_map (λ update. update.0) (find (λ update. nat_le leaves update.0) updates.now) }
+    ensures { result ≡ option_map (λ update. update.0)
+        (find (λ update. nat_lt update.0 boundary || nat_le leaves update.0) updates.now) }
 {
     updates
         .iter()
-        .find(|update| update.0 >= leaves)
+        .find(|update| update.0 < boundary || update.0 >= leaves)
         .map(|update| update.0)
 }
 
@@ -287,13 +315,14 @@ fn push_updates<F: Family, D: Digest>(
 }
 
 /// Nodes that are to be added to a tree, their base, and nodes of it that get other digests. Contracts see the base,
-/// as its leaf count and the digests of its peaks, how many leaves there are with the new ones, the digests of the new
+/// as its leaf count and the digests of its peaks, the location before which it was pruned, how many leaves there are with the new ones, the digests of the new
 /// nodes in order of position, and the digests of the changed ones, each at its position.
 /// In the Rust: `merkle::batch::MerkleizedBatch`.
 #[derive(Debug, Drop)]
 pub struct MerkleizedBatch<F: Family, D: Digest> {
     base_leaves: u64,
     base_peaks: Vec<D>,
+    boundary: u64,
     leaves: u64,
     digests: Vec<D>,
     changed: Vec<(u64, D)>,
@@ -308,6 +337,7 @@ impl<F: Family, D: Digest> Model for MerkleizedBatch<F, D> {
 
     ghost view = { λ b. record {
       base = record { leaves = b.base_leaves; peaks = map D.encoding b.base_peaks.items };
+      boundary = b.boundary;
       leaves = b.leaves;
       digests = map D.encoding b.digests.items;
       changed = encoded D.encoding b.changed.items;
@@ -325,6 +355,14 @@ impl<F: Family, D: Digest> MerkleizedBatch<F, D> {
         ensures grown { self.now.base.leaves ≤ result }
     {
         Location::new(self.leaves)
+    }
+
+    /// The location before which the base was pruned when the batch was begun.
+    /// In the Rust: `merkle::batch::MerkleizedBatch::pruning_boundary`.
+    pub fn pruning_boundary(&self) -> Location<F>
+        ensures { result ≡ self.now.boundary }
+    {
+        Location::new(self.boundary)
     }
 
     /// How many nodes the tree has with the batch. In the Rust: `merkle::batch::MerkleizedBatch::size`.

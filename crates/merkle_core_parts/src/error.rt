@@ -12,8 +12,15 @@ use std::fmt;
 pub enum Error<F: Family> {
     /// M3: this location is past `MAX_LEAVES`. In the Rust: `merkle::Error::LocationOverflow`.
     LocationOverflow(Location<F>),
+    /// M6: no tree has so many nodes. In the Rust: `merkle::Error::InvalidSize`, with the number of nodes.
+    InvalidSize,
     /// M7: no leaf stands at this location. In the Rust: `merkle::Error::LeafOutOfBounds`.
     LeafOutOfBounds(Location<F>),
+    /// M10: the leaf at this position is pruned. In the Rust: `merkle::Error::ElementPruned`.
+    ElementPruned(Position<F>),
+    /// M12: there are not as many pinned nodes as the leaves before the boundary have peaks. In the Rust:
+    /// `merkle::Error::InvalidPinnedNodes`.
+    InvalidPinnedNodes,
     /// M13: the tree is not the one that the batch begins from. In the Rust: `merkle::Error::StaleBatch`.
     StaleBatch,
     /// M16: there are fewer peaks than inactive ones. In the Rust: `merkle::Error::InvalidInactivePeaks`.
@@ -36,7 +43,10 @@ impl<F: Family> fmt::Display for Error<F> {
             Error::LocationOverflow(location) => {
                 write!(f, "M3: location {location} is past the limit")
             }
+            Error::InvalidSize => f.write_str("M6: no tree has so many nodes"),
             Error::LeafOutOfBounds(location) => write!(f, "M7: no leaf at location {location}"),
+            Error::ElementPruned(position) => write!(f, "M10: leaf {position} is pruned"),
+            Error::InvalidPinnedNodes => f.write_str("M12: too few or too many pinned nodes"),
             Error::StaleBatch => f.write_str("M13: the batch begins from another tree"),
             Error::InvalidInactivePeaks => f.write_str("M16: fewer peaks than inactive ones"),
             Error::MissingNode(position) => write!(f, "M20: node {position} is missing"),

@@ -229,13 +229,14 @@ impl<F: Family, D: Digest> Mem<F, D> {
     pub fn new_batch(&self) -> Result<UnmerkleizedBatch<F, D>, Error<F>>
         ensures batch { IfOk result (λ batch. batch ≡ record {
           base = base_of F.merge_rule self.now;
+          boundary = self.now.boundary;
           added = [];
           updates = [];
         }) }
         ensures refused { IfErr result (λ e. e ≡ Error.Memory) }
     {
         let peaks = peaks_of::<F, D>(self.alloc, self.leaves, self)?;
-        Ok(UnmerkleizedBatch::over(self.alloc, self.leaves, peaks))
+        Ok(UnmerkleizedBatch::over(self.alloc, self.leaves, peaks, self.boundary))
     }
 
     // Whether the tree is the batch's base, by its leaf count and the digests of its peaks.

@@ -460,6 +460,42 @@ fn a_tree_is_pruned_forward_and_within_its_leaves(rt: HostRuntime) {
     assert_eq!(rt; tree.bounds(), Location::new(11)..Location::new(11));
 }
 
+// What a batch over the tree pruned before the sixth leaf answers to an update of the leaf before.
+fn updated_pruned<F: Family>(alloc: Global) -> Result<(), Error<F>> {
+    let hasher: Standard<ByteHash> = Standard::new(Bagging::ForwardFold);
+    let tree = pruned::<F>(alloc, &hasher)?;
+    let batch = tree
+        .new_batch()?
+        .update_leaf(&hasher, Location::new(5), &[1])?;
+    batch.update_leaf(&hasher, Location::new(4), &[1])?;
+    Ok(())
+}
+
+// And what it answers to a list of updates, of which the second is of a pruned leaf and the third past the leaves.
+fn many_updated_pruned<F: Family>(alloc: Global) -> Result<(), Error<F>> {
+    let hasher: Standard<ByteHash> = Standard::new(Bagging::ForwardFold);
+    let tree = pruned::<F>(alloc, &hasher)?;
+    let digest = ByteHash::hash(&[]);
+    tree.new_batch()?.update_leaf_batched(&[
+        (Location::new(5), digest),
+        (Location::new(2), digest),
+        (Location::new(12), digest),
+    ])?;
+    Ok(())
+}
+
+#[test]
+fn updates_of_pruned_leaves_are_refused(rt: HostRuntime) {
+    let one = Error::ElementPruned(Position::new(7));
+    let many = Error::ElementPruned(Position::new(3));
+    assert_eq!(rt; updated_pruned::<mmr::Family>(rt.alloc()), Err(one));
+    assert_eq!(rt; many_updated_pruned::<mmr::Family>(rt.alloc()), Err(many));
+    let one = Error::ElementPruned(Position::new(6));
+    let many = Error::ElementPruned(Position::new(3));
+    assert_eq!(rt; updated_pruned::<mmb::Family>(rt.alloc()), Err(one));
+    assert_eq!(rt; many_updated_pruned::<mmb::Family>(rt.alloc()), Err(many));
+}
+
 #[test]
 fn errors_are_printed_by_their_numbers(rt: HostRuntime) -> Result<(), Fail> {
     let alloc = rt.alloc();

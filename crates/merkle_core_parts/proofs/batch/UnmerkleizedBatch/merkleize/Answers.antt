@@ -21,12 +21,14 @@ returns-clause-of_list g c list same are =
     let n = c.self.inside.base_leaves in
     let batch : Additions = record {
       base = record { leaves = n; peaks = map encoding c.self.inside.base_peaks.items };
+      boundary = c.self.inside.boundary;
       added = map encoding c.self.inside.added.items;
       updates = encoded encoding c.self.inside.updates.items;
     } in
     let is_batch : batch ≡ c.args.self = c.self.view_is in
     let growth : Growth = record {
       base = record { leaves = n; peaks = map encoding c.self.inside.base_peaks.items };
+      boundary = c.self.inside.boundary;
       leaves = c.as_u64-leaves.result;
       digests = map encoding c.push_leaves.new.added.items;
       changed = encoded encoding c.rebuild_peaks.new.changed.items;
