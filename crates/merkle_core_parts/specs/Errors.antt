@@ -1,8 +1,9 @@
 -- The printed texts of the errors, and which calls refuse what.
-use Rattle.std.specs.Prelude.{◌≡◌, ℕ, List, ◌+◌, ◌++◌, ◌<◌, ◌≤◌, ◌^◌, codes, nat_le, nat_lt, ◌||◌, find, Option, option_map, Some, None}
+use Rattle.std.specs.Prelude.{◌≡◌, ℕ, List, length, ◌+◌, ◌++◌, ◌<◌, ◌≤◌, ◌^◌, codes, nat_le, nat_lt, ◌||◌, find, Option, option_map, Some, None}
 use Rattle.std.specs.Fmt.{decimal}
 use Rattle.merkle_forest.specs.Forest.{Rule}
-use Rattle.merkle_core_parts.specs.Mem.{Base, Replacement, node_count}
+use Rattle.merkle_forest.specs.Nodes.{IsSize}
+use Rattle.merkle_core_parts.specs.Mem.{Base, Replacement, node_count, pinned_positions}
 use Rattle.merkle_core_parts.specs.declared.error.Error.{Error}
 use Rattle.merkle_core_parts.specs.declared.error.Error.TheVariants.{LocationOverflow, InvalidSize, LeafOutOfBounds}
 use Rattle.merkle_core_parts.specs.declared.error.Error.TheVariants.{ElementPruned, InvalidPinnedNodes, StaleBatch}
@@ -74,3 +75,15 @@ abbrev pub IsRefusalToPrune : {F : Type 0} → ℕ → ℕ → Error F → Type 
 IsRefusalToPrune leaves asked (LeafOutOfBounds location) = (location ≡ asked) × (leaves < asked)
 IsRefusalToPrune leaves asked Memory = Unit {0}
 IsRefusalToPrune leaves asked other = ⊥
+
+-- why no tree is made that is pruned before a location and has so many nodes from there on, and so many pinned ones: out of
+-- memory, the location is past the limit, no tree has that many nodes, or there are too few or too many pinned ones
+abbrev pub IsRefusalOfParts : {F : Type 0} → Rule → ℕ → ℕ → ℕ → Error F → Type 0
+IsRefusalOfParts rule boundary nodes pinned (LocationOverflow location) = (location ≡ boundary) × (2 ^ 62 < boundary)
+IsRefusalOfParts rule boundary nodes pinned InvalidSize =
+    (boundary ≤ 2 ^ 62) × (IsSize rule (node_count rule boundary + nodes) → ⊥)
+IsRefusalOfParts rule boundary nodes pinned InvalidPinnedNodes =
+    (boundary ≤ 2 ^ 62) × IsSize rule (node_count rule boundary + nodes)
+    × (pinned ≡ length (pinned_positions rule boundary) → ⊥)
+IsRefusalOfParts rule boundary nodes pinned Memory = Unit {0}
+IsRefusalOfParts rule boundary nodes pinned other = ⊥

@@ -12,6 +12,7 @@ pub mod Merkleized
 pub mod PeakSteps
 pub mod Peaks
 pub mod PlaceCases
+pub mod Placed
 pub mod Places
 pub mod Plain
 pub mod Pruned

@@ -51,6 +51,12 @@ tree_digest node leaf_digests start (branch p left right) =
 abbrev pub pinned_positions : Rule → ℕ → List ℕ
 pinned_positions rule boundary = map (λ peak. peak.0) (peak_positions (forest_of rule boundary))
 
+-- digests, each at one of these positions, in their order
+abbrev pub placed : List ℕ → List (List ℕ) → List Replacement
+placed [] digests = []
+placed (p ∷ ps) [] = []
+placed (p ∷ ps) (digest ∷ digests) = (p, digest) ∷ placed ps digests
+
 -- the shape of what is kept: the pinned digests stand at those positions, and from the boundary on no node is missing
 pub record AreKeptNodes (rule : Rule) (nodes : Nodes) : Type 0 where
   pub within : nodes.boundary ≤ nodes.leaves

@@ -3,6 +3,7 @@
 #![tactic(auto)]
 
 pub mod batch;
+pub mod components;
 pub mod error;
 pub mod growth;
 pub mod laws;
@@ -11,7 +12,7 @@ pub mod peaks;
 pub mod rebuild;
 
 pub use error::Error;
-pub use mem::Mem;
+pub use mem::{Config, Mem};
 
 #[cfg(test)]
 mod tests;

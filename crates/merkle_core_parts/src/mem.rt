@@ -5,15 +5,18 @@ ghost use Rattle.std.specs.Prelude.{IsTrue, IsSome, IsOk, IfOk, IfErr, OnOk, OnE
 ghost use Rattle.merkle_forest.specs.Forest.{size, forest_of};
 ghost use Rattle.merkle_forest.specs.Hashing.{root_of};
 ghost use Rattle.merkle_forest.specs.Peaks.{peak_positions};
-ghost use Rattle.merkle_core_parts.specs.Errors.{IsRefusalOnto, IsRefusalToPrune};
+ghost use Rattle.merkle_core_parts.specs.Errors.{IsRefusalOnto, IsRefusalToPrune, IsRefusalOfParts};
 ghost use Rattle.merkle_core_parts.specs.Mem.{node_count, node_at, peak_digests, AreNodesOf, list_root};
+ghost use Rattle.merkle_core_parts.specs.Mem.{AreKeptNodes, pinned_positions, placed};
 ghost use Rattle.merkle_core_parts.specs.Mem.{base_of, with_batch, pruned_before, IsKept, IsPeakPosition, NodeHash};
 
 use crate::batch::{MerkleizedBatch, UnmerkleizedBatch};
+use crate::components::{leaves_of, placed_at_peaks};
 use crate::error::Error;
 use crate::growth::known_digest;
-use crate::peaks::{have_all_peaks, peaks_of, pinned_of, root_of_tree};
+use crate::peaks::{count_peaks, have_all_peaks, peaks_of, pinned_of, root_of_tree};
 use crate::rebuild::{put_all, put_pinned};
+use merkle_forest::family::MAX_LEAVES;
 use merkle_forest::hasher::Hasher;
 use merkle_forest::peaks::Peaks;
 use merkle_forest::{Digest, Family, Location, Position};
@@ -59,6 +62,18 @@ impl<F: Family, D: Digest> Model for Mem<F, D> {
         }) };
 }
 
+/// What a tree is made from that does not begin with no leaves: the nodes from a boundary on, in order of position, the
+/// boundary, and the pinned nodes before it, from left to right. In the Rust: `merkle::mem::Config`.
+#[derive(Debug, Drop)]
+pub struct Config<F: Family, D: Digest> {
+    /// The digests of the nodes from the boundary on, in order of position.
+    pub nodes: Vec<D>,
+    /// The location before which the tree is pruned.
+    pub pruning_boundary: Location<F>,
+    /// The digests of the nodes to pin at the boundary, from left to right.
+    pub pinned_nodes: Vec<D>,
+}
+
 impl<F: Family, D: Digest> Mem<F, D> {
     /// A tree of no leaves. It takes no memory yet. In the Rust: `merkle::mem::Mem::new`.
     pub fn new(alloc: Global) -> Mem<F, D>
@@ -73,6 +88,73 @@ impl<F: Family, D: Digest> Mem<F, D> {
             digests: Vec::new(alloc),
             family: PhantomData,
         }
+    }
+
+    /// The tree that is pruned before a boundary and has these nodes. A boundary past `MAX_LEAVES`: M3 with it; where no
+    /// tree has as many nodes: M6; too few or too many pinned nodes: M12; out of memory: M23. Whose list of leaf digests
+    /// they are is for the caller to know.
+    /// In the Rust: `merkle::mem::Mem::init`.
+    pub fn init(alloc: Global, config: Config<F, D>) -> Result<Mem<F, D>, Error<F>>
+        ensures boundary { IfOk result (λ tree. tree.boundary ≡ config.pruning_boundary) }
+        ensures pinned { IfOk result (λ tree. tree.pinned
+            ≡ placed (pinned_positions F.merge_rule config.pruning_boundary)
+            (map D.encoding config.pinned_nodes.items)) }
+        ensures digests { IfOk result (λ tree. tree.digests ≡ map D.encoding config.nodes.items) }
+        ensures shape { IfOk result (λ tree. (tree.leaves ≤ 2 ^ 62) × AreKeptNodes F.merge_rule tree) }
+        ensures counted { OnOk result (length config.pinned_nodes.items
+            ≡ length (pinned_positions F.merge_rule config.pruning_boundary)) }
+        ensures refused { IfErr result (λ e. IsRefusalOfParts F.merge_rule config.pruning_boundary
+            (length config.nodes.items) (length config.pinned_nodes.items) e) }
+    {
+        Mem::from_components(
+            alloc,
+            config.nodes,
+            config.pruning_boundary,
+            &config.pinned_nodes,
+        )
+    }
+
+    /// The tree that is pruned before a boundary and has these nodes. A boundary past `MAX_LEAVES`: M3 with it; where no
+    /// tree has as many nodes: M6; too few or too many pinned nodes: M12; out of memory: M23. Whose list of leaf digests
+    /// they are is for the caller to know.
+    /// In the Rust: `merkle::mem::Mem::from_components`, which takes the pinned nodes too.
+    pub fn from_components(
+        alloc: Global,
+        nodes: Vec<D>,
+        pruning_boundary: Location<F>,
+        pinned_nodes: &[D],
+    ) -> Result<Mem<F, D>, Error<F>>
+        ensures boundary { IfOk result (λ tree. tree.boundary ≡ pruning_boundary) }
+        ensures pinned { IfOk result (λ tree. tree.pinned
+            ≡ placed (pinned_positions F.merge_rule pruning_boundary) (map D.encoding pinned_nodes.now)) }
+        ensures digests { IfOk result (λ tree. tree.digests ≡ map D.encoding nodes.items) }
+        ensures shape { IfOk result (λ tree. (tree.leaves ≤ 2 ^ 62) × AreKeptNodes F.merge_rule tree) }
+        ensures counted { OnOk result (length pinned_nodes.now
+            ≡ length (pinned_positions F.merge_rule pruning_boundary)) }
+        ensures refused { IfErr result (λ e. IsRefusalOfParts F.merge_rule pruning_boundary (length nodes.items)
+            (length pinned_nodes.now) e) }
+    {
+        if pruning_boundary.as_u64() > MAX_LEAVES {
+            return Err(Error::LocationOverflow(pruning_boundary));
+        }
+        let boundary = pruning_boundary.as_u64();
+        let start = F::location_to_position(pruning_boundary).as_u64();
+        let Some(leaves) = leaves_of::<F>(start, nodes.len() as u64) else {
+            return Err(Error::InvalidSize);
+        };
+        if pinned_nodes.len() != count_peaks::<F>(boundary) {
+            return Err(Error::InvalidPinnedNodes);
+        }
+        let pinned = placed_at_peaks::<F, D>(alloc, boundary, pinned_nodes)?;
+        Ok(Mem {
+            alloc,
+            leaves: leaves.as_u64(),
+            boundary,
+            start,
+            pinned,
+            digests: nodes,
+            family: PhantomData,
+        })
     }
 
     /// How many leaves the tree has. In the Rust: `merkle::mem::Mem::leaves`.

@@ -157,7 +157,7 @@ fn bag_peaks<F: Family, H: Hasher<F>>(
 }
 
 // How many peaks there are.
-fn count_peaks<F: Family>(leaves: u64) -> usize
+pub(crate) fn count_peaks<F: Family>(leaves: u64) -> usize
     requires { leaves ≤ MAX_LEAVES }
     ensures { (digest_of : ℕ → Option (List ℕ)) → result ≡ length (digests_from F.merge_rule leaves digest_of 0) }
 {

@@ -1,6 +1,7 @@
 use super::*;
 use crate::batch::MerkleizedBatch;
 use merkle_forest::codec::FixedBytes;
+use merkle_forest::family::MAX_LEAVES;
 use merkle_forest::hasher::{Hasher, Standard};
 use merkle_forest::{
     Bagging, ByteHash, Digest, Family, HashFunction, Location, Position, mmb, mmr,
@@ -373,6 +374,83 @@ fn pruned_before_applying<F: Family>(alloc: Global, bagging: Bagging) -> Result<
     Ok((plain, folded, tree.size().as_u64()))
 }
 
+// That tree made from its parts, as they are read of one that is not pruned.
+fn from_parts<F: Family>(
+    alloc: Global,
+    hasher: &Standard<ByteHash>,
+) -> Result<Mem<F, Hash>, Error<F>> {
+    let tree = eleven::<F>(alloc, hasher)?;
+    let pruning_boundary = Location::new(5);
+    let mut nodes = Vec::new(alloc);
+    for position in 8..19u64 {
+        if let Some(digest) = tree.get_node(Position::new(position)) {
+            nodes.push(digest)?;
+        }
+    }
+    let mut pinned_nodes = Vec::new(alloc);
+    for position in F::nodes_to_pin(pruning_boundary) {
+        if let Some(digest) = tree.get_node(position) {
+            pinned_nodes.push(digest)?;
+        }
+    }
+    Mem::init(
+        alloc,
+        Config {
+            nodes,
+            pruning_boundary,
+            pinned_nodes,
+        },
+    )
+}
+
+// What is read of it with the batch.
+fn changed_from_parts<F: Family>(alloc: Global, bagging: Bagging) -> Result<Read, Error<F>> {
+    let hasher: Standard<ByteHash> = Standard::new(bagging);
+    let mut tree = from_parts::<F>(alloc, &hasher)?;
+    let batch = change(&tree, &hasher)?;
+    tree.apply_batch(&batch)?;
+    let plain = tree.root(&hasher, 0)?;
+    let folded = tree.root(&hasher, 1)?;
+    Ok((plain, folded, tree.size().as_u64()))
+}
+
+// Why no tree is made of so many nodes, all of one digest, after a boundary, without pinned ones.
+fn unmade<F: Family>(alloc: Global, boundary: u64, nodes: u8) -> Result<(), Error<F>> {
+    let digest = ByteHash::hash(&[]);
+    let mut digests = Vec::new(alloc);
+    for _ in 0..nodes {
+        digests.push(digest)?;
+    }
+    Mem::<F, Hash>::from_components(alloc, digests, Location::new(boundary), &[])?;
+    Ok(())
+}
+
+#[test]
+fn parts_that_make_no_tree_are_refused(rt: HostRuntime) {
+    let past = Location::new(MAX_LEAVES + 1);
+    assert_eq!(rt;
+        unmade::<mmr::Family>(rt.alloc(), MAX_LEAVES + 1, 0),
+        Err(Error::LocationOverflow(past))
+    );
+    assert_eq!(rt;
+        unmade::<mmr::Family>(rt.alloc(), 0, 2),
+        Err(Error::InvalidSize)
+    );
+    assert_eq!(rt;
+        unmade::<mmb::Family>(rt.alloc(), 5, 1),
+        Err(Error::InvalidSize)
+    );
+    assert_eq!(rt;
+        unmade::<mmr::Family>(rt.alloc(), 5, 0),
+        Err(Error::InvalidPinnedNodes)
+    );
+    assert_eq!(rt;
+        unmade::<mmb::Family>(rt.alloc(), 5, 2),
+        Err(Error::InvalidPinnedNodes)
+    );
+    assert_eq!(rt; unmade::<mmb::Family>(rt.alloc(), 0, 3), Ok(()));
+}
+
 #[test]
 fn a_pruned_tree_has_the_roots_of_all_leaves(rt: HostRuntime) {
     let range_plain = FixedBytes::new([
@@ -404,11 +482,19 @@ fn a_pruned_tree_has_the_roots_of_all_leaves(rt: HostRuntime) {
         Ok((range_plain, range_folded, 22))
     );
     assert_eq!(rt;
+        changed_from_parts::<mmr::Family>(rt.alloc(), Bagging::BackwardFold),
+        Ok((range_plain, range_folded, 22))
+    );
+    assert_eq!(rt;
         changed_after_pruning::<mmb::Family>(rt.alloc(), Bagging::ForwardFold),
         Ok((belt_plain, belt_folded, 21))
     );
     assert_eq!(rt;
         pruned_before_applying::<mmb::Family>(rt.alloc(), Bagging::ForwardFold),
+        Ok((belt_plain, belt_folded, 21))
+    );
+    assert_eq!(rt;
+        changed_from_parts::<mmb::Family>(rt.alloc(), Bagging::ForwardFold),
         Ok((belt_plain, belt_folded, 21))
     );
 }

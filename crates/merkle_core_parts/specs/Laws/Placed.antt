@@ -1,0 +1,55 @@
+-- Digests that are handed in for the pinned nodes.
+use Rattle.std.proofs.Common.{◌≡◌, ℕ, zero, suc, ◌+◌, ◌<◌, ◌≤◌, inl, inr, List, [], ◌∷◌, length, map, drop, get_or, Option}
+use Rattle.std.proofs.Common.{refl, sym, ◌∙◌, ap, arith}
+use Rattle.std.proofs.lemmas.Bool.{cases_lt}
+use Rattle.std.proofs.lemmas.List.{length-map}
+use Rattle.std.specs.Prelude.{unwrap_or}
+use Rattle.merkle_forest.specs.Forest.{Rule, forest_of}
+use Rattle.merkle_forest.specs.Peaks.{peak_positions, position_and_height}
+use Rattle.merkle_forest.specs.Perfect.{IsPairing}
+use Rattle.merkle_forest.specs.Laws.Peaks.{located_from-zero}
+use Rattle.merkle_forest.specs.Laws.ForestGrowth.{size-mono}
+use Rattle.merkle_core_parts.specs.Mem.{Replacement, AreKeptNodes, node_count, pinned_positions, placed, digests_from}
+use Rattle.merkle_core_parts.specs.Laws.Growth.{grown}
+
+positions_placed : (ps : List ℕ) (ds : List (List ℕ)) → length ds ≡ length ps
+    → map (λ (one : Replacement). one.0) (placed ps ds) ≡ ps
+positions_placed [] ds same = refl
+positions_placed (p ∷ ps) [] same = absurd (omega arith)
+positions_placed (p ∷ ps) (d ∷ ds) same = ap (λ qs. p ∷ qs) (positions_placed ps ds (omega arith))
+
+pub drop-mapped : {D : Type 0} (encoding : D → List ℕ) (xs : List D) (i : ℕ) (x other : D) → i < length xs
+    → x ≡ get_or xs i other → drop i (map encoding xs) ≡ encoding x ∷ drop (suc i) (map encoding xs)
+drop-mapped encoding [] i x other lt is = absurd (omega arith)
+drop-mapped encoding (y ∷ xs) zero x other lt is = ap (λ z. encoding z ∷ map encoding xs) (sym is)
+drop-mapped encoding (y ∷ xs) (suc i) x other lt is = drop-mapped encoding xs i x other (omega arith) is
+
+-- there are as many pinned nodes as peaks
+pub count-pinned : (rule : Rule) (n : ℕ) (digests : ℕ → Option (List ℕ))
+    → length (digests_from rule n digests 0) ≡ length (pinned_positions rule n)
+count-pinned rule n digests =
+    let peaks = peak_positions (forest_of rule n) in
+    ap (λ ls. length (map (λ (peak : ℕ × ℕ). unwrap_or (digests peak.0) []) (map position_and_height ls)))
+    (located_from-zero (forest_of rule n))
+    ∙ length-map peaks (λ (peak : ℕ × ℕ). unwrap_or (digests peak.0) [])
+    ∙ sym (length-map peaks (λ (peak : ℕ × ℕ). peak.0))
+
+-- fewer nodes are those of fewer leaves
+pub leaves-within : (rule : Rule) → IsPairing rule → (b n k : ℕ) → node_count rule n ≡ node_count rule b + k → b ≤ n
+leaves-within rule pairs b n k is =
+    elim (cases_lt n b) [
+      | inl less ↦
+          absurd (omega (arith, is, (grown rule pairs n).large, size-mono rule pairs (suc n) b (omega (arith, less))))
+      | inr le ↦ le
+    ]
+
+-- the shape of a tree that is made from its parts
+pub shape-placed : (rule : Rule) → IsPairing rule → (n b : ℕ) (pinned : List Replacement) (handed digests : List (List ℕ))
+    → node_count rule n ≡ node_count rule b + length digests → pinned ≡ placed (pinned_positions rule b) handed
+    → length handed ≡ length (pinned_positions rule b)
+    → AreKeptNodes rule (record { leaves = n; boundary = b; pinned = pinned; digests = digests })
+shape-placed rule pairs n b pinned handed digests sized is same = record {
+  within = leaves-within rule pairs b n (length digests) sized;
+  pinned = ap (map (λ (one : Replacement). one.0)) is ∙ positions_placed (pinned_positions rule b) handed same;
+  counted = sym sized;
+}
