@@ -3,6 +3,7 @@ pub mod Batches
 pub mod Bounds
 pub mod Due
 pub mod Encoded
+pub mod Enough
 pub mod Growth
 pub mod Held
 pub mod Kept

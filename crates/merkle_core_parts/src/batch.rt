@@ -5,7 +5,8 @@ ghost use Rattle.std.specs.Prelude.{◌-◌, option_map, slice_get, IsNone, IfOk
 ghost use Rattle.std.specs.Prelude.{◌↔◌, IsOk, ◌||◌, OnOk, None, find, nat_le, nat_lt};
 ghost use Rattle.merkle_core_parts.specs.Errors.{IsRefusalOver, IsRefusalPast, IsRefusalOfMany, IsRefusalAt};
 ghost use Rattle.merkle_core_parts.specs.Errors.{first_refused, IsRefusalOfUpdates};
-ghost use Rattle.merkle_core_parts.specs.Mem.{node_count, node_at, encoded, AreNodesOf, with_leaves, with_batch};
+ghost use Rattle.std.specs.List.{AllByRecursion};
+ghost use Rattle.merkle_core_parts.specs.Mem.{node_count, node_at, encoded, AreKeptNodes, AreNodesOf, with_leaves, with_batch};
 
 use crate::error::Error;
 use crate::growth::push_leaves;
@@ -230,7 +231,8 @@ impl<F: Family, D: Digest> UnmerkleizedBatch<F, D> {
     }
 
     /// Makes the nodes that the batch adds to its base, and those of the base that its updates change. A node that is
-    /// needed and that the base does not have: M20 with its position; out of memory: M23. The batch is given up. That
+    /// needed and that the base does not have: M20 with its position; out of memory: M23. The batch is given up. A base
+    /// that is pruned before none of the updates has all that is needed. That
     /// the tree handed in is the one that the batch was made over is on the caller; over one of another leaf count the
     /// digests are of no tree.
     /// In the Rust: `merkle::batch::UnmerkleizedBatch::merkleize`, which shares its answer.
@@ -248,6 +250,9 @@ impl<F: Family, D: Digest> UnmerkleizedBatch<F, D> {
             (with_batch F.merge_rule base.now batch)) }
         ensures refused { IfErr result (λ e. IsRefusalOver (node_count F.merge_rule self.base.leaves)
             (node_at F.merge_rule base.now) e) }
+        ensures enough { base.now.leaves ≡ self.base.leaves → AreKeptNodes F.merge_rule base.now
+            → AllByRecursion (λ one. base.now.boundary ≤ one.0) self.updates
+            → IfErr result (λ e. e ≡ Error.Memory) }
     {
         let leaves = self.leaves().as_u64();
         let base_size = F::location_to_position(Location::new(self.base_leaves)).as_u64();

@@ -6,8 +6,7 @@
 ghost use Rattle.std.specs.Prelude.{◌≡◌, ◌<◌, ◌≤◌, ◌+◌, ◌^◌, ℕ, suc, List, Some, map, length, slice_get};
 ghost use Rattle.std.specs.Prelude.{option_map, find, ◌==◌, IsSome, OnOk};
 ghost use Rattle.merkle_forest.specs.Forest.{leaf};
-ghost use Rattle.merkle_core_parts.specs.Mem.{node_count, encoded};
-ghost use Rattle.merkle_core_parts.specs.Mem.{known_over};
+ghost use Rattle.merkle_core_parts.specs.Mem.{node_count, encoded, known_over};
 ghost use Rattle.merkle_core_parts.specs.Laws.Growth.{IsParent};
 ghost use Rattle.merkle_core_parts.specs.Laws.Made.{HavePeaks, IsHashed, AreMade};
 ghost use Rattle.merkle_core_parts.specs.Laws.Rebuilt.{Digests};

@@ -5,8 +5,7 @@ ghost use Rattle.merkle_forest.specs.declared.bagging.Bagging.{Bagging};
 ghost use Rattle.merkle_forest.specs.Hashing.{Hash};
 ghost use Rattle.merkle_forest.specs.Trees.{tree_root};
 ghost use Rattle.merkle_core_parts.specs.Mem.{Nodes, Additions, Growth, NodeHash, AreNodesOf, with_leaves, with_batch};
-ghost use Rattle.merkle_core_parts.specs.Mem.{AreKeptNodes, pruned_before};
-ghost use Rattle.merkle_core_parts.specs.Mem.{plain_leaf_digests, plain_node, list_root};
+ghost use Rattle.merkle_core_parts.specs.Mem.{AreKeptNodes, pruned_before, plain_leaf_digests, plain_node, list_root};
 
 use merkle_forest::Family;
 

@@ -177,6 +177,7 @@ impl<F: Family, D: Digest> Mem<F, D> {
     pub fn pruning_boundary(&self) -> Location<F>
         ensures boundary { result ≡ self.now.boundary }
         ensures within { result ≤ self.now.leaves }
+        ensures shape { AreKeptNodes F.merge_rule self.now }
     {
         Location::new(self.boundary)
     }

@@ -2,16 +2,17 @@
 
 ghost use Rattle.std.specs.Prelude.{◌≡◌, ◌<◌, ◌≤◌, ◌+◌, ◌^◌, ◌↔◌, ℕ, suc, List, Some, map, length, drop, slice_get};
 ghost use Rattle.std.specs.Prelude.{option_map, IsTrue, IfOk, IfErr, OnOk};
+ghost use Rattle.std.specs.List.{AllByRecursion};
 ghost use Rattle.merkle_forest.specs.Forest.{Tree, position, leaf_count, forest_of};
 ghost use Rattle.merkle_forest.specs.Nodes.{IsNodeAt};
 ghost use Rattle.merkle_core_parts.specs.Errors.{IsRefusalOver};
-ghost use Rattle.merkle_core_parts.specs.Mem.{node_count, node_at, encoded, replaced_at};
-ghost use Rattle.merkle_core_parts.specs.Mem.{value_after};
+ghost use Rattle.merkle_core_parts.specs.Mem.{node_count, node_at, encoded, IsKept, replaced_at, value_after};
 ghost use Rattle.merkle_core_parts.specs.Laws.Made.{HavePeaks};
 ghost use Rattle.merkle_core_parts.specs.Laws.Replaced.{AreFrom};
 ghost use Rattle.merkle_core_parts.specs.Laws.Rebuilt.{Digests, IsSetting, ArePending, IsDue, AreTaken, IsRight};
 ghost use Rattle.merkle_core_parts.specs.Laws.Rebuilt.{IsPlace, IsRebuilt};
 ghost use Rattle.merkle_core_parts.specs.Laws.Updated.{AreRebuilt};
+ghost use Rattle.merkle_core_parts.specs.Laws.Enough.{IsRefusalOfKept};
 
 use crate::error::Error;
 use crate::mem::Mem;
@@ -89,6 +90,8 @@ pub(crate) fn put_pinned<D: Digest>(digests: &mut Vec<(u64, D)>, changes: &[(u64
 // Sorts updates by location. Those at one location keep their order.
 pub(crate) fn sort_updates<D: Digest>(updates: &mut Vec<(u64, D)>) -> Result<(), AllocError>
     ensures order { OnOk result (AreFrom 0 (encoded D.encoding updates.new.items)) }
+    ensures bound { OnOk result ((b : ℕ) → AllByRecursion (λ one. b ≤ one.0) (encoded D.encoding updates.old.items)
+        → AreFrom b (encoded D.encoding updates.new.items)) }
     ensures same { OnOk result ((k : ℕ) (old : List ℕ) → value_after (encoded D.encoding updates.old.items) k old
         ≡ value_after (encoded D.encoding updates.new.items) k old) }
 {
@@ -159,6 +162,8 @@ fn rebuild<F: Family, H: Hasher<F>>(
         (H.Digest.encoding made.0) (place.first + leaf_count tree)
         (drop made.1 (encoded H.Digest.encoding updates.now))) }
     ensures refused { IfErr result (λ e. IsRefusalOver (node_count F.merge_rule leaves) (node_at F.merge_rule base.now) e) }
+    ensures kept { IfErr result (λ e. (b : ℕ) → b ≤ leaves → AreFrom b (encoded H.Digest.encoding updates.now)
+        → IsKept F.merge_rule b place.position → IsRefusalOfKept F.merge_rule b e) }
 {
     if !is_due(updates, next, place.first + leaf_span(place.height)) {
         return match base.get_node(Position::new(place.position)) {
@@ -208,6 +213,8 @@ pub(crate) fn rebuild_peaks<F: Family, H: Hasher<F>>(
         → AreRebuilt F.merge_rule leaves before after (encoded H.Digest.encoding changed.old.items)
         (encoded H.Digest.encoding changed.new.items) (encoded H.Digest.encoding peaks.items)) }
     ensures refused { IfErr result (λ e. IsRefusalOver (node_count F.merge_rule leaves) (node_at F.merge_rule base.now) e) }
+    ensures kept { IfErr result (λ e. (b : ℕ) → b ≤ leaves → AreFrom b (encoded H.Digest.encoding updates.now)
+        → IsRefusalOfKept F.merge_rule b e) }
 {
     let mut peaks = Vec::new(alloc);
     let mut first = 0;

@@ -2,8 +2,7 @@
 use Rattle.std.proofs.Common.{◌≡◌, ◌↔◌, ℕ, suc, ◌<◌, inl, inr, false, eqb, List, [], ◌∷◌, sym, ◌∙◌, ap, subst, arith, eq-eqb}
 use Rattle.std.proofs.lemmas.Bool.{cases_lt, lt-ltb, le-ltb, cond-true, cond-false, ne_eqb}
 use Rattle.std.specs.Prelude.{IsTrue, nat_lt}
-use Rattle.merkle_core_parts.specs.Mem.{Replacement}
-use Rattle.merkle_core_parts.specs.Mem.{value_after}
+use Rattle.merkle_core_parts.specs.Mem.{Replacement, value_after}
 use Rattle.merkle_core_parts.specs.Laws.Replaced.{AreFrom, after-before}
 use Rattle.merkle_core_parts.specs.Laws.Rebuilt.{IsDue, AreTaken, AreTakenTo}
 

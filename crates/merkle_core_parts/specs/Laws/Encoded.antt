@@ -5,8 +5,7 @@ use Rattle.std.proofs.Common.{eq-eqb}
 use Rattle.std.proofs.lemmas.Bool.{cases_lt, cases_eq, ne_eqb}
 use Rattle.std.specs.Prelude.{slice_get, slice_set}
 use Rattle.std.specs.Option.{option_map}
-use Rattle.merkle_core_parts.specs.Mem.{Replacement, encoded}
-use Rattle.merkle_core_parts.specs.Mem.{value_after, replaced_at}
+use Rattle.merkle_core_parts.specs.Mem.{Replacement, encoded, value_after, replaced_at}
 use Rattle.merkle_core_parts.specs.Laws.Replaced.{after-more, get-set, left_alone}
 
 pub take-encoded : {D : Type 0} (encoding : D → List ℕ) (us : List (ℕ × D)) (i : ℕ) (u d : ℕ × D) → i < length us

@@ -9,8 +9,7 @@ use Rattle.merkle_forest.specs.Perfect.{IsPairing}
 use Rattle.merkle_forest.specs.Laws.ForestGrowth.{leaves-forest_of}
 use Rattle.merkle_forest.specs.Laws.Nodes.{peak-node, node-fits}
 use Rattle.merkle_forest.specs.Laws.Peaks.{leaf_count-pos, cut-peak}
-use Rattle.merkle_core_parts.specs.Mem.{Replacement}
-use Rattle.merkle_core_parts.specs.Mem.{digest_at}
+use Rattle.merkle_core_parts.specs.Mem.{Replacement, digest_at}
 use Rattle.merkle_core_parts.specs.Laws.Peaks.{begins}
 use Rattle.merkle_core_parts.specs.Laws.Rebuilt.{IsPlace}
 use Rattle.merkle_core_parts.specs.Laws.PlaceCases.{place-fits, place-tree}

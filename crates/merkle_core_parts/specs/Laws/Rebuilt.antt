@@ -9,8 +9,7 @@ use Rattle.merkle_forest.specs.Perfect.{IsPairing}
 use Rattle.merkle_forest.specs.Laws.ForestGrowth.{leaves-forest_of}
 use Rattle.merkle_forest.specs.Laws.Nodes.{node-fits, within-fits}
 use Rattle.merkle_forest.specs.Laws.NodeGrowth.{numbered, one-node}
-use Rattle.merkle_core_parts.specs.Mem.{Replacement, NodeHash, node_count}
-use Rattle.merkle_core_parts.specs.Mem.{value_after}
+use Rattle.merkle_core_parts.specs.Mem.{Replacement, NodeHash, node_count, value_after}
 use Rattle.merkle_core_parts.specs.Laws.Kept.{later}
 use Rattle.merkle_core_parts.specs.Laws.Places.{node-left, node-right}
 use Rattle.merkle_core_parts.specs.Laws.Replaced.{after-more, AreFrom, after-before}

@@ -5,8 +5,7 @@ use Rattle.std.proofs.lemmas.Bool.{cases_lt, cases_eq, lt-ltb, le-ltb, cond-true
 use Rattle.std.specs.Ordering.{is_lt, nat_cmp}
 use Rattle.std.specs.declared.cmp.Ordering.TheVariants.{Less, Equal, Greater}
 use Rattle.std.specs.List.Sorted.{ties, IsStableByKey, IsNonDecreasingBy}
-use Rattle.merkle_core_parts.specs.Mem.{encoded}
-use Rattle.merkle_core_parts.specs.Mem.{value_after}
+use Rattle.merkle_core_parts.specs.Mem.{encoded, value_after}
 use Rattle.merkle_core_parts.specs.Laws.Replaced.{AreFrom}
 
 from_sorted : {D : Type 0} (encoding : D → List ℕ) (b : ℕ) (v : ℕ × D) (vs : List (ℕ × D)) → b ≤ v.0

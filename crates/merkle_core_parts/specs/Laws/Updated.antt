@@ -12,8 +12,7 @@ use Rattle.merkle_forest.specs.Laws.ForestGrowth.{leaves-forest_of}
 use Rattle.merkle_forest.specs.Laws.Nodes.{peak-node, node-fits}
 use Rattle.merkle_forest.specs.Laws.NodeGrowth.{one-node}
 use Rattle.merkle_forest.specs.Laws.Peaks.{leaf_count-pos}
-use Rattle.merkle_core_parts.specs.Mem.{Replacement}
-use Rattle.merkle_core_parts.specs.Mem.{digest_at, value_after}
+use Rattle.merkle_core_parts.specs.Mem.{Replacement, digest_at, value_after}
 use Rattle.merkle_core_parts.specs.Laws.Rebuilt.{Digests, ArePending, IsRight, IsDone, IsRebuilt, within-node}
 
 -- what stands after all peaks were made anew

@@ -1,8 +1,7 @@
 use Rattle.std.proofs.Common.{ltb, map, ◌-◌, sym, ◌∙◌, ap}
 use Rattle.std.proofs.lemmas.Bool.{cond-true, cond-false, lt-ltb, le-ltb}
 use Rattle.std.specs.Prelude.{slice_get, option_map}
-use Rattle.merkle_core_parts.specs.Mem.{encoded}
-use Rattle.merkle_core_parts.specs.Mem.{digest_at}
+use Rattle.merkle_core_parts.specs.Mem.{encoded, digest_at}
 use Rattle.merkle_core_parts.specs.Laws.Made.{digest-encoded}
 use Rattle.merkle_core_parts.proofs.growth.known_digest.Goals as goal
 

@@ -3,8 +3,7 @@ use Rattle.std.proofs.lemmas.List.{length-map}
 use Rattle.merkle_forest.specs.Forest.{forest_of}
 use Rattle.merkle_forest.specs.Laws.ForestGrowth.{size_bound, leaves-forest_of}
 use Rattle.merkle_forest.specs.Laws.Parents.{length-range}
-use Rattle.merkle_core_parts.specs.Mem.{encoded, node_count}
-use Rattle.merkle_core_parts.specs.Mem.{known_over}
+use Rattle.merkle_core_parts.specs.Mem.{encoded, node_count, known_over}
 use Rattle.merkle_core_parts.specs.Laws.Growth.{IsParent, parent}
 use Rattle.merkle_core_parts.specs.Laws.Rebuilt.{Digests}
 use Rattle.merkle_core_parts.specs.Laws.Made.{AreMade, made-leaf, mapped-push}

@@ -1,8 +1,7 @@
 use Rattle.std.proofs.Common.{◌≡◌, ◌+◌, suc, Some, length, map, sym, ◌∙◌, ap, subst, arith}
 use Rattle.std.specs.Prelude.{slice_get}
 use Rattle.merkle_forest.specs.Forest.{leaf}
-use Rattle.merkle_core_parts.specs.Mem.{encoded, node_count}
-use Rattle.merkle_core_parts.specs.Mem.{known_over}
+use Rattle.merkle_core_parts.specs.Mem.{encoded, node_count, known_over}
 use Rattle.merkle_core_parts.specs.Laws.Rebuilt.{Digests}
 use Rattle.merkle_core_parts.specs.Laws.Made.{AreMade, get-item}
 use Rattle.merkle_core_parts.proofs.growth.push_leaves.Goals as goal

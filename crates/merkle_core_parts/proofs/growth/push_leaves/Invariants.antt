@@ -1,8 +1,7 @@
 use Rattle.std.proofs.Common.{◌≡◌, ◌+◌, ℕ, List, Some, length, map}
 use Rattle.std.specs.Prelude.{slice_get}
 use Rattle.merkle_forest.specs.Forest.{leaf}
-use Rattle.merkle_core_parts.specs.Mem.{node_count, encoded}
-use Rattle.merkle_core_parts.specs.Mem.{known_over}
+use Rattle.merkle_core_parts.specs.Mem.{node_count, encoded, known_over}
 use Rattle.merkle_core_parts.specs.Laws.Made.{AreMade, IsHashed}
 use Rattle.merkle_core_parts.specs.Laws.Rebuilt.{Digests}
 use Rattle.merkle_core_parts.proofs.growth.push_leaves.Given as goal

@@ -3,8 +3,7 @@ use Rattle.std.proofs.lemmas.List.{length-map}
 use Rattle.std.specs.Prelude.{IsSome}
 use Rattle.merkle_forest.specs.Forest.{position}
 use Rattle.merkle_forest.specs.Nodes.{IsBranchOf}
-use Rattle.merkle_core_parts.specs.Mem.{encoded}
-use Rattle.merkle_core_parts.specs.Mem.{known_over}
+use Rattle.merkle_core_parts.specs.Mem.{encoded, known_over}
 use Rattle.merkle_core_parts.specs.Laws.Growth.{parent-branch}
 use Rattle.merkle_core_parts.specs.Laws.Made.{AreMade, known-child, left-kept, right-kept, made-branch, mapped-push}
 use Rattle.merkle_core_parts.proofs.growth.push_parent.Goals as goal

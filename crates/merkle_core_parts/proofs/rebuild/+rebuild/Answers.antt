@@ -1,6 +1,10 @@
-use Rattle.std.proofs.Common.{◌≡◌, ◌+◌, ◌-◌, ◌^◌, suc, Some, drop, refl, sym, ◌∙◌, ap, subst, arith, rules}
+use Rattle.std.proofs.Common.{◌≡◌, ◌≤◌, ◌+◌, ◌-◌, ◌^◌, ℕ, suc, Some, drop, refl, sym, ◌∙◌, ap, subst, arith, rules}
+use Rattle.std.proofs.lemmas.Result.{err_from_is_err_and}
+use Rattle.std.specs.Prelude.{IfErr}
 use Rattle.merkle_forest.specs.Forest.{leaf_count}
-use Rattle.merkle_core_parts.specs.Mem.{encoded, node_at}
+use Rattle.merkle_core_parts.specs.Mem.{encoded, node_at, IsKept}
+use Rattle.merkle_core_parts.specs.Laws.Enough.{IsRefusalOfKept, AreKeptHalves, halves-kept, from-drop}
+use Rattle.merkle_core_parts.specs.Laws.Replaced.{AreFrom}
 use Rattle.merkle_core_parts.specs.Laws.Rebuilt.{IsDue, IsRebuilt, AreTaken}
 use Rattle.merkle_core_parts.specs.Laws.PlaceCases.{place-fits, place-below, place-branch, place-halves, case-untouched}
 use Rattle.merkle_core_parts.specs.Laws.PlaceCases.{case-leaf, case-branch, encoded-push}
@@ -143,3 +147,41 @@ returns-clause-rebuilt g t c boundary before after tree setting pending right st
     (λ l here is. c.in_ok-one.ensures.rebuilt boundary before after l setting pending right here is)
     (λ r next fine here is. c.in_ok-other.ensures.rebuilt boundary before after r setting next fine here is)
     c.digest_of_branch-digest.ensures)
+
+pub returns-in_err-one-clause-kept : goal.returns-in_err-one-clause-kept
+returns-in_err-one-clause-kept g t c =
+    let rule = g.F.Family.merge_rule in
+    let us = encoded g.H.Digest.Write.encoding c.args.updates.now in
+    let first = c.args.place.first in
+    let due : IsDue (first + 2 ^ c.args.place.height) (drop c.args.next us) =
+    subst (λ k. IsDue (first + k) (drop c.args.next us)) c.leaf_span.ensures (c.if-not-is_due.ensures.due.0 refl) in
+    let halves : (b : ℕ) → b ≤ c.args.leaves → AreFrom b us
+    → AreKeptHalves rule b c.child_positions-at_left.result.0 c.child_positions-at_left.result.1 =
+    λ b le from. halves-kept rule g.met.F.Family.merges_equals c.args.leaves b first c.args.place.position
+    c.args.place.height c.child_positions-at_left.result.0 c.child_positions-at_left.result.1 (drop c.args.next us)
+    c.requires.few le c.requires.place (λ none. absurd (omega (arith, none, c.if-place-eq0.false)))
+    c.child_positions-at_left.ensures (from-drop b c.args.next us from) due in
+    let p = err_from_is_err_and c.from_residual-in_err-one.result c.from_residual-in_err-one.ensures.1 in
+    subst (λ r. IfErr r (λ e. (b : ℕ) → b ≤ c.args.leaves → AreFrom b us → IsKept rule b c.args.place.position
+    → IsRefusalOfKept rule b e)) (sym p.1)
+    (λ b le from keeps. subst (IsRefusalOfKept rule b) (sym p.2)
+    (c.in_err-one.ensures.kept b le from (halves b le from).left))
+
+pub returns-in_err-other-clause-kept : goal.returns-in_err-other-clause-kept
+returns-in_err-other-clause-kept g t c =
+    let rule = g.F.Family.merge_rule in
+    let us = encoded g.H.Digest.Write.encoding c.args.updates.now in
+    let first = c.args.place.first in
+    let due : IsDue (first + 2 ^ c.args.place.height) (drop c.args.next us) =
+    subst (λ k. IsDue (first + k) (drop c.args.next us)) c.leaf_span.ensures (c.if-not-is_due.ensures.due.0 refl) in
+    let halves : (b : ℕ) → b ≤ c.args.leaves → AreFrom b us
+    → AreKeptHalves rule b c.child_positions-at_left.result.0 c.child_positions-at_left.result.1 =
+    λ b le from. halves-kept rule g.met.F.Family.merges_equals c.args.leaves b first c.args.place.position
+    c.args.place.height c.child_positions-at_left.result.0 c.child_positions-at_left.result.1 (drop c.args.next us)
+    c.requires.few le c.requires.place (λ none. absurd (omega (arith, none, c.if-place-eq0.false)))
+    c.child_positions-at_left.ensures (from-drop b c.args.next us from) due in
+    let p = err_from_is_err_and c.from_residual-in_err-other.result c.from_residual-in_err-other.ensures.1 in
+    subst (λ r. IfErr r (λ e. (b : ℕ) → b ≤ c.args.leaves → AreFrom b us → IsKept rule b c.args.place.position
+    → IsRefusalOfKept rule b e)) (sym p.1)
+    (λ b le from keeps. subst (IsRefusalOfKept rule b) (sym p.2)
+    (c.in_err-other.ensures.kept b le from (halves b le from).right))

@@ -1,8 +1,7 @@
 use Rattle.std.proofs.Common.{◌≡◌, ◌+◌, ◌++◌, ◌∷◌, [], ℕ, cond, eqb, map, take, sym, ◌∙◌, ap, arith, add-one}
 use Rattle.std.proofs.lemmas.List.{length-map}
 use Rattle.std.specs.Prelude.{slice_get, option_map}
-use Rattle.merkle_core_parts.specs.Mem.{encoded}
-use Rattle.merkle_core_parts.specs.Mem.{value_after}
+use Rattle.merkle_core_parts.specs.Mem.{encoded, value_after}
 use Rattle.merkle_core_parts.specs.Laws.Encoded.{take-encoded, put-none, put-there, more-after}
 use Rattle.merkle_core_parts.proofs.rebuild.put_digests.Goals as goal
 use Rattle.merkle_core_parts.proofs.rebuild.put_digests.Goals.{then-index-first+then-place-digests}

@@ -1,7 +1,6 @@
 use Rattle.std.proofs.Common.{◌≡◌, ◌+◌, ℕ, map, take}
 use Rattle.std.specs.Prelude.{slice_get, option_map}
-use Rattle.merkle_core_parts.specs.Mem.{encoded}
-use Rattle.merkle_core_parts.specs.Mem.{value_after}
+use Rattle.merkle_core_parts.specs.Mem.{encoded, value_after}
 use Rattle.merkle_core_parts.proofs.rebuild.put_digests.Given as goal
 
 abbrev pub invariant-loop-index : goal.invariant-loop-index

@@ -1,12 +1,15 @@
-use Rattle.std.proofs.Common.{◌≡◌, ◌+◌, ◌++◌, ◌∷◌, [], ◌^◌, drop, sym, ◌∙◌, ap, subst, arith}
-use Rattle.std.specs.Prelude.{IsSome}
+use Rattle.std.proofs.Common.{◌≡◌, ◌≤◌, ◌+◌, ◌++◌, ◌∷◌, [], ◌^◌, ℕ, drop, sym, ◌∙◌, ap, subst, arith}
+use Rattle.std.proofs.lemmas.Result.{err_from_is_err_and}
+use Rattle.std.specs.Prelude.{IsSome, IfErr}
 use Rattle.merkle_forest.specs.Forest.{position, forest_of}
 use Rattle.merkle_forest.specs.Peaks.{is_cut}
 use Rattle.merkle_forest.specs.Laws.Nodes.{peak-node}
 use Rattle.merkle_forest.specs.Laws.Peaks.{cut-zero}
-use Rattle.merkle_core_parts.specs.Mem.{encoded}
-use Rattle.merkle_core_parts.specs.Mem.{digest_at}
+use Rattle.merkle_core_parts.specs.Mem.{encoded, IsKept, digest_at}
+use Rattle.merkle_core_parts.specs.Laws.Enough.{IsRefusalOfKept}
+use Rattle.merkle_core_parts.specs.Laws.Kept.{kept}
 use Rattle.merkle_core_parts.specs.Laws.Peaks.{begins}
+use Rattle.merkle_core_parts.specs.Laws.Replaced.{AreFrom}
 use Rattle.merkle_core_parts.specs.Laws.PlaceCases.{encoded-push}
 use Rattle.merkle_core_parts.specs.Laws.PeakSteps.{peak-step, found-step, peak-before}
 use Rattle.merkle_core_parts.specs.Laws.Updated.{IsProgress, progress-start, progress-step, progress-all}
@@ -118,3 +121,17 @@ returns-clause-rebuilt g c boundary before after setting pending right =
     (encoded encoding c.loop-first.peaks.items) (drop c.loop-first.next (encoded encoding c.args.updates.now))
     c.loop-first-test.false
     (c.loop-first.invariant.made boundary before after setting pending right)
+
+pub returns-in_err-digest-clause-kept : goal.returns-in_err-digest-clause-kept
+returns-in_err-digest-clause-kept g c =
+    let rule = g.F.Family.merge_rule in
+    let pairs = g.met.F.Family.merges_equals in
+    let us = encoded g.H.Digest.Write.encoding c.args.updates.now in
+    let it = peak-step rule pairs c.args.leaves c.loop-first.first c.peak_from-position.result.0
+    c.peak_from-position.result.1 c.requires c.loop-first.invariant.cut c.loop-first-test.true
+    c.peak_from-position.ensures in
+    let p = err_from_is_err_and c.from_residual.result c.from_residual.ensures.1 in
+    subst (λ r. IfErr r (λ e. (b : ℕ) → b ≤ c.args.leaves → AreFrom b us → IsRefusalOfKept rule b e)) (sym p.1)
+    (λ b le from. subst (IsRefusalOfKept rule b) (sym p.2) (c.in_err-digest.ensures.kept b le from
+    (subst (IsKept rule b) (sym it.at) ((kept rule pairs b c.args.leaves le).peak it.tree
+    (c.loop-first.first, it.stands)))))

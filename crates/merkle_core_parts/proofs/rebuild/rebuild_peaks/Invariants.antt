@@ -3,8 +3,7 @@ use Rattle.std.specs.Prelude.{IsSome}
 use Rattle.merkle_forest.specs.Forest.{Tree, position, forest_of}
 use Rattle.merkle_forest.specs.Nodes.{IsPeakAt}
 use Rattle.merkle_forest.specs.Peaks.{is_cut}
-use Rattle.merkle_core_parts.specs.Mem.{encoded, node_at}
-use Rattle.merkle_core_parts.specs.Mem.{digest_at}
+use Rattle.merkle_core_parts.specs.Mem.{encoded, node_at, digest_at}
 use Rattle.merkle_core_parts.specs.Laws.Rebuilt.{Digests, IsSetting, ArePending, IsRight}
 use Rattle.merkle_core_parts.specs.Laws.Updated.{IsProgress}
 use Rattle.merkle_core_parts.proofs.rebuild.rebuild_peaks.Given as goal

@@ -1,9 +1,13 @@
-use Rattle.std.proofs.Common.{◌≡◌, ◌+◌, [], ℕ, List, Some, length, map, refl, sym, ◌∙◌, ap, subst}
+use Rattle.std.proofs.Common.{◌≡◌, ◌≤◌, ◌+◌, [], ℕ, List, Some, length, map, refl, sym, ◌∙◌, ap, subst, arith}
 use Rattle.std.proofs.lemmas.List.{length-map}
-use Rattle.std.specs.Prelude.{slice_get, option_map}
+use Rattle.std.proofs.lemmas.Result.{err_from_is_err_and}
+use Rattle.std.specs.Prelude.{slice_get, option_map, IfErr}
+use Rattle.std.specs.List.{AllByRecursion}
 use Rattle.merkle_forest.specs.Forest.{leaf}
 use Rattle.merkle_core_parts.specs.Mem.{Nodes, Additions, Growth, encoded, node_count, tree_digest, AreNodesOf, with_leaves, with_batch}
-use Rattle.merkle_core_parts.specs.Mem.{known_over, value_after}
+use Rattle.merkle_core_parts.specs.Mem.{known_over, value_after, Replacement}
+use Rattle.merkle_core_parts.specs.declared.error.Error.TheVariants.{Memory}
+use Rattle.merkle_core_parts.specs.Laws.Enough.{only-memory}
 use Rattle.merkle_core_parts.specs.Laws.Made.{AreMade, HavePeaks}
 use Rattle.merkle_core_parts.specs.Laws.Replaced.{AreFrom}
 use Rattle.merkle_core_parts.specs.Laws.Rebuilt.{Digests, IsRight}
@@ -93,3 +97,24 @@ returns-clause-of_list g c list same are =
     ∙ ap (λ (b : Additions). b.base.leaves + length b.added) (sym is_batch) in
     subst (λ b. AreNodesOf node rule (with_leaves list b) (with_batch rule base growth)) is_batch
     (whole rule pairs node list batch base growth n base_size peaks is sized are rebuilt made counted leaves)
+
+pub returns-in_err-peaks-clause-enough : goal.returns-in_err-peaks-clause-enough
+returns-in_err-peaks-clause-enough g c same shape late =
+    let encoding = g.D.Write.encoding in
+    let rule = g.F.Family.merge_rule in
+    let base : Nodes = c.args.base.now in
+    let n = c.self.inside.base_leaves in
+    let is : n ≡ base.leaves = ap (λ (b : Additions). b.base.leaves) c.self.view_is ∙ sym same in
+    let within : base.boundary ≤ n = omega (arith, shape.within, is) in
+    let updates : encoded encoding c.self.inside.updates.items ≡ c.args.self.updates =
+    ap (λ (b : Additions). b.updates) c.self.view_is in
+    let late_here : AllByRecursion (λ (one : Replacement). base.boundary ≤ one.0)
+    (encoded encoding c.self.inside.updates.items) =
+    subst (AllByRecursion (λ (one : Replacement). base.boundary ≤ one.0)) (sym updates) late in
+    let sorted : AreFrom base.boundary (encoded encoding c.deref-2.result.now) =
+    subst (λ us. AreFrom base.boundary (encoded encoding us)) (sym c.deref-2.ensures.value)
+    (c.in_ok-sort_updates.ensures.bound base.boundary late_here) in
+    let p = err_from_is_err_and c.from_residual-in_err-peaks.result c.from_residual-in_err-peaks.ensures.1 in
+    subst (λ r. IfErr r (λ e. e ≡ Memory)) (sym p.1)
+    (p.2 ∙ only-memory rule base (node_count rule n) c.in_err-peaks.field-0.0 shape (ap (node_count rule) is)
+    c.in_err-peaks.ensures.refused (c.in_err-peaks.ensures.kept base.boundary within sorted))
