@@ -155,8 +155,8 @@ pub record Additions : Type 0 where
 abbrev pub with_leaves : List (List ℕ) → Additions → List (List ℕ)
 with_leaves leaf_digests batch = replaced (leaf_digests ++ batch.added) batch.updates
 
--- a batch of nodes: the base, the location before which it is pruned, how many leaves there are then, the digests of the new nodes in order of position, and the
--- nodes of the base that get another digest, each at its position
+-- a batch of nodes: the base, the location before which it is pruned, how many leaves there are then, the digests of the new
+-- nodes in order of position, and the nodes of the base that get another digest, each at its position
 pub record Growth : Type 0 where
   pub base : Base
   pub boundary : ℕ

@@ -6,7 +6,8 @@ ghost use Rattle.std.specs.Prelude.{◌↔◌, IsOk, ◌||◌, OnOk, None, find,
 ghost use Rattle.merkle_core_parts.specs.Errors.{IsRefusalOver, IsRefusalPast, IsRefusalOfMany, IsRefusalAt};
 ghost use Rattle.merkle_core_parts.specs.Errors.{first_refused, IsRefusalOfUpdates};
 ghost use Rattle.std.specs.List.{AllByRecursion};
-ghost use Rattle.merkle_core_parts.specs.Mem.{node_count, node_at, encoded, AreKeptNodes, AreNodesOf, with_leaves, with_batch};
+ghost use Rattle.merkle_core_parts.specs.Mem.{node_count, node_at, encoded, AreKeptNodes, AreNodesOf, base_of};
+ghost use Rattle.merkle_core_parts.specs.Mem.{with_leaves, with_batch};
 
 use crate::error::Error;
 use crate::growth::push_leaves;
@@ -207,8 +208,8 @@ impl<F: Family, D: Digest> UnmerkleizedBatch<F, D> {
     }
 
     /// Gives leaves these digests, each at its location, in their order. Where no leaf stands at one, or it is pruned,
-    /// the first such is named: M7 with the location, M10 with its position; out of memory: M23. The batch is then given
-    /// up.
+    /// the first such is named: M7 with the location, M10 with its position; out of memory: M23. The batch is then
+    /// given up.
     /// In the Rust: `merkle::batch::UnmerkleizedBatch::update_leaf_batched`.
     pub fn update_leaf_batched(
         self,
@@ -217,8 +218,8 @@ impl<F: Family, D: Digest> UnmerkleizedBatch<F, D> {
         ensures updated { IfOk result (λ batch. batch ≡ record self {
           updates = self.updates ++ encoded D.encoding updates.now;
         }) }
-        ensures within { OnOk result
-            (first_refused self.boundary (self.base.leaves + length self.added) (encoded D.encoding updates.now) ≡ None) }
+        ensures within { OnOk result (first_refused self.boundary (self.base.leaves + length self.added)
+            (encoded D.encoding updates.now) ≡ None) }
         ensures refused { IfErr result (λ e. IsRefusalOfUpdates F.merge_rule self.boundary
             (self.base.leaves + length self.added) (encoded D.encoding updates.now) e) }
     {
@@ -320,8 +321,9 @@ fn push_updates<F: Family, D: Digest>(
 }
 
 /// Nodes that are to be added to a tree, their base, and nodes of it that get other digests. Contracts see the base,
-/// as its leaf count and the digests of its peaks, the location before which it was pruned, how many leaves there are with the new ones, the digests of the new
-/// nodes in order of position, and the digests of the changed ones, each at its position.
+/// as its leaf count and the digests of its peaks, the location before which it was pruned, how many leaves there are
+/// with the new ones, the digests of the new nodes in order of position, and the digests of the changed ones, each at
+/// its position.
 /// In the Rust: `merkle::batch::MerkleizedBatch`.
 #[derive(Debug, Drop)]
 pub struct MerkleizedBatch<F: Family, D: Digest> {
@@ -353,6 +355,31 @@ impl<F: Family, D: Digest> Model for MerkleizedBatch<F, D> {
 }
 
 impl<F: Family, D: Digest> MerkleizedBatch<F, D> {
+    /// A batch of no nodes over a tree. It fails only when out of memory: M23.
+    /// In the Rust: `merkle::batch::MerkleizedBatch::from_mem`, which shares its answer.
+    pub fn from_mem(tree: &Mem<F, D>) -> Result<MerkleizedBatch<F, D>, Error<F>>
+        ensures batch { IfOk result (λ batch. batch ≡ record {
+          base = base_of F.merge_rule tree.now;
+          boundary = tree.now.boundary;
+          leaves = tree.now.leaves;
+          digests = [];
+          changed = [];
+        }) }
+        ensures refused { IfErr result (λ e. e ≡ Error.Memory) }
+    {
+        let (alloc, base_peaks) = tree.base()?;
+        let leaves = tree.leaves().as_u64();
+        Ok(MerkleizedBatch {
+            base_leaves: leaves,
+            base_peaks,
+            boundary: tree.pruning_boundary().as_u64(),
+            leaves,
+            digests: Vec::new(alloc),
+            changed: Vec::new(alloc),
+            family: PhantomData,
+        })
+    }
+
     /// How many leaves the tree has with the batch. In the Rust: `merkle::batch::MerkleizedBatch::leaves`.
     pub fn leaves(&self) -> Location<F>
         ensures leaves { result ≡ self.now.leaves }

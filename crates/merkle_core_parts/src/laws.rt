@@ -1,9 +1,10 @@
 //! What the definitions say, beyond what the code needs of them.
 
-ghost use Rattle.std.specs.Prelude.{◌≡◌, ◌≤◌, ◌++◌, ◌∷◌, [], ℕ, List, length, slice_set};
+ghost use Rattle.std.specs.Prelude.{◌≡◌, ◌≤◌, ◌++◌, ◌∷◌, [], ℕ, List, length, map, slice_set};
 ghost use Rattle.merkle_forest.specs.declared.bagging.Bagging.{Bagging};
 ghost use Rattle.merkle_forest.specs.Hashing.{Hash};
 ghost use Rattle.merkle_forest.specs.Trees.{tree_root};
+ghost use Rattle.merkle_core_parts.specs.Mem.{placed, pinned_positions};
 ghost use Rattle.merkle_core_parts.specs.Mem.{Nodes, Additions, Growth, NodeHash, AreNodesOf, with_leaves, with_batch};
 ghost use Rattle.merkle_core_parts.specs.Mem.{AreKeptNodes, pruned_before, plain_leaf_digests, plain_node, list_root};
 
@@ -17,8 +18,8 @@ pub fn plain_roots_are_tree_roots<F: Family>()
         inactive ≡ tree_root hash bagging F.merge_rule elements inactive }
 {}
 
-/// A batch's nodes, made over one tree of a list of leaf digests, make of each tree of that list that is pruned as far or
-/// further one of the list that the batch makes of it.
+/// A batch's nodes, made over one tree of a list of leaf digests, make of each tree of that list that is pruned as far
+/// or further one of the list that the batch makes of it.
 pub fn nodes_fit_each_tree_of_the_list<F: Family>()
     ensures { (node : NodeHash) (some list : List (List ℕ)) (one other : Nodes) (batch : Growth)
         → length some ≤ length list → one.boundary ≤ other.boundary
@@ -47,4 +48,12 @@ pub fn pruning_and_applying_commute<F: Family>()
         → AreKeptNodes F.merge_rule nodes → location ≤ nodes.leaves
         → with_batch F.merge_rule (pruned_before F.merge_rule nodes location) batch
         ≡ pruned_before F.merge_rule (with_batch F.merge_rule nodes batch) location }
+{}
+
+/// A tree that is made of the parts of another is that one.
+pub fn a_tree_is_made_again_from_its_parts<F: Family>()
+    ensures { (nodes made : Nodes) → AreKeptNodes F.merge_rule nodes → AreKeptNodes F.merge_rule made
+        → made.boundary ≡ nodes.boundary
+        → made.pinned ≡ placed (pinned_positions F.merge_rule nodes.boundary) (map (λ one. one.1) nodes.pinned)
+        → made.digests ≡ nodes.digests → made ≡ nodes }
 {}

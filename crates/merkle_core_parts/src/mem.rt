@@ -20,7 +20,7 @@ use merkle_forest::family::MAX_LEAVES;
 use merkle_forest::hasher::Hasher;
 use merkle_forest::peaks::Peaks;
 use merkle_forest::{Digest, Family, Location, Position};
-use std::alloc::Global;
+use std::alloc::{AllocError, Global};
 use std::marker::{Model, PhantomData};
 use std::ops::Range;
 
@@ -90,9 +90,9 @@ impl<F: Family, D: Digest> Mem<F, D> {
         }
     }
 
-    /// The tree that is pruned before a boundary and has these nodes. A boundary past `MAX_LEAVES`: M3 with it; where no
-    /// tree has as many nodes: M6; too few or too many pinned nodes: M12; out of memory: M23. Whose list of leaf digests
-    /// they are is for the caller to know.
+    /// The tree that is pruned before a boundary and has these nodes. A boundary past `MAX_LEAVES`: M3 with it; where
+    /// no tree has as many nodes: M6; too few or too many pinned nodes: M12; out of memory: M23. Whose list of leaf
+    /// digests they are is for the caller to know.
     /// In the Rust: `merkle::mem::Mem::init`.
     pub fn init(alloc: Global, config: Config<F, D>) -> Result<Mem<F, D>, Error<F>>
         ensures boundary { IfOk result (λ tree. tree.boundary ≡ config.pruning_boundary) }
@@ -114,9 +114,9 @@ impl<F: Family, D: Digest> Mem<F, D> {
         )
     }
 
-    /// The tree that is pruned before a boundary and has these nodes. A boundary past `MAX_LEAVES`: M3 with it; where no
-    /// tree has as many nodes: M6; too few or too many pinned nodes: M12; out of memory: M23. Whose list of leaf digests
-    /// they are is for the caller to know.
+    /// The tree that is pruned before a boundary and has these nodes. A boundary past `MAX_LEAVES`: M3 with it; where
+    /// no tree has as many nodes: M6; too few or too many pinned nodes: M12; out of memory: M23. Whose list of leaf
+    /// digests they are is for the caller to know.
     /// In the Rust: `merkle::mem::Mem::from_components`, which takes the pinned nodes too.
     pub fn from_components(
         alloc: Global,
@@ -258,9 +258,9 @@ impl<F: Family, D: Digest> Mem<F, D> {
         })
     }
 
-    /// Prunes the leaves before a location: of the nodes that they have only those stay that later roots and branches are
-    /// made from. Where leaves are pruned up to there already nothing changes. Past the leaves: M7 with the location; out
-    /// of memory: M23. The tree then stays as it was.
+    /// Prunes the leaves before a location: of the nodes that they have only those stay that later roots and branches
+    /// are made from. Where leaves are pruned up to there already nothing changes. Past the leaves: M7 with the location;
+    /// out of memory: M23. The tree then stays as it was.
     /// In the Rust: `merkle::mem::Mem::prune`.
     pub fn prune(&mut self, location: Location<F>) -> Result<(), Error<F>>
         ensures pruned { OnOk result (self.new ≡ pruned_before F.merge_rule self.old location) }
@@ -318,8 +318,16 @@ impl<F: Family, D: Digest> Mem<F, D> {
         }) }
         ensures refused { IfErr result (λ e. e ≡ Error.Memory) }
     {
+        let (alloc, peaks) = self.base()?;
+        Ok(UnmerkleizedBatch::over(alloc, self.leaves, peaks, self.boundary))
+    }
+
+    // What a batch over the tree is made with: its allocator, and the digests of its peaks.
+    pub(crate) fn base(&self) -> Result<(Global, Vec<D>), AllocError>
+        ensures { IfOk result (λ base. map D.encoding base.1.items ≡ peak_digests F.merge_rule self.now) }
+    {
         let peaks = peaks_of::<F, D>(self.alloc, self.leaves, self)?;
-        Ok(UnmerkleizedBatch::over(self.alloc, self.leaves, peaks, self.boundary))
+        Ok((self.alloc, peaks))
     }
 
     // Whether the tree is the batch's base, by its leaf count and the digests of its peaks.

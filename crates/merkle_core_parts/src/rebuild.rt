@@ -161,7 +161,8 @@ fn rebuild<F: Family, H: Hasher<F>>(
         (encoded H.Digest.encoding changed.old.items) (encoded H.Digest.encoding changed.new.items)
         (H.Digest.encoding made.0) (place.first + leaf_count tree)
         (drop made.1 (encoded H.Digest.encoding updates.now))) }
-    ensures refused { IfErr result (λ e. IsRefusalOver (node_count F.merge_rule leaves) (node_at F.merge_rule base.now) e) }
+    ensures refused { IfErr result (λ e. IsRefusalOver (node_count F.merge_rule leaves)
+        (node_at F.merge_rule base.now) e) }
     ensures kept { IfErr result (λ e. (b : ℕ) → b ≤ leaves → AreFrom b (encoded H.Digest.encoding updates.now)
         → IsKept F.merge_rule b place.position → IsRefusalOfKept F.merge_rule b e) }
 {
@@ -212,7 +213,8 @@ pub(crate) fn rebuild_peaks<F: Family, H: Hasher<F>>(
         → IsRight F.merge_rule leaves after (encoded H.Digest.encoding changed.old.items)
         → AreRebuilt F.merge_rule leaves before after (encoded H.Digest.encoding changed.old.items)
         (encoded H.Digest.encoding changed.new.items) (encoded H.Digest.encoding peaks.items)) }
-    ensures refused { IfErr result (λ e. IsRefusalOver (node_count F.merge_rule leaves) (node_at F.merge_rule base.now) e) }
+    ensures refused { IfErr result (λ e. IsRefusalOver (node_count F.merge_rule leaves)
+        (node_at F.merge_rule base.now) e) }
     ensures kept { IfErr result (λ e. (b : ℕ) → b ≤ leaves → AreFrom b (encoded H.Digest.encoding updates.now)
         → IsRefusalOfKept F.merge_rule b e) }
 {

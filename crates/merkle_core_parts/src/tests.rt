@@ -532,6 +532,31 @@ fn pinned_nodes_stay_and_others_are_dropped(rt: HostRuntime) {
     assert_eq!(rt; copy.pruning_boundary(), Location::new(5));
 }
 
+// What the batch of no nodes over that tree tells.
+fn told_of_none<F: Family>(alloc: Global) -> Result<(u64, u64, u64, u64), Error<F>> {
+    let hasher: Standard<ByteHash> = Standard::new(Bagging::ForwardFold);
+    let tree = pruned::<F>(alloc, &hasher)?;
+    let batch = MerkleizedBatch::from_mem(&tree)?;
+    Ok((
+        batch.leaves().as_u64(),
+        batch.base_size().as_u64(),
+        batch.size().as_u64(),
+        batch.pruning_boundary().as_u64(),
+    ))
+}
+
+#[test]
+fn a_batch_of_no_nodes_tells_its_base(rt: HostRuntime) {
+    assert_eq!(rt;
+        told_of_none::<mmr::Family>(rt.alloc()),
+        Ok((11, 19, 19, 5))
+    );
+    assert_eq!(rt;
+        told_of_none::<mmb::Family>(rt.alloc()),
+        Ok((11, 19, 19, 5))
+    );
+}
+
 #[test]
 fn a_tree_is_pruned_forward_and_within_its_leaves(rt: HostRuntime) {
     let hasher: Standard<ByteHash> = Standard::new(Bagging::ForwardFold);

@@ -1,6 +1,6 @@
 -- Digests that are handed in for the pinned nodes.
 use Rattle.std.proofs.Common.{◌≡◌, ℕ, zero, suc, ◌+◌, ◌<◌, ◌≤◌, inl, inr, List, [], ◌∷◌, length, map, drop, get_or, Option}
-use Rattle.std.proofs.Common.{refl, sym, ◌∙◌, ap, arith}
+use Rattle.std.proofs.Common.{refl, sym, ◌∙◌, ap, ap₂, arith}
 use Rattle.std.proofs.lemmas.Bool.{cases_lt}
 use Rattle.std.proofs.lemmas.List.{length-map}
 use Rattle.std.specs.Prelude.{unwrap_or}
@@ -9,7 +9,7 @@ use Rattle.merkle_forest.specs.Peaks.{peak_positions, position_and_height}
 use Rattle.merkle_forest.specs.Perfect.{IsPairing}
 use Rattle.merkle_forest.specs.Laws.Peaks.{located_from-zero}
 use Rattle.merkle_forest.specs.Laws.ForestGrowth.{size-mono}
-use Rattle.merkle_core_parts.specs.Mem.{Replacement, AreKeptNodes, node_count, pinned_positions, placed, digests_from}
+use Rattle.merkle_core_parts.specs.Mem.{Nodes, Replacement, AreKeptNodes, node_count, pinned_positions, placed, digests_from}
 use Rattle.merkle_core_parts.specs.Laws.Growth.{grown}
 
 positions_placed : (ps : List ℕ) (ds : List (List ℕ)) → length ds ≡ length ps
@@ -53,3 +53,36 @@ shape-placed rule pairs n b pinned handed digests sized is same = record {
   pinned = ap (map (λ (one : Replacement). one.0)) is ∙ positions_placed (pinned_positions rule b) handed same;
   counted = sym sized;
 }
+
+placed_again : (pinned : List Replacement)
+    → placed (map (λ (one : Replacement). one.0) pinned) (map (λ (one : Replacement). one.1) pinned) ≡ pinned
+placed_again [] = refl
+placed_again (u ∷ us) = ap (λ rest. u ∷ rest) (placed_again us)
+
+same_leaves : (rule : Rule) → IsPairing rule → (n m : ℕ) → node_count rule n ≡ node_count rule m → n ≡ m
+same_leaves rule pairs n m is =
+    omega (
+      arith,
+      leaves-within rule pairs m n 0 (omega (arith, is)),
+      leaves-within rule pairs n m 0 (omega (arith, is)),
+    )
+
+-- a tree that is made of the parts of another is that one
+pub made-again : (rule : Rule) → IsPairing rule → (nodes made : Nodes) → AreKeptNodes rule nodes → AreKeptNodes rule made
+    → made.boundary ≡ nodes.boundary
+    → made.pinned ≡ placed (pinned_positions rule nodes.boundary) (map (λ one. one.1) nodes.pinned)
+    → made.digests ≡ nodes.digests → made ≡ nodes
+made-again rule pairs nodes made shape again boundary pinned digests =
+    let counts : node_count rule made.leaves ≡ node_count rule nodes.leaves =
+    omega (arith, shape.counted, again.counted, ap (node_count rule) boundary, ap length digests) in
+    let same : made.pinned ≡ nodes.pinned =
+    pinned ∙ ap (λ ps. placed ps (map (λ (one : Replacement). one.1) nodes.pinned)) (sym shape.pinned)
+    ∙ placed_again nodes.pinned in
+    ap₂ (λ (n b : ℕ). record { leaves = n; boundary = b; pinned = made.pinned; digests = made.digests })
+    (same_leaves rule pairs made.leaves nodes.leaves counts) boundary
+    ∙ ap₂ (λ (ps : List Replacement) (ds : List (List ℕ)). record {
+      leaves = nodes.leaves;
+      boundary = nodes.boundary;
+      pinned = ps;
+      digests = ds;
+    }) same digests
