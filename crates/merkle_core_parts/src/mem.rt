@@ -259,8 +259,8 @@ impl<F: Family, D: Digest> Mem<F, D> {
     }
 
     /// Prunes the leaves before a location: of the nodes that they have only those stay that later roots and branches
-    /// are made from. Where leaves are pruned up to there already nothing changes. Past the leaves: M7 with the location;
-    /// out of memory: M23. The tree then stays as it was.
+    /// are made from. Where leaves are pruned up to there already nothing changes. Past the leaves: M7 with the
+    /// location; out of memory: M23. The tree then stays as it was.
     /// In the Rust: `merkle::mem::Mem::prune`.
     pub fn prune(&mut self, location: Location<F>) -> Result<(), Error<F>>
         ensures pruned { OnOk result (self.new ≡ pruned_before F.merge_rule self.old location) }
