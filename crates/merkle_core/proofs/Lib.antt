@@ -1,3 +1,8 @@
+pub mod BuiltRoots
+pub mod Lookups
+pub mod PlanDigests
+pub mod PlanFolds
+pub mod PlanNodes
 pub mod Places
 pub mod RangePeaks
 pub mod RangeRoots
@@ -19,3 +24,5 @@ pub mod OneRoot
 pub mod OneEach
 pub mod OneEachBag
 pub mod OneEachRoot
+pub mod Unnamed
+pub mod ManyDigests

@@ -1,8 +1,11 @@
+pub mod Assembled
 pub mod Followed
 pub mod Laws
 pub mod MadeRoots
 pub mod MadeTrees
+pub mod Multi
 pub mod OneEach
+pub mod Plans
 pub mod Proofs
 pub mod RangeCounts
 pub mod Ranges

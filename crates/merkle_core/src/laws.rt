@@ -1,16 +1,19 @@
 //! What holds of all proofs.
 
-ghost use Rattle.std.specs.Prelude.{◌≡◌, ◌<◌, ◌≤◌, ◌+◌, ◌^◌, ℕ, List, length, take, drop, Some, IfSome, IsSomeAnd, option_map};
+ghost use Rattle.std.specs.Prelude.{◌≡◌, ◌<◌, ◌≤◌, ◌+◌, ◌-◌, ◌^◌, ℕ, List, map, length, take, drop, Some, IfSome, IsSomeAnd, option_map};
 ghost use Rattle.std.specs.List.{All};
 ghost use Rattle.merkle_forest.specs.declared.bagging.Bagging.{Bagging};
 ghost use Rattle.merkle_forest.specs.Forest.{forest_of};
 ghost use Rattle.merkle_forest.specs.Hashing.{Hash, leaf_string, node_string, root_of};
 ghost use Rattle.merkle_forest.specs.Made.{value, strings};
 ghost use Rattle.merkle_forest.specs.Trees.{located, peak_digests, plain_digest, tree_root};
+ghost use Rattle.merkle_core_parts.specs.Mem.{Nodes, node_at, NodeHash, AreNodesOf, tree_digest, plain_node, plain_leaf_digests};
 ghost use Rattle.merkle_core.specs.Followed.{FollowsIn};
-ghost use Rattle.merkle_core.specs.MadeRoots.{Naming};
+ghost use Rattle.merkle_core.specs.MadeRoots.{Naming, peaks_of};
 ghost use Rattle.merkle_core.specs.MadeTrees.{Over, from, plain_over};
+ghost use Rattle.merkle_core.specs.Multi.{AreDigestsAt};
 ghost use Rattle.merkle_core.specs.OneEach.{OneEach};
+ghost use Rattle.merkle_core.specs.Plans.{Lookup, IsLookupOf, honest_digests};
 ghost use Rattle.merkle_core.specs.Ranges.{Digests, range_digests};
 ghost use Rattle.merkle_core.specs.Reads.{Agrees, HashesAs, range_root, claim_of};
 ghost use Rattle.merkle_core.specs.Rebuilt.{Hashing};
@@ -121,4 +124,32 @@ pub fn parts_of_a_list_agree_with_it()
     ensures { (hash : Hash) (elements : List (List ℕ)) (start count : ℕ)
         → Agrees hash plain_over (from start (take count (drop start elements))) (plain_digest hash elements) start
         (start + count) }
+{}
+
+/// What is known of the nodes of a tree in memory is known of the list that it is a tree of.
+pub fn nodes_of_a_tree_are_those_of_its_list<F: Family>()
+    ensures { (node : NodeHash) (leaf_digests : List (List ℕ)) (nodes : Nodes)
+        → AreNodesOf node F.merge_rule leaf_digests nodes
+        → (nodes.leaves ≡ length leaf_digests) × IsLookupOf node F.merge_rule leaf_digests
+        (node_at F.merge_rule nodes) }
+{}
+
+/// The proof of a range that is built out of the nodes of the plain tree of a list leads to the root of that tree.
+pub fn built_proofs_lead_to_the_root<F: Family>()
+    ensures { (hash : Hash) (bagging : Bagging) (elements : List (List ℕ)) (inactive start stop : ℕ)
+        → length elements ≤ 2 ^ 62 → start < stop → stop ≤ length elements
+        → inactive ≤ length (peaks_of F.merge_rule (length elements))
+        → option_map (value hash) (range_root plain_names plain_over bagging F.merge_rule (length elements) inactive start
+        (take (stop - start) (drop start elements))
+        (honest_digests hash (tree_digest (plain_node hash) (plain_leaf_digests hash F.merge_rule 0 elements)) bagging
+        F.merge_rule (length elements) inactive start stop))
+        ≡ Some (tree_root hash bagging F.merge_rule elements inactive) }
+{}
+
+/// The digests of the proof of some elements are those of the list, where what is known of the nodes is that of the list.
+pub fn digests_of_many_are_those_of_the_list<F: Family>()
+    ensures { (node : NodeHash) (leaf_digests : List (List ℕ)) (known : Lookup) (positions : List ℕ)
+        (digests : List (List ℕ)) → IsLookupOf node F.merge_rule leaf_digests known
+        → map (λ d. Some d) digests ≡ map known positions
+        → AreDigestsAt node F.merge_rule leaf_digests positions digests }
 {}

@@ -3,15 +3,21 @@
 #![tactic(auto)]
 
 pub mod laws;
+pub mod multi;
+pub mod plan;
 pub mod proof;
 pub mod range;
 pub mod ranges;
+pub mod readable;
 pub mod rebuild;
 pub mod reconstruct;
+pub mod verification;
 pub mod walk;
 
 pub use merkle_core_parts::{Mem, batch, error, mem};
+pub use plan::{ElementPlan, RangePlan};
 pub use proof::{MAX_PROOF_DIGESTS_PER_ELEMENT, Proof};
+pub use readable::Readable;
 
 #[cfg(test)]
 mod tests;

@@ -1,6 +1,8 @@
 //! Merkle proofs and how they are written and read.
 
-ghost use Rattle.std.specs.Prelude.{◌≡◌, ◌<◌, ◌≤◌, ◌^◌, ◌++◌, ℕ, List, map, length, Ok, OnOk, OnErr};
+ghost use Rattle.std.specs.Prelude.{◌≡◌, ◌<◌, ◌≤◌, ◌^◌, ◌++◌, ◌↔◌, [], ℕ, List, map, length, IsTrue, Ok, OnOk, OnErr};
+ghost use Rattle.merkle_forest.specs.Forest.{forest_of};
+ghost use Rattle.merkle_forest.specs.Trees.{located, inactive_peaks};
 ghost use Rattle.merkle_forest.specs.Codec.{Extends};
 ghost use Rattle.merkle_forest.specs.Lists.{AreItems};
 ghost use Rattle.merkle_core.specs.Proofs.{proof_encoding, after_proof, ProofLacks};
@@ -10,8 +12,9 @@ use merkle_forest::codec::{
     Cursor, EncodeSize, Error, RangeCfg, Read, Write, number_size, or_undo, read_number,
     write_number,
 };
-use merkle_forest::family::Family;
+use merkle_forest::family::{Family, MAX_LEAVES};
 use merkle_forest::location::Location;
+use merkle_forest::peaks::inactive_count;
 use std::alloc::{AllocError, Global};
 
 /// The greatest count of digests in the proof of one element. In the Rust: `merkle::MAX_PROOF_DIGESTS_PER_ELEMENT`.
@@ -28,6 +31,34 @@ pub struct Proof<F: Family, D: Digest> {
     pub inactive_peaks: u64,
     /// The digests, in the order of the range proof.
     pub digests: Vec<D>,
+}
+
+impl<F: Family, D: Digest> Proof<F, D> {
+    /// The proof without digests, of a tree of no leaves (own). It takes no memory. In the Rust: `Default::default`.
+    pub fn empty(alloc: Global) -> Proof<F, D>
+        ensures leaves { result.leaves ≡ 0 }
+        ensures inactive { result.inactive_peaks ≡ 0 }
+        ensures digests { result.digests.items ≡ [] }
+    {
+        Proof {
+            leaves: Location::new(0),
+            inactive_peaks: 0,
+            digests: Vec::new(alloc),
+        }
+    }
+
+    /// Whether the proof's count of inactive peaks is that of the peaks before a floor, a location, in a tree of its
+    /// leaves. Where these are past `MAX_LEAVES` it is not.
+    /// In the Rust: `merkle::proof::Proof::matches_canonical_inactive_peaks`.
+    pub fn matches_canonical_inactive_peaks(&self, floor: Location<F>) -> bool
+        ensures { IsTrue result ↔ ((self.now.leaves ≤ MAX_LEAVES)
+            × (self.now.inactive_peaks ≡ inactive_peaks floor (located (forest_of F.merge_rule self.now.leaves)))) }
+    {
+        if self.leaves.as_u64() > MAX_LEAVES {
+            return false;
+        }
+        inactive_count::<F>(self.leaves.as_u64(), floor.as_u64()) as u64 == self.inactive_peaks
+    }
 }
 
 // Appends the encoding. Out of memory, some of its bytes may have been appended.

@@ -137,7 +137,7 @@ fn append_inner<D: Digest, T: TreeDigests<D>>(
 }
 
 // The digests folded from the left, where there is any.
-fn append_folded_forward<F: Family, H: Hasher<F>>(
+pub(crate) fn append_folded_forward<F: Family, H: Hasher<F>>(
     found: &mut Vec<H::Digest>,
     hasher: &H,
     digests: &[H::Digest],
@@ -153,7 +153,7 @@ fn append_folded_forward<F: Family, H: Hasher<F>>(
 }
 
 // The digests folded from the right, where there is any.
-fn append_folded_backward<F: Family, H: Hasher<F>>(
+pub(crate) fn append_folded_backward<F: Family, H: Hasher<F>>(
     found: &mut Vec<H::Digest>,
     hasher: &H,
     digests: &[H::Digest],

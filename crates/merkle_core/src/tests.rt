@@ -1,3 +1,6 @@
+mod multi;
+mod plans;
+
 use super::*;
 use crate::range::verify_range_inclusion;
 use crate::ranges::range_digests_of;

@@ -5,16 +5,21 @@ use Rattle.merkle_forest.specs.Forest.{Rule}
 use Rattle.merkle_forest.specs.Nodes.{IsSize}
 use Rattle.merkle_core_parts.specs.Mem.{Base, Replacement, node_count, pinned_positions}
 use Rattle.merkle_core_parts.specs.declared.error.Error.{Error}
-use Rattle.merkle_core_parts.specs.declared.error.Error.TheVariants.{LocationOverflow, InvalidSize, LeafOutOfBounds}
+use Rattle.merkle_core_parts.specs.declared.error.Error.TheVariants.{LocationOverflow, Empty, RangeOutOfBounds, InvalidSize}
+use Rattle.merkle_core_parts.specs.declared.error.Error.TheVariants.{LeafOutOfBounds, DuplicateLocation, UnsortedLocation}
 use Rattle.merkle_core_parts.specs.declared.error.Error.TheVariants.{ElementPruned, InvalidPinnedNodes, StaleBatch}
 use Rattle.merkle_core_parts.specs.declared.error.Error.TheVariants.{InvalidInactivePeaks, MissingNode, Memory}
 
 -- an error's number and what it means
 abbrev pub error_text : {F : Type 0} → Error F → List ℕ
 error_text (LocationOverflow location) = codes "M3: location " ++ decimal location ++ codes " is past the limit"
+error_text Empty = codes "M4: no location is asked for"
+error_text (RangeOutOfBounds location) = codes "M5: the range ends past the leaves at location " ++ decimal location
 error_text InvalidSize = codes "M6: no tree has so many nodes"
 error_text (LeafOutOfBounds location) = codes "M7: no leaf at location " ++ decimal location
-error_text (ElementPruned position) = codes "M10: leaf " ++ decimal position ++ codes " is pruned"
+error_text (DuplicateLocation location) = codes "M8: location " ++ decimal location ++ codes " comes twice"
+error_text (UnsortedLocation location) = codes "M9: location " ++ decimal location ++ codes " comes after a greater one"
+error_text (ElementPruned position) = codes "M10: node " ++ decimal position ++ codes " is pruned"
 error_text InvalidPinnedNodes = codes "M12: too few or too many pinned nodes"
 error_text StaleBatch = codes "M13: the batch begins from another tree"
 error_text InvalidInactivePeaks = codes "M16: fewer peaks than inactive ones"

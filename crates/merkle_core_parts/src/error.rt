@@ -12,11 +12,19 @@ use std::fmt;
 pub enum Error<F: Family> {
     /// M3: this location is past `MAX_LEAVES`. In the Rust: `merkle::Error::LocationOverflow`.
     LocationOverflow(Location<F>),
+    /// M4: a range or a list of locations is empty. In the Rust: `merkle::Error::Empty`.
+    Empty,
+    /// M5: a range ends at this location, past the leaves. In the Rust: `merkle::Error::RangeOutOfBounds`.
+    RangeOutOfBounds(Location<F>),
     /// M6: no tree has so many nodes. In the Rust: `merkle::Error::InvalidSize`, with the number of nodes.
     InvalidSize,
     /// M7: no leaf stands at this location. In the Rust: `merkle::Error::LeafOutOfBounds`.
     LeafOutOfBounds(Location<F>),
-    /// M10: the leaf at this position is pruned. In the Rust: `merkle::Error::ElementPruned`.
+    /// M8: this location is the one before it again. In the Rust: `merkle::Error::DuplicateLocation`.
+    DuplicateLocation(Location<F>),
+    /// M9: this location is less than the one before it. In the Rust: `merkle::Error::UnsortedLocation`.
+    UnsortedLocation(Location<F>),
+    /// M10: the node at this position is pruned, or is nowhere. In the Rust: `merkle::Error::ElementPruned`.
     ElementPruned(Position<F>),
     /// M12: there are not as many pinned nodes as the leaves before the boundary have peaks. In the Rust:
     /// `merkle::Error::InvalidPinnedNodes`.
@@ -43,9 +51,20 @@ impl<F: Family> fmt::Display for Error<F> {
             Error::LocationOverflow(location) => {
                 write!(f, "M3: location {location} is past the limit")
             }
+            Error::Empty => f.write_str("M4: no location is asked for"),
+            Error::RangeOutOfBounds(location) => {
+                write!(
+                    f,
+                    "M5: the range ends past the leaves at location {location}"
+                )
+            }
             Error::InvalidSize => f.write_str("M6: no tree has so many nodes"),
             Error::LeafOutOfBounds(location) => write!(f, "M7: no leaf at location {location}"),
-            Error::ElementPruned(position) => write!(f, "M10: leaf {position} is pruned"),
+            Error::DuplicateLocation(location) => write!(f, "M8: location {location} comes twice"),
+            Error::UnsortedLocation(location) => {
+                write!(f, "M9: location {location} comes after a greater one")
+            }
+            Error::ElementPruned(position) => write!(f, "M10: node {position} is pruned"),
             Error::InvalidPinnedNodes => f.write_str("M12: too few or too many pinned nodes"),
             Error::StaleBatch => f.write_str("M13: the batch begins from another tree"),
             Error::InvalidInactivePeaks => f.write_str("M16: fewer peaks than inactive ones"),

@@ -14,9 +14,9 @@ use merkle_forest::family::{Family, MAX_LEAVES};
 
 // Some peaks that follow one another: how many stand before a range and how many after it, and where the next begins.
 #[derive(Clone, Copy, Debug)]
-struct Sides {
-    before: u64,
-    after: u64,
+pub(crate) struct Sides {
+    pub(crate) before: u64,
+    pub(crate) after: u64,
     next: u64,
 }
 
@@ -28,7 +28,13 @@ fn one_if(test: bool) -> u64
 }
 
 // The first `most` peaks from the one on that begins at `first`.
-fn sides_of<F: Family>(leaves: u64, first: u64, most: u64, start: u64, stop: u64) -> Sides
+pub(crate) fn sides_of<F: Family>(
+    leaves: u64,
+    first: u64,
+    most: u64,
+    start: u64,
+    stop: u64,
+) -> Sides
     requires few { leaves ≤ MAX_LEAVES }
     requires begins { first < leaves → HasPeak (forest_of F.merge_rule leaves) first }
     ensures before { result.before ≡ passing (is_before start) (take most (located_from first (forest_of F.merge_rule leaves))) }

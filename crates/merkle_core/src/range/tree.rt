@@ -29,7 +29,7 @@ pub(crate) fn meets_range<F: Family>(subtree: Subtree, start: u64, stop: u64) ->
 }
 
 // The subtrees of the two children of the branch.
-fn children_of<F: Family>(subtree: Subtree) -> (Subtree, Subtree)
+pub(crate) fn children_of<F: Family>(subtree: Subtree) -> (Subtree, Subtree)
     requires stands { HasTree F.merge_rule subtree.first subtree.position subtree.height }
     requires branch { 0 < subtree.height }
     ensures children { (p : ℕ) (left right : Tree)

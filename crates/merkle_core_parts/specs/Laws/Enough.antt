@@ -8,8 +8,8 @@ use Rattle.merkle_forest.specs.Perfect.{IsPairing}
 use Rattle.merkle_core_parts.specs.Errors.{IsRefusalOver}
 use Rattle.merkle_core_parts.specs.Mem.{Nodes, Replacement, AreKeptNodes, node_count, node_at, IsKept, encoded}
 use Rattle.merkle_core_parts.specs.declared.error.Error.{Error}
-use Rattle.merkle_core_parts.specs.declared.error.Error.TheVariants.{LocationOverflow, InvalidSize, LeafOutOfBounds, ElementPruned}
-use Rattle.merkle_core_parts.specs.declared.error.Error.TheVariants.{InvalidPinnedNodes, StaleBatch, InvalidInactivePeaks}
+use Rattle.merkle_core_parts.specs.declared.error.Error.TheVariants.{LocationOverflow, Empty, RangeOutOfBounds, InvalidSize, LeafOutOfBounds, ElementPruned}
+use Rattle.merkle_core_parts.specs.declared.error.Error.TheVariants.{DuplicateLocation, UnsortedLocation, InvalidPinnedNodes, StaleBatch, InvalidInactivePeaks}
 use Rattle.merkle_core_parts.specs.declared.error.Error.TheVariants.{MissingNode, Memory}
 use Rattle.merkle_core_parts.specs.Laws.Due.{due-first}
 use Rattle.merkle_core_parts.specs.Laws.Held.{kept-there}
@@ -75,6 +75,10 @@ pub only-memory : {F : Type 0} (rule : Rule) (nodes : Nodes) (needed : ℕ) (e :
     → needed ≡ node_count rule nodes.leaves → IsRefusalOver needed (node_at rule nodes) e
     → IsRefusalOfKept rule nodes.boundary e → e ≡ Memory
 only-memory rule nodes needed (LocationOverflow l) shape is refused keeps = absurd refused
+only-memory rule nodes needed Empty shape is refused keeps = absurd refused
+only-memory rule nodes needed (RangeOutOfBounds l) shape is refused keeps = absurd refused
+only-memory rule nodes needed (DuplicateLocation l) shape is refused keeps = absurd refused
+only-memory rule nodes needed (UnsortedLocation l) shape is refused keeps = absurd refused
 only-memory rule nodes needed InvalidSize shape is refused keeps = absurd refused
 only-memory rule nodes needed (LeafOutOfBounds l) shape is refused keeps = absurd refused
 only-memory rule nodes needed (ElementPruned p) shape is refused keeps = absurd refused

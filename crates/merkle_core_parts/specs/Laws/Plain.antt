@@ -55,7 +55,7 @@ plain_at hash rule first (suc i) (e ∷ elements) lt =
     ∙ ap (λ l. hash (leaf_string (node_count rule l) (slice_index_or elements i []))) same
 
 -- the digest of each tree is the plain one
-digest-plain : (hash : Hash) (rule : Rule) → IsPairing rule → (elements : List (List ℕ)) (first : ℕ) (tree : Tree)
+pub digest-plain : (hash : Hash) (rule : Rule) → IsPairing rule → (elements : List (List ℕ)) (first : ℕ) (tree : Tree)
     → IsNodeAt first tree (forest_of rule (length elements))
     → tree_digest (plain_node hash) (plain_leaf_digests hash rule 0 elements) first tree
     ≡ plain_digest hash elements first tree
