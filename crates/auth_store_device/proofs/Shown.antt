@@ -1,5 +1,5 @@
 -- An opening of the log, and its admission.
-use Rattle.std.proofs.Common.{◌≡◌, ◌⊎◌, ℕ, ◌+◌, ◌-◌, ◌≤◌, Bool, true, false, cond, ◌||◌, List, [], ◌∷◌, ◌++◌, length, take, drop, get_or, replicate}
+use Rattle.std.proofs.Common.{◌≡◌, ◌⊎◌, ℕ, ◌+◌, ◌-◌, ◌^◌, ◌<◌, ◌≤◌, Bool, true, false, cond, ◌||◌, List, [], ◌∷◌, ◌++◌, length, take, drop, get_or, replicate}
 use Rattle.std.proofs.Common.{sym, ◌∙◌, ap, subst, inl, inr, ⊎_elim, refl, arith}
 use Rattle.std.specs.Prelude.{unwrap_or, None, Some, Err}
 use Rattle.fault_storage_parts.specs.declared.error.HeaderError.{HeaderError}
@@ -227,3 +227,16 @@ module _ {R : Type 0} (stream : R → Stream) (rate : Probability) (old mid : St
         let one : other ≡ fault = cc in (there, found ∙ ap Some one)
     refused_header (inr (inr (inr (room, drawn, made, (kept, inr (inr (inl (is, ended)))), same, words)))) why = cc
     refused_header (inr (inr (inr (room, drawn, made, (kept, inr (inr (inr is))), same, words)))) why = cc
+
+-- why an opening was refused for a number that has ended, while faults can be counted
+module _ {R : Type 0} (stream : R → Stream) (rate : Probability) (old mid : Storage Store R) (e : StorageError)
+  where
+    pub refused_number : IsFaultyCall stream Open rate (FaultyOpens log_partition log_name log_versions) old (Err e) mid → e ≡ errors.NumberEnded
+        → old.injections < 2 ^ 64 - 1 → old.inner.next ≡ 2 ^ 64 - 1
+    refused_number (inl (full, is, same)) why fine = absurd (omega (arith, full, fine))
+    refused_number (inr (inl (room, made, (kept, inl (is, valid)), same))) why fine = cc
+    refused_number (inr (inl (room, made, (kept, inr (inl (other, there, is, found))), same))) why fine = cc
+    refused_number (inr (inl (room, made, (kept, inr (inr (inl (is, ended)))), same))) why fine = ended
+    refused_number (inr (inl (room, made, (kept, inr (inr (inr is))), same))) why fine = cc
+    refused_number (inr (inr (inl (room, drawn, is, same, words)))) why fine = cc
+    refused_number (inr (inr (inr (room, drawn, made, answers, same, words)))) why fine = absurd (made (inl (ap Err why)))

@@ -17,14 +17,15 @@ use Rattle.fault_storage_parts.proofs.Left.{left-keeps}
 use Rattle.paged_blob.specs.Calls.{Call, opened, synced, File, file_of}
 use Rattle.std.proofs.Common.{Result, Ok, Err}
 use Rattle.paged_blob.specs.declared.error.Error as refusals
-use Rattle.paged_blob.specs.declared.error.Error.TheVariants.{NumberEnded}
+use Rattle.paged_blob.specs.declared.error.Error.TheVariants.{NumberEnded, PowerCut}
 use Rattle.paged_blob.specs.Images.{IsImage, IsReached}
 use Rattle.paged_blob.proofs.Live.{reached_image}
 use Rattle.auth_store_device.specs.Logs.{IsOrderly, IsHandleOf, are_numbered, log_partition, log_name, has_log, log_of, durable_log, behind_header}
 use Rattle.auth_store_device.specs.Logs.{Stands, IsOpenLog, HasOwnHeader}
 use Rattle.auth_store_device.specs.Devices.{DeviceState, IsDevice, IsStopped, HasEnded, shown_file, log_fault, log_versions, opening_answer}
-use Rattle.auth_store_device.specs.Devices.{opening_refusal, TellsOpening, IsOpeningCall}
+use Rattle.auth_store_device.specs.Devices.{opening_refusal, stopped_opening, TellsOpening, IsOpeningCall}
 use Rattle.auth_store_device.specs.declared.error.OpenError.{OpenError}
+use Rattle.auth_store_device.specs.declared.error.OpenError.TheVariants as openings
 use Rattle.fault_storage_parts.specs.declared.error.HeaderError.{HeaderError}
 use Rattle.fault_storage.specs.declared.storage.Opened.{Opened}
 use Rattle.fault_storage.specs.Faults.{IsFaultyCall, FaultyOpens}
@@ -138,6 +139,16 @@ module _ {R : Type 0} where
   stopped_ended old new e (inl (ended, is, same)) has = cc
   stopped_ended old new e (inr (injections, refused, cut, is, same)) (inl full) = absurd (omega (arith, injections, full))
   stopped_ended old new e (inr (injections, refused, cut, is, same)) (inr full) = absurd (omega (arith, refused, full))
+
+  -- a call that is stopped for a number is stopped by a count that has ended
+  pub stopped_number : (old new : DeviceState R) (e : refusals.Error) → IsStopped {T = Unit} old (Err e) new
+      → stopped_opening e ≡ openings.NumberEnded → HasEnded old
+  stopped_number old new e (inl (ended, is, same)) why = ended
+  stopped_number old new e (inr (injections, refused, cut, is, same)) why =
+      let one : e ≡ PowerCut = cc in absurd (not_number (ap stopped_opening (sym one) ∙ why))
+    where
+      not_number : openings.PowerCut ≡ openings.NumberEnded → ⊥
+      not_number is = cc
 
 -- what the device answers of an opening tells of the store's answer
 pub tells_ok : (answer : Result (Opened (Blob Handle)) Error) (log : Blob Handle) (count : ℕ) → Ok log ≡ opening_answer answer → TellsOpening answer (Ok count)

@@ -275,7 +275,7 @@ impl<R: Rng + Drop> Device<R> {
     ghost use Rattle.auth_store_device.specs.Devices.{injected_after, refused_after};
 
     /// Opens the log, or makes it where there is none, admits what it shows, and answers how many bytes that is. It
-    /// asks for a closed device. F8: a count has ended; F10; F9; F6; F5: its header is refused.
+    /// asks for a closed device. F8: a count has ended, or the numbers of files; F10; F9; F6; F5: its header is refused.
     pub fn open(&mut self) -> Result<u64, OpenError>
         requires { self.old.log ≡ None }
         ensures shows { OnOk result (self.new.calls
@@ -288,6 +288,8 @@ impl<R: Rng + Drop> Device<R> {
             × (self.new.storage.inner ≡ self.old.storage.inner)) }
         ensures count { self.new.storage.injections ≡ injected_after result self.old.storage.injections }
         ensures ended { HasEnded self.old → result ≡ Err OpenError.NumberEnded }
+        ensures numbers { result ≡ Err OpenError.NumberEnded
+            → HasEnded self.old ⊎ (self.old.storage.inner.next ≡ 2 ^ 64 - 1) }
         ensures cut { self.old.left ≡ Some 0 → HasEnded self.old ⊎ (result ≡ Err OpenError.PowerCut) }
         ensures power { result ≡ Err OpenError.PowerCut → self.old.left ≡ Some 0 }
         ensures header { (fault : HeaderError) → result ≡ Err (OpenError.Header fault)

@@ -4,3 +4,6 @@ pub mod Refused
 pub mod Long
 pub mod Reading
 pub mod Grown
+pub mod Steps
+pub mod Rests
+pub mod OnDevice

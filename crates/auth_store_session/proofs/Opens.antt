@@ -103,11 +103,11 @@ still_shows format size history pending old new shown shows (inr through) none =
 pub grown : {P : List Call → Type 0} {old new : List Call} → Through P old new → Grows old new
 grown moments = weaker (λ calls p. tt) moments
 
+pub behind : (old : List Call) (call : Call) (new : List Call) → Grows (call ∷ old) new → Grows old new
+behind old call new (here p) = then call (here tt) tt
+behind old call new (then other moments p) = then other (behind old call _ moments) tt
+
 pub opened_grows : (format : Format) (size : ℕ) (old new : List Call) (shown : List ℕ) → IsOpenedThrough format size shown old new
     → Grows old new
 opened_grows format size old new shown (inl same) = subst (Grows old) (sym same) (here tt)
-opened_grows format size old new shown (inr through) = after_one old (opened shown) new (grown through.1)
-  where
-    after_one : (old : List Call) (call : Call) (new : List Call) → Grows (call ∷ old) new → Grows old new
-    after_one old call new (here p) = then call (here tt) tt
-    after_one old call new (then other moments p) = then other (after_one old call _ moments) tt
+opened_grows format size old new shown (inr through) = behind old (opened shown) new (grown through.1)

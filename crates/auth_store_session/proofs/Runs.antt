@@ -1,6 +1,15 @@
 -- A run and one step more.
-use Rattle.std.proofs.Common.{List, [], ◌∷◌, ◌++◌, refl, subst}
-use Rattle.auth_store_session.specs.Machine.{Machine, Power, State, Request, Answer, IsStep, IsRun}
+use Rattle.std.proofs.Common.{◌≡◌, ◌+◌, ℕ, List, [], ◌∷◌, ◌++◌, Some, None, refl, sym, ◌∙◌, ap, subst, append_assoc}
+use Rattle.std.proofs.lemmas.List.{append-nil}
+use Rattle.fault_storage_parts.specs.Crc32.{crc32}
+use Rattle.paged_blob.specs.Caches.{Cache}
+use Rattle.paged_blob.specs.Chance.{NoneByChance}
+use Rattle.paged_blob.specs.Moments.{Grows}
+use Rattle.auth_store_device.specs.Devices.{DeviceState}
+use Rattle.auth_store_log.specs.Records.{Format}
+use Rattle.auth_store_session.specs.Machine.{Machine, Power, State, Request, Answer, IsStep, IsRun, at_rest}
+use Rattle.auth_store_session.specs.Standing.{SessionState, StandsFor, Steps, Runs, RunsWhole, calls_in, page_size_in, power_in, power_of}
+use Rattle.auth_store_session.proofs.Opens.{fewer}
 
 pub one_more : (m : Machine) (before : Power) (first : State) (requests : List Request) (answers : List Answer)
     (at : Power) (now : State) (request : Request) (answer : Answer) (after : Power) (next : State)
@@ -17,3 +26,68 @@ one_more m before first (r ∷ requests) (a ∷ answers) at now request answer a
     (ran.0, ran.1, ran.2, one_more m ran.0 ran.1 requests answers at now request answer after next ran.3 step)
 one_more m before first [] (a ∷ answers) at now request answer after next ran step = absurd ran
 one_more m before first (r ∷ requests) [] at now request answer after next ran step = absurd ran
+
+-- what was taken of some requests, and what is left
+pub record Taken {R : Type 0} (m : Machine) (format : Format) (first : SessionState R) (whole rest : List Request) (given : List Answer)
+    (now : SessionState R) : Type 0 where
+  pub before : List Request
+  pub is : before ++ rest ≡ whole
+  pub ran : Runs m format first before given now
+  pub sized : page_size_in now.parts now.store ≡ page_size_in first.parts first.store
+
+pub taken_none : {R : Type 0} (m : Machine) (format : Format) (first : SessionState R) (whole rest : List Request) (given : List Answer)
+    → rest ≡ whole → given ≡ [] → Taken m format first whole rest given first
+taken_none m format first whole rest given is none = record {
+  before = [];
+  is = is;
+  ran = subst (λ answers. Runs m format first [] answers first) (sym none) (λ chance state stands. (state, (refl, refl), stands));
+  sized = refl;
+}
+
+-- one step more
+pub taken_next : {R : Type 0} (make : ℕ → Machine) (format : Format) (first : SessionState R) (whole left rest : List Request)
+    (given more : List Answer) (now next : SessionState R) (request : Request) (answer : Answer)
+    → Taken (make (page_size_in first.parts first.store)) format first whole left given now → left ≡ request ∷ rest
+    → Steps (make (page_size_in now.parts now.store)) format now request answer next
+    → Grows (calls_in now.parts now.store) (calls_in next.parts next.store)
+    → page_size_in next.parts next.store ≡ page_size_in now.parts now.store → more ≡ given ++ answer ∷ []
+    → Taken (make (page_size_in first.parts first.store)) format first whole rest more next
+taken_next make format first whole left rest given more now next request answer taken is steps grows sized gives =
+    let m = make (page_size_in first.parts first.store) in
+    record {
+      before = taken.before ++ request ∷ [];
+      is = append_assoc taken.before (request ∷ []) rest ∙ (ap (λ l. taken.before ++ l) (sym is) ∙ taken.is);
+      ran = subst (λ answers. Runs m format first (taken.before ++ request ∷ []) answers next) (sym gives) (λ chance state stands.
+          let at = taken.ran (subst (λ size. NoneByChance crc32 size (calls_in now.parts now.store)) sized
+          (fewer crc32 (page_size_in next.parts next.store) grows chance)) state stands in
+          let step = subst (λ size. Steps (make size) format now request answer next) taken.sized steps chance at.0 at.2 in (
+            step.0,
+            one_more m (power_in first.parts first.store) state taken.before given (power_in now.parts now.store) at.0 request
+                answer (power_in next.parts next.store) step.0 at.1 step.1,
+            step.2,
+          ));
+      sized = sized ∙ taken.sized;
+    }
+
+pub taken_end : {R : Type 0} (m : Machine) (format : Format) (first : SessionState R) (whole left : List Request) (given : List Answer)
+    (now : SessionState R) → Taken m format first whole left given now → left ≡ [] → Runs m format first whole given now
+taken_end m format first whole left given now taken none =
+    subst (λ requests. Runs m format first requests given now)
+    (sym (append-nil taken.before) ∙ (ap (λ l. taken.before ++ l) (sym none) ∙ taken.is)) taken.ran
+
+-- a run of a closed session that is closed at its end
+pub runs_whole : {R : Type 0} (m : Machine) (format : Format) (first now : SessionState R) (requests : List Request)
+    (answers : List Answer) (device new : DeviceState R) (cache last : Cache) → first ≡ record { parts = Some (device, cache); store = None }
+    → Runs m format first requests answers now → new.calls ≡ calls_in now.parts now.store
+    → last.page_size + 12 ≡ page_size_in now.parts now.store → m.page_size ≡ page_size_in now.parts now.store
+    → power_of new last ≡ power_in now.parts now.store
+    → ((state : State) → StandsFor format now.parts now.store state → StandsFor format (Some (new, last)) None (at_rest state))
+    → RunsWhole m format device cache requests answers new last
+runs_whole m format first now requests answers device new cache last is runs calls sized paged power rests chance state stands =
+    let ran = subst (λ s. Runs m format s requests answers now) is runs
+    (subst (λ size. NoneByChance crc32 size (calls_in now.parts now.store)) paged
+    (subst (NoneByChance crc32 m.page_size) calls chance)) state stands in (
+      ran.0,
+      subst (λ p. IsRun m (power_of device cache) state requests answers p ran.0) (sym power) ran.1,
+      rests ran.0 ran.2,
+    )

@@ -39,6 +39,12 @@ pub data State : Type 0 where
   live : History → State
   failed : History → Commit → State
 
+-- the state after the store is closed, where one is open
+abbrev pub at_rest : State → State
+at_rest (closed history pending) = closed history pending
+at_rest (live history) = closed history None
+at_rest (failed history commit) = closed history (Some commit)
+
 -- what a session is asked
 pub data Request : Type 0 where
   ask_open : Request
@@ -72,18 +78,21 @@ pub data Answer : Type 0 where
   still_open : Answer
 
 -- What the machine sees of the device under it and of its cache: how many faults were injected and how many calls a cut refused so
--- far, how many names the cache has given, how many bytes the log has on the disk, and whether a cut of the power stands.
+-- far, how many names the cache has given, how many bytes the log has on the disk, which number the next file of the disk has, and
+-- whether a cut of the power stands.
 pub record Power : Type 0 where
   pub injected : ℕ
   pub refused : ℕ
   pub names : ℕ
   pub size : ℕ
+  pub files : ℕ
   pub is_cut : Bool
 
 -- one of these numbers is about to pass its type
 abbrev pub IsEnding : Power → Type 0
 IsEnding power =
     (2 ^ 64 ≤ power.injected + 1) ⊎ (2 ^ 64 ≤ power.refused + 1) ⊎ (2 ^ 64 ≤ power.names + 3) ⊎ (2 ^ 64 ≤ power.size + 4096)
+    ⊎ (2 ^ 64 ≤ power.files + 1)
 
 -- the key's value with its honest proof, where the latest map has the key
 abbrev pub proof_of : Machine → History → List ℕ → Option (List ℕ × List ℕ)

@@ -10,18 +10,22 @@ use Rattle.auth_store_parts.specs.Batch.{Word}
 use Rattle.auth_store_parts.specs.History.{History, log_of}
 use Rattle.auth_store_device.specs.Devices.{DeviceState, is_cut, log_fault}
 use Rattle.auth_store_device.specs.Logs.{behind_header, durable_log, HasOwnHeader}
-use Rattle.auth_store_log.specs.Records.{Format, recovered_log}
+use Rattle.auth_store_log.specs.Records.{Format, begun, history_bytes, recovered_log}
 use Rattle.auth_store_log.specs.Shown.{IsKeptThrough}
 use Rattle.auth_store_ledger.specs.Store.{commit_after, root_of_history}
 use Rattle.auth_store_session.specs.declared.error.StoreError.{StoreError}
 use Rattle.auth_store_session.specs.declared.error.StoreError.TheVariants as refusals
-use Rattle.auth_store_session.specs.Machine.{Machine, Power, State, closed, live, failed, Request, ask_close, Answer, IsStep, IsRun, MayRefuseOpening, MayRefuseCommit, commit_of}
-use Rattle.auth_store_session.specs.Stores.{StoreState, IsCache, IsLiveAt, IsNoHistory, Shows}
+use Rattle.auth_store_session.specs.Machine.{Machine, Power, State, closed, live, failed, Request, ask_close, Answer, at_rest, IsStep, IsRun, MayRefuseOpening, MayRefuseCommit, commit_of}
+use Rattle.auth_store_session.specs.Stores.{StoreState, IsCache, IsLiveAt, IsNoHistory, IsWritten, Shows}
 
 -- a session: the device and the cache while no store is open, or the store
 pub record SessionState (R : Type 0) : Type 0 where
   pub parts : Option (DeviceState R × Cache)
   pub store : Option (StoreState R)
+
+-- what is durable of a device's log, behind its header
+abbrev pub shown_of : {R : Type 0} → DeviceState R → List ℕ
+shown_of device = behind_header (durable_log device.storage.inner)
 
 -- what the machine sees of a device and a cache
 abbrev pub power_of : {R : Type 0} → DeviceState R → Cache → Power
@@ -29,7 +33,8 @@ power_of device cache = record {
   injected = device.storage.injections;
   refused = device.refused;
   names = cache.next_id;
-  size = length (behind_header (durable_log device.storage.inner));
+  size = length (shown_of device);
+  files = device.storage.inner.next;
   is_cut = is_cut device.left;
 }
 
@@ -51,25 +56,35 @@ Commits m format words metadata history old result new =
     × (IsLiveAt new history ⊎ ((new.live ≡ None) × (length (log_of later) ≤ 2 ^ 62)
     × Shows format m.page_size history (Some (commit_of words metadata history)) new.device.calls)))
 
--- The calls of an opening: none, or the opening of these bytes, and at each moment after it openings show what is recovered of them.
+-- The calls of an opening of these bytes, which an image has, and at each moment after it openings show what is recovered of them.
+abbrev pub IsShownThrough : Format → ℕ → List ℕ → List Call → List Call → Type 0
+IsShownThrough format size shown old new =
+    IsImage (file_of old) shown
+    × Through (IsKeptThrough format crc32 size (recovered_log format crc32 size shown)) (opened shown ∷ old) new
+
+-- The calls of an opening: none, or so.
 abbrev pub IsOpenedThrough : Format → ℕ → List ℕ → List Call → List Call → Type 0
-IsOpenedThrough format size shown old new =
-    (new ≡ old)
-    ⊎ (IsImage (file_of old) shown
-    × Through (IsKeptThrough format crc32 size (recovered_log format crc32 size shown)) (opened shown ∷ old) new)
+IsOpenedThrough format size shown old new = (new ≡ old) ⊎ IsShownThrough format size shown old new
+
+-- the log of the history is what is recovered of these bytes, begun where that is nothing
+abbrev pub IsRecovered : Format → ℕ → List ℕ → History → Type 0
+IsRecovered format size shown history =
+    IsWritten format history × (history_bytes format history ≡ begun format (recovered_log format crc32 size shown))
 
 -- Why an opening is refused, chance or not.
 abbrev pub IsOpenError : {R : Type 0} → Machine → Format → DeviceState R → Cache → DeviceState R → Cache → StoreError → Type 0
 IsOpenError m format old cache new now refusals.Corrupt =
-    IsNoHistory format (recovered_log format crc32 m.page_size (behind_header (durable_log old.storage.inner)))
-IsOpenError m format old cache new now (refusals.Header fault) = log_fault old.storage.inner ≡ Some fault
+    IsNoHistory format (recovered_log format crc32 m.page_size (shown_of old))
+    × IsShownThrough format m.page_size (shown_of old) old.calls new.calls
+IsOpenError m format old cache new now (refusals.Header fault) =
+    (log_fault old.storage.inner ≡ Some fault) × (HasOwnHeader old.storage.inner → ⊥)
 IsOpenError m format old cache new now error = MayRefuseOpening m (power_of old cache) (power_of new now) error
 
 -- so for what a session has: there is none where it has neither device nor store, which no session has
 abbrev pub power_in : {R : Type 0} → Option (DeviceState R × Cache) → Option (StoreState R) → Power
 power_in (Some parts) store = power_of parts.0 parts.1
 power_in None (Some store) = power_of store.device store.cache
-power_in None None = record { injected = 0; refused = 0; names = 0; size = 0; is_cut = false }
+power_in None None = record { injected = 0; refused = 0; names = 0; size = 0; files = 0; is_cut = false }
 
 -- the calls that were made of its device
 abbrev pub calls_in : {R : Type 0} → Option (DeviceState R × Cache) → Option (StoreState R) → List Call
@@ -126,3 +141,13 @@ Runs m format old requests answers new =
     → (first : State) → StandsFor format old.parts old.store first
     → (last : State) × IsRun m (power_in old.parts old.store) first requests answers (power_in new.parts new.store) last
     × StandsFor format new.parts new.store last
+
+-- A whole run of a device and a cache, closed before it and after it: where no opening is by chance, it is a run of the machine from
+-- each state for which they stood, and they stand for its last state at rest.
+abbrev pub RunsWhole : {R : Type 0} → Machine → Format → DeviceState R → Cache → List Request → List Answer → DeviceState R → Cache
+    → Type 0
+RunsWhole m format device cache requests answers new now =
+    NoneByChance crc32 m.page_size new.calls
+    → (first : State) → StandsFor format (Some (device, cache)) None first
+    → (last : State) × IsRun m (power_of device cache) first requests answers (power_of new now) last
+    × StandsFor format (Some (new, now)) None (at_rest last)

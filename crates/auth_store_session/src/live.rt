@@ -1,10 +1,11 @@
 //! What an open store has while it has not failed, over a blob of any make.
 
 ghost use Rattle.std.specs.Prelude.{◌≡◌, ◌⊎◌, ◌+◌, ◌++◌, ◌≤◌, ◌<◌, ◌^◌, [], length, true, false, IsFalse, IfOk, IfErr, OnOk, OnErr, IfSome};
-ghost use Rattle.std.specs.Prelude.{option_map, Some, None, Err, MatchResult, IsSomeAnd};
+ghost use Rattle.std.specs.Prelude.{List, option_map, Some, None, Err, MatchResult, IsSomeAnd};
 ghost use Rattle.fault_storage_parts.specs.Crc32.{crc32};
 ghost use Rattle.paged_blob.specs.CachedContent.{HoldsPagesOf};
-ghost use Rattle.paged_blob.specs.Calls.{content, file_of};
+ghost use Rattle.paged_blob.specs.Caches.{Cache};
+ghost use Rattle.paged_blob.specs.Calls.{Call, content, file_of};
 ghost use Rattle.paged_blob.specs.Moments.{Grows, Through};
 ghost use Rattle.paged_blob.specs.Writers.{IsWriter, Keeps, written};
 ghost use Rattle.auth_store_parts.specs.Batch as words;
@@ -44,6 +45,18 @@ impl<F: Family, H: HashFunction, K: FixedKey, V: FixedValue, const N: usize> Mod
     ghost Value = { LiveState };
 
     ghost view = { λ l. record { history = l.ledger; writer = l.writer } };
+}
+
+impl<F: Family, H: HashFunction, K: FixedKey, V: FixedValue, const N: usize> Live<F, H, K, V, N> {
+    /// The law that openings show the history of a live store, while nothing else is called of its blob (own).
+    pub(crate) fn is_shown(&self)
+        ensures { let format = format_of (K.after tt) (V.after tt) K.SIZE V.SIZE in (calls : List Call) (cache : Cache)
+            → IsLive format calls cache self.now → Shows format (cache.page_size + 12) self.now.history None calls }
+    {
+        each_image_keeps_what_is_durable();
+        a_kept_log_is_shown();
+        self.ledger.holds_a_history();
+    }
 }
 
 /// Recovers the log of a blob that was opened, of so many bytes, and takes the history whose log it is. S5: it is the
@@ -178,6 +191,7 @@ where
     ensures page_size { cache.new.page_size ≡ cache.old.page_size }
     ensures open { (B.failures blob.new).is_open ≡ true }
     ensures grows { Grows (B.calls blob.old) (B.calls blob.new) }
+    ensures untouched { is_cut ≡ true → blob.new ≡ blob.old }
 {
     each_image_keeps_what_is_durable();
     a_kept_log_is_shown();
@@ -237,6 +251,7 @@ where
     ensures page_size { cache.new.page_size ≡ cache.old.page_size }
     ensures open { (B.failures blob.new).is_open ≡ true }
     ensures grows { Grows (B.calls blob.old) (B.calls blob.new) }
+    ensures untouched { is_cut ≡ true → blob.new ≡ blob.old }
 {
     let Some(Live { ledger, writer }) = store.take() else {
         return Err(StoreError::Failed);

@@ -1,7 +1,7 @@
 use Rattle.std.proofs.Common.{rules, ◌≡◌, true, false, Ok, refl}
 use Rattle.fault_storage.specs.Stores.{published}
 use Rattle.auth_store_device.specs.Logs.{has_log, durable_log}
-use Rattle.auth_store_device.proofs.Shown.{found_fine, found_shows, made_shows, refused_header}
+use Rattle.auth_store_device.proofs.Shown.{found_fine, found_shows, made_shows, refused_header, refused_number}
 use Rattle.auth_store_device.proofs.opening.open_log.Goals as goal
 
 pub returns-in-Some-clause-opens : goal.returns-in-Some-clause-opens
@@ -44,3 +44,8 @@ returns-in-Some-clause-fine g c =
 pub returns-in-Err-clause-header : goal.returns-in-Err-clause-header
 returns-in-Err-clause-header g c = λ fault is.
     refused_header g.R.Rng.stream c.args.storage.now.config.open c.args.storage.now c.open_versioned.new.self c.in-Err.e fault (search rules) (search rules)
+
+pub returns-in-Err-clause-numbers : goal.returns-in-Err-clause-numbers
+returns-in-Err-clause-numbers g c = λ is.
+    refused_number g.R.Rng.stream c.args.storage.now.config.open c.args.storage.now c.open_versioned.new.self c.in-Err.e (search rules) (search rules)
+    c.requires.room

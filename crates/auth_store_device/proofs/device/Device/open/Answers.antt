@@ -1,10 +1,10 @@
-use Rattle.std.proofs.Common.{rules, ◌≡◌, ◌∷◌, ◌<◌, ◌∙◌, Some, Ok, Err, ap, subst, sym}
+use Rattle.std.proofs.Common.{rules, ◌≡◌, ◌∷◌, ◌<◌, ◌∙◌, Some, Ok, Err, inl, ap, subst, sym}
 use Rattle.paged_blob.specs.Calls.{opened, file_of}
 use Rattle.paged_blob.specs.Images.{IsImage}
 use Rattle.paged_blob.specs.Recorded.{calls_of}
 use Rattle.auth_store_device.specs.Logs.{behind_header, durable_log, log_of, HasOwnHeader}
 use Rattle.auth_store_device.specs.Devices.{DeviceState, stopped_opening}
-use Rattle.auth_store_device.proofs.Steps.{draws_opening, durable_image, opened_device, own_refused, stopped_ended, tells_err, tells_ok}
+use Rattle.auth_store_device.proofs.Steps.{draws_opening, durable_image, opened_device, own_refused, stopped_ended, stopped_number, tells_err, tells_ok}
 use Rattle.auth_store_device.proofs.device.Device.open.Goals as goal
 
 pub returns-in-Err-clause-ended : goal.returns-in-Err-clause-ended
@@ -72,3 +72,7 @@ returns-in_err-log-clause-own g c = λ fault own is.
     let same : old ≡ c.args.self.now = search rules in
     own_refused at.storage.inner fault c.self.invariant.orderly (subst (λ (s : DeviceState g.row.R.Denot). HasOwnHeader s.storage.inner) (sym same) own)
     (c.open_log-answer.ensures.header fault (search rules))
+
+pub returns-in-Err-clause-numbers : goal.returns-in-Err-clause-numbers
+returns-in-Err-clause-numbers g c = λ is.
+    inl (stopped_number c.args.self.now c.stop.new.self c.in-Err.error c.in-Err.ensures.err (search rules))

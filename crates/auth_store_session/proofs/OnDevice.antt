@@ -1,0 +1,246 @@
+-- Why a store on a device refuses, from the causes of its parts; and what its calls leave.
+use Rattle.std.proofs.Common.{◌≡◌, ◌⊎◌, ◌+◌, ◌-◌, ◌<◌, ◌≤◌, ◌^◌, ◌==◌, ℕ, Bool, true, List, ◌∷◌, Option, Some, None, Result, Ok, Err}
+use Rattle.std.proofs.Common.{inl, inr, refl, sym, subst, ap, ◌∙◌, ⊎_elim, length, arith}
+use Rattle.std.specs.Prelude.{IsTrue, IsFalse, OnOk, IfSome, IsSomeAnd, MatchResult}
+use Rattle.std.proofs.lemmas.Bool.{false_from_ne_true, eqb-true}
+use Rattle.fault_storage_parts.specs.declared.error.HeaderError.{HeaderError}
+use Rattle.fault_storage_parts.specs.Crc32.{crc32}
+use Rattle.paged_format.specs.Tips.{Tip}
+use Rattle.paged_blob.specs.declared.flush.DurableSlot.{DurableSlot}
+use Rattle.paged_blob.specs.Caches.{Cache}
+use Rattle.paged_blob.specs.Answers.{RecordsOpening}
+use Rattle.paged_blob.specs.Calls.{Call, content, opened, file_of}
+use Rattle.paged_blob.specs.Images.{IsImage}
+use Rattle.paged_blob.specs.Moments.{Through}
+use Rattle.paged_blob.specs.Writers.{Keeps, IsWriterOf}
+use Rattle.auth_store_parts.specs.Batch.{Word}
+use Rattle.auth_store_parts.specs.History.{History, AreStates, log_of}
+use Rattle.auth_store_device.specs.declared.error.OpenError.{OpenError}
+use Rattle.auth_store_device.specs.declared.error.OpenError.TheVariants as openings
+use Rattle.auth_store_device.specs.Devices.{DeviceState, HasEnded, is_cut, log_fault, failures_of, injected_after, left_after_opening}
+use Rattle.auth_store_device.specs.Logs.{HasOwnHeader}
+use Rattle.auth_store_ledger.specs.Store.{commit_after, root_of_history}
+use Rattle.auth_store_log.specs.Records.{Format, recovered_log, history_bytes, log_bytes, AreRecorded}
+use Rattle.auth_store_log.specs.Shown.{MayShow, IsKeptThrough}
+use Rattle.auth_store_session.specs.declared.error.StoreError.{StoreError}
+use Rattle.auth_store_session.specs.declared.error.StoreError.TheVariants.{Fault, PowerCut, NumberEnded, Memory, Corrupt, Failed, Header}
+use Rattle.auth_store_session.specs.Refusals.{of_opening}
+use Rattle.auth_store_session.specs.Machine.{Machine, MayRefuse, MayRefuseCommit, PassesLimit, commit_of}
+use Rattle.auth_store_session.specs.Stores.{StoreState, LiveState, IsStore, IsLive, IsLiveAt, IsNoHistory, Shows, IsRefusal, IsOpenRefusal, IsCommitRefusal, EndsDisk, EndsOpening}
+use Rattle.auth_store_session.specs.Standing.{power_of, shown_of, result_of, Commits, IsOpenError, IsShownThrough}
+use Rattle.auth_store_session.proofs.Grown.{keeps_live}
+
+-- where no call is left a cut stands, and else none
+pub cut_stands : (left : Option ℕ) → left ≡ Some 0 → IsTrue (is_cut left)
+cut_stands left is = ap is_cut is
+
+pub not_cut : (left : Option ℕ) → (left ≡ Some 0 → ⊥) → IsFalse (is_cut left)
+not_cut None lasts = refl
+not_cut (Some left) lasts = false_from_ne_true (left == 0) (λ is. lasts (ap Some (eqb-true _ _ is)))
+
+-- an opening that succeeds was under no cut
+pub opened_uncut : {R T : Type 0} (old : DeviceState R) (result : Result T OpenError)
+    → (old.left ≡ Some 0 → HasEnded old ⊎ (result ≡ Err openings.PowerCut)) → (HasEnded old → result ≡ Err openings.NumberEnded)
+    → OnOk result (IsFalse (is_cut old.left))
+opened_uncut old (Ok value) cut ended = not_cut old.left (λ is. ⊎_elim (λ has. not_err (ended has)) not_err (cut is))
+  where
+    not_err : {T : Type 0} {value : T} {e : OpenError} → Ok value ≡ Err e → ⊥
+    not_err is = cc
+opened_uncut old (Err e) cut ended = tt
+
+-- a device that the opening refuses
+module _ {R T : Type 0} (m : Machine) (format : Format) (old new : DeviceState R) (cache : Cache)
+  where
+    pub device_refused : (e : OpenError) (result : Result T OpenError) → result ≡ Err e
+        → new.storage.injections ≡ injected_after result old.storage.injections
+        → (result ≡ Err openings.NumberEnded → HasEnded old ⊎ (old.storage.inner.next ≡ 2 ^ 64 - 1))
+        → (result ≡ Err openings.PowerCut → old.left ≡ Some 0)
+        → ((fault : HeaderError) → result ≡ Err (openings.Header fault) → log_fault old.storage.inner ≡ Some fault)
+        → ((fault : HeaderError) → HasOwnHeader old.storage.inner → result ≡ Err (openings.Header fault) → ⊥)
+        → new.left ≡ left_after_opening result old.left → IsOpenError m format old cache new cache (of_opening e)
+    device_refused (openings.Header fault) result is count numbers power header own left = (header fault is, λ has. own fault has is)
+    device_refused openings.Injected result is count numbers power header own left =
+        let counted : new.storage.injections ≡ old.storage.injections + 1 =
+        count ∙ ap (λ (r : Result T OpenError). injected_after r old.storage.injections) is in
+        omega (arith, counted)
+    device_refused openings.Memory result is count numbers power header own left = tt
+    device_refused openings.PowerCut result is count numbers power header own left =
+        cut_stands new.left (left ∙ (ap (λ (r : Result T OpenError). left_after_opening r old.left) is ∙ power is))
+    device_refused openings.NumberEnded result is count numbers power header own left = inl (ends (numbers is))
+      where
+        ends : HasEnded old ⊎ (old.storage.inner.next ≡ 2 ^ 64 - 1)
+            → (2 ^ 64 ≤ old.storage.injections + 1) ⊎ (2 ^ 64 ≤ old.refused + 1) ⊎ (2 ^ 64 ≤ cache.next_id + 3)
+            ⊎ (2 ^ 64 ≤ length (shown_of old) + 4096) ⊎ (2 ^ 64 ≤ old.storage.inner.next + 1)
+        ends (inl (inl full)) = inl (omega (arith, full))
+        ends (inl (inr full)) = inr (inl (omega (arith, full)))
+        ends (inr last) = inr (inr (inr (inr (omega (arith, last)))))
+
+-- a recovery that is refused after the device was opened
+module _ {R : Type 0} (m : Machine) (format : Format) (old mid new : DeviceState R) (cache now : Cache)
+  where
+    pub recovery_on_device : (e : StoreError) → mid.storage.injections ≡ old.storage.injections → mid.refused ≡ old.refused
+        → content mid.calls ≡ shown_of old → (0 < new.refused → new.left ≡ Some 0)
+        → IsShownThrough format m.page_size (shown_of old) old.calls new.calls
+        → IsOpenRefusal (failures_of mid) (failures_of new)
+        (EndsOpening m.page_size (m.key_size, m.value_size) cache.next_id (length (content mid.calls)))
+        (IsNoHistory format (recovered_log format crc32 m.page_size (content mid.calls))) e
+        → IsOpenError m format old cache new now e
+    recovery_on_device (Fault kind) injected refused shown law through cause = omega (arith, injected, cause)
+    recovery_on_device PowerCut injected refused shown law through cause =
+        cut_stands new.left (law (omega (arith, cause)))
+    recovery_on_device NumberEnded injected refused shown law through (inl (inl full)) = inl (inl (omega (arith, full, injected)))
+    recovery_on_device NumberEnded injected refused shown law through (inl (inr full)) = inl (inr (inl (omega (arith, full, refused))))
+    recovery_on_device NumberEnded injected refused shown law through (inr (inl names)) = inl (inr (inr (inl names)))
+    recovery_on_device NumberEnded injected refused shown law through (inr (inr (inl long))) =
+        inl (inr (inr (inr (inl (subst (λ (bytes : List ℕ). 2 ^ 64 ≤ length bytes + 4096) shown long)))))
+    recovery_on_device NumberEnded injected refused shown law through (inr (inr (inr first))) = inr first
+    recovery_on_device Memory injected refused shown law through cause = tt
+    recovery_on_device Corrupt injected refused shown law through cause =
+        (subst (λ bytes. IsNoHistory format (recovered_log format crc32 m.page_size bytes)) shown cause, through)
+    recovery_on_device Failed injected refused shown law through cause = absurd cause
+    recovery_on_device (Header fault) injected refused shown law through cause = absurd cause
+
+-- a read that is refused
+module _ {R : Type 0} (old new : DeviceState R) (cache now : Cache)
+  where
+    pub read_on_device : (e : StoreError) → (0 < new.refused → new.left ≡ Some 0) → IsRefusal (failures_of old) (failures_of new) ⊥ e
+        → MayRefuse (power_of old cache) (power_of new now) e
+    read_on_device (Fault kind) law cause = cause
+    read_on_device PowerCut law cause = cut_stands new.left (law (omega (arith, cause)))
+    read_on_device NumberEnded law (inl (inl full)) = inl full
+    read_on_device NumberEnded law (inl (inr full)) = inr (inl full)
+    read_on_device NumberEnded law (inr none) = absurd none
+    read_on_device Memory law cause = tt
+    read_on_device Corrupt law cause = absurd cause
+    read_on_device Failed law cause = absurd cause
+    read_on_device (Header fault) law cause = absurd cause
+
+    -- and a commit
+    pub commit_on_device : (m : Machine) (next : History) (e : StoreError) → (0 < new.refused → new.left ≡ Some 0)
+        → (is_cut old.left ≡ true → new ≡ old)
+        → IsCommitRefusal (is_cut old.left) (failures_of old) (failures_of new)
+        (PassesLimit next ⊎ EndsDisk m.page_size (log_bytes m.key_size m.value_size (log_of next))) e
+        → MayRefuseCommit m (power_of old cache) (power_of new now) next e
+    commit_on_device m next (Fault kind) law untouched cause = cause
+    commit_on_device m next PowerCut law untouched (inl cut) = ap (λ (d : DeviceState R). is_cut d.left) (untouched cut) ∙ cut
+    commit_on_device m next PowerCut law untouched (inr counted) = cut_stands new.left (law (omega (arith, counted)))
+    commit_on_device m next NumberEnded law untouched (inl (inl full)) = inl (inl full)
+    commit_on_device m next NumberEnded law untouched (inl (inr full)) = inl (inr (inl full))
+    commit_on_device m next NumberEnded law untouched (inr (inl limit)) = inr (inl limit)
+    commit_on_device m next NumberEnded law untouched (inr (inr disk)) = inr (inr disk)
+    commit_on_device m next Memory law untouched cause = tt
+    commit_on_device m next Corrupt law untouched cause = absurd cause
+    commit_on_device m next Failed law untouched cause = absurd cause
+    commit_on_device m next (Header fault) law untouched cause = absurd cause
+
+-- a store of which this is true has not failed
+pub is_live : (live : Option LiveState) (history : History) → IsSomeAnd live (λ now. now.history ≡ history)
+    → (now : LiveState) × (live ≡ Some now) × (now.history ≡ history)
+is_live (Some now) history is = (now, refl, is)
+is_live None history is = absurd is
+
+-- what a commit says of a history, where a cut stands or none
+module _ {R : Type 0} (m : Machine) (format : Format) (words : List Word) (metadata : Option (List ℕ)) (old new : StoreState R)
+  where
+    abbrev pub CommitsHere : {D : Type 0} → (D → List ℕ) → Result D StoreError → Bool → History → Type 0
+    CommitsHere encoding result cut history =
+        let next = commit_after words metadata history in
+        MatchResult result
+        (λ root. (encoding root ≡ root_of_history m.setting m.key_size m.value_size next)
+        × IsSomeAnd new.live (λ now. now.history ≡ next) × (length (log_of next) ≤ 2 ^ 62) × IsFalse cut)
+        (λ e. IsCommitRefusal cut (failures_of old.device) (failures_of new.device)
+        (PassesLimit next ⊎ EndsDisk m.page_size (log_bytes m.key_size m.value_size (log_of next))) e
+        × (IsSomeAnd new.live (λ now. now.history ≡ history) ⊎ ((new.live ≡ None) × (length (log_of next) ≤ 2 ^ 62)
+        × Shows format m.page_size history (Some (commit_of words metadata history)) new.device.calls)))
+
+    commits_of : {D : Type 0} (encoding : D → List ℕ) (result : Result D StoreError) (history : History)
+        → (0 < new.device.refused → new.device.left ≡ Some 0) → (is_cut old.device.left ≡ true → new.device ≡ old.device)
+        → CommitsHere encoding result (is_cut old.device.left) history → Commits m format words metadata history old (result_of encoding result) new
+    commits_of encoding (Ok root) history law untouched said = (said.0, is_live new.live _ said.1, said.2, said.3)
+    commits_of encoding (Err e) history law untouched said = (
+      commit_on_device old.device new.device old.cache new.cache m (commit_after words metadata history) e law untouched said.0,
+      ⊎_elim (λ kept. inl (is_live new.live history kept)) (λ lost. inr lost) said.1,
+    )
+
+    pub commits_on_device : {D : Type 0} (encoding : D → List ℕ) (result : Result D StoreError) (cut : Bool) (history : History)
+        → cut ≡ is_cut old.device.left → (0 < new.device.refused → new.device.left ≡ Some 0) → (cut ≡ true → new.device ≡ old.device)
+        → IfSome old.live (λ was. CommitsHere encoding result cut was.history) → IsLiveAt old history
+        → Commits m format words metadata history old (result_of encoding result) new
+    commits_on_device encoding result cut history stands law untouched all (was, is, same) =
+        commits_of encoding result history law (subst (λ (b : Bool). b ≡ true → new.device ≡ old.device) stands untouched)
+        (subst (λ (b : Bool). CommitsHere encoding result b history) stands
+        (subst (CommitsHere encoding result cut) same
+        (subst (λ (l : Option LiveState). IfSome l (λ was. CommitsHere encoding result cut was.history)) is all)))
+
+-- a store of these parts
+abbrev pub store_of : {R : Type 0} → DeviceState R → Cache → Option LiveState → StoreState R
+store_of device cache live = record { device = device; cache = cache; live = live }
+
+pub same_store : {R : Type 0} (device other : DeviceState R) (cache names : Cache) (live now : Option LiveState) → device ≡ other → cache ≡ names
+    → live ≡ now → store_of device cache live ≡ store_of other names now
+same_store device other cache names live now d k l =
+    ap (λ x. store_of x cache live) d ∙ (ap (λ x. store_of other x live) k ∙ ap (store_of other names) l)
+
+-- the history of a live store is that of what it has
+pub one_history : {R : Type 0} (device : DeviceState R) (cache : Cache) (live : Option LiveState) (at : StoreState R) (now : LiveState)
+    (history : History) → store_of device cache live ≡ at → live ≡ Some now → IsLiveAt at history → now.history ≡ history
+one_history {R = R} device cache live at now history view is (other, stands, same) =
+    let all : Some now ≡ Some other = sym is ∙ (ap (λ (s : StoreState R). s.live) view ∙ stands) in
+    let one : now ≡ other = cc in ap (λ (l : LiveState). l.history) one ∙ same
+
+-- what a live store has on its blob shows its history
+pub live_shows : (format : Format) (calls : List Call) (cache : Cache) (now : LiveState)
+    → ((sum : List ℕ → ℕ) (size : ℕ) (calls : List Call) (content : List ℕ) (synced : ℕ) (tip : Tip) (slot : Option DurableSlot)
+    → 12 ≤ size → IsWriterOf sum size calls content synced tip slot → Keeps sum size content synced calls)
+    → ((format : Format) (sum : List ℕ → ℕ) (size : ℕ) (calls : List Call) (history : History) → AreRecorded format (log_of history)
+    → Keeps sum size (history_bytes format history) (length (history_bytes format history)) calls → MayShow format sum size history None calls)
+    → AreStates now.history → IsLive format calls cache now → Shows format (cache.page_size + 12) now.history None calls
+live_shows format calls cache now keeps whole states is = record {
+  written = record { states = states; recorded = is.recorded };
+  next = tt;
+  shown = whole format crc32 (cache.page_size + 12) calls now.history is.recorded
+      (keeps_live format calls cache now keeps (omega (arith, is.sized)) is);
+}
+
+-- what the parts of an open store show
+pub parts_show : {R : Type 0} (format : Format) (device : DeviceState R) (cache : Cache) (live : Option LiveState) (at : StoreState R)
+    (history : History) → store_of device cache live ≡ at → IsStore format (store_of device cache live)
+    → IfSome live (λ now. (calls : List Call) (cache : Cache) → IsLive format calls cache now
+    → Shows format (cache.page_size + 12) now.history None calls)
+    → IsLiveAt at history → Shows format (at.cache.page_size + 12) history None at.device.calls
+parts_show {R = R} format device cache (Some now) at history view is shown live =
+    subst (λ (s : StoreState R). Shows format (s.cache.page_size + 12) history None s.device.calls) view
+    (subst (λ h. Shows format (cache.page_size + 12) h None device.calls)
+    (one_history device cache (Some now) at now history view refl live) (shown device.calls cache is.live))
+parts_show {R = R} format device cache None at history view is shown (now, stands, same) =
+    let all : None ≡ Some now = ap (λ (s : StoreState R). s.live) view ∙ stands in absurd (cc)
+
+-- what was live stays so
+pub live_stays : (format : Format) (calls : List Call) (cache : Cache) (live : Option LiveState) (now : LiveState) → live ≡ Some now
+    → IsLive format calls cache now → IfSome live (IsLive format calls cache)
+live_stays format calls cache live now is stands = subst (λ (l : Option LiveState). IfSome l (IsLive format calls cache)) (sym is) stands
+
+-- an opening that is recorded with what it shows shows an image
+pub opened_image : (old mid : List Call) (shown : List ℕ) → mid ≡ opened shown ∷ old → RecordsOpening old mid → IsImage (file_of old) shown
+opened_image old mid shown is (other, image, same) =
+    let all : opened other ∷ old ≡ opened shown ∷ old = sym same ∙ is in
+    let one : other ≡ shown = cc in subst (IsImage (file_of old)) one image
+
+-- what a recovery leaves at each moment after such an opening
+pub shown_through : (format : Format) (size : ℕ) (old mid new : List Call) (shown : List ℕ) → mid ≡ opened shown ∷ old → RecordsOpening old mid
+    → Through (IsKeptThrough format crc32 size (recovered_log format crc32 size (content mid))) mid new → IsShownThrough format size shown old new
+shown_through format size old mid new shown is records through = (
+  opened_image old mid shown is records,
+  subst (λ (m : List Call). Through (IsKeptThrough format crc32 size (recovered_log format crc32 size (content m))) m new) is through,
+)
+
+-- a device that is closed then was refused for the same reason
+pub refused_closed : {R : Type 0} (m : Machine) (format : Format) (old new : DeviceState R) (cache now : Cache) (e : StoreError)
+    → IsOpenError m format old cache new now e → IsOpenError m format old cache (record new { log = None }) now e
+refused_closed m format old new cache now (Fault kind) why = why
+refused_closed m format old new cache now PowerCut why = why
+refused_closed m format old new cache now NumberEnded why = why
+refused_closed m format old new cache now Memory why = why
+refused_closed m format old new cache now Corrupt why = why
+refused_closed m format old new cache now Failed why = why
+refused_closed m format old new cache now (Header fault) why = why

@@ -1,0 +1,327 @@
+-- Steps of a session without an open store, and what closing leaves.
+use Rattle.std.proofs.Common.{◌≡◌, ◌+◌, ℕ, List, ◌∷◌, Option, Some, None, true, false, is_some, refl, sym, ◌∙◌, subst, ap, inl, inr}
+use Rattle.fault_storage_parts.specs.Crc32.{crc32}
+use Rattle.paged_blob.specs.Caches.{Cache}
+use Rattle.paged_blob.specs.Calls.{Call, opened, file_of}
+use Rattle.paged_blob.specs.Chance.{NoneByChance}
+use Rattle.paged_blob.specs.Images.{IsImage}
+use Rattle.paged_blob.specs.Moments.{Grows, Through, here}
+use Rattle.auth_store_parts.specs.History.{History, Commit}
+use Rattle.auth_store_log.specs.Records.{Format, begun, history_bytes, recovered_log}
+use Rattle.auth_store_log.specs.Shown.{IsShown}
+use Rattle.auth_store_device.specs.Devices.{DeviceState, is_cut}
+use Rattle.std.specs.Prelude.{IsFalse, IfSome}
+use Rattle.fault_storage.specs.Stores.{Store}
+use Rattle.auth_store_device.specs.Logs.{HasOwnHeader}
+use Rattle.auth_store_session.specs.declared.error.StoreError.{StoreError}
+use Rattle.auth_store_session.specs.declared.error.StoreError.TheVariants.{Fault, PowerCut, NumberEnded, Memory, Corrupt, Failed, Header}
+use Rattle.auth_store_session.specs.Machine as machine
+use Rattle.auth_store_session.specs.Machine.{Machine, Power, State, closed, live, failed, Request, ask_open, Answer, refused, at_rest, IsShownOf, IsStep, IsStepClosed, IsAnswerTo, MayRefuseOpening}
+use Rattle.auth_store_session.specs.MachineCode.{request_of}
+use Rattle.auth_store_session.specs.declared.session.Step.{Step}
+use Rattle.auth_store_session.specs.declared.session.Step.TheVariants as steps
+use Rattle.auth_store_session.specs.declared.sizes.Sizes.{Sizes}
+use Rattle.fault_storage_parts.specs.declared.config.Config.{Config}
+use Rattle.auth_store_session.specs.Standing.{StandsFor, Steps, StepsOpen, SessionState, IsSession, calls_in, page_size_in, IsOpenedThrough, IsShownThrough, IsRecovered, IsOpenError, power_of, shown_of}
+use Rattle.auth_store_session.specs.Stores.{StoreState, IsCache, IsLiveAt, IsNoHistory, IsWritten, Shows}
+use Rattle.auth_store_session.proofs.Opens.{fewer, opening_shows, still_shows, begun_same, some_bytes, grown, behind}
+
+-- what a law says of an opening
+abbrev pub ShowsWhatStood : Type 0
+ShowsWhatStood =
+    (format : Format) (size : ℕ) (history now : History) (pending : Option Commit) (calls : List Call) (shown : List ℕ)
+    → Shows format size history pending calls → IsWritten format now → IsImage (file_of calls) shown
+    → NoneByChance crc32 size (opened shown ∷ calls) → history_bytes format now ≡ begun format (recovered_log format crc32 size shown)
+    → IsShownOf history pending now
+
+-- the same steps with the same page size
+abbrev pub closed_at : {R : Type 0} → DeviceState R → Cache → SessionState R
+closed_at device cache = record { parts = Some (device, cache); store = None }
+
+abbrev pub open_at : {R : Type 0} → StoreState R → SessionState R
+open_at store = record { parts = None; store = Some store }
+
+-- an opening
+pub opens_in : {R : Type 0} (m : Machine) (format : Format) (device : DeviceState R) (cache : Cache) (store : StoreState R)
+    → ShowsWhatStood → store.cache.page_size ≡ cache.page_size → IsFalse (is_cut device.left)
+    → ((history : History) × IsLiveAt store history × IsRecovered format (cache.page_size + 12) (shown_of device) history)
+    → IsShownThrough format (cache.page_size + 12) (shown_of device) device.calls store.device.calls
+    → Steps m format (closed_at device cache) ask_open machine.opened (open_at store)
+opens_in m format device cache store law sized uncut recovered shown none (closed history pending) stands =
+    let size = cache.page_size + 12 in
+    let now = subst (λ s. NoneByChance crc32 (s + 12) store.device.calls) sized none in (
+      live recovered.0,
+      inl (
+        refl,
+        uncut,
+        (
+          recovered.0,
+          law format size history recovered.0 pending device.calls (shown_of device) stands.0 recovered.2.0 shown.0
+              (fewer crc32 size shown.1 now) recovered.2.1,
+          refl,
+        ),
+      ),
+      recovered.1,
+    )
+opens_in m format device cache store law sized uncut recovered shown none (live history) stands = absurd stands
+opens_in m format device cache store law sized uncut recovered shown none (failed history commit) stands = absurd stands
+
+-- what an opening shows is the log of a history
+shown_has : (format : Format) (history : History) (pending : Option Commit) (log : List ℕ) → IsWritten format history
+    → IfSome pending (λ commit. IsWritten format (commit ∷ history)) → IsShown format history pending log → IsNoHistory format log → ⊥
+shown_has format history None log written next (inl shown) none =
+    none history written.states written.recorded
+    (sym (begun_same format log (λ e. some_bytes format history (sym shown ∙ e)) ∙ shown))
+shown_has format history None log written next (inr empty) none =
+    none history written.states written.recorded (ap (history_bytes format) empty.0 ∙ ap (begun format) (sym empty.1))
+shown_has format history (Some commit) log written next (inl (inl shown)) none =
+    none history written.states written.recorded
+    (sym (begun_same format log (λ e. some_bytes format history (sym shown ∙ e)) ∙ shown))
+shown_has format history (Some commit) log written next (inl (inr shown)) none =
+    none (commit ∷ history) next.states next.recorded
+    (sym (begun_same format log (λ e. some_bytes format (commit ∷ history) (sym shown ∙ e)) ∙ shown))
+shown_has format history (Some commit) log written next (inr empty) none =
+    none history written.states written.recorded (ap (history_bytes format) empty.0 ∙ ap (begun format) (sym empty.1))
+
+-- why an opening is refused, where no opening is by chance and the log is the device's own
+refuses_for : {R : Type 0} (m : Machine) (format : Format) (device new : DeviceState R) (cache now : Cache) (history : History)
+    (pending : Option Commit) (e : StoreError) → Shows format m.page_size history pending device.calls
+    → HasOwnHeader device.storage.inner → NoneByChance crc32 m.page_size new.calls → IsOpenError m format device cache new now e
+    → MayRefuseOpening m (power_of device cache) (power_of new now) e
+refuses_for m format device new cache now history pending Corrupt shows own none cause =
+    absurd (shown_has format history pending (recovered_log format crc32 m.page_size (shown_of device)) shows.written shows.next
+    (opening_shows format m.page_size history pending device.calls new.calls (shown_of device) shows cause.1.0 cause.1.1 none) cause.0)
+refuses_for m format device new cache now history pending (Header fault) shows own none cause = absurd (cause.1 own)
+refuses_for m format device new cache now history pending (Fault kind) shows own none cause = cause
+refuses_for m format device new cache now history pending PowerCut shows own none cause = cause
+refuses_for m format device new cache now history pending NumberEnded shows own none cause = cause
+refuses_for m format device new cache now history pending Memory shows own none cause = cause
+refuses_for m format device new cache now history pending Failed shows own none cause = cause
+
+-- an opening that is refused
+pub refused_in : {R : Type 0} (m : Machine) (format : Format) (device new : DeviceState R) (cache now : Cache) (e : StoreError)
+    → m.page_size ≡ cache.page_size + 12 → now.page_size ≡ cache.page_size
+    → IsOpenedThrough format (cache.page_size + 12) (shown_of device) device.calls new.calls
+    → (HasOwnHeader device.storage.inner → HasOwnHeader new.storage.inner)
+    → IsOpenError m format device cache new now e
+    → Steps m format (closed_at device cache) ask_open (refused e) (closed_at new now)
+refused_in m format device new cache now e paged sized moments header cause none (closed history pending) stands =
+    let at = subst (λ s. NoneByChance crc32 (s + 12) new.calls) sized none in
+    let shows = still_shows format (cache.page_size + 12) history pending device.calls new.calls (shown_of device) stands.0 moments at in (
+      closed history pending,
+      inr (
+        e,
+        refl,
+        refl,
+        refuses_for m format device new cache now history pending e
+            (subst (λ s. Shows format s history pending device.calls) (sym paged) stands.0) stands.1
+            (subst (λ s. NoneByChance crc32 s new.calls) (sym paged) at) cause,
+      ),
+      (subst (λ s. Shows format (s + 12) history pending new.calls) (sym sized) shows, header stands.1),
+    )
+refused_in m format device new cache now e paged sized moments header cause none (live history) stands = absurd stands
+refused_in m format device new cache now e paged sized moments header cause none (failed history commit) stands = absurd stands
+
+-- a closed session that stays as it is
+pub rests_in : {R : Type 0} (m : Machine) (format : Format) (device new : DeviceState R) (cache : Cache) (request : Request)
+    (answer : Answer) → new.calls ≡ device.calls → (HasOwnHeader device.storage.inner → HasOwnHeader new.storage.inner)
+    → ((before after : Power) (history : History) (pending : Option Commit)
+    → IsStepClosed m before after history pending request answer (closed history pending))
+    → Steps m format (closed_at device cache) request answer (closed_at new cache)
+rests_in m format device new cache request answer calls header steps none (closed history pending) stands = (
+  closed history pending,
+  steps (power_of device cache) (power_of new cache) history pending,
+  (subst (Shows format (cache.page_size + 12) history pending) (sym calls) stands.0, header stands.1),
+)
+rests_in m format device new cache request answer calls header steps none (live history) stands = absurd stands
+rests_in m format device new cache request answer calls header steps none (failed history commit) stands = absurd stands
+
+-- what a store that is closed stands for
+pub rests_at : {R : Type 0} (format : Format) (store : StoreState R) (device : DeviceState R) (cache : Cache) (state : State)
+    → cache ≡ store.cache → device.calls ≡ store.device.calls → HasOwnHeader device.storage.inner
+    → ((history : History) → IsLiveAt store history → Shows format (store.cache.page_size + 12) history None device.calls)
+    → StandsFor format None (Some store) state → StandsFor format (Some (device, cache)) None (at_rest state)
+rests_at format store device cache (live history) is calls header shows stands =
+    (subst (λ c. Shows format (c.page_size + 12) history None device.calls) (sym is) (shows history stands), header)
+rests_at format store device cache (failed history commit) is calls header shows stands = (
+  subst (λ c. Shows format (c.page_size + 12) history (Some commit) device.calls) (sym is)
+      (subst (Shows format (store.cache.page_size + 12) history (Some commit)) (sym calls) stands.1),
+  header,
+)
+rests_at format store device cache (closed history pending) is calls header shows stands = absurd stands
+
+-- a store that is closed
+pub closes_in : {R : Type 0} (m : Machine) (format : Format) (store : StoreState R) (device : DeviceState R) (cache : Cache)
+    → cache ≡ store.cache → device.calls ≡ store.device.calls → HasOwnHeader device.storage.inner
+    → ((history : History) → IsLiveAt store history → Shows format (store.cache.page_size + 12) history None device.calls)
+    → Steps m format (open_at store) machine.ask_close machine.has_closed (closed_at device cache)
+closes_in m format store device cache is calls header shows none (live history) stands =
+    (closed history None, (refl, refl), rests_at format store device cache (live history) is calls header shows stands)
+closes_in m format store device cache is calls header shows none (failed history commit) stands =
+    (closed history (Some commit), (refl, refl), rests_at format store device cache (failed history commit) is calls header shows stands)
+closes_in m format store device cache is calls header shows none (closed history pending) stands = absurd stands
+
+-- a step of an open store is one of the session
+pub steps_open : {R : Type 0} (m : Machine) (format : Format) (old new : StoreState R) (request : Request) (answer : Answer)
+    → m.page_size ≡ new.cache.page_size + 12 → StepsOpen m format old request answer new
+    → Steps m format (open_at old) request answer (open_at new)
+steps_open m format old new request answer paged steps none state stands =
+    steps (subst (λ s. NoneByChance crc32 s new.device.calls) (sym paged) none) state stands
+
+-- a session whose store is closed, from its parts
+pub was_closed : {R : Type 0} (parts : Option (DeviceState R × Cache)) (store : Option (StoreState R)) (device : DeviceState R)
+    (cache : Cache) (old : SessionState R) → record { parts = parts; store = store } ≡ old → Some (device, cache) ≡ parts
+    → old.store ≡ None → closed_at device cache ≡ old
+was_closed parts store device cache old view is none =
+    ap (λ p. record { parts = p; store = None }) is
+    ∙ (ap (λ s. record { parts = parts; store = s }) (sym (ap (λ (s : SessionState _). s.store) view ∙ none)) ∙ view)
+
+-- a session whose store is open
+pub was_open : {R : Type 0} (parts : Option (DeviceState R × Cache)) (store : Option (StoreState R)) (is : StoreState R)
+    (old : SessionState R) → record { parts = parts; store = store } ≡ old → Some is ≡ store → IsSession parts store → open_at is ≡ old
+was_open None store is old view at session = ap (λ s. record { parts = None; store = s }) at ∙ view
+was_open (Some parts) None is old view at session = absurd (cc)
+was_open (Some parts) (Some store) is old view at session = absurd session
+
+pub now_closed : {R : Type 0} (parts : Option (DeviceState R × Cache)) (store : Option (StoreState R)) (device : DeviceState R)
+    (cache : Cache) (old : SessionState R) → record { parts = parts; store = store } ≡ old → old.store ≡ None
+    → closed_at device cache ≡ record { parts = Some (device, cache); store = store }
+now_closed parts store device cache old view none =
+    ap (λ s. record { parts = Some (device, cache); store = s }) (sym (ap (λ (s : SessionState _). s.store) view ∙ none))
+
+-- steps between what is equal
+pub steps_from : {R : Type 0} (m : Machine) (format : Format) (was old now new : SessionState R) (request : Request) (answer : Answer)
+    → was ≡ old → now ≡ new → Steps m format was request answer now → Steps m format old request answer new
+steps_from m format was old now new request answer is ends steps =
+    subst (λ s. Steps m format s request answer new) is (subst (λ s. Steps m format was request answer s) ends steps)
+
+pub grows_from : {R : Type 0} (was old : SessionState R) (calls : List Call) → was ≡ old → calls ≡ calls_in was.parts was.store
+    → Grows (calls_in old.parts old.store) calls
+grows_from was old calls is same = subst (λ (s : SessionState _). Grows (calls_in s.parts s.store) calls) is
+    (subst (λ l. Grows l calls) same (here tt))
+
+-- the header is of what the store has
+pub header_same : (old new : Store) → new ≡ old → HasOwnHeader old → HasOwnHeader new
+header_same old new is own = subst HasOwnHeader (sym is) own
+
+pub page_from : {R : Type 0} (was old : SessionState R) (now : Cache) → was ≡ old → now.page_size + 12 ≡ page_size_in was.parts was.store
+    → now.page_size + 12 ≡ page_size_in old.parts old.store
+page_from was old now is same = same ∙ ap (λ (s : SessionState _). page_size_in s.parts s.store) is
+
+-- the calls of an opening that shows something
+pub grows_through : {R : Type 0} {P : List Call → Type 0} {call : Call} (was old : SessionState R) (calls : List Call) → was ≡ old
+    → Through P (call ∷ calls_in was.parts was.store) calls → Grows (calls_in old.parts old.store) calls
+grows_through {call = call} was old calls is moments =
+    subst (λ (s : SessionState _). Grows (calls_in s.parts s.store) calls) is (behind _ call calls (grown moments))
+
+pub grows_more : {R : Type 0} (was old : SessionState R) (calls : List Call) → was ≡ old → Grows (calls_in was.parts was.store) calls
+    → Grows (calls_in old.parts old.store) calls
+grows_more was old calls is more = subst (λ (s : SessionState _). Grows (calls_in s.parts s.store) calls) is more
+
+-- a closed session of which another thing is asked
+pub rest_same : {R : Type 0} (m : Machine) (format : Format) (parts : Option (DeviceState R × Cache)) (store : Option (StoreState R))
+    (request : Request) (answer : Answer) → store ≡ None
+    → ((before after : Power) (history : History) (pending : Option Commit)
+    → IsStepClosed m before after history pending request answer (closed history pending))
+    → Steps m format (record { parts = parts; store = store }) request answer (record { parts = parts; store = store })
+rest_same m format (Some parts) None request answer at steps none (closed history pending) stands =
+    (closed history pending, steps (power_of parts.0 parts.1) (power_of parts.0 parts.1) history pending, stands)
+rest_same m format (Some parts) None request answer at steps none (live history) stands = absurd stands
+rest_same m format (Some parts) None request answer at steps none (failed history commit) stands = absurd stands
+rest_same m format None None request answer at steps none state stands = absurd stands
+rest_same m format parts (Some store) request answer at steps none state stands = absurd (cc)
+
+-- what a closed session does not do
+pub record IsRefusedClosed (request : Request) : Type 0 where
+  pub steps : (m : Machine) (before after : Power) (history : History) (pending : Option Commit)
+      → IsStepClosed m before after history pending request machine.not_open (closed history pending)
+  pub kind : IsAnswerTo false request machine.not_open
+
+pub is_refused_closed : {K V : Type 0} (key : K → List ℕ) (value : V → List ℕ) (step : Step K V)
+    → ((sizes : Sizes) → step ≡ steps.Open sizes → ⊥) → (step ≡ steps.Crash → ⊥) → ((config : Config) → step ≡ steps.Config config → ⊥)
+    → ((calls : ℕ) → step ≡ steps.CutAfter calls → ⊥) → IsRefusedClosed (request_of key value step)
+is_refused_closed key value (steps.Open sizes) a b c d = absurd (a sizes refl)
+is_refused_closed key value steps.Crash a b c d = absurd (b refl)
+is_refused_closed key value (steps.Config config) a b c d = absurd (c config refl)
+is_refused_closed key value (steps.CutAfter calls) a b c d = absurd (d calls refl)
+is_refused_closed key value (steps.Commit batch metadata) a b c d = record { steps = λ m before after h p. (refl, refl); kind = refl }
+is_refused_closed key value (steps.Get k) a b c d = record { steps = λ m before after h p. (refl, refl); kind = refl }
+is_refused_closed key value steps.Root a b c d = record { steps = λ m before after h p. (refl, refl); kind = refl }
+is_refused_closed key value steps.Commits a b c d = record { steps = λ m before after h p. (refl, refl); kind = refl }
+is_refused_closed key value steps.Floor a b c d = record { steps = λ m before after h p. (refl, refl); kind = refl }
+is_refused_closed key value steps.Len a b c d = record { steps = λ m before after h p. (refl, refl); kind = refl }
+is_refused_closed key value (steps.ProveKey k) a b c d = record { steps = λ m before after h p. (refl, refl); kind = refl }
+is_refused_closed key value steps.Close a b c d = record { steps = λ m before after h p. (refl, refl); kind = refl }
+
+-- where a store is open, a session has nothing beside it
+pub parts_none : {R : Type 0} (parts : Option (DeviceState R × Cache)) (store : Option (StoreState R)) (is : StoreState R)
+    → store ≡ Some is → IsSession parts store → parts ≡ None
+parts_none None store is at session = refl
+parts_none (Some parts) None is at session = absurd (cc)
+parts_none (Some parts) (Some store) is at session = absurd session
+
+pub session_within : {R : Type 0} (parts : Option (DeviceState R × Cache)) (store : Option (StoreState R)) (is now : StoreState R)
+    → store ≡ Some is → IsSession parts store → IsSession parts (Some now)
+session_within parts store is now at session = subst (λ p. IsSession p (Some now)) (sym (parts_none parts store is at session)) tt
+
+pub now_open : {R : Type 0} (parts : Option (DeviceState R × Cache)) (store : Option (StoreState R)) (is now : StoreState R)
+    → store ≡ Some is → IsSession parts store → open_at now ≡ record { parts = parts; store = Some now }
+now_open parts store is now at session =
+    ap (λ p. record { parts = p; store = Some now }) (sym (parts_none parts store is at session))
+
+-- a closed session that is taken apart
+pub closed_rests : {R : Type 0} (format : Format) (parts : Option (DeviceState R × Cache)) (store : Option (StoreState R))
+    (is : DeviceState R × Cache) (old : SessionState R) (state : State) → record { parts = parts; store = store } ≡ old
+    → parts ≡ Some is → IsSession parts store → StandsFor format old.parts old.store state
+    → StandsFor format (Some is) None (at_rest state)
+closed_rests format parts store is old state view at session stands =
+    at_closed format is store state (subst (λ p. IsSession p store) at session)
+    (subst (λ p. StandsFor format p store state) at
+    (subst (λ (s : SessionState _). StandsFor format s.parts s.store state) (sym view) stands))
+  where
+    at_closed : {R : Type 0} (format : Format) (is : DeviceState R × Cache) (store : Option (StoreState R)) (state : State)
+        → IsSession (Some is) store → StandsFor format (Some is) store state → StandsFor format (Some is) None (at_rest state)
+    at_closed format is None (closed history pending) session stands = stands
+    at_closed format is None (live history) session stands = absurd stands
+    at_closed format is None (failed history commit) session stands = absurd stands
+    at_closed format is (Some store) state session stands = absurd session
+
+pub closed_parts : {R : Type 0} (parts : Option (DeviceState R × Cache)) (store : Option (StoreState R)) (is : DeviceState R × Cache)
+    → parts ≡ Some is → IsSession parts store → (is.0.log ≡ None) × IsCache is.1
+closed_parts parts None is at session = subst (λ p. IsSession p None) at session
+closed_parts None (Some store) is at session = absurd (cc)
+closed_parts (Some parts) (Some store) is at session = absurd session
+
+pub stands_open : {R : Type 0} (format : Format) (store : StoreState R) (old : SessionState R) (state : State) → open_at store ≡ old
+    → StandsFor format old.parts old.store state → StandsFor format None (Some store) state
+stands_open format store old state is stands =
+    subst (λ (s : SessionState _). StandsFor format s.parts s.store state) (sym is) stands
+
+-- whether a store is open
+pub none_from : {A : Type 0} (store : Option A) → is_some store ≡ false → store ≡ None
+none_from None is = refl
+none_from (Some store) is = absurd (cc)
+
+-- a session has a device and a cache where it has no store, and a store where it has one
+pub no_parts : {R A : Type 0} (parts : Option (DeviceState R × Cache)) (store : Option (StoreState R)) (old : SessionState R)
+    → record { parts = parts; store = store } ≡ old → None ≡ parts → IsSession parts store → old.store ≡ None → A
+no_parts None None old view is session at = absurd session
+no_parts None (Some store) old view is session at = absurd (some_none store (ap (λ (s : SessionState _). s.store) view ∙ at))
+  where
+    some_none : {B : Type 0} (b : B) → Some b ≡ None → ⊥
+    some_none b e = cc
+no_parts (Some parts) store old view is session at = absurd (cc)
+
+pub no_store : {R A : Type 0} (parts : Option (DeviceState R × Cache)) (store : Option (StoreState R)) (old : SessionState R)
+    → record { parts = parts; store = store } ≡ old → None ≡ store → is_some old.store ≡ true → A
+no_store parts None old view is at = absurd (none_some (ap (λ (s : SessionState _). is_some s.store) view ∙ at))
+  where
+    none_some : false ≡ true → ⊥
+    none_some e = cc
+no_store parts (Some store) old view is at = absurd (cc)
+
+pub session_closed : {R : Type 0} (parts : Option (DeviceState R × Cache)) (store : Option (StoreState R)) (is now : DeviceState R × Cache)
+    → parts ≡ Some is → IsSession parts store → now.0.log ≡ None → IsCache now.1 → IsSession (Some now) store
+session_closed parts None is now at session log cache = (log, cache)
+session_closed None (Some store) is now at session log cache = absurd (cc)
+session_closed (Some parts) (Some store) is now at session log cache = absurd session

@@ -1,0 +1,68 @@
+use Rattle.std.proofs.Common.{◌+◌, Some, sym, ap, subst}
+use Rattle.auth_store_log.specs.Records.{format_of}
+use Rattle.auth_store_session.specs.Machine.{machine, ask_open, opened, refused}
+use Rattle.auth_store_session.specs.Standing.{SessionState, page_size_in, IsOpenError}
+use Rattle.auth_store_session.proofs.Rests.{closed_at, open_at, was_closed, now_closed, steps_from, grows_through, grows_more, opens_in, refused_in, page_from}
+use Rattle.auth_store_session.proofs.Opens.{opened_grows}
+use Rattle.auth_store_session.proofs.session.Session.open.Goals as goal
+
+pub returns-in-Ok-clause-steps : goal.returns-in-Ok-clause-steps
+returns-in-Ok-clause-steps g c =
+    let m = (machine g.F.Family.merge_rule g.H.HashFunction.hash_of g.F.PendingOf.pending_encoding g.row.N g.K.FixedSize.SIZE g.V.FixedSize.SIZE
+    (page_size_in c.args.self.now.parts c.args.self.now.store)) in
+    let format = (format_of (g.K.Read.after (tt {0})) (g.V.Read.after (tt {0})) g.K.FixedSize.SIZE g.V.FixedSize.SIZE) in
+    let was = closed_at c.in-Some.device c.in-Some.cache in
+    let store = c.in-Ok.store in
+    let is = was_closed c.self.inside.parts c.self.inside.store c.in-Some.device c.in-Some.cache c.args.self.now c.self.view_is
+    c.in-Some.ensures.value c.requires in
+    steps_from m format was c.args.self.now (open_at store) (record { parts = c.take.new.self; store = Some store }) ask_open opened is
+    (ap (λ p. record { parts = p; store = Some store }) (sym c.take.ensures.after))
+    (opens_in m format c.in-Some.device c.in-Some.cache store c.an_opening_shows_what_stood.ensures c.in-Ok.ensures.page_size
+    c.in-Ok.ensures.uncut c.in-Ok.ensures.recovers c.in-Ok.ensures.shown)
+
+pub returns-in-Ok-clause-page_size : goal.returns-in-Ok-clause-page_size
+returns-in-Ok-clause-page_size g c =
+    let is = was_closed c.self.inside.parts c.self.inside.store c.in-Some.device c.in-Some.cache c.args.self.now c.self.view_is
+    c.in-Some.ensures.value c.requires in
+    rw c.take.ensures.after (page_from (closed_at c.in-Some.device c.in-Some.cache) c.args.self.now c.in-Ok.store.cache is
+    (ap (λ n. n + 12) c.in-Ok.ensures.page_size))
+
+pub returns-in-Ok-clause-grows : goal.returns-in-Ok-clause-grows
+returns-in-Ok-clause-grows g c =
+    let is = was_closed c.self.inside.parts c.self.inside.store c.in-Some.device c.in-Some.cache c.args.self.now c.self.view_is
+    c.in-Some.ensures.value c.requires in
+    rw c.take.ensures.after (grows_through (closed_at c.in-Some.device c.in-Some.cache) c.args.self.now c.in-Ok.store.device.calls
+    is c.in-Ok.ensures.shown.1)
+
+pub returns-in-Err-clause-steps : goal.returns-in-Err-clause-steps
+returns-in-Err-clause-steps g c =
+    let m = (machine g.F.Family.merge_rule g.H.HashFunction.hash_of g.F.PendingOf.pending_encoding g.row.N g.K.FixedSize.SIZE g.V.FixedSize.SIZE
+    (page_size_in c.args.self.now.parts c.args.self.now.store)) in
+    let format = (format_of (g.K.Read.after (tt {0})) (g.V.Read.after (tt {0})) g.K.FixedSize.SIZE g.V.FixedSize.SIZE) in
+    let was = closed_at c.in-Some.device c.in-Some.cache in
+    let now = closed_at c.in-Err.field-0.device c.in-Err.field-0.cache in
+    let is = was_closed c.self.inside.parts c.self.inside.store c.in-Some.device c.in-Some.cache c.args.self.now c.self.view_is
+    c.in-Some.ensures.value c.requires in
+    let ends = now_closed c.self.inside.parts c.self.inside.store c.in-Err.field-0.device c.in-Err.field-0.cache c.args.self.now c.self.view_is c.requires in
+    steps_from m format was c.args.self.now now (record { parts = Some (c.in-Err.field-0.device, c.in-Err.field-0.cache); store = c.self.inside.store })
+    ask_open (refused c.in-Err.field-0.error) is ends
+    (refused_in m format c.in-Some.device c.in-Err.field-0.device c.in-Some.cache c.in-Err.field-0.cache c.in-Err.field-0.error
+    (ap (λ (s : SessionState _). page_size_in s.parts s.store) (sym is)) c.in-Err.ensures.cache.1 c.in-Err.ensures.kept
+    c.in-Err.ensures.header
+    (subst (λ size. IsOpenError (machine g.F.Family.merge_rule g.H.HashFunction.hash_of g.F.PendingOf.pending_encoding g.row.N
+    g.K.FixedSize.SIZE g.V.FixedSize.SIZE size) format c.in-Some.device c.in-Some.cache c.in-Err.field-0.device c.in-Err.field-0.cache
+    c.in-Err.field-0.error) (ap (λ (s : SessionState _). page_size_in s.parts s.store) is) c.in-Err.ensures.refused))
+
+pub returns-in-Err-clause-page_size : goal.returns-in-Err-clause-page_size
+returns-in-Err-clause-page_size g c =
+    let is = was_closed c.self.inside.parts c.self.inside.store c.in-Some.device c.in-Some.cache c.args.self.now c.self.view_is
+    c.in-Some.ensures.value c.requires in
+    page_from (closed_at c.in-Some.device c.in-Some.cache) c.args.self.now c.in-Err.field-0.cache is
+    (ap (λ n. n + 12) c.in-Err.ensures.cache.1)
+
+pub returns-in-Err-clause-grows : goal.returns-in-Err-clause-grows
+returns-in-Err-clause-grows g c =
+    let is = was_closed c.self.inside.parts c.self.inside.store c.in-Some.device c.in-Some.cache c.args.self.now c.self.view_is
+    c.in-Some.ensures.value c.requires in
+    grows_more (closed_at c.in-Some.device c.in-Some.cache) c.args.self.now c.in-Err.field-0.device.calls is
+    (opened_grows _ _ _ _ _ c.in-Err.ensures.kept)

@@ -1,0 +1,25 @@
+use Rattle.auth_store_session.proofs.session.Session.step.Goals as goal
+
+pub returns-then-is_open-clause-steps : goal.returns-then-is_open-clause-steps
+returns-then-is_open-clause-steps g c = c.step_opened.ensures.steps
+
+pub returns-then-is_open-clause-kind : goal.returns-then-is_open-clause-kind
+returns-then-is_open-clause-kind g c = rw (c.is_open.ensures.yes c.if-is_open.true) c.step_opened.ensures.kind
+
+pub returns-then-is_open-clause-page_size : goal.returns-then-is_open-clause-page_size
+returns-then-is_open-clause-page_size g c = c.step_opened.ensures.page_size
+
+pub returns-then-is_open-clause-grows : goal.returns-then-is_open-clause-grows
+returns-then-is_open-clause-grows g c = c.step_opened.ensures.grows
+
+pub returns-clause-steps : goal.returns-clause-steps
+returns-clause-steps g c = c.step_closed.ensures.steps
+
+pub returns-clause-kind : goal.returns-clause-kind
+returns-clause-kind g c = rw (c.is_open.ensures.no c.if-is_open.false) c.step_closed.ensures.kind
+
+pub returns-clause-page_size : goal.returns-clause-page_size
+returns-clause-page_size g c = c.step_closed.ensures.page_size
+
+pub returns-clause-grows : goal.returns-clause-grows
+returns-clause-grows g c = c.step_closed.ensures.grows

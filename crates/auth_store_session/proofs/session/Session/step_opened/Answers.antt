@@ -1,0 +1,25 @@
+use Rattle.auth_store_session.proofs.session.Session.step_opened.Goals as goal
+
+pub returns-then-is_close-clause-steps : goal.returns-then-is_close-clause-steps
+returns-then-is_close-clause-steps g c = rw (c.is_close.ensures.yes c.if-is_close.true) c.close.ensures.steps
+
+pub returns-then-is_close-clause-kind : goal.returns-then-is_close-clause-kind
+returns-then-is_close-clause-kind g c = rw (c.is_close.ensures.yes c.if-is_close.true) c.close.ensures.kind
+
+pub returns-then-is_close-clause-page_size : goal.returns-then-is_close-clause-page_size
+returns-then-is_close-clause-page_size g c = c.close.ensures.page_size
+
+pub returns-then-is_close-clause-grows : goal.returns-then-is_close-clause-grows
+returns-then-is_close-clause-grows g c = c.close.ensures.grows
+
+pub returns-clause-steps : goal.returns-clause-steps
+returns-clause-steps g c = c.step_within.ensures.steps
+
+pub returns-clause-kind : goal.returns-clause-kind
+returns-clause-kind g c = c.step_within.ensures.kind
+
+pub returns-clause-page_size : goal.returns-clause-page_size
+returns-clause-page_size g c = c.step_within.ensures.page_size
+
+pub returns-clause-grows : goal.returns-clause-grows
+returns-clause-grows g c = c.step_within.ensures.grows

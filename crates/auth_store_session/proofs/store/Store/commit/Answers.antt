@@ -1,0 +1,46 @@
+use Rattle.std.proofs.Common.{◌∙◌, ◌+◌, ap, sym, subst, option_map, List}
+use Rattle.paged_blob.specs.Caches.{Cache}
+use Rattle.auth_store_parts.specs.Batch as words
+use Rattle.auth_store_parts.specs.Batch.{Word}
+use Rattle.auth_store_parts.specs.History.{History}
+use Rattle.auth_store_log.specs.Records.{Format, format_of}
+use Rattle.auth_store_session.specs.Machine.{Machine, machine}
+use Rattle.auth_store_session.specs.Standing.{Commits, result_of}
+use Rattle.auth_store_session.specs.Stores.{StoreState, IsLiveAt}
+use Rattle.auth_store_session.proofs.OnDevice.{commits_on_device, same_store, store_of}
+use Rattle.auth_store_session.proofs.store.Store.commit.Goals as goal
+
+pub invariant_of-self : goal.invariant_of-self
+invariant_of-self g c = (
+  c.self.invariant.0,
+  record {
+    opened = c.commit_live-answer.ensures.open;
+    cache = c.commit_live-answer.ensures.cache;
+    live = c.commit_live-answer.ensures.live;
+  },
+)
+
+pub returns-clause-commits : goal.returns-clause-commits
+returns-clause-commits g c =
+    let format : Format = format_of (g.K.Read.after tt) (g.V.Read.after tt) g.K.FixedSize.SIZE g.V.FixedSize.SIZE in
+    let said : List Word = words.meanings g.K.Write.encoding g.V.Write.encoding c.args.batch.words.items in
+    let noted = option_map g.V.Write.encoding c.args.metadata in
+    let m : Cache → Machine = λ k. machine g.F.Family.merge_rule g.H.HashFunction.hash_of g.F.PendingOf.pending_encoding g.row.N
+    g.K.FixedSize.SIZE g.V.FixedSize.SIZE (k.page_size + 12) in
+    let new : StoreState g.row.R.Denot =
+    store_of c.commit_live-answer.new.blob c.commit_live-answer.new.cache c.commit_live-answer.new.store in
+    let old : StoreState g.row.R.Denot = store_of c.self.inside.device c.self.inside.cache c.self.inside.live in
+    subst (λ (s : StoreState g.row.R.Denot). (history : History) → IsLiveAt s history → Commits (m s.cache) format said noted history s
+    (result_of g.H.Digest.Write.encoding c.commit_live-answer.result) new) c.self.view_is
+    (λ history live. commits_on_device (m old.cache) format said noted old new g.H.Digest.Write.encoding c.commit_live-answer.result
+    c.is_cut-is_cut.result history c.is_cut-is_cut.ensures c.refuses_only_under_a_cut.ensures c.commit_live-answer.ensures.untouched
+    c.commit_live-answer.ensures.commits live)
+
+pub returns-clause-failed : goal.returns-clause-failed
+returns-clause-failed g c = λ none.
+    let all = c.commit_live-answer.ensures.failed (ap (λ (s : StoreState g.row.R.Denot). s.live) c.self.view_is ∙ none) in
+    let was = ap (λ (s : StoreState g.row.R.Denot). s.live) c.self.view_is ∙ none in (
+      all.0,
+      same_store c.commit_live-answer.new.blob c.self.inside.device c.commit_live-answer.new.cache c.self.inside.cache
+          c.commit_live-answer.new.store c.self.inside.live all.2 all.3 (all.1 ∙ sym was) ∙ c.self.view_is,
+    )

@@ -1,0 +1,35 @@
+use Rattle.std.proofs.Common.{◌≡◌, subst, option_map}
+use Rattle.std.specs.Prelude.{IfOk, IfErr}
+use Rattle.std.proofs.lemmas.Result.{IfErr-weaker}
+use Rattle.auth_store_parts.specs.History.{History, latest_map}
+use Rattle.auth_store_parts.specs.Map.{value_at}
+use Rattle.auth_store_session.specs.Machine.{MayRefuse}
+use Rattle.auth_store_session.specs.Standing.{power_of}
+use Rattle.auth_store_session.specs.Stores.{StoreState}
+use Rattle.auth_store_session.proofs.OnDevice.{one_history, read_on_device, live_stays}
+use Rattle.auth_store_session.proofs.store.Store.get.Goals as goal
+
+pub invariant_of-self : goal.invariant_of-self
+invariant_of-self g c = (
+  c.self.invariant.0,
+  record {
+    opened = c.get_live-answer.ensures.open;
+    cache = c.get_live-answer.ensures.cache;
+    live = live_stays _ _ _ c.self.inside.live c.in-Some.live c.in-Some.is c.get_live-answer.ensures.live;
+  },
+)
+
+pub returns-clause-found : goal.returns-clause-found
+returns-clause-found g c = λ history live.
+    subst (λ (h : History). IfOk c.get_live-answer.result (λ found. option_map g.V.Write.encoding found
+    ≡ value_at (latest_map h) (g.K.Write.encoding c.args.key.now)))
+    (one_history c.self.inside.device c.self.inside.cache c.self.inside.live c.args.self.now c.in-Some.live history c.self.view_is c.in-Some.is live)
+    c.get_live-answer.ensures.ok
+
+pub returns-clause-refused : goal.returns-clause-refused
+returns-clause-refused g c = λ history live.
+    subst (λ (s : StoreState g.row.R.Denot). IfErr c.get_live-answer.result (MayRefuse (power_of s.device s.cache)
+    (power_of c.get_live-answer.new.blob c.get_live-answer.new.cache))) c.self.view_is
+    (IfErr-weaker c.get_live-answer.result _ _
+    (λ e cause. read_on_device c.self.inside.device c.get_live-answer.new.blob c.self.inside.cache c.get_live-answer.new.cache e
+    c.refuses_only_under_a_cut.ensures cause) c.get_live-answer.ensures.refused)

@@ -1,0 +1,56 @@
+-- The machine's requests and answers, as the code holds them.
+use Rattle.std.specs.Prelude.{ℕ, List, map, option_map, Result, Ok, Err}
+use Rattle.auth_store_parts.specs.Batch.{meanings}
+use Rattle.auth_store_ledger.specs.ProvingCode.{parts_of}
+use Rattle.auth_store_session.specs.declared.error.StoreError.{StoreError}
+use Rattle.auth_store_session.specs.declared.session.Step.{Step}
+use Rattle.auth_store_session.specs.declared.session.Step.TheVariants.{Open, Commit, Get, Root, Commits, Floor, Len, ProveKey, Close, Crash, Config, CutAfter}
+use Rattle.auth_store_session.specs.declared.session.Answer.{Answer}
+use Rattle.auth_store_session.specs.declared.session.Answer.TheVariants as answers
+use Rattle.auth_store_session.specs.Machine.{Request, ask_open, ask_commit, ask_get, ask_root, ask_commits, ask_floor, ask_len, ask_proof, ask_close, ask_crash, ask_config, ask_cut}
+use Rattle.auth_store_session.specs.Machine as machine
+
+-- what a step asks, given how keys and values are encoded
+abbrev pub request_of : {K V : Type 0} → (K → List ℕ) → (V → List ℕ) → Step K V → Request
+request_of key value (Open sizes) = ask_open
+request_of key value (Commit batch metadata) = ask_commit (meanings key value batch.words.items) (option_map value metadata)
+request_of key value (Get k) = ask_get (key k)
+request_of key value Root = ask_root
+request_of key value Commits = ask_commits
+request_of key value Floor = ask_floor
+request_of key value Len = ask_len
+request_of key value (ProveKey k) = ask_proof (key k)
+request_of key value Close = ask_close
+request_of key value Crash = ask_crash
+request_of key value (Config config) = ask_config
+request_of key value (CutAfter calls) = ask_cut
+
+-- what an answer says, given how digests and values are encoded
+abbrev pub meaning_of : {D V : Type 0} → (D → List ℕ) → (V → List ℕ) → Answer D V → machine.Answer
+meaning_of digest value answers.Opened = machine.opened
+meaning_of digest value (answers.Committed root) = machine.committed (digest root)
+meaning_of digest value (answers.Value found) = machine.value (option_map value found)
+meaning_of digest value (answers.Root root) = machine.root_is (digest root)
+meaning_of digest value (answers.Commits count) = machine.commits_are count
+meaning_of digest value (answers.Floor location) = machine.floor_is location
+meaning_of digest value (answers.Len count) = machine.len_is count
+meaning_of digest value (answers.Proof found) = machine.proof (option_map (parts_of value) found)
+meaning_of digest value answers.Closed = machine.has_closed
+meaning_of digest value answers.Crashed = machine.has_crashed
+meaning_of digest value answers.Set = machine.is_set
+meaning_of digest value (answers.Refused error) = machine.refused error
+meaning_of digest value answers.NotOpen = machine.not_open
+meaning_of digest value answers.StillOpen = machine.still_open
+
+-- what a list of steps asks
+abbrev pub requests_of : {K V : Type 0} → (K → List ℕ) → (V → List ℕ) → List (Step K V) → List Request
+requests_of key value steps = map (request_of key value) steps
+
+-- what a list of answers says
+abbrev pub meanings_of : {D V : Type 0} → (D → List ℕ) → (V → List ℕ) → List (Answer D V) → List machine.Answer
+meanings_of digest value given = map (meaning_of digest value) given
+
+-- what is answered where a call's answer says this, or is a refusal
+abbrev pub answer_of : {T : Type 0} → (T → machine.Answer) → Result T StoreError → machine.Answer
+answer_of said (Ok value) = said value
+answer_of said (Err e) = machine.refused e

@@ -1,0 +1,615 @@
+//! A session with a store: it takes requests, one after the other, and answers each.
+//!
+//! ```text
+//!            Open: Opened                Commit: refused after the first append
+//!   closed ---------------> live -------------------------------------------> failed
+//!     ^ |                    | |                                                |
+//!     | | Crash              | | Commit, Get, Root, ..                          | S6
+//!     | +-> closed           | +-> live                                         +-> failed
+//!     |                      |                                                  |
+//!     +--- Close ------------+--------------------- Close ----------------------+
+//! ```
+
+ghost use Rattle.std.specs.Prelude.{◌≡◌, ◌+◌, None, Some, is_some, option_map, true, false};
+ghost use Rattle.paged_blob.specs.Moments.{Grows};
+ghost use Rattle.auth_store_ledger.specs.Store.{IsChunkWidth};
+ghost use Rattle.auth_store_log.specs.Records.{format_of};
+ghost use Rattle.auth_store_session.specs.Machine.{machine, State, at_rest, IsAnswerTo};
+ghost use Rattle.auth_store_parts.specs.Batch as words;
+ghost use Rattle.auth_store_session.specs.Machine.{ask_open, ask_crash, ask_config, ask_cut, ask_close, ask_commit};
+ghost use Rattle.auth_store_session.specs.Machine.{ask_get, ask_root, ask_commits, ask_floor, ask_len, ask_proof};
+ghost use Rattle.auth_store_session.specs.Machine.{IsSaid, is_root_of_commit, is_value, is_root, is_commits, is_floor};
+ghost use Rattle.auth_store_session.specs.Machine.{is_len, is_proof, is_set};
+ghost use Rattle.auth_store_session.specs.MachineCode.{meaning_of, request_of};
+ghost use Rattle.auth_store_session.specs.Standing.{IsLeftOpen, StandsFor, Steps, StepsOpen};
+ghost use Rattle.auth_store_session.specs.Standing.{calls_in, page_size_in, power_in, power_of};
+ghost use Rattle.auth_store_session.specs.Stores.{IsCache};
+
+use crate::error::StoreError;
+use crate::laws::an_opening_shows_what_stood;
+use crate::sizes::Sizes;
+use crate::store::{NotOpened, Store};
+use auth_store_device::Device;
+use auth_store_ledger::{Batch, KeyProof};
+use fault_storage::Config;
+use merkle_forest::{Family, Graftable, HashFunction, PendingOf};
+use paged_blob::CacheRef;
+use rand_core::Rng;
+use state_ops::{FixedKey, FixedValue};
+use std::alloc::Global;
+use std::marker::Model;
+
+/// A request to a session.
+#[derive(Debug, Drop)]
+pub enum Step<K, V> {
+    /// Opens the store.
+    Open(Sizes),
+    /// Commits a batch with its metadata.
+    Commit(Batch<K, V>, Option<V>),
+    /// Asks for the value of a key.
+    Get(K),
+    /// Asks for the root.
+    Root,
+    /// Asks for the number of commits.
+    Commits,
+    /// Asks for the last floor.
+    Floor,
+    /// Asks for the number of operations.
+    Len,
+    /// Asks for the value of a key and its proof.
+    ProveKey(K),
+    /// Closes the store.
+    Close,
+    /// Crashes the device.
+    Crash,
+    /// Puts settings in place by which the device fails.
+    Config(Config),
+    /// Lets so many calls of the device through, and cuts its power then.
+    CutAfter(u64),
+}
+
+/// What a session answers to a step: what the store's call answers, or why there was none.
+#[derive(Debug, Drop)]
+pub enum Answer<D, V> {
+    /// The store is open.
+    Opened,
+    /// The batch is committed; the new root.
+    Committed(D),
+    /// The key's value, if it is there.
+    Value(Option<V>),
+    /// The root.
+    Root(D),
+    /// How many commits there are.
+    Commits(u64),
+    /// The last floor: the location of an operation.
+    Floor(u64),
+    /// How many operations there are.
+    Len(u64),
+    /// The key's value and its proof, if it is there.
+    Proof(Option<KeyProof<V>>),
+    /// The store is closed.
+    Closed,
+    /// The device has crashed.
+    Crashed,
+    /// The settings, or the cut, are in place.
+    Set,
+    /// The refusal of the step's call.
+    Refused(StoreError),
+    /// No store is open, and nothing was done.
+    NotOpen,
+    /// A store is open, and nothing was done.
+    StillOpen,
+}
+
+// Commits a batch of an open store.
+fn commit<R, F, H, K, V, const N: usize>(
+    store: &mut Store<R, F, H, K, V, N>,
+    batch: Batch<K, V>,
+    metadata: Option<V>,
+) -> Answer<H::Digest, V>
+where
+    R: Rng + Drop,
+    F: Graftable + PendingOf<H::Digest>,
+    H: HashFunction,
+    K: FixedKey,
+    V: FixedValue,
+    ensures steps { let format = format_of (K.after tt) (V.after tt) K.SIZE V.SIZE in
+        let size = store.old.cache.page_size + 12 in
+        let m = machine F.merge_rule H.hash_of F.pending_encoding N K.SIZE V.SIZE size in
+        StepsOpen m format store.old (ask_commit (words.meanings K.encoding V.encoding batch.words.items)
+        (option_map V.encoding metadata)) (meaning_of H.Digest.encoding V.encoding result) store.new }
+    ensures kind { IsSaid is_root_of_commit (meaning_of H.Digest.encoding V.encoding result) }
+    ensures page_size { store.new.cache.page_size ≡ store.old.cache.page_size }
+    ensures grows { Grows store.old.device.calls store.new.device.calls }
+{
+    match store.commit(batch, metadata) {
+        Ok(root) => Answer::Committed(root),
+        Err(error) => Answer::Refused(error),
+    }
+}
+
+// Asks an open store for the value of a key.
+fn get<R, F, H, K, V, const N: usize>(
+    store: &mut Store<R, F, H, K, V, N>,
+    key: &K,
+) -> Answer<H::Digest, V>
+where
+    R: Rng + Drop,
+    F: Graftable + PendingOf<H::Digest>,
+    H: HashFunction,
+    K: FixedKey,
+    V: FixedValue,
+    ensures steps { let format = format_of (K.after tt) (V.after tt) K.SIZE V.SIZE in
+        let size = store.old.cache.page_size + 12 in
+        let m = machine F.merge_rule H.hash_of F.pending_encoding N K.SIZE V.SIZE size in
+        StepsOpen m format store.old (ask_get (K.encoding key.now)) (meaning_of H.Digest.encoding V.encoding result) store.new }
+    ensures kind { IsSaid is_value (meaning_of H.Digest.encoding V.encoding result) }
+    ensures page_size { store.new.cache.page_size ≡ store.old.cache.page_size }
+    ensures grows { Grows store.old.device.calls store.new.device.calls }
+{
+    match store.get(key) {
+        Ok(found) => Answer::Value(found),
+        Err(error) => Answer::Refused(error),
+    }
+}
+
+// Asks an open store for its root.
+fn root<R, F, H, K, V, const N: usize>(store: &Store<R, F, H, K, V, N>) -> Answer<H::Digest, V>
+where
+    R: Rng + Drop,
+    F: Graftable + PendingOf<H::Digest>,
+    H: HashFunction,
+    K: FixedKey,
+    V: FixedValue,
+    ensures steps { let format = format_of (K.after tt) (V.after tt) K.SIZE V.SIZE in
+        let size = store.now.cache.page_size + 12 in
+        let m = machine F.merge_rule H.hash_of F.pending_encoding N K.SIZE V.SIZE size in
+        StepsOpen m format store.now ask_root (meaning_of H.Digest.encoding V.encoding result) store.now }
+    ensures kind { IsSaid is_root (meaning_of H.Digest.encoding V.encoding result) }
+{
+    match store.root() {
+        Ok(root) => Answer::Root(root),
+        Err(error) => Answer::Refused(error),
+    }
+}
+
+// Asks an open store for the number of its commits.
+fn commits<R, F, H, K, V, const N: usize>(store: &Store<R, F, H, K, V, N>) -> Answer<H::Digest, V>
+where
+    R: Rng + Drop,
+    F: Graftable + PendingOf<H::Digest>,
+    H: HashFunction,
+    K: FixedKey,
+    V: FixedValue,
+    ensures steps { let format = format_of (K.after tt) (V.after tt) K.SIZE V.SIZE in
+        let size = store.now.cache.page_size + 12 in
+        let m = machine F.merge_rule H.hash_of F.pending_encoding N K.SIZE V.SIZE size in
+        StepsOpen m format store.now ask_commits (meaning_of H.Digest.encoding V.encoding result) store.now }
+    ensures kind { IsSaid is_commits (meaning_of H.Digest.encoding V.encoding result) }
+{
+    match store.commits() {
+        Ok(count) => Answer::Commits(count),
+        Err(error) => Answer::Refused(error),
+    }
+}
+
+// Asks an open store for its last floor.
+fn floor<R, F, H, K, V, const N: usize>(store: &Store<R, F, H, K, V, N>) -> Answer<H::Digest, V>
+where
+    R: Rng + Drop,
+    F: Graftable + PendingOf<H::Digest>,
+    H: HashFunction,
+    K: FixedKey,
+    V: FixedValue,
+    ensures steps { let format = format_of (K.after tt) (V.after tt) K.SIZE V.SIZE in
+        let size = store.now.cache.page_size + 12 in
+        let m = machine F.merge_rule H.hash_of F.pending_encoding N K.SIZE V.SIZE size in
+        StepsOpen m format store.now ask_floor (meaning_of H.Digest.encoding V.encoding result) store.now }
+    ensures kind { IsSaid is_floor (meaning_of H.Digest.encoding V.encoding result) }
+{
+    match store.floor() {
+        Ok(location) => Answer::Floor(location),
+        Err(error) => Answer::Refused(error),
+    }
+}
+
+// Asks an open store for the number of its operations.
+fn len<R, F, H, K, V, const N: usize>(store: &Store<R, F, H, K, V, N>) -> Answer<H::Digest, V>
+where
+    R: Rng + Drop,
+    F: Graftable + PendingOf<H::Digest>,
+    H: HashFunction,
+    K: FixedKey,
+    V: FixedValue,
+    ensures steps { let format = format_of (K.after tt) (V.after tt) K.SIZE V.SIZE in
+        let size = store.now.cache.page_size + 12 in
+        let m = machine F.merge_rule H.hash_of F.pending_encoding N K.SIZE V.SIZE size in
+        StepsOpen m format store.now ask_len (meaning_of H.Digest.encoding V.encoding result) store.now }
+    ensures kind { IsSaid is_len (meaning_of H.Digest.encoding V.encoding result) }
+{
+    match store.len() {
+        Ok(count) => Answer::Len(count),
+        Err(error) => Answer::Refused(error),
+    }
+}
+
+// Asks an open store for the value of a key and its proof.
+fn prove<R, F, H, K, V, const N: usize>(
+    store: &Store<R, F, H, K, V, N>,
+    key: &K,
+) -> Answer<H::Digest, V>
+where
+    R: Rng + Drop,
+    F: Graftable + PendingOf<H::Digest>,
+    H: HashFunction,
+    K: FixedKey,
+    V: FixedValue,
+    ensures steps { let format = format_of (K.after tt) (V.after tt) K.SIZE V.SIZE in
+        let size = store.now.cache.page_size + 12 in
+        let m = machine F.merge_rule H.hash_of F.pending_encoding N K.SIZE V.SIZE size in
+        StepsOpen m format store.now (ask_proof (K.encoding key.now)) (meaning_of H.Digest.encoding V.encoding result) store.now }
+    ensures kind { IsSaid is_proof (meaning_of H.Digest.encoding V.encoding result) }
+{
+    match store.prove_key(key) {
+        Ok(found) => Answer::Proof(found),
+        Err(error) => Answer::Refused(error),
+    }
+}
+
+// Puts settings in place of the device of an open store.
+fn configure<R, F, H, K, V, const N: usize>(
+    store: &mut Store<R, F, H, K, V, N>,
+    config: Config,
+) -> Answer<H::Digest, V>
+where
+    R: Rng + Drop,
+    F: Graftable + PendingOf<H::Digest>,
+    H: HashFunction,
+    K: FixedKey,
+    V: FixedValue,
+    ensures steps { let format = format_of (K.after tt) (V.after tt) K.SIZE V.SIZE in
+        let size = store.old.cache.page_size + 12 in
+        let m = machine F.merge_rule H.hash_of F.pending_encoding N K.SIZE V.SIZE size in
+        StepsOpen m format store.old ask_config is_set store.new }
+    ensures set { result ≡ Answer.Set }
+    ensures page_size { store.new.cache.page_size ≡ store.old.cache.page_size }
+    ensures grows { Grows store.old.device.calls store.new.device.calls }
+{
+    store.set_config(config);
+    Answer::Set
+}
+
+// Has the power of the device of an open store cut after so many calls.
+fn cut<R, F, H, K, V, const N: usize>(
+    store: &mut Store<R, F, H, K, V, N>,
+    calls: u64,
+) -> Answer<H::Digest, V>
+where
+    R: Rng + Drop,
+    F: Graftable + PendingOf<H::Digest>,
+    H: HashFunction,
+    K: FixedKey,
+    V: FixedValue,
+    ensures steps { let format = format_of (K.after tt) (V.after tt) K.SIZE V.SIZE in
+        let size = store.old.cache.page_size + 12 in
+        let m = machine F.merge_rule H.hash_of F.pending_encoding N K.SIZE V.SIZE size in
+        StepsOpen m format store.old ask_cut is_set store.new }
+    ensures set { result ≡ Answer.Set }
+    ensures page_size { store.new.cache.page_size ≡ store.old.cache.page_size }
+    ensures grows { Grows store.old.device.calls store.new.device.calls }
+{
+    store.cut_after(calls);
+    Answer::Set
+}
+
+// Whether the step closes a store.
+fn is_close<K: FixedKey, V: FixedValue>(step: &Step<K, V>) -> bool
+    ensures yes { result ≡ true → request_of K.encoding V.encoding step.now ≡ ask_close }
+    ensures no { result ≡ false → IsLeftOpen (request_of K.encoding V.encoding step.now) }
+{
+    matches!(step, Step::Close)
+}
+
+// What an open store answers to a step. One that would close it leaves it open.
+fn step_open<R, F, H, K, V, const N: usize>(
+    store: &mut Store<R, F, H, K, V, N>,
+    step: Step<K, V>,
+) -> Answer<H::Digest, V>
+where
+    R: Rng + Drop,
+    F: Graftable + PendingOf<H::Digest>,
+    H: HashFunction,
+    K: FixedKey,
+    V: FixedValue,
+    ensures steps { let format = format_of (K.after tt) (V.after tt) K.SIZE V.SIZE in
+        let size = store.old.cache.page_size + 12 in
+        let m = machine F.merge_rule H.hash_of F.pending_encoding N K.SIZE V.SIZE size in
+        let request = request_of K.encoding V.encoding step in
+        IsLeftOpen request → StepsOpen m format store.old request (meaning_of H.Digest.encoding V.encoding result)
+        store.new }
+    ensures kind { let request = request_of K.encoding V.encoding step in
+        IsLeftOpen request → IsAnswerTo true request (meaning_of H.Digest.encoding V.encoding result) }
+    ensures page_size { store.new.cache.page_size ≡ store.old.cache.page_size }
+    ensures grows { Grows store.old.device.calls store.new.device.calls }
+{
+    match step {
+        Step::Open(_) | Step::Crash | Step::Close => Answer::StillOpen,
+        Step::Commit(batch, metadata) => commit(store, batch, metadata),
+        Step::Get(key) => get(store, &key),
+        Step::Root => root(store),
+        Step::Commits => commits(store),
+        Step::Floor => floor(store),
+        Step::Len => len(store),
+        Step::ProveKey(key) => prove(store, &key),
+        Step::Config(config) => configure(store, config),
+        Step::CutAfter(calls) => cut(store, calls),
+    }
+}
+
+/// A closed device with a cache, or the open store on them. Its contracts see which it has; that a session stands for a
+/// state of the machine is said of what it has (own).
+#[derive(Drop)]
+pub struct Session<R: Rng, F: Family, H: HashFunction, K: FixedKey, V: FixedValue, const N: usize> {
+    alloc: Global,
+    parts: Option<(Device<R>, CacheRef)>,
+    store: Option<Store<R, F, H, K, V, N>>,
+}
+
+impl<R: Rng, F: Family, H: HashFunction, K: FixedKey, V: FixedValue, const N: usize> Model
+    for Session<R, F, H, K, V, N> {
+    ghost use Rattle.auth_store_ledger.specs.Store.{IsChunkWidth};
+    ghost use Rattle.auth_store_session.specs.Standing.{SessionState, IsSession};
+
+    ghost Value = { SessionState R };
+
+    ghost view = { λ s. record { parts = s.parts; store = s.store } };
+
+    ghost invariant = { λ s. IsChunkWidth N × IsSession s.parts s.store };
+}
+
+impl<R, F, H, K, V, const N: usize> Session<R, F, H, K, V, N>
+where
+    R: Rng + Drop,
+    F: Graftable + PendingOf<H::Digest>,
+    H: HashFunction,
+    K: FixedKey,
+    V: FixedValue,
+{
+    /// A session over a closed device and a cache, with no store open.
+    pub fn new(alloc: Global, device: Device<R>, cache: CacheRef) -> Session<R, F, H, K, V, N>
+        requires width { IsChunkWidth N }
+        requires closed { device.log ≡ None }
+        requires cache { IsCache cache }
+        ensures { result ≡ record { parts = Some (device, cache); store = None } }
+    {
+        Session {
+            alloc,
+            parts: Some((device, cache)),
+            store: None,
+        }
+    }
+
+    // Opens the store, which is closed.
+    fn open(&mut self, sizes: Sizes) -> Answer<H::Digest, V>
+        requires { self.old.store ≡ None }
+        ensures steps { let format = format_of (K.after tt) (V.after tt) K.SIZE V.SIZE in
+            let m = machine F.merge_rule H.hash_of F.pending_encoding N K.SIZE V.SIZE
+            (page_size_in self.old.parts self.old.store) in
+            Steps m format self.old ask_open (meaning_of H.Digest.encoding V.encoding result) self.new }
+        ensures kind { IsAnswerTo false ask_open (meaning_of H.Digest.encoding V.encoding result) }
+        ensures page_size { page_size_in self.new.parts self.new.store
+            ≡ page_size_in self.old.parts self.old.store }
+        ensures grows { Grows (calls_in self.old.parts self.old.store) (calls_in self.new.parts self.new.store) }
+    {
+        let Some((device, cache)) = self.parts.take() else {
+            unreachable!();
+        };
+        an_opening_shows_what_stood();
+        match Store::open(self.alloc, device, cache, sizes) {
+            Ok(store) => {
+                self.store = Some(store);
+                Answer::Opened
+            }
+            Err(
+                NotOpened {
+                    error,
+                    device,
+                    cache,
+                },
+            ) => {
+                self.parts = Some((device, cache));
+                Answer::Refused(error)
+            }
+        }
+    }
+
+    // Crashes the device, which is closed.
+    fn crash(&mut self) -> Answer<H::Digest, V>
+        requires { self.old.store ≡ None }
+        ensures steps { let format = format_of (K.after tt) (V.after tt) K.SIZE V.SIZE in
+            let m = machine F.merge_rule H.hash_of F.pending_encoding N K.SIZE V.SIZE
+            (page_size_in self.old.parts self.old.store) in
+            Steps m format self.old ask_crash (meaning_of H.Digest.encoding V.encoding result) self.new }
+        ensures kind { IsAnswerTo false ask_crash (meaning_of H.Digest.encoding V.encoding result) }
+        ensures page_size { page_size_in self.new.parts self.new.store
+            ≡ page_size_in self.old.parts self.old.store }
+        ensures grows { Grows (calls_in self.old.parts self.old.store) (calls_in self.new.parts self.new.store) }
+    {
+        let Some((mut device, cache)) = self.parts.take() else {
+            unreachable!();
+        };
+        device.crash();
+        self.parts = Some((device, cache));
+        Answer::Crashed
+    }
+
+    // Puts settings in place of the device, which is closed.
+    fn set_config(&mut self, config: Config) -> Answer<H::Digest, V>
+        requires { self.old.store ≡ None }
+        ensures steps { let format = format_of (K.after tt) (V.after tt) K.SIZE V.SIZE in
+            let m = machine F.merge_rule H.hash_of F.pending_encoding N K.SIZE V.SIZE
+            (page_size_in self.old.parts self.old.store) in
+            Steps m format self.old ask_config (meaning_of H.Digest.encoding V.encoding result) self.new }
+        ensures kind { IsAnswerTo false ask_config (meaning_of H.Digest.encoding V.encoding result) }
+        ensures page_size { page_size_in self.new.parts self.new.store
+            ≡ page_size_in self.old.parts self.old.store }
+        ensures grows { Grows (calls_in self.old.parts self.old.store) (calls_in self.new.parts self.new.store) }
+    {
+        let Some((mut device, cache)) = self.parts.take() else {
+            unreachable!();
+        };
+        device.set_config(config);
+        self.parts = Some((device, cache));
+        Answer::Set
+    }
+
+    // Has the power of the device cut after so many calls, which is closed.
+    fn cut_after(&mut self, calls: u64) -> Answer<H::Digest, V>
+        requires { self.old.store ≡ None }
+        ensures steps { let format = format_of (K.after tt) (V.after tt) K.SIZE V.SIZE in
+            let m = machine F.merge_rule H.hash_of F.pending_encoding N K.SIZE V.SIZE
+            (page_size_in self.old.parts self.old.store) in
+            Steps m format self.old ask_cut (meaning_of H.Digest.encoding V.encoding result) self.new }
+        ensures kind { IsAnswerTo false ask_cut (meaning_of H.Digest.encoding V.encoding result) }
+        ensures page_size { page_size_in self.new.parts self.new.store
+            ≡ page_size_in self.old.parts self.old.store }
+        ensures grows { Grows (calls_in self.old.parts self.old.store) (calls_in self.new.parts self.new.store) }
+    {
+        let Some((mut device, cache)) = self.parts.take() else {
+            unreachable!();
+        };
+        device.cut_after(calls);
+        self.parts = Some((device, cache));
+        Answer::Set
+    }
+
+    // Takes a step of a closed session.
+    fn step_closed(&mut self, step: Step<K, V>) -> Answer<H::Digest, V>
+        requires { self.old.store ≡ None }
+        ensures steps { let format = format_of (K.after tt) (V.after tt) K.SIZE V.SIZE in
+            let m = machine F.merge_rule H.hash_of F.pending_encoding N K.SIZE V.SIZE
+            (page_size_in self.old.parts self.old.store) in
+            Steps m format self.old (request_of K.encoding V.encoding step) (meaning_of H.Digest.encoding V.encoding result) self.new }
+        ensures kind { IsAnswerTo false (request_of K.encoding V.encoding step) (meaning_of H.Digest.encoding V.encoding result) }
+        ensures page_size { page_size_in self.new.parts self.new.store
+            ≡ page_size_in self.old.parts self.old.store }
+        ensures grows { Grows (calls_in self.old.parts self.old.store) (calls_in self.new.parts self.new.store) }
+    {
+        match step {
+            Step::Open(sizes) => self.open(sizes),
+            Step::Crash => self.crash(),
+            Step::Config(config) => self.set_config(config),
+            Step::CutAfter(calls) => self.cut_after(calls),
+            _ => Answer::NotOpen,
+        }
+    }
+
+    // Closes the store, which is open.
+    fn close(&mut self) -> Answer<H::Digest, V>
+        requires { is_some self.old.store ≡ true }
+        ensures steps { let format = format_of (K.after tt) (V.after tt) K.SIZE V.SIZE in
+            let m = machine F.merge_rule H.hash_of F.pending_encoding N K.SIZE V.SIZE
+            (page_size_in self.old.parts self.old.store) in
+            Steps m format self.old ask_close (meaning_of H.Digest.encoding V.encoding result) self.new }
+        ensures kind { IsAnswerTo true ask_close (meaning_of H.Digest.encoding V.encoding result) }
+        ensures page_size { page_size_in self.new.parts self.new.store
+            ≡ page_size_in self.old.parts self.old.store }
+        ensures grows { Grows (calls_in self.old.parts self.old.store) (calls_in self.new.parts self.new.store) }
+    {
+        let Some(store) = self.store.take() else {
+            unreachable!();
+        };
+        self.parts = Some(store.into_parts());
+        Answer::Closed
+    }
+
+    // Takes a step of an open session that leaves it open.
+    fn step_within(&mut self, step: Step<K, V>) -> Answer<H::Digest, V>
+        requires some { is_some self.old.store ≡ true }
+        requires left { IsLeftOpen (request_of K.encoding V.encoding step) }
+        ensures steps { let format = format_of (K.after tt) (V.after tt) K.SIZE V.SIZE in
+            let m = machine F.merge_rule H.hash_of F.pending_encoding N K.SIZE V.SIZE
+            (page_size_in self.old.parts self.old.store) in
+            Steps m format self.old (request_of K.encoding V.encoding step) (meaning_of H.Digest.encoding V.encoding result) self.new }
+        ensures kind { IsAnswerTo true (request_of K.encoding V.encoding step) (meaning_of H.Digest.encoding V.encoding result) }
+        ensures page_size { page_size_in self.new.parts self.new.store
+            ≡ page_size_in self.old.parts self.old.store }
+        ensures grows { Grows (calls_in self.old.parts self.old.store) (calls_in self.new.parts self.new.store) }
+    {
+        let Some(store) = &mut self.store else {
+            unreachable!();
+        };
+        step_open(store, step)
+    }
+
+    // Takes a step of an open session.
+    fn step_opened(&mut self, step: Step<K, V>) -> Answer<H::Digest, V>
+        requires { is_some self.old.store ≡ true }
+        ensures steps { let format = format_of (K.after tt) (V.after tt) K.SIZE V.SIZE in
+            let m = machine F.merge_rule H.hash_of F.pending_encoding N K.SIZE V.SIZE
+            (page_size_in self.old.parts self.old.store) in
+            Steps m format self.old (request_of K.encoding V.encoding step) (meaning_of H.Digest.encoding V.encoding result) self.new }
+        ensures kind { IsAnswerTo true (request_of K.encoding V.encoding step) (meaning_of H.Digest.encoding V.encoding result) }
+        ensures page_size { page_size_in self.new.parts self.new.store
+            ≡ page_size_in self.old.parts self.old.store }
+        ensures grows { Grows (calls_in self.old.parts self.old.store) (calls_in self.new.parts self.new.store) }
+    {
+        if is_close(&step) {
+            return self.close();
+        }
+        self.step_within(step)
+    }
+
+    // Whether a store is open.
+    fn is_open(&self) -> bool
+        ensures yes { result ≡ true → is_some self.now.store ≡ true }
+        ensures no { result ≡ false → self.now.store ≡ None }
+    {
+        match &self.store {
+            Some(_) => true,
+            None => false,
+        }
+    }
+
+    /// Takes one step and answers it: a step of the machine, from each state that the session stood for, where no
+    /// opening of the device is by chance; and an answer of the step's kind, by chance or not.
+    pub fn step(&mut self, step: Step<K, V>) -> Answer<H::Digest, V>
+        ensures steps { let format = format_of (K.after tt) (V.after tt) K.SIZE V.SIZE in
+            let m = machine F.merge_rule H.hash_of F.pending_encoding N K.SIZE V.SIZE
+            (page_size_in self.old.parts self.old.store) in
+            Steps m format self.old (request_of K.encoding V.encoding step) (meaning_of H.Digest.encoding V.encoding result) self.new }
+        ensures kind { IsAnswerTo (is_some self.old.store) (request_of K.encoding V.encoding step) (meaning_of H.Digest.encoding V.encoding result) }
+        ensures page_size { page_size_in self.new.parts self.new.store
+            ≡ page_size_in self.old.parts self.old.store }
+        ensures grows { Grows (calls_in self.old.parts self.old.store) (calls_in self.new.parts self.new.store) }
+    {
+        if self.is_open() {
+            return self.step_opened(step);
+        }
+        self.step_closed(step)
+    }
+
+    /// Closes the store, if one is open, and answers device and cache: they stand for the state at rest. It always
+    /// succeeds.
+    pub fn into_parts(self) -> (Device<R>, CacheRef)
+        ensures rests { let format = format_of (K.after tt) (V.after tt) K.SIZE V.SIZE in
+            (state : State) → StandsFor format self.parts self.store state
+            → StandsFor format (Some result) None (at_rest state) }
+        ensures closed { result.0.log ≡ None }
+        ensures cache { IsCache result.1 }
+        ensures page_size { result.1.page_size + 12 ≡ page_size_in self.parts self.store }
+        ensures calls { result.0.calls ≡ calls_in self.parts self.store }
+        ensures power { power_of result.0 result.1 ≡ power_in self.parts self.store }
+    {
+        let Session {
+            alloc: _,
+            parts,
+            store,
+        } = self;
+        match (parts, store) {
+            (Some(parts), _) => parts,
+            (None, Some(store)) => store.into_parts(),
+            (None, None) => unreachable!(),
+        }
+    }
+}

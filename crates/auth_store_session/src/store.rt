@@ -1,0 +1,329 @@
+//! A store on a disk that fails.
+
+ghost use Rattle.std.specs.Prelude.{◌≡◌, ◌+◌, length, option_map, Ok, Err, None, true, is_some, IfOk, IfErr, OnOk, IsFalse};
+ghost use Rattle.paged_blob.specs.Moments.{Grows};
+ghost use Rattle.auth_store_parts.specs.Batch as words;
+ghost use Rattle.auth_store_parts.specs.History.{History, latest_map, log_of};
+ghost use Rattle.auth_store_parts.specs.Map.{value_at};
+ghost use Rattle.auth_store_device.specs.Devices.{after_asking, is_cut};
+ghost use Rattle.auth_store_device.specs.Logs.{HasOwnHeader};
+ghost use Rattle.auth_store_ledger.specs.ProvingCode.{parts_of};
+ghost use Rattle.auth_store_ledger.specs.Store.{IsChunkWidth, floor_of, root_of_history};
+ghost use Rattle.auth_store_log.specs.Records.{format_of};
+ghost use Rattle.auth_store_session.specs.Machine.{machine, proof_of, MayRefuse};
+ghost use Rattle.auth_store_session.specs.Standing.{Commits, IsOpenError, IsOpenedThrough, IsRecovered, IsShownThrough};
+ghost use Rattle.auth_store_session.specs.Standing.{power_of, result_of, shown_of};
+ghost use Rattle.auth_store_session.specs.Stores.{IsCache, IsLive, IsLiveAt, Shows};
+
+use crate::error::StoreError;
+use crate::live::{Live, commit_live, get_live, recover_live};
+use crate::sizes::Sizes;
+use auth_store_device::Device;
+use auth_store_ledger::{Batch, KeyProof};
+use fault_storage::Config;
+use merkle_forest::{Family, Graftable, HashFunction, PendingOf};
+use paged_blob::CacheRef;
+use rand_core::Rng;
+use state_ops::{FixedKey, FixedValue};
+use std::alloc::Global;
+use std::marker::Model;
+
+/// A history on a device, read through a cache. While it has not failed, what is durable of the device's log is the
+/// history's log; a failed one can only be taken apart. Its type names the generator that the device draws of, the
+/// tree's family, the hash function, the types of keys and values, and how many bytes a chunk has (own).
+#[derive(Drop)]
+pub struct Store<R: Rng, F: Family, H: HashFunction, K: FixedKey, V: FixedValue, const N: usize> {
+    alloc: Global,
+    device: Device<R>,
+    cache: CacheRef,
+    live: Option<Live<F, H, K, V, N>>,
+}
+
+impl<R: Rng, F: Family, H: HashFunction, K: FixedKey, V: FixedValue, const N: usize> Model
+    for Store<R, F, H, K, V, N> {
+    ghost use Rattle.auth_store_ledger.specs.Store.{IsChunkWidth};
+    ghost use Rattle.auth_store_log.specs.Records.{format_of};
+    ghost use Rattle.auth_store_session.specs.Stores.{StoreState, IsStore};
+
+    ghost Value = { StoreState R };
+
+    ghost view = { λ s. record { device = s.device; cache = s.cache; live = s.live } };
+
+    ghost invariant = { λ s. IsChunkWidth N × IsStore (format_of (K.after tt) (V.after tt) K.SIZE V.SIZE)
+        (record { device = s.device; cache = s.cache; live = s.live }) };
+}
+
+/// A store that was not opened: why, and the device, closed, and the cache (own).
+#[derive(Debug, Drop)]
+pub struct NotOpened<R: Rng> {
+    /// Why.
+    pub error: StoreError,
+    /// The device, which is closed.
+    pub device: Device<R>,
+    /// The cache.
+    pub cache: CacheRef,
+}
+
+// Opens the device's log, and takes the history whose log is recovered of it. After a refusal the log may be open.
+fn open_live<R, F, H, K, V, const N: usize>(
+    alloc: Global,
+    device: &mut Device<R>,
+    cache: &mut CacheRef,
+    capacity: usize,
+) -> Result<Live<F, H, K, V, N>, StoreError>
+where
+    R: Rng + Drop,
+    F: Graftable + PendingOf<H::Digest>,
+    H: HashFunction,
+    K: FixedKey,
+    V: FixedValue,
+    requires width { IsChunkWidth N }
+    requires closed { device.old.log ≡ None }
+    requires cache { IsCache cache.old }
+    ensures live { let format = format_of (K.after tt) (V.after tt) K.SIZE V.SIZE in
+        IfOk result (IsLive format device.new.calls cache.new) }
+    ensures recovers { let format = format_of (K.after tt) (V.after tt) K.SIZE V.SIZE in
+        IfOk result (λ live. IsRecovered format (cache.old.page_size + 12) (shown_of device.old) live.history) }
+    ensures shown { let format = format_of (K.after tt) (V.after tt) K.SIZE V.SIZE in
+        OnOk result (IsShownThrough format (cache.old.page_size + 12) (shown_of device.old) device.old.calls
+        device.new.calls) }
+    ensures uncut { OnOk result (IsFalse (is_cut device.old.left)) }
+    ensures is_open { OnOk result (is_some device.new.log ≡ true) }
+    ensures any_moment { let format = format_of (K.after tt) (V.after tt) K.SIZE V.SIZE in
+        IsOpenedThrough format (cache.old.page_size + 12) (shown_of device.old) device.old.calls device.new.calls }
+    ensures header { HasOwnHeader device.old.storage.inner → HasOwnHeader device.new.storage.inner }
+    ensures cache { IsCache cache.new }
+    ensures page_size { cache.new.page_size ≡ cache.old.page_size }
+    ensures refused { let format = format_of (K.after tt) (V.after tt) K.SIZE V.SIZE in
+        let m = machine F.merge_rule H.hash_of F.pending_encoding N K.SIZE V.SIZE (cache.old.page_size + 12) in
+        IfErr result (IsOpenError m format device.old cache.old device.new cache.new) }
+{
+    let count = device.open()?;
+    let recovered = recover_live::<Device<R>, F, H, K, V, N>(alloc, device, cache, count, capacity);
+    device.open_log_has_own_header();
+    device.refuses_only_under_a_cut();
+    let live = recovered?;
+    live.ledger.holds_a_history();
+    live.ledger.is_recorded();
+    Ok(live)
+}
+
+impl<R, F, H, K, V, const N: usize> Store<R, F, H, K, V, N>
+where
+    R: Rng + Drop,
+    F: Graftable + PendingOf<H::Digest>,
+    H: HashFunction,
+    K: FixedKey,
+    V: FixedValue,
+{
+    /// Opens the log of a closed device, recovers it, and takes the history whose log it is; an empty log is begun.
+    /// S12: the log's header is refused. S5: what is recovered is the log of no history. S1 to S4 where a fault was
+    /// injected, a cut stands, a number ends, or out of memory; device and cache are then given back.
+    pub fn open(
+        alloc: Global,
+        device: Device<R>,
+        cache: CacheRef,
+        sizes: Sizes,
+    ) -> Result<Store<R, F, H, K, V, N>, NotOpened<R>>
+        requires width { IsChunkWidth N }
+        requires closed { device.log ≡ None }
+        requires cache { IsCache cache }
+        ensures recovers { let format = format_of (K.after tt) (V.after tt) K.SIZE V.SIZE in
+            IfOk result (λ store. (history : History) × IsLiveAt store history
+            × IsRecovered format (cache.page_size + 12) (shown_of device) history) }
+        ensures shown { let format = format_of (K.after tt) (V.after tt) K.SIZE V.SIZE in
+            IfOk result (λ store. IsShownThrough format (cache.page_size + 12) (shown_of device) device.calls
+            store.device.calls) }
+        ensures uncut { OnOk result (IsFalse (is_cut device.left)) }
+        ensures page_size { IfOk result (λ store. store.cache.page_size ≡ cache.page_size) }
+        ensures closed { IfErr result (λ refused. refused.device.log ≡ None) }
+        ensures kept { let format = format_of (K.after tt) (V.after tt) K.SIZE V.SIZE in
+            IfErr result (λ refused. IsOpenedThrough format (cache.page_size + 12) (shown_of device) device.calls
+            refused.device.calls) }
+        ensures header { IfErr result (λ refused. HasOwnHeader device.storage.inner
+            → HasOwnHeader refused.device.storage.inner) }
+        ensures cache { IfErr result (λ refused. IsCache refused.cache
+            × (refused.cache.page_size ≡ cache.page_size)) }
+        ensures refused { let format = format_of (K.after tt) (V.after tt) K.SIZE V.SIZE in
+            let m = machine F.merge_rule H.hash_of F.pending_encoding N K.SIZE V.SIZE (cache.page_size + 12) in
+            IfErr result (λ refused. IsOpenError m format device cache refused.device refused.cache refused.error) }
+    {
+        let mut device = device;
+        let mut cache = cache;
+        match open_live(alloc, &mut device, &mut cache, sizes.write_buffer) {
+            Ok(live) => Ok(Store {
+                alloc,
+                device,
+                cache,
+                live: Some(live),
+            }),
+            Err(error) => {
+                device.close();
+                Err(NotOpened {
+                    error,
+                    device,
+                    cache,
+                })
+            }
+        }
+    }
+
+    /// Takes a batch with its commit into the history, makes it durable, and answers the new root. S3: a number would
+    /// pass its type, or the log 2 to the 62 operations; S4: out of memory; S1: a fault was injected; S2: a cut stands.
+    /// Refused before anything is appended, the store is as it was; refused later, it has failed, and openings show the
+    /// batch wholly or not at all. S6: it had failed.
+    pub fn commit(
+        &mut self,
+        batch: Batch<K, V>,
+        metadata: Option<V>,
+    ) -> Result<H::Digest, StoreError>
+        ensures commits { let format = format_of (K.after tt) (V.after tt) K.SIZE V.SIZE in
+            let size = self.old.cache.page_size + 12 in
+            let m = machine F.merge_rule H.hash_of F.pending_encoding N K.SIZE V.SIZE size in
+            let said = words.meanings K.encoding V.encoding batch.words.items in
+            (history : History) → IsLiveAt self.old history
+            → Commits m format said (option_map V.encoding metadata) history self.old
+            (result_of H.Digest.encoding result) self.new }
+        ensures failed { self.old.live ≡ None → (result ≡ Err StoreError.Failed) × (self.new ≡ self.old) }
+        ensures page_size { self.new.cache.page_size ≡ self.old.cache.page_size }
+        ensures grows { Grows self.old.device.calls self.new.device.calls }
+    {
+        let is_cut = self.device.is_cut();
+        let answer = commit_live(
+            &mut self.live,
+            &mut self.device,
+            &mut self.cache,
+            is_cut,
+            batch,
+            metadata,
+        );
+        self.device.refuses_only_under_a_cut();
+        answer
+    }
+
+    /// The value of the key in the latest state, read from the log through the cache, or `None` where there is none.
+    /// S1 to S4 where a fault was injected, a cut stands, a count has ended, or out of memory; the store then stays
+    /// open. S6: it had failed.
+    pub fn get(&mut self, key: &K) -> Result<Option<V>, StoreError>
+        ensures found { (history : History) → IsLiveAt self.old history → IfOk result (λ found.
+            option_map V.encoding found ≡ value_at (latest_map history) (K.encoding key.now)) }
+        ensures refused { (history : History) → IsLiveAt self.old history → IfErr result (MayRefuse
+            (power_of self.old.device self.old.cache) (power_of self.new.device self.new.cache)) }
+        ensures stays { (history : History) → IsLiveAt self.old history → IsLiveAt self.new history }
+        ensures failed { self.old.live ≡ None → (result ≡ Err StoreError.Failed) × (self.new ≡ self.old) }
+        ensures page_size { self.new.cache.page_size ≡ self.old.cache.page_size }
+        ensures calls { self.new.device.calls ≡ self.old.device.calls }
+    {
+        let Some(live) = &self.live else {
+            return Err(StoreError::Failed);
+        };
+        let answer = get_live(self.alloc, live, &mut self.device, &mut self.cache, key);
+        self.device.refuses_only_under_a_cut();
+        answer
+    }
+
+    /// The root of the history. S6: the store has failed.
+    pub fn root(&self) -> Result<H::Digest, StoreError>
+        ensures root { let size = self.now.cache.page_size + 12 in
+            let m = machine F.merge_rule H.hash_of F.pending_encoding N K.SIZE V.SIZE size in
+            (history : History) → IsLiveAt self.now history → result_of H.Digest.encoding result
+            ≡ Ok (root_of_history m.setting K.SIZE V.SIZE history) }
+        ensures failed { self.now.live ≡ None → result ≡ Err StoreError.Failed }
+    {
+        let live = self.live.as_ref().ok_or(StoreError::Failed)?;
+        Ok(live.ledger.root())
+    }
+
+    /// How many commits the history has. S6: the store has failed.
+    pub fn commits(&self) -> Result<u64, StoreError>
+        ensures count { (history : History) → IsLiveAt self.now history → result ≡ Ok (length history) }
+        ensures failed { self.now.live ≡ None → result ≡ Err StoreError.Failed }
+    {
+        let live = self.live.as_ref().ok_or(StoreError::Failed)?;
+        Ok(live.ledger.commits())
+    }
+
+    /// The floor that the last commit of the log records: the location of an operation. S6: the store has failed.
+    pub fn floor(&self) -> Result<u64, StoreError>
+        ensures floor { (history : History) → IsLiveAt self.now history → result ≡ Ok (floor_of history) }
+        ensures failed { self.now.live ≡ None → result ≡ Err StoreError.Failed }
+    {
+        let live = self.live.as_ref().ok_or(StoreError::Failed)?;
+        Ok(live.ledger.floor())
+    }
+
+    /// How many operations the log has. S6: the store has failed.
+    pub fn len(&self) -> Result<u64, StoreError>
+        ensures count { (history : History) → IsLiveAt self.now history → result ≡ Ok (length (log_of history)) }
+        ensures failed { self.now.live ≡ None → result ≡ Err StoreError.Failed }
+    {
+        let live = self.live.as_ref().ok_or(StoreError::Failed)?;
+        Ok(live.ledger.len())
+    }
+
+    /// The value of the key, and the honest bytes that prove it under the root of this moment. None: the key isn't
+    /// there. S4: out of memory. S6: the store has failed.
+    pub fn prove_key(&self, key: &K) -> Result<Option<KeyProof<V>>, StoreError>
+        ensures proof { let size = self.now.cache.page_size + 12 in
+            let m = machine F.merge_rule H.hash_of F.pending_encoding N K.SIZE V.SIZE size in
+            (history : History) → IsLiveAt self.now history → IfOk result (λ found.
+            option_map (parts_of V.encoding) found ≡ proof_of m history (K.encoding key.now)) }
+        ensures refused { (history : History) → IsLiveAt self.now history
+            → IfErr result (λ e. e ≡ StoreError.Memory) }
+        ensures failed { self.now.live ≡ None → result ≡ Err StoreError.Failed }
+    {
+        let live = self.live.as_ref().ok_or(StoreError::Failed)?;
+        Ok(live.ledger.prove_key(key)?)
+    }
+
+    /// The settings by which the device fails, also of a store that has failed.
+    pub fn config(&self) -> Config
+        ensures { result ≡ self.now.device.storage.config }
+    {
+        self.device.config()
+    }
+
+    /// Other settings from now on, also of a store that has failed.
+    pub fn set_config(&mut self, config: Config)
+        ensures device { let storage = record self.old.device.storage { config = config } in
+            self.new.device ≡ record self.old.device { storage = storage } }
+        ensures rest { (self.new.cache ≡ self.old.cache) × (self.new.live ≡ self.old.live) }
+    {
+        self.device.set_config(config);
+    }
+
+    /// Lets so many calls of the device through, and cuts the power then, also of a store that has failed. Under a cut
+    /// it changes nothing.
+    pub fn cut_after(&mut self, calls: u64)
+        ensures device { self.new.device ≡ record self.old.device { left = after_asking calls self.old.device.left } }
+        ensures rest { (self.new.cache ≡ self.old.cache) × (self.new.live ≡ self.old.live) }
+    {
+        self.device.cut_after(calls);
+    }
+
+    /// Closes the log, and answers device and cache. It always succeeds.
+    pub fn into_parts(self) -> (Device<R>, CacheRef)
+        ensures device { result.0 ≡ record self.device { log = None } }
+        ensures cache { (result.1 ≡ self.cache) × IsCache result.1 }
+        ensures header { HasOwnHeader result.0.storage.inner }
+        ensures shows { let format = format_of (K.after tt) (V.after tt) K.SIZE V.SIZE in
+            (history : History) → IsLiveAt self history
+            → Shows format (self.cache.page_size + 12) history None result.0.calls }
+    {
+        let Store {
+            alloc: _,
+            mut device,
+            cache,
+            live,
+        } = self;
+        device.open_log_has_own_header();
+        device.close();
+        if let Some(live) = &live {
+            live.is_shown();
+        }
+        (device, cache)
+    }
+}
+
+#[cfg(test)]
+mod tests;
