@@ -613,3 +613,6 @@ where
         }
     }
 }
+
+#[cfg(test)]
+mod tests;
