@@ -275,7 +275,8 @@ impl<R: Rng + Drop> Device<R> {
     ghost use Rattle.auth_store_device.specs.Devices.{injected_after, refused_after};
 
     /// Opens the log, or makes it where there is none, admits what it shows, and answers how many bytes that is. It
-    /// asks for a closed device. F8: a count has ended, or the numbers of files; F10; F9; F6; F5: its header is refused.
+    /// asks for a closed device. F8: a count has ended, or the numbers of files; F10; F9; F6; F5: its header is
+    /// refused.
     pub fn open(&mut self) -> Result<u64, OpenError>
         requires { self.old.log ≡ None }
         ensures shows { OnOk result (self.new.calls

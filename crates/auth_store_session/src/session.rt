@@ -142,7 +142,8 @@ where
     ensures steps { let format = format_of (K.after tt) (V.after tt) K.SIZE V.SIZE in
         let size = store.old.cache.page_size + 12 in
         let m = machine F.merge_rule H.hash_of F.pending_encoding N K.SIZE V.SIZE size in
-        StepsOpen m format store.old (ask_get (K.encoding key.now)) (meaning_of H.Digest.encoding V.encoding result) store.new }
+        StepsOpen m format store.old (ask_get (K.encoding key.now))
+        (meaning_of H.Digest.encoding V.encoding result) store.new }
     ensures kind { IsSaid is_value (meaning_of H.Digest.encoding V.encoding result) }
     ensures page_size { store.new.cache.page_size ≡ store.old.cache.page_size }
     ensures grows { Grows store.old.device.calls store.new.device.calls }
@@ -247,7 +248,8 @@ where
     ensures steps { let format = format_of (K.after tt) (V.after tt) K.SIZE V.SIZE in
         let size = store.now.cache.page_size + 12 in
         let m = machine F.merge_rule H.hash_of F.pending_encoding N K.SIZE V.SIZE size in
-        StepsOpen m format store.now (ask_proof (K.encoding key.now)) (meaning_of H.Digest.encoding V.encoding result) store.now }
+        StepsOpen m format store.now (ask_proof (K.encoding key.now))
+        (meaning_of H.Digest.encoding V.encoding result) store.now }
     ensures kind { IsSaid is_proof (meaning_of H.Digest.encoding V.encoding result) }
 {
     match store.prove_key(key) {
@@ -489,8 +491,10 @@ where
         ensures steps { let format = format_of (K.after tt) (V.after tt) K.SIZE V.SIZE in
             let m = machine F.merge_rule H.hash_of F.pending_encoding N K.SIZE V.SIZE
             (page_size_in self.old.parts self.old.store) in
-            Steps m format self.old (request_of K.encoding V.encoding step) (meaning_of H.Digest.encoding V.encoding result) self.new }
-        ensures kind { IsAnswerTo false (request_of K.encoding V.encoding step) (meaning_of H.Digest.encoding V.encoding result) }
+            Steps m format self.old (request_of K.encoding V.encoding step)
+            (meaning_of H.Digest.encoding V.encoding result) self.new }
+        ensures kind { IsAnswerTo false (request_of K.encoding V.encoding step)
+            (meaning_of H.Digest.encoding V.encoding result) }
         ensures page_size { page_size_in self.new.parts self.new.store
             ≡ page_size_in self.old.parts self.old.store }
         ensures grows { Grows (calls_in self.old.parts self.old.store) (calls_in self.new.parts self.new.store) }
@@ -530,8 +534,10 @@ where
         ensures steps { let format = format_of (K.after tt) (V.after tt) K.SIZE V.SIZE in
             let m = machine F.merge_rule H.hash_of F.pending_encoding N K.SIZE V.SIZE
             (page_size_in self.old.parts self.old.store) in
-            Steps m format self.old (request_of K.encoding V.encoding step) (meaning_of H.Digest.encoding V.encoding result) self.new }
-        ensures kind { IsAnswerTo true (request_of K.encoding V.encoding step) (meaning_of H.Digest.encoding V.encoding result) }
+            Steps m format self.old (request_of K.encoding V.encoding step)
+            (meaning_of H.Digest.encoding V.encoding result) self.new }
+        ensures kind { IsAnswerTo true (request_of K.encoding V.encoding step)
+            (meaning_of H.Digest.encoding V.encoding result) }
         ensures page_size { page_size_in self.new.parts self.new.store
             ≡ page_size_in self.old.parts self.old.store }
         ensures grows { Grows (calls_in self.old.parts self.old.store) (calls_in self.new.parts self.new.store) }
@@ -548,8 +554,10 @@ where
         ensures steps { let format = format_of (K.after tt) (V.after tt) K.SIZE V.SIZE in
             let m = machine F.merge_rule H.hash_of F.pending_encoding N K.SIZE V.SIZE
             (page_size_in self.old.parts self.old.store) in
-            Steps m format self.old (request_of K.encoding V.encoding step) (meaning_of H.Digest.encoding V.encoding result) self.new }
-        ensures kind { IsAnswerTo true (request_of K.encoding V.encoding step) (meaning_of H.Digest.encoding V.encoding result) }
+            Steps m format self.old (request_of K.encoding V.encoding step)
+            (meaning_of H.Digest.encoding V.encoding result) self.new }
+        ensures kind { IsAnswerTo true (request_of K.encoding V.encoding step)
+            (meaning_of H.Digest.encoding V.encoding result) }
         ensures page_size { page_size_in self.new.parts self.new.store
             ≡ page_size_in self.old.parts self.old.store }
         ensures grows { Grows (calls_in self.old.parts self.old.store) (calls_in self.new.parts self.new.store) }
@@ -577,8 +585,10 @@ where
         ensures steps { let format = format_of (K.after tt) (V.after tt) K.SIZE V.SIZE in
             let m = machine F.merge_rule H.hash_of F.pending_encoding N K.SIZE V.SIZE
             (page_size_in self.old.parts self.old.store) in
-            Steps m format self.old (request_of K.encoding V.encoding step) (meaning_of H.Digest.encoding V.encoding result) self.new }
-        ensures kind { IsAnswerTo (is_some self.old.store) (request_of K.encoding V.encoding step) (meaning_of H.Digest.encoding V.encoding result) }
+            Steps m format self.old (request_of K.encoding V.encoding step)
+            (meaning_of H.Digest.encoding V.encoding result) self.new }
+        ensures kind { IsAnswerTo (is_some self.old.store) (request_of K.encoding V.encoding step)
+            (meaning_of H.Digest.encoding V.encoding result) }
         ensures page_size { page_size_in self.new.parts self.new.store
             ≡ page_size_in self.old.parts self.old.store }
         ensures grows { Grows (calls_in self.old.parts self.old.store) (calls_in self.new.parts self.new.store) }
