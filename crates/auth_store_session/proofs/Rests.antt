@@ -125,12 +125,12 @@ refused_in m format device new cache now e paged sized moments header cause none
 -- a closed session that stays as it is
 pub rests_in : {R : Type 0} (m : Machine) (format : Format) (device new : DeviceState R) (cache : Cache) (request : Request)
     (answer : Answer) → new.calls ≡ device.calls → (HasOwnHeader device.storage.inner → HasOwnHeader new.storage.inner)
-    → ((before after : Power) (history : History) (pending : Option Commit)
-    → IsStepClosed m before after history pending request answer (closed history pending))
+    → ((history : History) (pending : Option Commit)
+    → IsStepClosed m (power_of device cache) (power_of new cache) history pending request answer (closed history pending))
     → Steps m format (closed_at device cache) request answer (closed_at new cache)
 rests_in m format device new cache request answer calls header steps none (closed history pending) stands = (
   closed history pending,
-  steps (power_of device cache) (power_of new cache) history pending,
+  steps history pending,
   (subst (Shows format (cache.page_size + 12) history pending) (sym calls) stands.0, header stands.1),
 )
 rests_in m format device new cache request answer calls header steps none (live history) stands = absurd stands

@@ -150,11 +150,11 @@ IsOpening m before after history pending answer next =
     ⊎ ((error : StoreError) × (answer ≡ refused error) × (next ≡ closed history pending)
     × MayRefuseOpening m before after error)
 
--- a closed session can only be opened, and crash
+-- a closed session can only be opened, and crash, which ends a cut
 abbrev pub IsStepClosed : Machine → Power → Power → History → Option Commit → Request → Answer → State → Type 0
 IsStepClosed m before after history pending ask_open answer next = IsOpening m before after history pending answer next
 IsStepClosed m before after history pending ask_crash answer next =
-    (answer ≡ has_crashed) × (next ≡ closed history pending)
+    (answer ≡ has_crashed) × (next ≡ closed history pending) × IsFalse after.is_cut
 IsStepClosed m before after history pending ask_config answer next = (answer ≡ is_set) × (next ≡ closed history pending)
 IsStepClosed m before after history pending ask_cut answer next = (answer ≡ is_set) × (next ≡ closed history pending)
 IsStepClosed m before after history pending _ answer next = (answer ≡ not_open) × (next ≡ closed history pending)

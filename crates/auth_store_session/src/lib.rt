@@ -1,5 +1,5 @@
-//! A store's history over a blob that fails: it is recovered of the log, grown by batches and read; and the machine
-//! that sessions of such a store shall be.
+//! The store on a device that fails, and sessions of it: a history is recovered of the device's log, grown by batches and
+//! read through a cache, and each step of a session is one of a machine with three states.
 #![tactic(auto)]
 
 pub mod error;

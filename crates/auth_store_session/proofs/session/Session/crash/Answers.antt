@@ -1,4 +1,6 @@
-use Rattle.std.proofs.Common.{Some, refl}
+use Rattle.std.proofs.Common.{Some, refl, subst, sym}
+use Rattle.std.specs.Prelude.{IsFalse}
+use Rattle.auth_store_device.specs.Devices.{is_cut}
 use Rattle.auth_store_log.specs.Records.{format_of}
 use Rattle.auth_store_session.specs.Machine.{machine, ask_crash, has_crashed}
 use Rattle.auth_store_session.specs.Standing.{page_size_in}
@@ -17,7 +19,7 @@ returns-clause-steps g c =
     let ends = now_closed c.self.inside.parts c.self.inside.store c.crash.new.self c.in-Some.cache c.args.self.now c.self.view_is c.requires in
     steps_from m format was c.args.self.now now (record { parts = Some (c.crash.new.self, c.in-Some.cache); store = c.self.inside.store }) ask_crash has_crashed is ends
     (rests_in m format c.in-Some.device c.crash.new.self c.in-Some.cache ask_crash has_crashed c.crash.ensures.device.1
-    c.crash.ensures.header (λ before after history pending. (refl, refl)))
+    c.crash.ensures.header (λ history pending. (refl, refl, subst (λ l. IsFalse (is_cut l)) (sym c.crash.ensures.device.2) refl)))
 
 pub returns-clause-grows : goal.returns-clause-grows
 returns-clause-grows g c =
