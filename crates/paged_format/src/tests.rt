@@ -1,5 +1,6 @@
 //! Values from outside: an independent program computed them from the format.
 
+mod prefixes;
 mod vectors;
 
 use crate::footer::{Footer, Slot, is_page_size, page_size};
@@ -94,7 +95,7 @@ fn counts_the_longer_slot_that_verifies(rt: HostRuntime) -> Result<(), Fail> {
 
 #[test]
 fn stops_behind_the_first_page_that_is_not_whole(rt: HostRuntime) -> Result<(), Fail> {
-    recover_as_told(&rt, rt.alloc(), &vectors::PREFIXES)
+    recover_as_told(&rt, rt.alloc(), &prefixes::PREFIXES)
 }
 
 #[test]
