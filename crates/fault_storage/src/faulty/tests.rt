@@ -3,6 +3,7 @@
 ghost use Rattle.std.specs.Prelude.{ℕ, ◌+◌, ◌%◌, ◌^◌, ◌<◌, List, slice_get, unwrap_or};
 ghost use Rattle.rand_core.specs.Steps.{stream_of, steps_u64_low};
 
+mod later_scenarios;
 mod scenarios;
 
 use super::{Blob, Storage};
@@ -13,9 +14,10 @@ use crate::header::Versions;
 use crate::memory;
 use crate::probability::Probability;
 use crate::storage::{Blob as _, Storage as _, WriteMode};
+use later_scenarios::{FIFTH, FOURTH, SIXTH};
 use rand_core::utils::NextWord;
 use rand_core::{Rng, utils};
-use scenarios::{FIFTH, FIRST, FOURTH, SECOND, SIXTH, Scenario, THIRD};
+use scenarios::{FIRST, SECOND, Scenario, THIRD};
 use std::alloc::{AllocError, Global};
 use std::marker::Model;
 use std::test::Fail;
