@@ -30,7 +30,7 @@ const SECOND: &[u8] = &[
 fn file_of(alloc: Global, first: &[u8], second: &[u8]) -> Result<Vec<u8>, Fail> {
     let mut disk = MemoryDisk::new(alloc);
     let mut cache = CacheRef::new(alloc, 52, 8);
-    let writer = Writer::<Crc32>::new(alloc, &disk, &mut cache, 128)?;
+    let writer = Writer::<Crc32>::new(alloc, &mut disk, &mut cache, 0, 128)?;
     let writer = append_batch(writer, &mut disk, &mut cache, first)?;
     let _writer = append_batch(writer, &mut disk, &mut cache, second)?;
     Ok(disk.as_bytes().to_vec(alloc)?)

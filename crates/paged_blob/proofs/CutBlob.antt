@@ -68,3 +68,25 @@ cut_moments sum size calls mid new count asked kept base kept_is within first se
     let then_on : Through (Keeps sum size old kept) mid new = subst P base second in
     joined (weaker (λ now. keeps_less sum size old count (min asked count) now (omega arith)) first)
     (weaker (λ now. keeps_less sum size old kept (min asked count) now (omega (arith, kept_is, within))) then_on)
+
+-- all of it: making all durable, and then cutting behind so many bytes
+pub part_moments : {T : Type 0} (sum : List ℕ → ℕ) (size : ℕ) (footer : 12 < size) (result : Result T Error) (calls mid new : List Call)
+    (count asked kept len part : ℕ) → (file_of calls).failed ≡ false
+    → Withstands sum size (recovered sum size (content calls)) count (file_of calls) → (mid ≡ calls) ⊎ RecordsSync result calls mid
+    → (file_of mid).base ≡ content calls → len ≡ length (recovered sum size (content calls)) → kept ≡ min asked len → part ≡ kept
+    → Through (Keeps sum size (recovered sum size (file_of mid).base) part) mid new
+    → Through (Keeps sum size (recovered sum size (content calls)) (min asked count)) calls new
+part_moments sum size footer result calls mid new count asked kept len part sound w records base known kept_is part_is second =
+    let P : ℕ → Type 0 = λ n. Through (Keeps sum size (recovered sum size (file_of mid).base) n) mid new in
+    cut_moments sum size calls mid new count asked kept base (omega (arith, known, kept_is)) w.within
+    (settle_moments sum size footer result calls mid count sound w records) (subst P part_is second)
+
+-- what is then left
+pub cut_taken : (sum : List ℕ → ℕ) (size : ℕ) (calls mid : List Call) (asked kept len part : ℕ) → (file_of mid).base ≡ content calls
+    → len ≡ length (recovered sum size (content calls)) → kept ≡ min asked len → part ≡ kept
+    → take part (recovered sum size (file_of mid).base) ≡ take asked (recovered sum size (content calls))
+cut_taken sum size calls mid asked kept len part base known kept_is part_is =
+    let old = recovered sum size (content calls) in
+    let least : part ≡ min asked (length old) = omega (arith, known, kept_is, part_is) in
+    ap (λ n. take n (recovered sum size (file_of mid).base)) least
+    ∙ ap (λ b. take (min asked (length old)) (recovered sum size b)) base ∙ take_min asked old

@@ -27,7 +27,8 @@ same_or_other First Second = inr refl
 same_or_other Second First = inr refl
 same_or_other Second Second = inl refl
 
-module _ (sum : List ℕ → ℕ) (size : ℕ) (some_room : 12 < size) (small : size ≤ 65536) (content : List ℕ) (calls : List Call) (c : IsCut sum size content calls) where
+module _ (sum : List ℕ → ℕ) (size : ℕ) (some_room : 12 < size) (small : size ≤ 65536) (content : List ℕ) (calls : List Call)
+    (c : IsCut sum size content calls) where
   abbrev base : List ℕ
   base = (file_of calls).base
 
@@ -55,11 +56,13 @@ module _ (sum : List ℕ → ℕ) (size : ℕ) (some_room : 12 < size) (small : 
   cut_shown : AreShown sum size (pages * content_size size) live
   cut_shown = λ page below.
       let room = content_size size in
-      let before : page < pages = ⊎_elim (λ lt. lt) (λ past. absurd (omega (arith, mul-le pages room page room past (omega arith), below))) (cases_lt page pages) in
+      let before : page < pages =
+      ⊎_elim (λ lt. lt) (λ past. absurd (omega (arith, mul-le pages room page room past (omega arith), below))) (cases_lt page pages) in
       let apart = pages_apart room page pages before in
       let d = c.durable page (omega (arith, below, split)) in
       let most = said_len sum size (share size page (length content)) (file_of calls) page d in
-      let same : page_at size page live ≡ page_at size page d.shown = ap (page_at size page) (live_is ∙ sym (shown_is (share size page (length content)) page d)) in
+      let same : page_at size page live ≡ page_at size page d.shown =
+      ap (page_at size page) (live_is ∙ sym (shown_is (share size page (length content)) page d)) in
       let V : List ℕ → Type 0 = λ p. verifies sum size d.slot p ≡ true in
       record {
         slot = d.slot;
@@ -81,9 +84,10 @@ module _ (sum : List ℕ → ℕ) (size : ℕ) (some_room : 12 < size) (small : 
       says_len size some_room last.slot (page_at size pages base) len last.crc (omega (arith, long, split, less, small)) ends.alone.says in
       let none : slot_len size (other_slot last.slot) (page_at size pages base) ≡ 0 =
       says_len size some_room (other_slot last.slot) (page_at size pages base) 0 0 (omega arith) ends.alone.cleared in
-      let v = vouched sum size (page_at size pages d.shown) (slot_len size d.slot (page_at size pages d.shown)) (slot_crc size d.slot (page_at size pages d.shown)) d.verified in
+      let seen = page_at size pages d.shown in
+      let v = vouched sum size seen (slot_len size d.slot seen) (slot_crc size d.slot seen) d.verified in
       let is : d.slot ≡ last.slot = ⊎_elim (λ same. same)
-      (λ other. absurd (omega (arith, v.some, ap (λ s. slot_len size s (page_at size pages d.shown)) other ∙ ap (slot_len size (other_slot last.slot)) there ∙ none)))
+      (λ other. absurd (omega (arith, v.some, ap (λ s. slot_len size s seen) other ∙ ap (slot_len size (other_slot last.slot)) there ∙ none)))
       (same_or_other d.slot last.slot) in (
         omega (arith, long, split),
         record {

@@ -18,5 +18,7 @@ pub mod Settled
 pub mod CutBlob
 pub mod ReadPages
 pub mod CutWriter
+pub mod CutWithin
+pub mod Taken
 pub mod WriterReads
 pub mod Recovered

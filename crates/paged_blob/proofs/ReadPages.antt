@@ -1,6 +1,6 @@
 -- Whole pages that are read, and kept.
 use Rattle.std.proofs.Common.{◌≡◌, ℕ, ◌+◌, ◌-◌, ◌*◌, ◌/◌, ◌%◌, ◌<◌, ◌≤◌, false, min, List, [], ◌++◌, length, take, drop, sym, ◌∙◌, ap}
-use Rattle.std.proofs.Common.{inl, inr, refl, ⊎_elim, arith}
+use Rattle.std.proofs.Common.{Contains, inl, inr, refl, ⊎_elim, arith}
 use Rattle.std.proofs.lemmas.Bool.{cases_lt}
 use Rattle.std.proofs.Math.Seq.{take-append-add, drop-append-add}
 use Rattle.std.proofs.lemmas.List.{append-nil, take_at, drop_all, take-append-le, drop-append-le, length-append}
@@ -13,14 +13,15 @@ use Rattle.paged_format.specs.Pages.{shown_len, recovered}
 use Rattle.paged_format.specs.Laws.Pages.{shown_within, length_recovered-whole}
 use Rattle.paged_blob.specs.Calls.{Call, file_of, content}
 use Rattle.paged_blob.specs.Chance.{page_at}
-use Rattle.paged_blob.specs.Caches.{Page, AreGiven, page_given}
+use Rattle.paged_blob.specs.Caches.{Cache, Page, AreGiven}
 use Rattle.paged_blob.specs.Answers.{Failures, IsCause, IsReadCause}
 use Rattle.paged_blob.specs.Writers.{from_page}
-use Rattle.paged_blob.specs.Reads.{IsKeptPage, CacheHolds, ServesPages, StaysKept}
+use Rattle.paged_blob.specs.Reads.{ServesPages, StaysKept}
 use Rattle.paged_blob.specs.Laws.Durable.{further}
 use Rattle.paged_blob.specs.declared.error.CallKind.TheVariants.{Read}
 use Rattle.paged_blob.specs.declared.error.Error.{Error}
 use Rattle.paged_blob.specs.declared.error.Error.TheVariants.{Injected, BlobMissing, BlobInsufficientLength, NumberEnded, Memory, PowerCut, ChecksumMismatch}
+use Rattle.paged_blob.proofs.CachedLaws.{holds_pages_given}
 use Rattle.paged_blob.proofs.Scanned.{proven_pages}
 use Rattle.paged_blob.proofs.Shown.{page_shown}
 
@@ -57,7 +58,8 @@ module _ (sum : List ℕ → ℕ) (size : ℕ) (footer : 12 < size) (live : List
       omega (arith, length_recovered-whole sum size bytes (omega (arith, footer)) (omega (arith, long)) full)
 
 -- why a read of a page that is there may be refused
-pub page_cause : (failures : Failures) (calls : List Call) (page size : ℕ) (error : Error) → (file_of calls).failed ≡ false → (page + 1) * size ≤ length (content calls)
+pub page_cause : (failures : Failures) (calls : List Call) (page size : ℕ) (error : Error) → (file_of calls).failed ≡ false
+    → (page + 1) * size ≤ length (content calls)
     → IsReadCause failures (file_of calls) (page * size) size error → IsCause failures Read ((page + 1) * size) error
 page_cause failures calls page size (Injected injected) sound there cause = cause
 page_cause failures calls page size BlobMissing sound there cause = cause
@@ -102,49 +104,6 @@ piece_of room page from count bytes within =
     let start = drop (page * room) bytes in
     ap (λ n. take count (drop from (take n start))) split ∙ ap (take count) (drop-take from rest start)
     ∙ take-take count rest (drop from start) (omega (arith, within)) ∙ ap (take count) (drop-drop from (page * room) bytes)
-
--- the page that is given is kept as it is
-given_alone : (size blob_id room offset page_size page : ℕ) (all bytes : List ℕ) (kept : Page) → room ≡ content_size size → 0 < room
-    → page_size ≡ room → offset ≡ page * room → (page + 1) * room ≤ length all → bytes ≡ page_at room page all
-    → (k : ℕ) → k < length bytes / page_size → kept ≡ page_given blob_id (offset / page_size) page_size bytes k → IsKeptPage size all kept
-given_alone size blob_id room offset page_size page all bytes kept room_is some size_is offset_is whole is k below same =
-    let long : length bytes ≡ room = ap length is ∙ length-take-le room (drop (page * room) all) (omega (arith, whole, length-drop (page * room) all)) in
-    let one : length bytes / page_size ≡ 1 = ap (λ n. length bytes / n) size_is ∙ ap (λ n. n / room) (long ∙ omega arith) ∙ mul-div_left 1 some in
-    let first : k ≡ 0 = omega (arith, below, one) in
-    let from : offset / page_size ≡ page = ap (λ n. offset / n) size_is ∙ ap (λ n. n / room) offset_is ∙ mul-div_left page some in
-    let number : kept.number ≡ page = ap (λ p. p.number) same ∙ omega (arith, first, from) in
-    let none : k * page_size ≡ 0 = ap (λ n. n * page_size) first ∙ omega arith in
-    let as_given : kept.bytes ≡ bytes = ap (λ p. p.bytes) same ∙ ap (λ n. take page_size (drop n bytes)) none
-    ∙ take_all page_size bytes (omega (arith, long, size_is)) in
-    let next : (kept.number + 1) * content_size size ≡ (page + 1) * room =
-    ap (λ n. (n + 1) * content_size size) number ∙ ap (λ r. (page + 1) * r) (sym room_is) in
-    record {
-      within = omega (arith, next, whole);
-      same = as_given ∙ is ∙ ap (λ n. page_at room n all) (sym number) ∙ ap (λ r. page_at r kept.number all) room_is;
-    }
-
-pub holds_given : (size blob_id room offset page_size page : ℕ) (all bytes : List ℕ) (old new : List Page) → room ≡ content_size size → 0 < room
-    → page_size ≡ room → offset ≡ page * room → (page + 1) * room ≤ length all → bytes ≡ page_at room page all → CacheHolds size blob_id all old
-    → AreGiven old new blob_id (offset / page_size) page_size bytes (length bytes / page_size) → CacheHolds size blob_id all new
-holds_given size blob_id room offset page_size page all bytes old new room_is some size_is offset_is whole is holds given = record {
-  each = λ kept there named.
-      ⊎_elim
-      (λ (k, below, same). given_alone size blob_id room offset page_size page all bytes kept room_is some size_is offset_is whole is k below same)
-      (λ (before, _). holds.each kept before named)
-      (given.each kept there);
-}
-
--- such a page is whole
-pub kept_long : (size : ℕ) (all : List ℕ) (page : Page) → IsKeptPage size all page → length page.bytes ≡ content_size size
-kept_long size all page k =
-    let room = content_size size in
-    ap length k.same ∙ length-take-le room (drop (page.number * room) all) (omega (arith, k.within, length-drop (page.number * room) all))
-
--- a piece of it
-pub kept_piece : (size : ℕ) (all : List ℕ) (page : Page) (from count : ℕ) → IsKeptPage size all page → from + count ≤ content_size size
-    → take count (drop from page.bytes) ≡ take count (drop (page.number * content_size size + from) all)
-kept_piece size all page from count k within =
-    ap (λ bytes. take count (drop from bytes)) k.same ∙ piece_of (content_size size) page.number from count all within
 
 -- so many whole pages, and a part of the next
 pub parts : (n from size : ℕ) → from ≡ size → 12 < size → n / (from - 12) * content_size size + n % (from - 12) ≡ n
@@ -225,32 +184,24 @@ pub page_of_joined : (room page : ℕ) (all more : List ℕ) → (page + 1) * ro
 page_of_joined room page all more whole =
     sym (page_of_front room page (length all) (all ++ more) whole) ∙ ap (page_at room page) (take_at all more (length all) refl)
 
--- where every page of the content is kept as it is, the first ones are
-pub holds_serves : (size blob_id : ℕ) (all more : List ℕ) (pages : List Page) → CacheHolds size blob_id (all ++ more) pages
-    → ServesPages size blob_id all pages
-holds_serves size blob_id all more pages holds = record {
-  each = λ page there named whole.
-      (holds.each page there named).same ∙ page_of_joined (content_size size) page.number all more whole;
-}
+-- a page that is kept of a content that goes on from these bytes is theirs, where they reach it
+pub kept_page : (room : ℕ) (all : List ℕ) (cache : Cache) (blob_id : ℕ) (page : Page) → cache.page_size ≡ room → ServesPages all cache blob_id
+    → Contains cache.pages page → page.blob_id ≡ blob_id → (page.number + 1) * room ≤ length all → page.bytes ≡ page_at room page.number all
+kept_page room all cache blob_id page sizes (more, holds) there named whole =
+    (holds.each page there named).1 ∙ ap (λ s. page_at s page.number (all ++ more)) sizes ∙ page_of_joined room page.number all more whole
 
--- the page that is given serves as well
-pub serves_given : (size blob_id room offset page_size page : ℕ) (all bytes : List ℕ) (old new : List Page) → room ≡ content_size size → 0 < room
-    → page_size ≡ room → offset ≡ page * room → (page + 1) * room ≤ length all → bytes ≡ page_at room page all → ServesPages size blob_id all old
-    → AreGiven old new blob_id (offset / page_size) page_size bytes (length bytes / page_size) → ServesPages size blob_id all new
-serves_given size blob_id room offset page_size page all bytes old new room_is some size_is offset_is whole is serves given = record {
-  each = λ kept there named within.
-      ⊎_elim
-      (λ (k, below, same).
-      let g = given_alone size blob_id room offset page_size page all bytes kept room_is some size_is offset_is whole is k below same in
-      g.same)
-      (λ (before, _). serves.each kept before named within)
-      (given.each kept there);
-}
+-- it is whole
+pub kept_long : (room : ℕ) (all : List ℕ) (page : Page) → page.bytes ≡ page_at room page.number all → (page.number + 1) * room ≤ length all
+    → length page.bytes ≡ room
+kept_long room all page is whole =
+    ap length is ∙ length-take-le room (drop (page.number * room) all) (omega (arith, whole, length-drop (page.number * room) all))
 
--- and whatever the content goes on to be
-pub stays_given : (size blob_id room offset page_size page : ℕ) (all bytes : List ℕ) (old new : List Page) → room ≡ content_size size → 0 < room
-    → page_size ≡ room → offset ≡ page * room → (page + 1) * room ≤ length all → bytes ≡ page_at room page all
-    → AreGiven old new blob_id (offset / page_size) page_size bytes (length bytes / page_size) → StaysKept size blob_id all old new
-stays_given size blob_id room offset page_size page all bytes old new room_is some size_is offset_is whole is given = λ more holds.
-    holds_given size blob_id room offset page_size page (all ++ more) bytes old new room_is some size_is offset_is
-    (omega (arith, whole, length-append all more)) (is ∙ sym (page_of_joined room page all more whole)) holds given
+-- where a whole page of these bytes is given, the pages of whatever goes on from them stay kept
+pub stays_given : (size page : ℕ) (all bytes : List ℕ) (old new : Cache) (blob_id given_first : ℕ) → 12 < size → old.page_size ≡ content_size size
+    → new.page_size ≡ old.page_size → given_first ≡ page → (page + 1) * content_size size ≤ length all → bytes ≡ page_at (content_size size) page all
+    → AreGiven old.pages new.pages blob_id given_first old.page_size bytes (length bytes / old.page_size) → StaysKept all old new blob_id
+stays_given size page all bytes old new blob_id given_first footer sizes same first whole is given = λ more holds.
+    let room = content_size size in
+    let long = length-append all more in
+    holds_pages_given size page room footer (all ++ more) bytes old new blob_id given_first sizes same first
+    (is ∙ sym (page_of_joined room page all more whole)) (omega (arith, long, whole, length-drop (page * room) (all ++ more))) given holds

@@ -1,9 +1,11 @@
 -- After a cut a writer goes on.
-use Rattle.std.proofs.Common.{◌≡◌, ℕ, ◌+◌, ◌*◌, ◌/◌, ◌^◌, ◌<◌, ◌≤◌, min, List, length, drop, Option, None, Some, sym, ◌∙◌, ap, subst, arith}
+use Rattle.std.proofs.Common.{◌≡◌, ℕ, ◌+◌, ◌*◌, ◌/◌, ◌^◌, ◌<◌, ◌≤◌, min, List, [], length, drop, Option, None, Some}
+use Rattle.std.proofs.Common.{sym, ◌∙◌, ap, subst, arith}
 use Rattle.std.proofs.lemmas.List.{drop_all}
 use Rattle.std.proofs.lemmas.Nat.{div-add-mod'}
 use Rattle.paged_format.specs.Footers.{content_size}
-use Rattle.paged_blob.specs.Calls.{Call, content, file_of}
+use Rattle.paged_format.specs.Pages.{recovered}
+use Rattle.paged_blob.specs.Calls.{Call, Change, whole, content, file_of}
 use Rattle.paged_blob.specs.Moments.{Through, here}
 use Rattle.paged_blob.specs.Flushes.{physical_size}
 use Rattle.paged_blob.specs.Shrinks.{Withstands, IsCut}
@@ -12,6 +14,7 @@ use Rattle.paged_blob.specs.Writers.{IsWriterOf, WriterState, Keeps}
 use Rattle.paged_blob.specs.Laws.Durable.{withstands_keeps}
 use Rattle.paged_blob.specs.declared.shrink.LastPage.{LastPage}
 use Rattle.paged_blob.proofs.CutBlob.{keeps_less}
+use Rattle.paged_blob.proofs.Shown.{shown_withstands}
 use Rattle.paged_blob.proofs.CutWriter.{cut_writer}
 
 -- the bytes of the last page are those of the content from there on
@@ -45,3 +48,38 @@ goes_on sum size some_room small content calls cut last ends numbers w capacity 
     (subst (λ s. IsWriterOf sum size calls content w.synced w.tip s) (sym slot_is)
     (subst (λ t. IsWriterOf sum size calls content w.synced t (slot_of last)) (sym at)
     (subst (λ n. IsWriterOf sum size calls content n (tip_of size content capacity) (slot_of last)) (sym synced_is) start)))
+
+-- where all is durable, what is recovered withstands each crash, to its last byte
+pub whole_withstands : (sum : List ℕ → ℕ) (size : ℕ) (calls : List Call) → 12 < size → (file_of calls).changes ≡ []
+    → Withstands sum size (recovered sum size (content calls)) (length (recovered sum size (content calls))) (file_of calls)
+whole_withstands sum size calls some_room settled =
+    let f = file_of calls in
+    let P : List Change → Type 0 = λ changes.
+    let now = whole f.base changes in
+    Withstands sum size (recovered sum size now) (length (recovered sum size now)) (record { base = f.base; changes = changes; failed = f.failed }) in
+    subst P (sym settled) (shown_withstands sum size some_room f.base f.failed)
+
+-- and each image of it keeps all of that
+pub settled_still : (sum : List ℕ → ℕ) (size : ℕ) (calls later : List Call) → 12 < size → (file_of calls).changes ≡ [] → later ≡ calls
+    → Through (Keeps sum size (recovered sum size (content calls)) (length (recovered sum size (content calls)))) calls later
+settled_still sum size calls later some_room settled same =
+    let old = recovered sum size (content calls) in
+    let P = Keeps sum size old (length old) in
+    subst (Through P calls) (sym same)
+    (here (withstands_keeps sum size (omega (arith, some_room)) old (length old) calls (whole_withstands sum size calls some_room settled)))
+
+-- so does a cut to all of it, at each moment
+pub cut_to_all : (sum : List ℕ → ℕ) (size : ℕ) (calls now later : List Call) → 12 < size → (file_of calls).changes ≡ [] → now ≡ calls
+    → (page_size most : ℕ) → page_size ≡ size → most ≡ length (recovered sum page_size (content calls))
+    → ((synced : ℕ) → Withstands sum page_size (recovered sum page_size (content now)) synced (file_of now)
+    → Through (Keeps sum page_size (recovered sum page_size (content now)) (min most synced)) now later)
+    → Through (Keeps sum size (recovered sum size (content calls)) (length (recovered sum size (content calls)))) calls later
+cut_to_all sum size calls now later some_room settled now_is page_size most size_is most_is moments =
+    let old = recovered sum size (content calls) in
+    let P : List Call → ℕ → Type 0 = λ l s.
+    (synced : ℕ) → Withstands sum s (recovered sum s (content l)) synced (file_of l)
+    → Through (Keeps sum s (recovered sum s (content l)) (min most synced)) l later in
+    let at : P calls size = subst (P calls) size_is (subst (λ l. P l page_size) now_is moments) in
+    let found : most ≡ length old = most_is ∙ ap (λ s. length (recovered sum s (content calls))) size_is in
+    let all : min most (length old) ≡ length old = omega (arith, found) in
+    subst (λ n. Through (Keeps sum size old n) calls later) all (at (length old) (whole_withstands sum size calls some_room settled))

@@ -16,7 +16,7 @@ use Rattle.paged_blob.specs.Chance.{page_at, slot_in}
 use Rattle.paged_blob.specs.Moments.{Through, here}
 use Rattle.paged_blob.specs.Answers.{Failures, Records, RecordsSync, MakesDurable, IsSlice, IsCause, IsReadCause}
 use Rattle.paged_blob.specs.Writers.{from_page, Keeps}
-use Rattle.paged_blob.specs.Shrinks.{other_slot, slot_at, handed_over, IsLastPage, IsTrimmed, IsCut, IsCutCause}
+use Rattle.paged_blob.specs.Shrinks.{other_slot, slot_at, handed_over, IsLastPage, IsTrimmed, IsCut, IsCutCause, EndsWithSync}
 use Rattle.paged_blob.specs.ShrinksCode.{StandsAlone, IsLeftAlone, IsLast}
 use Rattle.paged_blob.specs.declared.shrink.LastPage.{LastPage}
 use Rattle.paged_blob.specs.declared.error.CallKind.{CallKind}
@@ -391,3 +391,8 @@ fewer_cause failures reach most NumberEnded fits (inr ended) = inr ended
 fewer_cause failures reach most Memory fits cause = tt
 fewer_cause failures reach most PowerCut fits cause = tt
 fewer_cause failures reach most ChecksumMismatch fits cause = absurd cause
+
+-- a sync that succeeds is the last call
+pub ends_by : {T : Type 0} (result : Result T Error) (old new : List Call) → RecordsSync result old new → OnOk result (EndsWithSync new)
+ends_by (Ok _) old new (bytes, made, is) = (bytes, old, is)
+ends_by (Err _) old new records = tt

@@ -19,7 +19,7 @@ use Rattle.paged_blob.specs.Laws.Moments.{goes_on, goes_on_sync, weaker}
 use Rattle.paged_blob.specs.Laws.Durable.{file_keeps, recovered_keeps, kept_withstands}
 use Rattle.paged_blob.specs.Chance.{page_at}
 use Rattle.paged_blob.specs.Writers.{from_page, HoldsContent, EachBeginning, share, IsKeptIn, ShowsLength, AreShown}
-use Rattle.paged_blob.specs.Writers.{IsBegun, pages_begun, EndsBy, IsWriterOf, WriterState, written, IsWriter, IsEmptyFile, IsFlushed, Keeps}
+use Rattle.paged_blob.specs.Writers.{IsBegun, pages_begun, EndsBy, IsWriterOf, WriterState, written, IsWriter, IsFlushed, Keeps}
 use Rattle.paged_blob.specs.Flushes.{page_count, flushed_bytes, last_slot, physical_size, SumsFit}
 use Rattle.paged_blob.specs.Laws.Flushes.{StaysWithin}
 use Rattle.paged_blob.specs.declared.flush.DurableSlot.{DurableSlot}
@@ -423,7 +423,8 @@ unfolding slot_len
 said_nothing size slot = ap (λ p. from_be_bytes w16 (take 2 p)) (drop_all (slot_start size slot) [] (omega arith))
 
 -- a writer of nothing stands over a file that is empty
-pub new_writer : (sum : List ℕ → ℕ) (size : ℕ) → 12 < size → (calls : List Call) → IsEmptyFile (file_of calls) → (tip : Tip) → tip.offset ≡ 0 → tip.bytes ≡ []
+pub new_writer : (sum : List ℕ → ℕ) (size : ℕ) → 12 < size → (calls : List Call)
+    → file_of calls ≡ record { base = []; changes = []; failed = false } → (tip : Tip) → tip.offset ≡ 0 → tip.bytes ≡ []
     → IsWriterOf sum size calls [] 0 tip None
 new_writer sum size some calls empty tip at none =
     let room = content_size size in

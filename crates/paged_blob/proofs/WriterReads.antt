@@ -1,14 +1,13 @@
 -- What a writer's reads ask for.
-use Rattle.std.proofs.Common.{◌≡◌, ℕ, ◌+◌, ◌*◌, ◌<◌, ◌≤◌, List, refl, length, sym, ◌∙◌, ap, arith}
+use Rattle.std.proofs.Common.{◌≡◌, ℕ, ◌<◌, ◌≤◌, List, refl, length, sym, ◌∙◌, ap, subst, arith}
 use Rattle.std.proofs.lemmas.List.{length-take, length-take-le}
-use Rattle.paged_format.specs.Footers.{content_size}
 use Rattle.paged_format.specs.Pages.{recovered}
 use Rattle.paged_blob.specs.Calls.{Call, content}
-use Rattle.paged_blob.specs.Chance.{page_at}
 use Rattle.paged_blob.specs.Caches.{Cache}
 use Rattle.paged_blob.specs.CachedContent.{HoldsPagesOf}
 use Rattle.paged_blob.specs.Writers.{WriterState, written, IsWriter}
-use Rattle.paged_blob.specs.Reads.{readable, CacheHolds}
+use Rattle.paged_blob.specs.Reads.{readable}
+use Rattle.paged_blob.specs.declared.read.FlushedPages.{FlushedPages}
 use Rattle.paged_blob.proofs.WriterLaws.{on_disk}
 
 module _ (sum : List ℕ → ℕ) (calls : List Call) (w : WriterState) where
@@ -24,26 +23,26 @@ module _ (sum : List ℕ → ℕ) (calls : List Call) (w : WriterState) where
         let all = length-take-le w.tip.offset (written sum calls w) is.tip_within in
         omega (arith, same, all, length-take w.tip.offset (recovered sum w.page_size (content calls)))
 
-  -- the pages that are kept
-  pub kept_read : (cache : Cache) (blob_id : ℕ) → cache.page_size ≡ content_size w.page_size → HoldsPagesOf (written sum calls w) cache blob_id
-      → CacheHolds w.page_size blob_id (readable sum w.page_size calls w.tip.offset w.tip.bytes) cache.pages
-  kept_read cache blob_id sizes holds = record {
-    each = λ page there named.
-        let h = holds.each page there named in
-        let all = ap length readable_is in
-        record {
-          within = omega (arith, h.0, all, ap (λ s. (page.number + 1) * s) sizes);
-          same = h.1 ∙ ap (λ s. page_at s page.number (written sum calls w)) sizes ∙ ap (page_at (content_size w.page_size) page.number) (sym readable_is);
-        };
-  }
+  -- what a read asks of its pages and of the tip
+  pub readable_of : (pages : FlushedPages) (tip : List ℕ) → pages ≡ record { physical_page_size = w.page_size; blob_id = w.blob_id; len = w.tip.offset }
+      → tip ≡ w.tip.bytes → readable sum pages.physical_page_size calls pages.len tip ≡ written sum calls w
+  readable_of pages tip made tip_is =
+      ap (λ (p : FlushedPages). readable sum p.physical_page_size calls p.len tip) made ∙ ap (readable sum w.page_size calls w.tip.offset) tip_is ∙ readable_is
 
-  pub kept_after : (cache : Cache) (blob_id : ℕ) → cache.page_size ≡ content_size w.page_size
-      → CacheHolds w.page_size blob_id (readable sum w.page_size calls w.tip.offset w.tip.bytes) cache.pages → HoldsPagesOf (written sum calls w) cache blob_id
-  kept_after cache blob_id sizes holds = record {
-    each = λ page there named.
-        let h = holds.each page there named in
-        let all = ap length readable_is in (
-          omega (arith, h.within, all, ap (λ s. (page.number + 1) * s) sizes),
-          h.same ∙ ap (page_at (content_size w.page_size) page.number) readable_is ∙ sym (ap (λ s. page_at s page.number (written sum calls w)) sizes),
-        );
-  }
+  -- the pages that are kept are those that it asks for
+  pub kept_asked : (pages : FlushedPages) (tip : List ℕ) (cache : Cache)
+      → pages ≡ record { physical_page_size = w.page_size; blob_id = w.blob_id; len = w.tip.offset }
+      → tip ≡ w.tip.bytes → HoldsPagesOf (written sum calls w) cache w.blob_id
+      → HoldsPagesOf (readable sum pages.physical_page_size calls pages.len tip) cache pages.blob_id
+  kept_asked pages tip cache made tip_is holds =
+      subst (λ id. HoldsPagesOf (readable sum pages.physical_page_size calls pages.len tip) cache id) (sym (ap (λ (p : FlushedPages). p.blob_id) made))
+      (subst (λ l. HoldsPagesOf l cache w.blob_id) (sym (readable_of pages tip made tip_is)) holds)
+
+  -- and those that it leaves
+  pub kept_left : (pages : FlushedPages) (tip : List ℕ) (cache : Cache)
+      → pages ≡ record { physical_page_size = w.page_size; blob_id = w.blob_id; len = w.tip.offset }
+      → tip ≡ w.tip.bytes → HoldsPagesOf (readable sum pages.physical_page_size calls pages.len tip) cache pages.blob_id
+      → HoldsPagesOf (written sum calls w) cache w.blob_id
+  kept_left pages tip cache made tip_is holds =
+      subst (λ l. HoldsPagesOf l cache w.blob_id) (readable_of pages tip made tip_is)
+      (subst (λ id. HoldsPagesOf (readable sum pages.physical_page_size calls pages.len tip) cache id) (ap (λ (p : FlushedPages). p.blob_id) made) holds)

@@ -1,10 +1,10 @@
 -- Reading a slice of a content whose first bytes are on a blob, in whole pages of which some are kept, and whose end is in memory.
-use Rattle.std.specs.Prelude.{◌≡◌, ℕ, ◌+◌, ◌*◌, ◌/◌, ◌<◌, ◌≤◌, List, ◌++◌, length, take, Contains}
+use Rattle.std.specs.Prelude.{ℕ, ◌*◌, ◌/◌, ◌<◌, List, ◌++◌, take}
 use Rattle.paged_format.specs.Footers.{content_size}
 use Rattle.paged_format.specs.Pages.{recovered}
 use Rattle.paged_blob.specs.Calls.{Call, content}
-use Rattle.paged_blob.specs.Caches.{Page}
-use Rattle.paged_blob.specs.Chance.{page_at}
+use Rattle.paged_blob.specs.Caches.{Cache}
+use Rattle.paged_blob.specs.CachedContent.{HoldsPagesOf}
 use Rattle.paged_blob.specs.Answers.{Failures, IsCause}
 use Rattle.paged_blob.specs.declared.error.CallKind.TheVariants.{Read}
 use Rattle.paged_blob.specs.declared.error.Error.{Error}
@@ -14,24 +14,13 @@ use Rattle.paged_blob.specs.declared.error.Error.TheVariants.{BlobInsufficientLe
 abbrev pub flushed : (List ℕ → ℕ) → ℕ → List Call → ℕ → List ℕ
 flushed sum size calls count = take count (recovered sum size (content calls))
 
--- a page of this content is kept as it is
-pub record IsKeptPage (size : ℕ) (bytes : List ℕ) (page : Page) : Type 0 where
-  pub within : (page.number + 1) * content_size size ≤ length bytes
-  pub same : page.bytes ≡ page_at (content_size size) page.number bytes
+-- the pages that are kept under this name are those of a content that goes on from these bytes
+abbrev pub ServesPages : List ℕ → Cache → ℕ → Type 0
+ServesPages bytes cache blob_id = (more : List ℕ) × HoldsPagesOf (bytes ++ more) cache blob_id
 
--- every page that is kept under this name is one of this content
-pub record CacheHolds (size blob_id : ℕ) (bytes : List ℕ) (pages : List Page) : Type 0 where
-  pub each : (page : Page) → Contains pages page → page.blob_id ≡ blob_id → IsKeptPage size bytes page
-
--- every page of this content that is kept under this name is as it is; what is kept of further pages is open
-pub record ServesPages (size blob_id : ℕ) (bytes : List ℕ) (pages : List Page) : Type 0 where
-  pub each : (page : Page) → Contains pages page → page.blob_id ≡ blob_id → (page.number + 1) * content_size size ≤ length bytes
-      → page.bytes ≡ page_at (content_size size) page.number bytes
-
--- whatever content goes on from these bytes, its pages stay kept as they are
-abbrev pub StaysKept : ℕ → ℕ → List ℕ → List Page → List Page → Type 0
-StaysKept size blob_id bytes old new =
-    (more : List ℕ) → CacheHolds size blob_id (bytes ++ more) old → CacheHolds size blob_id (bytes ++ more) new
+-- whatever content goes on from these bytes, where its pages were kept they still are
+abbrev pub StaysKept : List ℕ → Cache → Cache → ℕ → Type 0
+StaysKept bytes old new blob_id = (more : List ℕ) → HoldsPagesOf (bytes ++ more) old blob_id → HoldsPagesOf (bytes ++ more) new blob_id
 
 -- why a read that ends there, in a content of so many bytes of which so many are on the blob, may be refused
 abbrev pub IsReadingCause : Failures → ℕ → ℕ → ℕ → ℕ → Error → Type 0

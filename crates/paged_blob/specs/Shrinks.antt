@@ -5,7 +5,7 @@ use Rattle.paged_format.specs.declared.footer.Slot.{Slot}
 use Rattle.paged_format.specs.declared.footer.Slot.TheVariants.{First, Second}
 use Rattle.paged_format.specs.Footers.{content_size, slot_bytes, slot_start, slot_len}
 use Rattle.paged_format.specs.Pages.{verifies, recovered}
-use Rattle.paged_blob.specs.Calls.{Call, wrote, resize, File, file_of}
+use Rattle.paged_blob.specs.Calls.{Call, wrote, synced, resize, File, file_of}
 use Rattle.paged_blob.specs.Images.{greatest_length}
 use Rattle.paged_blob.specs.Chance.{page_at}
 use Rattle.paged_blob.specs.Writers.{ShowsContent, HoldsContent, EachBeginning, AreDurable}
@@ -67,6 +67,10 @@ IsCutCause failures reach Memory = ⊤
 IsCutCause failures reach PowerCut = ⊤
 IsCutCause failures reach BlobMissing = IsFalse failures.is_open
 IsCutCause failures reach _ = ⊥
+
+-- the last call is a sync that succeeded
+abbrev pub EndsWithSync : List Call → Type 0
+EndsWithSync calls = (bytes : List ℕ) × (earlier : List Call) × (calls ≡ synced bytes true ∷ earlier)
 
 -- how many bytes the pages of so much content have
 abbrev pub cut_length : ℕ → ℕ → ℕ

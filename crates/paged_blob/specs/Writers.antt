@@ -129,10 +129,6 @@ pub record IsTaken (old new : WriterState) (size : ℕ) (bytes : List ℕ) : Typ
   pub size_before : size ≡ old.tip.offset + length old.tip.bytes
   pub after : new ≡ record old { tip = record old.tip { bytes = old.tip.bytes ++ bytes } }
 
--- nothing was written, and nothing is there
-abbrev pub IsEmptyFile : File → Type 0
-IsEmptyFile file = file ≡ record { base = []; changes = []; failed = false }
-
 -- a slot of a page of the file vouches for as many bytes as it says
 pub record StandsIn (sum : List ℕ → ℕ) (size : ℕ) (file : List ℕ) (page : ℕ) (slot : DurableSlot) : Type 0 where
   pub verified : IsTrue (verifies sum size slot.slot (page_at size page file))

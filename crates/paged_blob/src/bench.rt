@@ -26,12 +26,16 @@ fn overwrite(file: &mut [u8], offset: usize, bytes: &[u8])
     file[offset..offset + bytes.len()].copy_from_slice(bytes);
 }
 
-// Lays the bytes over the file, with zeros in a gap before them. Out of memory, the file stays.
-fn put_bytes(file: &mut Vec<u8>, offset: usize, bytes: &[u8]) -> Result<(), AllocError>
+/// Lays the bytes over the file, with zeros in a gap before them. Out of memory, the file stays (own).
+pub fn put_bytes(file: &mut Vec<u8>, offset: usize, bytes: &[u8]) -> Result<(), AllocError>
     requires { offset + length bytes.now < 2 ^ 64 }
     ensures ok { OnOk result (file.new.items ≡ with_bytes offset bytes.now file.old.items) }
     ensures err { OnErr result (file.new.items ≡ file.old.items) }
 {
+    if offset == file.len() {
+        file.extend_from_slice(bytes)?;
+        return Ok(());
+    }
     let end = offset + bytes.len();
     if file.len() >= end {
         overwrite(file, offset, bytes);
@@ -43,8 +47,8 @@ fn put_bytes(file: &mut Vec<u8>, offset: usize, bytes: &[u8]) -> Result<(), Allo
 }
 
 #[tactic(auto, unfolding(crate::specs::Calls::resized))]
-// Cuts the file to a length, or grows it by zeros. Out of memory, it stays.
-fn set_length(file: &mut Vec<u8>, len: usize) -> Result<(), AllocError>
+/// Cuts the file to a length, or grows it by zeros. Out of memory, it stays (own).
+pub fn set_length(file: &mut Vec<u8>, len: usize) -> Result<(), AllocError>
     ensures ok { OnOk result (file.new.items ≡ resized len file.old.items) }
     ensures err { OnErr result (file.new.items ≡ file.old.items) }
 {

@@ -8,9 +8,9 @@ ghost use Rattle.paged_format.specs.Pages.{recovered};
 ghost use Rattle.paged_blob.specs.Calls.{content, file_of};
 ghost use Rattle.paged_blob.specs.Chance.{page_at};
 ghost use Rattle.paged_blob.specs.Caches.{Page};
-ghost use Rattle.paged_blob.specs.CachedContent.{KeepsOthers};
+ghost use Rattle.paged_blob.specs.CachedContent.{HoldsPagesOf, KeepsOthers};
 ghost use Rattle.paged_blob.specs.Answers.{failures_after, IsCause};
-ghost use Rattle.paged_blob.specs.Reads.{flushed, readable, CacheHolds, ServesPages, StaysKept, IsReadingCause};
+ghost use Rattle.paged_blob.specs.Reads.{flushed, readable, ServesPages, StaysKept, IsReadingCause};
 ghost use Rattle.paged_blob.specs.declared.error.CallKind.TheVariants.{Read};
 
 use crate::blob::Blob;
@@ -92,15 +92,13 @@ fn page_into<B: Blob, C: Checksum>(
     requires whole { (page + 1) * content_size pages.physical_page_size ≤ pages.len }
     requires within { from + length out.old ≤ content_size pages.physical_page_size }
     requires sizes { cache.old.page_size ≡ content_size pages.physical_page_size }
-    requires kept { ServesPages pages.physical_page_size pages.blob_id
-        (flushed C.checksum_of pages.physical_page_size (B.calls blob.old) pages.len) cache.old.pages }
+    requires kept { ServesPages
+        (flushed C.checksum_of pages.physical_page_size (B.calls blob.old) pages.len) cache.old pages.blob_id }
     ensures bytes { let all = flushed C.checksum_of pages.physical_page_size (B.calls blob.old) pages.len in
         OnOk result (out.new ≡ take (length out.old)
         (drop (page * content_size pages.physical_page_size + from) all)) }
-    ensures kept { ServesPages pages.physical_page_size pages.blob_id
-        (flushed C.checksum_of pages.physical_page_size (B.calls blob.old) pages.len) cache.new.pages }
-    ensures more { StaysKept pages.physical_page_size pages.blob_id
-        (flushed C.checksum_of pages.physical_page_size (B.calls blob.old) pages.len) cache.old.pages cache.new.pages }
+    ensures kept { StaysKept (flushed C.checksum_of pages.physical_page_size (B.calls blob.old) pages.len)
+        cache.old cache.new pages.blob_id }
     ensures same { cache.new ≡ record cache.old { pages = cache.new.pages } }
     ensures others { KeepsOthers cache.old cache.new pages.blob_id }
     ensures cause { IfErr result (IsCause (B.failures blob.old) Read
@@ -134,14 +132,12 @@ fn read_flushed<B: Blob, C: Checksum>(
     requires numbers { pages.len / content_size pages.physical_page_size * pages.physical_page_size < 2 ^ 64 }
     requires within { offset + length out.old ≤ pages.len }
     requires sizes { cache.old.page_size ≡ content_size pages.physical_page_size }
-    requires kept { ServesPages pages.physical_page_size pages.blob_id
-        (flushed C.checksum_of pages.physical_page_size (B.calls blob.old) pages.len) cache.old.pages }
+    requires kept { ServesPages
+        (flushed C.checksum_of pages.physical_page_size (B.calls blob.old) pages.len) cache.old pages.blob_id }
     ensures bytes { OnOk result (out.new ≡ take (length out.old)
         (drop offset (flushed C.checksum_of pages.physical_page_size (B.calls blob.old) pages.len))) }
-    ensures kept { ServesPages pages.physical_page_size pages.blob_id
-        (flushed C.checksum_of pages.physical_page_size (B.calls blob.old) pages.len) cache.new.pages }
-    ensures more { StaysKept pages.physical_page_size pages.blob_id
-        (flushed C.checksum_of pages.physical_page_size (B.calls blob.old) pages.len) cache.old.pages cache.new.pages }
+    ensures kept { StaysKept (flushed C.checksum_of pages.physical_page_size (B.calls blob.old) pages.len)
+        cache.old cache.new pages.blob_id }
     ensures same { cache.new ≡ record cache.old { pages = cache.new.pages } }
     ensures others { KeepsOthers cache.old cache.new pages.blob_id }
     ensures cause { IfErr result (IsCause (B.failures blob.old) Read
@@ -183,8 +179,8 @@ pub fn read_into<B: Blob, C: Checksum>(
     requires numbers { pages.len / content_size pages.physical_page_size * pages.physical_page_size < 2 ^ 64 }
     requires ends { pages.len + length tip.now < 2 ^ 64 }
     requires sizes { cache.old.page_size ≡ content_size pages.physical_page_size }
-    requires kept { CacheHolds pages.physical_page_size pages.blob_id
-        (readable C.checksum_of pages.physical_page_size (B.calls blob.old) pages.len tip.now) cache.old.pages }
+    requires kept { HoldsPagesOf
+        (readable C.checksum_of pages.physical_page_size (B.calls blob.old) pages.len tip.now) cache.old pages.blob_id }
     ensures bytes { OnOk result (out.new ≡ take (length out.old) (drop offset
         (readable C.checksum_of pages.physical_page_size (B.calls blob.old) pages.len tip.now))) }
     ensures within { OnOk result (offset + length out.old ≤ pages.len + length tip.now) }
@@ -192,8 +188,8 @@ pub fn read_into<B: Blob, C: Checksum>(
         → (result ≡ Err Error.BlobInsufficientLength) × (out.new ≡ out.old) × (cache.new ≡ cache.old) }
     ensures cause { IfErr result (IsReadingCause (B.failures blob.old) pages.physical_page_size pages.len
         (pages.len + length tip.now) (offset + length out.old)) }
-    ensures kept { CacheHolds pages.physical_page_size pages.blob_id
-        (readable C.checksum_of pages.physical_page_size (B.calls blob.old) pages.len tip.now) cache.new.pages }
+    ensures kept { HoldsPagesOf
+        (readable C.checksum_of pages.physical_page_size (B.calls blob.old) pages.len tip.now) cache.new pages.blob_id }
     ensures same { cache.new ≡ record cache.old { pages = cache.new.pages } }
     ensures others { KeepsOthers cache.old cache.new pages.blob_id }
     ensures calls { B.calls blob.new ≡ B.calls blob.old }
@@ -233,8 +229,8 @@ pub fn read_at<B: Blob, C: Checksum>(
     requires numbers { pages.len / content_size pages.physical_page_size * pages.physical_page_size < 2 ^ 64 }
     requires ends { pages.len + length tip.now < 2 ^ 64 }
     requires sizes { cache.old.page_size ≡ content_size pages.physical_page_size }
-    requires kept { CacheHolds pages.physical_page_size pages.blob_id
-        (readable C.checksum_of pages.physical_page_size (B.calls blob.old) pages.len tip.now) cache.old.pages }
+    requires kept { HoldsPagesOf
+        (readable C.checksum_of pages.physical_page_size (B.calls blob.old) pages.len tip.now) cache.old pages.blob_id }
     ensures bytes { IfOk result (λ bytes. bytes.items ≡ take len (drop offset
         (readable C.checksum_of pages.physical_page_size (B.calls blob.old) pages.len tip.now))) }
     ensures within { IsOk result → offset + len ≤ pages.len + length tip.now }
@@ -242,8 +238,8 @@ pub fn read_at<B: Blob, C: Checksum>(
         → (result ≡ Err Error.BlobInsufficientLength) × (cache.new ≡ cache.old) }
     ensures cause { IfErr result (IsReadingCause (B.failures blob.old) pages.physical_page_size pages.len
         (pages.len + length tip.now) (offset + len)) }
-    ensures kept { CacheHolds pages.physical_page_size pages.blob_id
-        (readable C.checksum_of pages.physical_page_size (B.calls blob.old) pages.len tip.now) cache.new.pages }
+    ensures kept { HoldsPagesOf
+        (readable C.checksum_of pages.physical_page_size (B.calls blob.old) pages.len tip.now) cache.new pages.blob_id }
     ensures same { cache.new ≡ record cache.old { pages = cache.new.pages } }
     ensures others { KeepsOthers cache.old cache.new pages.blob_id }
     ensures calls { B.calls blob.new ≡ B.calls blob.old }
@@ -278,8 +274,8 @@ pub fn read_up_to<B: Blob, C: Checksum>(
     requires numbers { pages.len / content_size pages.physical_page_size * pages.physical_page_size < 2 ^ 64 }
     requires ends { pages.len + length tip.now < 2 ^ 64 }
     requires sizes { cache.old.page_size ≡ content_size pages.physical_page_size }
-    requires kept { CacheHolds pages.physical_page_size pages.blob_id
-        (readable C.checksum_of pages.physical_page_size (B.calls blob.old) pages.len tip.now) cache.old.pages }
+    requires kept { HoldsPagesOf
+        (readable C.checksum_of pages.physical_page_size (B.calls blob.old) pages.len tip.now) cache.old pages.blob_id }
     ensures bytes { IfOk result (λ bytes. bytes.items ≡ take len (drop offset
         (readable C.checksum_of pages.physical_page_size (B.calls blob.old) pages.len tip.now))) }
     ensures within { IsOk result → offset ≤ pages.len + length tip.now }
@@ -287,8 +283,8 @@ pub fn read_up_to<B: Blob, C: Checksum>(
         → (result ≡ Err Error.BlobInsufficientLength) × (cache.new ≡ cache.old) }
     ensures cause { IfErr result (IsReadingCause (B.failures blob.old) pages.physical_page_size pages.len
         (pages.len + length tip.now) offset) }
-    ensures kept { CacheHolds pages.physical_page_size pages.blob_id
-        (readable C.checksum_of pages.physical_page_size (B.calls blob.old) pages.len tip.now) cache.new.pages }
+    ensures kept { HoldsPagesOf
+        (readable C.checksum_of pages.physical_page_size (B.calls blob.old) pages.len tip.now) cache.new pages.blob_id }
     ensures same { cache.new ≡ record cache.old { pages = cache.new.pages } }
     ensures others { KeepsOthers cache.old cache.new pages.blob_id }
     ensures calls { B.calls blob.new ≡ B.calls blob.old }

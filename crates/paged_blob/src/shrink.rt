@@ -9,7 +9,7 @@ ghost use Rattle.paged_blob.specs.Moments.{Through};
 ghost use Rattle.paged_blob.specs.Answers.{failures_after, RecordsSync};
 ghost use Rattle.paged_blob.specs.Chance.{page_at, slot_in};
 ghost use Rattle.paged_blob.specs.Writers.{Keeps};
-ghost use Rattle.paged_blob.specs.Shrinks.{other_slot, handed_over, Withstands, IsTrimmed, IsCut, IsCutCause};
+ghost use Rattle.paged_blob.specs.Shrinks.{other_slot, handed_over, Withstands, IsTrimmed, IsCut, IsCutCause, EndsWithSync};
 ghost use Rattle.paged_blob.specs.ShrinksCode.{StandsAlone, IsLeftAlone, IsLast, EndsWith, IsSettled};
 
 use crate::blob::{Blob, WriteMode};
@@ -152,6 +152,7 @@ fn cut_behind<B: Blob, C: Checksum>(
     ensures cut { let old = recovered C.checksum_of physical_page_size (file_of (B.calls blob.old)).base in
         OnOk result (IsCut C.checksum_of physical_page_size (take (pages * content_size physical_page_size) old)
         (B.calls blob.new)) }
+    ensures ends { OnOk result (EndsWithSync (B.calls blob.new)) }
     ensures any_moment { let old = recovered C.checksum_of physical_page_size (file_of (B.calls blob.old)).base in
         Through (Keeps C.checksum_of physical_page_size old (pages * content_size physical_page_size))
         (B.calls blob.old) (B.calls blob.new) }
@@ -186,6 +187,7 @@ fn cut_within<B: Blob, C: Checksum>(
     ensures last { let old = recovered C.checksum_of physical_page_size (file_of (B.calls blob.old)).base in
         let kept = page * content_size physical_page_size + part in
         IfOk result (λ last. IsLast physical_page_size (take kept old) (file_of (B.calls blob.new)).base last) }
+    ensures ends { OnOk result (EndsWithSync (B.calls blob.new)) }
     ensures any_moment { let old = recovered C.checksum_of physical_page_size (file_of (B.calls blob.old)).base in
         let kept = page * content_size physical_page_size + part in
         Through (Keeps C.checksum_of physical_page_size old kept) (B.calls blob.old) (B.calls blob.new) }
@@ -222,7 +224,7 @@ fn settle<B: Blob>(blob: &mut B, needs_sync: bool) -> Result<(), Error>
 
 /// Cuts a blob to the first so many bytes of its content, `size`, or to all of it where it has fewer, and makes them
 /// durable; it answers the last page where the content does not fill it. The blob then is exactly the pages of the
-/// content, and a slot that a torn append left is cleared. It is refused where a call of the blob is; what a crash then
+/// content, and a slot that a torn append left is cleared; its last call is a sync that succeeded. It is refused where a call of the blob is; what a crash then
 /// shows is a beginning of the old content with what was durable of the first `size` bytes, as at each moment before.
 /// That no call has failed, that `len` bytes of content are recovered of it, and that all is durable unless it
 /// `needs_sync` is on the caller. In the Rust a part of `paged::Recovery::truncate`.
@@ -243,6 +245,7 @@ pub fn cut_blob<B: Blob, C: Checksum>(
         IfOk result (λ last. IsCut C.checksum_of physical_page_size (take size old) (B.calls blob.new)) }
     ensures last { let old = recovered C.checksum_of physical_page_size (content (B.calls blob.old)) in
         IfOk result (λ last. EndsWith physical_page_size (take size old) (file_of (B.calls blob.new)).base last) }
+    ensures ends { OnOk result (EndsWithSync (B.calls blob.new)) }
     ensures any_moment { let old = recovered C.checksum_of physical_page_size (content (B.calls blob.old)) in
         (synced : ℕ) → Withstands C.checksum_of physical_page_size old synced (file_of (B.calls blob.old))
         → Through (Keeps C.checksum_of physical_page_size old (min size synced)) (B.calls blob.old) (B.calls blob.new) }

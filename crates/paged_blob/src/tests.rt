@@ -1,5 +1,10 @@
 //! Values from outside: each public call once, with ample memory.
 
+ghost use Rattle.std.specs.Prelude.{◌≡◌, ◌+◌, [], IfOk};
+ghost use Rattle.paged_format.specs.Footers.{IsPageSize, content_size};
+ghost use Rattle.paged_blob.specs.CachedContent.{HoldsPagesOf};
+ghost use Rattle.paged_blob.specs.Writers.{IsWriter, written};
+
 mod explorer;
 mod recovery;
 mod writer;
@@ -11,6 +16,7 @@ use crate::error::{CallKind, Error};
 use crate::read::{FlushedPages, read_at, read_up_to};
 use crate::scan::{prefix_of_blob, prefix_of_blob_at_most};
 use crate::shrink::cut_blob;
+use crate::writer::Writer;
 use fault_storage::{Checksum, Crc32};
 use merkle_forest::codec::Encode;
 use paged_format::{Footer, Slot};
@@ -97,6 +103,23 @@ fn keeps_the_pages_of_two_blobs_apart(rt: HostRuntime) -> Result<(), Fail> {
     assert_eq!(rt; cache.cache(first, &[8, 8, 8, 8], 0), 0);
     assert_eq!(rt; cache.page(second, 2), None);
     Ok(())
+}
+
+// A writer over a blob of which no call was made, and a cache that has no pages, with a buffer of so many bytes.
+fn started<B: Blob, C: Checksum>(
+    alloc: Global,
+    blob: &mut B,
+    cache: &mut CacheRef,
+    capacity: usize,
+) -> Result<Writer<C>, Error>
+    requires page { IsPageSize (cache.old.page_size + 12) }
+    requires none { B.calls blob.old ≡ [] }
+    requires empty { cache.old.pages ≡ [] }
+    ensures writer { IfOk result (λ w. IsWriter C.checksum_of (B.calls blob.new) w) }
+    ensures pages { IfOk result (λ w. cache.new.page_size ≡ content_size w.page_size) }
+    ensures cached { IfOk result (λ w. HoldsPagesOf (written C.checksum_of (B.calls blob.new) w) cache.new w.blob_id) }
+{
+    Writer::<C>::new(alloc, blob, cache, 0, capacity)
 }
 
 // A page of 64 bytes whose slots say these lengths, each with its checksum; 0 stands for a slot of zeros.

@@ -1,14 +1,14 @@
 //! A writer: one list of bytes over a blob.
 
-ghost use Rattle.std.specs.Prelude.{◌≡◌, ◌⊎◌, ◌+◌, ◌-◌, ◌*◌, ◌/◌, ◌%◌, ◌<◌, ◌≤◌, ◌^◌, ◌++◌, ◌↔◌, [], max};
+ghost use Rattle.std.specs.Prelude.{◌≡◌, ◌⊎◌, ◌+◌, ◌-◌, ◌*◌, ◌/◌, ◌%◌, ◌<◌, ◌≤◌, ◌^◌, ◌++◌, ◌↔◌};
 ghost use Rattle.std.specs.Prelude.{take, drop, length};
 ghost use Rattle.std.specs.Prelude.{false, None, List, IsTrue, IfOk, IfErr, OnOk, OnErr, IfSome, OnSome, IsNone};
 ghost use Rattle.paged_format.specs.Footers.{IsPageSize, content_size};
-ghost use Rattle.paged_blob.specs.Calls.{Call, file_of};
+ghost use Rattle.paged_blob.specs.Calls.{Call};
 ghost use Rattle.paged_blob.specs.Moments.{Through};
 ghost use Rattle.paged_blob.specs.Answers.{failures_after, HaveEnded, IsCause, IsPastNumbers};
 ghost use Rattle.paged_blob.specs.Flushes.{physical_size, last_slot};
-ghost use Rattle.paged_blob.specs.Writers.{WriterState, written, IsWriter, IsFlushed, IsEmptyFile, Keeps, IsTaken};
+ghost use Rattle.paged_blob.specs.Writers.{WriterState, written, IsWriter, IsFlushed, Keeps, IsTaken};
 ghost use Rattle.paged_blob.specs.WritersCode.{IsTakingCause};
 ghost use Rattle.paged_blob.specs.Reads.{IsReadingCause};
 ghost use Rattle.paged_blob.specs.Caches.{AreGiven};
@@ -76,43 +76,6 @@ fn is_within_numbers(page_size: usize, len: u64, more: usize) -> bool
     match (rounded / room).checked_mul(page_size as u64) {
         Some(physical) => physical < u64::MAX - 4095,
         None => false,
-    }
-}
-
-impl<C: Checksum> Writer<C> {
-    /// A writer of nothing, over a blob in which nothing is, with a buffer of so many bytes, at least a page's; it has
-    /// a new name in the cache, and pages as large as that has them. Where no name is left: F8. That the blob is empty,
-    /// and that the cache's pages and twelve bytes are a power of two from 16 to 65536, is on the caller. It takes no
-    /// memory yet.
-    /// In the Rust: `paged::Writer::new`, which also takes a blob that is not empty.
-    pub fn new<B: Blob>(
-        alloc: Global,
-        _blob: &B,
-        cache: &mut CacheRef,
-        capacity: usize,
-    ) -> Result<Self, Error>
-        requires size { IsPageSize (cache.old.page_size + 12) }
-        requires empty { IsEmptyFile (file_of (B.calls _blob.now)) }
-        ensures writer { IfOk result (λ w. IsWriter C.checksum_of (B.calls _blob.now) w) }
-        ensures content { IfOk result (λ w. written C.checksum_of (B.calls _blob.now) w ≡ []) }
-        ensures page_size { IfOk result (λ w. w.page_size ≡ cache.old.page_size + 12) }
-        ensures blob_id { IfOk result (λ w. w.blob_id ≡ cache.old.next_id) }
-        ensures capacity { IfOk result (λ w. w.tip.capacity ≡ max capacity (cache.old.page_size + 12)) }
-        ensures cache { OnOk result (cache.new ≡ record cache.old { next_id = cache.old.next_id + 1 }) }
-        ensures err { IfErr result (λ e. (e ≡ Error.NumberEnded) × (cache.new ≡ cache.old)) }
-    {
-        let page_size = cache.page_size() as usize + 12;
-        let blob_id = cache.next_id()?;
-        Ok(Writer {
-            alloc,
-            page_size,
-            blob_id,
-            synced: 0,
-            slot: None,
-            tip: TipBuffer::new(alloc, 0, capacity.max(page_size)),
-            checksum: PhantomData,
-            phase: PhantomData,
-        })
     }
 }
 

@@ -3,6 +3,8 @@
 //! gets that number and a sum of the answers, standard error the processor time of one.
 #![tactic(auto)]
 
+mod disk;
+mod step;
 mod work;
 
 use measurement::{measure, read_count, report_ratio};
@@ -14,7 +16,7 @@ use std::time::CpuClock;
 const DEFAULT_COUNT: u64 = 4;
 
 // How many bytes are appended.
-const APPENDED: usize = 4 << 20;
+const APPENDED: usize = 64 << 20;
 
 // How many reads are measured at once.
 const READS: u64 = 5_000_000;
@@ -26,31 +28,17 @@ fn measure_appends<R: Print + Eprint + CpuClock>(
 ) -> io::Result<()> {
     let summed = measure(
         rt,
-        "checksums of the pages of 4 MiB, and one copy",
+        "checksums of the pages of 64 MiB, and one copy",
         count,
-        |round| { work::summed_and_copied(alloc, APPENDED, round) },
-    )?;
-    let recorded = measure(
-        rt,
-        "the same, and what the blob in memory copies for its record",
-        count,
-        |round| {
-            work::summed_and_copied(alloc, APPENDED, round) ^ work::recorded(alloc, APPENDED)
-        },
+        |round| work::summed_and_copied(alloc, APPENDED, round),
     )?;
     let appended = measure(
         rt,
-        "4 MiB appended in pieces of 100 bytes, synced each MiB",
+        "64 MiB appended in pieces of 100 bytes, synced each MiB",
         count,
-        |_round| { work::appended(alloc, APPENDED) },
+        |_round| work::appended(alloc, APPENDED),
     )?;
-    report_ratio(rt, "appended over checksums and one copy", appended, summed)?;
-    report_ratio(
-        rt,
-        "appended over checksums, one copy and the record",
-        appended,
-        recorded,
-    )
+    report_ratio(rt, "appended over checksums and one copy", appended, summed)
 }
 
 // The time of as many reads as are measured at once, from a list of so many bytes.

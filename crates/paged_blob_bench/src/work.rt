@@ -5,10 +5,10 @@ ghost use Rattle.paged_format.specs.Footers.{content_size};
 ghost use Rattle.paged_blob.specs.CachedContent.{HoldsPagesOf};
 ghost use Rattle.paged_blob.specs.Writers.{IsWriter, written};
 
+use crate::disk::UndoDisk;
 use fault_storage::{Checksum, Crc32};
-use paged_blob::bench::MemoryDisk;
 use paged_blob::{Blob, CacheRef, Error, Writer};
-use std::alloc::{AllocError, Global};
+use std::alloc::Global;
 
 // How many bytes of content a page of 4096 bytes has.
 const ROOM: usize = 4084;
@@ -60,11 +60,11 @@ fn append_pieces<B: Blob, C: Checksum>(
     writer.sync(disk, cache)
 }
 
-// So many bytes, appended and synced on a new disk.
+// So many bytes, appended and synced on a new disk, which has room for them.
 fn try_append(alloc: Global, size: usize) -> Result<u64, Error> {
-    let mut disk = MemoryDisk::new(alloc);
+    let mut disk = UndoDisk::with_capacity(alloc, size.saturating_add(size >> 7))?;
     let mut cache = CacheRef::new(alloc, 4084, 16);
-    let writer = Writer::<Crc32>::new(alloc, &disk, &mut cache, 1 << 16)?;
+    let writer = Writer::<Crc32>::new(alloc, &mut disk, &mut cache, 0, 1 << 16)?;
     let writer = append_pieces(writer, &mut disk, &mut cache, size / 100)?;
     Ok(writer.size())
 }
@@ -88,27 +88,6 @@ pub fn summed_and_copied(alloc: Global, size: usize, round: u64) -> u64 {
         let _ = copied.extend_from_slice(&page);
     }
     sum ^ copied.len() as u64
-}
-
-// What the blob in memory copies of so many bytes in flushes of 64 KiB, synced each MiB: each flush into its file and
-// into its record, and all of the file at each sync. All of it is kept, as there.
-fn try_record(alloc: Global, size: usize) -> Result<u64, AllocError> {
-    let flushed = vec![in alloc; 7u8; 1 << 16]?;
-    let mut file = Vec::new(alloc);
-    let mut record = Vec::new(alloc);
-    for k in 0..size >> 16 {
-        record.push(flushed.to_vec(alloc)?)?;
-        file.extend_from_slice(&flushed)?;
-        if k % 16 == 15 {
-            record.push(file.to_vec(alloc)?)?;
-        }
-    }
-    Ok(record.len() as u64 ^ file.len() as u64)
-}
-
-/// What the blob in memory copies of so many bytes: how often, and how many there are.
-pub fn recorded(alloc: Global, size: usize) -> u64 {
-    try_record(alloc, size).unwrap_or(0)
 }
 
 // Reads so many times 25 bytes of the last page but one.
@@ -135,9 +114,9 @@ fn read_often<B: Blob, C: Checksum>(
 
 // So many bytes on a new disk, of which 25 are read so many times.
 fn try_read(alloc: Global, size: usize, count: u64) -> Result<u64, Error> {
-    let mut disk = MemoryDisk::new(alloc);
+    let mut disk = UndoDisk::with_capacity(alloc, size.saturating_add(size >> 7))?;
     let mut cache = CacheRef::new(alloc, 4084, 16);
-    let writer = Writer::<Crc32>::new(alloc, &disk, &mut cache, 1 << 16)?;
+    let writer = Writer::<Crc32>::new(alloc, &mut disk, &mut cache, 0, 1 << 16)?;
     let writer = append_pieces(writer, &mut disk, &mut cache, size / 100)?;
     Ok(read_often(&writer, &mut disk, &mut cache, count))
 }

@@ -111,7 +111,7 @@ fn one_operation_is_read_at_its_index(rt: HostRuntime) -> Result<(), Fail> {
     let alloc = rt.alloc();
     let mut disk = MemoryDisk::new(alloc);
     let mut cache = CacheRef::new(alloc, 52, 8);
-    let writer = Writer::<Crc32>::new(alloc, &disk, &mut cache, 128)?;
+    let writer = Writer::<Crc32>::new(alloc, &mut disk, &mut cache, 0, 128)?;
     let writer = append_batch(writer, &mut disk, &mut cache, FIRST)?;
     let first: Entry = read_operation(&writer, alloc, &mut disk, &mut cache, 0)?;
     assert_eq!(rt; first, commit(0));

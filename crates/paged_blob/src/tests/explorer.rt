@@ -1,7 +1,7 @@
 //! An explorer of crashes: at each moment of a script it makes images that a crash may leave, and recovers them. It finds
 //! nothing where the proofs are right.
 
-use super::pages_of;
+use super::{pages_of, started};
 use crate::bench::MemoryDisk;
 use crate::cache::CacheRef;
 use crate::record::Recorded;
@@ -104,21 +104,22 @@ fn is_right(image: &[u8], content: &[u8], least: u64) -> bool {
     true
 }
 
-// How many images were tried, some at each moment, and how many of them were recovered wrongly, where a call may cut the
-// content to so many bytes.
+// How many images were tried, some hundreds at each moment from so many calls on, and how many of them were recovered
+// wrongly, where a call may cut the content to so many bytes.
 fn explore(
     alloc: Global,
     record: &[Recorded],
+    first: usize,
     content: &[u8],
     cut: u64,
 ) -> Result<(u64, u64), Fail> {
     let mut dice = Dice(0x9e37_79b9_7f4a_7c15);
     let (mut tried, mut wrong) = (0u64, 0u64);
-    for (moment, _) in record.iter().enumerate() {
+    for (moment, _) in record.iter().enumerate().skip(first) {
         let Some(calls) = record.get(..=moment) else {
             continue;
         };
-        for _ in 0..60u8 {
+        for _ in 0..250u8 {
             let (image, durable) = crashed(alloc, calls, &mut dice)?;
             let least = prefix_len::<Crc32>(&durable, 64).min(cut);
             tried = tried.saturating_add(1);
@@ -135,7 +136,7 @@ fn no_crash_loses_what_a_writer_synced(rt: HostRuntime) -> Result<(), Fail> {
     let alloc = rt.alloc();
     let mut disk = MemoryDisk::new(alloc);
     let mut cache = CacheRef::new(alloc, 52, 4);
-    let writer = Writer::<Crc32, Append>::new(alloc, &disk, &mut cache, 64)?;
+    let writer = started::<MemoryDisk, Crc32>(alloc, &mut disk, &mut cache, 64)?;
     let mut content = Vec::new(alloc);
     for k in 0..230u8 {
         content.push(k)?;
@@ -148,8 +149,8 @@ fn no_crash_loses_what_a_writer_synced(rt: HostRuntime) -> Result<(), Fail> {
     let writer = writer.sync(&mut disk, &mut cache)?;
     let (writer, _) = writer.append(&mut disk, &mut cache, content.get(200..).unwrap_or(&[]))?;
     let _writer = writer.sync(&mut disk, &mut cache)?;
-    let (tried, wrong) = explore(alloc, disk.record(), &content, u64::MAX)?;
-    assert_eq!(rt; (tried > 500, wrong), (true, 0));
+    let (tried, wrong) = explore(alloc, disk.record(), 0, &content, u64::MAX)?;
+    assert_eq!(rt; (tried > 2000, wrong), (true, 0));
     Ok(())
 }
 
@@ -166,7 +167,46 @@ fn no_crash_of_a_cut_loses_what_it_keeps(rt: HostRuntime) -> Result<(), Fail> {
     for k in 0..116u8 {
         content.push(k % 52)?;
     }
-    let (tried, wrong) = explore(alloc, disk.record(), &content, 60)?;
-    assert_eq!(rt; (tried > 300, wrong), (true, 0));
+    let (tried, wrong) = explore(alloc, disk.record(), 0, &content, 60)?;
+    assert_eq!(rt; (tried > 1000, wrong), (true, 0));
+    Ok(())
+}
+
+#[test]
+fn no_crash_of_a_writer_over_old_pages_loses_any(rt: HostRuntime) -> Result<(), Fail> {
+    let alloc = rt.alloc();
+    let bytes = pages_of(alloc, &[(52, 0), (52, 0), (8, 12), (52, 0)])?;
+    let mut disk = MemoryDisk::showing(alloc, bytes)?;
+    let mut cache = CacheRef::new(alloc, 52, 4);
+    let size = disk.as_bytes().len() as u64;
+    let _writer = Writer::<Crc32>::new(alloc, &mut disk, &mut cache, size, 128)?;
+    let mut content = Vec::new(alloc);
+    for k in 0..116u8 {
+        content.push(k % 52)?;
+    }
+    let (tried, wrong) = explore(alloc, disk.record(), 0, &content, u64::MAX)?;
+    assert_eq!(rt; (tried > 1000, wrong), (true, 0));
+    Ok(())
+}
+
+// A hundred and sixteen bytes, of which all but eighty are cut off, and others after these.
+#[test]
+fn no_crash_of_appends_after_a_cut_loses_what_they_keep(rt: HostRuntime) -> Result<(), Fail> {
+    let alloc = rt.alloc();
+    let mut content = Vec::new(alloc);
+    for k in 0..200u8 {
+        content.push(if k < 80 { k % 52 } else { k })?;
+    }
+    let bytes = pages_of(alloc, &[(52, 0), (52, 0), (8, 12)])?;
+    let mut disk = MemoryDisk::showing(alloc, bytes)?;
+    let mut cache = CacheRef::new(alloc, 52, 4);
+    let size = disk.as_bytes().len() as u64;
+    let recovery = Recovery::<Crc32>::open(alloc, &mut disk, &mut cache, size, 64)?;
+    let cut: Writer<Crc32, Append> = recovery.truncate(&mut disk, &mut cache, 80)?.into();
+    let calls = disk.record().len();
+    let (writer, _) = cut.append(&mut disk, &mut cache, content.get(80..).unwrap_or(&[]))?;
+    let _writer = writer.sync(&mut disk, &mut cache)?;
+    let (tried, wrong) = explore(alloc, disk.record(), calls, &content, u64::MAX)?;
+    assert_eq!(rt; (tried > 500, wrong), (true, 0));
     Ok(())
 }

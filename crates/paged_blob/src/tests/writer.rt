@@ -3,8 +3,10 @@
 ghost use Rattle.std.specs.Prelude.{◌+◌};
 ghost use Rattle.paged_format.specs.Footers.{IsPageSize};
 
+use super::started;
 use crate::bench::MemoryDisk;
 use crate::cache::CacheRef;
+use crate::error::Error;
 use crate::writer::recovery::Recovery;
 use crate::writer::{Append, Writer};
 use fault_storage::Crc32;
@@ -102,7 +104,7 @@ fn sixty_bytes_and_four_more(rt: HostRuntime) -> Result<(), Fail> {
     let alloc = rt.alloc();
     let mut disk = MemoryDisk::new(alloc);
     let mut cache = CacheRef::new(alloc, 52, 8);
-    let writer = Writer::<Crc32>::new(alloc, &disk, &mut cache, 128)?;
+    let writer = started::<MemoryDisk, Crc32>(alloc, &mut disk, &mut cache, 128)?;
     let sixty = spelled(
         alloc,
         "75cbcf59dc92df7dd04b872753f63b087a361ab80c4e5b6fa95688f4924c5e302c341f6f17ae0a4793632a58ffaace24\
@@ -128,11 +130,39 @@ fn sixty_bytes_and_four_more(rt: HostRuntime) -> Result<(), Fail> {
 }
 
 #[test]
+fn reads_of_sixty_bytes(rt: HostRuntime) -> Result<(), Fail> {
+    let alloc = rt.alloc();
+    let mut disk = MemoryDisk::new(alloc);
+    let mut cache = CacheRef::new(alloc, 52, 8);
+    let writer = started::<MemoryDisk, Crc32>(alloc, &mut disk, &mut cache, 128)?;
+    let sixty = spelled(
+        alloc,
+        "ab7c5ac657582f4df90a401ff6548cd87e1ac79b287b1129fc518c4cad6226ff15668dfa7ba32848eb90d29a235bf42c\
+         1e20e104fc5ca02a863a5a06",
+    )?;
+    let (writer, _) = writer.append(&mut disk, &mut cache, &sixty)?;
+    let writer = writer.sync(&mut disk, &mut cache)?;
+    assert_slots(&rt, disk.as_bytes(), 64, &[(52, 0), (8, 0)]);
+    assert_eq!(rt;
+        writer.read_at(&mut disk, &mut cache, 60, 1).err(),
+        Some(Error::BlobInsufficientLength)
+    );
+    let four = writer.read_up_to(&mut disk, &mut cache, 56, 10)?;
+    assert_eq!(rt; four.as_slice(), [0x86, 0x3a, 0x5a, 0x06].as_slice());
+    let last = writer.read_at(&mut disk, &mut cache, 59, 1)?;
+    assert_eq!(rt; last.as_slice(), [0x06].as_slice());
+    let mut all = [0; 60];
+    writer.read_into(&mut disk, &mut cache, &mut all, 0)?;
+    assert_eq!(rt; all.as_slice(), sixty.as_slice());
+    Ok(())
+}
+
+#[test]
 fn a_page_that_is_filled_later(rt: HostRuntime) -> Result<(), Fail> {
     let alloc = rt.alloc();
     let mut disk = MemoryDisk::new(alloc);
     let mut cache = CacheRef::new(alloc, 52, 8);
-    let writer = Writer::<Crc32>::new(alloc, &disk, &mut cache, 128)?;
+    let writer = started::<MemoryDisk, Crc32>(alloc, &mut disk, &mut cache, 128)?;
     let page = spelled(
         alloc,
         "81093b7d48845b79900ca94b352c390545a377867f490facfae04aa076345187c7738417127161ebd307876778c48729\
@@ -177,7 +207,7 @@ fn a_buffer_smaller_than_a_page(rt: HostRuntime) -> Result<(), Fail> {
     let alloc = rt.alloc();
     let mut disk = MemoryDisk::new(alloc);
     let mut cache = CacheRef::new(alloc, 244, 8);
-    let writer = Writer::<Crc32>::new(alloc, &disk, &mut cache, 128)?;
+    let writer = started::<MemoryDisk, Crc32>(alloc, &mut disk, &mut cache, 128)?;
     let first = spelled(alloc, FIRST)?;
     let (writer, size) = writer.append(&mut disk, &mut cache, &first)?;
     assert_eq!(rt; size, 0);
@@ -203,7 +233,7 @@ fn appended_twice(
 {
     let mut disk = MemoryDisk::new(alloc);
     let mut cache = CacheRef::new(alloc, page_size, 8);
-    let writer = Writer::<Crc32>::new(alloc, &disk, &mut cache, 128)?;
+    let writer = started::<MemoryDisk, Crc32>(alloc, &mut disk, &mut cache, 128)?;
     let (writer, _) = writer.append(&mut disk, &mut cache, first)?;
     let writer = writer.sync(&mut disk, &mut cache)?;
     let (writer, _) = writer.append(&mut disk, &mut cache, second)?;
@@ -238,18 +268,49 @@ fn appends_that_need_no_disk(rt: HostRuntime) -> Result<(), Fail> {
     let alloc = rt.alloc();
     let mut disk = MemoryDisk::new(alloc);
     let mut cache = CacheRef::new(alloc, 52, 8);
-    let mut writer = Writer::<Crc32>::new(alloc, &disk, &mut cache, 128)?;
+    let mut writer = started::<MemoryDisk, Crc32>(alloc, &mut disk, &mut cache, 128)?;
     assert_eq!(rt; writer.try_append(&[1, 2, 3, 4])?, Some(0));
     assert_eq!(rt; writer.try_append_value(&77_u64)?, Some(4));
     assert_eq!(rt; writer.try_append(&[0; 117])?, None);
+    assert_eq!(rt; (writer.size(), writer.needs_sync()), (12, true));
+    Ok(())
+}
+
+#[test]
+fn a_value_that_needed_no_disk_is_synced(rt: HostRuntime) -> Result<(), Fail> {
+    let alloc = rt.alloc();
+    let mut disk = MemoryDisk::new(alloc);
+    let mut cache = CacheRef::new(alloc, 52, 8);
+    let mut writer = started::<MemoryDisk, Crc32>(alloc, &mut disk, &mut cache, 128)?;
+    assert_eq!(rt; writer.try_append_value(&77_u64)?, Some(0));
     let writer = writer.sync(&mut disk, &mut cache)?;
-    assert_eq!(rt; writer.size(), 12);
-    assert_slots(&rt, disk.as_bytes(), 64, &[(12, 0)]);
-    let content = disk.as_bytes().get(..12);
-    assert_eq!(rt;
-        content,
-        Some([1, 2, 3, 4, 0, 0, 0, 0, 0, 0, 0, 0x4d].as_slice())
-    );
+    assert_eq!(rt; writer.size(), 8);
+    assert_slots(&rt, disk.as_bytes(), 64, &[(8, 0)]);
+    let content = disk.as_bytes().get(..8);
+    assert_eq!(rt; content, Some([0, 0, 0, 0, 0, 0, 0, 0x4d].as_slice()));
+    Ok(())
+}
+
+#[test]
+fn a_read_over_two_appends(rt: HostRuntime) -> Result<(), Fail> {
+    let alloc = rt.alloc();
+    let mut disk = MemoryDisk::new(alloc);
+    let mut cache = CacheRef::new(alloc, 244, 8);
+    let writer = started::<MemoryDisk, Crc32>(alloc, &mut disk, &mut cache, 128)?;
+    let first = spelled(
+        alloc,
+        "e0580e9df5ccc568c2b4f5cb55cafad56e03d8f604ff2e188211c2d5e941a63dfd4ac362d2b5e31dbcf220b65fb6a9\
+         65571e9ba03f5e5e4fc6013b33df073b6726a1469eaebb9e46a7abc53428eb610b0125e37309005fde0ad9f3fb4725\
+         c6f5dd6fc82f",
+    )?;
+    let (writer, _) = writer.append(&mut disk, &mut cache, &first)?;
+    let writer = writer.sync(&mut disk, &mut cache)?;
+    let second = spelled(alloc, "4e5dc0b39226bd00d8050adfbe1dfacb")?;
+    let (writer, old) = writer.append(&mut disk, &mut cache, &second)?;
+    assert_eq!(rt; old, 100);
+    let read = writer.read_at(&mut disk, &mut cache, 90, 20)?;
+    let expected = spelled(alloc, "f3fb4725c6f5dd6fc82f4e5dc0b39226bd00d805")?;
+    assert_eq!(rt; read.as_slice(), expected.as_slice());
     Ok(())
 }
 
@@ -258,14 +319,14 @@ fn keeps_flushed_pages_in_the_cache(rt: HostRuntime) -> Result<(), Fail> {
     let alloc = rt.alloc();
     let mut disk = MemoryDisk::new(alloc);
     let mut cache = CacheRef::new(alloc, 4, 8);
-    let writer = Writer::<Crc32>::new(alloc, &disk, &mut cache, 0)?;
+    let writer = started::<MemoryDisk, Crc32>(alloc, &mut disk, &mut cache, 0)?;
     let bytes: [u8; 18] = [
         1, 2, 3, 4, 5, 6, 7, 8, 9, 10, 11, 12, 13, 14, 15, 16, 17, 18,
     ];
     let (writer, _) = writer.append(&mut disk, &mut cache, &bytes)?;
     assert_eq!(rt; disk.as_bytes().len(), 64);
-    assert_eq!(rt; cache.page(0, 3), Some([13, 14, 15, 16].as_slice()));
-    assert_eq!(rt; cache.page(0, 4), None);
+    assert_eq!(rt; cache.page(1, 3), Some([13, 14, 15, 16].as_slice()));
+    assert_eq!(rt; cache.page(1, 4), None);
     assert_eq!(rt; writer.size(), 18);
     Ok(())
 }

@@ -9,7 +9,7 @@ ghost use Rattle.paged_blob.specs.Moments.{Through};
 ghost use Rattle.paged_blob.specs.Answers.{failures_after, IsReadCause};
 ghost use Rattle.paged_blob.specs.Flushes.{physical_size};
 ghost use Rattle.paged_blob.specs.Scans.{recoverable, AreProven};
-ghost use Rattle.paged_blob.specs.Shrinks.{Withstands, IsCut, IsCutCause};
+ghost use Rattle.paged_blob.specs.Shrinks.{Withstands, IsCut, IsCutCause, EndsWithSync};
 ghost use Rattle.paged_blob.specs.ShrinksCode.{slot_of, bytes_of};
 ghost use Rattle.paged_blob.specs.Writers.{written, IsWriter, Keeps};
 
@@ -108,7 +108,8 @@ impl<C: Checksum> Writer<C, Recovering> {
     }
 
     /// Cuts the list to its first so many bytes, `size`, or leaves it whole where it has fewer, and makes it durable; the
-    /// blob then has its pages and nothing else, the writer goes on from there, and it has a new name in the cache.
+    /// blob then has its pages and nothing else, its last call is a sync that succeeded, the writer goes on from there,
+    /// and it has a new name in the cache.
     /// Where no name is left, or a number of the list would end: F8, and nothing changes. Refused otherwise the
     /// recovery is given up; what a crash then shows is a beginning of the list with what was durable of these bytes.
     /// That so many bytes are recovered of the blob, no call of it has failed and all of it is durable is on the caller:
@@ -130,6 +131,7 @@ impl<C: Checksum> Writer<C, Recovering> {
         ensures synced { IfOk result (λ w. w.synced ≡ min size (self.tip.offset + length self.tip.bytes)) }
         ensures again { OnOk result (IsCut C.checksum_of self.page_size
             (take size (recovered C.checksum_of self.page_size (content (B.calls blob.old)))) (B.calls blob.new)) }
+        ensures ends { OnOk result (EndsWithSync (B.calls blob.new)) }
         ensures same { IfOk result (λ w. (w.page_size ≡ self.page_size) × (w.tip.capacity ≡ self.tip.capacity)) }
         ensures name { IfOk result (λ w. w.blob_id ≡ cache.old.next_id) }
         ensures cache { OnOk result (cache.new ≡ record cache.old { next_id = cache.old.next_id + 1 }) }
@@ -137,6 +139,7 @@ impl<C: Checksum> Writer<C, Recovering> {
         // Refused too, the cache has given one name at most.
         ensures given { (cache.new ≡ record cache.old { next_id = cache.new.next_id })
             × (cache.old.next_id ≤ cache.new.next_id) }
+        ensures names { cache.new.next_id ≤ cache.old.next_id + 1 }
         // Whatever a crash leaves at any moment of the call keeps what was durable of these bytes.
         ensures any_moment { let old = recovered C.checksum_of self.page_size (content (B.calls blob.old)) in
             (synced : ℕ) → Withstands C.checksum_of self.page_size old synced (file_of (B.calls blob.old))
@@ -175,6 +178,59 @@ impl<C: Checksum> From<Writer<C, Recovering>> for Writer<C, Append> {
             checksum: PhantomData,
             phase: PhantomData,
         }
+    }
+}
+
+impl<C: Checksum> Writer<C> {
+    /// A writer of what is recovered of a blob of so many bytes, `blob_size`, all of it durable, with a buffer of so many
+    /// bytes, at least a page's: a `Recovery::open`, and a `truncate` to all that it found. The blob then has the pages
+    /// of that list and nothing else; of an empty blob it is a writer of nothing. Each image of each moment of the call
+    /// recovers to the same list, unless it is there by chance, and keeps every byte of it. The cache keeps its pages
+    /// and gives two names, of which the writer has the second. It is refused where one of these two calls is, also where
+    /// a name is wanting: F8. That this is the blob's length, that no call of it has failed and all of it is durable is on
+    /// the caller: so it is after an opening.
+    /// In the Rust: `paged::Writer::new`, which takes one name.
+    pub fn new<B: Blob>(
+        alloc: Global,
+        blob: &mut B,
+        cache: &mut CacheRef,
+        blob_size: u64,
+        capacity: usize,
+    ) -> Result<Self, Error>
+        requires page { IsPageSize (cache.old.page_size + 12) }
+        requires sound { IsFalse (file_of (B.calls blob.old)).failed }
+        requires settled { (file_of (B.calls blob.old)).changes ≡ [] }
+        requires whole { blob_size ≡ length (content (B.calls blob.old)) }
+        ensures writer { IfOk result (λ w. IsWriter C.checksum_of (B.calls blob.new) w) }
+        ensures content { IfOk result (λ w. written C.checksum_of (B.calls blob.new) w
+            ≡ recovered C.checksum_of (cache.old.page_size + 12) (content (B.calls blob.old))) }
+        ensures synced { IfOk result (λ w. w.synced
+            ≡ length (recovered C.checksum_of (cache.old.page_size + 12) (content (B.calls blob.old)))) }
+        ensures cut { OnOk result (IsCut C.checksum_of (cache.old.page_size + 12)
+            (recovered C.checksum_of (cache.old.page_size + 12) (content (B.calls blob.old))) (B.calls blob.new)) }
+        ensures ends { OnOk result (EndsWithSync (B.calls blob.new)) }
+        ensures page_size { IfOk result (λ w. w.page_size ≡ cache.old.page_size + 12) }
+        ensures capacity { IfOk result (λ w. w.tip.capacity ≡ max capacity (cache.old.page_size + 12)) }
+        ensures name { IfOk result (λ w. w.blob_id ≡ cache.old.next_id + 1) }
+        ensures cache { OnOk result (cache.new ≡ record cache.old { next_id = cache.old.next_id + 2 }) }
+        // Refused too, the cache has its pages, and has given two names at most.
+        ensures given { (cache.new ≡ record cache.old { next_id = cache.new.next_id })
+            × (cache.old.next_id ≤ cache.new.next_id) }
+        ensures names { cache.new.next_id ≤ cache.old.next_id + 2 }
+        // Whatever a crash leaves at any moment of the call keeps all of the list.
+        ensures any_moment { let old = recovered C.checksum_of (cache.old.page_size + 12) (content (B.calls blob.old)) in
+            Through (Keeps C.checksum_of (cache.old.page_size + 12) old (length old)) (B.calls blob.old)
+            (B.calls blob.new) }
+        ensures cause { let old = recovered C.checksum_of (cache.old.page_size + 12) (content (B.calls blob.old)) in
+            IfErr result (λ e. IsCutCause (B.failures blob.old) (length (content (B.calls blob.old))) e
+            ⊎ ((e ≡ Error.NumberEnded) × ((2 ^ 64 ≤ cache.old.next_id + 2)
+            ⊎ (2 ^ 64 ≤ physical_size (cache.old.page_size + 12) (length old) + 4096)))) }
+        ensures failures { B.failures blob.new ≡ failures_after result (B.failures blob.old) }
+    {
+        let recovery = Recovery::<C>::open(alloc, blob, cache, blob_size, capacity)?;
+        let size = recovery.size();
+        let cut = recovery.truncate(blob, cache, size)?;
+        Ok(Writer::from(cut))
     }
 }
 

@@ -1,5 +1,5 @@
-use Rattle.std.proofs.Common.{rules, arith, ◌≡◌, ◌≤◌, ◌+◌, ◌++◌, ℕ, List, length, take, drop, ap, sym, ◌∙◌}
-use Rattle.std.proofs.lemmas.List.{take_at}
+use Rattle.std.proofs.Common.{rules, arith, ◌≡◌, ◌≤◌, ◌+◌, ◌++◌, ℕ, List, [], length, take, drop, ap, sym, ◌∙◌}
+use Rattle.std.proofs.lemmas.List.{append-nil, drop_all, take_all, take_at}
 use Rattle.paged_blob.specs.Calls.{resized, with_bytes}
 use Rattle.paged_blob.proofs.Bytes.{length-resized, with_bytes-long, with_bytes-resized}
 use Rattle.paged_blob.proofs.bench.put_bytes.Goals as goal
@@ -9,6 +9,21 @@ over : (offset : ℕ) (bytes file slice : List ℕ) → slice ≡ file → offse
     → take offset slice ++ (bytes ++ drop (offset + length bytes) slice) ≡ with_bytes offset bytes file
 over offset bytes file slice is long =
     ap (λ d. take offset d ++ (bytes ++ drop (offset + length bytes) d)) is ∙ sym (with_bytes-long offset bytes file long)
+
+-- bytes that are written where the file ends
+at_end : (offset : ℕ) (bytes file : List ℕ) → offset ≡ length file → file ++ bytes ≡ with_bytes offset bytes file
+at_end offset bytes file is =
+    let none : drop (offset + length bytes) file ≡ [] = drop_all (offset + length bytes) file (omega (arith, is)) in
+    sym (with_bytes-long offset bytes file (omega (arith, is)) ∙ ap (λ l. take offset file ++ (bytes ++ l)) none
+    ∙ ap (λ l. l ++ (bytes ++ [])) (take_all offset file (omega (arith, is))) ∙ ap (λ l. file ++ l) (append-nil bytes))
+
+pub returns-then-offset-len-clause-ok : goal.returns-then-offset-len-clause-ok
+returns-then-offset-len-clause-ok c =
+    let file = c.args.file.now.items in
+    let bytes = c.args.bytes.now in
+    let grown : c.extend_from_slice.new.self.items ≡ file ++ bytes = search rules in
+    let here : c.args.offset ≡ length file = search rules in
+    grown ∙ at_end c.args.offset bytes file here
 
 pub returns-then-len-end-clause-ok : goal.returns-then-len-end-clause-ok
 returns-then-len-end-clause-ok c =

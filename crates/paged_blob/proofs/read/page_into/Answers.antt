@@ -1,14 +1,15 @@
 use Rattle.std.proofs.Common.{rules, ◌≡◌, ◌≤◌, ◌<◌, ◌+◌, ◌*◌, ◌/◌, length, take, drop, ap, sym, refl, ◌∙◌, arith}
 use Rattle.std.proofs.lemmas.Grind.{common_steps}
 use Rattle.std.proofs.lemmas.List.{length-take-le}
+use Rattle.std.proofs.Math.Nat.{mul-div_left}
 use Rattle.paged_format.specs.Footers.{content_size}
 use Rattle.paged_format.specs.Pages.{recovered}
 use Rattle.paged_blob.specs.Calls.{content}
-use Rattle.paged_blob.specs.Caches.{Page}
+use Rattle.paged_blob.specs.Caches.{Cache, Page}
 use Rattle.paged_blob.specs.Chance.{page_at}
 use Rattle.paged_blob.specs.Reads.{flushed}
 use Rattle.paged_blob.proofs.CachedLaws.{others_given}
-use Rattle.paged_blob.proofs.ReadPages.{kept_long, kept_piece, page_of_front, piece_of, serves_given, stays_given}
+use Rattle.paged_blob.proofs.ReadPages.{kept_page, kept_long, page_of_front, piece_of, stays_given}
 use Rattle.paged_blob.proofs.read.page_into.Goals as goal
 
 pub copy_kept-requires : goal.copy_kept-requires
@@ -18,15 +19,12 @@ copy_kept-requires g c = record {
       let size = c.args.pages.physical_page_size in
       let room = content_size size in
       let calls = g.B.Blob.calls c.args.blob.now in
-      let page = c.args.page in
       let count = c.args.pages.len in
-      let shown = recovered sum size (content calls) in
       let all = flushed sum size calls count in
-      let kept = c.requires.kept in
-      let footer : 12 < size = search rules in
-      let long : length all ≡ count = length-take-le count shown c.requires.shown in
+      let long : length all ≡ count = length-take-le count (recovered sum size (content calls)) c.requires.shown in
       let whole : (p.number + 1) * room ≤ length all = omega (arith, ap (λ n. (n + 1) * room) numbered, c.requires.whole, long) in
-      omega (arith, kept_long size all p (record { within = whole; same = kept.each p there named whole }), c.requires.within);
+      let is = kept_page room all c.args.cache.now c.args.pages.blob_id p c.requires.sizes c.requires.kept there named whole in
+      omega (arith, kept_long room all p is whole, c.requires.within);
 }
 
 pub returns-then-copy_kept-clause-bytes : goal.returns-then-copy_kept-clause-bytes
@@ -37,14 +35,14 @@ returns-then-copy_kept-clause-bytes g c =
     let calls = g.B.Blob.calls c.args.blob.now in
     let page = c.args.page in
     let count = c.args.pages.len in
-    let shown = recovered sum size (content calls) in
+    let n = length c.args.out.now in
     let all = flushed sum size calls count in
-    let kept = c.requires.kept in
     let found = c.copy_kept.ensures c.if-copy_kept.true in
     let p : Page = record { blob_id = c.args.pages.blob_id; number = page; bytes = found.0 } in
-    let long : length all ≡ count = length-take-le count shown c.requires.shown in
+    let long : length all ≡ count = length-take-le count (recovered sum size (content calls)) c.requires.shown in
     let whole : (page + 1) * room ≤ length all = omega (arith, c.requires.whole, long) in
-    found.2 ∙ kept_piece size all p c.args.from (length c.args.out.now) (record { within = whole; same = kept.each p found.1 refl whole }) c.requires.within
+    let is = kept_page room all c.args.cache.now c.args.pages.blob_id p c.requires.sizes c.requires.kept found.1 refl whole in
+    found.2 ∙ ap (λ bytes. take n (drop c.args.from bytes)) is ∙ piece_of room page c.args.from n all c.requires.within
 
 pub returns-clause-kept : goal.returns-clause-kept
 returns-clause-kept g c =
@@ -56,35 +54,17 @@ returns-clause-kept g c =
     let count = c.args.pages.len in
     let shown = recovered sum size (content calls) in
     let all = flushed sum size calls count in
-    let kept = c.requires.kept in
+    let old = c.args.cache.now in
+    let new = c.cache.new.self in
     let footer : 12 < size = search rules in
     let some : 0 < room = omega (arith, footer) in
     let long : length all ≡ count = length-take-le count shown c.requires.shown in
     let read : c.in_ok-bytes.bytes.items ≡ page_at room page all = c.in_ok-bytes.ensures.bytes ∙ sym (page_of_front room page count shown c.requires.whole) in
-    let size_is : c.args.cache.now.page_size ≡ room = c.requires.sizes in
     let offset : page * c.from.result ≡ page * room = search rules in
-    serves_given size c.args.pages.blob_id room (page * c.from.result) c.args.cache.now.page_size page all c.deref.result.now c.args.cache.now.pages
-    c.cache.new.self.pages refl some size_is offset (omega (arith, long, c.requires.whole)) (c.deref.ensures.value ∙ read) kept c.cache.ensures.pages
-
-pub returns-clause-more : goal.returns-clause-more
-returns-clause-more g c =
-    let sum = g.C.Checksum.checksum_of in
-    let size = c.args.pages.physical_page_size in
-    let room = content_size size in
-    let calls = g.B.Blob.calls c.args.blob.now in
-    let page = c.args.page in
-    let count = c.args.pages.len in
-    let shown = recovered sum size (content calls) in
-    let all = flushed sum size calls count in
-    let kept = c.requires.kept in
-    let footer : 12 < size = search rules in
-    let some : 0 < room = omega (arith, footer) in
-    let long : length all ≡ count = length-take-le count shown c.requires.shown in
-    let read : c.in_ok-bytes.bytes.items ≡ page_at room page all = c.in_ok-bytes.ensures.bytes ∙ sym (page_of_front room page count shown c.requires.whole) in
-    let size_is : c.args.cache.now.page_size ≡ room = c.requires.sizes in
-    let offset : page * c.from.result ≡ page * room = search rules in
-    stays_given size c.args.pages.blob_id room (page * c.from.result) c.args.cache.now.page_size page all c.deref.result.now c.args.cache.now.pages
-    c.cache.new.self.pages refl some size_is offset (omega (arith, long, c.requires.whole)) (c.deref.ensures.value ∙ read) c.cache.ensures.pages
+    let first : page * c.from.result / old.page_size ≡ page =
+    ap (λ n. page * c.from.result / n) c.requires.sizes ∙ ap (λ n. n / room) offset ∙ mul-div_left page some in
+    stays_given size page all c.deref.result.now old new c.args.pages.blob_id (page * c.from.result / old.page_size) footer c.requires.sizes
+    (ap (λ (s : Cache). s.page_size) c.cache.ensures.same) first (omega (arith, long, c.requires.whole)) (c.deref.ensures.value ∙ read) c.cache.ensures.pages
 
 pub returns-clause-bytes : goal.returns-clause-bytes
 returns-clause-bytes g c =
@@ -96,10 +76,6 @@ returns-clause-bytes g c =
     let count = c.args.pages.len in
     let shown = recovered sum size (content calls) in
     let all = flushed sum size calls count in
-    let kept = c.requires.kept in
-    let footer : 12 < size = search rules in
-    let some : 0 < room = omega (arith, footer) in
-    let long : length all ≡ count = length-take-le count shown c.requires.shown in
     let read : c.in_ok-bytes.bytes.items ≡ page_at room page all = c.in_ok-bytes.ensures.bytes ∙ sym (page_of_front room page count shown c.requires.whole) in
     let piece : c.copy_from_slice.new.self ≡ take (length c.args.out.now) (drop c.args.from c.deref-2.result.now) = grind (arith, common_steps) in
     piece ∙ ap (λ bytes. take (length c.args.out.now) (drop c.args.from bytes)) (c.deref-2.ensures.value ∙ read)

@@ -1,4 +1,4 @@
-use Rattle.std.proofs.Common.{rules, ◌≡◌, ◌≤◌, ◌<◌, ◌+◌, ◌-◌, ◌*◌, ◌/◌, ◌%◌, List, length, take, drop, ap, subst, refl, ◌∙◌, arith}
+use Rattle.std.proofs.Common.{rules, ◌≡◌, ◌≤◌, ◌<◌, ◌+◌, ◌-◌, ◌*◌, ◌/◌, ◌%◌, List, length, take, drop, ap, sym, subst, refl, ◌∙◌, arith}
 use borrow.Rule.Slice.PartMut.{put_mid}
 use Rattle.std.proofs.lemmas.List.{length-take-le, length-drop}
 use Rattle.paged_format.specs.Footers.{content_size}
@@ -35,20 +35,25 @@ loop-done-preserved g c =
     let more = one_more all out c.page_into.new.out offset done count span at refl within (omega (arith, long, same_long, c.requires.within))
     (parts (offset + done) c.from-room.result size is footer) piece i.bytes in
     let Q : List Call → Type 0 = λ l.
-    ServesPages size c.args.pages.blob_id (flushed sum size l c.args.pages.len) c.page_into.new.cache.pages in
-    let R : List Call → Type 0 = λ l.
-    StaysKept size c.args.pages.blob_id (flushed sum size l c.args.pages.len) c.loop-done.cache.pages c.page_into.new.cache.pages in
-    let still : R calls = subst R i.calls c.in_ok-page_into.ensures.more in
+    StaysKept (flushed sum size l c.args.pages.len) c.loop-done.cache c.page_into.new.cache c.args.pages.blob_id in
+    let still : Q calls = subst Q i.calls c.in_ok-page_into.ensures.kept in
     let put : Cache → Cache = λ s. record s { pages = c.page_into.new.cache.pages } in
     record {
       within = longer (done + count) (put_mid done span out c.page_into.new.out) (take (done + count) (drop offset all)) more
           (length-take-le (done + count) (drop offset all)
           (omega (arith, long, same_long, c.requires.within, within, length-drop offset all)));
       bytes = more;
-      kept = subst Q i.calls c.in_ok-page_into.ensures.kept;
-      more = λ after holds. still after (i.more after holds);
+      kept = λ more holds. still more (i.kept more holds);
       others = others_joined c.args.cache.now c.loop-done.cache c.page_into.new.cache c.args.pages.blob_id i.others c.in_ok-page_into.ensures.others;
       same = c.in_ok-page_into.ensures.same ∙ ap put i.same;
       calls = c.in_ok-page_into.ensures.calls ∙ i.calls;
       failures = c.in_ok-page_into.ensures.failures ∙ i.failures;
     }
+
+pub page_into-requires-clause-kept : goal.page_into-requires-clause-kept
+page_into-requires-clause-kept g c =
+    let i = c.loop-done.invariant in
+    let (more, holds) = c.requires.kept in
+    let P : List Call → Type 0 = λ l.
+    ServesPages (flushed g.C.Checksum.checksum_of c.args.pages.physical_page_size l c.args.pages.len) c.loop-done.cache c.args.pages.blob_id in
+    subst P (sym i.calls) (more, i.kept more holds)

@@ -1,6 +1,6 @@
 use Rattle.std.proofs.Common.{◌≡◌, ◌≤◌, ◌-◌, length, take, drop}
 use Rattle.paged_blob.specs.CachedContent.{KeepsOthers}
-use Rattle.paged_blob.specs.Reads.{flushed, ServesPages, StaysKept}
+use Rattle.paged_blob.specs.Reads.{flushed, StaysKept}
 use Rattle.paged_blob.proofs.read.read_flushed.Given as goal
 
 abbrev pub invariant-loop-done : goal.invariant-loop-done
@@ -8,10 +8,8 @@ invariant-loop-done g l = record {
   within : l.done ≤ length l.out;
   bytes : take l.done l.out ≡ take l.done (drop l.offset
       (flushed g.C.Checksum.checksum_of l.pages.physical_page_size (g.B.Blob.calls l.fn.blob) l.pages.len));
-  kept : ServesPages l.pages.physical_page_size l.pages.blob_id
-      (flushed g.C.Checksum.checksum_of l.pages.physical_page_size (g.B.Blob.calls l.fn.blob) l.pages.len) l.cache.pages;
-  more : StaysKept l.pages.physical_page_size l.pages.blob_id
-      (flushed g.C.Checksum.checksum_of l.pages.physical_page_size (g.B.Blob.calls l.fn.blob) l.pages.len) l.initial.cache.pages l.cache.pages;
+  kept : StaysKept (flushed g.C.Checksum.checksum_of l.pages.physical_page_size (g.B.Blob.calls l.fn.blob) l.pages.len)
+      l.initial.cache l.cache l.pages.blob_id;
   others : KeepsOthers l.initial.cache l.cache l.pages.blob_id;
   same : l.cache ≡ record l.initial.cache { pages = l.cache.pages };
   calls : g.B.Blob.calls l.blob ≡ g.B.Blob.calls l.fn.blob;

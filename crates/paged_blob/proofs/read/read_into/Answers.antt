@@ -13,6 +13,12 @@ read_flushed-requires-clause-within g c =
     let fits : k ≤ length out = search rules in
     omega (arith, length-take-le k out fits, c.min-on_blob.ensures, c.saturating_sub.ensures, c.min-start.ensures)
 
+pub read_flushed-requires-clause-kept : goal.read_flushed-requires-clause-kept
+read_flushed-requires-clause-kept g c = (c.args.tip.now, c.requires.kept)
+
+pub returns-clause-kept : goal.returns-clause-kept
+returns-clause-kept g c = c.in_ok-read_flushed.ensures.kept c.args.tip.now c.requires.kept
+
 pub returns-clause-bytes : goal.returns-clause-bytes
 returns-clause-bytes g c =
     let sum = g.C.Checksum.checksum_of in

@@ -7,7 +7,7 @@ use Rattle.paged_blob.specs.Moments.{Through}
 use Rattle.paged_blob.specs.Writers.{Keeps}
 use Rattle.paged_blob.specs.Shrinks.{IsCut}
 use Rattle.paged_blob.specs.declared.error.CallKind.TheVariants.{Resize}
-use Rattle.paged_blob.proofs.Settled.{pages_there, resized_moments, sync_moments, resized_done, still_sound, call_cause, synced_cut_if, behind_exact}
+use Rattle.paged_blob.proofs.Settled.{pages_there, resized_moments, sync_moments, resized_done, still_sound, call_cause, synced_cut_if, ends_by, behind_exact}
 use Rattle.paged_blob.proofs.Done.{Done, Exact}
 use Rattle.paged_blob.proofs.shrink.cut_behind.Goals as goal
 
@@ -57,7 +57,8 @@ returns-in_err-resize-clause-cause g c =
     let there = pages_there sum size footer calls c.requires.settled c.args.pages 0 short within in
     let p = err_from_is_err_and c.from_residual.result c.from_residual.ensures.1 in
     let reach : c.args.pages * c.from.result ≤ length (file_of calls).base = omega (arith, there, ap (λ s. c.args.pages * s) is) in
-    rw (p.1, p.2) (call_cause (g.B.Blob.failures c.args.blob.now) Resize (c.args.pages * c.from.result) (length (file_of calls).base) c.in_err-resize.field-0.0 reach c.in_err-resize.ensures.cause)
+    rw (p.1, p.2) (call_cause (g.B.Blob.failures c.args.blob.now) Resize (c.args.pages * c.from.result) (length (file_of calls).base)
+    c.in_err-resize.field-0.0 reach c.in_err-resize.ensures.cause)
 
 pub returns-clause-any_moment : goal.returns-clause-any_moment
 returns-clause-any_moment g c =
@@ -112,3 +113,6 @@ returns-clause-cut g c =
     subst P count
     (synced_cut_if sum size footer calls c.requires.settled pages 0 short within c.sync.result mid (g.B.Blob.calls c.sync.new.self) pages done sound exact
     c.sync.ensures.calls)
+
+pub returns-clause-ends : goal.returns-clause-ends
+returns-clause-ends g c = ends_by c.sync.result (g.B.Blob.calls c.resize.new.self) (g.B.Blob.calls c.sync.new.self) c.sync.ensures.calls
