@@ -2,11 +2,13 @@
 --
 -- Peaks ascend, so that those before the range come first, those that meet it next, and those after it last. What a reader has still to
 -- read of the outer digests is told by the peaks that are left, in each part of the walk: `group_outer`, `onto_outer`, `back_outer`.
-use Rattle.std.proofs.Common.{◌≡◌, ◌⊎◌, inl, inr, ⊎_elim, ℕ, zero, suc, ◌+◌, ◌-◌, ◌<◌, ◌≤◌, Bool, true, false, not, ◌||◌, cond, List, [], ◌∷◌, ◌++◌, length, map, filter, take, drop, Option, None, Some, option_map, refl, sym, ◌∙◌, ap, subst, arith, append_assoc}
-use Rattle.std.specs.List.{flat_map, list_all}
+use Rattle.std.proofs.Common.{◌≡◌, ⊎_elim, ℕ, zero, suc, ◌+◌, ◌<◌, ◌≤◌, Bool, true, false, ◌||◌, cond, List, [], ◌∷◌}
+use Rattle.std.proofs.Common.{◌++◌, filter, take, drop, Some, option_map, refl, sym, ◌∙◌, ap, arith, append_assoc}
+use Rattle.std.specs.List.{list_all}
 use Rattle.std.specs.Prelude.{option_and_then}
 use Rattle.std.proofs.lemmas.List.{take-map}
-use Rattle.std.proofs.lemmas.Bool.{both_ways, cases_Bool, cases_lt, le-leb, lt-leb, leb-true, leb-false, or_parts, or_left, or_right, or_from, not-true, not_from_true, not_from_false, and_from}
+use Rattle.std.proofs.lemmas.Bool.{both_ways, cases_Bool, le-leb, lt-leb, leb-true, leb-false, or_parts, or_left}
+use Rattle.std.proofs.lemmas.Bool.{or_right, or_from, not-true, not_from_true, not_from_false, and_from}
 use Rattle.merkle_forest.specs.Forest.{Tree, leaf, branch, height, leaf_count}
 use Rattle.merkle_forest.specs.Hashing.{Hash, fold_string, folded_onto, folded_forward, folded_backward, items}
 use Rattle.merkle_forest.specs.Laws.Peaks.{leaf_count-pos}
@@ -188,7 +190,9 @@ module _ (hash : Hash) (names : Naming) (over : Over) (elements : Elements) (dig
       ap (λ ds. ds ++ more) (inner_in peak peaks met) ∙ append_assoc (siblings digest start stop peak.0 peak.1) (inner peaks) more in
       record {
         made = it.made;
-        is = ap (λ ds. peak_of peak (own_outer peak outer, ds)) digests ∙ met_is peak outer (siblings digest start stop peak.0 peak.1 ++ (inner peaks ++ more)) (inner peaks ++ more) it.made met it.is;
+        is = ap (λ ds. peak_of peak (own_outer peak outer, ds)) digests
+            ∙ met_is peak outer (siblings digest start stop peak.0 peak.1 ++ (inner peaks ++ more))
+            (inner peaks ++ more) it.made met it.is;
         same = it.same;
       }
 
@@ -236,7 +240,8 @@ module _ (hash : Hash) (names : Naming) (over : Over) (elements : Elements) (dig
     pub is : back_of n peak peaks (back_outer (peak ∷ peaks) ++ outer, inner (peak ∷ peaks) ++ more) ≡ Some (made, (outer, more))
     pub same : value hash made ≡ folded_backward hash (D (peak ∷ peaks))
 
-  given_is : (n : ℕ) (peak next : Located) (peaks : List Located) (d : List ℕ) (outer more : List (List ℕ)) → list_all (is_after stop) (peak ∷ next ∷ peaks) ≡ true
+  given_is : (n : ℕ) (peak next : Located) (peaks : List Located) (d : List ℕ) (outer more : List (List ℕ))
+      → list_all (is_after stop) (peak ∷ next ∷ peaks) ≡ true
       → back_of n peak (next ∷ peaks) (d ∷ outer, more) ≡ Some (bytes d, (outer, more))
   given_is n peak next peaks d outer more all = rw all refl
 
@@ -361,7 +366,11 @@ module _ (hash : Hash) (names : Naming) (over : Over) (elements : Elements) (dig
 
   single_first : (peak : Located) (peaks : List Located) → Stands peak → is_before start peak ≡ false → NoneBefore peaks → NoneBefore (peak ∷ peaks)
   single_first peak peaks (before front back apart) not_front rest = absurd (both_ways _ not_front front)
-  single_first peak peaks (after front back apart) not_front rest = record { none = rw front rest.none; single = rw (front, back) (ap (λ ds. digest peak.0 peak.1 ∷ ds) rest.single) }
+  single_first peak peaks (after front back apart) not_front rest = record {
+    none = rw front rest.none;
+    single = rw
+        (front, back) (ap (λ ds. digest peak.0 peak.1 ∷ ds) rest.single);
+  }
   single_first peak peaks (within front back met) not_front rest = record { none = rw front rest.none; single = rw (front, back) rest.single }
 
   none_before : (at : ℕ) (peaks : List Located) → start ≤ at → Ascend at peaks → NoneBefore peaks
@@ -375,10 +384,12 @@ module _ (hash : Hash) (names : Naming) (over : Over) (elements : Elements) (dig
   ascend_take (suc k) at [] up = tt
   ascend_take (suc k) at (peak ∷ peaks) up = (up.0, ascend_take k (end_of peak) peaks up.1)
 
-  none_from : (k at : ℕ) (peak : Located) (peaks : List Located) → Ascend at (peak ∷ peaks) → is_before start peak ≡ false → NoneBefore (take (suc k) (peak ∷ peaks))
+  none_from : (k at : ℕ) (peak : Located) (peaks : List Located) → Ascend at (peak ∷ peaks)
+      → is_before start peak ≡ false → NoneBefore (take (suc k) (peak ∷ peaks))
   none_from k at peak peaks up not_front =
       single_first peak (take k peaks) (stands peak) not_front
-      (none_before (end_of peak) (take k peaks) (let far : start < end_of peak = leb-false (end_of peak) start not_front in omega (arith, far)) (ascend_take k (end_of peak) peaks up.1))
+      (none_before (end_of peak) (take k peaks) (let far : start < end_of peak = leb-false
+      (end_of peak) start not_front in omega (arith, far)) (ascend_take k (end_of peak) peaks up.1))
 
   -- the outer digests after those of the peaks before the range that are folded from the left
   abbrev group_outer : ℕ → List Located → List (List ℕ)
@@ -427,7 +438,8 @@ module _ (hash : Hash) (names : Naming) (over : Over) (elements : Elements) (dig
       (λ front.
       let next = hash (fold_string f (digest peak.0 peak.1)) in
       let apart : meets start stop peak ≡ false = not_from_true _ (or_left (is_before start peak) (is_after stop peak) front) in
-      let rest = group_read singly (suc n) (end_of peak) first next peaks outer more (same ∙ ap (folded_onto hash f) (front_first singly peak peaks front)) up.1 in
+      let rest = group_read singly (suc n) (end_of peak) first next peaks outer more (same
+      ∙ ap (folded_onto hash f) (front_first singly peak peaks front)) up.1 in
       record {
         made = rest.made;
         is = ap (λ ds. group_of (suc singly) n first (peak ∷ peaks) (ds ++ outer, inner (peak ∷ peaks) ++ more))
@@ -482,7 +494,8 @@ module _ (hash : Hash) (names : Naming) (over : Over) (elements : Elements) (dig
       let d = digest peak.0 peak.1 in
       ap (λ ds. folded_backward hash (folded_onto hash d ds ∷ D (drop singly peaks))) (sym (take-map (λ (p : Located). digest p.0 p.1) singly peaks))
       ∙ ap (λ ds. folded_backward hash (folded_onto hash d (take singly (D peaks)) ∷ ds)) (drop-map (λ (p : Located). digest p.0 p.1) singly peaks)
-      ∙ sym (ap (λ b. folded_backward hash (cond b (D (peak ∷ peaks)) (folded_forward hash (take (suc singly) (D (peak ∷ peaks))) ∷ drop (suc singly) (D (peak ∷ peaks)))))
+      ∙ sym (ap (λ b. folded_backward hash (cond b (D (peak ∷ peaks)) (folded_forward hash (take (suc singly) (D
+      (peak ∷ peaks))) ∷ drop (suc singly) (D (peak ∷ peaks)))))
       (not_zero singly))
 
   pub bag_read : (singly : ℕ) (peak : Located) (peaks : List Located) → Ascend 0 (peak ∷ peaks) → BagRead singly (peak ∷ peaks)

@@ -1,25 +1,27 @@
 -- An honest proof of a range leads to the root of the tree.
-use Rattle.std.proofs.Common.{◌≡◌, ◌⊎◌, inl, inr, ⊎_elim, ℕ, zero, suc, ◌+◌, ◌-◌, ◌<◌, ◌≤◌, ◌^◌, min, Bool, true, false, cond, List, [], ◌∷◌, ◌++◌, length, map, filter, take, drop, Option, Some, option_map, refl, sym, ◌∙◌, ap, subst, arith, append_assoc}
+use Rattle.std.proofs.Common.{◌≡◌, ◌⊎◌, inl, inr, ⊎_elim, ℕ, zero, suc, ◌+◌, ◌-◌, ◌<◌, ◌≤◌, ◌^◌, min, Bool, true, false}
+use Rattle.std.proofs.Common.{cond, List, [], ◌∷◌, ◌++◌, length, map, filter, take, drop, Some, option_map, refl, sym}
+use Rattle.std.proofs.Common.{◌∙◌, ap, subst, arith, append_assoc}
 use Rattle.std.specs.List.{flat_map}
 use Rattle.std.specs.Prelude.{slice_index_or}
 use Rattle.std.proofs.lemmas.Bool.{cases_Bool, leb-true, lt-leb}
 use Rattle.std.proofs.lemmas.List.{length-append, length-map, take-append-drop}
 use Rattle.merkle_forest.specs.declared.bagging.Bagging.{Bagging}
 use Rattle.merkle_forest.specs.declared.bagging.Bagging.TheVariants.{ForwardFold, BackwardFold}
-use Rattle.merkle_forest.specs.Forest.{Tree, leaf_count, leaves, Rule, forest_of}
+use Rattle.merkle_forest.specs.Forest.{Tree, leaves, Rule, forest_of}
 use Rattle.merkle_forest.specs.Hashing.{Hash, folded_forward, folded_backward, items, bagged, leaf_string, node_string, root_string, root_of}
 use Rattle.merkle_forest.specs.Laws.Trees.{located_within}
 use Rattle.merkle_forest.specs.Laws.Peaks.{leaf_count-pos}
 use Rattle.merkle_forest.specs.Made.{value}
 use Rattle.merkle_forest.specs.Trees.{Located, end_of, located, peak_digests, plain_digest, Within}
-use Rattle.merkle_core.specs.MadeTrees.{Over, Elements, from, plain_over}
-use Rattle.merkle_core.specs.MadeRoots.{Naming, Streams, from_left, peaks_of, read_bag, read_root}
-use Rattle.merkle_core.specs.RangeCounts.{passing, digests_for_before, digests_for_after, range_outer}
+use Rattle.merkle_core.specs.MadeTrees.{Over, from, plain_over}
+use Rattle.merkle_core.specs.MadeRoots.{Naming, from_left, peaks_of, read_bag}
+use Rattle.merkle_core.specs.RangeCounts.{passing, range_outer}
 use Rattle.merkle_core.specs.Ranges.{Digests, is_before, is_after, meets, as_one, singly, siblings, inner_digests, before_digests, after_digests, range_digests}
 use Rattle.merkle_core.specs.Reads.{Agrees, valued, range_root}
 use Rattle.merkle_core.specs.Laws.Values.{forward-items}
 use Rattle.merkle_core.specs.Laws.MadeRoots.{not_zero}
-use Rattle.merkle_core.proofs.HonestRanges.{Ascend, BagRead, bag_read, all_outer}
+use Rattle.merkle_core.proofs.HonestRanges.{Ascend, BagRead, bag_read}
 use Rattle.merkle_core.proofs.RangePeaks.{all_taken}
 use Rattle.merkle_core.proofs.RangeRoots.{root_there, range_there}
 
@@ -143,14 +145,16 @@ module _ (hash : Hash) (digest : Digests) (start stop : ℕ) (some : start < sto
       let nothing : drop n peaks ≡ [] = all_dropped peaks in
       ap (λ ds. as_one (folded_forward hash) ds ++ (D (A (take inactive peaks)) ++ D (A (drop inactive peaks)))) (parted (is_before start) inactive peaks)
       ∙ ap (λ ds. as_one (folded_forward hash) (D (B peaks)) ++ ds) (parted (is_after stop) inactive peaks ∙ sym (none_left (D (A peaks))))
-      ∙ sym (ap (λ ps. as_one (folded_forward hash) (D (B ps)) ++ (D (A ps) ++ (D (B (drop n peaks)) ++ as_one (folded_backward hash) (D (A (drop n peaks)))))) whole
+      ∙ sym (ap (λ ps. as_one (folded_forward hash) (D (B ps)) ++ (D (A ps) ++ (D (B (drop n peaks)) ++ as_one
+      (folded_backward hash) (D (A (drop n peaks)))))) whole
       ∙ ap (λ ps. as_one (folded_forward hash) (D (B peaks)) ++ (D (A peaks) ++ (D (B ps) ++ as_one (folded_backward hash) (D (A ps))))) nothing)
 
   passing_D : (test : Located → Bool) (peaks : List Located) → length (D (filter test peaks)) ≡ passing test peaks
   passing_D test peaks = length-map (filter test peaks) (λ (p : Located). digest p.0 p.1)
 
   -- how many outer digests there are
-  outer_length : (bagging : Bagging) (inactive : ℕ) (peaks : List Located) → length (spelled bagging inactive peaks) ≡ range_outer bagging start stop inactive peaks
+  outer_length : (bagging : Bagging) (inactive : ℕ) (peaks : List Located)
+      → length (spelled bagging inactive peaks) ≡ range_outer bagging start stop inactive peaks
   outer_length ForwardFold inactive peaks =
       let front = D (B (take inactive peaks)) in
       let before = D (B (drop inactive peaks)) in
@@ -191,7 +195,8 @@ module _ (hash : Hash) (digest : Digests) (start stop : ℕ) (some : start < sto
 
   inner_parts : (inactive : ℕ) (peaks : List Located) → inner (take inactive peaks) ++ inner (drop inactive peaks) ≡ inner peaks
   inner_parts inactive peaks =
-      flat_parts (λ (p : Located). siblings digest start stop p.0 p.1) (filter (meets start stop) (take inactive peaks)) (filter (meets start stop) (drop inactive peaks))
+      flat_parts (λ (p : Located). siblings digest start stop p.0 p.1) (filter (meets start stop)
+      (take inactive peaks)) (filter (meets start stop) (drop inactive peaks))
       ∙ ap (flat_map (λ (p : Located). siblings digest start stop p.0 p.1)) (filter_parts (meets start stop) (take inactive peaks) (drop inactive peaks))
       ∙ ap inner (take-append-drop inactive peaks)
 
@@ -229,7 +234,8 @@ first_part : {A : Type 0} (xs : List A) → 0 < length xs → (x : A) × (rest :
 first_part [] some = absurd (omega (arith, some))
 first_part (x ∷ xs) some = (x, xs, refl)
 
-module _ (hash : Hash) (names : Naming) (over : Over) (bagging : Bagging) (digest : Digests) (rule : Rule) (leaves inactive start : ℕ) (elements : List (List ℕ))
+module _ (hash : Hash) (names : Naming) (over : Over) (bagging : Bagging) (digest : Digests) (rule : Rule)
+    (leaves inactive start : ℕ) (elements : List (List ℕ))
     (many : 0 < length elements) (agrees : Agrees hash over (from start elements) digest start (start + length elements)) where
   abbrev stop : ℕ
   stop = start + length elements
@@ -240,7 +246,8 @@ module _ (hash : Hash) (names : Naming) (over : Over) (bagging : Bagging) (diges
   abbrev digests : List (List ℕ)
   digests = range_digests hash digest bagging start stop (take inactive peaks) (drop inactive peaks)
 
-  streams_are : Ascend 0 peaks → take (range_outer bagging start stop inactive peaks) digests ≡ outer_read hash digest start stop (omega (arith, many)) bagging inactive peaks
+  streams_are : Ascend 0 peaks → take (range_outer bagging start stop inactive peaks) digests
+      ≡ outer_read hash digest start stop (omega (arith, many)) bagging inactive peaks
   streams_are up =
       let within : start < stop = omega (arith, many) in
       let parts = proof_parts hash digest start stop within bagging inactive peaks in
@@ -272,13 +279,15 @@ module _ (hash : Hash) (names : Naming) (over : Over) (bagging : Bagging) (diges
       subst (λ ps. BagRead hash names over (from start elements) digest start stop (length peaks) within agrees k ps) (sym split)
       (bag_read hash names over (from start elements) digest start stop (length peaks) within agrees k first rest
       (subst (Ascend 0) split up)) in
-      let streams : read_bag names over (from start elements) start stop (length peaks) k peaks (take outer digests, drop outer digests) ≡ Some (read.made, ([], [])) =
+      let streams : read_bag names over (from start elements) start stop (length peaks) k peaks
+      (take outer digests, drop outer digests) ≡ Some (read.made, ([], [])) =
       ap (λ ds. read_bag names over (from start elements) start stop (length peaks) k peaks (ds, drop outer digests)) (streams_are up)
       ∙ ap (λ ds. read_bag names over (from start elements) start stop (length peaks) k peaks
       (outer_read hash digest start stop within bagging inactive peaks, ds)) inner_are
       ∙ read.is in
       let bag = folded_backward hash (items hash k (singly digest peaks)) in
-      let all : valued hash (read_bag names over (from start elements) start stop (length peaks) k peaks (take outer digests, drop outer digests)) ≡ Some (bag, ([], [])) =
+      let all : valued hash (read_bag names over (from start elements) start stop (length peaks) k peaks
+      (take outer digests, drop outer digests)) ≡ Some (bag, ([], [])) =
       ap (valued hash) streams ∙ ap (λ d. Some (d, ([], []))) read.same in
       let Same : List Located → Type 0 = λ ps. folded_backward hash (items hash (from_left bagging inactive (length ps)) (singly digest ps))
       ≡ bagged hash bagging (items hash inactive (singly digest ps)) in

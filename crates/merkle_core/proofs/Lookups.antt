@@ -1,5 +1,6 @@
 -- Digests that are looked up at the nodes of a range are those of the list.
-use Rattle.std.proofs.Common.{◌≡◌, ℕ, zero, suc, ◌+◌, ◌<◌, ◌≤◌, Bool, true, false, cond, inl, inr, filter, take, length, List, [], ◌∷◌, ◌++◌, Option, Some, None, refl, sym, ◌∙◌, ap, ap₂, subst, arith}
+use Rattle.std.proofs.Common.{◌≡◌, ℕ, zero, suc, ◌+◌, ◌<◌, ◌≤◌, Bool, true, false, cond, inl, inr, filter, take, length}
+use Rattle.std.proofs.Common.{List, [], ◌∷◌, ◌++◌, Option, Some, None, refl, sym, ◌∙◌, ap, ap₂, subst, arith}
 use Rattle.std.proofs.lemmas.List.{length-take-le}
 use Rattle.std.specs.List.{flat_map, AllByRecursion}
 use Rattle.std.specs.Prelude.{unwrap_or, is_none, slice_index_or, Result, Ok, Err, IfOk, OnOk, IfSome}
@@ -17,23 +18,24 @@ use Rattle.merkle_core_parts.specs.Laws.Held.{right-there}
 use Rattle.merkle_core_parts.specs.Laws.Places.{node-left, node-right}
 use Rattle.merkle_core.specs.Assembled.{assembled}
 use Rattle.merkle_core.specs.MadeRoots.{peaks_of}
-use Rattle.merkle_core.specs.Plans.{Asked, Lookup, looked_up, first_missing, IsLookupOf, sibling_nodes, inner_nodes, range_nodes, positions_of, range_positions, honest_digests}
+use Rattle.merkle_core.specs.Plans.{Asked, Lookup, looked_up, first_missing, IsLookupOf, sibling_nodes, inner_nodes}
+use Rattle.merkle_core.specs.Plans.{range_nodes, positions_of, range_positions, honest_digests}
 use Rattle.merkle_core.specs.Ranges.{Digests, is_before, is_after, meets, singly}
 use Rattle.merkle_core.proofs.PlanFolds.{assembled_is}
 
-all_if : (P : Located → Type 0) (b : Bool) (xs ys : List Located) → AllByRecursion P xs → AllByRecursion P ys → AllByRecursion P (cond b xs ys)
+pub all_if : (P : Located → Type 0) (b : Bool) (xs ys : List Located) → AllByRecursion P xs → AllByRecursion P ys → AllByRecursion P (cond b xs ys)
 all_if P true xs ys one two = one
 all_if P false xs ys one two = two
 
-all_append : (P : Located → Type 0) (xs ys : List Located) → AllByRecursion P xs → AllByRecursion P ys → AllByRecursion P (xs ++ ys)
+pub all_append : (P : Located → Type 0) (xs ys : List Located) → AllByRecursion P xs → AllByRecursion P ys → AllByRecursion P (xs ++ ys)
 all_append P [] ys one two = two
 all_append P (x ∷ xs) ys one two = (one.0, all_append P xs ys one.1 two)
 
-all_front : (P : Located → Type 0) (xs ys : List Located) → AllByRecursion P (xs ++ ys) → AllByRecursion P xs
+pub all_front : (P : Located → Type 0) (xs ys : List Located) → AllByRecursion P (xs ++ ys) → AllByRecursion P xs
 all_front P [] ys all = tt
 all_front P (x ∷ xs) ys all = (all.0, all_front P xs ys all.1)
 
-all_back : (P : Located → Type 0) (xs ys : List Located) → AllByRecursion P (xs ++ ys) → AllByRecursion P ys
+pub all_back : (P : Located → Type 0) (xs ys : List Located) → AllByRecursion P (xs ++ ys) → AllByRecursion P ys
 all_back P [] ys all = all
 all_back P (x ∷ xs) ys all = all_back P xs ys all.1
 
@@ -42,12 +44,12 @@ all_filter P test [] all = tt
 all_filter P test (x ∷ xs) all =
     all_if P (test x) (x ∷ filter test xs) (filter test xs) (all.0, all_filter P test xs all.1) (all_filter P test xs all.1)
 
-all_flat : (P : Located → Type 0) (f : Located → List Located) → ((x : Located) → P x → AllByRecursion P (f x)) → (xs : List Located)
+pub all_flat : (P : Located → Type 0) (f : Located → List Located) → ((x : Located) → P x → AllByRecursion P (f x)) → (xs : List Located)
     → AllByRecursion P xs → AllByRecursion P (flat_map f xs)
 all_flat P f each [] all = tt
 all_flat P f each (x ∷ xs) all = all_append P (f x) (flat_map f xs) (each x all.0) (all_flat P f each xs all.1)
 
-located_all : (P : Located → Type 0) (peaks : List Tree) → ((first : ℕ) (node : Tree) → IsPeakAt first node peaks → P (first, node))
+pub located_all : (P : Located → Type 0) (peaks : List Tree) → ((first : ℕ) (node : Tree) → IsPeakAt first node peaks → P (first, node))
     → AllByRecursion P (located peaks)
 located_all P [] each = tt
 located_all P (t ∷ ts) each =
@@ -73,7 +75,8 @@ module _ (forest : List Tree) (start stop : ℕ) where
   pub range_all : AllByRecursion (IsNode forest) (range_nodes start stop (located forest))
   range_all =
       let peaks = located_all (IsNode forest) forest (λ first node stands. peak-node first node forest stands) in
-      all_append (IsNode forest) (filter (is_before start) (located forest)) (filter (is_after stop) (located forest) ++ inner_nodes start stop (located forest))
+      all_append (IsNode forest) (filter (is_before start) (located forest)) (filter (is_after stop)
+      (located forest) ++ inner_nodes start stop (located forest))
       (all_filter (IsNode forest) (is_before start) (located forest) peaks)
       (all_append (IsNode forest) (filter (is_after stop) (located forest)) (inner_nodes start stop (located forest))
       (all_filter (IsNode forest) (is_after stop) (located forest) peaks)

@@ -32,7 +32,7 @@ refused_many rule leaves locations inactive known positions there (MissingNode p
 some_is : {A : Type 0} (x y : A) → Some x ≡ Some y → x ≡ y
 some_is x y is = cc
 
-known_at : (known : Lookup) (digests : List (List ℕ)) (positions : List ℕ) (i p : ℕ) → map (λ d. Some d) digests ≡ map known positions
+pub known_at : (known : Lookup) (digests : List (List ℕ)) (positions : List ℕ) (i p : ℕ) → map (λ d. Some d) digests ≡ map known positions
     → slice_get positions i ≡ Some p → slice_get digests i ≡ known p
 known_at known digests [] i p is there = absurd cc
 known_at known [] (q ∷ positions) i p is there = absurd cc
@@ -44,7 +44,7 @@ known_at known (d ∷ digests) (q ∷ positions) (suc i) p is there =
     let tails : map (λ x. Some x) digests ≡ map known positions = cc in
     known_at known digests positions i p tails there
 
-some_there : (digests : List (List ℕ)) (known : Lookup) (positions : List ℕ) (i p : ℕ) → map (λ d. Some d) digests ≡ map known positions
+pub some_there : (digests : List (List ℕ)) (known : Lookup) (positions : List ℕ) (i p : ℕ) → map (λ d. Some d) digests ≡ map known positions
     → slice_get positions i ≡ Some p → (d : List ℕ) × (slice_get digests i ≡ Some d)
 some_there digests known [] i p is there = absurd cc
 some_there [] known (q ∷ positions) i p is there = absurd cc

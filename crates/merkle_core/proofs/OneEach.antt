@@ -1,5 +1,6 @@
 -- One string a site, in a plain tree that is hashed or rebuilt.
-use Rattle.std.proofs.Common.{◌≡◌, ◌⊎◌, inl, inr, ⊎_elim, ℕ, zero, suc, ◌+◌, List, [], ◌∷◌, ◌++◌, Contains, None, Some, option_map, option_and_then, IfSome, refl, sym, ◌∙◌, ap, subst, arith}
+use Rattle.std.proofs.Common.{◌≡◌, ◌⊎◌, inl, inr, ⊎_elim, ℕ, zero, suc, ◌+◌, List, [], ◌∷◌, ◌++◌, Contains, None, Some}
+use Rattle.std.proofs.Common.{option_map, option_and_then, IfSome, refl, sym, ◌∙◌, ap, subst, arith}
 use Rattle.std.proofs.lemmas.List.Elements.{Contains-append_cases}
 use Rattle.merkle_forest.specs.Forest.{Tree, leaf, branch, position, height, leaf_count}
 use Rattle.merkle_forest.specs.Hashing.{Hash, number}

@@ -1,5 +1,7 @@
 -- One string a site, in the root of a plain tree that is hashed or rebuilt.
-use Rattle.std.proofs.Common.{◌≡◌, ◌⊎◌, inl, inr, ⊎_elim, ℕ, zero, suc, ◌+◌, ◌^◌, ◌≤◌, ◌||◌, ltb, List, [], ◌∷◌, ◌++◌, length, take, drop, Contains, None, Some, option_map, option_and_then, IfSome, refl, sym, ◌∙◌, ap, subst, arith}
+use Rattle.std.proofs.Common.{◌≡◌, ◌⊎◌, inl, inr, ⊎_elim, ℕ, zero, suc, ◌+◌, ◌^◌, ◌≤◌, ◌||◌, ltb, List, [], ◌∷◌, ◌++◌}
+use Rattle.std.proofs.Common.{length, take, drop, Contains, None, Some, option_map, option_and_then, IfSome, refl, sym}
+use Rattle.std.proofs.Common.{◌∙◌, ap, subst, arith}
 use Rattle.std.specs.List.{list_all}
 use Rattle.std.proofs.lemmas.List.Elements.{Contains-append_cases}
 use Rattle.merkle_forest.specs.declared.bagging.Bagging.{Bagging}
@@ -14,7 +16,9 @@ use Rattle.merkle_forest.specs.Perfect.{IsPairing}
 use Rattle.merkle_forest.specs.Trees.{Located, located}
 use Rattle.merkle_core.specs.Laws.MadeBags.{bind_good, map_good}
 use Rattle.merkle_core.specs.Laws.MadeTrees.{choose}
-use Rattle.merkle_core.specs.MadeRoots.{folded, made_peak, made_back, made_onto, made_bag, from_left, peaks_of, root_made, Streams, Bagged, given_outer, read_peak, read_back, read_onto, read_group, read_bag, used}
+use Rattle.merkle_core.specs.MadeRoots.{folded, made_peak, made_back, made_onto, made_bag, from_left, peaks_of}
+use Rattle.merkle_core.specs.MadeRoots.{root_made, Streams, Bagged, given_outer, read_peak, read_back, read_onto}
+use Rattle.merkle_core.specs.MadeRoots.{read_group, read_bag, used}
 use Rattle.merkle_core.specs.MadeTrees.{Elements, from, whole, plain_over, read_tree}
 use Rattle.merkle_core.specs.OneEach.{OneEach}
 use Rattle.merkle_core.specs.Ranges.{meets, is_before, is_after}
@@ -23,7 +27,7 @@ use Rattle.merkle_core.proofs.OneEach.{Partial, Numbered, IsSiteIn, nothing, onl
 use Rattle.merkle_core.proofs.OneEachBag.{IsSiteOf, Apart, is_plain, parts_of, Back, back_site, back_one, Onto, IsLeftSite, onto_one}
 
 -- the sites of nodes and of folds
-abbrev IsInner : Site → Type 0
+abbrev pub IsInner : Site → Type 0
 IsInner s = ((p : ℕ) × (s ≡ at_plain p)) ⊎ ((a : ℕ) × (b : ℕ) × (s ≡ at_fold a b))
 
 not_root : (s : Site) → at_tree_root ≡ s → IsInner s → ⊥
@@ -63,7 +67,7 @@ apart_append (p ∷ peaks) peak apart numbered none = (
 same_position : (p q : ℕ) → at_plain p ≡ at_plain q → p ≡ q
 same_position p q same = cc
 
-apart_located : (rule : Rule) → IsPairing rule → (n : ℕ) (trees : List Tree)
+pub apart_located : (rule : Rule) → IsPairing rule → (n : ℕ) (trees : List Tree)
     → ((first : ℕ) (node : Tree) → IsNodeAt first node trees → IsNodeAt first node (forest_of rule n)) → Apart (located trees)
 apart_located rule pairs n [] all = tt
 apart_located rule pairs n (t ∷ ts) all =
@@ -77,10 +81,10 @@ apart_located rule pairs n (t ∷ ts) all =
 
 module _ (hash : Hash) (last : ℕ) where
   -- one string a site, all of nodes and folds
-  abbrev Good : Made → Type 0
+  abbrev pub Good : Made → Type 0
   Good made = OneEach (strings hash made) × ((s : Site) (u : List ℕ) → Contains (strings hash made) (s, u) → IsInner s)
 
-  back_good : (n : ℕ) (peak : Located) (peaks : List Located) (made : Made) → Apart (peak ∷ peaks) → Back hash last n peak peaks made → Good made
+  pub back_good : (n : ℕ) (peak : Located) (peaks : List Located) (made : Made) → Apart (peak ∷ peaks) → Back hash last n peak peaks made → Good made
   back_good n peak peaks made apart is = (
     back_one hash last n peak peaks made apart is,
     λ s u here. ⊎_elim (λ node. inl (is_plain (peak ∷ peaks) s node)) (λ fold. inr (fold.0, last, fold.2)) (back_site hash last n peak peaks made is s u here),
@@ -114,7 +118,7 @@ module _ (hash : Hash) (last : ℕ) where
   )
 
   -- the peak comes first
-  from_peak : (inactive : ℕ) (peak : Located) (peaks : List Located) (first made : Made) → Apart (peak ∷ peaks) → 1 + length peaks ≡ last
+  pub from_peak : (inactive : ℕ) (peak : Located) (peaks : List Located) (first made : Made) → Apart (peak ∷ peaks) → 1 + length peaks ≡ last
       → Partial peak.0 peak.1 first → Onto hash last inactive 2 first peaks made → Good made
   from_peak inactive peak peaks first made apart total is_first is =
       onto_good inactive 2 first peaks made (IsSiteIn peak.0 peak.1) (λ s u here. inl (site_in hash peak.0 peak.1 first is_first s u here))
@@ -267,7 +271,7 @@ module _ (hash : Hash) (last : ℕ) where
         (λ made is. from_peak inactive peak peaks x.0 made apart (omega (arith, total)) here is)))
 
   -- the root's own string stands at a site of its own
-  root_good : (string : List ℕ) (bag : Made) → Good bag → (s : Site) (u v : List ℕ) → Contains ((at_tree_root, string) ∷ strings hash bag) (s, u)
+  pub root_good : (string : List ℕ) (bag : Made) → Good bag → (s : Site) (u v : List ℕ) → Contains ((at_tree_root, string) ∷ strings hash bag) (s, u)
       → Contains ((at_tree_root, string) ∷ strings hash bag) (s, v) → u ≡ v
   root_good string bag good s u v one other = by (parts u one) (parts v other)
     where

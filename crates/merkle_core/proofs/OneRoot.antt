@@ -1,5 +1,7 @@
 -- A root that is reconstructed from one element is read from it too.
-use Rattle.std.proofs.Common.{◌≡◌, ℕ, zero, suc, ◌+◌, ◌-◌, ◌^◌, ◌<◌, ◌≤◌, Bool, true, false, ltb, cond, ◌||◌, inl, inr, List, [], ◌∷◌, ◌++◌, length, take, drop, Option, None, Some, option_map, option_and_then, refl, sym, ◌∙◌, ap, subst, arith}
+use Rattle.std.proofs.Common.{◌≡◌, ℕ, zero, suc, ◌+◌, ◌-◌, ◌^◌, ◌<◌, ◌≤◌, Bool, true, false, ltb, cond, ◌||◌, inl, inr}
+use Rattle.std.proofs.Common.{List, [], ◌∷◌, ◌++◌, length, take, drop, Option, None, Some, option_map, option_and_then}
+use Rattle.std.proofs.Common.{refl, sym, ◌∙◌, ap, subst, arith}
 use Rattle.std.specs.Prelude.{min, IsSomeAnd}
 use Rattle.std.proofs.Math.Seq.{take-add}
 use Rattle.std.proofs.lemmas.Bool.{cases_lt, lt-ltb, le-ltb, ltb-false}
@@ -15,7 +17,8 @@ use Rattle.merkle_forest.specs.Trees.{Located, located, Within}
 use Rattle.merkle_core.specs.MadeRoots.{Naming, from_left, root_made, Bagged, used, read_bag, read_root}
 use Rattle.merkle_core.specs.MadeTrees.{Over, read_tree}
 use Rattle.merkle_core.specs.Rebuilt.{Hashing, rebuilt}
-use Rattle.merkle_core.specs.Reconstructed.{peaks_before, peaks_over, peaks_after, IsPeakOver, digests_before, digests_after, still_inactive, root_around, reconstructed}
+use Rattle.merkle_core.specs.Reconstructed.{peaks_before, peaks_over, peaks_after, IsPeakOver, digests_before}
+use Rattle.merkle_core.specs.Reconstructed.{digests_after, still_inactive, root_around, reconstructed}
 use Rattle.merkle_core.specs.Soundness.{Makes, only, outer_count, one_root}
 use Rattle.merkle_core.proofs.Folds.{take_past, drop_past, items_some}
 use Rattle.merkle_core.proofs.OneBag.{OwnRead, HasRead, bag_none, bag_active, bag_inactive}

@@ -68,7 +68,8 @@ module _ (digest : Digests) (start stop : ℕ) where
   inner_parts k peaks =
       ap (λ ps. singly digest (inner_nodes start stop ps)) (sym (take-append-drop k peaks))
       ∙ ap (λ ps. singly digest (flat_map (λ peak. sibling_nodes start stop peak.0 peak.1) ps)) (filter-append (meets start stop) (take k peaks) (drop k peaks))
-      ∙ ap (singly digest) (flat_parts (λ peak. sibling_nodes start stop peak.0 peak.1) (filter (meets start stop) (take k peaks)) (filter (meets start stop) (drop k peaks)))
+      ∙ ap (singly digest) (flat_parts (λ peak. sibling_nodes start stop peak.0 peak.1) (filter (meets start stop)
+      (take k peaks)) (filter (meets start stop) (drop k peaks)))
       ∙ map-append _ (inner_nodes start stop (take k peaks)) (inner_nodes start stop (drop k peaks))
       ∙ sym (ap₂ (λ a b. a ++ b) (inner_of (take k peaks)) (inner_of (drop k peaks)))
 

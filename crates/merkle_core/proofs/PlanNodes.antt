@@ -1,5 +1,6 @@
 -- The nodes that the proof of a range is made of, as a walk finds them.
-use Rattle.std.proofs.Common.{append-nil, ◌≡◌, ℕ, ◌+◌, ◌-◌, length, ◌≤◌, Bool, true, false, not, cond, filter, List, [], ◌∷◌, ◌++◌, Result, Ok, Err, OnOk, refl, sym, ◌∙◌, ap, arith}
+use Rattle.std.proofs.Common.{append-nil, ◌≡◌, ℕ, ◌+◌, ◌-◌, length, ◌≤◌, Bool, true, false, not, cond, filter, List, []}
+use Rattle.std.proofs.Common.{◌∷◌, ◌++◌, Result, Ok, Err, OnOk, refl, sym, ◌∙◌, ap, arith}
 use Rattle.std.proofs.lemmas.Bool.{or_from, lt-leb}
 use Rattle.std.proofs.lemmas.List.{map-append, append_assoc, length-map, length-append}
 use Rattle.merkle_forest.specs.Forest.{Tree, leaf, branch, position, height, leaf_count}

@@ -1,23 +1,23 @@
 -- Peaks of which some meet a range: what is read of them.
-use Rattle.std.proofs.Common.{◌≡◌, ℕ, zero, suc, ◌+◌, ◌-◌, ◌<◌, ◌≤◌, Bool, true, false, cond, take, drop, filter, List, [], ◌∷◌, length, Option, None, Some, refl, sym, ◌∙◌, ap, subst, arith}
+use Rattle.std.proofs.Common.{◌≡◌, ℕ, zero, suc, ◌+◌, ◌<◌, ◌≤◌, Bool, true, false, cond, take, drop, filter, List, []}
+use Rattle.std.proofs.Common.{◌∷◌, length, None, Some, refl, ◌∙◌, ap, subst, arith}
 use Rattle.std.proofs.lemmas.Bool.{and_from, le-leb, lt-leb}
 use Rattle.std.specs.List.{list_all}
 use Rattle.std.specs.Prelude.{option_and_then, if◌then◌else◌}
-use Rattle.merkle_forest.specs.Forest.{Tree, leaf_count, leaves, Rule, forest_of}
+use Rattle.merkle_forest.specs.Forest.{Rule, forest_of}
 use Rattle.merkle_forest.specs.Perfect.{IsPairing}
 use Rattle.merkle_forest.specs.Hashing.{Hash, fold_string}
 use Rattle.merkle_forest.specs.Made.{Made, bytes, value}
-use Rattle.merkle_forest.specs.Nodes.{HasPeak}
 use Rattle.merkle_forest.specs.Peaks.{located_from}
 use Rattle.merkle_forest.specs.Laws.ForestGrowth.{leaves-forest_of}
-use Rattle.merkle_forest.specs.Laws.Peaks.{located_from-end, located_from-peak}
+use Rattle.merkle_forest.specs.Laws.Peaks.{located_from-end}
 use Rattle.merkle_forest.specs.Trees.{Located}
 use Rattle.merkle_core.specs.Ranges.{is_before, is_after}
 use Rattle.merkle_core.specs.RangeCounts.{passing}
 use Rattle.merkle_core.specs.MadeTrees.{Over, Elements}
 use Rattle.merkle_core.specs.MadeRoots.{Naming, Streams, Bagged, given_outer, folded, read_peak, read_back, read_onto, read_group, read_bag}
 use Rattle.merkle_core.specs.Reads.{valued}
-use Rattle.merkle_core.proofs.RangeTrees.{IsRead, read_some, read_none}
+use Rattle.merkle_core.proofs.RangeTrees.{read_some, read_none}
 use Rattle.merkle_core.proofs.Walks.{AllFrom}
 
 -- no peak begins at the leaf count or after it

@@ -1,5 +1,6 @@
 -- The root that a proof of a range leads to, from all its peaks as one.
-use Rattle.std.proofs.Common.{◌≡◌, ℕ, zero, suc, ◌+◌, ◌<◌, ◌≤◌, ◌^◌, Bool, true, false, ◌||◌, cond, List, [], ◌∷◌, length, map, take, drop, Option, None, Some, option_map, refl, sym, ◌∙◌, ap, arith}
+use Rattle.std.proofs.Common.{◌≡◌, ℕ, zero, suc, ◌+◌, ◌<◌, ◌≤◌, ◌^◌, Bool, true, false, ◌||◌, cond, List, [], ◌∷◌}
+use Rattle.std.proofs.Common.{length, map, take, drop, Option, None, Some, option_map, refl, ◌∙◌, ap}
 use Rattle.std.specs.Prelude.{option_and_then, nat_lt, IfSome}
 use Rattle.std.proofs.lemmas.Bool.{or_left, or_right, or_from, lt-ltb, le-ltb}
 use Rattle.merkle_forest.specs.declared.bagging.Bagging.{Bagging}
@@ -10,7 +11,7 @@ use Rattle.merkle_core.specs.MadeTrees.{Over, Elements, from}
 use Rattle.merkle_core.specs.MadeRoots.{Naming, Streams, Bagged, from_left, peaks_of, root_made, read_bag, used, read_root}
 use Rattle.merkle_core.specs.RangeCounts.{range_outer}
 use Rattle.merkle_core.specs.Reads.{valued, range_root}
-use Rattle.merkle_core.proofs.RangeTrees.{IsRead, read_some, read_none}
+use Rattle.merkle_core.proofs.RangeTrees.{read_some, read_none}
 
 module _ (hash : Hash) (names : Naming) (over : Over) (bagging : Bagging) (rule : Rule) (leaves inactive start stop : ℕ) (elements : Elements)
     (outer : ℕ) (digests : List (List ℕ)) where
@@ -44,7 +45,9 @@ module _ (hash : Hash) (names : Naming) (over : Over) (bagging : Bagging) (rule 
       (or_from _ _ (le-ltb (2 ^ 62) leaves small) (or_from _ _ (le-ltb (length (peaks_of rule leaves)) inactive enough) (le-ltb leaves stop within)))
 
   pub bag_missing : leaves ≤ 2 ^ 62 → inactive ≤ length (peaks_of rule leaves) → stop ≤ leaves → valued hash all ≡ None → root ≡ None
-  bag_missing small enough within none = fits small enough within ∙ ap (λ b. option_map (root_made names bagging leaves inactive) (option_and_then used b)) (read_none hash all none)
+  bag_missing small enough within none = fits small enough within
+      ∙ ap (λ b. option_map (root_made names bagging leaves inactive) (option_and_then used b))
+      (read_none hash all none)
 
   not_used : (made : Made) (streams : Streams) → ((streams.0 ≡ []) × (streams.1 ≡ []) → ⊥) → used (made, streams) ≡ None
   not_used made ([], []) some = absurd (some (refl, refl))

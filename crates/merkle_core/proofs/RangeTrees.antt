@@ -1,15 +1,16 @@
 -- A tree over a range: how far it reaches, and what is read of it.
-use Rattle.std.proofs.Common.{◌≡◌, ℕ, zero, suc, ◌+◌, ◌-◌, ◌*◌, ◌%◌, ◌^◌, ◌<◌, ◌≤◌, true, false, ◌||◌, List, [], ◌∷◌, length, map, get_or, Option, None, Some, option_map, refl, sym, ◌∙◌, ap, arith}
-use Rattle.std.specs.Prelude.{option_and_then, slice_index_or}
+use Rattle.std.proofs.Common.{◌≡◌, ℕ, zero, suc, ◌+◌, ◌-◌, ◌*◌, ◌%◌, ◌^◌, ◌<◌, ◌≤◌, true, false, ◌||◌, List, [], ◌∷◌}
+use Rattle.std.proofs.Common.{length, map, get_or, Option, None, Some, option_map, refl, sym, ◌∙◌, ap, arith}
+use Rattle.std.specs.Prelude.{slice_index_or}
 use Rattle.std.proofs.lemmas.Bool.{or_parts, not-true, leb-false}
-use Rattle.merkle_forest.specs.Forest.{Tree, leaf, branch, position, height, leaf_count, Rule, forest_of}
+use Rattle.merkle_forest.specs.Forest.{Tree, leaf, branch, height, leaf_count, Rule}
 use Rattle.merkle_forest.specs.Laws.Nodes.{node-leaves}
 use Rattle.merkle_forest.specs.Perfect.{IsPairing}
 use Rattle.merkle_forest.specs.Hashing.{Hash}
-use Rattle.merkle_forest.specs.Made.{Made, bytes, value}
+use Rattle.merkle_forest.specs.Made.{Made, value}
 use Rattle.merkle_core.specs.Ranges.{meets, is_before, is_after}
 use Rattle.merkle_core.specs.Rebuilt.{IsTreeAt, HasTree}
-use Rattle.merkle_core.specs.MadeTrees.{Over, Elements, Reading, from, given, leaf_made, branch_made, read_tree}
+use Rattle.merkle_core.specs.MadeTrees.{Over, Elements, Reading, from, given, read_tree}
 use Rattle.merkle_core.specs.Reads.{HashesAs, valued}
 use Rattle.merkle_core.proofs.Places.{shift}
 
@@ -96,7 +97,17 @@ module _ (rule : Rule) (hash : Hash) (leaf_of : ℕ → List ℕ → List ℕ) (
       let one = read_some hash of_left a rest some in
       let two = read_some hash (of_right rest) b more other in
       let high = height (branch q left right) in
-      let there : HasTree rule at q high = (branch q left right, record { leaf_total = tree.leaf_total; few = tree.few; stands = tree.stands; subtree = refl; level = refl }) in
+      let there : HasTree rule at q high = (
+        branch q left right,
+        record {
+          leaf_total = tree.leaf_total;
+          few = tree.few;
+          stands = tree.stands;
+          subtree
+              = refl;
+          level = refl;
+        },
+      ) in
       rw (met, one.is, two.is)
       (ap (λ d. Some (d, more)) (by.branch at high q one.made two.made there ∙ ap (λ x. node_of q x (value hash two.made)) one.same ∙ ap (node_of q a) two.same
       ∙ ap (λ n. node_of n a b) (sym tree.subtree)))

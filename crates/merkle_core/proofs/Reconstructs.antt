@@ -1,5 +1,6 @@
 -- What a root is reconstructed from.
-use Rattle.std.proofs.Common.{◌≡◌, ℕ, ◌+◌, ◌^◌, ◌<◌, ◌≤◌, Bool, true, false, cond, ltb, ◌||◌, List, [], ◌∷◌, ◌++◌, length, map, take, drop, Option, None, refl, sym, ◌∙◌, ap, arith}
+use Rattle.std.proofs.Common.{◌≡◌, ℕ, ◌+◌, ◌^◌, ◌<◌, ◌≤◌, Bool, true, false, cond, ltb, ◌||◌, List, [], ◌∷◌, ◌++◌}
+use Rattle.std.proofs.Common.{length, map, take, drop, Option, None, refl, sym, ◌∙◌, ap, arith}
 use Rattle.std.specs.Prelude.{option_map}
 use Rattle.std.proofs.lemmas.Bool.{lt-ltb, le-ltb, leb-true}
 use Rattle.std.proofs.lemmas.List.{length-append, length-map, map-append}
@@ -13,7 +14,8 @@ use Rattle.merkle_forest.specs.Laws.Trees.{located_within, within_more}
 use Rattle.merkle_forest.specs.Laws.Peaks.{leaf_count-pos}
 use Rattle.merkle_core.specs.Ranges.{is_before, is_after}
 use Rattle.merkle_core.specs.Rebuilt.{Hashing, rebuilt, IsTreeAt}
-use Rattle.merkle_core.specs.Reconstructed.{peaks_before, peaks_over, peaks_after, IsPeakOver, digests_before, digests_after, rebuilt_over, root_around, root_of_parts, reconstructed}
+use Rattle.merkle_core.specs.Reconstructed.{peaks_before, peaks_over, peaks_after, IsPeakOver, digests_before}
+use Rattle.merkle_core.specs.Reconstructed.{digests_after, rebuilt_over, root_around, root_of_parts, reconstructed}
 use Rattle.merkle_core.proofs.Walks.{before-yes}
 
 -- where all peaks end by the location none stands over it

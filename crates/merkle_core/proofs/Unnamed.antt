@@ -1,5 +1,6 @@
 -- The nodes that hold no named leaf, as a walk from left to right finds them.
-use Rattle.std.proofs.Common.{◌≡◌, ℕ, suc, ◌+◌, ◌<◌, ◌≤◌, ◌⊎◌, inl, inr, Option, Some, None, Bool, true, false, ◌&&◌, ◌||◌, cond, drop, List, [], ◌∷◌, ◌++◌, refl, sym, ◌∙◌, ap, ap₂, subst, arith}
+use Rattle.std.proofs.Common.{◌≡◌, ℕ, suc, ◌+◌, ◌<◌, ◌≤◌, ◌⊎◌, inl, inr, Option, Some, None, Bool, true, false, ◌&&◌}
+use Rattle.std.proofs.Common.{◌||◌, cond, drop, List, [], ◌∷◌, ◌++◌, refl, sym, ◌∙◌, ap, ap₂, subst, arith}
 use Rattle.std.proofs.lemmas.Bool.{lt-leb, le-leb, lt-ltb, le-ltb, ltb-true, ltb-false, cases_lt}
 use Rattle.std.proofs.lemmas.List.{append_assoc}
 use Rattle.std.specs.Prelude.{nat_le, nat_lt}
@@ -13,16 +14,16 @@ use Rattle.merkle_core.proofs.Walks.{AllFrom}
 use Rattle.merkle_core.proofs.PlanNodes.{after_both, after_none}
 
 -- a location names a leaf of the tree, or does not
-abbrev names : ℕ → ℕ → ℕ → Bool
+abbrev pub names : ℕ → ℕ → ℕ → Bool
 names first end l = nat_le first l && nat_lt l end
 
-names_before : (first end l : ℕ) → l < first → names first end l ≡ false
+pub names_before : (first end l : ℕ) → l < first → names first end l ≡ false
 names_before first end l lt = ap (λ b. b && nat_lt l end) (lt-leb first l lt)
 
-names_in : (first end l : ℕ) → first ≤ l → l < end → names first end l ≡ true
+pub names_in : (first end l : ℕ) → first ≤ l → l < end → names first end l ≡ true
 names_in first end l low high = ap₂ (λ a b. a && b) (le-leb first l low) (lt-ltb l end high)
 
-names_after : (first end l : ℕ) → first ≤ l → end ≤ l → names first end l ≡ false
+pub names_after : (first end l : ℕ) → first ≤ l → end ≤ l → names first end l ≡ false
 names_after first end l low high = ap₂ (λ a b. a && b) (le-leb first l low) (le-ltb l end high)
 
 pub ascend_later : (low more : ℕ) (locations : List ℕ) → low ≤ more → AscendFrom more locations → AscendFrom low locations
@@ -53,7 +54,7 @@ named_later low (l ∷ locations) tree le up =
 named_here : (l : ℕ) (locations : List ℕ) (tree : Located) → tree.0 ≤ l → l < end_of tree → is_named (l ∷ locations) tree ≡ true
 named_here l locations tree low high = ap (λ b. b || is_named locations tree) (names_in tree.0 (end_of tree) l low high)
 
-unnamed_test : (locations : List ℕ) (at p : ℕ) (left right : Tree) (b : Bool) → is_named locations (at, branch p left right) ≡ b
+pub unnamed_test : (locations : List ℕ) (at p : ℕ) (left right : Tree) (b : Bool) → is_named locations (at, branch p left right) ≡ b
     → unnamed_nodes locations at (branch p left right) ≡ cond b (unnamed_nodes locations at left ++ unnamed_nodes locations (at + leaf_count left) right)
     ((at, branch p left right) ∷ [])
 unnamed_test locations at p left right b is = rw is refl
@@ -205,15 +206,15 @@ not_bad leaves low l locations le within = first_test leaves low l locations tru
 some_not_none : {A : Type 0} (x : A) → ◌≡◌ {A = Option A} (Some x) None → ⊥
 some_not_none x is = absurd cc
 
-good_head : (leaves low l : ℕ) (locations : List ℕ) → (l < low) ⊎ (low ≤ l) → (l < leaves) ⊎ (leaves ≤ l)
-    → first_bad leaves low (l ∷ locations) ≡ None → (low ≤ l) × (first_bad leaves (suc l) locations ≡ None)
+pub good_head : (leaves low l : ℕ) (locations : List ℕ) → (l < low) ⊎ (low ≤ l) → (l < leaves) ⊎ (leaves ≤ l)
+    → first_bad leaves low (l ∷ locations) ≡ None → (low ≤ l) × (l < leaves) × (first_bad leaves (suc l) locations ≡ None)
 good_head leaves low l locations (inl lt) within good = absurd (some_not_none (low, l) (sym (bad_low leaves low l locations lt) ∙ good))
 good_head leaves low l locations (inr le) (inr past) good = absurd (some_not_none (low, l) (sym (bad_high leaves low l locations le past) ∙ good))
-good_head leaves low l locations (inr le) (inl within) good = (le, sym (not_bad leaves low l locations le within) ∙ good)
+good_head leaves low l locations (inr le) (inl within) good = (le, within, sym (not_bad leaves low l locations le within) ∙ good)
 
 -- what is good ascends
 pub good_ascend : (leaves low : ℕ) (locations : List ℕ) → first_bad leaves low locations ≡ None → AscendFrom low locations
 good_ascend leaves low [] good = tt
 good_ascend leaves low (l ∷ locations) good =
     let head = good_head leaves low l locations (cases_lt l low) (cases_lt l leaves) good in
-    (head.0, good_ascend leaves (suc l) locations head.1)
+    (head.0, good_ascend leaves (suc l) locations head.2)

@@ -4,6 +4,8 @@ pub mod Laws
 pub mod MadeRoots
 pub mod MadeTrees
 pub mod Multi
+pub mod MultiReads
+pub mod MultiSoundness
 pub mod OneEach
 pub mod Plans
 pub mod Proofs

@@ -1,6 +1,6 @@
 //! What holds of all proofs.
 
-ghost use Rattle.std.specs.Prelude.{◌≡◌, ◌<◌, ◌≤◌, ◌+◌, ◌-◌, ◌^◌, ℕ, List, map, length, take, drop, Some, IfSome, IsSomeAnd, option_map};
+ghost use Rattle.std.specs.Prelude.{◌≡◌, ◌<◌, ◌≤◌, ◌+◌, ◌-◌, ◌*◌, ◌^◌, ℕ, List, map, length, take, drop, Some, true, IfSome, IsSomeAnd, option_map};
 ghost use Rattle.std.specs.List.{All};
 ghost use Rattle.merkle_forest.specs.declared.bagging.Bagging.{Bagging};
 ghost use Rattle.merkle_forest.specs.Forest.{forest_of};
@@ -11,7 +11,9 @@ ghost use Rattle.merkle_core_parts.specs.Mem.{Nodes, node_at, NodeHash, AreNodes
 ghost use Rattle.merkle_core.specs.Followed.{FollowsIn};
 ghost use Rattle.merkle_core.specs.MadeRoots.{Naming, peaks_of};
 ghost use Rattle.merkle_core.specs.MadeTrees.{Over, from, plain_over};
-ghost use Rattle.merkle_core.specs.Multi.{AreDigestsAt};
+ghost use Rattle.merkle_core.specs.Multi.{AreDigestsAt, AreMultiDigests};
+ghost use Rattle.merkle_core.specs.MultiReads.{Shown, can_be_shown, needed_positions, multi_root};
+ghost use Rattle.merkle_core.specs.MultiSoundness.{AreSound, shown_of};
 ghost use Rattle.merkle_core.specs.OneEach.{OneEach};
 ghost use Rattle.merkle_core.specs.Plans.{Lookup, IsLookupOf, honest_digests};
 ghost use Rattle.merkle_core.specs.Ranges.{Digests, range_digests};
@@ -77,12 +79,16 @@ pub fn reconstructed_is_read<F: Family>()
         (λ made. value hash made ≡ root) }
 {}
 
-/// At each site one string is hashed for a list, and one when a root is rebuilt from a proof of a range.
+/// At each site one string is hashed for a list, and one when a root is rebuilt from a proof of a range or of several
+/// elements.
 pub fn each_site_has_one_string<F: Family>()
     ensures hashed { (hash : Hash) (bagging : Bagging) (elements : List (List ℕ)) (inactive : ℕ)
         → OneEach (hashed_strings hash bagging F.merge_rule elements inactive) }
     ensures rebuilt { (hash : Hash) (bagging : Bagging) (claim : RangeClaim)
         → IfSome (claimed_root bagging F.merge_rule claim) (λ made. OneEach (strings hash made)) }
+    ensures shown { (hash : Hash) (bagging : Bagging) (leaves inactive : ℕ) (shown : Shown) (digests : List (List ℕ))
+        → IfSome (multi_root plain_names plain_over bagging F.merge_rule leaves inactive shown digests)
+        (λ made. OneEach (strings hash made)) }
 {}
 
 /// A hasher that hashes leaves and branches by their strings alone hashes as a plain tree is made.
@@ -152,4 +158,35 @@ pub fn digests_of_many_are_those_of_the_list<F: Family>()
         (digests : List (List ℕ)) → IsLookupOf node F.merge_rule leaf_digests known
         → map (λ d. Some d) digests ≡ map known positions
         → AreDigestsAt node F.merge_rule leaf_digests positions digests }
+{}
+
+/// Where a proof of some elements leads to the root of a list, these elements stand in the list at their locations, or
+/// the strings hashed for the list and those rebuilt from the proof have a collision.
+pub fn shown_elements_are_true_or_strings_collide<F: Family>()
+    ensures { (hash : Hash) (size : ℕ) (bagging : Bagging) (elements : List (List ℕ)) (inactive : ℕ)
+        (leaves shown_inactive : ℕ) (shown : Shown) (digests : List (List ℕ))
+        → ((bytes : List ℕ) → length (hash bytes) ≡ size)
+        → All (λ digest. length digest ≡ size) digests
+        → length elements ≤ 2 ^ 62 → inactive < 2 ^ 64
+        → IfSome (multi_root plain_names plain_over bagging F.merge_rule leaves shown_inactive shown digests)
+        (AreSound hash bagging F.merge_rule elements inactive leaves shown_inactive shown) }
+{}
+
+/// The proof of some elements that is built out of known nodes of the plain tree of a list leads to the root of that
+/// tree.
+pub fn built_proofs_of_elements_lead_to_the_root<F: Family>()
+    ensures { (hash : Hash) (bagging : Bagging) (elements : List (List ℕ)) (inactive : ℕ) (locations : List ℕ)
+        (known : Lookup) (digests : List (List ℕ))
+        → can_be_shown (length elements) locations ≡ true
+        → inactive ≤ length (peaks_of F.merge_rule (length elements))
+        → IsLookupOf (plain_node hash) F.merge_rule (plain_leaf_digests hash F.merge_rule 0 elements) known
+        → AreMultiDigests F.merge_rule (length elements) locations known digests
+        → option_map (value hash) (multi_root plain_names plain_over bagging F.merge_rule (length elements) inactive
+        (shown_of elements locations) digests) ≡ Some (tree_root hash bagging F.merge_rule elements inactive) }
+{}
+
+/// The proof of some elements is made of at most 122 nodes for each of them.
+pub fn proofs_of_elements_are_short<F: Graftable>()
+    ensures { (leaves : ℕ) (locations : List ℕ) → 0 < length locations → can_be_shown leaves locations ≡ true
+        → length (needed_positions F.merge_rule leaves locations) ≤ 122 * length locations }
 {}

@@ -9,6 +9,9 @@ ghost use Rattle.merkle_core.specs.Multi.{first_bad, IsRefusalOfLocations};
 ghost use Rattle.merkle_core.specs.Plans.{positions_of};
 ghost use Rattle.merkle_core.specs.Rebuilt.{IsTreeAt, HasTree};
 
+pub mod root;
+pub(crate) mod tree;
+
 use crate::range::tree::children_of;
 use crate::rebuild::Subtree;
 use crate::walk::peak_at;

@@ -1,18 +1,25 @@
 //! Merkle proofs and how they are written and read.
 
-ghost use Rattle.std.specs.Prelude.{◌≡◌, ◌<◌, ◌≤◌, ◌^◌, ◌++◌, ◌↔◌, [], ℕ, List, map, length, IsTrue, Ok, OnOk, OnErr};
+ghost use Rattle.std.specs.Prelude.{◌≡◌, ◌<◌, ◌≤◌, ◌^◌, ◌++◌, ◌↔◌, [], ℕ, List, map, length, option_map, Some, IsTrue, Ok, IfOk, OnOk, OnErr};
 ghost use Rattle.merkle_forest.specs.Forest.{forest_of};
 ghost use Rattle.merkle_forest.specs.Trees.{located, inactive_peaks};
 ghost use Rattle.merkle_forest.specs.Codec.{Extends};
 ghost use Rattle.merkle_forest.specs.Lists.{AreItems};
+ghost use Rattle.merkle_forest.specs.Made.{value};
+ghost use Rattle.merkle_core.specs.MadeRoots.{Naming};
+ghost use Rattle.merkle_core.specs.MadeTrees.{Over};
+ghost use Rattle.merkle_core.specs.MultiReads.{multi_root};
+ghost use Rattle.merkle_core.specs.Reads.{HashesAs};
 ghost use Rattle.merkle_core.specs.Proofs.{proof_encoding, after_proof, ProofLacks};
 
+use crate::multi::root::reconstruct_shown;
 use merkle_forest::Digest;
 use merkle_forest::codec::{
     Cursor, EncodeSize, Error, RangeCfg, Read, Write, number_size, or_undo, read_number,
     write_number,
 };
 use merkle_forest::family::{Family, MAX_LEAVES};
+use merkle_forest::hasher::Hasher;
 use merkle_forest::location::Location;
 use merkle_forest::peaks::inactive_count;
 use std::alloc::{AllocError, Global};
@@ -31,6 +38,16 @@ pub struct Proof<F: Family, D: Digest> {
     pub inactive_peaks: u64,
     /// The digests, in the order of the range proof.
     pub digests: Vec<D>,
+}
+
+// Whether a root was found, and it is this one.
+fn is_root<D: Digest>(found: Option<D>, root: &D) -> bool
+    ensures { IsTrue result ↔ (option_map D.encoding found ≡ Some (D.encoding root.now)) }
+{
+    match found {
+        Some(found) => found == *root,
+        None => false,
+    }
 }
 
 impl<F: Family, D: Digest> Proof<F, D> {
@@ -58,6 +75,28 @@ impl<F: Family, D: Digest> Proof<F, D> {
             return false;
         }
         inactive_count::<F>(self.leaves.as_u64(), floor.as_u64()) as u64 == self.inactive_peaks
+    }
+
+    /// Whether the proof shows that these elements, each with its location, stand in the tree of this root. It fails only
+    /// when out of memory. Without elements it shows the tree without leaves. Where the locations do not ascend strictly,
+    /// or no leaf stands at one, it does not.
+    /// In the Rust: `merkle::proof::Proof::verify_multi_inclusion`, which takes no allocator.
+    pub fn verify_multi_inclusion<H: Hasher<F, Digest = D>>(
+        &self,
+        alloc: Global,
+        hasher: &H,
+        elements: &[(&[u8], Location<F>)],
+        root: &D,
+    ) -> Result<bool, AllocError>
+        ensures { (names : Naming) (over : Over)
+            → HashesAs F.merge_rule H.hash_of (H.leaf_of hasher.now) (H.node_of hasher.now) over
+            → IfOk result (λ yes. IsTrue yes ↔ (option_map (value H.hash_of) (multi_root names over
+            (H.bagging_of hasher.now) F.merge_rule self.now.leaves self.now.inactive_peaks
+            (map (λ e. (e.0.now, e.1)) elements.now) (map D.encoding self.now.digests.items))
+            ≡ Some (D.encoding root.now))) }
+    {
+        let found = reconstruct_shown(alloc, hasher, self, elements)?;
+        Ok(is_root(found, root))
     }
 }
 

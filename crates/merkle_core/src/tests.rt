@@ -1,5 +1,6 @@
 mod multi;
 mod plans;
+mod shown;
 
 use super::*;
 use crate::range::verify_range_inclusion;

@@ -1,8 +1,11 @@
+use Rattle.merkle_core.proofs.MultiOneEach.{many_one}
 use Rattle.merkle_core.proofs.OneEachRoot.{hashed_one, rebuilt_one}
 use Rattle.merkle_core.proofs.laws.each_site_has_one_string.Goals as goal
 
 pub returns : goal.returns
 returns g c = record {
   hashed = λ hash bagging elements inactive. hashed_one hash bagging g.F.Family.merge_rule g.met.F.Family.merges_equals elements inactive;
+  shown = λ hash bagging leaf_total inactive shown digests.
+      many_one hash bagging g.F.Family.merge_rule g.met.F.Family.merges_equals leaf_total inactive shown digests;
   rebuilt = λ hash bagging claim. rebuilt_one hash bagging g.F.Family.merge_rule g.met.F.Family.merges_equals claim;
 }

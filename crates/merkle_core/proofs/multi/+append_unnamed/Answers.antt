@@ -43,7 +43,8 @@ append_unnamed-requires-2 g t c κs within =
         (
           c.children_of.ensures.right,
           ascend_right g.F.Family.merge_rule c.args.subtree.first c.args.subtree.position c.args.subtree.height there.0 there.1 high _ _ _ _ _ _
-              c.children_of.ensures.children c.args.locations.now c.in_ok-rest.rest.now c.args.found.now.items c.append_unnamed.new.found.items c.in_ok-rest.ensures,
+              c.children_of.ensures.children c.args.locations.now c.in_ok-rest.rest.now c.args.found.now.items
+              c.append_unnamed.new.found.items c.in_ok-rest.ensures,
         ),
       ),
     )

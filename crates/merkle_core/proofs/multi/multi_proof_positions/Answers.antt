@@ -22,7 +22,9 @@ returns-clause-positions g c =
     let rule = g.F.Family.merge_rule in
     let locations = c.args.locations.now in
     let found : c.append_unnamed_peaks.new.found.items ≡ positions_of (multi_nodes locations (peaks_of rule c.args.leaves)) =
-    c.in_ok-append_unnamed_peaks.ensures ∙ ap (λ (ps : List ℕ). ps ++ positions_of (multi_nodes locations (located_from 0 (forest_of rule c.as_u64.result)))) c.new-found.ensures.items
+    c.in_ok-append_unnamed_peaks.ensures
+    ∙ ap (λ (ps : List ℕ). ps ++ positions_of (multi_nodes locations (located_from 0
+    (forest_of rule c.as_u64.result)))) c.new-found.ensures.items
     ∙ ap (λ ps. positions_of (multi_nodes locations ps)) (located_from-zero (forest_of rule c.as_u64.result))
     ∙ ap (λ n. positions_of (multi_nodes locations (peaks_of rule n))) c.as_u64.ensures in
     record {

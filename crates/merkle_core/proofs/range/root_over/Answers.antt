@@ -1,4 +1,4 @@
-use Rattle.std.proofs.Common.{◌≡◌, ℕ, ◌+◌, ◌<◌, ◌≤◌, true, false, List, [], length, map, take, drop, Option, None, Some, option_map, sym, ◌∙◌, ap, arith}
+use Rattle.std.proofs.Common.{◌≡◌, ◌+◌, length, map, take, drop, Some, option_map, sym, ◌∙◌, ap, arith}
 use Rattle.std.proofs.lemmas.Bool.{both_ways}
 use Rattle.std.proofs.lemmas.List.{take-map}
 use Rattle.merkle_forest.specs.Forest.{forest_of}
@@ -68,7 +68,9 @@ returns-in_err-bag g c names over by =
     ap (λ s. read_bag names over elements start stop (length peaks) s peaks given) singly
     ∙ ap (read_bag names over elements start stop (length peaks) (from_left bagging inactive (length peaks)) peaks) streams in
     ap (option_map enc) c.from_residual.ensures
-    ∙ sym (ap (option_map (value hash)) (bag_missing hash names over bagging rule leaves inactive start stop elements outer digests (omega (arith, c.requires.few)) (omega (arith, total, c.if-inactive-peaks.false)) (omega (arith, c.requires.within))
+    ∙ sym (ap (option_map (value hash))
+    (bag_missing hash names over bagging rule leaves inactive start stop elements outer digests (omega
+    (arith, c.requires.few)) (omega (arith, total, c.if-inactive-peaks.false)) (omega (arith, c.requires.within))
     (sym (c.in_err-bag.ensures names (length peaks) over by ∙ ap (valued hash) all))))
 
 pub returns-then-not-is_used_up : goal.returns-then-not-is_used_up
@@ -102,7 +104,9 @@ returns-then-not-is_used_up g c names over by =
     ap (λ s. read_bag names over elements start stop (length peaks) s peaks given) singly
     ∙ ap (read_bag names over elements start stop (length peaks) (from_left bagging inactive (length peaks)) peaks) streams in
     let left : Streams = (map enc c.in_ok-bag.outer.now, map enc c.in_ok-bag.inner.now) in
-    sym (ap (option_map (value hash)) (digests_left hash names over bagging rule leaves inactive start stop elements outer digests (omega (arith, c.requires.few)) (omega (arith, total, c.if-inactive-peaks.false)) (omega (arith, c.requires.within))
+    sym (ap (option_map (value hash))
+    (digests_left hash names over bagging rule leaves inactive start stop elements outer digests (omega
+    (arith, c.requires.few)) (omega (arith, total, c.if-inactive-peaks.false)) (omega (arith, c.requires.within))
     (enc c.in_ok-bag.bag) left (sym (c.in_ok-bag.ensures names (length peaks) over by ∙ ap (valued hash) all))
     (λ none. both_ways c.is_used_up.result c.if-not-is_used_up.true
     (c.is_used_up.ensures.1 (no_encoding enc c.in_ok-bag.outer.now none.0, no_encoding enc c.in_ok-bag.inner.now none.1)))))
@@ -140,6 +144,7 @@ returns g c names over by =
     let left : Streams = (map enc c.in_ok-bag.outer.now, map enc c.in_ok-bag.inner.now) in
     let none = c.is_used_up.ensures.0 c.if-not-is_used_up.false in
     ap (λ d. Some d) c.root_over_item.ensures
-    ∙ sym (root_there hash names over bagging rule leaves inactive start stop elements outer digests (omega (arith, c.requires.few)) (omega (arith, total, c.if-inactive-peaks.false)) (omega (arith, c.requires.within))
+    ∙ sym (root_there hash names over bagging rule leaves inactive start stop elements outer digests (omega
+    (arith, c.requires.few)) (omega (arith, total, c.if-inactive-peaks.false)) (omega (arith, c.requires.within))
     (enc c.in_ok-bag.bag) left (sym (c.in_ok-bag.ensures names (length peaks) over by ∙ ap (valued hash) all))
     (ap (map enc) none.0) (ap (map enc) none.1))

@@ -7,7 +7,8 @@ use Rattle.merkle_core.specs.Rebuilt.{Hashing, hashing_of}
 use Rattle.merkle_core.specs.Reconstructed.{digests_before, digests_after, root_around}
 use Rattle.merkle_core.proofs.Reconstructs.{too_large, outside, few_peaks, of_code, count_peaks}
 use Rattle.merkle_core.proofs.reconstruct.reconstruct_one.Goals as goal
-use Rattle.merkle_core.proofs.reconstruct.reconstruct_one.Goals.{then-leaves-gt-MAX_LEAVES-via-then-leaves-gt-MAX_LEAVES, then-leaves-gt-MAX_LEAVES-via-else-leaves-gt-MAX_LEAVES+then-at-leaves}
+use Rattle.merkle_core.proofs.reconstruct.reconstruct_one.Goals.{then-leaves-gt-MAX_LEAVES-via-then-leaves-gt-MAX_LEAVES}
+use Rattle.merkle_core.proofs.reconstruct.reconstruct_one.Goals.{then-leaves-gt-MAX_LEAVES-via-else-leaves-gt-MAX_LEAVES+then-at-leaves}
 
 pub returns-then-leaves-gt-MAX_LEAVES : goal.returns-then-leaves-gt-MAX_LEAVES
 returns-then-leaves-gt-MAX_LEAVES g c =

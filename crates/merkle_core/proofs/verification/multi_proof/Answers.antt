@@ -17,7 +17,8 @@ returns-then-inactive-peaks_from-clause-refused g c =
     let rule = g.F.Family.merge_rule in
     let total = g.R.Readable.leaf_total c.args.nodes.now in
     let leaves_is : c.new-leaves.result ≡ total = c.new-leaves.ensures ∙ c.leaf_count.ensures.count in
-    let counted : c.peaks_from.result ≡ length (peaks_of rule total) = c.peaks_from.ensures.count ∙ ap length (located_from-zero (forest_of rule c.as_u64.result))
+    let counted : c.peaks_from.result ≡ length (peaks_of rule total) = c.peaks_from.ensures.count
+    ∙ ap length (located_from-zero (forest_of rule c.as_u64.result))
     ∙ ap (λ n. length (peaks_of rule n)) (c.as_u64.ensures ∙ leaves_is) in
     (subst (λ n. first_bad n 0 c.args.locations.now ≡ None) leaves_is c.in_ok-positions.ensures.good, omega (arith, counted, c.if-inactive-peaks_from.true))
 
@@ -27,7 +28,8 @@ returns-in_err-digests-clause-refused g c =
     let known = g.R.Readable.digest_at c.args.nodes.now in
     let total = g.R.Readable.leaf_total c.args.nodes.now in
     let leaves_is : c.new-leaves.result ≡ total = c.new-leaves.ensures ∙ c.leaf_count.ensures.count in
-    let counted : c.peaks_from.result ≡ length (peaks_of rule total) = c.peaks_from.ensures.count ∙ ap length (located_from-zero (forest_of rule c.as_u64.result))
+    let counted : c.peaks_from.result ≡ length (peaks_of rule total) = c.peaks_from.ensures.count
+    ∙ ap length (located_from-zero (forest_of rule c.as_u64.result))
     ∙ ap (λ n. length (peaks_of rule n)) (c.as_u64.ensures ∙ leaves_is) in
     let positions : List ℕ = c.in_ok-positions.positions.items in
     let there = subst (λ n. AreMultiPositions rule n c.args.locations.now positions) leaves_is c.in_ok-positions.ensures.positions in
@@ -42,6 +44,7 @@ pub returns-clause-enough : goal.returns-clause-enough
 returns-clause-enough g c =
     let rule = g.F.Family.merge_rule in
     let total = g.R.Readable.leaf_total c.args.nodes.now in
-    let counted : c.peaks_from.result ≡ length (peaks_of rule total) = c.peaks_from.ensures.count ∙ ap length (located_from-zero (forest_of rule c.as_u64.result))
+    let counted : c.peaks_from.result ≡ length (peaks_of rule total) = c.peaks_from.ensures.count
+    ∙ ap length (located_from-zero (forest_of rule c.as_u64.result))
     ∙ ap (λ n. length (peaks_of rule n)) (c.as_u64.ensures ∙ c.new-leaves.ensures ∙ c.leaf_count.ensures.count) in
     omega (arith, counted, c.if-inactive-peaks_from.false)

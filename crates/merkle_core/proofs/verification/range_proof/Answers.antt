@@ -9,4 +9,5 @@ returns-clause-of_list g c node list counted of =
     let asked : ℕ → Asked = λ n. record { leaves = n; start = c.args.range.start; stop = c.args.range.end } in
     built_of_list node g.F.Family.merge_rule g.H.Hasher.hash_of (g.H.Hasher.bagging_of c.args.hasher.now) list known c.args.inactive_peaks
     (λ proof. map g.D.Write.encoding proof.digests.items) c.build_from.result _ (asked (length list))
-    (c.in_ok-plan.ensures.plan ∙ ap asked (c.new.ensures ∙ c.leaf_count.ensures.count ∙ counted)) c.build_from.ensures.digests c.build_from.ensures.known refl of
+    (c.in_ok-plan.ensures.plan ∙ ap asked (c.new.ensures ∙ c.leaf_count.ensures.count
+    ∙ counted)) c.build_from.ensures.digests c.build_from.ensures.known refl of

@@ -16,13 +16,17 @@ sides_of-sides-requires-clause-begins g c some = first_of g.F.Family.merge_rule 
 pub assemble-requires-clause-before : goal.assemble-requires-clause-before
 assemble-requires-clause-before g c =
     let peaks = peaks_of g.F.Family.merge_rule c.self.inside.leaves in
-    let front = c.sides_of-sides.ensures.before ∙ ap (λ ps. passing (is_before c.self.inside.start) (take c.args.inactive ps)) (located_from-zero (forest_of g.F.Family.merge_rule c.self.inside.leaves)) in
+    let front = c.sides_of-sides.ensures.before
+    ∙ ap (λ ps. passing (is_before c.self.inside.start) (take c.args.inactive ps)) (located_from-zero
+    (forest_of g.F.Family.merge_rule c.self.inside.leaves)) in
     omega (arith, front, side_fits (is_before c.self.inside.start) c.args.inactive peaks, c.self.invariant.1, c.split_at.ensures.front_len)
 
 pub assemble-requires-clause-after : goal.assemble-requires-clause-after
 assemble-requires-clause-after g c =
     let peaks = peaks_of g.F.Family.merge_rule c.self.inside.leaves in
-    let back = c.sides_of-sides.ensures.after ∙ ap (λ ps. passing (is_after c.self.inside.stop) (take c.args.inactive ps)) (located_from-zero (forest_of g.F.Family.merge_rule c.self.inside.leaves)) in
+    let back = c.sides_of-sides.ensures.after
+    ∙ ap (λ ps. passing (is_after c.self.inside.stop) (take c.args.inactive ps)) (located_from-zero
+    (forest_of g.F.Family.merge_rule c.self.inside.leaves)) in
     omega (arith, back, side_fits (is_after c.self.inside.stop) c.args.inactive peaks, c.self.invariant.2, c.split_at-2.ensures.front_len)
 
 pub returns : goal.returns
@@ -51,7 +55,10 @@ returns g c known is =
     (subst Looked (sym c.self.view_is) is) c.self.invariant.1 c.self.invariant.2 front back in
     let same = ap (λ ds. assembled hash bagging n ds m (map enc after) (map enc inner)) by.front
     ∙ ap (λ ds. assembled hash bagging n (take plan.before (map enc c.args.nodes.now)) m ds (map enc inner)) by.back
-    ∙ ap (λ ds. assembled hash bagging n (take plan.before (map enc c.args.nodes.now)) m (take plan.after (drop plan.before (map enc c.args.nodes.now))) ds) by.rest
+    ∙ ap (λ ds. assembled hash bagging n (take plan.before (map enc c.args.nodes.now)) m (take plan.after
+    (drop plan.before (map enc c.args.nodes.now))) ds) by.rest
     ∙ whole in
-    if_ok c.assemble.result (λ found made. made ∙ same ∙ ap (λ (a : Asked). honest_digests hash (looked_up known) bagging rule a.leaves k a.start a.stop) c.self.view_is)
+    if_ok c.assemble.result (λ found made. made ∙ same
+    ∙ ap (λ (a : Asked). honest_digests hash
+    (looked_up known) bagging rule a.leaves k a.start a.stop) c.self.view_is)
     c.assemble.ensures

@@ -1,8 +1,7 @@
-use Rattle.std.proofs.Common.{◌≡◌, ℕ, suc, ◌+◌, ◌-◌, ◌<◌, ◌≤◌, true, false, cond, List, [], ◌∷◌, length, take, drop, filter, refl, sym, ◌∙◌, ap, subst, arith}
+use Rattle.std.proofs.Common.{◌≡◌, suc, ◌+◌, ◌-◌, ◌∷◌, take, drop, sym, ◌∙◌, ap, arith}
 use Rattle.std.specs.Prelude.{if◌then◌else◌, nat_le}
 use Rattle.merkle_forest.specs.Forest.{leaf_count, forest_of}
 use Rattle.merkle_forest.specs.Peaks.{located_from}
-use Rattle.merkle_forest.specs.Trees.{Located}
 use Rattle.merkle_core.specs.Ranges.{is_before, is_after}
 use Rattle.merkle_core.specs.RangeCounts.{passing}
 use Rattle.merkle_core.proofs.RangePeaks.{none_from, passing_first, take_none, drop_none}
@@ -70,7 +69,14 @@ returns-clause-before g t c =
     let rest = take (c.args.most - 1) (located_from at.1 forest) in
     let one : c.one_if.result ≡ (if is_before c.args.start (at.0.first, it.node) then 1 else 0) =
     c.one_if.ensures ∙ ap (λ n. if nat_le n c.args.start then 1 else 0) end in
-    omega (arith, one, c.sides_of-rest.ensures.before, ap (passing (is_before c.args.start)) parts, passing_first (is_before c.args.start) (at.0.first, it.node) rest)
+    omega (
+      arith,
+      one,
+      c.sides_of-rest.ensures.before,
+      ap (passing (is_before c.args.start)) parts,
+      passing_first
+          (is_before c.args.start) (at.0.first, it.node) rest,
+    )
 
 pub returns-clause-after : goal.returns-clause-after
 returns-clause-after g t c =
@@ -87,7 +93,14 @@ returns-clause-after g t c =
     let rest = take (c.args.most - 1) (located_from at.1 forest) in
     let one : c.one_if-2.result ≡ (if is_after c.args.stop (at.0.first, it.node) then 1 else 0) =
     c.one_if-2.ensures ∙ ap (λ n. if nat_le c.args.stop n then 1 else 0) (sym it.same) in
-    omega (arith, one, c.sides_of-rest.ensures.after, ap (passing (is_after c.args.stop)) parts, passing_first (is_after c.args.stop) (at.0.first, it.node) rest)
+    omega (
+      arith,
+      one,
+      c.sides_of-rest.ensures.after,
+      ap (passing (is_after c.args.stop)) parts,
+      passing_first
+          (is_after c.args.stop) (at.0.first, it.node) rest,
+    )
 
 pub returns-clause-next : goal.returns-clause-next
 returns-clause-next g t c =

@@ -1,12 +1,10 @@
-use Rattle.std.proofs.Common.{◌≡◌, ℕ, ◌+◌, ◌-◌, ◌<◌, ◌≤◌, ◌^◌, min, List, length, take, drop, sym, ◌∙◌, ap, arith}
-use Rattle.merkle_forest.specs.declared.bagging.Bagging.TheVariants.{ForwardFold, BackwardFold}
-use Rattle.merkle_forest.specs.Forest.{forest_of, leaves}
+use Rattle.std.proofs.Common.{◌≡◌, take, drop, ◌∙◌, ap, arith}
+use Rattle.merkle_forest.specs.Forest.{forest_of}
 use Rattle.merkle_forest.specs.Peaks.{located_from}
 use Rattle.merkle_forest.specs.Laws.Peaks.{located_from-zero}
-use Rattle.merkle_forest.specs.Trees.{Located}
 use Rattle.merkle_core.specs.MadeRoots.{peaks_of}
 use Rattle.merkle_core.specs.Ranges.{is_before, is_after}
-use Rattle.merkle_core.specs.RangeCounts.{passing, digests_for_before, digests_for_after, range_outer}
+use Rattle.merkle_core.specs.RangeCounts.{passing, digests_for_before, digests_for_after}
 use Rattle.merkle_core.proofs.RangePeaks.{all_taken, rest_fits}
 use Rattle.merkle_core.proofs.Places.{first_of}
 use Rattle.merkle_core.proofs.range.counts.count_outer.Goals as goal

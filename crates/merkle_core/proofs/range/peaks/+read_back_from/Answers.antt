@@ -1,13 +1,13 @@
-use Rattle.std.proofs.Common.{◌≡◌, ℕ, suc, ◌+◌, ◌<◌, ◌≤◌, true, false, List, [], ◌∷◌, length, map, Option, None, Some, option_map, refl, sym, ◌∙◌, ap, subst, arith}
+use Rattle.std.proofs.Common.{◌≡◌, suc, ◌+◌, true, false, List, [], ◌∷◌, length, map, None, Some, option_map, refl, sym, ◌∙◌, ap, subst, arith}
 use Rattle.std.specs.List.{list_all}
-use Rattle.merkle_forest.specs.Forest.{Tree, leaf_count, forest_of}
+use Rattle.merkle_forest.specs.Forest.{leaf_count, forest_of}
 use Rattle.merkle_forest.specs.Hashing.{fold_string}
 use Rattle.merkle_forest.specs.Peaks.{located_from}
 use Rattle.merkle_forest.specs.Laws.Peaks.{located_from-peak}
 use Rattle.merkle_forest.specs.Trees.{Located}
-use Rattle.merkle_core.specs.Ranges.{is_before, is_after, meets}
+use Rattle.merkle_core.specs.Ranges.{is_after}
 use Rattle.merkle_core.specs.MadeTrees.{Elements, from}
-use Rattle.merkle_core.specs.MadeRoots.{Streams, given_outer, read_peak, read_back, read_onto, read_group, read_bag}
+use Rattle.merkle_core.specs.MadeRoots.{Streams, given_outer, read_peak, read_back}
 use Rattle.merkle_core.specs.Reads.{valued}
 use Rattle.merkle_core.proofs.RangePeaks.{none_from, all_after, not_all_after, back_given, back_own_missing, back_others_missing, back_both, by_parts}
 use Rattle.merkle_core.proofs.RangeTrees.{no_digest}
@@ -30,7 +30,8 @@ returns-then-next-reader g t c peak peaks names last n over is by =
     let step : located_from c.args.first forest ≡ (at.0.first, it.node) ∷ located_from at.1 forest =
     walk_from rule leaves c.args.first at.0.first at.0.position at.0.height at.1 it in
     let parts : (at.0.first, it.node) ∷ [] ≡ peak ∷ peaks =
-    ap (λ ps. (at.0.first, it.node) ∷ ps) (sym (none_from rule g.met.F.Family.merges_equals leaves at.1 (omega (arith, c.if-next-reader.true)))) ∙ sym step ∙ is in
+    ap (λ ps. (at.0.first, it.node) ∷ ps) (sym (none_from rule g.met.F.Family.merges_equals leaves at.1 (omega
+    (arith, c.if-next-reader.true)))) ∙ sym step ∙ is in
     let Is : Located → List Located → Type 0 = λ p ps. valued hash (read_peak over elements start stop (at.0.first, it.node) streams)
     ≡ valued hash (read_back names over elements start stop last n p ps streams) in
     c.read_one.ensures it.node over it.tree by ∙ by_parts Is (at.0.first, it.node) peak [] peaks parts refl
@@ -87,7 +88,9 @@ returns-then-reader-first g t c peak peaks names last n over is by =
     let after_all : list_all (is_after stop) ((at.0.first, it.node) ∷ (at.1, there.0) ∷ beyond) ≡ true =
     subst (λ ps. list_all (is_after stop) ps ≡ true) (step ∙ ap (λ ps. (at.0.first, it.node) ∷ ps) more)
     (all_after stop c.args.first (located_from c.args.first forest) (omega (arith, c.if-reader-first.true)) (located_from-all c.args.first forest)) in
-    let Is : Located → List Located → Type 0 = λ p ps. valued hash (read_back names over elements start stop last n p ps streams) ≡ Some (enc c.in_ok-given.given.now, (map enc c.in_ok-given.rest.now, map enc c.args.inner.now)) in
+    let Is : Located → List Located
+    → Type 0 = λ p ps. valued hash (read_back names over elements start stop last n p ps streams)
+    ≡ Some (enc c.in_ok-given.given.now, (map enc c.in_ok-given.rest.now, map enc c.args.inner.now)) in
     sym (by_parts Is (at.0.first, it.node) peak ((at.1, there.0) ∷ beyond) peaks parts (
     ap (valued hash) (back_given hash names over elements start stop last n (at.0.first, it.node) (at.1, there.0) beyond streams after_all)
     ∙ ap (λ ds. valued hash (given_outer (map enc ds, map enc c.args.inner.now))) c.in_ok-given.ensures.cases.0))
@@ -174,7 +177,9 @@ returns g t c peak peaks names last n over is by =
     not_all_after stop (at.0.first, it.node) ((at.1, there.0) ∷ beyond) (omega (arith, it.same, c.if-reader-first.false)) in
     let left : Streams = (map enc c.in_ok-own.outer.now, map enc c.in_ok-own.inner.now) in
     let rest : Streams = (map enc c.in_ok-others.outer.now, map enc c.in_ok-others.inner.now) in
-    let Is : Located → List Located → Type 0 = λ p ps. valued hash (read_back names over elements start stop last n p ps streams) ≡ Some (hash (fold_string (enc c.in_ok-own.own) (enc c.in_ok-others.others)), rest) in
+    let Is : Located → List Located
+    → Type 0 = λ p ps. valued hash (read_back names over elements start stop last n p ps streams)
+    ≡ Some (hash (fold_string (enc c.in_ok-own.own) (enc c.in_ok-others.others)), rest) in
     ap (λ d. Some (d, rest)) c.fold.ensures
     ∙ sym (by_parts Is (at.0.first, it.node) peak ((at.1, there.0) ∷ beyond) peaks parts (
     back_both hash names over elements start stop last n (at.0.first, it.node) (at.1, there.0) beyond streams left rest

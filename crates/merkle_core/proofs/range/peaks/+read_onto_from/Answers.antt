@@ -1,19 +1,14 @@
-use Rattle.std.proofs.Common.{◌≡◌, ℕ, zero, suc, ◌+◌, ◌-◌, ◌<◌, ◌≤◌, true, false, List, [], ◌∷◌, length, map, Option, None, Some, option_map, refl, sym, ◌∙◌, ap, subst, arith}
-use Rattle.std.proofs.lemmas.Bool.{le-leb, lt-leb}
-use Rattle.merkle_forest.specs.Forest.{Tree, leaf_count, forest_of}
-use Rattle.merkle_forest.specs.Hashing.{fold_string}
+use Rattle.std.proofs.Common.{◌≡◌, suc, ◌+◌, ◌-◌, ◌∷◌, length, map, Some, option_map, sym, ◌∙◌, ap, arith}
+use Rattle.merkle_forest.specs.Forest.{leaf_count, forest_of}
 use Rattle.merkle_forest.specs.Made.{Made, value}
 use Rattle.merkle_forest.specs.Peaks.{located_from}
-use Rattle.merkle_forest.specs.Laws.Peaks.{located_from-peak, located_from-zero}
-use Rattle.merkle_forest.specs.Trees.{Located}
-use Rattle.merkle_core.specs.Ranges.{is_before, is_after, meets}
+use Rattle.merkle_forest.specs.Laws.Peaks.{located_from-peak}
 use Rattle.merkle_core.specs.MadeTrees.{Elements, from}
-use Rattle.merkle_core.specs.MadeRoots.{Streams, Naming, folded, given_outer, peaks_of, read_peak, read_back, read_onto, read_group, read_bag}
+use Rattle.merkle_core.specs.MadeRoots.{Streams, folded, read_peak, read_onto}
 use Rattle.merkle_core.specs.Reads.{valued}
 use Rattle.merkle_core.proofs.RangePeaks.{none_from, onto_none, onto_back_missing, onto_back, onto_own_missing, onto_step, fold_value}
-use Rattle.merkle_core.proofs.RangeTrees.{IsRead, read_some, no_digest}
+use Rattle.merkle_core.proofs.RangeTrees.{read_some}
 use Rattle.merkle_core.proofs.Walks.{walk_from}
-use Rattle.merkle_core.proofs.Places.{first_of}
 use Rattle.merkle_core.proofs.range.peaks.+read_onto_from.Goals as goal
 
 pub returns-then-first-reader : goal.returns-then-first-reader

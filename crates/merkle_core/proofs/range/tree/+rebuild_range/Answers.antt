@@ -1,5 +1,5 @@
-use Rattle.std.proofs.Common.{◌≡◌, ℕ, ◌+◌, ◌<◌, ◌≤◌, true, false, List, [], ◌∷◌, length, map, Option, None, Some, option_map, sym, ◌∙◌, ap, subst, arith}
-use Rattle.merkle_forest.specs.Forest.{Tree, leaf, branch}
+use Rattle.std.proofs.Common.{◌≡◌, ℕ, ◌+◌, true, false, length, map, None, Some, option_map, sym, ◌∙◌, ap, subst, arith}
+use Rattle.merkle_forest.specs.Forest.{leaf, branch}
 use Rattle.merkle_core.specs.Ranges.{meets}
 use Rattle.merkle_core.specs.MadeTrees.{Elements, from, given, read_tree}
 use Rattle.merkle_core.specs.Reads.{valued}
@@ -101,7 +101,8 @@ returns-in_err-left_digest g t c (branch q left right) over tree by =
     let both = c.children_of.ensures.children q left right tree in
     let First : ℕ → Type 0 = λ n. None ≡ valued hash (read_tree over elements start stop n left (map enc c.args.digests.now)) in
     ap (option_map _) c.from_residual-in_err-left_digest.ensures
-    ∙ sym (left_missing rule hash leaf_of node_of over elements start stop at c.args.subtree.position q c.args.subtree.height left right (map enc c.args.digests.now) by tree met
+    ∙ sym (left_missing rule hash leaf_of node_of over elements start stop at c.args.subtree.position q
+    c.args.subtree.height left right (map enc c.args.digests.now) by tree met
     (sym (subst First both.same (c.in_err-left_digest.ensures left over both.at_left by))))
 
 pub returns-in_err-right_digest : goal.returns-in_err-right_digest
@@ -123,7 +124,8 @@ returns-in_err-right_digest g t c (branch q left right) over tree by =
     let First : ℕ → Type 0 = λ n. Some (a, rest) ≡ valued hash (read_tree over elements start stop n left (map enc c.args.digests.now)) in
     let Second : ℕ → Type 0 = λ n. None ≡ valued hash (read_tree over elements start stop n right rest) in
     ap (option_map _) c.from_residual-in_err-right_digest.ensures
-    ∙ sym (right_missing rule hash leaf_of node_of over elements start stop at c.args.subtree.position q c.args.subtree.height left right (map enc c.args.digests.now) by tree met a rest
+    ∙ sym (right_missing rule hash leaf_of node_of over elements start stop at c.args.subtree.position q
+    c.args.subtree.height left right (map enc c.args.digests.now) by tree met a rest
     (sym (subst First both.same (c.in_ok-left_digest.ensures left over both.at_left by)))
     (sym (subst Second both.middle (c.in_err-right_digest.ensures right over both.at_right by))))
 
@@ -148,6 +150,7 @@ returns g t c (branch q left right) over tree by =
     let First : ℕ → Type 0 = λ n. Some (a, rest) ≡ valued hash (read_tree over elements start stop n left (map enc c.args.digests.now)) in
     let Second : ℕ → Type 0 = λ n. Some (b, more) ≡ valued hash (read_tree over elements start stop n right rest) in
     ap (λ d. Some (d, more)) c.digest_of_branch-digest.ensures
-    ∙ sym (both_there rule hash leaf_of node_of over elements start stop at c.args.subtree.position q c.args.subtree.height left right (map enc c.args.digests.now) by tree met a b rest more
+    ∙ sym (both_there rule hash leaf_of node_of over elements start stop at c.args.subtree.position q
+    c.args.subtree.height left right (map enc c.args.digests.now) by tree met a b rest more
     (sym (subst First both.same (c.in_ok-left_digest.ensures left over both.at_left by)))
     (sym (subst Second both.middle (c.in_ok-right_digest.ensures right over both.at_right by))))
