@@ -1,0 +1,4 @@
+pub mod BitLemmas
+pub mod WidthLemmas
+pub mod HeldLemmas
+pub mod KeptLemmas

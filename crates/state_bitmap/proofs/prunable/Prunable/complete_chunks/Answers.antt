@@ -1,0 +1,11 @@
+use Rattle.std.proofs.Common.{◌+◌, ◌*◌, ◌/◌, length, sym, ◌∙◌, ap}
+use Rattle.state_bitmap.specs.Bits.{Bits}
+use Rattle.state_bitmap.proofs.HeldLemmas.{held-length}
+use Rattle.state_bitmap.proofs.prunable.Prunable.complete_chunks.Goals as goal
+
+pub returns : goal.returns
+returns g c =
+    rw c.chunk_bits.ensures.bits
+    (ap (λ n. c.self.inside.pruned + n / (8 * g.row.N))
+    (sym (held-length g.row.N c.self.inside.pruned c.self.inside.kept c.self.inside.bytes.items c.self.invariant))
+    ∙ ap (λ (b : Bits). b.pruned + length b.kept / (8 * g.row.N)) c.self.view_is)
