@@ -2,16 +2,26 @@
 use Rattle.std.proofs.Common.{◌≡◌, ◌≤◌, ◌<◌, ◌^◌, ◌+◌, ◌⊎◌, inl, inr, eqb, ltb, not, cond, ℕ, List, [], ◌∷◌, ◌++◌, length, take, drop, Bool, true, false, Option, None, Some, refl, ap, sym, ◌∙◌, subst, arith, append_assoc, append-nil, length-append, option_map, MatchOption, IfSome, position, ltb-true, ltb-false, Bor}
 use Rattle.std.proofs.KnownBytes.{Appends-nil, Appends-trans}
 use Rattle.std.proofs.lemmas.List.Splits.{slice_split_first}
-use Rattle.std.specs.Prelude.{codes}
+use Rattle.std.specs.Prelude.{codes, Result, Ok, Err}
 use Rattle.std.specs.Fmt.{decimal}
 use Rattle.std.specs.Io.KnownBytes.{Appends}
 use Rattle.std.specs.List.{onto_first, position_or_len}
-use Rattle.auth_store.specs.declared.script.run.End.{End}
-use Rattle.auth_store.specs.declared.script.run.End.TheVariants as ends
-use Rattle.auth_store.specs.Line.{line_of}
-use Rattle.auth_store.specs.Report.{reported}
-use Rattle.auth_store.specs.ScriptLines.{Progress, Prints}
-use Rattle.auth_store.specs.ScriptRun.{TakesLine, IsBadLine, HasTaken, Ends, StopsAt, lines_of}
+use Rattle.rand_pcg.specs.Lcg.{Lcg}
+use Rattle.auth_store_device.specs.Devices.{DeviceState}
+use Rattle.auth_store_parts.specs.Line.{line_of}
+use Rattle.auth_store_parts.specs.Report.{reported}
+use Rattle.paged_blob.specs.Caches.{Cache}
+use Rattle.auth_store_device.specs.Settings.{IsNew}
+use Rattle.auth_store_parts.specs.declared.script.line.Line.{Line}
+use Rattle.auth_store_parts.specs.declared.script.line.Line.TheVariants.{Empty, New, Open, Put, Commit, Get, Root, Prove, Proof, CheckValue}
+use Rattle.auth_store_session.specs.Standing.{SessionState}
+use Rattle.auth_store_session.proofs.Runs.{runs_none}
+use Rattle.auth_store.specs.ScriptLines.{Exchange, Progress, Does, new_progress, script_format, script_machine}
+use Rattle.auth_store.specs.ScriptRun.{LineDoes, HasTaken, Ends, IsRunOf, Prints, Stops, lines_of, seeded_by}
+use Rattle.auth_store.specs.ScriptCode.{DoesLine, DoesText, Handled, HasRun, IsRunning, progress_of}
+use Rattle.auth_store.specs.declared.script.progress.End.{End}
+use Rattle.auth_store.specs.declared.script.progress.End.TheVariants as ends
+use Rattle.auth_store.specs.declared.script.progress.Progress as code
 
 onto_first_length : (b : ℕ) (lines : List (List ℕ)) (n : ℕ) → length lines ≤ n + 1 → length (onto_first b lines) ≤ n + 1
 onto_first_length b [] n few = omega arith
@@ -28,27 +38,33 @@ few_lines [] = omega arith
 few_lines (b ∷ text) = at_most b text (eqb b 10) (few_lines text)
 
 -- one line more is taken
-pub taken_more : (first : Option Progress) (texts : List (List ℕ)) (text said line : List ℕ)
+pub taken_more : (first : Option Progress) (texts : List (List ℕ)) (text : List ℕ) (asked here : List Exchange) (said line : List ℕ)
     (now next : Option Progress)
-    → HasTaken first texts said now → TakesLine now (line_of text) line next
-    → HasTaken first (texts ++ text ∷ []) (said ++ line) next
-taken_more first [] text said line now next taken takes = (
+    → HasTaken first texts asked said now → LineDoes now (line_of text) here (Some line) next
+    → HasTaken first (texts ++ text ∷ []) (asked ++ here) (said ++ line) next
+taken_more first [] text asked here said line now next taken does = (
   next,
+  here,
+  [],
+  ap (λ e. e ++ here) taken.0 ∙ sym (append-nil here),
   line,
   [],
-  ap (λ s. s ++ line) taken.0 ∙ sym (append-nil line),
-  subst
-      (λ n. TakesLine n (line_of text) line next) taken.1 takes,
-  (refl, refl),
+  ap (λ s. s ++ line) taken.1 ∙ sym (append-nil line),
+  subst (λ n. LineDoes n (line_of text) here (Some line) next) taken.2 does,
+  (refl, refl, refl),
 )
-taken_more first (t ∷ texts) text said line now next taken takes = (
-  taken.0,
-  taken.1,
-  taken.2 ++ line,
-  ap (λ s. s ++ line) taken.3 ∙ append_assoc taken.1 taken.2 line,
-  taken.4,
-  taken_more taken.0 texts text taken.2 line now next taken.5 takes,
-)
+taken_more first (t ∷ texts) text asked here said line now next
+    (at, one, later, asks, front, rest, says, did, taken) does = (
+      at,
+      one,
+      later ++ here,
+      ap (λ e. e ++ here) asks ∙ append_assoc one later here,
+      front,
+      rest ++ line,
+      ap (λ s. s ++ line) says ∙ append_assoc front rest line,
+      did,
+      taken_more at texts text later here rest line now next taken does,
+    )
 
 -- ---- a script's first line
 
@@ -85,6 +101,89 @@ pub cut_none : (text : List ℕ) → position (λ b. eqb b 10) text ≡ None →
 cut_none text is = all_before text (ltb-false _ _ (not_found (ltb (position_or_len (λ b. eqb b 10) text) (length text))
     (position_or_len (λ b. eqb b 10) text) is))
 
+-- ---- a line of a run
+
+-- where nothing is asked, a run stays where it is
+stays_running : (now : Option code.Progress) (earlier : List Exchange) → IsRunning earlier now → IsRunning (earlier ++ []) now
+stays_running now earlier running = subst (λ e. IsRunning e now) (sym (append-nil earlier)) running
+
+-- a text that spells no line
+pub no_line : (now : Option code.Progress) (spelled : Option Line) → spelled ≡ None → DoesText now spelled now None []
+no_line now spelled none =
+    subst (λ l. DoesText now l now None []) (sym none) ((refl, refl, refl), stays_running now)
+
+-- an empty line before the run begins
+pub empty_before : (now : Option code.Progress) (spelled : Option Line) → now ≡ None → spelled ≡ Some Empty
+    → DoesText now spelled now (Some []) []
+empty_before now spelled none empty =
+    subst (λ l. DoesText now l now (Some []) []) (sym empty)
+    (subst (λ n. DoesText n (Some Empty) n (Some []) []) (sym none) ((refl, refl, refl), stays_running None))
+
+-- the seed stays
+same_seed : (now : Progress) (line : Line) (exchanges : List Exchange) (printed : Option (List ℕ)) (next : Progress)
+    → Does now line exchanges printed next → next.seed ≡ now.seed
+same_seed now Empty exchanges printed next does = ap (λ (p : Progress). p.seed) does.2
+same_seed now (New seed) exchanges printed next does = ap (λ (p : Progress). p.seed) does.2
+same_seed now Open exchanges printed next does = ap (λ (p : Progress). p.seed) does.1
+same_seed now (Put key number) exchanges printed next does = ap (λ (p : Progress). p.seed) does.2
+same_seed now (Commit metadata) exchanges printed next does = ap (λ (p : Progress). p.seed) does.1
+same_seed now (Get key) exchanges printed next does = ap (λ (p : Progress). p.seed) does.1
+same_seed now Root exchanges printed next does = ap (λ (p : Progress). p.seed) does.1
+same_seed now (Prove key) exchanges printed next (inl (answer, none, asks, same, says)) = ap (λ (p : Progress). p.seed) same
+same_seed now (Prove key) exchanges printed next (inr (bytes, proved, answer, asks, same, says)) = ap (λ (p : Progress). p.seed) same
+same_seed now Proof exchanges printed next does = ap (λ (p : Progress). p.seed) does.2
+same_seed now (CheckValue key number) exchanges printed next does = ap (λ (p : Progress). p.seed) does.1
+
+-- what a line does once the run has begun
+line_does : (p new : code.Progress) (line : Line) (printed : Option (List ℕ)) (exchanges : List Exchange)
+    → DoesLine p line new printed exchanges → DoesText (Some p) (Some line) (Some new) printed exchanges
+line_does p new line printed exchanges does = (
+  (progress_of new, refl, does.0),
+  λ earlier (device, cache, begun, ran). (
+    device,
+    cache,
+    subst (λ seed. IsNew (seeded_by seed) device)
+        (sym (same_seed (progress_of p) line exchanges printed (progress_of new) does.0)) begun,
+    does.1 (record { parts = Some (device, cache); store = None }) earlier ran,
+  ),
+)
+
+within : (p new : code.Progress) (line : Line) (a b : Option (List ℕ)) (result : Result Unit End)
+    → Handled (DoesLine p line new) a b result → Handled (DoesText (Some p) (Some line) (Some new)) a b result
+within p new line a b (Ok u) (exchanges, printed, does, adds) =
+    (exchanges, printed, line_does p new line (Some printed) exchanges does, adds)
+within p new line a b (Err ends.BadLine) (exchanges, does, adds) = (exchanges, line_does p new line None exchanges does, adds)
+within p new line a b (Err ends.Memory) handled = tt
+within p new line a b (Err ends.Io) handled = tt
+
+pub handled_text : (p new : code.Progress) (now : Option code.Progress) (line : Line) (spelled : Option Line) (a b : Option (List ℕ))
+    (result : Result Unit End) → now ≡ Some p → spelled ≡ Some line → Handled (DoesLine p line new) a b result
+    → Handled (DoesText now spelled (Some new)) a b result
+handled_text p new now line spelled a b result begun is handled =
+    subst (λ l. Handled (DoesText now l (Some new)) a b result) (sym is)
+    (subst (λ n. Handled (DoesText n (Some line) (Some new)) a b result) (sym begun) (within p new line a b result handled))
+
+-- the line that begins the run
+pub begins : (p : code.Progress) (now : Option code.Progress) (spelled : Option Line) (seed : ℕ) (device : DeviceState Lcg) (cache : Cache)
+    → now ≡ None → spelled ≡ Some (New seed) → progress_of p ≡ new_progress seed
+    → p.session ≡ record { parts = Some (device, cache); store = None } → cache.page_size + 12 ≡ 64 → IsNew (seeded_by seed) device
+    → DoesText now spelled (Some p) (Some (reported (codes "new"))) []
+begins p now spelled seed device cache none is made session paged new =
+    let first : SessionState Lcg = record { parts = Some (device, cache); store = None } in
+    let none_yet : HasRun first [] first = record { paged = paged; runs = runs_none script_machine script_format first } in
+    let ran : HasRun first [] p.session = subst (HasRun first []) (sym session) none_yet in
+    let kept : IsNew (seeded_by p.seed) device = subst (λ s. IsNew (seeded_by s) device) (sym (ap (λ (q : Progress). q.seed) made)) new in
+    subst (λ l. DoesText now l (Some p) (Some (reported (codes "new"))) []) (sym is)
+    (subst (λ n. DoesText n (Some (New seed)) (Some p) (Some (reported (codes "new"))) []) (sym none) (
+      (refl, refl, ap Some made),
+      λ earlier nothing. (
+        device,
+        cache,
+        kept,
+        subst (λ e. HasRun first (e ++ []) p.session) (sym nothing) ran,
+      ),
+    ))
+
 -- ---- a run so far
 
 abbrev pub lines_left : Option (List ℕ) → List (List ℕ)
@@ -99,16 +198,29 @@ abbrev pub size_of : Option (List ℕ) → ℕ
 size_of None = 0
 size_of (Some text) = length text + 1
 
+-- what has been asked and printed of a run so far, and where it stands
+pub record Sofar (before : List (List ℕ)) (a b : Option (List ℕ)) (now : Option code.Progress) : Type 0 where
+  pub asked : List Exchange
+  pub said : List ℕ
+  pub printed : Appends a b said
+  pub taken : HasTaken None before asked said (option_map progress_of now)
+  pub running : IsRunning asked now
+
 -- the lines that were taken, how many they are, and what is left
 pub record Taken (script : List ℕ) (left : Option (List ℕ)) (number : ℕ) (a b : Option (List ℕ))
-    (now : Option Progress) : Type 0 where
+    (now : Option code.Progress) : Type 0 where
   pub before : List (List ℕ)
   pub lines : lines_of script ≡ before ++ lines_left left
   pub count : number ≡ length before
-  pub taken : Prints a b (λ printed. HasTaken None before printed now)
+  pub sofar : Sofar before a b now
 
 pub taken_none : (script : List ℕ) (a : Option (List ℕ)) → Taken script (Some script) 0 a a None
-taken_none script a = record { before = []; lines = refl; count = refl; taken = ([], Appends-nil a, (refl, refl)) }
+taken_none script a = record {
+  before = [];
+  lines = refl;
+  count = refl;
+  sofar = record { asked = []; said = []; printed = Appends-nil a; taken = (refl, refl, refl); running = refl };
+}
 
 -- what is left after a line
 left_after : (text line : List ℕ) (rest : Option (Bor (List ℕ)))
@@ -117,26 +229,32 @@ left_after : (text line : List ℕ) (rest : Option (Bor (List ℕ)))
 left_after text line None cut = cut
 left_after text line (Some r) cut = cut
 
-pub taken_next : (script text line : List ℕ) (rest : Option (Bor (List ℕ))) (number : ℕ) (a b c : Option (List ℕ))
-    (now next : Option Progress)
-    → Taken script (Some text) number a b now → MatchOption rest (lines_of text ≡ line ∷ [])
-    (λ r. lines_of text ≡ line ∷ lines_of r.now)
-    → Prints b c (λ printed. TakesLine now (line_of line) printed next)
+pub taken_next : (script text line : List ℕ) (rest : Option (Bor (List ℕ))) (number : ℕ)
+    (a b c : Option (List ℕ)) (now next : Option code.Progress) (result : Result Unit End)
+    → Taken script (Some text) number a b now
+    → MatchOption rest (lines_of text ≡ line ∷ []) (λ r. lines_of text ≡ line ∷ lines_of r.now)
+    → Handled (DoesText now (line_of line) next) b c result → ((e : End) → result ≡ Err e → ⊥)
     → Taken script (text_of rest) (number + 1) a c next
-taken_next script text line rest number a b c now next taken cut takes = record {
-  before = taken.before ++ line ∷ [];
-  lines = taken.lines ∙ ap (λ l. taken.before ++ l) (left_after text line rest cut)
-      ∙ sym (append_assoc taken.before (line ∷ []) (lines_left (text_of rest)));
-  count = ap (λ n. n + 1) taken.count ∙ sym (length-append taken.before (line ∷ []));
-  taken = (
-    taken.taken.0 ++ takes.0,
-    Appends-trans a b c taken.taken.0 takes.0 taken.taken.1 takes.1,
-    taken_more None taken.before line taken.taken.0 takes.0 now next taken.taken.2 takes.2,
-  );
-}
+taken_next script text line rest number a b c now next (Ok u) taken cut (asks, printed, does, adds) ok =
+    let sofar = taken.sofar in
+    record {
+      before = taken.before ++ line ∷ [];
+      lines = taken.lines ∙ ap (λ l. taken.before ++ l) (left_after text line rest cut)
+          ∙ sym (append_assoc taken.before (line ∷ []) (lines_left (text_of rest)));
+      count = ap (λ n. n + 1) taken.count ∙ sym (length-append taken.before (line ∷ []));
+      sofar = record {
+        asked = sofar.asked ++ asks;
+        said = sofar.said ++ printed;
+        printed = Appends-trans a b c sofar.said printed sofar.printed adds;
+        taken = taken_more None taken.before line sofar.asked asks sofar.said printed (option_map progress_of now)
+            (option_map progress_of next) sofar.taken does.0;
+        running = does.1 sofar.asked sofar.running;
+      };
+    }
+taken_next script text line rest number a b c now next (Err e) taken cut does ok = absurd (ok e refl)
 
 -- there are few lines
-pub few_taken : (script text : List ℕ) (number : ℕ) (a b : Option (List ℕ)) (now : Option Progress)
+pub few_taken : (script text : List ℕ) (number : ℕ) (a b : Option (List ℕ)) (now : Option code.Progress)
     → length script ≤ 2 ^ 24
     → Taken script (Some text) number a b now → number ≤ 2 ^ 24 + 1
 few_taken script text number a b now few taken =
@@ -150,43 +268,60 @@ pub smaller : (text : List ℕ) (rest : Option (Bor (List ℕ))) → IfSome rest
 smaller text None less = omega arith
 smaller text (Some r) less = omega arith
 
+-- whose device it is at the end
+abbrev pub Leaves : Option code.Progress → Option (DeviceState Lcg) → Type 0
+Leaves now device = (exchanges : List Exchange) → IsRunning exchanges now
+    → IsRunOf (option_map progress_of now) device exchanges
+
 -- no line is left
-pub taken_all : (script : List ℕ) (number : ℕ) (a b : Option (List ℕ)) (now : Option Progress)
-    → Taken script None number a b now → Prints a b (Ends script)
-taken_all script number a b now taken =
-    let all = taken.taken in (
-      all.0,
-      all.1,
+pub taken_all : (script : List ℕ) (number : ℕ) (a b : Option (List ℕ)) (now : Option code.Progress)
+    (device : Option (DeviceState Lcg))
+    → Taken script None number a b now → Leaves now device → Prints a b (Ends script device)
+taken_all script number a b now device taken leaves =
+    let sofar = taken.sofar in (
+      sofar.said,
+      sofar.printed,
       (
-        now,
-        subst (λ (l : List (List ℕ)). HasTaken None l all.0 now)
-            (sym (append-nil taken.before) ∙ sym taken.lines) all.2,
+        sofar.asked,
+        option_map progress_of now,
+        subst (λ (l : List (List ℕ)). HasTaken None l sofar.asked sofar.said (option_map progress_of now))
+            (sym (append-nil taken.before) ∙ sym taken.lines) sofar.taken,
+        leaves sofar.asked sofar.running,
       ),
     )
 
--- the next line is bad
-pub stops : (script text line : List ℕ) (rest : Option (Bor (List ℕ))) (number : ℕ) (a b c d : Option (List ℕ))
-    (now : Option Progress)
-    → Taken script (Some text) number a b now → MatchOption rest (lines_of text ≡ line ∷ [])
-    (λ r. lines_of text ≡ line ∷ lines_of r.now)
-    → IsBadLine now (line_of line) × Appends b c [] → Appends c d (reported (codes "bad line " ++ decimal (number + 1)))
-    → Prints a d (StopsAt script)
-stops script text line rest number a b c d now taken cut bad told =
+-- the next line is out of place
+pub stops : (script text line : List ℕ) (rest : Option (Bor (List ℕ))) (number : ℕ)
+    (a b c d : Option (List ℕ)) (now next : Option code.Progress) (device : Option (DeviceState Lcg))
+    → Taken script (Some text) number a b now
+    → MatchOption rest (lines_of text ≡ line ∷ []) (λ r. lines_of text ≡ line ∷ lines_of r.now)
+    → Handled (DoesText now (line_of line) next) b c (Err ends.BadLine)
+    → Appends c d (reported (codes "bad line " ++ decimal (number + 1))) → Leaves next device
+    → Prints a d (Stops script device)
+stops script text line rest number a b c d now next device taken cut (asks, does, quiet) told leaves =
     let said = reported (codes "bad line " ++ decimal (number + 1)) in
-    let before = taken.taken in (
-      before.0 ++ said,
-      Appends-trans a b d before.0 said before.1 (Appends-trans b c d [] said bad.1 told),
-      record {
-        before = taken.before;
-        text = line;
-        later = lines_left (text_of rest);
-        now = now;
-        said = before.0;
-        lines = taken.lines ∙ ap (λ l. taken.before ++ l) (left_after text line rest cut);
-        taken = before.2;
-        bad = bad.0;
-        is = ap (λ (n : ℕ). before.0 ++ reported (codes "bad line " ++ decimal (n + 1))) taken.count;
-      },
+    let sofar = taken.sofar in (
+      sofar.said ++ said,
+      Appends-trans a b d sofar.said said sofar.printed (Appends-trans b c d [] said quiet told),
+      (
+        sofar.asked ++ asks,
+        option_map progress_of next,
+        record {
+          before = taken.before;
+          text = line;
+          later = lines_left (text_of rest);
+          now = option_map progress_of now;
+          earlier = sofar.asked;
+          here = asks;
+          said = sofar.said;
+          lines = taken.lines ∙ ap (λ l. taken.before ++ l) (left_after text line rest cut);
+          taken = sofar.taken;
+          bad = does.0;
+          whole = refl;
+          is = ap (λ (n : ℕ). sofar.said ++ reported (codes "bad line " ++ decimal (n + 1))) taken.count;
+        },
+        leaves (sofar.asked ++ asks) (does.1 sofar.asked sofar.running),
+      ),
     )
 
 ended_bad : (result : ℕ) (Said : Type 0) → (result ≡ 1) ⊎ ((result ≡ 2) × Said)

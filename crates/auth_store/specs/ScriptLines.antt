@@ -1,50 +1,61 @@
--- What each line of a script does: what it prints, and what is made after it.
-use Rattle.std.specs.Prelude.{◌≡◌, ◌≤◌, ◌^◌, ◌⊎◌, ℕ, ◌++◌, ◌∷◌, Bool, true, false, List, [], codes, length, Option, None, Some, IsSome, Result, Ok, Err, option_map, if◌then◌else◌}
+-- What each line of a script asks of the store's session, what it prints, and what is kept after it.
+use Rattle.std.specs.Prelude.{◌≡◌, ◌⊎◌, ℕ, ◌++◌, ◌∷◌, Bool, true, false, List, [], codes, map, MatchOption, Option, None, Some, Result, Ok, Err, option_map, if◌then◌else◌}
 use Rattle.std.specs.Fmt.{decimal}
 use Rattle.std.specs.Int.{w64, to_be_bytes, from_be_bytes}
-use Rattle.std.specs.Io.KnownBytes.{Appends}
 use Rattle.hex.specs.Hex.{encode_lower}
 use Rattle.merkle_forest.specs.declared.codec.fixed_bytes.FixedBytes.{FixedBytes}
 use Rattle.merkle_forest.specs.Codec.{after_fixed}
 use Rattle.merkle_forest.specs.Forest.{mmr_rule}
 use Rattle.sha2.specs.Sha256.{sha256}
-use Rattle.auth_store.specs.declared.error.StoreError.{StoreError}
-use Rattle.auth_store.specs.declared.error.StoreError.TheVariants.{NumberEnded, Memory}
-use Rattle.auth_store.specs.declared.script.run.Kept.{Kept}
-use Rattle.auth_store.specs.declared.script.run.Progress as code
+use Rattle.auth_store_parts.specs.Batch.{Word, put, meanings}
+use Rattle.auth_store_parts.specs.Report.{reported}
 use Rattle.auth_store_parts.specs.declared.script.line.Line.{Line}
 use Rattle.auth_store_parts.specs.declared.script.line.Line.TheVariants.{Empty, New, Open, Put, Commit, Get, Root, Prove, Proof, CheckValue}
-use Rattle.auth_store.specs.Batch.{Word, put, meanings}
-use Rattle.auth_store.specs.Claims.{Terms, Shows, terms, has_value}
-use Rattle.auth_store.specs.History.{History, latest_map, log_of}
-use Rattle.auth_store.specs.Map.{value_at}
-use Rattle.auth_store.specs.Machine.{Machine, State, Request, Answer, IsRefusal, machine, is_open, ask_open, ask_commit, ask_get, ask_root, ask_proof, proof, value, root_is, refused}
-use Rattle.auth_store.specs.Proving.{honest_proof}
-use Rattle.auth_store.specs.Report.{reported}
-use Rattle.auth_store.specs.Store.{commit_after, root_of_history}
+use Rattle.auth_store_log.specs.Records.{Format, format_of}
+use Rattle.auth_store_ledger.specs.Claims.{Terms, Shows, terms, has_value}
+use Rattle.auth_store_session.specs.Machine.{Machine, Request, Answer, machine, is_opened, is_root_of_commit}
+use Rattle.auth_store_session.specs.Machine.{ask_open, ask_commit, ask_get, ask_root, ask_commits, ask_proof}
+use Rattle.auth_store_session.specs.Machine.{value, root_is, commits_are, proof, refused}
+use Rattle.auth_store_session.specs.Refusals.{number_of}
+use Rattle.auth_store_session.specs.declared.error.StoreError.{StoreError}
+use Rattle.auth_store_session.specs.declared.error.StoreError.TheVariants.{Memory}
 
--- ---- what is made
+-- ---- what is asked
 
--- What a script has made so far: the state of its session, the words of its batch, and the bytes of its last proof with
--- the root of the moment at which it was made.
+-- a step that a line asked of the session, and its answer
+pub record Exchange : Type 0 where
+  pub request : Request
+  pub answer : Answer
+
+abbrev pub exchange : Request → Answer → Exchange
+exchange request answer = record { request = request; answer = answer }
+
+-- what was asked, and what was answered, in the order of time
+abbrev pub asked : List Exchange → List Request
+asked exchanges = map (λ e. e.request) exchanges
+
+abbrev pub answered : List Exchange → List Answer
+answered exchanges = map (λ e. e.answer) exchanges
+
+-- ---- what is kept
+
+-- What a script keeps beside its session: the number that its device is seeded by, the words of its batch, and the bytes of its last
+-- proof with the root of the moment at which it was made.
 pub record Progress : Type 0 where
-  pub state : State
+  pub seed : ℕ
   pub words : List Word
   pub kept : Option (List ℕ × List ℕ)
 
--- what the first line makes
-abbrev pub new_progress : Progress
-new_progress = record { state = None; words = []; kept = None }
+-- what the first line begins with
+abbrev pub new_progress : ℕ → Progress
+new_progress seed = record { seed = seed; words = []; kept = None }
 
--- the same with another state, with other words, or with another proof
-abbrev pub with_state : State → Progress → Progress
-with_state state now = record { state = state; words = now.words; kept = now.kept }
-
+-- the same with other words, or with another proof
 abbrev pub with_words : List Word → Progress → Progress
-with_words words now = record { state = now.state; words = words; kept = now.kept }
+with_words words now = record { seed = now.seed; words = words; kept = now.kept }
 
 abbrev pub with_kept : Option (List ℕ × List ℕ) → Progress → Progress
-with_kept kept now = record { state = now.state; words = now.words; kept = kept }
+with_kept kept now = record { seed = now.seed; words = now.words; kept = kept }
 
 -- the encoding of a key or of a digest
 abbrev pub bytes_of : {M : ℕ} → FixedBytes M → List ℕ
@@ -54,33 +65,17 @@ bytes_of fixed = fixed.bytes
 abbrev pub value_of : ℕ → List ℕ
 value_of number = to_be_bytes w64 number
 
--- the kept bytes of a proof, and the root of the moment at which it was made
-abbrev pub kept_of : Option Kept → Option (List ℕ × List ℕ)
-kept_of kept = option_map (λ k. (k.bytes.items, k.root.bytes)) kept
-
--- what the code has made
-abbrev pub progress_of : code.Progress → Progress
-progress_of p = record {
-  state = p.session.store;
-  words = meanings bytes_of value_of p.batch.words.items;
-  kept = kept_of p.kept;
-}
-
--- the machine of the script: an MMR, SHA-256, chunks of one byte, keys and values of eight
+-- the machine of the script: an MMR, SHA-256, chunks of one byte, keys and values of eight, pages of 64
 abbrev pub script_machine : Machine
-script_machine = machine mmr_rule sha256 (λ _. []) 1 8 8
+script_machine = machine mmr_rule sha256 (λ _. []) 1 8 8 64
+
+-- how its keys and values are read
+abbrev pub script_format : Format
+script_format = format_of (after_fixed 8) (after_fixed 8) 8 8
 
 -- the terms of its proofs
 abbrev pub script_terms : Terms
 script_terms = terms mmr_rule sha256 1 32 (λ digest. digest ≡ None) (λ _. []) (λ key. after_fixed 8 key ≡ Ok []) 8 8
-
--- the root of a history
-abbrev pub script_root : History → List ℕ
-script_root history = root_of_history script_machine.setting 8 8 history
-
--- the honest bytes that prove a key, and the root
-abbrev pub proof_and_root : History → List ℕ → List ℕ × List ℕ
-proof_and_root history key = (honest_proof (λ _. []) script_machine.setting 8 8 history key, script_root history)
 
 -- ---- what is printed
 
@@ -96,30 +91,35 @@ value_line None = codes "none"
 abbrev pub root_line : List ℕ → List ℕ
 root_line digest = codes "root " ++ encode_lower digest
 
--- a refusal's short name
-abbrev pub refusal_name : StoreError → List ℕ
-refusal_name NumberEnded = codes "S3"
-refusal_name Memory = codes "S4"
-
 abbrev pub refusal_line : StoreError → List ℕ
-refusal_line error = codes "error " ++ refusal_name error
+refusal_line error = codes "error " ++ number_of error
 
--- the line that says an answer, where it has one of its own
+-- the line that says an answer: any other has none, and where it comes the script's line is out of place
 abbrev pub answer_line : Answer → Option (List ℕ)
 answer_line (value found) = Some (value_line found)
 answer_line (root_is digest) = Some (root_line digest)
 answer_line (refused error) = Some (refusal_line error)
 answer_line _ = None
 
--- an answer that is no proof
-abbrev pub IsNoProof : Answer → Type 0
-IsNoProof (proof (Some parts)) = ⊥
-IsNoProof _ = Unit {0}
+-- the same where commits are counted: their number behind a word
+abbrev pub count_line : List ℕ → Answer → Option (List ℕ)
+count_line word (commits_are count) = Some (word ++ decimal count)
+count_line word answer = answer_line answer
 
--- a refusal that the request may meet is printed
-abbrev pub Refuses : Request → State → List ℕ → Type 0
-Refuses request state printed =
-    (error : StoreError) × IsRefusal request state error × (printed ≡ reported (refusal_line error))
+-- the same where a proof of this value waits for the root
+abbrev pub present_line : List ℕ → Answer → Option (List ℕ)
+present_line bytes (root_is digest) = Some (codes "present " ++ spelled bytes)
+present_line bytes answer = answer_line answer
+
+-- that proof is kept with the root, where the root is answered
+abbrev pub kept_after : List ℕ → Answer → Option (List ℕ × List ℕ) → Option (List ℕ × List ℕ)
+kept_after bytes (root_is digest) kept = Some (bytes, digest)
+kept_after bytes answer kept = kept
+
+-- the value and the proof in an answer
+abbrev pub proof_in : Answer → Option (List ℕ × List ℕ)
+proof_in (proof found) = found
+proof_in _ = None
 
 -- the line that says what a check answers: it is only refused where it is out of memory
 abbrev pub checked_line : {E : Type 0} → Result Bool E → List ℕ
@@ -132,77 +132,52 @@ Checks Shown printed = ((printed ≡ reported (codes "yes")) × Shown)
     ⊎ ((printed ≡ reported (codes "no")) × (Shown → ⊥))
     ⊎ (printed ≡ reported (refusal_line Memory))
 
--- what is printed is a text that fits
-abbrev pub Prints : Option (List ℕ) → Option (List ℕ) → (List ℕ → Type 0) → Type 0
-Prints before later Fits = (printed : List ℕ) × Appends before later printed × Fits printed
-
 -- ---- what a line does
 
--- a store is open, and this holds of its history
-abbrev pub IsOpenAnd : State → (History → Type 0) → Type 0
-IsOpenAnd state Holds = (history : History) × (state ≡ Some history) × Holds history
+-- nothing is asked
+abbrev pub IsQuiet : List Exchange → Type 0
+IsQuiet exchanges = exchanges ≡ []
 
--- a question to an open store changes nothing: it is answered by a line, or refused
-abbrev pub Asks : Progress → Request → (History → List ℕ) → List ℕ → Progress → Type 0
-Asks now request line printed next = IsOpenAnd now.state (λ history.
-    (next ≡ now) × ((printed ≡ reported (line history)) ⊎ Refuses request now.state printed))
+-- one thing is asked, and the line says its answer
+abbrev pub Asks : Request → List Exchange → Option (List ℕ) → Type 0
+Asks request exchanges printed = (answer : Answer) × (exchanges ≡ exchange request answer ∷ [])
+    × (printed ≡ option_map reported (answer_line answer))
 
--- the words are committed, and the log then has at most 2^62 operations; or the commit is refused. No word is left.
-abbrev pub CommitsWords : Progress → Option (List ℕ) → List ℕ → Progress → Type 0
-CommitsWords now metadata printed next = IsOpenAnd now.state (λ history.
-    (let later = commit_after now.words metadata history in
-    (next ≡ with_state (Some later) (with_words [] now)) × (length (log_of later) ≤ 2 ^ 62)
-    × (printed ≡ reported (codes "commit " ++ decimal (length later))))
-    ⊎ ((next ≡ with_words [] now) × Refuses (ask_commit now.words metadata) now.state printed))
+-- one thing is asked, and where it is done the number of commits besides
+abbrev pub Counts : Request → (Answer → Bool) → List ℕ → List Exchange → Option (List ℕ) → Type 0
+Counts request is_done word exchanges printed =
+    ((answer : Answer) × (is_done answer ≡ false) × (exchanges ≡ exchange request answer ∷ [])
+    × (printed ≡ option_map reported (answer_line answer)))
+    ⊎ ((done answer : Answer) × (is_done done ≡ true) × (exchanges ≡ exchange request done ∷ exchange ask_commits answer ∷ [])
+    × (printed ≡ option_map reported (count_line word answer)))
 
--- the key has a value, and its proof is kept with the root; or the proof is refused, and the former one stays
-abbrev pub Proves : Progress → List ℕ → List ℕ → Progress → Type 0
-Proves now key printed next = IsOpenAnd now.state (λ history.
-    ((bytes : List ℕ) × (value_at (latest_map history) key ≡ Some bytes)
-    × (next ≡ with_kept (Some (proof_and_root history key)) now)
-    × (printed ≡ reported (codes "present " ++ spelled bytes)))
-    ⊎ ((next ≡ now) × Refuses (ask_proof key) now.state printed))
+-- A proof is asked for, and where there is one the root besides, with which it is kept.
+abbrev pub Proves : Progress → List ℕ → List Exchange → Option (List ℕ) → Progress → Type 0
+Proves now key exchanges printed next =
+    ((answer : Answer) × (proof_in answer ≡ None) × (exchanges ≡ exchange (ask_proof key) answer ∷ []) × (next ≡ now)
+    × (printed ≡ option_map reported (answer_line answer)))
+    ⊎ ((bytes proved : List ℕ) × (answer : Answer)
+    × (exchanges ≡ exchange (ask_proof key) (proof (Some (bytes, proved))) ∷ exchange ask_root answer ∷ [])
+    × (next ≡ with_kept (kept_after proved answer now.kept) now)
+    × (printed ≡ option_map reported (present_line bytes answer)))
 
--- a proof is kept, and this holds of its bytes and its root; nothing changes
-abbrev pub UsesKept : Progress → (List ℕ → List ℕ → Type 0) → Progress → Type 0
-UsesKept now Holds next = (kept : List ℕ × List ℕ) × (now.kept ≡ Some kept) × (next ≡ now) × Holds kept.0 kept.1
-
--- what a line that is taken prints, and what is made after it
-abbrev pub Takes : Progress → Line → List ℕ → Progress → Type 0
-Takes now Empty printed next = (printed ≡ []) × (next ≡ now)
-Takes now (New seed) printed next = ⊥
-Takes now Open printed next =
-    ((now.state ≡ None) × (next ≡ with_state (Some []) now) × (printed ≡ reported (codes "open " ++ decimal 0)))
-    ⊎ ((next ≡ now) × Refuses ask_open now.state printed)
-Takes now (Put key number) printed next =
-    (printed ≡ []) × (next ≡ with_words (now.words ++ put key.bytes (value_of number) ∷ []) now)
-Takes now (Commit metadata) printed next = CommitsWords now (option_map value_of metadata) printed next
-Takes now (Get key) printed next =
-    Asks now (ask_get key.bytes) (λ history. value_line (value_at (latest_map history) key.bytes)) printed next
-Takes now Root printed next = Asks now ask_root (λ history. root_line (script_root history)) printed next
-Takes now (Prove key) printed next = Proves now key.bytes printed next
-Takes now Proof printed next =
-    UsesKept now (λ bytes root. printed ≡ reported (codes "proof " ++ encode_lower bytes)) next
-Takes now (CheckValue key number) printed next =
+-- What a line asks, what it prints, and what is kept after it. A line that prints nothing at all, not even an empty text, is out of
+-- place.
+abbrev pub Does : Progress → Line → List Exchange → Option (List ℕ) → Progress → Type 0
+Does now Empty exchanges printed next = IsQuiet exchanges × (printed ≡ Some []) × (next ≡ now)
+Does now (New seed) exchanges printed next = IsQuiet exchanges × (printed ≡ None) × (next ≡ now)
+Does now Open exchanges printed next = Counts ask_open is_opened (codes "open ") exchanges printed × (next ≡ now)
+Does now (Put key number) exchanges printed next =
+    IsQuiet exchanges × (printed ≡ Some []) × (next ≡ with_words (now.words ++ put key.bytes (value_of number) ∷ []) now)
+Does now (Commit metadata) exchanges printed next =
+    Counts (ask_commit now.words (option_map value_of metadata)) is_root_of_commit (codes "commit ") exchanges printed
+    × (next ≡ with_words [] now)
+Does now (Get key) exchanges printed next = Asks (ask_get key.bytes) exchanges printed × (next ≡ now)
+Does now Root exchanges printed next = Asks ask_root exchanges printed × (next ≡ now)
+Does now (Prove key) exchanges printed next = Proves now key.bytes exchanges printed next
+Does now Proof exchanges printed next =
+    IsQuiet exchanges × (printed ≡ option_map (λ kept. reported (codes "proof " ++ encode_lower kept.0)) now.kept) × (next ≡ now)
+Does now (CheckValue key number) exchanges printed next =
     let claim = has_value key.bytes (value_of number) in
-    UsesKept now (λ bytes root. Checks (Shows script_terms claim root bytes) printed) next
-
--- ---- a line that stands where it may not
-
--- a store is opened that is open, or another thing is asked of a closed one
-abbrev pub IsMisplaced : Request → State → Type 0
-IsMisplaced request None = is_open request ≡ false
-IsMisplaced request (Some history) = is_open request ≡ true
-
-abbrev pub IsOutOfPlace : Progress → Line → Type 0
-IsOutOfPlace now Empty = ⊥
-IsOutOfPlace now (New seed) = Unit {0}
-IsOutOfPlace now Open = IsSome now.state
-IsOutOfPlace now (Put key number) = ⊥
-IsOutOfPlace now (Commit metadata) = now.state ≡ None
-IsOutOfPlace now (Get key) = now.state ≡ None
-IsOutOfPlace now Root = now.state ≡ None
-IsOutOfPlace now (Prove key) =
-    (now.state ≡ None) ⊎ IsOpenAnd now.state (λ history. value_at (latest_map history) key.bytes ≡ None)
-IsOutOfPlace now Proof = now.kept ≡ None
-IsOutOfPlace now (CheckValue key number) = now.kept ≡ None
+    IsQuiet exchanges × (next ≡ now) × MatchOption now.kept (printed ≡ None)
+    (λ kept. (text : List ℕ) × (printed ≡ Some text) × Checks (Shows script_terms claim kept.1 kept.0) text)

@@ -1,20 +1,18 @@
-//! An authenticated store: the history of a state, the log that stands for it, its client and its script.
+//! An authenticated store on a device that fails, with its sessions, its light client and its script: all that a user of the
+//! store names, and the script that runs it.
 #![tactic(auto)]
 
-pub mod client;
-pub mod error;
-pub mod plain;
-pub mod run;
 pub mod script;
-pub mod session;
-pub mod store;
 
-pub use auth_store_parts::{Batch, Word, batch, history, state};
-pub use client::{Claim, check};
-pub use error::StoreError;
+pub use auth_store_device::Device;
+pub use auth_store_ledger::{
+    Batch, Claim, KeyProof, Word, batch, check, history, is_chunk_width, state,
+};
+pub use auth_store_session::run::run;
+pub use auth_store_session::{Answer, NotOpened, Session, Sizes, Step, Store, StoreError};
+pub use fault_storage::Config;
 pub use merkle_forest::codec::FixedBytes;
 pub use merkle_forest::{ByteHash, mmb, mmr};
-pub use plain::{PlainCache, PlainDevice, Sizes};
-pub use session::{Answer, Session, Step};
-pub use store::prove::KeyProof;
-pub use store::{NotOpened, Store, is_chunk_width};
+pub use paged_blob::CacheRef;
+pub use rand_pcg::Pcg32;
+pub use script::new_device;

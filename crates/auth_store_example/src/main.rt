@@ -1,22 +1,25 @@
-//! A first use of the library: a store is opened, a key is put and proved, and the proof is checked.
+//! A first use of the library: a store is opened on a device, a key is put and proved, and the proof is checked.
 #![tactic(auto)]
 
 use anyhow::{Context, Result};
 use auth_store::{
-    Batch, ByteHash, Claim, FixedBytes, KeyProof, PlainCache, PlainDevice, Sizes, Store, check, mmr,
+    Batch, ByteHash, CacheRef, Claim, FixedBytes, KeyProof, Pcg32, Sizes, Store, check, mmr,
+    new_device,
 };
 
 type Name = FixedBytes<8>;
 
 fn main(rt: HostRuntime) -> Result<()> {
     let alloc = rt.alloc();
-    let device = PlainDevice::new(alloc);
-    let mut store: Store<mmr::Family, ByteHash, Name, u64, 1> = Store::open(
+    let device = new_device(alloc, 0)?;
+    let cache = CacheRef::new(alloc, 4084, 8);
+    let mut store: Store<Pcg32, mmr::Family, ByteHash, Name, u64, 1> = Store::open(
         alloc,
         device,
-        PlainCache::new(),
+        cache,
         Sizes::default(),
-    )?;
+    )
+    .map_err(|refused| refused.error)?;
     let key = FixedBytes::new([0, 0, 0, 0, 0, 0, 0, 0x61]);
     let mut batch = Batch::new(alloc);
     batch.put(key, 1)?;

@@ -1,3 +1,4 @@
+pub mod Begins
 pub mod Runs
 pub mod Opens
 pub mod Refused

@@ -27,6 +27,25 @@ one_more m before first (r ∷ requests) (a ∷ answers) at now request answer a
 one_more m before first [] (a ∷ answers) at now request answer after next ran step = absurd ran
 one_more m before first (r ∷ requests) [] at now request answer after next ran step = absurd ran
 
+-- a run of a session with a step behind it is one
+pub runs_go_on : {R : Type 0} (m : Machine) (format : Format) (first now next : SessionState R) (requests : List Request)
+    (answers : List Answer) (request : Request) (answer : Answer) → page_size_in next.parts next.store ≡ page_size_in now.parts now.store
+    → Grows (calls_in now.parts now.store) (calls_in next.parts next.store) → Runs m format first requests answers now
+    → Steps m format now request answer next → Runs m format first (requests ++ request ∷ []) (answers ++ answer ∷ []) next
+runs_go_on m format first now next requests answers request answer sized grows runs steps chance state stands =
+    let at = runs (subst (λ size. NoneByChance crc32 size (calls_in now.parts now.store)) sized
+    (fewer crc32 (page_size_in next.parts next.store) grows chance)) state stands in
+    let step = steps chance at.0 at.2 in (
+      step.0,
+      one_more m (power_in first.parts first.store) state requests answers (power_in now.parts now.store) at.0 request answer
+          (power_in next.parts next.store) step.0 at.1 step.1,
+      step.2,
+    )
+
+-- no step is a run
+pub runs_none : {R : Type 0} (m : Machine) (format : Format) (first : SessionState R) → Runs m format first [] [] first
+runs_none m format first chance state stands = (state, (refl, refl), stands)
+
 -- what was taken of some requests, and what is left
 pub record Taken {R : Type 0} (m : Machine) (format : Format) (first : SessionState R) (whole rest : List Request) (given : List Answer)
     (now : SessionState R) : Type 0 where
@@ -40,7 +59,7 @@ pub taken_none : {R : Type 0} (m : Machine) (format : Format) (first : SessionSt
 taken_none m format first whole rest given is none = record {
   before = [];
   is = is;
-  ran = subst (λ answers. Runs m format first [] answers first) (sym none) (λ chance state stands. (state, (refl, refl), stands));
+  ran = subst (λ answers. Runs m format first [] answers first) (sym none) (runs_none m format first);
   sized = refl;
 }
 
@@ -57,15 +76,9 @@ taken_next make format first whole left rest given more now next request answer 
     record {
       before = taken.before ++ request ∷ [];
       is = append_assoc taken.before (request ∷ []) rest ∙ (ap (λ l. taken.before ++ l) (sym is) ∙ taken.is);
-      ran = subst (λ answers. Runs m format first (taken.before ++ request ∷ []) answers next) (sym gives) (λ chance state stands.
-          let at = taken.ran (subst (λ size. NoneByChance crc32 size (calls_in now.parts now.store)) sized
-          (fewer crc32 (page_size_in next.parts next.store) grows chance)) state stands in
-          let step = subst (λ size. Steps (make size) format now request answer next) taken.sized steps chance at.0 at.2 in (
-            step.0,
-            one_more m (power_in first.parts first.store) state taken.before given (power_in now.parts now.store) at.0 request
-                answer (power_in next.parts next.store) step.0 at.1 step.1,
-            step.2,
-          ));
+      ran = subst (λ answers. Runs m format first (taken.before ++ request ∷ []) answers next) (sym gives)
+          (runs_go_on m format first now next taken.before given request answer sized grows taken.ran
+          (subst (λ size. Steps (make size) format now request answer next) taken.sized steps));
       sized = sized ∙ taken.sized;
     }
 

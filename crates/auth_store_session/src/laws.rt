@@ -1,18 +1,23 @@
 //! What holds of all openings and of all runs.
 
-ghost use Rattle.std.specs.Prelude.{◌≡◌, ◌++◌, ℕ, List, [], ◌∷◌, Option};
+ghost use Rattle.std.specs.Prelude.{◌≡◌, ◌++◌, ℕ, List, [], ◌∷◌, Option, Some, None};
 ghost use Rattle.fault_storage_parts.specs.Crc32.{crc32};
+ghost use Rattle.paged_blob.specs.Caches.{Cache};
 ghost use Rattle.paged_blob.specs.Calls.{Call, opened, file_of};
 ghost use Rattle.paged_blob.specs.Chance.{NoneByChance};
 ghost use Rattle.paged_blob.specs.Images.{IsImage};
 ghost use Rattle.paged_blob.specs.Moments.{Grows};
 ghost use Rattle.auth_store_parts.specs.History.{History, Commit};
+ghost use Rattle.auth_store_device.specs.Devices.{DeviceState};
+ghost use Rattle.auth_store_device.specs.Settings.{IsNew};
 ghost use Rattle.auth_store_log.specs.Records.{Format, begun, history_bytes, recovered_log};
 ghost use Rattle.auth_store_session.specs.Machine.{Machine, Power, State, Request, Answer, IsShownOf, IsStep, IsRun};
-ghost use Rattle.auth_store_session.specs.Standing.{IsOpenedThrough};
+ghost use Rattle.auth_store_session.specs.Machine.{closed};
+ghost use Rattle.auth_store_session.specs.Standing.{IsOpenedThrough, StandsFor};
 ghost use Rattle.auth_store_session.specs.Stores.{IsWritten, Shows};
 
-use auth_store_log::laws::one_history_a_log;
+use auth_store_log::laws::{one_history_a_log, what_is_encoded_is_recorded};
+use rand_core::Rng;
 
 /// Where no opening is by chance, the history whose log is recovered of what an opening shows is the one that stood, or
 /// that with the pending commit.
@@ -46,3 +51,11 @@ pub fn a_run_goes_on()
         → IsRun m before first requests answers at now → IsStep m at after now request answer next
         → IsRun m before first (requests ++ request ∷ []) (answers ++ answer ∷ []) after next }
 {}
+
+/// A device of which nothing was called yet stands for the empty history, with any cache, keys and values.
+pub fn a_new_device_stands_for_the_empty_history<R: Rng>()
+    ensures { (rng : R) (device : DeviceState R) (cache : Cache) (format : Format) → IsNew rng device
+        → StandsFor format (Some (device, cache)) None (closed [] None) }
+{
+    what_is_encoded_is_recorded();
+}

@@ -37,7 +37,7 @@ fn key(last: u8) -> Name {
 fn file_of(alloc: Global, bytes: &[u8]) -> Result<Vec<u8>, Fail> {
     let mut disk = MemoryDisk::new(alloc);
     let mut cache = CacheRef::new(alloc, 52, 8);
-    let writer = Writer::<Crc32>::new(alloc, &disk, &mut cache, 128)?;
+    let writer = Writer::<Crc32>::new(alloc, &mut disk, &mut cache, 0, 128)?;
     let _writer = append_batch(writer, &mut disk, &mut cache, bytes)?;
     Ok(disk.as_bytes().to_vec(alloc)?)
 }

@@ -1,4 +1,10 @@
 use super::*;
+use crate::script::progress::{End, report, report_checked};
+use auth_store_session::{Answer, StoreError};
+use merkle_forest::codec::FixedBytes;
+use std::alloc::AllocError;
+use std::io;
+use std::io::ErrorKind;
 use std::process::Abort;
 use std::test::Fail;
 
@@ -23,9 +29,9 @@ pub fn expect(
     let script = script_of(alloc, lines)?;
     let mut reader = script.as_slice();
     let mut out = Vec::new(alloc);
-    let ended = run_script(alloc, &mut reader, &mut out);
+    let end = run_script(alloc, &mut reader, &mut out);
     assert_eq!(rt; out.as_slice(), script_of(alloc, printed)?.as_slice());
-    assert_eq!(rt; ended, status);
+    assert_eq!(rt; end.status, status);
     Ok(())
 }
 
@@ -228,10 +234,16 @@ impl Write for Short {
 fn a_failed_write_ends_the_run(rt: HostRuntime) {
     let mut script = b"new mmr 0\nopen\n".as_slice();
     let mut out = Short { left: 4 };
-    assert_eq!(rt; run_script(rt.alloc(), &mut script, &mut out), IO_FAILED);
+    assert_eq!(rt;
+        run_script(rt.alloc(), &mut script, &mut out).status,
+        IO_FAILED
+    );
     let mut bad = b"new mmr 0\nhop\n".as_slice();
     let mut short = Short { left: 4 };
-    assert_eq!(rt; run_script(rt.alloc(), &mut bad, &mut short), IO_FAILED);
+    assert_eq!(rt;
+        run_script(rt.alloc(), &mut bad, &mut short).status,
+        IO_FAILED
+    );
 }
 
 /// A reader that always fails.
@@ -247,7 +259,10 @@ impl Read for Broken {
 #[test]
 fn a_failed_read_ends_the_run(rt: HostRuntime) {
     let mut out = Vec::new(rt.alloc());
-    assert_eq!(rt; run_script(rt.alloc(), &mut Broken, &mut out), IO_FAILED);
+    assert_eq!(rt;
+        run_script(rt.alloc(), &mut Broken, &mut out).status,
+        IO_FAILED
+    );
     assert!(rt; out.is_empty());
 }
 
@@ -262,16 +277,46 @@ fn each_end_has_its_status(rt: HostRuntime) {
     assert_eq!(rt; status_of(InputError::Read), IO_FAILED);
 }
 
+type Told = Answer<FixedBytes<32>, u64>;
+
 #[test]
 fn refusals_are_printed_by_their_numbers(rt: HostRuntime) -> Result<(), Fail> {
-    let mut out = Vec::new(rt.alloc());
     let alloc = rt.alloc();
-    assert!(rt; report(alloc, &mut out, Answer::Refused(StoreError::NumberEnded)).is_ok());
-    assert!(rt; report(alloc, &mut out, Answer::Refused(StoreError::Memory)).is_ok());
+    let mut out = Vec::new(alloc);
+    for error in [
+        StoreError::Fault(None),
+        StoreError::PowerCut,
+        StoreError::NumberEnded,
+        StoreError::Memory,
+        StoreError::Corrupt,
+        StoreError::Failed,
+    ] {
+        let answer: Told = Answer::Refused(error);
+        assert!(rt; report(alloc, &mut out, answer).is_ok());
+    }
     report_checked(&mut out, Err(AllocError))?;
-    assert_eq!(rt;
-        out.as_slice(),
-        b"error S3\nerror S4\nerror S4\n".as_slice()
-    );
+    let lines = b"error S1\nerror S2\nerror S3\nerror S4\nerror S5\nerror S6\nerror S4\n";
+    assert_eq!(rt; out.as_slice(), lines.as_slice());
+    Ok(())
+}
+
+// The device of a script that opened its store once: it is closed, and no opening of it was by chance.
+#[test]
+fn the_device_is_given_back(rt: HostRuntime) -> Result<(), Fail> {
+    let alloc = rt.alloc();
+    let mut script = b"new mmr 0\nopen\ncommit\n".as_slice();
+    let mut out = Vec::new(alloc);
+    let end = run_script(alloc, &mut script, &mut out);
+    let Some(device) = end.device else {
+        return Err(Fail::from("no device"));
+    };
+    assert!(rt; device.is_closed());
+    let mut by_chance = Vec::new(alloc);
+    for opening in device.openings() {
+        by_chance.push(opening.by_chance(alloc, 64)?)?;
+    }
+    assert_eq!(rt; by_chance.as_slice(), [false].as_slice());
+    let mut none = b"".as_slice();
+    assert!(rt; run_script(alloc, &mut none, &mut out).device.is_none());
     Ok(())
 }
