@@ -18,8 +18,7 @@ fn main(rt: HostRuntime) -> Result<()> {
         device,
         cache,
         Sizes::default(),
-    )
-    .map_err(|refused| refused.error)?;
+    ).map_err(|refused| refused.error)?;
     let key = FixedBytes::new([0, 0, 0, 0, 0, 0, 0, 0x61]);
     let mut batch = Batch::new(alloc);
     batch.put(key, 1)?;

@@ -12,6 +12,8 @@ returns-clause-calls c =
     let disk = c.args.self.now in
     let file = disk.bytes.items in
     let calls = calls_from (reverse disk.steps.items) file in
-    let pushed : reverse c.push.new.self.items ≡ Synced ∷ reverse disk.steps.items = grind (arith, common_steps) in
-    (file, record { image = subst (IsImage (file_of calls)) (sym disk.live) (whole_image (file_of calls)); content = λ _. disk.live },
-        ap (λ l. calls_from l file) pushed)
+    let pushed : reverse c.push.new.self.items ≡ Synced ∷ reverse disk.steps.items = grind (arith, common_steps) in (
+      file,
+      record { image = subst (IsImage (file_of calls)) (sym disk.live) (whole_image (file_of calls)); content = λ _. disk.live },
+      ap (λ l. calls_from l file) pushed,
+    )
