@@ -185,7 +185,7 @@ impl<F: Family, H: HashFunction, K: FixedKey, V: FixedValue, const N: usize> Led
         ensures { MatchOption result (value_at (spec.latest_map self.now) (K.encoding key.now) ≡ None)
             (λ index. HasValueAt (K.encoding key.now) self.now index) }
     {
-        let location = history::active_location(key, self.log.operations());
+        let location = self.log.active_location(key);
         match update_at(self.log.operations(), location) {
             Some(_) => Some(location as u64),
             None => None,

@@ -2,3 +2,4 @@
 pub mod Lookups
 pub mod Logs
 pub mod Actives
+pub mod Places

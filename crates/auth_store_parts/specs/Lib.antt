@@ -1,6 +1,7 @@
 pub mod Map
 pub mod Batch
 pub mod History
+pub mod Places
 pub mod Script
 pub mod Line
 pub mod Report

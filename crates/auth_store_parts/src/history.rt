@@ -3,10 +3,12 @@
 pub mod activity;
 pub mod changes;
 pub mod laws;
+pub mod places;
 pub mod replay;
 
-pub use activity::{active_location, activity_bits, inactivity_floor};
+pub use activity::{activity_bits, inactivity_floor};
 pub use changes::{batch_operations, changes_of};
+pub use places::Places;
 pub use replay::latest_map_of;
 
 #[cfg(test)]

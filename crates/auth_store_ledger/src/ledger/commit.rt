@@ -71,9 +71,10 @@ pub fn append_commit<F: Family, H: HashFunction, K: FixedKey, V: FixedValue, con
     ensures kept { OnErr result (log.new ≡ log.old) }
 {
     let start = log.len();
+    let places = log.places().try_copy()?;
     let committed = try_commit::<F, H, K, V, N>(alloc, log, changes, metadata);
     if committed.is_err() {
-        log.truncate(start);
+        log.go_back(start, places);
     }
     committed
 }

@@ -1,24 +1,29 @@
 //! The log of a store: its operations with their encodings.
 
-ghost use Rattle.std.specs.Prelude.{◌≡◌, ◌≤◌, ◌++◌, ◌∷◌, [], List, map, take, drop, length, IfOk, OnOk, OnErr};
+ghost use Rattle.std.specs.Prelude.{◌≡◌, ◌+◌, ◌≤◌, ◌^◌, ◌++◌, ◌∷◌, [], List, map, take, drop, length, IfOk, OnOk, OnErr};
 ghost use Rattle.std.specs.List.{flat_map};
 ghost use Rattle.state_ops.specs.Operation as meaning;
-ghost use Rattle.auth_store_ledger.specs.History.{meanings};
+ghost use Rattle.auth_store_ledger.specs.History.{meanings, active_location, activity_bits};
+ghost use Rattle.auth_store_parts.specs.Places.{places_of};
 ghost use Rattle.auth_store_log.specs.Records.{format_of, log_bytes, AreRecorded, FloorsFit};
 ghost use Rattle.auth_store_ledger.specs.Store as spec;
 
+use crate::history;
+use crate::history::Places;
 use auth_store_log::encoding::record_bytes;
 use merkle_forest::Family;
 use state_ops::{FixedKey, FixedValue, OrderedOperation};
 use std::alloc::{AllocError, Global};
 use std::marker::Model;
 
-/// Operations with the fixed encoding of each, which is made once. Its contracts see it as what the operations say.
+/// Operations with the fixed encoding of each, which is made once, and with the place of each key's update. Its contracts
+/// see it as what the operations say.
 #[derive(Drop)]
 pub struct Log<F: Family, K: FixedKey, V: FixedValue> {
     alloc: Global,
     operations: Vec<OrderedOperation<F, K, V>>,
     encodings: Vec<Vec<u8>>,
+    places: Places<K>,
 }
 
 impl<F: Family, K: FixedKey, V: FixedValue> Model for Log<F, K, V> {
@@ -29,7 +34,8 @@ impl<F: Family, K: FixedKey, V: FixedValue> Model for Log<F, K, V> {
     ghost invariant = { λ log. (map (λ e. e.items) log.encodings.items ≡ spec.encodings K.SIZE V.SIZE
         (meanings K.encoding V.encoding log.operations.items))
         × spec.AreWritten (format_of (K.after tt) (V.after tt) K.SIZE V.SIZE)
-        (meanings K.encoding V.encoding log.operations.items) };
+        (meanings K.encoding V.encoding log.operations.items)
+        × (log.places ≡ places_of (meanings K.encoding V.encoding log.operations.items)) };
 }
 
 /// The fixed encodings of the operations. It fails only when out of memory.
@@ -59,6 +65,7 @@ impl<F: Family, K: FixedKey, V: FixedValue> Log<F, K, V> {
             alloc,
             operations: Vec::new(alloc),
             encodings: Vec::new(alloc),
+            places: Places::new(alloc),
         }
     }
 
@@ -83,6 +90,31 @@ impl<F: Family, K: FixedKey, V: FixedValue> Log<F, K, V> {
         &self.encodings
     }
 
+    /// Where the updates stand that give keys their values.
+    pub fn places(&self) -> &Places<K>
+        ensures { result.now ≡ places_of self.now }
+    {
+        &self.places
+    }
+
+    /// The location of the active update of the key, or the number of operations where there is none.
+    pub fn active_location(&self, key: &K) -> usize
+        ensures location { result ≡ active_location (K.encoding key.now) self.now }
+        ensures within { result ≤ length self.now }
+    {
+        match self.places.get(key) {
+            Some(location) => location,
+            None => self.operations.len(),
+        }
+    }
+
+    /// For each operation whether it still counts. It fails only when out of memory.
+    pub fn activity_bits(&self) -> Result<Vec<bool>, AllocError>
+        ensures { IfOk result (λ bits. bits.items ≡ activity_bits self.now) }
+    {
+        history::activity_bits(self.alloc, &self.operations, &self.places)
+    }
+
     /// What holds of every log: where the floors of its commits fit, its operations are read again as they were
     /// written.
     pub fn is_recorded(&self)
@@ -98,28 +130,37 @@ impl<F: Family, K: FixedKey, V: FixedValue> Log<F, K, V> {
     {
         let encoding = record_bytes(self.alloc, &operation)?;
         self.operations.reserve(1)?;
+        self.encodings.reserve(1)?;
+        self.places.follow(self.operations.len(), &operation)?;
         self.encodings.push(encoding)?;
         Ok(self.operations.push(operation)?)
     }
 
     /// Appends operations. It fails only when out of memory, and the log then stays as it was.
     pub fn append(&mut self, operations: Vec<OrderedOperation<F, K, V>>) -> Result<(), AllocError>
+        requires { length self.old + length operations.items ≤ 2 ^ 62 }
         ensures ok { OnOk result (self.new ≡ self.old ++ meanings K.encoding V.encoding operations.items) }
         ensures err { OnErr result (self.new ≡ self.old) }
     {
         let mut operations = operations;
         let mut encodings = encodings_of(self.alloc, &operations)?;
+        let mut places = self.places.try_copy()?;
+        places.follow_all(self.operations.len(), &operations)?;
         self.operations.reserve(operations.len())?;
         self.encodings.append(&mut encodings)?;
-        Ok(self.operations.append(&mut operations)?)
+        self.operations.append(&mut operations)?;
+        self.places = places;
+        Ok(())
     }
 
-    /// Leaves the first `count` operations.
-    pub fn truncate(&mut self, count: usize)
+    /// Leaves the first `count` operations, whose places these are.
+    pub fn go_back(&mut self, count: usize, places: Places<K>)
+        requires { places ≡ places_of (take count self.old) }
         ensures { self.new ≡ take count self.old }
     {
         self.operations.truncate(count);
         self.encodings.truncate(count);
+        self.places = places;
     }
 
     /// The fixed encodings of the operations after the first `count`, one after the other. It fails only when out of

@@ -15,7 +15,6 @@ use super::log::Log;
 use super::root::snapshot_of;
 use crate::client::laws::honest_proofs_show_true_claims;
 use crate::error::LedgerError;
-use crate::history;
 use merkle_forest::codec::Write;
 use merkle_forest::{Family, Graftable, HashFunction, PendingOf};
 use state_ops::{FixedKey, FixedValue, Operation, OrderedOperation, OrderedUpdate};
@@ -67,7 +66,7 @@ where
         ≡ key_value_proof F.pending_encoding (setting_of_width F.merge_rule H.hash_of N)
         (state_of_log K.SIZE V.SIZE log.now) location (K.encoding next_key.now)) }
 {
-    let bits = history::activity_bits(alloc, log.operations())?;
+    let bits = log.activity_bits()?;
     let snapshot = snapshot_of::<N>(log.encodings(), &bits, floor);
     let proof = KeyValueProof::<F, K, H::Digest> {
         proof: honest_proof::<F, H>(alloc, &snapshot, location as u64)?,
@@ -98,7 +97,7 @@ pub fn prove_in_log<
           (state_of_log K.SIZE V.SIZE log.now) (active_location (K.encoding key.now) log.now) update.1,
     )) (active_update (K.encoding key.now) log.now)) }
 {
-    let location = history::active_location(key, log.operations());
+    let location = log.active_location(key);
     let Some(update) = update_at(log.operations(), location) else {
         return Ok(None);
     };

@@ -6,7 +6,6 @@ ghost use Rattle.auth_store_ledger.specs.Store.{IsChunkWidth, grafting_height, s
 ghost use Rattle.state_proofs.specs.Canonical.{canonical_root};
 
 use super::log::Log;
-use crate::history;
 use merkle_forest::{Family, HashFunction};
 use state_ops::{FixedKey, FixedValue};
 use state_proofs::canonical::canonical_root;
@@ -48,7 +47,7 @@ pub fn root_of_log<F: Family, H: HashFunction, K: FixedKey, V: FixedValue, const
     ensures { IfOk result (λ root. H.Digest.encoding root
         ≡ canonical_root (setting_of_width F.merge_rule H.hash_of N) (state_of_log K.SIZE V.SIZE log.now)) }
 {
-    let bits = history::activity_bits(alloc, log.operations())?;
+    let bits = log.activity_bits()?;
     let snapshot = snapshot_of::<N>(log.encodings(), &bits, floor);
     canonical_root::<F, H>(alloc, &snapshot)
 }

@@ -1,10 +1,12 @@
 //! Which operations of a log still count.
 
-ghost use Rattle.std.specs.Prelude.{◌≡◌, ◌≤◌, length, IfOk};
+ghost use Rattle.std.specs.Prelude.{◌≡◌, ◌<◌, length, slice_get, Some, IfOk};
 ghost use Rattle.std.specs.List.{list_any};
 ghost use Rattle.state_ops.specs.Operation.{meaning_of};
 ghost use Rattle.auth_store_parts.specs.History as spec;
+ghost use Rattle.auth_store_parts.specs.Places.{places_of};
 
+use super::places::Places;
 use merkle_forest::Family;
 use state_ops::{FixedKey, FixedValue, Operation, OrderedOperation};
 use std::alloc::{AllocError, Global};
@@ -62,18 +64,6 @@ pub fn is_active<F: Family, K: FixedKey, V: FixedValue>(
     }
 }
 
-/// Whether the operation is the active update of the key, given the operations after it.
-pub fn is_active_on<F: Family, K: FixedKey, V: FixedValue>(
-    key: &K,
-    operation: &OrderedOperation<F, K, V>,
-    later: &[OrderedOperation<F, K, V>],
-) -> bool
-    ensures { result ≡ spec.is_active_on (K.encoding key.now) (meaning_of K.encoding V.encoding operation.now)
-        (spec.meanings K.encoding V.encoding later.now) }
-{
-    has_key(key, operation) && is_active(operation, later)
-}
-
 /// Whether the operation is an update that still counts, given the operations after it.
 fn is_active_update<F: Family, K: FixedKey, V: FixedValue>(
     operation: &OrderedOperation<F, K, V>,
@@ -88,19 +78,39 @@ fn is_active_update<F: Family, K: FixedKey, V: FixedValue>(
     }
 }
 
-/// For each operation of the log whether it still counts. It fails only when out of memory.
+/// Whether the operation at a location of a log still counts, given the places of the log.
+fn counts_at<F: Family, K: FixedKey, V: FixedValue>(
+    log: &[OrderedOperation<F, K, V>],
+    location: usize,
+    places: &Places<K>,
+) -> bool
+    requires within { location < length log.now }
+    requires places { places.now ≡ places_of (spec.meanings K.encoding V.encoding log.now) }
+    ensures { slice_get (spec.activity_bits (spec.meanings K.encoding V.encoding log.now)) location ≡ Some result }
+{
+    match &log[location] {
+        Operation::Delete(_) => false,
+        Operation::Update(update) => match places.get(&update.key) {
+            Some(place) => place == location,
+            None => false,
+        },
+        Operation::CommitFloor(_, _) => !any_is_commit(&log[location + 1..]),
+    }
+}
+
+/// For each operation of the log whether it still counts, given the places of the log. It fails only when out of
+/// memory.
 pub fn activity_bits<F: Family, K: FixedKey, V: FixedValue>(
     alloc: Global,
-    operations: &[OrderedOperation<F, K, V>],
+    log: &[OrderedOperation<F, K, V>],
+    places: &Places<K>,
 ) -> Result<Vec<bool>, AllocError>
-    ensures { IfOk result (λ bits. bits.items
-        ≡ spec.activity_bits (spec.meanings K.encoding V.encoding operations.now)) }
+    requires { places.now ≡ places_of (spec.meanings K.encoding V.encoding log.now) }
+    ensures { IfOk result (λ bits. bits.items ≡ spec.activity_bits (spec.meanings K.encoding V.encoding log.now)) }
 {
     let mut bits = Vec::new(alloc);
-    let mut rest = operations;
-    while let [operation, later @ ..] = rest {
-        bits.push(is_active(operation, later))?;
-        rest = later;
+    for location in 0..log.len() {
+        bits.push(counts_at(log, location, places))?;
     }
     Ok(bits)
 }
@@ -120,23 +130,4 @@ pub fn inactivity_floor<F: Family, K: FixedKey, V: FixedValue>(
         rest = later;
     }
     (operations.len() - rest.len()) as u64
-}
-
-/// The location of the active update of the key, or the number of operations where there is none.
-pub fn active_location<F: Family, K: FixedKey, V: FixedValue>(
-    key: &K,
-    operations: &[OrderedOperation<F, K, V>],
-) -> usize
-    ensures location { result ≡ spec.active_location (K.encoding key.now)
-        (spec.meanings K.encoding V.encoding operations.now) }
-    ensures within { result ≤ length operations.now }
-{
-    let mut rest = operations;
-    while let [operation, later @ ..] = rest {
-        if is_active_on(key, operation, later) {
-            break;
-        }
-        rest = later;
-    }
-    operations.len() - rest.len()
 }

@@ -59,6 +59,18 @@ fn delete_key(alloc: Global, log: &mut Vec<Change>, last: u8) -> Result<(), Allo
     append(alloc, log, &batch)
 }
 
+// The activity bits of a log.
+fn bits_of(alloc: Global, log: &[Change]) -> Result<Vec<bool>, AllocError> {
+    let places = Places::of(alloc, log)?;
+    activity_bits(alloc, log, &places)
+}
+
+// Where the update stands in a log that gives this key its value.
+fn place_in(alloc: Global, log: &[Change], last: u8) -> Result<Option<usize>, AllocError> {
+    let places = Places::of(alloc, log)?;
+    Ok(places.get(&key(last)))
+}
+
 #[test]
 fn appends_operations_and_marks_the_active_ones(rt: HostRuntime) -> Result<(), Fail> {
     let alloc = rt.alloc();
@@ -69,7 +81,7 @@ fn appends_operations_and_marks_the_active_ones(rt: HostRuntime) -> Result<(), F
         [commit(0), update(b'a', 1, b'a'), commit(1)].as_slice()
     );
     assert_eq!(rt;
-        activity_bits(alloc, &log)?.as_slice(),
+        bits_of(alloc, &log)?.as_slice(),
         [false, true, true].as_slice()
     );
     put(alloc, &mut log, b'c', 3)?;
@@ -79,7 +91,7 @@ fn appends_operations_and_marks_the_active_ones(rt: HostRuntime) -> Result<(), F
         [update(b'a', 1, b'c'), update(b'c', 3, b'a'), commit(3)].as_slice()
     );
     assert_eq!(rt;
-        activity_bits(alloc, &log)?.as_slice(),
+        bits_of(alloc, &log)?.as_slice(),
         [false, false, false, true, true, true].as_slice()
     );
     delete_key(alloc, &mut log, b'a')?;
@@ -89,13 +101,15 @@ fn appends_operations_and_marks_the_active_ones(rt: HostRuntime) -> Result<(), F
         [delete(b'a'), update(b'c', 3, b'c'), commit(7)].as_slice()
     );
     assert_eq!(rt;
-        activity_bits(alloc, &log)?.as_slice(),
+        bits_of(alloc, &log)?.as_slice(),
         [false, false, false, false, false, false, false, true, true].as_slice()
     );
+    assert_eq!(rt; place_in(alloc, &log, b'c')?, Some(7));
+    assert_eq!(rt; place_in(alloc, &log, b'a')?, None);
     delete_key(alloc, &mut log, b'c')?;
     assert_eq!(rt; log.len(), 11);
     assert_eq!(rt; &log[9..], [delete(b'c'), commit(10)].as_slice());
-    let bits = activity_bits(alloc, &log)?;
+    let bits = bits_of(alloc, &log)?;
     assert_eq!(rt;
         bits.as_slice(),
         [
@@ -116,7 +130,7 @@ fn a_put_of_the_value_that_is_there_adds_a_commit_alone(rt: HostRuntime) -> Resu
     put(alloc, &mut log, b'c', 3)?;
     assert_eq!(rt; log.len(), 10);
     assert_eq!(rt; &log[9..], [commit(7)].as_slice());
-    let bits = activity_bits(alloc, &log)?;
+    let bits = bits_of(alloc, &log)?;
     assert_eq!(rt;
         bits.as_slice(),
         [
@@ -136,9 +150,6 @@ fn the_last_word_on_a_key_wins(rt: HostRuntime) -> Result<(), Fail> {
     batch.delete(key(b'a'))?;
     append(alloc, &mut log, &batch)?;
     assert_eq!(rt; log.as_slice(), [commit(0), commit(1)].as_slice());
-    assert_eq!(rt;
-        activity_bits(alloc, &log)?.as_slice(),
-        [false, true].as_slice()
-    );
+    assert_eq!(rt; bits_of(alloc, &log)?.as_slice(), [false, true].as_slice());
     Ok(())
 }

@@ -9,10 +9,9 @@ pub returns-in-Some : goal.returns-in-Some
 returns-in-Some g c =
     let key = g.K.Write.encoding c.args.key.now in
     let log = c.self.inside.log in
-    let place : c.active_location-location.result ≡ active_location key log = c.active_location-location.ensures.location
-    ∙ ap (active_location key) c.operations.ensures in
+    let place : c.active_location-location.result ≡ active_location key log = c.active_location-location.ensures.location in
     let fields = c.in-Some.ensures.update ∙ (ap (λ l. update_fields (slice_get l c.active_location-location.result))
-    c.operations-2.ensures ∙ ap (λ n. update_fields (slice_get log n)) place) in
+    c.operations.ensures ∙ ap (λ n. update_fields (slice_get log n)) place) in
     let there = located key log _ c.self.invariant.1.states c.self.invariant.1.whole (sym fields) in
     subst (λ (h : History). HasValueAt key h c.active_location-location.result) c.self.view_is
     (subst (λ n. HasValueAt key (history_of log) n) (sym place) there)
@@ -21,9 +20,8 @@ pub returns-in-None : goal.returns-in-None
 returns-in-None g c =
     let key = g.K.Write.encoding c.args.key.now in
     let log = c.self.inside.log in
-    let place : c.active_location-location.result ≡ active_location key log = c.active_location-location.ensures.location
-    ∙ ap (active_location key) c.operations.ensures in
+    let place : c.active_location-location.result ≡ active_location key log = c.active_location-location.ensures.location in
     let fields = c.in-None.ensures.update ∙ (ap (λ l. update_fields (slice_get l c.active_location-location.result))
-    c.operations-2.ensures ∙ ap (λ n. update_fields (slice_get log n)) place) in
+    c.operations.ensures ∙ ap (λ n. update_fields (slice_get log n)) place) in
     ap (λ (h : History). value_at (latest_map h) key) (sym c.self.view_is)
     ∙ unlocated key log c.self.invariant.1.states c.self.invariant.1.whole (sym fields)

@@ -4,7 +4,6 @@ use Rattle.state_proofs.specs.Encoded.{key_value_proof_encoding}
 use Rattle.state_proofs.specs.Honest.{honest_parts}
 use Rattle.state_proofs.specs.ProofsCode.{parts_of}
 use Rattle.state_proofs.specs.Snapshot.{setting_of, state_of}
-use Rattle.auth_store_ledger.specs.History.{activity_bits}
 use Rattle.auth_store_ledger.proofs.Proofs.{same_state}
 use Rattle.auth_store_ledger.specs.Store.{setting_of_width, state_of_log}
 use Rattle.auth_store_ledger.proofs.ledger.prove.proof_at.Goals as goal
@@ -29,7 +28,7 @@ returns-clause-bytes g c =
     let seen = c.snapshot_of-snapshot.ensures in
     let state : state_of snapshot ≡ logged = same_state _ _ _ _ _ _
     (ap (map (λ e. e.items)) seen.operations ∙ c.encodings.ensures)
-    (seen.bits ∙ (c.deref.ensures.value ∙ (c.in_ok-bits.ensures ∙ ap activity_bits c.operations.ensures)))
+    (seen.bits ∙ (c.deref.ensures.value ∙ c.in_ok-bits.ensures))
     (seen.floor ∙ c.requires.last) in
     c.in_ok-write.ensures.ok
     ∙ (ap (λ start. start ++ key_value_proof_encoding pending

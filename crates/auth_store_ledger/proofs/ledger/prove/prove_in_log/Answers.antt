@@ -17,10 +17,9 @@ returns-clause-found g c =
     let next : List ℕ = g.K.Write.encoding c.in-Some.update.now.next_key in
     let setting : Setting = setting_of_width g.F.Family.merge_rule g.H.HashFunction.hash_of g.row.N in
     let pending = g.F.PendingOf.pending_encoding in
-    let location : place ≡ active_location key log = c.active_location-location.ensures.location
-    ∙ ap (active_location key) c.operations.ensures in
+    let location : place ≡ active_location key log = c.active_location-location.ensures.location in
     let named : Some (value, next) ≡ active_update key log =
-    c.in-Some.ensures.update ∙ (ap (λ (l : List Operation). update_fields (slice_get l place)) c.operations-2.ensures
+    c.in-Some.ensures.update ∙ (ap (λ (l : List Operation). update_fields (slice_get l place)) c.operations.ensures
     ∙ ap (λ (n : ℕ). update_fields (slice_get log n)) location) in
     let copied : g.V.Write.encoding c.in_ok-clone.field-0 ≡ value = g.met.V.Faithful.copied c.in-Some.update.now.value
     c.in_ok-clone.field-0 c.in_ok-clone.ensures.cases in

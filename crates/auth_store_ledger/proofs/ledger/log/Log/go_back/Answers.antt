@@ -4,8 +4,9 @@ use Rattle.state_ops.specs.Operation.{meaning_of}
 use Rattle.auth_store_ledger.specs.History.{meanings}
 use Rattle.auth_store_ledger.specs.Store.{encodings, AreWritten}
 use Rattle.auth_store_log.specs.Records.{format_of}
+use Rattle.auth_store_parts.specs.Places.{places_of}
 use Rattle.auth_store_ledger.proofs.Written.{written_front}
-use Rattle.auth_store_ledger.proofs.ledger.log.Log.truncate.Goals as goal
+use Rattle.auth_store_ledger.proofs.ledger.log.Log.go_back.Goals as goal
 
 pub returns : goal.returns
 returns g c =
@@ -24,4 +25,8 @@ invariant_of-self g c = (
       (take-map (meaning_of g.K.Write.encoding g.V.Write.encoding) c.args.count c.self.inside.operations.items
       ∙ ap (meanings g.K.Write.encoding g.V.Write.encoding) (sym c.truncate.ensures.items))
       (written_front _ c.args.count _ c.self.invariant.1),
+  c.requires
+      ∙ ap places_of (sym (ap (meanings g.K.Write.encoding g.V.Write.encoding) c.truncate.ensures.items
+      ∙ (sym (take-map (meaning_of g.K.Write.encoding g.V.Write.encoding) c.args.count c.self.inside.operations.items)
+      ∙ ap (take c.args.count) c.self.view_is))),
 )
