@@ -6,3 +6,4 @@ pub mod MadeStates
 pub mod Once
 pub mod Reading
 pub mod Showing
+pub mod Witness

@@ -20,14 +20,20 @@ ghost use Rattle.merkle_forest.specs.Nodes.{nodes_at, nodes_of_height};
 ghost use Rattle.merkle_forest.specs.Shape.{shape};
 ghost use Rattle.merkle_forest.specs.Trees.{Within};
 ghost use Rattle.merkle_forest.specs.TreesCode.{shapes};
-ghost use Rattle.state_proofs.specs.Grafting.{grafted, grafted_digest, chunk_aligned_inactive_peaks};
+ghost use Rattle.state_proofs.specs.Grafting.{grafted, grafted_digest, chunk_aligned_inactive_peaks as aligned_peaks};
+
+pub mod counts;
+pub mod positions;
+pub mod verifier;
 
 use crate::bits::is_zero_chunk;
 use crate::chunk_size::ChunkSize;
+pub use counts::{chunk_aligned_inactive_peaks, graftable_chunks, height};
 use merkle_forest::Digest;
 use merkle_forest::forest::{Tree, height_of, leaf_count_of};
 use merkle_forest::hasher::{HashFunction, hash_leaf, hash_node};
 use merkle_forest::trees::TreeDigests;
+pub use positions::{grafted_to_ops_pos, ops_to_grafted_pos};
 use std::marker::PhantomData;
 
 /// The digest of a subtree of the grafting height with its chunk: a chunk without a set bit leaves it as it is.
@@ -139,7 +145,7 @@ pub fn graftable_count(chunk_size: ChunkSize, peaks: &[Tree]) -> usize
 /// In the Rust: `qmdb::current::grafting::chunk_aligned_inactive_peaks`, from leaf count and height.
 pub fn aligned_count_of(chunk_size: ChunkSize, floor: u64, peaks: &[(usize, &Tree)]) -> usize
     requires { Within usize.MAX (shapes peaks.now) }
-    ensures count { result ≡ chunk_aligned_inactive_peaks (8 * chunk_size.width) floor (shapes peaks.now) }
+    ensures count { result ≡ aligned_peaks (8 * chunk_size.width) floor (shapes peaks.now) }
     ensures within { result ≤ length peaks.now }
 {
     match peaks {
