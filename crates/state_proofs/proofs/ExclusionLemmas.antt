@@ -1,9 +1,9 @@
 -- What a proof of absence shows, from the check of its operation.
-use Rattle.std.proofs.Common.{◌≡◌, ℕ, List, true, sym, ◌∙◌, subst}
+use Rattle.std.proofs.Common.{◌≡◌, ℕ, List, sym, subst}
 use Rattle.merkle_forest.specs.Forest.{Rule}
 use Rattle.merkle_forest.specs.Hashing.{Hash}
 use Rattle.state_proofs.specs.Exclusion.{ExclusionParts, LeavesOut, Excludes, proof_of, operation_of}
-use Rattle.state_proofs.specs.Verified.{Parts, Verifies}
+use Rattle.state_proofs.specs.Verified.{Verifies}
 
 -- the check of the operation says whether the proof shows the absence of a key that its operation leaves out
 pub excludes_exactly : (Yes : Type 0) (rule : Rule) (hash : Hash) (key_size value_size : ℕ) (root : List ℕ) (said proof : ExclusionParts)

@@ -68,10 +68,16 @@ exclusion_encoding pending (by_commit proof metadata) =
     2 ∷ (operation_proof_encoding pending proof ++ option_encoding (λ bytes. bytes) metadata)
 
 -- The bytes after such a proof, or its first fault, in the grammars of an operation's proof, of a key and of a value.
+abbrev pub after_by_update : (List ℕ → Outcome) → (List ℕ → Outcome) → (List ℕ → Outcome) → List ℕ → Outcome
+after_by_update proof key value bytes = proof bytes >>= after_ordered key value
+
+abbrev pub after_by_commit : (List ℕ → Outcome) → (List ℕ → Outcome) → List ℕ → Outcome
+after_by_commit proof value bytes = proof bytes >>= after_option value
+
 abbrev pub after_tag : (List ℕ → Outcome) → (List ℕ → Outcome) → (List ℕ → Outcome) → ℕ → List ℕ → Outcome
 after_tag proof key value tag bytes =
-    if tag == 1 then proof bytes >>= after_ordered key value
-    else (if tag == 2 then proof bytes >>= after_option value else Err (InvalidEnum tag))
+    if tag == 1 then after_by_update proof key value bytes
+    else (if tag == 2 then after_by_commit proof value bytes else Err (InvalidEnum tag))
 
 abbrev pub after_exclusion : (List ℕ → Outcome) → (List ℕ → Outcome) → (List ℕ → Outcome) → List ℕ → Outcome
 after_exclusion proof key value [] = Err EndOfBuffer

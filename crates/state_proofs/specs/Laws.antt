@@ -1,5 +1,6 @@
 -- Lemmas that crates above cite, and the laws of the traits.
 pub mod Encoded
+pub mod Exclusion
 pub mod MadeCanonical
 pub mod MadeGrafted
 pub mod MadeStates

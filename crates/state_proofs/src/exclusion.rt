@@ -5,6 +5,8 @@ ghost use Rattle.state_ops.specs.Operation.{fixed_encoding, commit_floor};
 ghost use Rattle.state_proofs.specs.Exclusion.{is_below, is_in_span, Excludes};
 ghost use Rattle.state_proofs.specs.ExclusionCode.{exclusion_of};
 
+pub mod codec;
+
 use crate::operation::Proof;
 use crate::ordered::encoded_update;
 use merkle_forest::{Digest, Family, Graftable, HashFunction, Location, PendingOf};

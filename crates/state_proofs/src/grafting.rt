@@ -2,17 +2,27 @@
 //!
 //! With chunks of one byte the grafting height is 3: over each chunk's 8 operations one node of that height stands,
 //! once it is born. Its digest is joined with the chunk, and so the root shows each bit beside its operation, for one
-//! more hash a chunk:
+//! more hash a chunk. In a range (MMR) of 19 operations both full chunks have their nodes:
 //!
 //! ```text
+//!                  o                                height 4: its string has the joined digests of both children
+//!            /           \
 //!          G0             G1                        height 3: own digest joined with chunk 0, with chunk 1
-//!       ...  ...       ...  ...
-//!     op 0 .. op 7   op 8 .. op 15   op 16 .. op 18
-//!       chunk 0         chunk 1         chunk 2     the last is partial, with 3 bits
+//!       ...  ...       ...  ...           o
+//!     op 0 .. op 7   op 8 .. op 15   16, 17 .. 18   chunk 2 is partial, with 3 bits
 //! ```
 //!
-//! A chunk that is full but has no node yet is pending; a family whose nodes are born at once has none. The digest of
-//! the pending chunk and of the partial one stand in the canonical string.
+//! In a belt (MMB) of 17 operations the node over operations 8 to 15 is not born yet, and comes with the 19th: chunk 1 is
+//! full and pending.
+//!
+//! ```text
+//!          G0             o       o                 height 3: own digest joined with chunk 0
+//!       ...  ...        /   \   /   \
+//!     op 0 .. op 7   8 .. 11   12 .. 15   16        chunk 1 is pending, chunk 2 is partial, with 1 bit
+//! ```
+//!
+//! A family whose nodes are born at once has no pending chunk. The digest of the pending chunk and of the partial one stand
+//! in the canonical string.
 
 ghost use Rattle.std.specs.Prelude.{◌≡◌, ◌<◌, ◌≤◌, ◌+◌, ◌*◌, ◌/◌, ◌^◌, ◌++◌, [], ◌∷◌, ℕ, List, map, length, IfOk, OnOk, slice_index_or};
 ghost use Rattle.merkle_forest.specs.Forest.{leaf_count, leaves};
