@@ -8,3 +8,10 @@ pub mod Accepted
 pub mod HonestSizes
 pub mod Extending
 pub mod YesIsTrue
+pub mod SameNodeLemmas
+pub mod VerifierLemmas
+pub mod RangeIsTrue
+pub mod WitnessLemmas
+pub mod RequiredLemmas
+pub mod PeakSteps
+pub mod ExclusionLemmas

@@ -1,6 +1,10 @@
 -- Bits in chunks. Bit i stands in byte i / 8 of its chunk, as bit i mod 8 from the least.
-use Rattle.std.specs.Prelude.{ℕ, zero, suc, ◌+◌, ◌*◌, ◌/◌, ◌%◌, ◌^◌, ◌==◌, Bool, false, Option, None, Some, if◌then◌else◌, List, [], ◌∷◌, take, drop}
+use Rattle.std.specs.Prelude.{◌≡◌, ◌≤◌, ℕ, zero, suc, ◌+◌, ◌*◌, ◌/◌, ◌%◌, ◌^◌, ◌==◌, Bool, false, Option, None, Some, if◌then◌else◌, List, [], ◌∷◌, take, drop}
 use Rattle.std.specs.List.{list_all}
+
+-- so many bytes are a chunk's: their bits are a power of two, 2^62 at most
+abbrev pub IsChunkWidth : ℕ → Type 0
+IsChunkWidth width = (height : ℕ) × (8 * width ≡ 2 ^ height) × (height ≤ 62)
 
 -- the byte of up to eight bits, the least first
 abbrev pub byte_of : List Bool → ℕ

@@ -1,6 +1,7 @@
 //! How many bits a chunk has.
 
 ghost use Rattle.std.specs.Prelude.{◌≡◌, ◌<◌, ◌≤◌, ◌*◌, ◌/◌, ◌%◌, ◌^◌, ℕ, length, IfSome, IfNone};
+ghost use Rattle.state_proofs.specs.Bits.{IsChunkWidth};
 
 /// How many bytes a chunk has, and the height of a tree over as many operations as it has bits (own). So the bits are a
 /// power of two, 2^62 at most: over each chunk of such a tree one node stands.
@@ -34,6 +35,14 @@ impl ChunkSize {
             width,
             grafting_height: height + 3,
         })
+    }
+
+    /// The size of a chunk of N bytes (own).
+    pub fn of_bytes<const N: usize>() -> ChunkSize
+        requires { IsChunkWidth N }
+        ensures { result.width ≡ N }
+    {
+        ChunkSize::new(N).unwrap()
     }
 
     /// The size of this chunk. None: its bits are no power of two, or more than 2^62 (own).

@@ -2,17 +2,27 @@
 //!
 //! With chunks of one byte the grafting height is 3: over each chunk's 8 operations one node of that height stands,
 //! once it is born. Its digest is joined with the chunk, and so the root shows each bit beside its operation, for one
-//! more hash a chunk:
+//! more hash a chunk. In a range (MMR) of 19 operations both full chunks have their nodes:
 //!
 //! ```text
+//!                  o                                height 4: its string has the joined digests of both children
+//!            /           \
 //!          G0             G1                        height 3: own digest joined with chunk 0, with chunk 1
-//!       ...  ...       ...  ...
-//!     op 0 .. op 7   op 8 .. op 15   op 16 .. op 18
-//!       chunk 0         chunk 1         chunk 2     the last is partial, with 3 bits
+//!       ...  ...       ...  ...           o
+//!     op 0 .. op 7   op 8 .. op 15   16, 17 .. 18   chunk 2 is partial, with 3 bits
 //! ```
 //!
-//! A chunk that is full but has no node yet is pending; a family whose nodes are born at once has none. The digest of
-//! the pending chunk and of the partial one stand in the canonical string.
+//! In a belt (MMB) of 17 operations the node over operations 8 to 15 is not born yet, and comes with the 19th: chunk 1 is
+//! full and pending.
+//!
+//! ```text
+//!          G0             o       o                 height 3: own digest joined with chunk 0
+//!       ...  ...        /   \   /   \
+//!     op 0 .. op 7   8 .. 11   12 .. 15   16        chunk 1 is pending, chunk 2 is partial, with 1 bit
+//! ```
+//!
+//! A family whose nodes are born at once has no pending chunk. The digest of the pending chunk and of the partial one stand
+//! in the canonical string.
 
 ghost use Rattle.std.specs.Prelude.{◌≡◌, ◌<◌, ◌≤◌, ◌+◌, ◌*◌, ◌/◌, ◌^◌, ◌++◌, [], ◌∷◌, ℕ, List, map, length, IfOk, OnOk, slice_index_or};
 ghost use Rattle.merkle_forest.specs.Forest.{leaf_count, leaves};
@@ -20,14 +30,20 @@ ghost use Rattle.merkle_forest.specs.Nodes.{nodes_at, nodes_of_height};
 ghost use Rattle.merkle_forest.specs.Shape.{shape};
 ghost use Rattle.merkle_forest.specs.Trees.{Within};
 ghost use Rattle.merkle_forest.specs.TreesCode.{shapes};
-ghost use Rattle.state_proofs.specs.Grafting.{grafted, grafted_digest, chunk_aligned_inactive_peaks};
+ghost use Rattle.state_proofs.specs.Grafting.{grafted, grafted_digest, chunk_aligned_inactive_peaks as aligned_peaks};
+
+pub mod counts;
+pub mod positions;
+pub mod verifier;
 
 use crate::bits::is_zero_chunk;
 use crate::chunk_size::ChunkSize;
+pub use counts::{chunk_aligned_inactive_peaks, graftable_chunks, height};
 use merkle_forest::Digest;
 use merkle_forest::forest::{Tree, height_of, leaf_count_of};
 use merkle_forest::hasher::{HashFunction, hash_leaf, hash_node};
 use merkle_forest::trees::TreeDigests;
+pub use positions::{grafted_to_ops_pos, ops_to_grafted_pos};
 use std::marker::PhantomData;
 
 /// The digest of a subtree of the grafting height with its chunk: a chunk without a set bit leaves it as it is.
@@ -139,7 +155,7 @@ pub fn graftable_count(chunk_size: ChunkSize, peaks: &[Tree]) -> usize
 /// In the Rust: `qmdb::current::grafting::chunk_aligned_inactive_peaks`, from leaf count and height.
 pub fn aligned_count_of(chunk_size: ChunkSize, floor: u64, peaks: &[(usize, &Tree)]) -> usize
     requires { Within usize.MAX (shapes peaks.now) }
-    ensures count { result ≡ chunk_aligned_inactive_peaks (8 * chunk_size.width) floor (shapes peaks.now) }
+    ensures count { result ≡ aligned_peaks (8 * chunk_size.width) floor (shapes peaks.now) }
     ensures within { result ≤ length peaks.now }
 {
     match peaks {

@@ -2,12 +2,17 @@
 
 ghost use Rattle.std.specs.Prelude.{◌≡◌, ◌<◌, ◌≤◌, ◌*◌, ◌^◌, ◌⊎◌, ℕ, List, [], length, slice_get, slice_index_or, Ok, Some, true};
 ghost use Rattle.merkle_forest.specs.Hashing.{Hash};
-ghost use Rattle.merkle_forest.specs.Made.{Collision};
-ghost use Rattle.state_proofs.specs.Canonical.{Setting, State, canonical_root};
+ghost use Rattle.merkle_forest.specs.Made.{Collision, strings};
+ghost use Rattle.state_proofs.specs.Canonical.{Setting, State, canonical_root, operations_root};
 ghost use Rattle.state_proofs.specs.Encoded.{format_of, ShowsOperation, ShowsUpdate};
+ghost use Rattle.state_proofs.specs.Exclusion.{ExclusionParts, proof_of, operation_of, LeavesOut, Excludes};
 ghost use Rattle.state_proofs.specs.Honest.{honest_parts, operation_proof, key_value_proof};
+ghost use Rattle.state_proofs.specs.MadeRanges.{HasRange, range_strings};
 ghost use Rattle.state_proofs.specs.MadeStates.{HasActive, HasDigestsOf, hashed_strings, rebuilt_strings};
-ghost use Rattle.state_proofs.specs.Verified.{Parts, Verifies};
+ghost use Rattle.state_proofs.specs.RangeVerified.{Shown, VerifiesRange};
+ghost use Rattle.state_proofs.specs.SameNodes.{IsSameNode};
+ghost use Rattle.state_proofs.specs.Verified.{RangeParts, Parts, Verifies};
+ghost use Rattle.state_proofs.specs.Witness.{WitnessParts, HasWitnessOf, witnessed_string, witnessed_made, honest_witness};
 
 use merkle_core::laws::{
     honest_digests_are_few, honest_digests_lead_to_the_root, reconstructed_is_read,
@@ -104,4 +109,74 @@ pub fn verified_operations_are_active_or_strings_collide<F: Graftable>()
         ⊎ Collision hash (hashed_strings setting state) (rebuilt_strings setting proof operation)) }
 {
     reconstructed_is_read::<F>();
+}
+
+/// Where a proof over a range verifies under the canonical root of a state, the operations that are shown stand in the
+/// state from the location on and the chunks over them are the state's, or the strings hashed for the state and those
+/// rebuilt from the proof have a collision. So it is with digests of 32 bytes.
+pub fn verified_ranges_are_the_states_or_strings_collide<F: Graftable>()
+    ensures { (hash : Hash) (width grafting_height : ℕ) (state : State) (proof : RangeParts) (shown : Shown)
+        → ((bytes : List ℕ) → length (hash bytes) ≡ 32) → 8 * width ≡ 2 ^ grafting_height → grafting_height ≤ 62
+        → length state.operations ≤ 2 ^ 62 → shown.width ≡ width → HasDigestsOf 32 proof
+        → (let setting : Setting = record {
+          rule = F.merge_rule;
+          hash = hash;
+          width = width;
+          grafting_height =
+              grafting_height;
+        } in
+        VerifiesRange F.merge_rule hash (canonical_root setting state) proof shown
+        → HasRange setting state shown
+        ⊎ Collision hash (hashed_strings setting state) (range_strings setting proof shown)) }
+{}
+
+/// A node over whole chunks has one position in the tree of the operations and one in the tree of the chunks: so the two
+/// conversions of positions undo each other.
+pub fn a_node_has_one_position_in_each_tree<F: Graftable>()
+    ensures chunks { (grafting_height ops grafted other : ℕ) → IsSameNode F.merge_rule grafting_height ops grafted
+        → IsSameNode F.merge_rule grafting_height ops other → grafted ≡ other }
+    ensures operations { (grafting_height ops other grafted : ℕ) → IsSameNode F.merge_rule grafting_height ops grafted
+        → IsSameNode F.merge_rule grafting_height other grafted → ops ≡ other }
+{}
+
+/// The honest witness of a state leads from the root of its operations' tree to its canonical root.
+pub fn honest_witnesses_lead_to_the_root()
+    ensures { (setting : Setting) (state : State)
+        → setting.hash (witnessed_string (honest_witness setting state) (operations_root setting state))
+        ≡ canonical_root setting state }
+{}
+
+/// Where a witness leads from a root to the canonical root of a state, that root is the one of the state's operations, or
+/// the strings hashed for the state and those rebuilt from the witness have a collision. So it is with digests of 32
+/// bytes.
+pub fn witnessed_roots_are_the_states_or_strings_collide()
+    ensures { (setting : Setting) (state : State) (witness : WitnessParts) (operations : List ℕ)
+        → ((bytes : List ℕ) → length (setting.hash bytes) ≡ 32) → HasWitnessOf 32 witness → length operations ≡ 32
+        → setting.hash (witnessed_string witness operations) ≡ canonical_root setting state
+        → (operations ≡ operations_root setting state)
+        ⊎ Collision setting.hash (hashed_strings setting state) (strings setting.hash (witnessed_made witness operations)) }
+{}
+
+/// Where a proof of absence verifies under the canonical root of a state, its operation stands at its location in the
+/// state, is active there and leaves the key out, or the strings hashed for the state and those rebuilt from the proof
+/// have a collision. So it is with digests of 32 bytes.
+pub fn verified_absences_are_the_states_or_strings_collide<F: Graftable>()
+    ensures { (hash : Hash) (width grafting_height key_size value_size : ℕ) (state : State) (proof : ExclusionParts)
+        (key : List ℕ)
+        → ((bytes : List ℕ) → length (hash bytes) ≡ 32) → 8 * width ≡ 2 ^ grafting_height → grafting_height ≤ 62
+        → length state.operations ≤ 2 ^ 62 → length (proof_of proof).chunk ≡ width
+        → HasDigestsOf 32 (proof_of proof).range
+        → (let setting : Setting = record {
+          rule = F.merge_rule;
+          hash = hash;
+          width = width;
+          grafting_height =
+              grafting_height;
+        } in
+        Excludes F.merge_rule hash key_size value_size (canonical_root setting state) proof key
+        → (HasActive state (proof_of proof).location (operation_of key_size value_size proof) × LeavesOut proof key)
+        ⊎ Collision hash (hashed_strings setting state)
+        (rebuilt_strings setting (proof_of proof) (operation_of key_size value_size proof))) }
+{
+    verified_operations_are_active_or_strings_collide::<F>();
 }

@@ -2,20 +2,29 @@
 //! `qmdb::current` of commonware-storage 2026.10.0; `In the Rust` names what an item is there.
 #![tactic(auto)]
 
+pub mod bitmap;
 pub mod bits;
 pub mod canonical;
 pub mod chunk_size;
+pub mod error;
+pub mod exclusion;
 pub mod grafting;
 pub mod honest;
 pub mod laws;
 pub mod operation;
 pub mod ordered;
 pub mod proof;
+pub mod required;
 pub mod seal;
 pub mod snapshot;
 pub mod verify;
+pub mod witness;
 
 pub use chunk_size::ChunkSize;
+pub use error::Error;
+pub use exclusion::ExclusionProof;
 pub use ordered::KeyValueProof;
 pub use proof::RangeProof;
+pub use required::RequiredChunks;
 pub use snapshot::Snapshot;
+pub use witness::OpsRootWitness;

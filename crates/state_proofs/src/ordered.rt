@@ -103,7 +103,7 @@ impl<F: PendingOf<D>, K: FixedKey, D: Digest> Read for KeyValueProof<F, K, D> {
 }
 
 // The encoded update that gives the key this value, before this next key. It fails only when out of memory.
-fn encoded_update<F: Family, K: FixedKey, V: FixedValue>(
+pub(crate) fn encoded_update<F: Family, K: FixedKey, V: FixedValue>(
     alloc: Global,
     key: &K,
     value: &V,

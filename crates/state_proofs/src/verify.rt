@@ -12,7 +12,7 @@ ghost use Rattle.state_proofs.specs.ProofsCode.{parts_of, range_parts_of};
 ghost use Rattle.state_proofs.specs.Verified.{FitsChunk, FitsChunks, Verifies, grafted_hashing};
 
 use crate::chunk_size::ChunkSize;
-use crate::grafting::graft;
+use crate::grafting::{graft, graftable_chunks};
 use crate::operation::Proof;
 use crate::proof::RangeProof;
 use crate::seal::seal;
@@ -20,7 +20,7 @@ use merkle_core::rebuild::Overlay;
 use merkle_core::reconstruct::reconstruct_one;
 use merkle_forest::bagging::Bagging;
 use merkle_forest::hasher::{HashFunction, Standard};
-use merkle_forest::{Graftable, MAX_LEAVES, PendingOf};
+use merkle_forest::{Graftable, Location, MAX_LEAVES, PendingOf};
 use std::marker::PhantomData;
 
 /// At the grafting height the chunk is joined in.
@@ -48,17 +48,12 @@ impl<H: HashFunction> Overlay<H::Digest> for GraftedChunk<'_, H> {
     }
 }
 
-/// How many chunks of so many operations are graftable.
-/// In the Rust: `qmdb::current::grafting::graftable_chunks`, which panics at height 0; here no chunk has that height.
+/// How many chunks of so many operations are graftable (own).
 pub fn graftable_chunks_of<F: Graftable>(leaves: u64, chunk_size: ChunkSize) -> u64
     requires { leaves ≤ 2 ^ 62 }
     ensures { result ≡ nodes_of_height chunk_size.grafting_height (forest_of F.merge_rule leaves) }
 {
-    let birth = F::birth(0, chunk_size.grafting_height);
-    if leaves < birth {
-        return 0;
-    }
-    ((leaves - birth) >> chunk_size.grafting_height) + 1
+    graftable_chunks::<F>(Location::new(leaves), chunk_size.grafting_height)
 }
 
 // Whether this bit of the chunk is set.
@@ -72,7 +67,7 @@ fn is_bit_set(chunk: &[u8], bit: u64) -> bool
 }
 
 // Whether a digest is held exactly if the chunk is there, and it is that of this chunk if this is the covered one.
-fn fits_chunk<H: HashFunction>(
+pub(crate) fn fits_chunk<H: HashFunction>(
     digest: &Option<H::Digest>,
     is_there: bool,
     is_covered: bool,
@@ -170,7 +165,7 @@ fn grafted_root_of<F: Graftable + PendingOf<H::Digest>, H: HashFunction>(
 }
 
 // The digest of the canonical string of the proof's parts, over this root of the grafted tree.
-fn sealed_root<F: PendingOf<H::Digest>, H: HashFunction>(
+pub(crate) fn sealed_root<F: PendingOf<H::Digest>, H: HashFunction>(
     proof: &RangeProof<F, H::Digest>,
     grafted: &H::Digest,
     next: u64,

@@ -26,7 +26,7 @@ zeros zero = refl
 zeros (suc width) = zeros width
 
 -- where there is no chunk nothing is joined in
-no_chunk : (hash : Hash) (width : ℕ) (chunks : List (List ℕ)) (i : ℕ) (d : List ℕ)
+pub no_chunk : (hash : Hash) (width : ℕ) (chunks : List (List ℕ)) (i : ℕ) (d : List ℕ)
     → grafted hash (slice_index_or chunks i (replicate width 0)) d ≡ grafted hash (slice_index_or chunks i []) d
 no_chunk hash width [] i d = ap (λ b. cond b d (hash (replicate width 0 ++ d))) (zeros width)
 no_chunk hash width (c ∷ chunks) zero d = refl

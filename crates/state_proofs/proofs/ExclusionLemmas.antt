@@ -1,0 +1,18 @@
+-- What a proof of absence shows, from the check of its operation.
+use Rattle.std.proofs.Common.{◌≡◌, ℕ, List, sym, subst}
+use Rattle.merkle_forest.specs.Forest.{Rule}
+use Rattle.merkle_forest.specs.Hashing.{Hash}
+use Rattle.state_proofs.specs.Exclusion.{ExclusionParts, LeavesOut, Excludes, proof_of, operation_of}
+use Rattle.state_proofs.specs.Verified.{Verifies}
+
+-- the check of the operation says whether the proof shows the absence of a key that its operation leaves out
+pub excludes_exactly : (Yes : Type 0) (rule : Rule) (hash : Hash) (key_size value_size : ℕ) (root : List ℕ) (said proof : ExclusionParts)
+    (asked operation : List ℕ) → said ≡ proof → operation ≡ operation_of key_size value_size proof → LeavesOut proof asked
+    → (Yes → Verifies rule hash root (proof_of proof) operation) × (Verifies rule hash root (proof_of proof) operation → Yes)
+    → (Yes → Excludes rule hash key_size value_size root said asked) × (Excludes rule hash key_size value_size root said asked → Yes)
+excludes_exactly Yes rule hash key_size value_size root said proof asked operation same is out exact =
+    let Shows : List ℕ → Type 0 = λ o. Verifies rule hash root (proof_of proof) o in
+    let By : ExclusionParts → Type 0 = λ p. Excludes rule hash key_size value_size root p asked in (
+      λ yes. subst By (sym same) (record { leaves_out = out; verifies = subst Shows is (exact.0 yes) }),
+      λ it. exact.1 (subst Shows (sym is) (subst By same it).verifies),
+    )

@@ -1,0 +1,41 @@
+-- The canonical root as a proof over a range leads to it, and what that shows.
+use Rattle.std.specs.Prelude.{◌≡◌, ℕ, ◌+◌, ◌%◌, ◌<◌, ◌&&◌, nat_lt, nat_le, Bool, List, length, Option, Some, option_map, slice_get}
+use Rattle.merkle_forest.specs.Made.{at_pending, at_partial, Made, bytes, Strings, strings}
+use Rattle.state_proofs.specs.Canonical.{Setting, State, chunk}
+use Rattle.state_proofs.specs.MadeCanonical.{if_made, canonical_made, chunk_made}
+use Rattle.state_proofs.specs.MadeStates.{held_or_made}
+use Rattle.state_proofs.specs.RangeVerified.{Shown, shown_bits, first_index, covering, full_shown, graftable_shown, shown_grafted}
+use Rattle.state_proofs.specs.Verified.{RangeParts}
+
+-- whether the chunk at an index is among those that are shown
+abbrev pub is_covered : Shown → ℕ → Bool
+is_covered shown index = nat_le (first_index shown) index && nat_lt index (first_index shown + length shown.chunks)
+
+-- the digests of the pending and of the partial chunk, made of the chunks that are shown where these are covered
+abbrev pub range_pending : ℕ → RangeParts → Shown → Option Made
+range_pending graftable proof shown =
+    held_or_made (chunk_made at_pending (covering shown graftable)) (is_covered shown graftable) proof.pending
+
+abbrev pub range_partial : RangeParts → Shown → Option Made
+range_partial proof shown =
+    held_or_made (chunk_made at_partial (covering shown (full_shown proof shown))) (is_covered shown (full_shown proof shown)) proof.partial
+
+-- the canonical root over this root of the grafted tree
+abbrev pub range_over : Setting → RangeParts → Shown → Made → Made
+range_over setting proof shown grafted = canonical_made (record {
+  operations = bytes proof.operations_root;
+  grafted = grafted;
+  pending_chunk = range_pending (graftable_shown setting.rule setting.grafting_height proof) proof shown;
+  partial_chunk = option_map (λ made. (proof.leaves % shown_bits shown, made)) (range_partial proof shown);
+})
+
+-- the strings that are hashed when the canonical root is rebuilt from the proof and what is shown
+abbrev pub range_strings : Setting → RangeParts → Shown → Strings
+range_strings setting proof shown =
+    strings setting.hash (if_made (option_map (range_over setting proof shown) (shown_grafted setting.rule setting.grafting_height proof shown)))
+
+-- the operations stand in the state from the location on, and the chunks over them are the state's
+pub record HasRange (setting : Setting) (state : State) (shown : Shown) : Type 0 where
+  pub stands : (i : ℕ) → i < length shown.operations
+      → slice_get state.operations (shown.start + i) ≡ slice_get shown.operations i
+  pub chunks : (i : ℕ) → i < length shown.chunks → slice_get shown.chunks i ≡ Some (chunk setting state (first_index shown + i))

@@ -1,0 +1,32 @@
+//! Bits of a state that may be read by chunks.
+
+ghost use Rattle.std.specs.Prelude.{◌≡◌, ◌<◌, ◌≤◌, ◌+◌, ◌*◌, ◌^◌, List, Bool, ℕ, length, drop};
+ghost use Rattle.state_proofs.specs.Bits.{chunk_of};
+
+/// Bits in chunks of N bytes, of which chunks may be pruned from the front.
+/// In the Rust: `commonware_utils::bitmap::Readable`.
+pub trait BitmapReadable<const N: usize> {
+    /// All bits, those that are pruned too.
+    ghost bits: { Self → List Bool };
+
+    /// How many chunks are pruned.
+    ghost pruned: { Self → ℕ };
+
+    /// How many bits there are, with those that are pruned. In the Rust: `commonware_utils::bitmap::Readable::len`.
+    fn len(&self) -> u64
+        ensures { result ≡ length (bits self.now) };
+
+    /// How many chunks are pruned. In the Rust: `commonware_utils::bitmap::Readable::pruned_chunks`, a usize.
+    fn pruned_chunks(&self) -> u64
+        ensures { result ≡ pruned self.now };
+
+    /// The chunk at an index, which is not pruned and has a bit: where it is partial zeros stand after its last bit.
+    /// In the Rust: `commonware_utils::bitmap::Readable::get_chunk`, which panics past the end.
+    fn get_chunk(&self, index: u64) -> [u8; N]
+        requires kept { pruned self.now ≤ index }
+        requires within { 8 * N * index < length (bits self.now) }
+        ensures { result ≡ chunk_of N (drop (8 * N * index) (bits self.now)) };
+
+    /// Chunks are pruned whole.
+    ghost pruned_within: { (b : Self) → 8 * N * pruned b ≤ length (bits b) };
+}

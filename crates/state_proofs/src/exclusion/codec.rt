@@ -1,0 +1,177 @@
+//! How proofs that a key is not in a state are written and read.
+
+ghost use Rattle.std.specs.Prelude.{◌≡◌, ◌⊎◌, ◌++◌, ◌∷◌, [], length, option_map, IfSome, IfOk, IfErr, OnOk, OnErr};
+ghost use Rattle.merkle_forest.specs.Codec.{Extends, Reads, LacksAfter, OptionLacks, option_encoding};
+ghost use Rattle.state_ops_parts.specs.Grammar.{OrderedLacks};
+ghost use Rattle.state_proofs.specs.Encoded.{operation_proof_encoding, after_operation_proof, OperationProofLacks};
+ghost use Rattle.state_proofs.specs.Exclusion.{exclusion_encoding, after_by_update, after_by_commit, after_exclusion, ExclusionLacks};
+ghost use Rattle.state_proofs.specs.ExclusionCode.{exclusion_of, IsExclusionValue, IsExclusionWithin};
+ghost use Rattle.state_proofs.specs.ProofsCode.{parts_of};
+
+use super::ExclusionProof;
+use crate::operation::Proof;
+use merkle_forest::codec::{Cursor, EncodeSize, Error, Read, Write, or_undo};
+use merkle_forest::{Digest, PendingOf};
+use state_ops::{FixedKey, FixedValue, OrderedUpdate};
+use std::alloc::{AllocError, Global};
+
+/// The tag of a proof by an update, the first byte of its encoding.
+/// In the Rust: `qmdb::current::ordered::KEY_VALUE_CONTEXT`.
+pub const KEY_VALUE_CONTEXT: u8 = 1;
+
+/// The tag of a proof by a commit. In the Rust: `qmdb::current::ordered::COMMIT_CONTEXT`.
+pub const COMMIT_CONTEXT: u8 = 2;
+
+// Appends the encoding. Out of memory, some of its bytes may have been appended.
+fn write_parts<F: PendingOf<D>, K: FixedKey, V: FixedValue, D: Digest>(
+    proof: &ExclusionProof<F, K, V, D>,
+    out: &mut Vec<u8>,
+) -> Result<(), AllocError>
+    ensures ok { OnOk result (out.new.items ≡ out.old.items ++ exclusion_encoding F.pending_encoding
+        (exclusion_of K.encoding V.encoding D.encoding F.held proof.now)) }
+    ensures err { OnErr result (Extends out.old.items out.new.items) }
+    ensures value { OnOk result
+        (IsExclusionValue ⟦<Proof<F, D> as Write>⟧.is_value K.is_value V.is_value proof.now) }
+{
+    match proof {
+        ExclusionProof::KeyValue(proof, update) => {
+            out.push(KEY_VALUE_CONTEXT)?;
+            proof.write(out)?;
+            update.write(out)
+        }
+        ExclusionProof::Commit(proof, metadata) => {
+            out.push(COMMIT_CONTEXT)?;
+            proof.write(out)?;
+            metadata.write(out)
+        }
+    }
+}
+
+/// Its encoding is a tag; the proof of the operation; and the update without its tag, or the metadata if any.
+impl<F: PendingOf<D>, K: FixedKey, V: FixedValue, D: Digest> Write for ExclusionProof<F, K, V, D> {
+    ghost encoding = { λ p. exclusion_encoding F.pending_encoding
+        (exclusion_of K.encoding V.encoding D.encoding F.held p) };
+
+    ghost is_value = { λ p. IsExclusionValue ⟦<Proof<F, D> as Write>⟧.is_value K.is_value V.is_value p };
+
+    fn write(&self, out: &mut Vec<u8>) -> Result<(), AllocError> {
+        let start = out.len();
+        or_undo(write_parts(self, out), out, start)
+    }
+}
+
+impl<F, K, V, D> EncodeSize for ExclusionProof<F, K, V, D>
+where
+    F: PendingOf<D>,
+    K: FixedKey + EncodeSize,
+    V: FixedValue + EncodeSize,
+    D: Digest,
+{
+    fn encode_size(&self) -> usize {
+        match self {
+            ExclusionProof::KeyValue(proof, update) => {
+                1 + proof.encode_size()
+                    + (update.key.encode_size()
+                        + (update.value.encode_size() + update.next_key.encode_size()))
+            }
+            ExclusionProof::Commit(proof, metadata) => {
+                1 + proof.encode_size() + metadata.encode_size()
+            }
+        }
+    }
+}
+
+// The byte at the front. Where none is left: C1.
+fn read_tag(cursor: &mut Cursor<'_>) -> Result<u8, Error>
+    ensures ok { IfOk result (λ tag. cursor.old ≡ tag ∷ cursor.new) }
+    ensures err { IfErr result (λ e. (e ≡ Error.EndOfBuffer) × (cursor.old ≡ [])) }
+{
+    let bytes = cursor.take(1)?;
+    Ok(bytes[0])
+}
+
+// A proof and an update at the front.
+fn read_update<F: PendingOf<D>, K: FixedKey, V: FixedValue, D: Digest>(
+    alloc: Global,
+    cursor: &mut Cursor<'_>,
+    limits: &(usize, usize),
+) -> Result<(Proof<F, D>, OrderedUpdate<K, V>), Error>
+    ensures read { Reads (λ x. operation_proof_encoding F.pending_encoding (parts_of D.encoding F.held x.0)
+        ++ (K.encoding x.1.key ++ (V.encoding x.1.value ++ K.encoding x.1.next_key))) cursor.old cursor.new
+        (after_by_update (after_operation_proof (D.after tt) F.pending_after limits.now.0 limits.now.1) (K.after tt)
+        (V.after tt) cursor.old)
+        (OperationProofLacks limits.now.0 limits.now.1 cursor.old
+        ⊎ LacksAfter (after_operation_proof (D.after tt) F.pending_after limits.now.0 limits.now.1 cursor.old)
+        (OrderedLacks (K.after tt) (V.after tt) (K.may_lack tt) (V.may_lack tt))) result }
+    ensures proof { IfOk result (λ x. ⟦<Proof<F, D> as Write>⟧.is_value x.0) }
+    ensures update { IfOk result (λ x. K.is_value x.1.key × (V.is_value x.1.value × K.is_value x.1.next_key)) }
+    ensures chunk { IfOk result (λ x. length x.0.chunk.items ≡ limits.now.0) }
+{
+    let proof = Proof::read_cfg(alloc, cursor, limits)?;
+    let update = OrderedUpdate::<K, V>::read_cfg(alloc, cursor, &())?;
+    Ok((proof, update))
+}
+
+// A proof and metadata at the front.
+fn read_commit<F: PendingOf<D>, V: FixedValue, D: Digest>(
+    alloc: Global,
+    cursor: &mut Cursor<'_>,
+    limits: &(usize, usize),
+) -> Result<(Proof<F, D>, Option<V>), Error>
+    ensures read { Reads (λ x. operation_proof_encoding F.pending_encoding (parts_of D.encoding F.held x.0)
+        ++ option_encoding V.encoding x.1) cursor.old cursor.new
+        (after_by_commit (after_operation_proof (D.after tt) F.pending_after limits.now.0 limits.now.1) (V.after tt)
+        cursor.old)
+        (OperationProofLacks limits.now.0 limits.now.1 cursor.old
+        ⊎ LacksAfter (after_operation_proof (D.after tt) F.pending_after limits.now.0 limits.now.1 cursor.old)
+        (OptionLacks (V.may_lack tt))) result }
+    ensures proof { IfOk result (λ x. ⟦<Proof<F, D> as Write>⟧.is_value x.0) }
+    ensures metadata { IfOk result (λ x. IfSome x.1 V.is_value) }
+    ensures chunk { IfOk result (λ x. length x.0.chunk.items ≡ limits.now.0) }
+{
+    let proof = Proof::read_cfg(alloc, cursor, limits)?;
+    let metadata = Option::read_cfg(alloc, cursor, &())?;
+    Ok((proof, metadata))
+}
+
+/// Reading takes what the operation proof's reading, an update's and a value's take. Another tag is C5.
+impl<F: PendingOf<D>, K: FixedKey, V: FixedValue, D: Digest> Read for ExclusionProof<F, K, V, D> {
+    ghost use Rattle.state_proofs.specs.Laws.Exclusion.{exclusion_again};
+
+    type Cfg = ((usize, usize), (), ());
+
+    ghost after = { λ cfg bytes. after_exclusion
+        (after_operation_proof (D.after tt) F.pending_after cfg.0.0 cfg.0.1) (K.after tt) (V.after tt) bytes };
+
+    ghost may_lack = { λ cfg bytes. ExclusionLacks
+        (after_operation_proof (D.after tt) F.pending_after cfg.0.0 cfg.0.1) (K.after tt) (V.after tt)
+        (OperationProofLacks cfg.0.0 cfg.0.1) (K.may_lack tt) (V.may_lack tt) bytes };
+
+    ghost is_within = { λ cfg p. IsExclusionWithin (⟦<Proof<F, D> as Read>⟧.is_within cfg.0) p };
+
+    fn read_cfg(
+        alloc: Global,
+        cursor: &mut Cursor<'_>,
+        cfg: &((usize, usize), (), ()),
+    ) -> Result<ExclusionProof<F, K, V, D>, Error> {
+        match read_tag(cursor)? {
+            KEY_VALUE_CONTEXT => {
+                let (proof, update) = read_update(alloc, cursor, &cfg.0)?;
+                Ok(ExclusionProof::KeyValue(proof, update))
+            }
+            COMMIT_CONTEXT => {
+                let (proof, metadata) = read_commit(alloc, cursor, &cfg.0)?;
+                Ok(ExclusionProof::Commit(proof, metadata))
+            }
+            tag => Err(Error::InvalidEnum(tag)),
+        }
+    }
+
+    ghost read_again = { λ cfg p rest value within.
+        exclusion_again D.encoding D.is_value D.SIZE D.sized F.held F.Pending.is_value
+        F.is_pending F.pending_value (D.after tt) F.pending_after F.pending_encoding
+        (record { any = D.any_bytes; again = F.pending_again; once = F.pending_once }) K.encoding V.encoding K.is_value
+        V.is_value (K.after tt) (V.after tt)
+        (λ k more is. K.read_again tt k more is (K.within k)) (λ v more is. V.read_again tt v more is (V.within v))
+        cfg.0.0 cfg.0.1 p rest value within };
+}

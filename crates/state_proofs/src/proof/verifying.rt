@@ -1,0 +1,190 @@
+//! The check of a proof over a range of operations.
+
+ghost use Rattle.std.specs.Prelude.{◌≡◌, ◌↔◌, ◌<◌, ◌≤◌, ◌+◌, ◌-◌, ◌*◌, ◌/◌, ◌^◌, ℕ, List, [], IsTrue, map, length, option_map, slice_index_or};
+ghost use Rattle.std.specs.List.{AllByRecursion};
+ghost use Rattle.merkle_forest.specs.Made.{value};
+ghost use Rattle.state_proofs.specs.ProofsCode.{range_parts_of};
+ghost use Rattle.state_proofs.specs.RangeVerified.{Covers, covering, FitsShown, IsShaped, VerifiesRange, graftable_shown, shown_grafted};
+ghost use Rattle.state_proofs.specs.RangeVerifiedCode.{shown_of};
+ghost use Rattle.state_proofs.specs.Verified.{FitsChunk};
+
+use crate::chunk_size::ChunkSize;
+use crate::grafting::verifier::{Verifier, covering_chunk};
+use crate::proof::RangeProof;
+use crate::verify::{fits_chunk, graftable_chunks_of, sealed_root};
+use merkle_core::range::reconstruct_range;
+use merkle_forest::{Digest, Graftable, HashFunction, Location, MAX_LEAVES, PendingOf};
+
+/// What is shown with a proof over a range: encoded operations from a location on, and the chunks over them (own).
+#[derive(Clone, Copy)]
+pub struct Shown<'a> {
+    /// The location of the first operation.
+    pub start: u64,
+    /// The encoded operations.
+    pub operations: &'a [&'a [u8]],
+    /// The chunks with their activity bits.
+    pub chunks: &'a [&'a [u8]],
+    /// How many bits a chunk has.
+    pub chunk_size: ChunkSize,
+}
+
+// Whether a chunk with this index is among so many from a first one on.
+fn is_covered(first: u64, count: usize, index: u64) -> bool
+    ensures { IsTrue result ↔ ((first ≤ index) × (index < first + count)) }
+{
+    first <= index && index - first < count as u64
+}
+
+// Whether the digest of the chunk with this index is held exactly if the chunk is there, and is that of the chunk that is
+// shown if this is covered.
+fn fits_index<H: HashFunction>(
+    shown: &Shown<'_>,
+    digest: &Option<H::Digest>,
+    is_there: bool,
+    index: u64,
+) -> bool
+    ensures { IsTrue result ↔ FitsChunk H.hash_of (covering (shown_of shown.now) index) (IsTrue is_there)
+        (Covers (shown_of shown.now) index) (option_map H.Digest.encoding digest.now) }
+{
+    let first = shown.chunk_size.index_of(shown.start);
+    let chunk = covering_chunk(shown.chunks, first, index);
+    fits_chunk::<H>(
+        digest,
+        is_there,
+        is_covered(first, shown.chunks.len(), index),
+        chunk,
+    )
+}
+
+// Whether the digests of the pending and of the partial chunk fit the number of operations and the chunks that are shown.
+fn fits_shown<F: Graftable + PendingOf<H::Digest>, H: HashFunction>(
+    proof: &RangeProof<F, H::Digest>,
+    shown: &Shown<'_>,
+    graftable: u64,
+) -> bool
+    ensures { IsTrue result ↔ FitsShown H.hash_of graftable (range_parts_of H.Digest.encoding F.held proof.now)
+        (shown_of shown.now) }
+{
+    let leaves = proof.proof.leaves.as_u64();
+    let full = shown.chunk_size.full_chunks(leaves);
+    let left = shown.chunk_size.bit_of(leaves);
+    let pending = F::digest_of(&proof.pending_chunk_digest);
+    full.saturating_sub(graftable) <= 1
+        && fits_index::<H>(shown, &pending, graftable < full, graftable)
+        && fits_index::<H>(shown, &proof.partial_chunk_digest, left > 0, full)
+}
+
+// Whether all chunks have this width.
+fn are_wide(chunks: &[&[u8]], width: usize) -> bool
+    ensures { IsTrue result ↔ AllByRecursion (λ chunk. length chunk ≡ width) (map (λ chunk. chunk.now) chunks.now) }
+{
+    match chunks {
+        [] => true,
+        [chunk, rest @ ..] => chunk.len() == width && are_wide(rest, width),
+    }
+}
+
+// Whether there is an operation, all are within a tree of so many, and the chunks are those over them.
+fn is_shaped(shown: &Shown<'_>, leaves: u64) -> bool
+    ensures { IsTrue result ↔ IsShaped leaves (shown_of shown.now) }
+{
+    let count = shown.operations.len() as u64;
+    if count == 0 {
+        return false;
+    }
+    if shown.start > leaves || leaves - shown.start < count {
+        return false;
+    }
+    let first = shown.chunk_size.index_of(shown.start);
+    let last = shown.chunk_size.index_of(shown.start + count - 1);
+    last - first + 1 == shown.chunks.len() as u64 && are_wide(shown.chunks, shown.chunk_size.width)
+}
+
+// The root of the grafted tree that the proof leads to from what is shown.
+fn shown_root<F: Graftable + PendingOf<H::Digest>, H: HashFunction>(
+    proof: &RangeProof<F, H::Digest>,
+    shown: &Shown<'_>,
+    graftable: u64,
+) -> Option<H::Digest>
+    requires { graftable ≡ graftable_shown F.merge_rule shown.now.chunk_size.grafting_height
+        (range_parts_of H.Digest.encoding F.held proof.now) }
+    ensures { option_map H.Digest.encoding result
+        ≡ option_map (value H.hash_of) (shown_grafted F.merge_rule shown.now.chunk_size.grafting_height
+        (range_parts_of H.Digest.encoding F.held proof.now) (shown_of shown.now)) }
+{
+    let verifier: Verifier<'_, F, H> = Verifier::new(
+        shown.chunk_size.grafting_height,
+        shown.chunk_size.index_of(shown.start),
+        shown.chunks,
+        graftable,
+    );
+    reconstruct_range(
+        &verifier,
+        &proof.proof,
+        Location::new(shown.start),
+        shown.operations,
+    )
+}
+
+// Whether the proof shows it.
+fn verifies_shown<F: Graftable + PendingOf<H::Digest>, H: HashFunction>(
+    proof: &RangeProof<F, H::Digest>,
+    shown: &Shown<'_>,
+    root: &H::Digest,
+) -> bool
+    ensures { IsTrue result ↔ VerifiesRange F.merge_rule H.hash_of (H.Digest.encoding root.now)
+        (range_parts_of H.Digest.encoding F.held proof.now) (shown_of shown.now) }
+{
+    let leaves = proof.proof.leaves.as_u64();
+    if leaves > MAX_LEAVES || !is_shaped(shown, leaves) {
+        return false;
+    }
+    let graftable = graftable_chunks_of::<F>(leaves, shown.chunk_size);
+    if !fits_shown::<F, H>(proof, shown, graftable) {
+        return false;
+    }
+    match shown_root::<F, H>(proof, shown, graftable) {
+        None => false,
+        Some(grafted) => {
+            let next = shown.chunk_size.bit_of(leaves);
+            sealed_root::<F, H>(proof, &grafted, next) == *root
+        }
+    }
+}
+
+impl<F: Graftable + PendingOf<D>, D: Digest> RangeProof<F, D> {
+    /// Whether the proof shows that these encoded operations stand in the state of this root from a location on, and that
+    /// the chunks over them, of so many bytes each, are these. It does not where there is no operation, one stands past
+    /// the leaves, the chunks are not as many or not as wide, or their bits are no power of two or more than 2^62; nor
+    /// where more than one full chunk has no node, or the digest of the pending or of the partial chunk is missing, is
+    /// held without its chunk, or is not that of the chunk that is shown.
+    /// In the Rust: `qmdb::current::proof::RangeProof::verify_with_chunk_size`, which encodes the operations itself.
+    pub fn verify_with_chunk_size<H: HashFunction<Digest = D>>(
+        &self,
+        start_loc: Location<F>,
+        operations: &[&[u8]],
+        chunks: &[&[u8]],
+        chunk_size: usize,
+        root: &D,
+    ) -> bool
+        ensures { IsTrue result ↔ VerifiesRange F.merge_rule H.hash_of (D.encoding root.now)
+            (range_parts_of D.encoding F.held self.now)
+            (record {
+              start = start_loc;
+              operations = map (λ operation. operation.now) operations.now;
+              chunks = map (λ chunk. chunk.now) chunks.now;
+              width = chunk_size;
+            }) }
+    {
+        let Some(chunk_size) = ChunkSize::new(chunk_size) else {
+            return false;
+        };
+        let shown = Shown {
+            start: start_loc.as_u64(),
+            operations,
+            chunks,
+            chunk_size,
+        };
+        verifies_shown::<F, H>(self, &shown, root)
+    }
+}
