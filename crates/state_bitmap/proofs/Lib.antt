@@ -1,4 +1,9 @@
 pub mod BitLemmas
-pub mod WidthLemmas
+pub mod CallLemmas
+pub mod ChunkLemmas
 pub mod HeldLemmas
 pub mod KeptLemmas
+pub mod LeafLemmas
+pub mod MapLemmas
+pub mod RefusalLemmas
+pub mod WidthLemmas

@@ -1,1 +1,3 @@
 pub mod Bits
+pub mod Maps
+pub mod MapsCode
