@@ -218,7 +218,7 @@ unfolding sealed_root
 sealed-partial hash width tree_root bits last rest = cond-false _ _ _ (ne_eqb (bits % (8 * width)) 0 rest)
 
 -- a partial chunk is the last one
-last-partial : (width : ℕ) (all : List Bool) (bits : Bits) → 1 ≤ width → AreBitsOf width all bits
+pub last-partial : (width : ℕ) (all : List Bool) (bits : Bits) → 1 ≤ width → AreBitsOf width all bits
     → (length all % (8 * width) ≡ 0 → ⊥) → (last_chunk width bits.kept).0 ≡ chunk_at width all (length all / (8 * width))
 last-partial width all bits some are partial =
     let size = 8 * width in

@@ -1,10 +1,12 @@
 -- Calls of the tree that are refused only for want of memory.
-use Rattle.std.proofs.Common.{◌≡◌, ℕ, ◌^◌, ◌<◌, ◌≤◌, refl, arith}
+use Rattle.std.proofs.Common.{◌≡◌, ℕ, ◌+◌, ◌^◌, ◌<◌, ◌≤◌, None, Some, refl, sym, ◌∙◌, arith}
 use Rattle.merkle_forest.specs.Forest.{Rule}
 use Rattle.merkle_core_parts.specs.Errors.{IsRefusalPast, IsRefusalAt, IsRefusalOnto, IsRefusalToPrune}
 use Rattle.merkle_core_parts.specs.Mem.{Base}
 use Rattle.merkle_core_parts.specs.declared.error.Error.{Error}
 use Rattle.merkle_core_parts.specs.declared.error.Error.TheVariants.{LocationOverflow, LeafOutOfBounds, ElementPruned, StaleBatch, Memory}
+use Rattle.merkle_core_parts.specs.declared.error.Error.TheVariants.{InvalidInactivePeaks}
+use Rattle.merkle_core.specs.Plans.{Lookup, first_missing, range_positions, IsRefusalToProveElement}
 
 pub past_memory : {F : Type 0} (leaves : ℕ) (e : Error F) → leaves < 2 ^ 62 → IsRefusalPast leaves e → e ≡ Memory
 past_memory leaves (LocationOverflow location) few refused = absurd (omega (arith, few, refused.1))
@@ -27,3 +29,13 @@ pub prune_memory : {F : Type 0} (leaves asked : ℕ) (e : Error F) → asked ≤
 prune_memory leaves asked (LeafOutOfBounds location) within refused = absurd (omega (arith, within, refused.1))
 prune_memory leaves asked Memory within refused = refl
 prune_memory leaves asked other within refused = absurd refused
+
+pub element_memory : {F : Type 0} (rule : Rule) (leaf_total location : ℕ) (known : Lookup) (e : Error F) → location < leaf_total
+    → first_missing known (range_positions rule leaf_total location (location + 1)) ≡ None
+    → IsRefusalToProveElement rule leaf_total location 0 known e → e ≡ Memory
+element_memory rule leaf_total location known (LeafOutOfBounds asked) within there refused = absurd (omega (arith, within, refused.1))
+element_memory rule leaf_total location known InvalidInactivePeaks within there refused = absurd (omega (arith, refused.1))
+element_memory rule leaf_total location known (ElementPruned p) within there refused =
+    absurd (let clash : None ≡ Some p = sym there ∙ refused.2 in cc)
+element_memory rule leaf_total location known Memory within there refused = refl
+element_memory rule leaf_total location known other within there refused = absurd refused

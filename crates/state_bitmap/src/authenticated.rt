@@ -14,17 +14,23 @@
 //! leaves of chunks with a bit that was set stand as they were. To merkleize it makes up for both.
 
 ghost use Rattle.std.specs.Prelude.{◌≡◌, ◌<◌, ◌≤◌, ◌+◌, ◌-◌, ◌*◌, ◌/◌, ◌%◌, ◌^◌, ◌++◌, [], ◌∷◌, ◌↔◌, false, Bool, ℕ, List};
-ghost use Rattle.std.specs.Prelude.{slice_set, slice_index_or, option_map, IsTrue, OnOk, OnErr, IfOk, IfErr};
+ghost use Rattle.std.specs.Prelude.{slice_set, slice_index_or, option_map, map, Some, IsTrue, OnOk, OnErr, IfOk, IfErr};
 ghost use Rattle.merkle_forest.specs.Forest.{mmr_rule};
+ghost use Rattle.merkle_forest.specs.Made.{value};
 ghost use Rattle.merkle_core_parts.specs.Mem.{NodeHash, node_at, node_count, pruned_before};
+ghost use Rattle.merkle_core.specs.MadeTrees.{Over};
+ghost use Rattle.merkle_core.specs.Reads.{HashesAs};
 ghost use Rattle.state_bitmap.specs.Bits.{IsChunkWidth, bits_in, chunk_at, bit_count, last_chunk};
 ghost use Rattle.state_bitmap.specs.Maps.{LeafHash, IsMapOf, merkleized, changed, map_root, bitmap_root, bits_before};
 ghost use Rattle.state_bitmap.specs.MapsCode.{remembered};
+ghost use Rattle.state_bitmap.specs.Inclusion.{bit_root, honest_bit_digests};
+ghost use Rattle.state_bitmap.specs.Errors.{IsRefusalOfBit};
 
 use crate::error::{Error, out_of_memory};
+use crate::inclusion::{bit_digests, root_of_bit};
 use crate::prunable::{Prunable, bit_in};
 use crate::tree::{root_over, tree_over};
-use merkle_core_parts::Mem;
+use merkle_core::{Mem, Proof};
 use merkle_forest::hasher::Hasher;
 use merkle_forest::mmr::{Family, Position};
 use merkle_forest::{Digest, Location};
@@ -85,6 +91,16 @@ pub type MerkleizedBitMap<D, const N: usize> = BitMap<D, N, Merkleized<D>>;
 
 /// A map that may have changed since its root was made. In the Rust: `bitmap::authenticated::UnmerkleizedBitMap`.
 pub type UnmerkleizedBitMap<D, const N: usize> = BitMap<D, N, Unmerkleized>;
+
+// Whether a root was found, and it is this one.
+fn is_root<D: Digest>(found: Option<D>, root: &D) -> bool
+    ensures { IsTrue result ↔ (option_map D.encoding found ≡ Some (D.encoding root.now)) }
+{
+    match found {
+        Some(found) => found == *root,
+        None => false,
+    }
+}
 
 impl<D: Digest, const N: usize, M: State<D>> BitMap<D, N, M> {
     /// How many bits a chunk has. In the Rust: the constant `bitmap::authenticated::BitMap::CHUNK_SIZE_BITS`.
@@ -161,6 +177,34 @@ impl<D: Digest, const N: usize, M: State<D>> BitMap<D, N, M> {
     {
         bit_in(chunk, bit % Prunable::<N>::chunk_size_bits())
     }
+
+    /// Whether the proof shows that this is the chunk of a bit, in the map with this root. It fails only when out of
+    /// memory. Where the bit is at or past the proof's leaves, which are bits, where the proof has inactive peaks, and
+    /// where a digest is missing or left over, it does not.
+    /// In the Rust: `bitmap::authenticated::BitMap::verify_bit_inclusion`, which takes no allocator.
+    pub fn verify_bit_inclusion<H: Hasher<Family, Digest = D>>(
+        alloc: Global,
+        hasher: &H,
+        proof: &Proof<Family, D>,
+        chunk: &[u8; N],
+        bit: u64,
+        root: &D,
+    ) -> Result<bool, AllocError>
+        requires { IsChunkWidth N }
+        ensures { (over : Over)
+            → HashesAs mmr_rule H.hash_of (H.leaf_of hasher.now) (H.node_of hasher.now) over
+            → IfOk result (λ yes. IsTrue yes ↔ (option_map (value H.hash_of)
+            (bit_root over (H.bagging_of hasher.now) N (record {
+              bits = proof.now.leaves;
+              inactive = proof.now.inactive_peaks;
+              digests = map D.encoding proof.now.digests.items;
+              bit = bit;
+              chunk = chunk.now;
+            })) ≡ Some (D.encoding root.now))) }
+    {
+        let found = root_of_bit(alloc, hasher, proof, chunk, bit)?;
+        Ok(is_root(found, root))
+    }
 }
 
 impl<D: Digest, const N: usize> BitMap<D, N, Merkleized<D>> {
@@ -218,6 +262,41 @@ impl<D: Digest, const N: usize> BitMap<D, N, Merkleized<D>> {
                 chunks: Vec::new(self.alloc),
             },
         }
+    }
+
+    /// The proof of a bit that is not pruned, and the chunk with it; it is one of each bit of the chunk. The proof's
+    /// leaves are bits. Past the bits: M22 with the bit and how many bits there are; out of memory: M23.
+    /// In the Rust: `bitmap::authenticated::MerkleizedBitMap::proof`.
+    pub fn proof<H: Hasher<Family, Digest = D>>(
+        &self,
+        hasher: &H,
+        bit: u64,
+    ) -> Result<(Proof<Family, D>, [u8; N]), Error>
+        requires { 8 * N * self.now.bits.pruned ≤ bit }
+        ensures there { OnOk result (bit < bit_count N self.now.bits) }
+        ensures leaves { IfOk result (λ it. it.0.leaves ≡ bit_count N self.now.bits) }
+        ensures inactive { IfOk result (λ it. it.0.inactive_peaks ≡ 0) }
+        ensures digests { (all : List Bool)
+            → IsMapOf (H.leaf_of hasher.now) (H.node_of hasher.now) N all self.now
+            → IfOk result (λ it. map D.encoding it.0.digests.items ≡ honest_bit_digests H.hash_of
+            (H.leaf_of hasher.now) (H.node_of hasher.now) (H.bagging_of hasher.now) N all bit) }
+        ensures chunk { IfOk result (λ it. it.1
+            ≡ chunk_at N self.now.bits.kept (bit / (8 * N) - self.now.bits.pruned)) }
+        ensures refused { IfErr result (IsRefusalOfBit (bit_count N self.now.bits) bit) }
+    {
+        let length = self.bits.len();
+        if bit >= length {
+            return Err(Error::BitOutOfBounds(bit, length));
+        }
+        let chunk = self.bits.get_chunk_containing(bit);
+        let index = bit / self.bits.chunk_bits();
+        let digests = bit_digests(self.alloc, hasher, &self.bits, &self.tree, index)?;
+        let proof = Proof {
+            leaves: Location::new(length),
+            inactive_peaks: 0,
+            digests,
+        };
+        Ok((proof, chunk))
     }
 
     /// Drops the full chunks before that of a bit, or before all others where the bit is the one after the last; the

@@ -9,6 +9,7 @@
 
 pub mod authenticated;
 pub mod error;
+pub mod inclusion;
 pub mod laws;
 pub mod prunable;
 mod tree;
