@@ -10,6 +10,7 @@ use Rattle.std.proofs.lemmas.List.{length-take-le, length-drop, drop-drop, drop-
 use Rattle.std.proofs.lemmas.List.{drop_at, take_at, take_all, drop-set-lt, drop-replicate, take_more_set}
 use Rattle.state_bitmap.specs.Bits.{Bits, IsHeld, bits_in, chunk_of, chunk_at, bit_count, last_chunk}
 use Rattle.state_bitmap.proofs.BitLemmas.{length-bits_in, drop-bits_in, drop_padded, chunk_of-padded, chunk_of-bits_in}
+use Rattle.state_bitmap.proofs.ChunkLemmas.{chunks_of_bits}
 use Rattle.state_bitmap.proofs.WidthLemmas.{wide-some}
 
 -- all bits that are kept are in the bytes
@@ -20,6 +21,13 @@ held-length width pruned kept bytes held =
 pub counted : (width pruned kept : ℕ) (bytes : List ℕ) → IsHeld width pruned kept bytes
     → kept + pruned * (8 * width) ≡ bit_count width (record { pruned = pruned; kept = take kept (bits_in bytes) })
 counted width pruned kept bytes held = omega (arith, held-length width pruned kept bytes held, mul_comm pruned (8 * width))
+
+-- full chunks are far fewer than numbers
+pub few_full : (width pruned kept : ℕ) (bytes : List ℕ) → IsHeld width pruned kept bytes → pruned + kept / (8 * width) < 2 ^ 61
+few_full width pruned kept bytes held =
+    let count = pruned + kept / (8 * width) in
+    let least = mul-le 8 count (8 * width) count (omega (arith, wide-some width held.wide)) (omega arith) in
+    omega (arith, held.few, least, chunks_of_bits width kept, mul-add (8 * width) pruned (kept / (8 * width)))
 
 -- where a chunk begins before others end, so does it end
 pub chunk_within : (width i count : ℕ) → width * i < width * count → width * i + width ≤ width * count

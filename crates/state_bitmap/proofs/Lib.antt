@@ -1,4 +1,15 @@
 pub mod BitLemmas
-pub mod WidthLemmas
+pub mod CallLemmas
+pub mod ChunkLemmas
 pub mod HeldLemmas
+pub mod HonestLemmas
 pub mod KeptLemmas
+pub mod KnownLemmas
+pub mod LeafLemmas
+pub mod MadeLemmas
+pub mod MapLemmas
+pub mod ProveLemmas
+pub mod ReadLemmas
+pub mod RefusalLemmas
+pub mod SoundLemmas
+pub mod WidthLemmas

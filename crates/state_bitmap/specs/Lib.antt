@@ -1,1 +1,6 @@
 pub mod Bits
+pub mod Errors
+pub mod Inclusion
+pub mod InclusionCode
+pub mod Maps
+pub mod MapsCode

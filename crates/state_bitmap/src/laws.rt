@@ -1,8 +1,21 @@
-//! What is kept of a list of bits says of the list.
+//! What is kept of a list of bits says of the list, and what the proof of a bit says of it.
 
-ghost use Rattle.std.specs.Prelude.{◌≡◌, ◌<◌, ◌≤◌, ◌+◌, ◌-◌, ◌*◌, ◌++◌, [], ◌∷◌, false, Bool, ℕ, List, length};
-ghost use Rattle.std.specs.Prelude.{slice_set, slice_index_or};
-ghost use Rattle.state_bitmap.specs.Bits.{Bits, AreBitsOf, bit_count, chunk_at, pruned_to};
+ghost use Rattle.std.specs.Prelude.{◌≡◌, ◌<◌, ◌≤◌, ◌+◌, ◌-◌, ◌*◌, ◌^◌, ◌++◌, [], ◌∷◌, false, Bool, ℕ, List, length};
+ghost use Rattle.std.specs.Prelude.{slice_set, slice_index_or, option_map, Some, IfSome};
+ghost use Rattle.std.specs.List.{All};
+ghost use Rattle.merkle_forest.specs.declared.bagging.Bagging.{Bagging};
+ghost use Rattle.merkle_forest.specs.Hashing.{Hash};
+ghost use Rattle.merkle_forest.specs.Made.{value};
+ghost use Rattle.merkle_core_parts.specs.Mem.{plain_node};
+ghost use Rattle.merkle_core.specs.MadeTrees.{plain_over};
+ghost use Rattle.state_bitmap.specs.Bits.{Bits, IsChunkWidth, AreBitsOf, bit_count, chunk_at, pruned_to};
+ghost use Rattle.state_bitmap.specs.Inclusion.{made_bitmap, BitClaim, bit_root, IsSound, plain_leaf, plain_root};
+ghost use Rattle.state_bitmap.specs.Inclusion.{honest_claim};
+ghost use Rattle.state_bitmap.specs.Maps.{bitmap_string};
+
+use merkle_core::laws::built_proofs_lead_to_the_root;
+use merkle_core_parts::laws::plain_roots_are_tree_roots;
+use merkle_forest::mmr::Family;
 
 /// There are as many bits as the list has.
 pub fn bits_are_as_many_as_the_list_has()
@@ -47,4 +60,38 @@ pub fn pruning_keeps_the_list()
 /// What is kept where nothing is pruned is the list.
 pub fn nothing_pruned_is_the_list()
     ensures { (width : ℕ) (all : List Bool) → AreBitsOf width all (record { pruned = 0; kept = all }) }
+{}
+
+/// The root of a list of bits over a plain tree is the value of the term that is made of the list.
+pub fn roots_are_values_of_what_is_made()
+    ensures { (hash : Hash) (bagging : Bagging) (width : ℕ) (all : List Bool) → IsChunkWidth width
+        → value hash (made_bitmap bagging width all) ≡ plain_root hash bagging width all }
+{}
+
+/// Where a proof of a bit leads to the root of a list of bits, there are as many bits as it says, the bit is one of them,
+/// and the chunk is that of the list, or the strings hashed for the list and those rebuilt from the proof have a
+/// collision: at one site two strings differ that have one digest. So it is with digests of 32 bytes.
+pub fn shown_bits_are_true_or_strings_collide()
+    ensures { (hash : Hash) (bagging : Bagging) (width : ℕ) (all : List Bool) (claim : BitClaim)
+        → ((bytes : List ℕ) → length (hash bytes) ≡ 32) → All (λ digest. length digest ≡ 32) claim.digests
+        → IsChunkWidth width → length all < 2 ^ 64 → claim.bits < 2 ^ 64
+        → IfSome (bit_root plain_over bagging width claim) (IsSound hash bagging width all claim) }
+{}
+
+/// The honest proof of a bit of a list leads to the root of the list, over a plain tree.
+pub fn honest_proofs_of_bits_lead_to_the_root()
+    ensures { (hash : Hash) (bagging : Bagging) (width : ℕ) (all : List Bool) (bit : ℕ)
+        → IsChunkWidth width → length all < 2 ^ 64 → bit < length all
+        → option_map (value hash) (bit_root plain_over bagging width
+        (honest_claim hash (plain_leaf hash) (plain_node hash) bagging width all bit))
+        ≡ Some (plain_root hash bagging width all) }
+{
+    plain_roots_are_tree_roots::<Family>();
+    built_proofs_lead_to_the_root::<Family>();
+}
+
+/// The string of a root over a partial chunk has 72 bytes, where digests have 32.
+pub fn strings_of_partial_roots_have_72_bytes()
+    ensures { (tree_root last : List ℕ) (bits : ℕ) → length tree_root ≡ 32 → length last ≡ 32
+        → length (bitmap_string tree_root bits last) ≡ 72 }
 {}

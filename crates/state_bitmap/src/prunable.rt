@@ -19,7 +19,7 @@ use std::alloc::{AllocError, Global};
 use std::marker::Model;
 
 // Whether the bit at a place in the bytes is set.
-fn bit_in(bytes: &[u8], at: u64) -> bool
+pub(crate) fn bit_in(bytes: &[u8], at: u64) -> bool
     requires { at < 8 * length bytes.now }
     ensures { result ≡ slice_index_or (bits_in bytes.now) at false }
 {
@@ -147,7 +147,7 @@ impl<const N: usize> Prunable<N> {
     }
 
     // How many bits a chunk has, where there are bits of such chunks.
-    fn chunk_bits(&self) -> u64
+    pub(crate) fn chunk_bits(&self) -> u64
         ensures bits { result ≡ 8 * N }
         ensures some { 8 ≤ result }
         ensures few { result ≤ 2 ^ 62 }
@@ -184,7 +184,8 @@ impl<const N: usize> Prunable<N> {
     /// How many chunks the bits fill, with those that are pruned.
     /// In the Rust: `commonware_utils::bitmap::Prunable::complete_chunks`.
     pub fn complete_chunks(&self) -> u64
-        ensures { result ≡ self.now.pruned + length self.now.kept / (8 * N) }
+        ensures chunks { result ≡ self.now.pruned + length self.now.kept / (8 * N) }
+        ensures few { result < 2 ^ 61 }
     {
         self.pruned + self.kept / self.chunk_bits()
     }

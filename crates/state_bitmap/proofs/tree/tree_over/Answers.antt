@@ -1,0 +1,41 @@
+use Rattle.std.proofs.Common.{◌≡◌, ◌+◌, ◌≤◌, List, ℕ, length, sym, ◌∙◌, ap, subst, arith}
+use Rattle.std.specs.List.{AllByRecursion}
+use Rattle.merkle_forest.specs.Forest.{mmr_rule}
+use Rattle.merkle_core_parts.specs.Mem.{Nodes, Additions, Replacement, AreNodesOf, with_batch, with_leaves}
+use Rattle.state_bitmap.specs.Maps.{full_count}
+use Rattle.state_bitmap.proofs.CallLemmas.{batch_is, brought_batch, brought_leaves, updates_from}
+use Rattle.state_bitmap.proofs.MapLemmas.{leaves-brought}
+use Rattle.state_bitmap.proofs.WidthLemmas.{wide-some}
+use Rattle.state_bitmap.proofs.tree.tree_over.Goals as goal
+
+pub out_of_memory-requires-in-Err-merkleize : goal.out_of_memory-requires-in-Err-merkleize
+out_of_memory-requires-in-Err-merkleize g c =
+    let leaf_of = g.H.Hasher.leaf_of c.args.hasher.now in
+    let is = batch_is leaf_of g.row.N c.args.bits.now c.args.tree c.args.chunks.now c.as_u64-end.result c.complete_chunks.result c.in-Ok.batch
+    c.in_ok-batch.batch c.in_ok-batch-2.batch c.in-Ok.ensures.batch c.in_ok-batch.ensures.added c.in_ok-batch-2.ensures.updated
+    (c.as_u64-end.ensures ∙ c.leaves.ensures.leaves) c.complete_chunks.ensures.chunks in
+    c.in-Err-merkleize.ensures.enough (sym (ap (λ (b : Additions). b.base.leaves) is)) c.pruning_boundary-boundary.ensures.shape
+    (subst (AllByRecursion (λ (one : Replacement). c.args.tree.boundary ≤ one.0)) (sym (ap (λ (b : Additions). b.updates) is))
+    (updates_from leaf_of g.row.N c.args.bits.now c.args.tree.boundary c.args.tree.leaves c.args.chunks.now c.requires.pruned c.requires.leaves.1))
+
+pub returns-clause-leaves : goal.returns-clause-leaves
+returns-clause-leaves g c =
+    let leaf_of = g.H.Hasher.leaf_of c.args.hasher.now in
+    let is = batch_is leaf_of g.row.N c.args.bits.now c.args.tree c.args.chunks.now c.as_u64-end.result c.complete_chunks.result c.in-Ok.batch
+    c.in_ok-batch.batch c.in_ok-batch-2.batch c.in-Ok.ensures.batch c.in_ok-batch.ensures.added c.in_ok-batch-2.ensures.updated
+    (c.as_u64-end.ensures ∙ c.leaves.ensures.leaves) c.complete_chunks.ensures.chunks in
+    ap (λ (t : Nodes). t.leaves) c.in_default.ensures.applied ∙ c.in-Ok-merkleize.ensures.leaves
+    ∙ brought_leaves leaf_of g.row.N c.args.bits.now c.args.tree c.args.chunks.now c.in_ok-batch-2.batch is c.requires.leaves.0
+
+pub returns-clause-of_list : goal.returns-clause-of_list
+returns-clause-of_list g c all bits_are are =
+    let leaf_of = g.H.Hasher.leaf_of c.args.hasher.now in
+    let node_of = g.H.Hasher.node_of c.args.hasher.now in
+    let is = batch_is leaf_of g.row.N c.args.bits.now c.args.tree c.args.chunks.now c.as_u64-end.result c.complete_chunks.result c.in-Ok.batch
+    c.in_ok-batch.batch c.in_ok-batch-2.batch c.in-Ok.ensures.batch c.in_ok-batch.ensures.added c.in_ok-batch-2.ensures.updated
+    (c.as_u64-end.ensures ∙ c.leaves.ensures.leaves) c.complete_chunks.ensures.chunks in
+    let made = c.in-Ok-merkleize.ensures.of_list are.digests (sym (ap (λ (b : Additions). b.base.leaves) is)) are.nodes in
+    let after = subst (AreNodesOf node_of mmr_rule (with_leaves are.digests c.in_ok-batch-2.batch)) (sym c.in_default.ensures.applied) made in
+    leaves-brought leaf_of node_of g.row.N all c.args.bits.now c.args.tree c.apply_batch.new.self c.args.chunks.now
+    (wide-some g.row.N c.requires.wide) bits_are c.requires.pruned c.requires.leaves are
+    (subst (λ (b : Additions). AreNodesOf node_of mmr_rule (with_leaves are.digests b) c.apply_batch.new.self) is after)
