@@ -18,6 +18,8 @@ pub mod Accepted
 pub mod Short
 pub mod HonestRanges
 pub mod HonestRoots
+pub mod DigestCounts
+pub mod Extractions
 pub mod OneRead
 pub mod OneBag
 pub mod OneRoot

@@ -1,4 +1,5 @@
 pub mod Assembled
+pub mod Extracted
 pub mod Followed
 pub mod Laws
 pub mod MadeRoots
@@ -15,5 +16,6 @@ pub mod RangesCode
 pub mod Reads
 pub mod Rebuilt
 pub mod Reconstructed
+pub mod Reconstruction
 pub mod Soundness
 pub mod Walked

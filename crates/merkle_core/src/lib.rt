@@ -2,6 +2,7 @@
 //! what an item is there.
 #![tactic(auto)]
 
+pub mod extraction;
 pub mod laws;
 pub mod multi;
 pub mod plan;
@@ -11,13 +12,16 @@ pub mod ranges;
 pub mod readable;
 pub mod rebuild;
 pub mod reconstruct;
+pub mod reconstruction;
 pub mod verification;
 pub mod walk;
 
+pub use extraction::ExtractionError;
 pub use merkle_core_parts::{Mem, batch, error, mem};
 pub use plan::{ElementPlan, RangePlan};
 pub use proof::{MAX_PROOF_DIGESTS_PER_ELEMENT, Proof};
 pub use readable::Readable;
+pub use reconstruction::ReconstructionError;
 
 #[cfg(test)]
 mod tests;
