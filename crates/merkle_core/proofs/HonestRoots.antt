@@ -59,7 +59,7 @@ all_dropped : {A : Type 0} (xs : List A) → drop (length xs) xs ≡ []
 all_dropped [] = refl
 all_dropped (x ∷ xs) = all_dropped xs
 
-length-as_one : (fold : List (List ℕ) → List ℕ) (xs : List (List ℕ)) → length (as_one fold xs) ≡ min 1 (length xs)
+pub length-as_one : (fold : List (List ℕ) → List ℕ) (xs : List (List ℕ)) → length (as_one fold xs) ≡ min 1 (length xs)
 length-as_one fold [] = omega arith
 length-as_one fold (x ∷ xs) = omega arith
 
@@ -97,7 +97,7 @@ module _ (hash : Hash) (digest : Digests) (start stop : ℕ) (some : start < sto
   ascend_drop (suc k) at (peak ∷ peaks) up = lower at (end_of peak) (drop k peaks) (omega (arith, up.0)) (ascend_drop k (end_of peak) peaks up.1)
 
   -- no first peak stands after the range, or no later one before it
-  sides : (k at : ℕ) (peaks : List Located) → Ascend at peaks → (A (take k peaks) ≡ []) ⊎ (B (drop k peaks) ≡ [])
+  pub sides : (k at : ℕ) (peaks : List Located) → Ascend at peaks → (A (take k peaks) ≡ []) ⊎ (B (drop k peaks) ≡ [])
   sides zero at peaks up = inl refl
   sides (suc k) at [] up = inl refl
   sides (suc k) at (peak ∷ peaks) up =
@@ -200,7 +200,7 @@ module _ (hash : Hash) (digest : Digests) (start stop : ℕ) (some : start < sto
       ∙ ap (flat_map (λ (p : Located). siblings digest start stop p.0 p.1)) (filter_parts (meets start stop) (take inactive peaks) (drop inactive peaks))
       ∙ ap inner (take-append-drop inactive peaks)
 
-  proof_parts : (bagging : Bagging) (inactive : ℕ) (peaks : List Located)
+  pub proof_parts : (bagging : Bagging) (inactive : ℕ) (peaks : List Located)
       → range_digests hash digest bagging start stop (take inactive peaks) (drop inactive peaks) ≡ spelled bagging inactive peaks ++ inner peaks
   proof_parts bagging inactive peaks =
       append_assoc (spelled bagging inactive peaks) (inner (take inactive peaks)) (inner (drop inactive peaks))

@@ -8,6 +8,7 @@ pub mod Multi
 pub mod MultiReads
 pub mod MultiSoundness
 pub mod OneEach
+pub mod Pinned
 pub mod Plans
 pub mod Proofs
 pub mod RangeCounts

@@ -116,11 +116,11 @@ fn append_told<F: Family, H: Hasher<F>>(
     let (left, right) = children_of::<F>(subtree);
     let (left_digest, middle) = append_told(found, reader, left, digests, index)?;
     let (right_digest, next) = append_told(found, reader, right, digests, middle)?;
-    let digest = reader
+    let own = reader
         .hasher
         .digest_of_branch(subtree.position, &left_digest, &right_digest);
-    found.push((Position::new(subtree.position), digest))?;
-    Ok((digest, next))
+    found.push((Position::new(subtree.position), own))?;
+    Ok((own, next))
 }
 
 // Appends the told nodes of those peaks that meet the range, from the one that begins at `first` on.

@@ -5,6 +5,7 @@
 pub mod extraction;
 pub mod laws;
 pub mod multi;
+pub mod pinned;
 pub mod plan;
 pub mod proof;
 pub mod range;

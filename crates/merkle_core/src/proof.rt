@@ -1,6 +1,6 @@
 //! Merkle proofs and how they are written and read.
 
-ghost use Rattle.std.specs.Prelude.{◌≡◌, ◌<◌, ◌≤◌, ◌+◌, ◌^◌, ◌++◌, ◌↔◌, [], ◌∷◌, ℕ, List, map, length, option_map, Some, IsTrue, Ok, IfOk, IfErr, OnOk, OnErr};
+ghost use Rattle.std.specs.Prelude.{◌≡◌, ◌<◌, ◌≤◌, ◌+◌, ◌^◌, ◌++◌, ◌↔◌, [], ◌∷◌, ℕ, List, map, length, option_map, Some, IsTrue, Ok, IfOk, IfErr, OnOk, OnErr, replicate};
 ghost use Rattle.merkle_forest.specs.Forest.{forest_of};
 ghost use Rattle.merkle_forest.specs.Trees.{located, inactive_peaks};
 ghost use Rattle.merkle_forest.specs.Codec.{Extends};
@@ -10,6 +10,8 @@ ghost use Rattle.merkle_core.specs.Extracted.{AreMadeOf, AreGiven, AreExtracted,
 ghost use Rattle.merkle_core.specs.MadeRoots.{Naming, from_left, peaks_of};
 ghost use Rattle.merkle_core.specs.MadeTrees.{Over, from};
 ghost use Rattle.merkle_core.specs.MultiReads.{multi_root};
+ghost use Rattle.merkle_core.specs.Pinned.{ArePinned};
+ghost use Rattle.merkle_core.specs.RangeCounts.{range_outer};
 ghost use Rattle.merkle_core.specs.Ranges.{Digests};
 ghost use Rattle.merkle_core.specs.Reads.{HashesAs, range_root};
 ghost use Rattle.merkle_core.specs.Reconstruction.{HasRange, where_ok, IsRefusalToReconstruct};
@@ -17,6 +19,7 @@ ghost use Rattle.merkle_core.specs.Proofs.{proof_encoding, after_proof, ProofLac
 
 use crate::extraction::{ExtractionError, extract};
 use crate::multi::root::reconstruct_shown;
+use crate::pinned::{Pins, are_pinned};
 use crate::range::peaks::Reader;
 use crate::range::reconstruct_range;
 use crate::reconstruction::ReconstructionError;
@@ -208,6 +211,56 @@ impl<F: Family, D: Digest> Proof<F, D> {
             family: PhantomData,
         };
         Ok(extract(alloc, &reader, self.inactive_peaks, &self.digests)?)
+    }
+
+    /// Whether the proof shows that these elements stand in the tree of this root, from a location on, and each of its
+    /// digests that stands for leaves before it is made of these digests, those of the nodes to pin there, from left to
+    /// right. Where there are more of them or fewer, it does not. It fails only when out of memory.
+    /// In the Rust: `merkle::proof::Proof::verify_proof_and_pinned_nodes`, which takes no allocator.
+    pub fn verify_proof_and_pinned_nodes<H: Hasher<F, Digest = D>>(
+        &self,
+        alloc: Global,
+        hasher: &H,
+        elements: &[&[u8]],
+        start: Location<F>,
+        pinned_nodes: &[D],
+        root: &D,
+    ) -> Result<bool, AllocError>
+        ensures { (names : Naming) (over : Over)
+            → HashesAs F.merge_rule H.hash_of (H.leaf_of hasher.now) (H.node_of hasher.now) over
+            → let peaks = peaks_of F.merge_rule self.now.leaves in
+            let bagging = H.bagging_of hasher.now in
+            let stop : ℕ = start + length elements.now in
+            let digests = map D.encoding self.now.digests.items in
+            IfOk result (λ yes. IsTrue yes ↔ ((option_map (value H.hash_of) (range_root names over bagging F.merge_rule
+            self.now.leaves self.now.inactive_peaks start (map (λ e. e.now) elements.now) digests)
+            ≡ Some (D.encoding root.now))
+            × ArePinned H.hash_of (H.node_of hasher.now) (replicate D.SIZE 0) F.merge_rule self.now.leaves
+            (from_left bagging self.now.inactive_peaks (length peaks)) start stop
+            (range_outer bagging start stop self.now.inactive_peaks peaks) digests
+            (map D.encoding pinned_nodes.now))) }
+    {
+        let Ok(found) = self.reconstruct_root(hasher, elements, start) else {
+            return Ok(false);
+        };
+        if found != *root {
+            return Ok(false);
+        }
+        let pins = Pins {
+            hasher,
+            start: start.as_u64(),
+            digests: pinned_nodes,
+            family: PhantomData,
+        };
+        let stop = start.as_u64() + elements.len() as u64;
+        are_pinned(
+            alloc,
+            &pins,
+            self.leaves.as_u64(),
+            self.inactive_peaks,
+            stop,
+            &self.digests,
+        )
     }
 
     /// Whether the proof shows that these elements, each with its location, stand in the tree of this root. It fails only

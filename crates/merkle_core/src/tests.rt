@@ -1,6 +1,7 @@
 mod multi;
 mod plans;
 mod shown;
+mod told;
 
 use super::*;
 use crate::ranges::range_digests_of;

@@ -96,8 +96,8 @@ returns g t c (branch q left right) digest rest tree made is =
     subst (λ n. enc c.in_ok-left_digest.left_digest ≡ digest n left) both.same first.0.digest_is in
     let right_is : enc c.in_ok-right_digest.right_digest ≡ digest after right =
     subst (λ n. enc c.in_ok-right_digest.right_digest ≡ digest n right) both.middle second.0.digest_is in
-    let own : enc c.digest_of_branch-digest.result ≡ digest at (branch q left right) =
-    c.digest_of_branch-digest.ensures ∙ ap₂ (node_of c.args.subtree.position) left_is right_is
+    let own : enc c.digest_of_branch-own.result ≡ digest at (branch q left right) =
+    c.digest_of_branch-own.ensures ∙ ap₂ (node_of c.args.subtree.position) left_is right_is
     ∙ ap (λ p. node_of p (digest at left) (digest after right)) tree.subtree ∙ sym (made.branch at q left right met) in (
       record { digest_is = own; left_is = second.0.left_is },
       grown_branch digest start stop at q left right (encoded enc old) (encoded enc c.append_told.new.found.items)
