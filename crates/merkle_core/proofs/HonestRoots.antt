@@ -59,7 +59,7 @@ all_dropped : {A : Type 0} (xs : List A) → drop (length xs) xs ≡ []
 all_dropped [] = refl
 all_dropped (x ∷ xs) = all_dropped xs
 
-length-as_one : (fold : List (List ℕ) → List ℕ) (xs : List (List ℕ)) → length (as_one fold xs) ≡ min 1 (length xs)
+pub length-as_one : (fold : List (List ℕ) → List ℕ) (xs : List (List ℕ)) → length (as_one fold xs) ≡ min 1 (length xs)
 length-as_one fold [] = omega arith
 length-as_one fold (x ∷ xs) = omega arith
 
@@ -97,7 +97,7 @@ module _ (hash : Hash) (digest : Digests) (start stop : ℕ) (some : start < sto
   ascend_drop (suc k) at (peak ∷ peaks) up = lower at (end_of peak) (drop k peaks) (omega (arith, up.0)) (ascend_drop k (end_of peak) peaks up.1)
 
   -- no first peak stands after the range, or no later one before it
-  sides : (k at : ℕ) (peaks : List Located) → Ascend at peaks → (A (take k peaks) ≡ []) ⊎ (B (drop k peaks) ≡ [])
+  pub sides : (k at : ℕ) (peaks : List Located) → Ascend at peaks → (A (take k peaks) ≡ []) ⊎ (B (drop k peaks) ≡ [])
   sides zero at peaks up = inl refl
   sides (suc k) at [] up = inl refl
   sides (suc k) at (peak ∷ peaks) up =
@@ -108,7 +108,7 @@ module _ (hash : Hash) (digest : Digests) (start stop : ℕ) (some : start < sto
       (cases_Bool (is_after stop peak))
 
   -- the outer digests, in the order of the proof and in that in which they are read
-  abbrev spelled : Bagging → ℕ → List Located → List (List ℕ)
+  abbrev pub spelled : Bagging → ℕ → List Located → List (List ℕ)
   spelled bagging inactive peaks =
       before_digests hash digest bagging start (take inactive peaks) (drop inactive peaks)
       ++ after_digests hash digest bagging stop (take inactive peaks) (drop inactive peaks)
@@ -127,13 +127,13 @@ module _ (hash : Hash) (digest : Digests) (start stop : ℕ) (some : start < sto
       map_parts (λ (p : Located). digest p.0 p.1) (filter test (take inactive peaks)) (filter test (drop inactive peaks))
       ∙ ap D (filter_parts test (take inactive peaks) (drop inactive peaks)) ∙ ap (λ ps. D (filter test ps)) (take-append-drop inactive peaks)
 
-  abbrev outer_read : Bagging → ℕ → List Located → List (List ℕ)
+  abbrev pub outer_read : Bagging → ℕ → List Located → List (List ℕ)
   outer_read bagging inactive peaks =
       let k = from_left bagging inactive (length peaks) in
       as_one (folded_forward hash) (D (B (take k peaks)))
       ++ (D (A (take k peaks)) ++ (D (B (drop k peaks)) ++ as_one (folded_backward hash) (D (A (drop k peaks)))))
 
-  outer_same : (bagging : Bagging) (inactive : ℕ) (peaks : List Located) → Ascend 0 peaks
+  pub outer_same : (bagging : Bagging) (inactive : ℕ) (peaks : List Located) → Ascend 0 peaks
       → spelled bagging inactive peaks ≡ outer_read bagging inactive peaks
   outer_same BackwardFold inactive peaks up =
       swapped (as_one (folded_forward hash) (D (B (take inactive peaks)))) (D (A (take inactive peaks))) (D (B (drop inactive peaks)))
@@ -153,7 +153,7 @@ module _ (hash : Hash) (digest : Digests) (start stop : ℕ) (some : start < sto
   passing_D test peaks = length-map (filter test peaks) (λ (p : Located). digest p.0 p.1)
 
   -- how many outer digests there are
-  outer_length : (bagging : Bagging) (inactive : ℕ) (peaks : List Located)
+  pub outer_length : (bagging : Bagging) (inactive : ℕ) (peaks : List Located)
       → length (spelled bagging inactive peaks) ≡ range_outer bagging start stop inactive peaks
   outer_length ForwardFold inactive peaks =
       let front = D (B (take inactive peaks)) in
@@ -200,7 +200,7 @@ module _ (hash : Hash) (digest : Digests) (start stop : ℕ) (some : start < sto
       ∙ ap (flat_map (λ (p : Located). siblings digest start stop p.0 p.1)) (filter_parts (meets start stop) (take inactive peaks) (drop inactive peaks))
       ∙ ap inner (take-append-drop inactive peaks)
 
-  proof_parts : (bagging : Bagging) (inactive : ℕ) (peaks : List Located)
+  pub proof_parts : (bagging : Bagging) (inactive : ℕ) (peaks : List Located)
       → range_digests hash digest bagging start stop (take inactive peaks) (drop inactive peaks) ≡ spelled bagging inactive peaks ++ inner peaks
   proof_parts bagging inactive peaks =
       append_assoc (spelled bagging inactive peaks) (inner (take inactive peaks)) (inner (drop inactive peaks))
@@ -230,7 +230,7 @@ bag_located hash digest bagging inactive first rest =
     ap (λ n. folded_backward hash (items hash (from_left bagging inactive n) (singly digest (first ∷ rest)))) count
     ∙ bag_same hash bagging inactive (digest first.0 first.1) ds
 
-first_part : {A : Type 0} (xs : List A) → 0 < length xs → (x : A) × (rest : List A) × (xs ≡ x ∷ rest)
+pub first_part : {A : Type 0} (xs : List A) → 0 < length xs → (x : A) × (rest : List A) × (xs ≡ x ∷ rest)
 first_part [] some = absurd (omega (arith, some))
 first_part (x ∷ xs) some = (x, xs, refl)
 

@@ -18,6 +18,10 @@ pub mod Accepted
 pub mod Short
 pub mod HonestRanges
 pub mod HonestRoots
+pub mod HonestTold
+pub mod DigestCounts
+pub mod Extractions
+pub mod Pins
 pub mod OneRead
 pub mod OneBag
 pub mod OneRoot

@@ -1,4 +1,5 @@
 pub mod Assembled
+pub mod Extracted
 pub mod Followed
 pub mod Laws
 pub mod MadeRoots
@@ -7,6 +8,7 @@ pub mod Multi
 pub mod MultiReads
 pub mod MultiSoundness
 pub mod OneEach
+pub mod Pinned
 pub mod Plans
 pub mod Proofs
 pub mod RangeCounts
@@ -15,5 +17,6 @@ pub mod RangesCode
 pub mod Reads
 pub mod Rebuilt
 pub mod Reconstructed
+pub mod Reconstruction
 pub mod Soundness
 pub mod Walked

@@ -9,7 +9,8 @@ ghost use Rattle.merkle_forest.specs.Made.{value, strings};
 ghost use Rattle.merkle_forest.specs.Trees.{located, peak_digests, plain_digest, tree_root};
 ghost use Rattle.merkle_core_parts.specs.Mem.{Nodes, node_at, NodeHash, AreNodesOf, tree_digest, plain_node, plain_leaf_digests};
 ghost use Rattle.merkle_core.specs.Followed.{FollowsIn};
-ghost use Rattle.merkle_core.specs.MadeRoots.{Naming, peaks_of};
+ghost use Rattle.merkle_core.specs.Extracted.{AreMadeOf, AreGiven};
+ghost use Rattle.merkle_core.specs.MadeRoots.{Naming, from_left, peaks_of};
 ghost use Rattle.merkle_core.specs.MadeTrees.{Over, from, plain_over};
 ghost use Rattle.merkle_core.specs.Multi.{AreDigestsAt, AreMultiDigests};
 ghost use Rattle.merkle_core.specs.MultiReads.{Shown, can_be_shown, needed_positions, multi_root};
@@ -183,6 +184,19 @@ pub fn built_proofs_of_elements_lead_to_the_root<F: Family>()
         → AreMultiDigests F.merge_rule (length elements) locations known digests
         → option_map (value hash) (multi_root plain_names plain_over bagging F.merge_rule (length elements) inactive
         (shown_of elements locations) digests) ≡ Some (tree_root hash bagging F.merge_rule elements inactive) }
+{}
+
+/// The honest proof of a range gives the digests of the nodes that it tells, and those of a list are made of any part of
+/// it: so what is extracted from the honest proof of a range of a list are that list's nodes.
+pub fn honest_proofs_tell_the_nodes_of_the_list<F: Family>()
+    ensures given { (hash : Hash) (bagging : Bagging) (digest : Digests) (leaves inactive start stop : ℕ) → start < stop
+        → let peaks = peaks_of F.merge_rule leaves in
+        AreGiven (from_left bagging inactive (length peaks)) start stop peaks digest
+        (honest_digests hash digest bagging F.merge_rule leaves inactive start stop) }
+    ensures made { (hash : Hash) (elements : List (List ℕ)) (start count : ℕ)
+        → AreMadeOf (λ position element. hash (leaf_string position element))
+        (λ position left right. hash (node_string position left right)) (from start (take count (drop start elements)))
+        start (start + count) (plain_digest hash elements) }
 {}
 
 /// The proof of some elements is made of at most 122 nodes for each of them.

@@ -2,8 +2,10 @@
 //! what an item is there.
 #![tactic(auto)]
 
+pub mod extraction;
 pub mod laws;
 pub mod multi;
+pub mod pinned;
 pub mod plan;
 pub mod proof;
 pub mod range;
@@ -11,13 +13,16 @@ pub mod ranges;
 pub mod readable;
 pub mod rebuild;
 pub mod reconstruct;
+pub mod reconstruction;
 pub mod verification;
 pub mod walk;
 
+pub use extraction::ExtractionError;
 pub use merkle_core_parts::{Mem, batch, error, mem};
 pub use plan::{ElementPlan, RangePlan};
 pub use proof::{MAX_PROOF_DIGESTS_PER_ELEMENT, Proof};
 pub use readable::Readable;
+pub use reconstruction::ReconstructionError;
 
 #[cfg(test)]
 mod tests;

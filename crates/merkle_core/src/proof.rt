@@ -1,18 +1,28 @@
 //! Merkle proofs and how they are written and read.
 
-ghost use Rattle.std.specs.Prelude.{◌≡◌, ◌<◌, ◌≤◌, ◌^◌, ◌++◌, ◌↔◌, [], ℕ, List, map, length, option_map, Some, IsTrue, Ok, IfOk, OnOk, OnErr};
+ghost use Rattle.std.specs.Prelude.{◌≡◌, ◌<◌, ◌≤◌, ◌+◌, ◌^◌, ◌++◌, ◌↔◌, [], ◌∷◌, ℕ, List, map, length, option_map, Some, IsTrue, Ok, IfOk, IfErr, OnOk, OnErr, replicate};
 ghost use Rattle.merkle_forest.specs.Forest.{forest_of};
 ghost use Rattle.merkle_forest.specs.Trees.{located, inactive_peaks};
 ghost use Rattle.merkle_forest.specs.Codec.{Extends};
 ghost use Rattle.merkle_forest.specs.Lists.{AreItems};
 ghost use Rattle.merkle_forest.specs.Made.{value};
-ghost use Rattle.merkle_core.specs.MadeRoots.{Naming};
-ghost use Rattle.merkle_core.specs.MadeTrees.{Over};
+ghost use Rattle.merkle_core.specs.Extracted.{AreMadeOf, AreGiven, AreExtracted, extracted_nodes, IsRefusalToExtract};
+ghost use Rattle.merkle_core.specs.MadeRoots.{Naming, from_left, peaks_of};
+ghost use Rattle.merkle_core.specs.MadeTrees.{Over, from};
 ghost use Rattle.merkle_core.specs.MultiReads.{multi_root};
-ghost use Rattle.merkle_core.specs.Reads.{HashesAs};
+ghost use Rattle.merkle_core.specs.Pinned.{ArePinned};
+ghost use Rattle.merkle_core.specs.RangeCounts.{range_outer};
+ghost use Rattle.merkle_core.specs.Ranges.{Digests};
+ghost use Rattle.merkle_core.specs.Reads.{HashesAs, range_root};
+ghost use Rattle.merkle_core.specs.Reconstruction.{HasRange, where_ok, IsRefusalToReconstruct};
 ghost use Rattle.merkle_core.specs.Proofs.{proof_encoding, after_proof, ProofLacks};
 
+use crate::extraction::{ExtractionError, extract};
 use crate::multi::root::reconstruct_shown;
+use crate::pinned::{Pins, are_pinned};
+use crate::range::peaks::Reader;
+use crate::range::reconstruct_range;
+use crate::reconstruction::ReconstructionError;
 use merkle_forest::Digest;
 use merkle_forest::codec::{
     Cursor, EncodeSize, Error, RangeCfg, Read, Write, number_size, or_undo, read_number,
@@ -22,7 +32,9 @@ use merkle_forest::family::{Family, MAX_LEAVES};
 use merkle_forest::hasher::Hasher;
 use merkle_forest::location::Location;
 use merkle_forest::peaks::inactive_count;
+use merkle_forest::position::Position;
 use std::alloc::{AllocError, Global};
+use std::marker::PhantomData;
 
 /// The greatest count of digests in the proof of one element. In the Rust: `merkle::MAX_PROOF_DIGESTS_PER_ELEMENT`.
 pub const MAX_PROOF_DIGESTS_PER_ELEMENT: usize = 122;
@@ -75,6 +87,180 @@ impl<F: Family, D: Digest> Proof<F, D> {
             return false;
         }
         inactive_count::<F>(self.leaves.as_u64(), floor.as_u64()) as u64 == self.inactive_peaks
+    }
+
+    /// The root of the tree, rebuilt from the proof of the elements that stand in it from a location on. Where no element is
+    /// shown: `MissingElements`; the tree is too large: `InvalidSize`; the range begins past its leaves: `InvalidStartLoc`,
+    /// or ends past them: `InvalidEndLoc`; the tree has fewer peaks than are inactive: `InvalidProof`; there are fewer
+    /// digests than the proof of the range has: `MissingDigests`, or more: `ExtraDigests`, each in this order. It takes no
+    /// memory.
+    /// In the Rust: `merkle::proof::Proof::reconstruct_root`.
+    pub fn reconstruct_root<H: Hasher<F, Digest = D>>(
+        &self,
+        hasher: &H,
+        elements: &[&[u8]],
+        start: Location<F>,
+    ) -> Result<D, ReconstructionError>
+        ensures root { (names : Naming) (over : Over)
+            → HashesAs F.merge_rule H.hash_of (H.leaf_of hasher.now) (H.node_of hasher.now) over
+            → option_map D.encoding (where_ok result)
+            ≡ option_map (value H.hash_of) (range_root names over (H.bagging_of hasher.now) F.merge_rule
+            self.now.leaves self.now.inactive_peaks start (map (λ e. e.now) elements.now)
+            (map D.encoding self.now.digests.items)) }
+        ensures within { OnOk result (HasRange (record {
+          leaves = self.now.leaves;
+          inactive = self.now.inactive_peaks;
+          start = start;
+          count = length elements.now;
+          digests = length self.now.digests.items;
+        })) }
+        ensures refused { (over : Over)
+            → HashesAs F.merge_rule H.hash_of (H.leaf_of hasher.now) (H.node_of hasher.now) over
+            → IfErr result (λ e. IsRefusalToReconstruct (H.bagging_of hasher.now) F.merge_rule (record {
+              leaves = self.now.leaves;
+              inactive = self.now.inactive_peaks;
+              start = start;
+              count = length elements.now;
+              digests = length self.now.digests.items;
+            }) e) }
+    {
+        reconstruct_range(hasher, self, start, elements)
+    }
+
+    /// Whether the proof shows that these elements stand in the tree of this root, from a location on.
+    /// In the Rust: `merkle::proof::Proof::verify_range_inclusion`.
+    pub fn verify_range_inclusion<H: Hasher<F, Digest = D>>(
+        &self,
+        hasher: &H,
+        elements: &[&[u8]],
+        start: Location<F>,
+        root: &D,
+    ) -> bool
+        ensures { (names : Naming) (over : Over)
+            → HashesAs F.merge_rule H.hash_of (H.leaf_of hasher.now) (H.node_of hasher.now) over
+            → IsTrue result ↔ (option_map (value H.hash_of) (range_root names over (H.bagging_of hasher.now)
+            F.merge_rule self.now.leaves self.now.inactive_peaks start (map (λ e. e.now) elements.now)
+            (map D.encoding self.now.digests.items)) ≡ Some (D.encoding root.now)) }
+    {
+        match self.reconstruct_root(hasher, elements, start) {
+            Ok(found) => found == *root,
+            Err(_) => false,
+        }
+    }
+
+    /// Whether the proof shows that this element stands in the tree of this root, at a location.
+    /// In the Rust: `merkle::proof::Proof::verify_element_inclusion`.
+    pub fn verify_element_inclusion<H: Hasher<F, Digest = D>>(
+        &self,
+        hasher: &H,
+        element: &[u8],
+        location: Location<F>,
+        root: &D,
+    ) -> bool
+        ensures { (names : Naming) (over : Over)
+            → HashesAs F.merge_rule H.hash_of (H.leaf_of hasher.now) (H.node_of hasher.now) over
+            → IsTrue result ↔ (option_map (value H.hash_of) (range_root names over (H.bagging_of hasher.now)
+            F.merge_rule self.now.leaves self.now.inactive_peaks location (element.now ∷ [])
+            (map D.encoding self.now.digests.items)) ≡ Some (D.encoding root.now)) }
+    {
+        self.verify_range_inclusion(hasher, &[element], location, root)
+    }
+
+    /// The nodes that the proof tells, each with its digest, in ascending position, where it shows that these elements stand
+    /// in the tree of this root, from a location on: the peaks that it gives singly, and in the peaks that meet the range
+    /// each node that it gives or that is made of others. Where the proof leads to no root: M15; to another one: M17; out of
+    /// memory: M23.
+    /// In the Rust: `merkle::proof::Proof::verify_range_inclusion_and_extract_digests`, which takes no allocator.
+    pub fn verify_range_inclusion_and_extract_digests<H: Hasher<F, Digest = D>>(
+        &self,
+        alloc: Global,
+        hasher: &H,
+        elements: &[&[u8]],
+        start: Location<F>,
+        root: &D,
+    ) -> Result<Vec<(Position<F>, D)>, ExtractionError>
+        ensures shown { (names : Naming) (over : Over)
+            → HashesAs F.merge_rule H.hash_of (H.leaf_of hasher.now) (H.node_of hasher.now) over
+            → OnOk result (option_map (value H.hash_of) (range_root names over (H.bagging_of hasher.now) F.merge_rule
+            self.now.leaves self.now.inactive_peaks start (map (λ e. e.now) elements.now)
+            (map D.encoding self.now.digests.items)) ≡ Some (D.encoding root.now)) }
+        ensures told { (digest : Digests) → AreMadeOf (H.leaf_of hasher.now) (H.node_of hasher.now)
+            (from start (map (λ e. e.now) elements.now)) start (start + length elements.now) digest
+            → let peaks = peaks_of F.merge_rule self.now.leaves in
+            let singles = from_left (H.bagging_of hasher.now) self.now.inactive_peaks (length peaks) in
+            AreGiven singles start (start + length elements.now) peaks digest (map D.encoding self.now.digests.items)
+            → IfOk result (λ found. AreExtracted D.encoding digest
+            (extracted_nodes singles start (start + length elements.now) peaks) found.items) }
+        ensures refused { (names : Naming) (over : Over)
+            → HashesAs F.merge_rule H.hash_of (H.leaf_of hasher.now) (H.node_of hasher.now) over
+            → IfErr result (λ e. IsRefusalToExtract (option_map (value H.hash_of) (range_root names over
+            (H.bagging_of hasher.now) F.merge_rule self.now.leaves self.now.inactive_peaks start
+            (map (λ e. e.now) elements.now) (map D.encoding self.now.digests.items))) (D.encoding root.now) e) }
+    {
+        let Ok(found) = self.reconstruct_root(hasher, elements, start) else {
+            return Err(ExtractionError::InvalidProof);
+        };
+        if found != *root {
+            return Err(ExtractionError::RootMismatch);
+        }
+        let reader = Reader {
+            hasher,
+            leaves: self.leaves.as_u64(),
+            start: start.as_u64(),
+            elements,
+            family: PhantomData,
+        };
+        Ok(extract(alloc, &reader, self.inactive_peaks, &self.digests)?)
+    }
+
+    /// Whether the proof shows that these elements stand in the tree of this root, from a location on, and each of its
+    /// digests that stands for leaves before it is made of these digests, those of the nodes to pin there, from left to
+    /// right. Where there are more of them or fewer, it does not. It fails only when out of memory.
+    /// In the Rust: `merkle::proof::Proof::verify_proof_and_pinned_nodes`, which takes no allocator.
+    pub fn verify_proof_and_pinned_nodes<H: Hasher<F, Digest = D>>(
+        &self,
+        alloc: Global,
+        hasher: &H,
+        elements: &[&[u8]],
+        start: Location<F>,
+        pinned_nodes: &[D],
+        root: &D,
+    ) -> Result<bool, AllocError>
+        ensures { (names : Naming) (over : Over)
+            → HashesAs F.merge_rule H.hash_of (H.leaf_of hasher.now) (H.node_of hasher.now) over
+            → let peaks = peaks_of F.merge_rule self.now.leaves in
+            let bagging = H.bagging_of hasher.now in
+            let stop : ℕ = start + length elements.now in
+            let digests = map D.encoding self.now.digests.items in
+            IfOk result (λ yes. IsTrue yes ↔ ((option_map (value H.hash_of) (range_root names over bagging F.merge_rule
+            self.now.leaves self.now.inactive_peaks start (map (λ e. e.now) elements.now) digests)
+            ≡ Some (D.encoding root.now))
+            × ArePinned H.hash_of (H.node_of hasher.now) (replicate D.SIZE 0) F.merge_rule self.now.leaves
+            (from_left bagging self.now.inactive_peaks (length peaks)) start stop
+            (range_outer bagging start stop self.now.inactive_peaks peaks) digests
+            (map D.encoding pinned_nodes.now))) }
+    {
+        let Ok(found) = self.reconstruct_root(hasher, elements, start) else {
+            return Ok(false);
+        };
+        if found != *root {
+            return Ok(false);
+        }
+        let pins = Pins {
+            hasher,
+            start: start.as_u64(),
+            digests: pinned_nodes,
+            family: PhantomData,
+        };
+        let stop = start.as_u64() + elements.len() as u64;
+        are_pinned(
+            alloc,
+            &pins,
+            self.leaves.as_u64(),
+            self.inactive_peaks,
+            stop,
+            &self.digests,
+        )
     }
 
     /// Whether the proof shows that these elements, each with its location, stand in the tree of this root. It fails only

@@ -1,11 +1,12 @@
 //! Roots rebuilt from a proof of a range of elements.
 
-ghost use Rattle.std.specs.Prelude.{◌≡◌, ◌<◌, ◌≤◌, ◌+◌, ◌^◌, ◌↔◌, [], ◌∷◌, Some, ℕ, List, IsTrue, map, length, take, drop, option_map};
+ghost use Rattle.std.specs.Prelude.{◌≡◌, ◌<◌, ◌≤◌, ◌+◌, ◌^◌, ◌↔◌, [], ℕ, IsTrue, map, length, take, drop, option_map, IfErr, OnOk};
 ghost use Rattle.merkle_forest.specs.declared.bagging.Bagging.{Bagging};
 ghost use Rattle.merkle_forest.specs.Made.{value};
 ghost use Rattle.merkle_core.specs.RangeCounts.{range_outer};
 ghost use Rattle.merkle_core.specs.MadeRoots.{Naming, from_left, peaks_of, read_root};
 ghost use Rattle.merkle_core.specs.MadeTrees.{Over, from};
+ghost use Rattle.merkle_core.specs.Reconstruction.{HasRange, where_ok, IsRefusalToReconstruct};
 ghost use Rattle.merkle_core.specs.Reads.{HashesAs, range_root};
 
 pub mod counts;
@@ -15,6 +16,7 @@ pub mod tree;
 use crate::proof::Proof;
 use crate::range::counts::count_outer;
 use crate::range::peaks::{Reader, read_peaks};
+use crate::reconstruction::ReconstructionError;
 use crate::walk::peaks_from;
 use merkle_forest::bagging::Bagging;
 use merkle_forest::family::{Family, MAX_LEAVES};
@@ -24,7 +26,7 @@ use merkle_forest::root::root_over_item;
 use std::marker::PhantomData;
 
 // How many peaks are folded singly from the left: by ForwardFold all.
-fn folded_singly(bagging: Bagging, inactive: u64, peaks: u64) -> u64
+pub(crate) fn folded_singly(bagging: Bagging, inactive: u64, peaks: u64) -> u64
     ensures { result ≡ from_left bagging inactive peaks }
 {
     match bagging {
@@ -34,7 +36,7 @@ fn folded_singly(bagging: Bagging, inactive: u64, peaks: u64) -> u64
 }
 
 // The first digests, so many or all that there are, and the others.
-fn split_digests<D>(digests: &[D], count: usize) -> (&[D], &[D])
+pub(crate) fn split_digests<D>(digests: &[D], count: usize) -> (&[D], &[D])
     ensures { (result.0.now ≡ take count digests.now) × (result.1.now ≡ drop count digests.now) }
 {
     if count > digests.len() {
@@ -50,29 +52,38 @@ fn is_used_up<D>(outer: &[D], inner: &[D]) -> bool
     outer.is_empty() && inner.is_empty()
 }
 
-// The root, from the digests of the proof. None: there are fewer peaks than inactive ones, there is no peak, or a digest is
-// missing or left over.
+// The root, from the digests of the proof.
 fn root_over<F: Family, H: Hasher<F>>(
     reader: &Reader<'_, F, H>,
     inactive: u64,
     digests: &[H::Digest],
-) -> Option<H::Digest>
+) -> Result<H::Digest, ReconstructionError>
     requires few { reader.now.leaves ≤ MAX_LEAVES }
+    requires some { 0 < length reader.now.elements.now }
     requires within { reader.now.start + length reader.now.elements.now ≤ reader.now.leaves }
-    ensures { (names : Naming) (over : Over)
+    ensures root { (names : Naming) (over : Over)
         → HashesAs F.merge_rule H.hash_of (H.leaf_of reader.now.hasher.now) (H.node_of reader.now.hasher.now) over
         → let stop : ℕ = reader.now.start + length reader.now.elements.now in
         let bagging : Bagging = H.bagging_of reader.now.hasher.now in
-        option_map H.Digest.encoding result
+        option_map H.Digest.encoding (where_ok result)
         ≡ option_map (value H.hash_of) (read_root names over bagging F.merge_rule reader.now.leaves inactive
         reader.now.start stop (from reader.now.start (map (λ e. e.now) reader.now.elements.now))
         (range_outer bagging reader.now.start stop inactive (peaks_of F.merge_rule reader.now.leaves))
         (map H.Digest.encoding digests.now)) }
+    ensures refused { (over : Over)
+        → HashesAs F.merge_rule H.hash_of (H.leaf_of reader.now.hasher.now) (H.node_of reader.now.hasher.now) over
+        → IfErr result (λ e. IsRefusalToReconstruct (H.bagging_of reader.now.hasher.now) F.merge_rule (record {
+          leaves = reader.now.leaves;
+          inactive = inactive;
+          start = reader.now.start;
+          count = length reader.now.elements.now;
+          digests = length digests.now;
+        }) e) }
 {
     let stop = reader.start + reader.elements.len() as u64;
     let peaks = peaks_from::<F>(reader.leaves, 0);
     if inactive > peaks {
-        return None;
+        return Err(ReconstructionError::InvalidProof);
     }
     let bagging = reader.hasher.root_bagging();
     let outer_count = count_outer::<F>(
@@ -85,86 +96,69 @@ fn root_over<F: Family, H: Hasher<F>>(
     ) as usize;
     let (outer, inner) = split_digests(digests, outer_count);
     let singly = folded_singly(bagging, inactive, peaks);
-    let (bag, outer, inner) = read_peaks(reader, singly, outer, inner)?;
-    if !is_used_up(outer, inner) {
-        return None;
+    let Some(bag) = read_peaks(reader, singly, outer, inner) else {
+        return Err(ReconstructionError::MissingDigests);
+    };
+    if !is_used_up(bag.1, bag.2) {
+        return Err(ReconstructionError::ExtraDigests);
     }
-    Some(root_over_item(reader.hasher, reader.leaves, inactive, &bag))
+    Ok(root_over_item(reader.hasher, reader.leaves, inactive, &bag.0))
 }
 
-/// The root of the tree, rebuilt from the proof of the elements that stand in it from a location on. None: there is no
-/// element, the tree is too large, it has fewer peaks than are inactive, the elements end past its leaves, or a digest
-/// is missing or left over.
-/// In the Rust: `merkle::proof::Proof::reconstruct_root`, with an error that names the fault.
+/// The root of the tree, rebuilt from the proof of the elements that stand in it from a location on. Where no element is
+/// shown: `MissingElements`; the tree is too large: `InvalidSize`; the range begins past its leaves: `InvalidStartLoc`, or
+/// ends past them: `InvalidEndLoc`; the tree has fewer peaks than are inactive: `InvalidProof`; there are fewer digests
+/// than the proof of the range has: `MissingDigests`, or more: `ExtraDigests`, each in this order. It takes no memory.
+/// In the Rust: `merkle::proof::Proof::reconstruct_root`, which is here too.
 pub fn reconstruct_range<F: Family, H: Hasher<F>>(
     hasher: &H,
     proof: &Proof<F, H::Digest>,
     start: Location<F>,
     elements: &[&[u8]],
-) -> Option<H::Digest>
-    ensures { (names : Naming) (over : Over)
+) -> Result<H::Digest, ReconstructionError>
+    ensures root { (names : Naming) (over : Over)
         → HashesAs F.merge_rule H.hash_of (H.leaf_of hasher.now) (H.node_of hasher.now) over
-        → option_map H.Digest.encoding result
+        → option_map H.Digest.encoding (where_ok result)
         ≡ option_map (value H.hash_of) (range_root names over (H.bagging_of hasher.now) F.merge_rule proof.now.leaves
         proof.now.inactive_peaks start (map (λ e. e.now) elements.now) (map H.Digest.encoding proof.now.digests.items)) }
+    ensures within { OnOk result (HasRange (record {
+      leaves = proof.now.leaves;
+      inactive = proof.now.inactive_peaks;
+      start = start;
+      count = length elements.now;
+      digests = length proof.now.digests.items;
+    })) }
+    ensures refused { (over : Over)
+        → HashesAs F.merge_rule H.hash_of (H.leaf_of hasher.now) (H.node_of hasher.now) over
+        → IfErr result (λ e. IsRefusalToReconstruct (H.bagging_of hasher.now) F.merge_rule (record {
+          leaves = proof.now.leaves;
+          inactive = proof.now.inactive_peaks;
+          start = start;
+          count = length elements.now;
+          digests = length proof.now.digests.items;
+        }) e) }
 {
     let count = elements.len() as u64;
     if count == 0 {
-        return None;
+        return Err(ReconstructionError::MissingElements);
     }
     let leaves = proof.leaves.as_u64();
-    let stop = start.as_u64().checked_add(count)?;
     if leaves > MAX_LEAVES {
-        return None;
+        return Err(ReconstructionError::InvalidSize);
     }
-    if stop > leaves {
-        return None;
+    let first = start.as_u64();
+    if first >= leaves {
+        return Err(ReconstructionError::InvalidStartLoc);
+    }
+    if count > leaves - first {
+        return Err(ReconstructionError::InvalidEndLoc);
     }
     let reader = Reader {
         hasher,
         leaves,
-        start: start.as_u64(),
+        start: first,
         elements,
         family: PhantomData,
     };
     root_over(&reader, proof.inactive_peaks, &proof.digests)
-}
-
-/// Whether the proof shows that these elements stand in the tree of this root, from a location on.
-/// In the Rust: `merkle::proof::Proof::verify_range_inclusion`, a method.
-pub fn verify_range_inclusion<F: Family, H: Hasher<F>>(
-    hasher: &H,
-    proof: &Proof<F, H::Digest>,
-    start: Location<F>,
-    elements: &[&[u8]],
-    root: &H::Digest,
-) -> bool
-    ensures { (names : Naming) (over : Over)
-        → HashesAs F.merge_rule H.hash_of (H.leaf_of hasher.now) (H.node_of hasher.now) over
-        → IsTrue result ↔ (option_map (value H.hash_of) (range_root names over (H.bagging_of hasher.now) F.merge_rule
-        proof.now.leaves proof.now.inactive_peaks start (map (λ e. e.now) elements.now)
-        (map H.Digest.encoding proof.now.digests.items)) ≡ Some (H.Digest.encoding root.now)) }
-{
-    match reconstruct_range(hasher, proof, start, elements) {
-        Some(found) => found == *root,
-        None => false,
-    }
-}
-
-/// Whether the proof shows that this element stands in the tree of this root, at a location.
-/// In the Rust: `merkle::proof::Proof::verify_element_inclusion`, a method.
-pub fn verify_element_inclusion<F: Family, H: Hasher<F>>(
-    hasher: &H,
-    proof: &Proof<F, H::Digest>,
-    location: Location<F>,
-    element: &[u8],
-    root: &H::Digest,
-) -> bool
-    ensures { (names : Naming) (over : Over)
-        → HashesAs F.merge_rule H.hash_of (H.leaf_of hasher.now) (H.node_of hasher.now) over
-        → IsTrue result ↔ (option_map (value H.hash_of) (range_root names over (H.bagging_of hasher.now) F.merge_rule
-        proof.now.leaves proof.now.inactive_peaks location (element.now ∷ [])
-        (map H.Digest.encoding proof.now.digests.items)) ≡ Some (H.Digest.encoding root.now)) }
-{
-    verify_range_inclusion(hasher, proof, location, &[element], root)
 }

@@ -1,9 +1,9 @@
 mod multi;
 mod plans;
 mod shown;
+mod told;
 
 use super::*;
-use crate::range::verify_range_inclusion;
 use crate::ranges::range_digests_of;
 use merkle_forest::codec::{Decode, Encode, Error, FixedBytes};
 use merkle_forest::forest::grow;
@@ -98,8 +98,8 @@ fn check_range<F: Family>(
     let hasher: Standard<ByteHash> = Standard::new(bagging);
     let proof: Proof<F, FixedBytes<32>> = honest_proof(alloc, &hasher, &elements, start, stop)?;
     let root = FixedBytes::new(root);
-    let there = verify_range_inclusion(&hasher, &proof, Location::new(start), &shown, &root);
-    let elsewhere = verify_range_inclusion(&hasher, &proof, Location::new(0), &shown, &root);
+    let there = proof.verify_range_inclusion(&hasher, &shown, Location::new(start), &root);
+    let elsewhere = proof.verify_range_inclusion(&hasher, &shown, Location::new(0), &root);
     Ok((there, elsewhere))
 }
 

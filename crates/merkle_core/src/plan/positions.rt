@@ -17,7 +17,7 @@ use merkle_forest::family::{Family, MAX_LEAVES};
 use std::alloc::AllocError;
 
 // Whether the leaves from `first` up to `end` all stand on that side.
-fn is_on_side(side: Side, first: u64, end: u64) -> bool
+pub(crate) fn is_on_side(side: Side, first: u64, end: u64) -> bool
     ensures { (node : Tree) → end ≡ first + leaf_count node → result ≡ stands side (first, node) }
 {
     match side {

@@ -17,7 +17,7 @@ use merkle_forest::family::{Family, MAX_LEAVES};
 pub(crate) struct Sides {
     pub(crate) before: u64,
     pub(crate) after: u64,
-    next: u64,
+    pub(crate) next: u64,
 }
 
 // One where it holds.

@@ -6,7 +6,6 @@
 
 use crate::batch::MerkleizedBatch;
 use crate::error::Error as TreeError;
-use crate::range::{verify_element_inclusion, verify_range_inclusion};
 use crate::verification::{element_proof, historical_range_proof, range_proof};
 use crate::{ElementPlan, Mem, Proof, RangePlan, Readable};
 use merkle_forest::codec::FixedBytes;
@@ -357,8 +356,8 @@ fn are_shown<F: Family>(
     let element = element_proved::<F>(alloc, bagging, 9, 2)?;
     let last: Location<F> = Location::new(9);
     Ok((
-        verify_range_inclusion(&hasher, &range, first, &[&[6], &[7], &[8], &[9]], root),
-        verify_element_inclusion(&hasher, &element, last, &[10], root),
+        range.verify_range_inclusion(&hasher, &[&[6], &[7], &[8], &[9]], first, root),
+        element.verify_element_inclusion(&hasher, &[10], last, root),
     ))
 }
 

@@ -7,8 +7,8 @@ use Rattle.merkle_core.specs.RangeCounts.{range_outer}
 use Rattle.merkle_core.proofs.RangeRoots.{range_there}
 use Rattle.merkle_core.proofs.range.reconstruct_range.Goals as goal
 
-pub returns : goal.returns
-returns g c names over by =
+pub returns-clause-root : goal.returns-clause-root
+returns-clause-root g c names over by =
     let rule = g.F.Family.merge_rule in
     let hash = g.H.Hasher.hash_of in
     let bagging = g.H.Hasher.bagging_of c.args.hasher.now in
@@ -18,7 +18,7 @@ returns g c names over by =
     let same_count : length elements ≡ length c.args.elements.now = length-map c.args.elements.now (λ e. e.now) in
     let Root : ℕ → Option Made = λ n. read_root names over bagging rule it.leaves it.inactive_peaks c.args.start (c.args.start + n)
     (from c.args.start elements) (range_outer bagging c.args.start (c.args.start + n) it.inactive_peaks (peaks_of rule it.leaves)) digests in
-    rw (c.as_u64-leaves.ensures, c.as_u64-2.ensures, c.deref.ensures.value) at (c.root_over.ensures names over by)
+    rw (c.as_u64-leaves.ensures, c.as_u64-first.ensures, c.deref.ensures.value) at (c.root_over.ensures.root names over by)
     ∙ ap (λ n. option_map (value hash) (Root n)) (sym same_count)
     ∙ sym (ap (option_map (value hash)) (range_there names over bagging rule it.leaves it.inactive_peaks c.args.start elements digests
     (omega (arith, same_count, c.if-count-eq0.false))))
