@@ -1,5 +1,5 @@
 -- How many digests the proof of a range has, and why no root can be reconstructed from it.
-use Rattle.std.specs.Prelude.{◌≡◌, ℕ, ◌+◌, ◌<◌, ◌≤◌, ◌^◌, List, length, codes, Option, Some, None, Result, Ok, Err}
+use Rattle.std.specs.Prelude.{◌≡◌, ℕ, ◌+◌, ◌<◌, ◌≤◌, ◌^◌, List, length, codes}
 use Rattle.merkle_forest.specs.declared.bagging.Bagging.{Bagging}
 use Rattle.merkle_forest.specs.Forest.{Rule}
 use Rattle.merkle_core.specs.declared.reconstruction.ReconstructionError.{ReconstructionError}
@@ -19,11 +19,6 @@ reconstruction_text InvalidEndLoc = codes "the range ends past the leaves"
 reconstruction_text MissingElements = codes "no element is shown"
 reconstruction_text InvalidSize = codes "the tree is too large"
 reconstruction_text Memory = codes "out of memory"
-
--- what is there where nothing was refused
-abbrev pub where_ok : {T E : Type 0} → Result T E → Option T
-where_ok (Ok x) = Some x
-where_ok (Err e) = None
 
 -- how many digests the proof of a range has: those that stand for the peaks beside it, and in the peaks that meet it one for each maximal
 -- node that holds no leaf of it

@@ -1,6 +1,7 @@
 //! Merkle proofs and how they are written and read.
 
 ghost use Rattle.std.specs.Prelude.{◌≡◌, ◌<◌, ◌≤◌, ◌+◌, ◌^◌, ◌++◌, ◌↔◌, [], ◌∷◌, ℕ, List, map, length, option_map, Some, IsTrue, Ok, IfOk, IfErr, OnOk, OnErr, replicate};
+ghost use Rattle.std.specs.Result.{result_ok};
 ghost use Rattle.merkle_forest.specs.Forest.{forest_of};
 ghost use Rattle.merkle_forest.specs.Trees.{located, inactive_peaks};
 ghost use Rattle.merkle_forest.specs.Codec.{Extends};
@@ -14,7 +15,7 @@ ghost use Rattle.merkle_core.specs.Pinned.{ArePinned};
 ghost use Rattle.merkle_core.specs.RangeCounts.{range_outer};
 ghost use Rattle.merkle_core.specs.Ranges.{Digests};
 ghost use Rattle.merkle_core.specs.Reads.{HashesAs, range_root};
-ghost use Rattle.merkle_core.specs.Reconstruction.{HasRange, where_ok, IsRefusalToReconstruct};
+ghost use Rattle.merkle_core.specs.Reconstruction.{HasRange, IsRefusalToReconstruct};
 ghost use Rattle.merkle_core.specs.Proofs.{proof_encoding, after_proof, ProofLacks};
 
 use crate::extraction::{ExtractionError, extract};
@@ -103,7 +104,7 @@ impl<F: Family, D: Digest> Proof<F, D> {
     ) -> Result<D, ReconstructionError>
         ensures root { (names : Naming) (over : Over)
             → HashesAs F.merge_rule H.hash_of (H.leaf_of hasher.now) (H.node_of hasher.now) over
-            → option_map D.encoding (where_ok result)
+            → option_map D.encoding (result_ok result)
             ≡ option_map (value H.hash_of) (range_root names over (H.bagging_of hasher.now) F.merge_rule
             self.now.leaves self.now.inactive_peaks start (map (λ e. e.now) elements.now)
             (map D.encoding self.now.digests.items)) }

@@ -1,12 +1,13 @@
 //! Roots rebuilt from a proof of a range of elements.
 
 ghost use Rattle.std.specs.Prelude.{◌≡◌, ◌<◌, ◌≤◌, ◌+◌, ◌^◌, ◌↔◌, [], ℕ, IsTrue, map, length, take, drop, option_map, IfErr, OnOk};
+ghost use Rattle.std.specs.Result.{result_ok};
 ghost use Rattle.merkle_forest.specs.declared.bagging.Bagging.{Bagging};
 ghost use Rattle.merkle_forest.specs.Made.{value};
 ghost use Rattle.merkle_core.specs.RangeCounts.{range_outer};
 ghost use Rattle.merkle_core.specs.MadeRoots.{Naming, from_left, peaks_of, read_root};
 ghost use Rattle.merkle_core.specs.MadeTrees.{Over, from};
-ghost use Rattle.merkle_core.specs.Reconstruction.{HasRange, where_ok, IsRefusalToReconstruct};
+ghost use Rattle.merkle_core.specs.Reconstruction.{HasRange, IsRefusalToReconstruct};
 ghost use Rattle.merkle_core.specs.Reads.{HashesAs, range_root};
 
 pub mod counts;
@@ -65,7 +66,7 @@ fn root_over<F: Family, H: Hasher<F>>(
         → HashesAs F.merge_rule H.hash_of (H.leaf_of reader.now.hasher.now) (H.node_of reader.now.hasher.now) over
         → let stop : ℕ = reader.now.start + length reader.now.elements.now in
         let bagging : Bagging = H.bagging_of reader.now.hasher.now in
-        option_map H.Digest.encoding (where_ok result)
+        option_map H.Digest.encoding (result_ok result)
         ≡ option_map (value H.hash_of) (read_root names over bagging F.merge_rule reader.now.leaves inactive
         reader.now.start stop (from reader.now.start (map (λ e. e.now) reader.now.elements.now))
         (range_outer bagging reader.now.start stop inactive (peaks_of F.merge_rule reader.now.leaves))
@@ -118,7 +119,7 @@ pub fn reconstruct_range<F: Family, H: Hasher<F>>(
 ) -> Result<H::Digest, ReconstructionError>
     ensures root { (names : Naming) (over : Over)
         → HashesAs F.merge_rule H.hash_of (H.leaf_of hasher.now) (H.node_of hasher.now) over
-        → option_map H.Digest.encoding (where_ok result)
+        → option_map H.Digest.encoding (result_ok result)
         ≡ option_map (value H.hash_of) (range_root names over (H.bagging_of hasher.now) F.merge_rule proof.now.leaves
         proof.now.inactive_peaks start (map (λ e. e.now) elements.now) (map H.Digest.encoding proof.now.digests.items)) }
     ensures within { OnOk result (HasRange (record {

@@ -98,7 +98,7 @@ fn chunk_root<D: Digest, H: Hasher<Family, Digest = D>>(
         inactive_peaks: 0,
         digests,
     };
-    Ok(reconstruct_range(hasher, &proof, Location::new(location), &[chunk]))
+    Ok(reconstruct_range(hasher, &proof, Location::new(location), &[chunk]).ok())
 }
 
 // The root where the last chunk is partial, which the last digest is of, or is the tree's.

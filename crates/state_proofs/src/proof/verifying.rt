@@ -124,6 +124,7 @@ fn shown_root<F: Graftable + PendingOf<H::Digest>, H: HashFunction>(
         Location::new(shown.start),
         shown.operations,
     )
+    .ok()
 }
 
 // Whether the proof shows it.

@@ -31,6 +31,7 @@ returns g c =
     (grafted_node g.F.Family.merge_rule hash x) over in
     let hashes : Hashes (given_of c.new-verifier.result) =
     subst Hashes (sym same) (hashes_grafted g.F.Family.merge_rule g.met.F.Family.merges_equals hash given shown.width) in
-    c.reconstruct_range.ensures grafted_names over hashes
+    ap (option_map g.H.Digest.Write.encoding) c.ok.ensures.value
+    ∙ c.reconstruct_range.ensures.root grafted_names over hashes
     ∙ ap (λ start. option_map (value hash) (range_root grafted_names over BackwardFold g.F.Family.merge_rule proof.leaves proof.inactive start
     shown.operations proof.digests)) c.new.ensures
