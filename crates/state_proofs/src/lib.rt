@@ -17,6 +17,8 @@ pub mod proof;
 pub mod required;
 pub mod seal;
 pub mod snapshot;
+#[cfg(test)]
+mod tests;
 pub mod verify;
 pub mod witness;
 
