@@ -1,3 +1,5 @@
+mod maps;
+
 use super::*;
 use std::alloc::Global;
 use std::test::Fail;
