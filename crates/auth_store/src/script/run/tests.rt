@@ -299,24 +299,3 @@ fn refusals_are_printed_by_their_numbers(rt: HostRuntime) -> Result<(), Fail> {
     assert_eq!(rt; out.as_slice(), lines.as_slice());
     Ok(())
 }
-
-// The device of a script that opened its store once: it is closed, and no opening of it was by chance.
-#[test]
-fn the_device_is_given_back(rt: HostRuntime) -> Result<(), Fail> {
-    let alloc = rt.alloc();
-    let mut script = b"new mmr 0\nopen\ncommit\n".as_slice();
-    let mut out = Vec::new(alloc);
-    let end = run_script(alloc, &mut script, &mut out);
-    let Some(device) = end.device else {
-        return Err(Fail::from("no device"));
-    };
-    assert!(rt; device.is_closed());
-    let mut by_chance = Vec::new(alloc);
-    for opening in device.openings() {
-        by_chance.push(opening.by_chance(alloc, 64)?)?;
-    }
-    assert_eq!(rt; by_chance.as_slice(), [false].as_slice());
-    let mut none = b"".as_slice();
-    assert!(rt; run_script(alloc, &mut none, &mut out).device.is_none());
-    Ok(())
-}
