@@ -1,6 +1,6 @@
 #!/usr/bin/env python3
-"""Asks of every crate what `rt ci` asks before any proof: the layout, the words of contracts, that each file is read, and that each
-text of an edit stands in its file once.
+"""Asks of every crate what `rt ci` asks before any proof: the layout, the words of contracts, that each file is read, that each
+text of an edit stands in its file once, and that each library which a path begins with is one of the crate's in crates.txt.
 
     tools/before_a_commit.py        at the top of the repository; prints what is wrong, and ends with status 1 if anything is
 
@@ -9,10 +9,13 @@ It calls the functions of the kit's `rt` themselves, and proves nothing. The gat
 import importlib.machinery
 import importlib.util
 import os
+import pathlib
+import re
 import shutil
 import sys
 
 PROGRAM = os.path.realpath(shutil.which("rt"))
+RLIBS = pathlib.Path("/opt/rattle/rlibs")
 
 
 def load():
@@ -24,6 +27,22 @@ def load():
     loader.exec_module(module)
     module.rtlib.Crate = module.Crate
     return module
+
+
+def libraries_not_listed(crate, crates):
+    """The libraries with which a path of the crate begins, and that its line of crates.txt lacks."""
+    lines = pathlib.Path("crates.txt").read_text().splitlines()
+    listed = {name.strip(): set(used.split()) for name, used in (it.split(":", 1) for it in lines if ":" in it)}
+    folder = pathlib.Path(crate.folder)
+    name = folder.name
+    known = {it.name for it in pathlib.Path("crates").iterdir()} | {it.stem for it in RLIBS.glob("*.rlib")}
+    files = list((folder / "src").rglob("*.rt"))
+    own = {it.stem for it in files} | {name, "std", "core", "alloc"}
+    used = set()
+    for file in files:
+        text = re.sub(r"//[^\n]*|ghost use [^;]*;", "", file.read_text())
+        used |= set(re.findall(r"(?<![:\w])([a-z_0-9]+)::(?!<)", text)) - set(re.findall(r"use std::([a-z_0-9]+);", text))
+    return sorted((used & known) - own - listed.get(name, set()))
 
 
 def wrong_with(kit, crate, crates):
@@ -39,6 +58,7 @@ def wrong_with(kit, crate, crates):
         found.append("its text is refused (see above)")
     if lib.fmt(crate.folder, "--check", sys.stdout):
         found.append("run rt fmt")
+    found += [f"crates.txt does not say that it uses {it}" for it in libraries_not_listed(crate, crates)]
     edits, others = kit.edits_of(crate)
     found += [f"{os.path.basename(it)} is no edit's name" for it in others]
     folder = f"{crate.folder}/wrong-bodies"

@@ -13,6 +13,3 @@ pub mod openings;
 pub use device::Device;
 pub use error::OpenError;
 pub use openings::{Mutation, Mutations, Opening, Openings};
-
-#[cfg(test)]
-mod tests;

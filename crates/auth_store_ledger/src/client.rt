@@ -40,6 +40,3 @@ where
         Claim::Value { key, value } => shows_value::<F, H, K, V>(alloc, N, root, key, value, bytes),
     }
 }
-
-#[cfg(test)]
-mod tests;

@@ -246,6 +246,3 @@ impl<F: Family, H: HashFunction, K: FixedKey, V: FixedValue, const N: usize> Led
         let _ = &self.log;
     }
 }
-
-#[cfg(test)]
-mod tests;

@@ -17,6 +17,3 @@ pub use error::LogError;
 pub use opening::recover;
 pub use operations::{operations_of, read_operation};
 pub use replay::is_log_of_a_history;
-
-#[cfg(test)]
-mod tests;

@@ -10,6 +10,3 @@ pub use activity::{activity_bits, inactivity_floor};
 pub use changes::{batch_operations, changes_of};
 pub use places::Places;
 pub use replay::latest_map_of;
-
-#[cfg(test)]
-mod tests;

@@ -10,6 +10,3 @@ pub use input::{InputError, MAX_READS, MAX_SCRIPT_BYTES, read_script};
 pub use key::parse_key;
 pub use line::{Line, parse_line};
 pub use number::parse_number;
-
-#[cfg(test)]
-mod tests;

@@ -48,6 +48,7 @@ nothing_shown records format size some = record {
   next = tt;
   shown = λ image is never.
       inr (refl, ap (recovered_log format crc32 size) (no_bytes image is.no_longer) ∙ nothing_recovered format size some);
+  kept = tt;
 }
 
 -- a new device stands for the empty history

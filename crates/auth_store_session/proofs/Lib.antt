@@ -1,6 +1,8 @@
 pub mod Begins
 pub mod Runs
 pub mod Opens
+pub mod Kept
+pub mod Doubts
 pub mod Refused
 pub mod Long
 pub mod Reading

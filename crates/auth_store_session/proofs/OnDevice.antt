@@ -27,6 +27,7 @@ use Rattle.auth_store_session.specs.declared.error.StoreError.TheVariants.{Fault
 use Rattle.auth_store_session.specs.Refusals.{of_opening}
 use Rattle.auth_store_session.specs.Machine.{Machine, MayRefuse, MayRefuseCommit, PassesLimit, commit_of}
 use Rattle.auth_store_session.specs.Stores.{StoreState, LiveState, IsStore, IsLive, IsLiveAt, IsNoHistory, Shows, IsRefusal, IsOpenRefusal, IsCommitRefusal, EndsDisk, EndsOpening}
+use Rattle.auth_store_session.proofs.Kept.{keeps_history}
 use Rattle.auth_store_session.specs.Standing.{power_of, shown_of, result_of, Commits, IsOpenError, IsShownThrough}
 use Rattle.auth_store_session.proofs.Grown.{keeps_live}
 
@@ -195,12 +196,15 @@ pub live_shows : (format : Format) (calls : List Call) (cache : Cache) (now : Li
     → ((format : Format) (sum : List ℕ → ℕ) (size : ℕ) (calls : List Call) (history : History) → AreRecorded format (log_of history)
     → Keeps sum size (history_bytes format history) (length (history_bytes format history)) calls → MayShow format sum size history None calls)
     → AreStates now.history → IsLive format calls cache now → Shows format (cache.page_size + 12) now.history None calls
-live_shows format calls cache now keeps whole states is = record {
-  written = record { states = states; recorded = is.recorded };
-  next = tt;
-  shown = whole format crc32 (cache.page_size + 12) calls now.history is.recorded
-      (keeps_live format calls cache now keeps (omega (arith, is.sized)) is);
-}
+live_shows format calls cache now keeps whole states is =
+    let durable = keeps_live format calls cache now keeps (omega (arith, is.sized)) is in
+    let size = cache.page_size + 12 in
+    record {
+      written = record { states = states; recorded = is.recorded };
+      next = tt;
+      shown = whole format crc32 size calls now.history is.recorded durable;
+      kept = keeps_history format size now.history calls durable;
+    }
 
 -- what the parts of an open store show
 pub parts_show : {R : Type 0} (format : Format) (device : DeviceState R) (cache : Cache) (live : Option LiveState) (at : StoreState R)

@@ -10,10 +10,10 @@ use Rattle.paged_blob.specs.Laws.Moments.{at_end, weaker}
 use Rattle.auth_store_parts.specs.History.{History, Commit, AreStates, log_of}
 use Rattle.auth_store_log.specs.Records.{Format, begun, history_bytes, recovered_log, AreRecorded}
 use Rattle.auth_store_log.specs.Shown.{IsShown, MayShow, IsKeptThrough}
-use Rattle.auth_store_log.specs.Laws.Shown.{history_more}
 use Rattle.auth_store_session.specs.Machine.{IsShownOf}
 use Rattle.auth_store_session.specs.Stores.{IsWritten, Shows}
 use Rattle.auth_store_session.specs.Standing.{IsOpenedThrough}
+use Rattle.auth_store_session.proofs.Kept.{begun_same, some_bytes, opened_keeps}
 
 -- the premise passes to a shorter list of calls
 pub fewer : {P : List Call → Type 0} (sum : List ℕ → ℕ) (size : ℕ) {old new : List Call} → Through P old new → NoneByChance sum size new
@@ -23,21 +23,6 @@ fewer sum size (then (opened shown) moments p) none = fewer sum size moments non
 fewer sum size (then (wrote offset bytes is_sync ok) moments p) none = fewer sum size moments none
 fewer sum size (then (resized_to length ok) moments p) none = fewer sum size moments none
 fewer sum size (then (synced bytes ok) moments p) none = fewer sum size moments none
-
-nil_front : (a b : List ℕ) → a ++ b ≡ [] → a ≡ []
-nil_front [] b e = refl
-nil_front (x ∷ a) b e = absurd (cc)
-
--- the log of a history has bytes
-pub some_bytes : (format : Format) (history : History) → history_bytes format history ≡ [] → ⊥
-some_bytes format [] e = cc
-some_bytes format (commit ∷ history) e =
-    some_bytes format history (nil_front _ _ (sym (history_more format history commit) ∙ e))
-
--- a log that has bytes stays
-pub begun_same : (format : Format) (log : List ℕ) → (log ≡ [] → ⊥) → begun format log ≡ log
-begun_same format [] some = absurd (some refl)
-begun_same format (byte ∷ log) some = refl
 
 -- the history of which an opening shows the log
 pub shown_is : (format : Format) (history : History) (pending : Option Commit) (now : History) (log : List ℕ)
@@ -97,6 +82,7 @@ still_shows format size history pending old new shown shows (inr through) none =
   next = shows.next;
   shown = given_up format size history pending (recovered_log format crc32 size shown) new
       (opening_shows format size history pending old new shown shows through.0 through.1 none) (at_end through.1);
+  kept = opened_keeps format size history old new shown shows.written shows.kept (inr through);
 }
 
 -- the calls only grow

@@ -1,5 +1,5 @@
 -- Steps of a session without an open store, and what closing leaves.
-use Rattle.std.proofs.Common.{◌≡◌, ◌+◌, ℕ, List, ◌∷◌, Option, Some, None, true, false, is_some, refl, sym, ◌∙◌, subst, ap, inl, inr}
+use Rattle.std.proofs.Common.{◌≡◌, ◌⊎◌, ◌+◌, ℕ, List, ◌∷◌, Option, Some, None, true, false, is_some, refl, sym, ◌∙◌, subst, ap, inl, inr}
 use Rattle.fault_storage_parts.specs.Crc32.{crc32}
 use Rattle.paged_blob.specs.Caches.{Cache}
 use Rattle.paged_blob.specs.Calls.{Call, opened, file_of}
@@ -16,15 +16,16 @@ use Rattle.auth_store_device.specs.Logs.{HasOwnHeader}
 use Rattle.auth_store_session.specs.declared.error.StoreError.{StoreError}
 use Rattle.auth_store_session.specs.declared.error.StoreError.TheVariants.{Fault, PowerCut, NumberEnded, Memory, Corrupt, Failed, Header}
 use Rattle.auth_store_session.specs.Machine as machine
-use Rattle.auth_store_session.specs.Machine.{Machine, Power, State, closed, live, failed, Request, ask_open, Answer, refused, at_rest, IsShownOf, IsStep, IsStepClosed, IsAnswerTo, MayRefuseOpening}
+use Rattle.auth_store_session.specs.Machine.{Machine, Power, State, closed, live, failed, doubtful, Request, ask_open, Answer, refused, at_rest, IsShownOf, IsStep, IsStepClosed, IsStepInDoubt, IsAnswerTo, MayRefuseOpening}
 use Rattle.auth_store_session.specs.MachineCode.{request_of}
 use Rattle.auth_store_session.specs.declared.session.Step.{Step}
 use Rattle.auth_store_session.specs.declared.session.Step.TheVariants as steps
 use Rattle.auth_store_session.specs.declared.sizes.Sizes.{Sizes}
 use Rattle.fault_storage_parts.specs.declared.config.Config.{Config}
 use Rattle.auth_store_session.specs.Standing.{StandsFor, Steps, StepsOpen, SessionState, IsSession, calls_in, page_size_in, IsOpenedThrough, IsShownThrough, IsRecovered, IsOpenError, power_of, shown_of}
-use Rattle.auth_store_session.specs.Stores.{StoreState, IsCache, IsLiveAt, IsNoHistory, IsWritten, Shows}
-use Rattle.auth_store_session.proofs.Opens.{fewer, opening_shows, still_shows, begun_same, some_bytes, grown, behind}
+use Rattle.auth_store_session.specs.Stores.{StoreState, IsCache, IsLiveAt, IsNoHistory, IsWritten, IsKept, Shows}
+use Rattle.auth_store_session.proofs.Kept.{begun_same, some_bytes, opened_keeps, opening_begins}
+use Rattle.auth_store_session.proofs.Opens.{fewer, opening_shows, still_shows, grown, behind}
 
 -- what a law says of an opening
 abbrev pub ShowsWhatStood : Type 0
@@ -47,7 +48,7 @@ pub opens_in : {R : Type 0} (m : Machine) (format : Format) (device : DeviceStat
     → ((history : History) × IsLiveAt store history × IsRecovered format (cache.page_size + 12) (shown_of device) history)
     → IsShownThrough format (cache.page_size + 12) (shown_of device) device.calls store.device.calls
     → Steps m format (closed_at device cache) ask_open machine.opened (open_at store)
-opens_in m format device cache store law sized uncut recovered shown none (closed history pending) stands =
+opens_in m format device cache store law sized uncut recovered shown (closed history pending) none stands =
     let size = cache.page_size + 12 in
     let now = subst (λ s. NoneByChance crc32 (s + 12) store.device.calls) sized none in (
       live recovered.0,
@@ -63,8 +64,22 @@ opens_in m format device cache store law sized uncut recovered shown none (close
       ),
       recovered.1,
     )
-opens_in m format device cache store law sized uncut recovered shown none (live history) stands = absurd stands
-opens_in m format device cache store law sized uncut recovered shown none (failed history commit) stands = absurd stands
+opens_in m format device cache store law sized uncut recovered shown (doubtful history) none stands =
+    let size = cache.page_size + 12 in (
+      live recovered.0,
+      inl (
+        refl,
+        uncut,
+        (
+          recovered.0,
+          opening_begins format size history recovered.0 device.calls (shown_of device) stands.0 recovered.2.0 stands.1 shown.0 recovered.2.1,
+          refl,
+        ),
+      ),
+      recovered.1,
+    )
+opens_in m format device cache store law sized uncut recovered shown (live history) none stands = absurd stands
+opens_in m format device cache store law sized uncut recovered shown (failed history commit) none stands = absurd stands
 
 -- what an opening shows is the log of a history
 shown_has : (format : Format) (history : History) (pending : Option Commit) (log : List ℕ) → IsWritten format history
@@ -98,6 +113,18 @@ refuses_for m format device new cache now history pending NumberEnded shows own 
 refuses_for m format device new cache now history pending Memory shows own none cause = cause
 refuses_for m format device new cache now history pending Failed shows own none cause = cause
 
+-- and in doubt
+doubts_for : {R : Type 0} (m : Machine) (format : Format) (device new : DeviceState R) (cache now : Cache) (e : StoreError)
+    → HasOwnHeader device.storage.inner → IsOpenError m format device cache new now e
+    → (e ≡ Corrupt) ⊎ MayRefuseOpening m (power_of device cache) (power_of new now) e
+doubts_for m format device new cache now Corrupt own cause = inl refl
+doubts_for m format device new cache now (Header fault) own cause = absurd (cause.1 own)
+doubts_for m format device new cache now (Fault kind) own cause = inr cause
+doubts_for m format device new cache now PowerCut own cause = inr cause
+doubts_for m format device new cache now NumberEnded own cause = inr cause
+doubts_for m format device new cache now Memory own cause = inr cause
+doubts_for m format device new cache now Failed own cause = inr cause
+
 -- an opening that is refused
 pub refused_in : {R : Type 0} (m : Machine) (format : Format) (device new : DeviceState R) (cache now : Cache) (e : StoreError)
     → m.page_size ≡ cache.page_size + 12 → now.page_size ≡ cache.page_size
@@ -105,7 +132,7 @@ pub refused_in : {R : Type 0} (m : Machine) (format : Format) (device new : Devi
     → (HasOwnHeader device.storage.inner → HasOwnHeader new.storage.inner)
     → IsOpenError m format device cache new now e
     → Steps m format (closed_at device cache) ask_open (refused e) (closed_at new now)
-refused_in m format device new cache now e paged sized moments header cause none (closed history pending) stands =
+refused_in m format device new cache now e paged sized moments header cause (closed history pending) none stands =
     let at = subst (λ s. NoneByChance crc32 (s + 12) new.calls) sized none in
     let shows = still_shows format (cache.page_size + 12) history pending device.calls new.calls (shown_of device) stands.0 moments at in (
       closed history pending,
@@ -119,22 +146,35 @@ refused_in m format device new cache now e paged sized moments header cause none
       ),
       (subst (λ s. Shows format (s + 12) history pending new.calls) (sym sized) shows, header stands.1),
     )
-refused_in m format device new cache now e paged sized moments header cause none (live history) stands = absurd stands
-refused_in m format device new cache now e paged sized moments header cause none (failed history commit) stands = absurd stands
+refused_in m format device new cache now e paged sized moments header cause (doubtful history) none stands =
+    let kept = opened_keeps format (cache.page_size + 12) history device.calls new.calls (shown_of device) stands.0 stands.1 moments in (
+      doubtful history,
+      inr (e, refl, refl, doubts_for m format device new cache now e stands.2 cause),
+      (stands.0, subst (λ s. IsKept format (s + 12) history new.calls) (sym sized) kept, header stands.2),
+    )
+refused_in m format device new cache now e paged sized moments header cause (live history) none stands = absurd stands
+refused_in m format device new cache now e paged sized moments header cause (failed history commit) none stands = absurd stands
 
 -- a closed session that stays as it is
 pub rests_in : {R : Type 0} (m : Machine) (format : Format) (device new : DeviceState R) (cache : Cache) (request : Request)
     (answer : Answer) → new.calls ≡ device.calls → (HasOwnHeader device.storage.inner → HasOwnHeader new.storage.inner)
     → ((history : History) (pending : Option Commit)
     → IsStepClosed m (power_of device cache) (power_of new cache) history pending request answer (closed history pending))
+    → ((history : History)
+    → IsStepInDoubt m (power_of device cache) (power_of new cache) history request answer (doubtful history))
     → Steps m format (closed_at device cache) request answer (closed_at new cache)
-rests_in m format device new cache request answer calls header steps none (closed history pending) stands = (
+rests_in m format device new cache request answer calls header steps doubts (closed history pending) none stands = (
   closed history pending,
   steps history pending,
   (subst (Shows format (cache.page_size + 12) history pending) (sym calls) stands.0, header stands.1),
 )
-rests_in m format device new cache request answer calls header steps none (live history) stands = absurd stands
-rests_in m format device new cache request answer calls header steps none (failed history commit) stands = absurd stands
+rests_in m format device new cache request answer calls header steps doubts (doubtful history) none stands = (
+  doubtful history,
+  doubts history,
+  (stands.0, subst (IsKept format (cache.page_size + 12) history) (sym calls) stands.1, header stands.2),
+)
+rests_in m format device new cache request answer calls header steps doubts (live history) none stands = absurd stands
+rests_in m format device new cache request answer calls header steps doubts (failed history commit) none stands = absurd stands
 
 -- what a store that is closed stands for
 pub rests_at : {R : Type 0} (format : Format) (store : StoreState R) (device : DeviceState R) (cache : Cache) (state : State)
@@ -149,24 +189,24 @@ rests_at format store device cache (failed history commit) is calls header shows
   header,
 )
 rests_at format store device cache (closed history pending) is calls header shows stands = absurd stands
+rests_at format store device cache (doubtful history) is calls header shows stands = absurd stands
 
 -- a store that is closed
 pub closes_in : {R : Type 0} (m : Machine) (format : Format) (store : StoreState R) (device : DeviceState R) (cache : Cache)
     → cache ≡ store.cache → device.calls ≡ store.device.calls → HasOwnHeader device.storage.inner
     → ((history : History) → IsLiveAt store history → Shows format (store.cache.page_size + 12) history None device.calls)
     → Steps m format (open_at store) machine.ask_close machine.has_closed (closed_at device cache)
-closes_in m format store device cache is calls header shows none (live history) stands =
+closes_in m format store device cache is calls header shows (live history) none stands =
     (closed history None, (refl, refl), rests_at format store device cache (live history) is calls header shows stands)
-closes_in m format store device cache is calls header shows none (failed history commit) stands =
+closes_in m format store device cache is calls header shows (failed history commit) none stands =
     (closed history (Some commit), (refl, refl), rests_at format store device cache (failed history commit) is calls header shows stands)
-closes_in m format store device cache is calls header shows none (closed history pending) stands = absurd stands
+closes_in m format store device cache is calls header shows (closed history pending) none stands = absurd stands
+closes_in m format store device cache is calls header shows (doubtful history) none stands = absurd stands
 
 -- a step of an open store is one of the session
 pub steps_open : {R : Type 0} (m : Machine) (format : Format) (old new : StoreState R) (request : Request) (answer : Answer)
-    → m.page_size ≡ new.cache.page_size + 12 → StepsOpen m format old request answer new
-    → Steps m format (open_at old) request answer (open_at new)
-steps_open m format old new request answer paged steps none state stands =
-    steps (subst (λ s. NoneByChance crc32 s new.device.calls) (sym paged) none) state stands
+    → StepsOpen m format old request answer new → Steps m format (open_at old) request answer (open_at new)
+steps_open m format old new request answer steps state sure stands = steps state stands
 
 -- a session whose store is closed, from its parts
 pub was_closed : {R : Type 0} (parts : Option (DeviceState R × Cache)) (store : Option (StoreState R)) (device : DeviceState R)
@@ -223,18 +263,23 @@ pub rest_same : {R : Type 0} (m : Machine) (format : Format) (parts : Option (De
     (request : Request) (answer : Answer) → store ≡ None
     → ((before after : Power) (history : History) (pending : Option Commit)
     → IsStepClosed m before after history pending request answer (closed history pending))
+    → ((before after : Power) (history : History) → IsStepInDoubt m before after history request answer (doubtful history))
     → Steps m format (record { parts = parts; store = store }) request answer (record { parts = parts; store = store })
-rest_same m format (Some parts) None request answer at steps none (closed history pending) stands =
+rest_same m format (Some parts) None request answer at steps doubts (closed history pending) none stands =
     (closed history pending, steps (power_of parts.0 parts.1) (power_of parts.0 parts.1) history pending, stands)
-rest_same m format (Some parts) None request answer at steps none (live history) stands = absurd stands
-rest_same m format (Some parts) None request answer at steps none (failed history commit) stands = absurd stands
-rest_same m format None None request answer at steps none state stands = absurd stands
-rest_same m format parts (Some store) request answer at steps none state stands = absurd (cc)
+rest_same m format (Some parts) None request answer at steps doubts (doubtful history) none stands =
+    (doubtful history, doubts (power_of parts.0 parts.1) (power_of parts.0 parts.1) history, stands)
+rest_same m format (Some parts) None request answer at steps doubts (live history) none stands = absurd stands
+rest_same m format (Some parts) None request answer at steps doubts (failed history commit) none stands = absurd stands
+rest_same m format None None request answer at steps doubts state none stands = absurd stands
+rest_same m format parts (Some store) request answer at steps doubts state none stands = absurd (cc)
 
 -- what a closed session does not do
 pub record IsRefusedClosed (request : Request) : Type 0 where
   pub steps : (m : Machine) (before after : Power) (history : History) (pending : Option Commit)
       → IsStepClosed m before after history pending request machine.not_open (closed history pending)
+  pub doubts : (m : Machine) (before after : Power) (history : History)
+      → IsStepInDoubt m before after history request machine.not_open (doubtful history)
   pub kind : IsAnswerTo false request machine.not_open
 
 pub is_refused_closed : {K V : Type 0} (key : K → List ℕ) (value : V → List ℕ) (step : Step K V)
@@ -244,14 +289,22 @@ is_refused_closed key value (steps.Open sizes) a b c d = absurd (a sizes refl)
 is_refused_closed key value steps.Crash a b c d = absurd (b refl)
 is_refused_closed key value (steps.Config config) a b c d = absurd (c config refl)
 is_refused_closed key value (steps.CutAfter calls) a b c d = absurd (d calls refl)
-is_refused_closed key value (steps.Commit batch metadata) a b c d = record { steps = λ m before after h p. (refl, refl); kind = refl }
-is_refused_closed key value (steps.Get k) a b c d = record { steps = λ m before after h p. (refl, refl); kind = refl }
-is_refused_closed key value steps.Root a b c d = record { steps = λ m before after h p. (refl, refl); kind = refl }
-is_refused_closed key value steps.Commits a b c d = record { steps = λ m before after h p. (refl, refl); kind = refl }
-is_refused_closed key value steps.Floor a b c d = record { steps = λ m before after h p. (refl, refl); kind = refl }
-is_refused_closed key value steps.Len a b c d = record { steps = λ m before after h p. (refl, refl); kind = refl }
-is_refused_closed key value (steps.ProveKey k) a b c d = record { steps = λ m before after h p. (refl, refl); kind = refl }
-is_refused_closed key value steps.Close a b c d = record { steps = λ m before after h p. (refl, refl); kind = refl }
+is_refused_closed key value (steps.Commit batch metadata) a b c d =
+    record { steps = λ m before after h p. (refl, refl); doubts = λ m before after h. (refl, refl); kind = refl }
+is_refused_closed key value (steps.Get k) a b c d =
+    record { steps = λ m before after h p. (refl, refl); doubts = λ m before after h. (refl, refl); kind = refl }
+is_refused_closed key value steps.Root a b c d =
+    record { steps = λ m before after h p. (refl, refl); doubts = λ m before after h. (refl, refl); kind = refl }
+is_refused_closed key value steps.Commits a b c d =
+    record { steps = λ m before after h p. (refl, refl); doubts = λ m before after h. (refl, refl); kind = refl }
+is_refused_closed key value steps.Floor a b c d =
+    record { steps = λ m before after h p. (refl, refl); doubts = λ m before after h. (refl, refl); kind = refl }
+is_refused_closed key value steps.Len a b c d =
+    record { steps = λ m before after h p. (refl, refl); doubts = λ m before after h. (refl, refl); kind = refl }
+is_refused_closed key value (steps.ProveKey k) a b c d =
+    record { steps = λ m before after h p. (refl, refl); doubts = λ m before after h. (refl, refl); kind = refl }
+is_refused_closed key value steps.Close a b c d =
+    record { steps = λ m before after h p. (refl, refl); doubts = λ m before after h. (refl, refl); kind = refl }
 
 -- where a store is open, a session has nothing beside it
 pub parts_none : {R : Type 0} (parts : Option (DeviceState R × Cache)) (store : Option (StoreState R)) (is : StoreState R)
@@ -282,6 +335,7 @@ closed_rests format parts store is old state view at session stands =
     at_closed : {R : Type 0} (format : Format) (is : DeviceState R × Cache) (store : Option (StoreState R)) (state : State)
         → IsSession (Some is) store → StandsFor format (Some is) store state → StandsFor format (Some is) None (at_rest state)
     at_closed format is None (closed history pending) session stands = stands
+    at_closed format is None (doubtful history) session stands = stands
     at_closed format is None (live history) session stands = absurd stands
     at_closed format is None (failed history commit) session stands = absurd stands
     at_closed format is (Some store) state session stands = absurd session

@@ -1,14 +1,16 @@
 -- A run and one step more.
-use Rattle.std.proofs.Common.{◌≡◌, ◌+◌, ℕ, List, [], ◌∷◌, ◌++◌, Some, None, refl, sym, ◌∙◌, ap, subst, append_assoc}
+use Rattle.std.proofs.Common.{◌≡◌, ◌+◌, ℕ, List, [], ◌∷◌, ◌++◌, Option, Some, None, refl, sym, ◌∙◌, ap, subst, append_assoc}
 use Rattle.std.proofs.lemmas.List.{append-nil}
 use Rattle.fault_storage_parts.specs.Crc32.{crc32}
 use Rattle.paged_blob.specs.Caches.{Cache}
+use Rattle.paged_blob.specs.Calls.{Call}
 use Rattle.paged_blob.specs.Chance.{NoneByChance}
 use Rattle.paged_blob.specs.Moments.{Grows}
 use Rattle.auth_store_device.specs.Devices.{DeviceState}
 use Rattle.auth_store_log.specs.Records.{Format}
-use Rattle.auth_store_session.specs.Machine.{Machine, Power, State, Request, Answer, IsStep, IsRun, at_rest}
-use Rattle.auth_store_session.specs.Standing.{SessionState, StandsFor, Steps, Runs, RunsWhole, calls_in, page_size_in, power_in, power_of}
+use Rattle.auth_store_session.specs.Machine.{Machine, Power, State, closed, live, failed, doubtful, Request, Answer, IsStep, IsRun, IsRunInDoubt, at_rest, in_doubt}
+use Rattle.auth_store_session.specs.Standing.{SessionState, StandsFor, IsSure, Steps, Runs, RunsInDoubt, RunsWhole, calls_in, page_size_in, power_in, power_of}
+use Rattle.auth_store_session.specs.Stores.{StoreState}
 use Rattle.auth_store_session.proofs.Opens.{fewer}
 
 pub one_more : (m : Machine) (before : Power) (first : State) (requests : List Request) (answers : List Answer)
@@ -27,6 +29,48 @@ one_more m before first (r ∷ requests) (a ∷ answers) at now request answer a
 one_more m before first [] (a ∷ answers) at now request answer after next ran step = absurd ran
 one_more m before first (r ∷ requests) [] at now request answer after next ran step = absurd ran
 
+-- so in doubt
+pub one_more_in_doubt : (m : Machine) (before : Power) (first : State) (requests : List Request) (answers : List Answer)
+    (at : Power) (now : State) (request : Request) (answer : Answer) (after : Power) (next : State)
+    → IsRunInDoubt m before first requests answers at now → IsStep m at after (in_doubt now) request answer next
+    → IsRunInDoubt m before first (requests ++ request ∷ []) (answers ++ answer ∷ []) after next
+one_more_in_doubt m before first [] [] at now request answer after next ran step = (
+  after,
+  next,
+  subst (λ s. IsStep m before after (in_doubt s) request answer next) ran.1
+      (subst (λ p. IsStep m p after (in_doubt now) request answer next) ran.0 step),
+  (refl, refl),
+)
+one_more_in_doubt m before first (r ∷ requests) (a ∷ answers) at now request answer after next ran step =
+    (ran.0, ran.1, ran.2, one_more_in_doubt m ran.0 ran.1 requests answers at now request answer after next ran.3 step)
+one_more_in_doubt m before first [] (a ∷ answers) at now request answer after next ran step = absurd ran
+one_more_in_doubt m before first (r ∷ requests) [] at now request answer after next ran step = absurd ran
+
+-- where no opening is by chance, none is from any state
+sure_of : (size : ℕ) (calls : List Call) (state : State) → NoneByChance crc32 size calls → IsSure size calls state
+sure_of size calls (closed history pending) none = none
+sure_of size calls (live history) none = tt
+sure_of size calls (failed history commit) none = tt
+sure_of size calls (doubtful history) none = tt
+
+-- in doubt each opening may be
+sure_in_doubt : (size : ℕ) (calls : List Call) (state : State) → IsSure size calls (in_doubt state)
+sure_in_doubt size calls (closed history pending) = tt
+sure_in_doubt size calls (live history) = tt
+sure_in_doubt size calls (failed history commit) = tt
+sure_in_doubt size calls (doubtful history) = tt
+
+-- what stands for a state stands for it in doubt
+pub stands_in_doubt : {R : Type 0} (format : Format) (parts : Option (DeviceState R × Cache)) (store : Option (StoreState R))
+    (state : State) → StandsFor format parts store state → StandsFor format parts store (in_doubt state)
+stands_in_doubt format parts store (live history) stands = stands
+stands_in_doubt format parts store (failed history commit) stands = stands
+stands_in_doubt format parts store (doubtful history) stands = stands
+stands_in_doubt format (Some parts) None (closed history pending) stands = (stands.0.written, stands.0.kept, stands.1)
+stands_in_doubt format None None (closed history pending) stands = absurd stands
+stands_in_doubt format None (Some store) (closed history pending) stands = absurd stands
+stands_in_doubt format (Some parts) (Some store) (closed history pending) stands = absurd stands
+
 -- a run of a session with a step behind it is one
 pub runs_go_on : {R : Type 0} (m : Machine) (format : Format) (first now next : SessionState R) (requests : List Request)
     (answers : List Answer) (request : Request) (answer : Answer) → page_size_in next.parts next.store ≡ page_size_in now.parts now.store
@@ -35,7 +79,8 @@ pub runs_go_on : {R : Type 0} (m : Machine) (format : Format) (first now next : 
 runs_go_on m format first now next requests answers request answer sized grows runs steps chance state stands =
     let at = runs (subst (λ size. NoneByChance crc32 size (calls_in now.parts now.store)) sized
     (fewer crc32 (page_size_in next.parts next.store) grows chance)) state stands in
-    let step = steps chance at.0 at.2 in (
+    let sure = sure_of (page_size_in next.parts next.store) (calls_in next.parts next.store) at.0 chance in
+    let step = steps at.0 sure at.2 in (
       step.0,
       one_more m (power_in first.parts first.store) state requests answers (power_in now.parts now.store) at.0 request answer
           (power_in next.parts next.store) step.0 at.1 step.1,
@@ -46,12 +91,30 @@ runs_go_on m format first now next requests answers request answer sized grows r
 pub runs_none : {R : Type 0} (m : Machine) (format : Format) (first : SessionState R) → Runs m format first [] [] first
 runs_none m format first chance state stands = (state, (refl, refl), stands)
 
+-- so in doubt
+pub runs_go_on_in_doubt : {R : Type 0} (m : Machine) (format : Format) (first now next : SessionState R) (requests : List Request)
+    (answers : List Answer) (request : Request) (answer : Answer) → RunsInDoubt m format first requests answers now
+    → Steps m format now request answer next → RunsInDoubt m format first (requests ++ request ∷ []) (answers ++ answer ∷ []) next
+runs_go_on_in_doubt m format first now next requests answers request answer runs steps state stands =
+    let at = runs state stands in
+    let step = steps (in_doubt at.0) (sure_in_doubt (page_size_in next.parts next.store) (calls_in next.parts next.store) at.0)
+    (stands_in_doubt format now.parts now.store at.0 at.2) in (
+      step.0,
+      one_more_in_doubt m (power_in first.parts first.store) state requests answers (power_in now.parts now.store) at.0 request answer
+          (power_in next.parts next.store) step.0 at.1 step.1,
+      step.2,
+    )
+
+pub runs_none_in_doubt : {R : Type 0} (m : Machine) (format : Format) (first : SessionState R) → RunsInDoubt m format first [] [] first
+runs_none_in_doubt m format first state stands = (state, (refl, refl), stands)
+
 -- what was taken of some requests, and what is left
 pub record Taken {R : Type 0} (m : Machine) (format : Format) (first : SessionState R) (whole rest : List Request) (given : List Answer)
     (now : SessionState R) : Type 0 where
   pub before : List Request
   pub is : before ++ rest ≡ whole
   pub ran : Runs m format first before given now
+  pub ran_in_doubt : RunsInDoubt m format first before given now
   pub sized : page_size_in now.parts now.store ≡ page_size_in first.parts first.store
 
 pub taken_none : {R : Type 0} (m : Machine) (format : Format) (first : SessionState R) (whole rest : List Request) (given : List Answer)
@@ -60,6 +123,7 @@ taken_none m format first whole rest given is none = record {
   before = [];
   is = is;
   ran = subst (λ answers. Runs m format first [] answers first) (sym none) (runs_none m format first);
+  ran_in_doubt = subst (λ answers. RunsInDoubt m format first [] answers first) (sym none) (runs_none_in_doubt m format first);
   sized = refl;
 }
 
@@ -73,12 +137,15 @@ pub taken_next : {R : Type 0} (make : ℕ → Machine) (format : Format) (first 
     → Taken (make (page_size_in first.parts first.store)) format first whole rest more next
 taken_next make format first whole left rest given more now next request answer taken is steps grows sized gives =
     let m = make (page_size_in first.parts first.store) in
+    let step = subst (λ size. Steps (make size) format now request answer next) taken.sized steps in
     record {
       before = taken.before ++ request ∷ [];
       is = append_assoc taken.before (request ∷ []) rest ∙ (ap (λ l. taken.before ++ l) (sym is) ∙ taken.is);
       ran = subst (λ answers. Runs m format first (taken.before ++ request ∷ []) answers next) (sym gives)
           (runs_go_on m format first now next taken.before given request answer sized grows taken.ran
-          (subst (λ size. Steps (make size) format now request answer next) taken.sized steps));
+          step);
+      ran_in_doubt = subst (λ answers. RunsInDoubt m format first (taken.before ++ request ∷ []) answers next) (sym gives)
+          (runs_go_on_in_doubt m format first now next taken.before given request answer taken.ran_in_doubt step);
       sized = sized ∙ taken.sized;
     }
 
@@ -87,6 +154,13 @@ pub taken_end : {R : Type 0} (m : Machine) (format : Format) (first : SessionSta
 taken_end m format first whole left given now taken none =
     subst (λ requests. Runs m format first requests given now)
     (sym (append-nil taken.before) ∙ (ap (λ l. taken.before ++ l) (sym none) ∙ taken.is)) taken.ran
+
+pub taken_end_in_doubt : {R : Type 0} (m : Machine) (format : Format) (first : SessionState R) (whole left : List Request)
+    (given : List Answer) (now : SessionState R) → Taken m format first whole left given now → left ≡ []
+    → RunsInDoubt m format first whole given now
+taken_end_in_doubt m format first whole left given now taken none =
+    subst (λ requests. RunsInDoubt m format first requests given now)
+    (sym (append-nil taken.before) ∙ (ap (λ l. taken.before ++ l) (sym none) ∙ taken.is)) taken.ran_in_doubt
 
 -- a run of a closed session that is closed at its end
 pub runs_whole : {R : Type 0} (m : Machine) (format : Format) (first now : SessionState R) (requests : List Request)

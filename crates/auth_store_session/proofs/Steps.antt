@@ -10,7 +10,7 @@ use Rattle.auth_store_log.specs.Records.{Format}
 use Rattle.auth_store_ledger.specs.Store.{commit_after}
 use Rattle.auth_store_session.specs.declared.error.StoreError.{StoreError}
 use Rattle.auth_store_session.specs.declared.error.StoreError.TheVariants.{Failed, Memory}
-use Rattle.auth_store_session.specs.Machine.{Machine, Power, State, closed, live, failed, Request, ask_commit, ask_get, ask_proof, Answer, committed, value, proof, refused, IsStep, IsStepLive, IsStepFailed, MayRefuse, commit_of, proof_of}
+use Rattle.auth_store_session.specs.Machine.{Machine, Power, State, closed, live, failed, doubtful, Request, ask_commit, ask_get, ask_proof, Answer, committed, value, proof, refused, IsStep, IsStepLive, IsStepFailed, MayRefuse, commit_of, proof_of}
 use Rattle.auth_store_session.specs.MachineCode.{answer_of}
 use Rattle.auth_store_session.specs.Standing.{Commits, StandsFor, StepsOpen, power_of, result_of}
 use Rattle.auth_store_session.specs.Stores.{StoreState, IsLiveAt, Shows}
@@ -39,10 +39,10 @@ pub commits_in : {R D : Type 0} (m : Machine) (format : Format) (encoding : D �
     → ((history : History) → IsLiveAt old history → Commits m format words metadata history old (result_of encoding result) new)
     → (old.live ≡ None → (result ≡ Err Failed) × (new ≡ old))
     → StepsOpen m format old (ask_commit words metadata) (answer_of (λ root. committed (encoding root)) result) new
-commits_in m format encoding words metadata old new (Ok root) sized commits lost none (live history) stands =
+commits_in m format encoding words metadata old new (Ok root) sized commits lost (live history) stands =
     let c = commits history stands in
     (live (commit_after words metadata history), inl (ap committed c.0, refl, c.2, c.3), c.1)
-commits_in m format encoding words metadata old new (Err e) sized commits lost none (live history) stands =
+commits_in m format encoding words metadata old new (Err e) sized commits lost (live history) stands =
     let c = commits history stands in
     ⊎_elim
     (λ at. (live history, inr (e, refl, c.0, inl refl), at))
@@ -52,10 +52,11 @@ commits_in m format encoding words metadata old new (Err e) sized commits lost n
       (gone.0, subst (λ size. Shows format size history (Some (commit_of words metadata history)) new.device.calls) sized gone.2),
     ))
     c.1
-commits_in m format encoding words metadata old new result sized commits lost none (failed history commit) stands =
+commits_in m format encoding words metadata old new result sized commits lost (failed history commit) stands =
     stays_failed m format old new (ask_commit words metadata) (λ root. committed (encoding root)) result history commit (lost stands.0)
     (λ h c answer is. (is, refl)) stands
-commits_in m format encoding words metadata old new result sized commits lost none (closed history pending) stands = absurd stands
+commits_in m format encoding words metadata old new result sized commits lost (closed history pending) stands = absurd stands
+commits_in m format encoding words metadata old new result sized commits lost (doubtful history) stands = absurd stands
 
 -- a value that is read
 pub gets_in : {R V : Type 0} (m : Machine) (format : Format) (encoding : V → List ℕ) (key : List ℕ) (old new : StoreState R)
@@ -67,14 +68,15 @@ pub gets_in : {R V : Type 0} (m : Machine) (format : Format) (encoding : V → L
     → ((history : History) → IsLiveAt old history → IsLiveAt new history)
     → (old.live ≡ None → (result ≡ Err Failed) × (new ≡ old))
     → StepsOpen m format old (ask_get key) (answer_of (λ found. value (option_map encoding found)) result) new
-gets_in m format encoding key old new (Ok found) is refuses stays lost none (live history) stands =
+gets_in m format encoding key old new (Ok found) is refuses stays lost (live history) stands =
     (live history, (refl, inl (ap value (is history stands))), stays history stands)
-gets_in m format encoding key old new (Err e) is refuses stays lost none (live history) stands =
+gets_in m format encoding key old new (Err e) is refuses stays lost (live history) stands =
     (live history, (refl, inr (e, refl, refuses history stands)), stays history stands)
-gets_in m format encoding key old new result is refuses stays lost none (failed history commit) stands =
+gets_in m format encoding key old new result is refuses stays lost (failed history commit) stands =
     stays_failed m format old new (ask_get key) (λ found. value (option_map encoding found)) result history commit (lost stands.0)
     (λ h c answer at. (at, refl)) stands
-gets_in m format encoding key old new result is refuses stays lost none (closed history pending) stands = absurd stands
+gets_in m format encoding key old new result is refuses stays lost (closed history pending) stands = absurd stands
+gets_in m format encoding key old new result is refuses stays lost (doubtful history) stands = absurd stands
 
 -- a proof that is made
 pub proves_in : {R P : Type 0} (m : Machine) (format : Format) (parts : P → List ℕ × List ℕ) (key : List ℕ) (store : StoreState R)
@@ -83,17 +85,18 @@ pub proves_in : {R P : Type 0} (m : Machine) (format : Format) (parts : P → Li
     → ((history : History) → IsLiveAt store history → IfErr result (λ e. e ≡ Memory))
     → (store.live ≡ None → result ≡ Err Failed)
     → StepsOpen m format store (ask_proof key) (answer_of (λ found. proof (option_map parts found)) result) store
-proves_in m format parts key store (Ok found) is refuses lost none (live history) stands =
+proves_in m format parts key store (Ok found) is refuses lost (live history) stands =
     (live history, (refl, inl (ap proof (is history stands))), stands)
-proves_in m format parts key store (Err e) is refuses lost none (live history) stands = (
+proves_in m format parts key store (Err e) is refuses lost (live history) stands = (
   live history,
   (refl, inr (e, refl, subst (MayRefuse (power_of store.device store.cache) (power_of store.device store.cache)) (sym (refuses history stands)) tt)),
   stands,
 )
-proves_in m format parts key store result is refuses lost none (failed history commit) stands =
+proves_in m format parts key store result is refuses lost (failed history commit) stands =
     stays_failed m format store store (ask_proof key) (λ found. proof (option_map parts found)) result history commit
     (lost stands.0, refl) (λ h c answer at. (at, refl)) stands
-proves_in m format parts key store result is refuses lost none (closed history pending) stands = absurd stands
+proves_in m format parts key store result is refuses lost (closed history pending) stands = absurd stands
+proves_in m format parts key store result is refuses lost (doubtful history) stands = absurd stands
 
 -- what an open store tells of itself
 pub tells_in : {R T : Type 0} (m : Machine) (format : Format) (store : StoreState R) (request : Request) (said : T → Answer)
@@ -104,15 +107,16 @@ pub tells_in : {R T : Type 0} (m : Machine) (format : Format) (store : StoreStat
     → IsStepLive m before after history request answer (live history))
     → IsRefusedOnceFailed request
     → StepsOpen m format store request (answer_of said result) store
-tells_in m format store request said told result is lost steps fails none (live history) stands = (
+tells_in m format store request said told result is lost steps fails (live history) stands = (
   live history,
   steps (power_of store.device store.cache) (power_of store.device store.cache) history (answer_of said result)
       (ap (answer_of said) (is history stands)),
   stands,
 )
-tells_in m format store request said told result is lost steps fails none (failed history commit) stands =
+tells_in m format store request said told result is lost steps fails (failed history commit) stands =
     stays_failed m format store store request said result history commit (lost stands.0, refl) fails stands
-tells_in m format store request said told result is lost steps fails none (closed history pending) stands = absurd stands
+tells_in m format store request said told result is lost steps fails (closed history pending) stands = absurd stands
+tells_in m format store request said told result is lost steps fails (doubtful history) stands = absurd stands
 
 -- a store that stays as it is
 pub stays_in : {R : Type 0} (m : Machine) (format : Format) (old new : StoreState R) (request : Request) (answer : Answer)
@@ -120,12 +124,12 @@ pub stays_in : {R : Type 0} (m : Machine) (format : Format) (old new : StoreStat
     → ((before after : Power) (history : History) → IsStepLive m before after history request answer (live history))
     → ((history : History) (commit : Commit) → IsStepFailed history commit request answer (failed history commit))
     → StepsOpen m format old request answer new
-stays_in m format old new request answer cache alive calls steps fails none (live history) stands = (
+stays_in m format old new request answer cache alive calls steps fails (live history) stands = (
   live history,
   steps (power_of old.device old.cache) (power_of new.device new.cache) history,
   (stands.0, alive ∙ stands.1, stands.2),
 )
-stays_in m format old new request answer cache alive calls steps fails none (failed history commit) stands = (
+stays_in m format old new request answer cache alive calls steps fails (failed history commit) stands = (
   failed history commit,
   fails history commit,
   (
@@ -134,7 +138,8 @@ stays_in m format old new request answer cache alive calls steps fails none (fai
         (subst (Shows format (old.cache.page_size + 12) history (Some commit)) (sym calls) stands.1),
   ),
 )
-stays_in m format old new request answer cache alive calls steps fails none (closed history pending) stands = absurd stands
+stays_in m format old new request answer cache alive calls steps fails (closed history pending) stands = absurd stands
+stays_in m format old new request answer cache alive calls steps fails (doubtful history) stands = absurd stands
 
 pub same_grows : (old new : List Call) → new ≡ old → Grows old new
 same_grows old new is = subst (Grows old) (sym is) (here tt)

@@ -1,9 +1,9 @@
 -- The machine of a session: what each request answers, and what it leaves.
-use Rattle.std.specs.Prelude.{◌≡◌, ◌<◌, ◌≤◌, ◌+◌, ◌^◌, ◌⊎◌, ℕ, ⊤, Bool, true, false, IsTrue, IsFalse, List, [], ◌∷◌, length, Option, None, Some, option_map}
+use Rattle.std.specs.Prelude.{◌≡◌, ◌<◌, ◌≤◌, ◌+◌, ◌++◌, ◌^◌, ◌⊎◌, ℕ, ⊤, Bool, true, false, IsTrue, IsFalse, List, [], ◌∷◌, length, Option, None, Some, option_map}
 use Rattle.merkle_forest.specs.Forest.{Rule}
 use Rattle.merkle_forest.specs.Hashing.{Hash}
 use Rattle.state_proofs.specs.Canonical.{Setting}
-use Rattle.state_ops.specs.Operation.{fixed_size}
+use Rattle.state_ops.specs.Operation.{Operation, fixed_size}
 use Rattle.paged_blob.specs.Flushes.{physical_size}
 use Rattle.auth_store_parts.specs.Batch.{Word, map_after}
 use Rattle.auth_store_parts.specs.Map.{value_at}
@@ -33,17 +33,38 @@ machine rule hash pending width key value page = record {
 }
 
 -- Where a session stands: closed, with the history that the next opening shows, perhaps with the commit that is pending; open
--- with a history; or open and failed, with the commit that failed, which the next opening shows or not.
+-- with a history; open and failed, with the commit that failed, which the next opening shows or not; or closed in doubt, where the
+-- next opening may show by chance what was never written, but behind the log of this history.
 pub data State : Type 0 where
   closed : History → Option Commit → State
   live : History → State
   failed : History → Commit → State
+  doubtful : History → State
 
 -- the state after the store is closed, where one is open
 abbrev pub at_rest : State → State
 at_rest (closed history pending) = closed history pending
 at_rest (live history) = closed history None
 at_rest (failed history commit) = closed history (Some commit)
+at_rest (doubtful history) = doubtful history
+
+-- the state where the next opening may be by chance
+abbrev pub in_doubt : State → State
+in_doubt (closed history pending) = doubtful history
+in_doubt (live history) = live history
+in_doubt (failed history commit) = failed history commit
+in_doubt (doubtful history) = doubtful history
+
+-- the history that has to stay: its last commit was acknowledged, or shown by an opening
+abbrev pub kept_history : State → History
+kept_history (closed history pending) = history
+kept_history (live history) = history
+kept_history (failed history commit) = history
+kept_history (doubtful history) = history
+
+-- the log of the one history begins that of the other
+abbrev pub Begins : History → History → Type 0
+Begins history later = (more : List Operation) × (log_of later ≡ log_of history ++ more)
 
 -- what a session is asked
 pub data Request : Type 0 where
@@ -159,6 +180,24 @@ IsStepClosed m before after history pending ask_config answer next = (answer ≡
 IsStepClosed m before after history pending ask_cut answer next = (answer ≡ is_set) × (next ≡ closed history pending)
 IsStepClosed m before after history pending _ answer next = (answer ≡ not_open) × (next ≡ closed history pending)
 
+-- In doubt an opening shows a history that goes on behind the log of this one, and no cut stood before; or it is refused, also
+-- where what it shows is the log of no history, and the doubt stays.
+abbrev pub IsOpeningInDoubt : Machine → Power → Power → History → Answer → State → Type 0
+IsOpeningInDoubt m before after history answer next =
+    ((answer ≡ opened) × IsFalse before.is_cut
+    × ((shown : History) × Begins history shown × (next ≡ live shown)))
+    ⊎ ((error : StoreError) × (answer ≡ refused error) × (next ≡ doubtful history)
+    × ((error ≡ refusals.Corrupt) ⊎ MayRefuseOpening m before after error))
+
+-- all else is as without it
+abbrev pub IsStepInDoubt : Machine → Power → Power → History → Request → Answer → State → Type 0
+IsStepInDoubt m before after history ask_open answer next = IsOpeningInDoubt m before after history answer next
+IsStepInDoubt m before after history ask_crash answer next =
+    (answer ≡ has_crashed) × (next ≡ doubtful history) × IsFalse after.is_cut
+IsStepInDoubt m before after history ask_config answer next = (answer ≡ is_set) × (next ≡ doubtful history)
+IsStepInDoubt m before after history ask_cut answer next = (answer ≡ is_set) × (next ≡ doubtful history)
+IsStepInDoubt m before after history _ answer next = (answer ≡ not_open) × (next ≡ doubtful history)
+
 -- A commit is in, with the root of the history with it, and no cut stood before; or it is refused, and the store is as it was or has
 -- failed. Where the log would pass 2^62 operations it stays as it was.
 abbrev pub IsCommitting : Machine → Power → Power → History → List Word → Option (List ℕ) → Answer → State → Type 0
@@ -210,6 +249,7 @@ IsStep m before after (closed history pending) request answer next =
     IsStepClosed m before after history pending request answer next
 IsStep m before after (live history) request answer next = IsStepLive m before after history request answer next
 IsStep m before after (failed history commit) request answer next = IsStepFailed history commit request answer next
+IsStep m before after (doubtful history) request answer next = IsStepInDoubt m before after history request answer next
 
 -- A run: an answer for each request, one step after the other; each step meets the power that the one before left.
 abbrev pub IsRun : Machine → Power → State → List Request → List Answer → Power → State → Type 0
@@ -219,6 +259,15 @@ IsRun m before first (request ∷ requests) [] after last = ⊥
 IsRun m before first (request ∷ requests) (answer ∷ answers) after last =
     (now : Power) × (next : State) × IsStep m before now first request answer next
     × IsRun m now next requests answers after last
+
+-- A run in which each opening may be by chance.
+abbrev pub IsRunInDoubt : Machine → Power → State → List Request → List Answer → Power → State → Type 0
+IsRunInDoubt m before first [] [] after last = (after ≡ before) × (last ≡ first)
+IsRunInDoubt m before first [] (answer ∷ answers) after last = ⊥
+IsRunInDoubt m before first (request ∷ requests) [] after last = ⊥
+IsRunInDoubt m before first (request ∷ requests) (answer ∷ answers) after last =
+    (now : Power) × (next : State) × IsStep m before now (in_doubt first) request answer next
+    × IsRunInDoubt m now next requests answers after last
 
 -- an answer of this kind, or a refusal
 abbrev pub IsSaid : (Answer → Bool) → Answer → Type 0

@@ -15,8 +15,8 @@ use Rattle.auth_store_log.specs.Shown.{IsKeptThrough}
 use Rattle.auth_store_ledger.specs.Store.{commit_after, root_of_history}
 use Rattle.auth_store_session.specs.declared.error.StoreError.{StoreError}
 use Rattle.auth_store_session.specs.declared.error.StoreError.TheVariants as refusals
-use Rattle.auth_store_session.specs.Machine.{Machine, Power, State, closed, live, failed, Request, ask_close, Answer, at_rest, IsStep, IsRun, MayRefuseOpening, MayRefuseCommit, commit_of}
-use Rattle.auth_store_session.specs.Stores.{StoreState, IsCache, IsLiveAt, IsNoHistory, IsWritten, Shows}
+use Rattle.auth_store_session.specs.Machine.{Machine, Power, State, closed, live, failed, doubtful, Request, ask_close, Answer, at_rest, IsStep, IsRun, IsRunInDoubt, MayRefuseOpening, MayRefuseCommit, commit_of}
+use Rattle.auth_store_session.specs.Stores.{StoreState, IsCache, IsLiveAt, IsNoHistory, IsWritten, IsKept, Shows}
 
 -- a session: the device and the cache while no store is open, or the store
 pub record SessionState (R : Type 0) : Type 0 where
@@ -108,24 +108,30 @@ IsSession _ _ = ⊥
 abbrev pub StandsFor : {R : Type 0} → Format → Option (DeviceState R × Cache) → Option (StoreState R) → State → Type 0
 StandsFor format (Some parts) None (closed history pending) =
     Shows format (parts.1.page_size + 12) history pending parts.0.calls × HasOwnHeader parts.0.storage.inner
+StandsFor format (Some parts) None (doubtful history) =
+    IsWritten format history × IsKept format (parts.1.page_size + 12) history parts.0.calls × HasOwnHeader parts.0.storage.inner
 StandsFor format None (Some store) (live history) = IsLiveAt store history
 StandsFor format None (Some store) (failed history commit) =
     (store.live ≡ None) × Shows format (store.cache.page_size + 12) history (Some commit) store.device.calls
 StandsFor format _ _ _ = ⊥
 
--- Where no opening is by chance, the call is a step of the machine from each state for which the session stood, to one for which it
--- stands.
+-- From a closed session that is not in doubt, no opening is by chance.
+abbrev pub IsSure : ℕ → List Call → State → Type 0
+IsSure size calls (closed history pending) = NoneByChance crc32 size calls
+IsSure size calls _ = ⊤
+
+-- The call is a step of the machine from each state for which the session stood, to one for which it stands.
 abbrev pub Steps : {R : Type 0} → Machine → Format → SessionState R → Request → Answer → SessionState R → Type 0
 Steps m format old request answer new =
-    NoneByChance crc32 (page_size_in new.parts new.store) (calls_in new.parts new.store)
-    → (state : State) → StandsFor format old.parts old.store state
+    (state : State) → IsSure (page_size_in new.parts new.store) (calls_in new.parts new.store) state
+    → StandsFor format old.parts old.store state
     → (next : State) × IsStep m (power_in old.parts old.store) (power_in new.parts new.store) state request answer next
     × StandsFor format new.parts new.store next
 
 -- so a call of an open store
 abbrev pub StepsOpen : {R : Type 0} → Machine → Format → StoreState R → Request → Answer → StoreState R → Type 0
 StepsOpen m format old request answer new =
-    NoneByChance crc32 m.page_size new.device.calls → (state : State) → StandsFor format None (Some old) state
+    (state : State) → StandsFor format None (Some old) state
     → (next : State) × IsStep m (power_of old.device old.cache) (power_of new.device new.cache) state request answer next
     × StandsFor format None (Some new) next
 
@@ -140,6 +146,13 @@ Runs m format old requests answers new =
     NoneByChance crc32 (page_size_in new.parts new.store) (calls_in new.parts new.store)
     → (first : State) → StandsFor format old.parts old.store first
     → (last : State) × IsRun m (power_in old.parts old.store) first requests answers (power_in new.parts new.store) last
+    × StandsFor format new.parts new.store last
+
+-- So, in doubt: by chance or not.
+abbrev pub RunsInDoubt : {R : Type 0} → Machine → Format → SessionState R → List Request → List Answer → SessionState R → Type 0
+RunsInDoubt m format old requests answers new =
+    (first : State) → StandsFor format old.parts old.store first
+    → (last : State) × IsRunInDoubt m (power_in old.parts old.store) first requests answers (power_in new.parts new.store) last
     × StandsFor format new.parts new.store last
 
 -- A whole run of a device and a cache, closed before it and after it: where no opening is by chance, it is a run of the machine from

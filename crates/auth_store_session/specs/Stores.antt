@@ -1,5 +1,5 @@
 -- An open store over its device: what holds of it while it has not failed, and what its calls say.
-use Rattle.std.specs.Prelude.{◌≡◌, ◌⊎◌, ◌+◌, ◌<◌, ◌≤◌, ◌^◌, ℕ, ⊤, Bool, true, List, ◌∷◌, length, Option, Some, is_some, IfSome}
+use Rattle.std.specs.Prelude.{◌≡◌, ◌⊎◌, ◌+◌, ◌<◌, ◌≤◌, ◌^◌, ℕ, ⊤, Bool, true, List, [], ◌∷◌, length, Option, Some, is_some, IfSome}
 use Rattle.fault_storage_parts.specs.Crc32.{crc32}
 use Rattle.paged_format.specs.Footers.{IsPageSize}
 use Rattle.paged_blob.specs.Answers.{Failures, HaveEnded}
@@ -13,7 +13,7 @@ use Rattle.auth_store_parts.specs.History.{History, Commit, AreStates, log_of}
 use Rattle.auth_store_device.specs.Devices.{DeviceState}
 use Rattle.auth_store_log.specs.Records.{Format, AreRecorded, begun, history_bytes}
 use Rattle.auth_store_log.specs.Causes.{AreNamed}
-use Rattle.auth_store_log.specs.Shown.{MayShow}
+use Rattle.auth_store_log.specs.Shown.{MayShow, KeepsLog}
 use Rattle.auth_store_session.specs.declared.error.StoreError.{StoreError}
 use Rattle.auth_store_session.specs.declared.error.StoreError.TheVariants.{Fault, PowerCut, NumberEnded, Memory, Corrupt}
 
@@ -76,11 +76,18 @@ pub record IsWritten (format : Format) (history : History) : Type 0 where
   pub states : AreStates history
   pub recorded : AreRecorded format (log_of history)
 
--- Each opening that is not by chance shows the log of the history, or with the pending commit.
+-- By chance or not, what each opening recovers begins with the log of the history, once it has a commit.
+abbrev pub IsKept : Format → ℕ → History → List Call → Type 0
+IsKept format size [] calls = ⊤
+IsKept format size (commit ∷ history) calls = KeepsLog format crc32 size (commit ∷ history) calls
+
+-- Each opening that is not by chance shows the log of the history, or with the pending commit; and by chance or not, the history
+-- is kept.
 pub record Shows (format : Format) (size : ℕ) (history : History) (pending : Option Commit) (calls : List Call) : Type 0 where
   pub written : IsWritten format history
   pub next : IfSome pending (λ commit. IsWritten format (commit ∷ history))
   pub shown : MayShow format crc32 size history pending calls
+  pub kept : IsKept format size history calls
 
 -- why an opening may: so, or what it recovered is the log of no history
 abbrev pub IsOpenRefusal : Failures → Failures → Type 0 → Type 0 → StoreError → Type 0

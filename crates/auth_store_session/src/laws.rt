@@ -12,9 +12,9 @@ ghost use Rattle.auth_store_device.specs.Devices.{DeviceState};
 ghost use Rattle.auth_store_device.specs.Settings.{IsNew};
 ghost use Rattle.auth_store_log.specs.Records.{Format, begun, history_bytes, recovered_log};
 ghost use Rattle.auth_store_session.specs.Machine.{Machine, Power, State, Request, Answer, IsShownOf, IsStep, IsRun};
-ghost use Rattle.auth_store_session.specs.Machine.{closed};
+ghost use Rattle.auth_store_session.specs.Machine.{closed, in_doubt, kept_history, Begins, IsRunInDoubt};
 ghost use Rattle.auth_store_session.specs.Standing.{IsOpenedThrough, StandsFor};
-ghost use Rattle.auth_store_session.specs.Stores.{IsWritten, Shows};
+ghost use Rattle.auth_store_session.specs.Stores.{StoreState, IsWritten, Shows};
 
 use auth_store_log::laws::{one_history_a_log, what_is_encoded_is_recorded};
 use rand_core::Rng;
@@ -50,6 +50,31 @@ pub fn a_run_goes_on()
         (at : Power) (now : State) (request : Request) (answer : Answer) (after : Power) (next : State)
         → IsRun m before first requests answers at now → IsStep m at after now request answer next
         → IsRun m before first (requests ++ request ∷ []) (answers ++ answer ∷ []) after next }
+{}
+
+/// So of a run in doubt.
+pub fn a_run_in_doubt_goes_on()
+    ensures { (m : Machine) (before : Power) (first : State) (requests : List Request) (answers : List Answer)
+        (at : Power) (now : State) (request : Request) (answer : Answer) (after : Power) (next : State)
+        → IsRunInDoubt m before first requests answers at now → IsStep m at after (in_doubt now) request answer next
+        → IsRunInDoubt m before first (requests ++ request ∷ []) (answers ++ answer ∷ []) after next }
+{}
+
+/// Whatever openings show, what has to stay does: the log of the history before a run in doubt begins that of the
+/// history after it. So what was acknowledged in its steps begins all that is shown in later ones.
+pub fn what_is_kept_stays_in_doubt()
+    ensures step { (m : Machine) (before after : Power) (state : State) (request : Request) (answer : Answer)
+        (next : State) → IsStep m before after (in_doubt state) request answer next
+        → Begins (kept_history state) (kept_history next) }
+    ensures run { (m : Machine) (before : Power) (first : State) (requests : List Request) (answers : List Answer)
+        (after : Power) (last : State) → IsRunInDoubt m before first requests answers after last
+        → Begins (kept_history first) (kept_history last) }
+{}
+
+/// A session that stands for a state stands for it in doubt.
+pub fn what_stands_stands_in_doubt<R: Rng>()
+    ensures { (format : Format) (parts : Option (DeviceState R × Cache)) (store : Option (StoreState R)) (state : State)
+        → StandsFor format parts store state → StandsFor format parts store (in_doubt state) }
 {}
 
 /// A device of which nothing was called yet stands for the empty history, with any cache, keys and values.

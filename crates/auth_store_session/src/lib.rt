@@ -15,6 +15,3 @@ pub use live::{Live, commit_live, get_live, recover_live};
 pub use session::{Answer, Session, Step};
 pub use sizes::Sizes;
 pub use store::{NotOpened, Store};
-
-#[cfg(test)]
-mod tests;

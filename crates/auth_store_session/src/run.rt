@@ -5,7 +5,7 @@ ghost use Rattle.std.specs.Vec.{vec_len, vec_capacity};
 ghost use Rattle.auth_store_log.specs.Records.{format_of};
 ghost use Rattle.auth_store_session.specs.Machine.{machine};
 ghost use Rattle.auth_store_session.specs.MachineCode.{requests_of, meanings_of};
-ghost use Rattle.auth_store_session.specs.Standing.{Runs, page_size_in};
+ghost use Rattle.auth_store_session.specs.Standing.{Runs, RunsInDoubt, page_size_in};
 
 use crate::session::{Answer, Session, Step};
 use merkle_forest::{Graftable, HashFunction, PendingOf};
@@ -23,9 +23,10 @@ fn note<T: Drop>(answers: &mut Vec<T>, answer: T)
 }
 
 /// Takes the steps one after the other, and puts an answer for each into a list. Where no opening in the device's record is
-/// by chance it is a run of the machine, from each state for which the session stood to one for which it stands. That the
-/// list is empty and has room for as many answers as there are steps is on the caller (`Vec::with_capacity`); so it takes
-/// no memory of its own and is never refused as a whole.
+/// by chance it is a run of the machine, from each state for which the session stood to one for which it stands; by chance
+/// or not, it is one in doubt, in which what was acknowledged begins all that is shown later. That the list is empty and
+/// has room for as many answers as there are steps is on the caller (`Vec::with_capacity`); so it takes no memory of its
+/// own and is never refused as a whole.
 pub fn run<R, F, H, K, V, const N: usize>(
     session: &mut Session<R, F, H, K, V, N>,
     steps: Vec<Step<K, V>>,
@@ -44,6 +45,12 @@ where
         (page_size_in session.old.parts session.old.store) in
         Runs m format session.old (requests_of K.encoding V.encoding steps.items)
         (meanings_of H.Digest.encoding V.encoding answers.new.items) session.new }
+    // By chance or not, what was acknowledged or shown begins the log that each opening shows.
+    ensures kept { let format = format_of (K.after tt) (V.after tt) K.SIZE V.SIZE in
+        let m = machine F.merge_rule H.hash_of F.pending_encoding N K.SIZE V.SIZE
+        (page_size_in session.old.parts session.old.store) in
+        RunsInDoubt m format session.old (requests_of K.encoding V.encoding steps.items)
+        (meanings_of H.Digest.encoding V.encoding answers.new.items) session.new }
     ensures page_size { page_size_in session.new.parts session.new.store
         ≡ page_size_in session.old.parts session.old.store }
 {
@@ -52,6 +59,3 @@ where
         note(answers, session.step(step));
     }
 }
-
-#[cfg(test)]
-mod tests;

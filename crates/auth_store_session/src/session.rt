@@ -580,7 +580,7 @@ where
     }
 
     /// Takes one step and answers it: a step of the machine, from each state that the session stood for, where no
-    /// opening of the device is by chance; and an answer of the step's kind, by chance or not.
+    /// opening of the device is by chance, or in doubt; and an answer of the step's kind, by chance or not.
     pub fn step(&mut self, step: Step<K, V>) -> Answer<H::Digest, V>
         ensures steps { let format = format_of (K.after tt) (V.after tt) K.SIZE V.SIZE in
             let m = machine F.merge_rule H.hash_of F.pending_encoding N K.SIZE V.SIZE
@@ -623,6 +623,3 @@ where
         }
     }
 }
-
-#[cfg(test)]
-mod tests;

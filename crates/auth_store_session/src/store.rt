@@ -324,6 +324,3 @@ where
         (device, cache)
     }
 }
-
-#[cfg(test)]
-mod tests;

@@ -3,6 +3,8 @@
 ghost use Rattle.std.specs.Prelude.{ℕ, ◌+◌, ◌%◌, ◌^◌};
 ghost use Rattle.rand_core.specs.Steps.{stream_of, steps_u64_low};
 
+mod parts;
+
 use crate::config::Config;
 use crate::error::{Call, Error};
 use crate::header::Versions;

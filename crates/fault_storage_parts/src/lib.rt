@@ -16,6 +16,3 @@ pub mod probability;
 pub mod replay;
 
 pub use error::Error;
-
-#[cfg(test)]
-mod tests;

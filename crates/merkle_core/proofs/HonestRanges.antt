@@ -64,7 +64,7 @@ module _ (hash : Hash) (names : Naming) (over : Over) (elements : Elements) (dig
     pub is : tree_of at t (siblings digest start stop at t ++ rest) ≡ Some (made, rest)
     pub same : value hash made ≡ digest at t
 
-  alone : (at : ℕ) (t : Tree) → meets start stop (at, t) ≡ false → siblings digest start stop at t ≡ digest at t ∷ []
+  pub alone : (at : ℕ) (t : Tree) → meets start stop (at, t) ≡ false → siblings digest start stop at t ≡ digest at t ∷ []
   alone at (leaf p) apart = rw apart refl
   alone at (branch p left right) apart = rw apart refl
 
@@ -80,7 +80,7 @@ module _ (hash : Hash) (names : Naming) (over : Over) (elements : Elements) (dig
       let sides = or_parts (is_before start (at, t)) (is_after stop (at, t)) (not-true (is_before start (at, t) || is_after stop (at, t)) met) in
       (leb-false (at + leaf_count t) start sides.0, leb-false stop at sides.1)
 
-  branch_siblings : (at p : ℕ) (left right : Tree) → meets start stop (at, branch p left right) ≡ true
+  pub branch_siblings : (at p : ℕ) (left right : Tree) → meets start stop (at, branch p left right) ≡ true
       → siblings digest start stop at (branch p left right) ≡ siblings digest start stop at left ++ siblings digest start stop (at + leaf_count left) right
   branch_siblings at p left right met = rw met refl
 
@@ -123,21 +123,21 @@ module _ (hash : Hash) (names : Naming) (over : Over) (elements : Elements) (dig
       (cases_Bool (meets start stop (at, branch p left right)))
 
   -- digests of peaks, singly
-  abbrev D : List Located → List (List ℕ)
+  abbrev pub D : List Located → List (List ℕ)
   D peaks = singly digest peaks
 
-  abbrev befores : List Located → List Located
+  abbrev pub befores : List Located → List Located
   befores peaks = filter (is_before start) peaks
 
-  abbrev afters : List Located → List Located
+  abbrev pub afters : List Located → List Located
   afters peaks = filter (is_after stop) peaks
 
   -- the inner digests of these peaks
-  abbrev inner : List Located → List (List ℕ)
+  abbrev pub inner : List Located → List (List ℕ)
   inner peaks = inner_digests digest start stop peaks
 
   -- where a peak stands
-  data Stands (peak : Located) : Type 0 where
+  pub data Stands (peak : Located) : Type 0 where
     before : is_before start peak ≡ true → is_after stop peak ≡ false → meets start stop peak ≡ false → Stands peak
     after : is_before start peak ≡ false → is_after stop peak ≡ true → meets start stop peak ≡ false → Stands peak
     within : is_before start peak ≡ false → is_after stop peak ≡ false → meets start stop peak ≡ true → Stands peak
@@ -145,7 +145,7 @@ module _ (hash : Hash) (names : Naming) (over : Over) (elements : Elements) (dig
   not_both : (peak : Located) → is_before start peak ≡ true → is_after stop peak ≡ false
   not_both peak front = lt-leb stop peak.0 (omega (arith, some, leb-true (end_of peak) start front, leaf_count-pos peak.1))
 
-  stands : (peak : Located) → Stands peak
+  pub stands : (peak : Located) → Stands peak
   stands peak =
       ⊎_elim
       (λ front. before front (not_both peak front) (not_from_true _ (or_left (is_before start peak) (is_after stop peak) front)))
@@ -155,15 +155,15 @@ module _ (hash : Hash) (names : Naming) (over : Over) (elements : Elements) (dig
       (cases_Bool (is_after stop peak)))
       (cases_Bool (is_before start peak))
 
-  inner_out : (peak : Located) (peaks : List Located) → meets start stop peak ≡ false → inner (peak ∷ peaks) ≡ inner peaks
+  pub inner_out : (peak : Located) (peaks : List Located) → meets start stop peak ≡ false → inner (peak ∷ peaks) ≡ inner peaks
   inner_out peak peaks apart = rw apart refl
 
-  inner_in : (peak : Located) (peaks : List Located) → meets start stop peak ≡ true
+  pub inner_in : (peak : Located) (peaks : List Located) → meets start stop peak ≡ true
       → inner (peak ∷ peaks) ≡ siblings digest start stop peak.0 peak.1 ++ inner peaks
   inner_in peak peaks met = rw met refl
 
   -- one peak: its outer digest and inner digests, before all others
-  abbrev own_outer : Located → List (List ℕ) → List (List ℕ)
+  abbrev pub own_outer : Located → List (List ℕ) → List (List ℕ)
   own_outer peak outer = cond (meets start stop peak) outer (digest peak.0 peak.1 ∷ outer)
 
   pub record OneRead (peak : Located) (peaks : List Located) (outer more : List (List ℕ)) : Type 0 where
@@ -200,13 +200,13 @@ module _ (hash : Hash) (names : Naming) (over : Over) (elements : Elements) (dig
   one_read peak peaks outer more = ⊎_elim (one_met peak peaks outer more) (one_given peak peaks outer more) (cases_Bool (meets start stop peak))
 
   -- peaks that all stand after the range
-  record AllAfter (peaks : List Located) : Type 0 where
-    ends : afters peaks ≡ peaks
-    fronts : befores peaks ≡ []
-    inners : inner peaks ≡ []
-    all : list_all (is_after stop) peaks ≡ true
+  pub record AllAfter (peaks : List Located) : Type 0 where
+    pub ends : afters peaks ≡ peaks
+    pub fronts : befores peaks ≡ []
+    pub inners : inner peaks ≡ []
+    pub all : list_all (is_after stop) peaks ≡ true
 
-  all_after : (at : ℕ) (peaks : List Located) → stop ≤ at → Ascend at peaks → AllAfter peaks
+  pub all_after : (at : ℕ) (peaks : List Located) → stop ≤ at → Ascend at peaks → AllAfter peaks
   all_after at [] le up = record { ends = refl; fronts = refl; inners = refl; all = refl }
   all_after at (peak ∷ peaks) le up =
       let rest = all_after (end_of peak) peaks (omega (arith, le, up.0)) up.1 in
@@ -221,15 +221,15 @@ module _ (hash : Hash) (names : Naming) (over : Over) (elements : Elements) (dig
       }
 
   -- the outer digests of peaks that are folded from the right
-  abbrev back_outer : List Located → List (List ℕ)
+  abbrev pub back_outer : List Located → List (List ℕ)
   back_outer peaks = D (befores peaks) ++ as_one (folded_backward hash) (D (afters peaks))
 
-  back_one : (peak : Located) (outer : List (List ℕ)) → Stands peak → back_outer (peak ∷ []) ++ outer ≡ own_outer peak outer
+  pub back_one : (peak : Located) (outer : List (List ℕ)) → Stands peak → back_outer (peak ∷ []) ++ outer ≡ own_outer peak outer
   back_one peak outer (before front back apart) = rw (front, back) refl
   back_one peak outer (after front back apart) = rw (front, back) refl
   back_one peak outer (within front back met) = rw (front, back) refl
 
-  back_more : (peak : Located) (peaks : List Located) (outer : List (List ℕ)) → Stands peak → is_after stop peak ≡ false
+  pub back_more : (peak : Located) (peaks : List Located) (outer : List (List ℕ)) → Stands peak → is_after stop peak ≡ false
       → back_outer (peak ∷ peaks) ++ outer ≡ own_outer peak (back_outer peaks ++ outer)
   back_more peak peaks outer (before front back apart) not_after = rw (front, back) refl
   back_more peak peaks outer (after front back apart) not_after = absurd (both_ways _ not_after back)
@@ -300,14 +300,14 @@ module _ (hash : Hash) (names : Naming) (over : Over) (elements : Elements) (dig
       (cases_Bool (is_after stop peak))
 
   -- the outer digests of peaks that are read singly
-  abbrev singles : List Located → List (List ℕ)
+  abbrev pub singles : List Located → List (List ℕ)
   singles [] = []
   singles (peak ∷ peaks) = own_outer peak (singles peaks)
 
-  own_append : (peak : Located) (one other : List (List ℕ)) → own_outer peak one ++ other ≡ own_outer peak (one ++ other)
+  pub own_append : (peak : Located) (one other : List (List ℕ)) → own_outer peak one ++ other ≡ own_outer peak (one ++ other)
   own_append peak one other = own_cases (meets start stop peak) (digest peak.0 peak.1) one other
 
-  abbrev onto_outer : ℕ → List Located → List (List ℕ)
+  abbrev pub onto_outer : ℕ → List Located → List (List ℕ)
   onto_outer singly peaks = singles (take singly peaks) ++ back_outer (drop singly peaks)
 
   -- what is folded so far, with the peaks after it
@@ -360,9 +360,9 @@ module _ (hash : Hash) (names : Naming) (over : Over) (elements : Elements) (dig
       }
 
   -- peaks of which none stands before the range
-  record NoneBefore (peaks : List Located) : Type 0 where
-    none : befores peaks ≡ []
-    single : singles peaks ≡ D (afters peaks)
+  pub record NoneBefore (peaks : List Located) : Type 0 where
+    pub none : befores peaks ≡ []
+    pub single : singles peaks ≡ D (afters peaks)
 
   single_first : (peak : Located) (peaks : List Located) → Stands peak → is_before start peak ≡ false → NoneBefore peaks → NoneBefore (peak ∷ peaks)
   single_first peak peaks (before front back apart) not_front rest = absurd (both_ways _ not_front front)
@@ -384,7 +384,7 @@ module _ (hash : Hash) (names : Naming) (over : Over) (elements : Elements) (dig
   ascend_take (suc k) at [] up = tt
   ascend_take (suc k) at (peak ∷ peaks) up = (up.0, ascend_take k (end_of peak) peaks up.1)
 
-  none_from : (k at : ℕ) (peak : Located) (peaks : List Located) → Ascend at (peak ∷ peaks)
+  pub none_from : (k at : ℕ) (peak : Located) (peaks : List Located) → Ascend at (peak ∷ peaks)
       → is_before start peak ≡ false → NoneBefore (take (suc k) (peak ∷ peaks))
   none_from k at peak peaks up not_front =
       single_first peak (take k peaks) (stands peak) not_front
@@ -392,10 +392,10 @@ module _ (hash : Hash) (names : Naming) (over : Over) (elements : Elements) (dig
       (end_of peak) start not_front in omega (arith, far)) (ascend_take k (end_of peak) peaks up.1))
 
   -- the outer digests after those of the peaks before the range that are folded from the left
-  abbrev group_outer : ℕ → List Located → List (List ℕ)
+  abbrev pub group_outer : ℕ → List Located → List (List ℕ)
   group_outer singly peaks = D (afters (take singly peaks)) ++ back_outer (drop singly peaks)
 
-  onto_as_group : (singly : ℕ) (peaks : List Located) → NoneBefore (take singly peaks) → onto_outer singly peaks ≡ group_outer singly peaks
+  pub onto_as_group : (singly : ℕ) (peaks : List Located) → NoneBefore (take singly peaks) → onto_outer singly peaks ≡ group_outer singly peaks
   onto_as_group singly peaks none = ap (λ ds. ds ++ back_outer (drop singly peaks)) none.single
 
   pub record GroupRead (singly n : ℕ) (first : Made) (f : List ℕ) (peaks : List Located) (outer more : List (List ℕ)) : Type 0 where
@@ -418,12 +418,12 @@ module _ (hash : Hash) (names : Naming) (over : Over) (elements : Elements) (dig
       ≡ onto_of (suc singly) n first (peak ∷ peaks) streams
   group_other_is singly n first peak peaks streams not_front = rw not_front refl
 
-  outer_before : (singly : ℕ) (peak : Located) (peaks : List Located) → is_before start peak ≡ true
+  pub outer_before : (singly : ℕ) (peak : Located) (peaks : List Located) → is_before start peak ≡ true
       → group_outer (suc singly) (peak ∷ peaks) ≡ group_outer singly peaks
   outer_before singly peak peaks front =
       ap (λ ps. D ps ++ back_outer (drop singly peaks)) (skip (is_after stop) peak (take singly peaks) (not_both peak front))
 
-  front_first : (singly : ℕ) (peak : Located) (peaks : List Located) → is_before start peak ≡ true
+  pub front_first : (singly : ℕ) (peak : Located) (peaks : List Located) → is_before start peak ≡ true
       → D (befores (take (suc singly) (peak ∷ peaks))) ≡ digest peak.0 peak.1 ∷ D (befores (take singly peaks))
   front_first singly peak peaks front = ap D (keep (is_before start) peak (take singly peaks) front)
 

@@ -55,7 +55,7 @@ none_left : {A : Type 0} (xs : List A) → xs ++ [] ≡ xs
 none_left [] = refl
 none_left (x ∷ xs) = ap (λ ys. x ∷ ys) (none_left xs)
 
-all_dropped : {A : Type 0} (xs : List A) → drop (length xs) xs ≡ []
+pub all_dropped : {A : Type 0} (xs : List A) → drop (length xs) xs ≡ []
 all_dropped [] = refl
 all_dropped (x ∷ xs) = all_dropped xs
 

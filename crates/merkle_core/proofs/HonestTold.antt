@@ -46,23 +46,28 @@ module _ (hash : Hash) (digest : Digests) (bagging : Bagging) (inactive start st
   count : (test : Located → Bool) (ps : List Located) → length (singly digest (filter test ps)) ≡ passing test ps
   count test ps = length-map (filter test ps) (λ (p : Located). digest p.0 p.1)
 
+  pub honest_is : range_digests hash digest bagging start stop (take inactive peaks) (drop inactive peaks)
+      ≡ front ++ (before ++ (after ++ (back ++ inner)))
+  honest_is =
+      proof_parts hash digest start stop some bagging inactive peaks
+      ∙ ap (λ ds. ds ++ inner) (outer_same hash digest start stop some bagging inactive peaks up)
+      ∙ append_assoc front (after ++ (before ++ back)) inner
+      ∙ ap (λ ds. front ++ (ds ++ inner)) (turned before after back one_empty)
+      ∙ ap (λ ds. front ++ ds) (append_assoc before (after ++ back) inner)
+      ∙ ap (λ ds. front ++ (before ++ ds)) (append_assoc after back inner)
+
   pub honest_given : AreGiven k start stop peaks digest (range_digests hash digest bagging start stop (take inactive peaks) (drop inactive peaks))
   honest_given = record {
     front = front;
     back = back;
-    is = proof_parts hash digest start stop some bagging inactive peaks
-        ∙ ap (λ ds. ds ++ inner) (outer_same hash digest start stop some bagging inactive peaks up)
-        ∙ append_assoc front (after ++ (before ++ back)) inner
-        ∙ ap (λ ds. front ++ (ds ++ inner)) (turned before after back one_empty)
-        ∙ ap (λ ds. front ++ ds) (append_assoc before (after ++ back) inner)
-        ∙ ap (λ ds. front ++ (before ++ ds)) (append_assoc after back inner);
+    is = honest_is;
     fronts = length-as_one (folded_forward hash) (singly digest (filter (is_before start) (take k peaks)))
         ∙ ap (min 1) (count (is_before start) (take k peaks));
     backs = length-as_one (folded_backward hash) (singly digest (filter (is_after stop) (drop k peaks)))
         ∙ ap (min 1) (count (is_after stop) (drop k peaks));
   }
 
-in_range : (start stop at p : ℕ) → meets start stop (at, leaf p) ≡ true → (start ≤ at) × (at < stop)
+pub in_range : (start stop at p : ℕ) → meets start stop (at, leaf p) ≡ true → (start ≤ at) × (at < stop)
 in_range start stop at p met =
     let both = or_parts (is_before start (at, leaf p)) (is_after stop (at, leaf p))
     (not-true (is_before start (at, leaf p) || is_after stop (at, leaf p)) met) in

@@ -19,6 +19,10 @@ pub mod Short
 pub mod HonestRanges
 pub mod HonestRoots
 pub mod HonestTold
+pub mod ListReads
+pub mod ListDigests
+pub mod StoreNodes
+pub mod Stores
 pub mod DigestCounts
 pub mod Extractions
 pub mod Pins
@@ -29,6 +33,16 @@ pub mod OneEach
 pub mod OneEachBag
 pub mod OneEachRoot
 pub mod Unnamed
+mod GivenDigests
+mod PartFolds
+mod PartGiven
+mod PartKnown
+mod PartNodes
+mod PartPlans
+mod PinnedCover
+mod PinnedMade
+mod PinnedSound
+mod PinnedStrings
 pub mod PeakBags
 pub mod PeakMatches
 pub mod PeakReads

@@ -15,7 +15,7 @@ use Rattle.merkle_forest.specs.Laws.Nodes.{peak-node, node-fits}
 use Rattle.merkle_forest.specs.Trees.{Located, located}
 use Rattle.merkle_core_parts.specs.Mem.{Nodes, node_at, NodeHash, tree_digest, AreNodesOf}
 use Rattle.merkle_core_parts.specs.Laws.Held.{right-there}
-use Rattle.merkle_core_parts.specs.Laws.Places.{node-left, node-right}
+use Rattle.merkle_forest.specs.Laws.Places.{node-left, node-right}
 use Rattle.merkle_core.specs.Assembled.{assembled}
 use Rattle.merkle_core.specs.MadeRoots.{peaks_of}
 use Rattle.merkle_core.specs.Plans.{Asked, Lookup, looked_up, first_missing, IsLookupOf, sibling_nodes, inner_nodes}

@@ -16,7 +16,7 @@ use Rattle.merkle_forest.specs.Laws.Nodes.{peak-node}
 use Rattle.merkle_forest.specs.Nodes.{IsNodeAt}
 use Rattle.merkle_forest.specs.Perfect.{IsPairing}
 use Rattle.merkle_forest.specs.Trees.{Located, located, plain_digest, tree_root, peak_digests}
-use Rattle.merkle_core_parts.specs.Laws.Places.{node-left, node-right}
+use Rattle.merkle_forest.specs.Laws.Places.{node-left, node-right}
 use Rattle.merkle_core_parts.specs.Laws.Plain.{digest-plain, length-plain}
 use Rattle.merkle_core_parts.specs.Mem.{plain_node, plain_leaf_digests}
 use Rattle.merkle_core.specs.MadeRoots.{peaks_of}

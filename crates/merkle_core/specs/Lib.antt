@@ -2,6 +2,7 @@ pub mod Assembled
 pub mod Extracted
 pub mod Followed
 pub mod Laws
+pub mod ListDigests
 pub mod MadeRoots
 pub mod MadeTrees
 pub mod Multi
@@ -9,7 +10,9 @@ pub mod MultiReads
 pub mod MultiSoundness
 pub mod OneEach
 pub mod Pinned
+pub mod PinnedSoundness
 pub mod Plans
+pub mod ProofStores
 pub mod Proofs
 pub mod RangeCounts
 pub mod Ranges

@@ -1,6 +1,6 @@
 //! What holds of all proofs.
 
-ghost use Rattle.std.specs.Prelude.{◌≡◌, ◌<◌, ◌≤◌, ◌+◌, ◌-◌, ◌*◌, ◌^◌, ℕ, List, map, length, take, drop, Some, true, IfSome, IsSomeAnd, option_map};
+ghost use Rattle.std.specs.Prelude.{◌≡◌, ◌<◌, ◌≤◌, ◌+◌, ◌-◌, ◌*◌, ◌^◌, ◌++◌, ℕ, min, List, map, length, take, drop, replicate, Contains, Some, None, true, IfSome, IsSomeAnd, option_map};
 ghost use Rattle.std.specs.List.{All};
 ghost use Rattle.merkle_forest.specs.declared.bagging.Bagging.{Bagging};
 ghost use Rattle.merkle_forest.specs.Forest.{forest_of};
@@ -8,21 +8,27 @@ ghost use Rattle.merkle_forest.specs.Hashing.{Hash, leaf_string, node_string, ro
 ghost use Rattle.merkle_forest.specs.Made.{value, strings};
 ghost use Rattle.merkle_forest.specs.Trees.{located, peak_digests, plain_digest, tree_root};
 ghost use Rattle.merkle_core_parts.specs.Mem.{Nodes, node_at, NodeHash, AreNodesOf, tree_digest, plain_node, plain_leaf_digests};
+ghost use Rattle.merkle_core_parts.specs.declared.error.Error.{Error};
+ghost use Rattle.merkle_core_parts.specs.declared.error.Error.TheVariants.{Memory};
 ghost use Rattle.merkle_core.specs.Followed.{FollowsIn};
-ghost use Rattle.merkle_core.specs.Extracted.{AreMadeOf, AreGiven};
+ghost use Rattle.merkle_core.specs.Extracted.{AreMadeOf, AreGiven, AreExtracted, extracted_nodes};
+ghost use Rattle.merkle_core.specs.ListDigests.{GivesDigestsOrCollides};
 ghost use Rattle.merkle_core.specs.MadeRoots.{Naming, from_left, peaks_of};
 ghost use Rattle.merkle_core.specs.MadeTrees.{Over, from, plain_over};
 ghost use Rattle.merkle_core.specs.Multi.{AreDigestsAt, AreMultiDigests};
 ghost use Rattle.merkle_core.specs.MultiReads.{Shown, can_be_shown, needed_positions, multi_root};
 ghost use Rattle.merkle_core.specs.MultiSoundness.{AreSound, shown_of};
 ghost use Rattle.merkle_core.specs.OneEach.{OneEach};
-ghost use Rattle.merkle_core.specs.Plans.{Lookup, IsLookupOf, honest_digests};
+ghost use Rattle.merkle_core.specs.PinnedSoundness.{ArePinnedBeside, PinsListOrCollides};
+ghost use Rattle.merkle_core.specs.Plans.{Lookup, IsLookupOf, honest_digests, first_missing, positions_of, inner_nodes, range_nodes};
+ghost use Rattle.merkle_core.specs.ProofStores.{Kept, AreFoldsOf, IsPart, IsRefusalToBuildPart, digest_among, known_with, IsKnownOf, front_peaks, back_peaks, more_before, more_after, part_nodes, kept_nodes};
 ghost use Rattle.merkle_core.specs.Ranges.{Digests, range_digests};
 ghost use Rattle.merkle_core.specs.Reads.{Agrees, HashesAs, range_root, claim_of};
 ghost use Rattle.merkle_core.specs.Rebuilt.{Hashing};
 ghost use Rattle.merkle_core.specs.Reconstructed.{reconstructed};
 ghost use Rattle.merkle_core.specs.Soundness.{RangeClaim, claimed_root, hashed_strings, IsSound, Makes, list_root, one_root, plain_names};
 
+use merkle_forest::Digest;
 use merkle_forest::family::Family;
 use merkle_forest::graftable::Graftable;
 use merkle_forest::hasher::HashFunction;
@@ -111,6 +117,37 @@ pub fn shown_ranges_are_true_or_strings_collide<F: Family>()
         (claim_of bagging F.merge_rule leaves shown_inactive start shown digests)) }
 {}
 
+/// Where a proof of a range, as the verifiers read it, leads to the root of a list, its digests are those of the honest
+/// proof of the list, and the nodes that are extracted from it are the list's; or the strings hashed for the list and those
+/// rebuilt from the proof have a collision.
+pub fn shown_digests_are_of_the_list_or_strings_collide<F: Family>()
+    ensures { (hash : Hash) (size : ℕ) (bagging : Bagging) (elements : List (List ℕ)) (inactive : ℕ)
+        (leaves shown_inactive start : ℕ) (shown digests : List (List ℕ))
+        → ((bytes : List ℕ) → length (hash bytes) ≡ size)
+        → All (λ digest. length digest ≡ size) digests
+        → length elements ≤ 2 ^ 62 → inactive < 2 ^ 64
+        → IfSome (range_root plain_names plain_over bagging F.merge_rule leaves shown_inactive start shown digests)
+        (GivesDigestsOrCollides hash bagging F.merge_rule elements inactive
+        (claim_of bagging F.merge_rule leaves shown_inactive start shown digests)) }
+{}
+
+/// Where a proof of a range, as the verifiers read it, leads to the root of a list, and its digests that stand for
+/// leaves before the range are made of pinned ones, these are the digests of the list's nodes to pin where the range
+/// begins, from left to right; or the strings hashed for the list, and those rebuilt from the proof and from the pinned
+/// digests, have a collision.
+pub fn pinned_digests_are_of_the_list_or_strings_collide<F: Family>()
+    ensures { (hash : Hash) (size : ℕ) (bagging : Bagging) (elements : List (List ℕ)) (inactive : ℕ)
+        (leaves shown_inactive start : ℕ) (shown digests pinned : List (List ℕ))
+        → ((bytes : List ℕ) → length (hash bytes) ≡ size)
+        → All (λ digest. length digest ≡ size) digests
+        → All (λ digest. length digest ≡ size) pinned
+        → length elements ≤ 2 ^ 62 → inactive < 2 ^ 64
+        → let claim = claim_of bagging F.merge_rule leaves shown_inactive start shown digests in
+        ArePinnedBeside hash (replicate size 0) bagging F.merge_rule claim pinned
+        → IfSome (range_root plain_names plain_over bagging F.merge_rule leaves shown_inactive start shown digests)
+        (PinsListOrCollides hash (replicate size 0) bagging F.merge_rule elements inactive claim pinned) }
+{}
+
 /// The digests of the honest proof of a range lead to the root of the tree, for all digests of trees that are made over the
 /// elements of the range.
 pub fn honest_ranges_lead_to_the_root<F: Family>()
@@ -197,6 +234,56 @@ pub fn honest_proofs_tell_the_nodes_of_the_list<F: Family>()
         → AreMadeOf (λ position element. hash (leaf_string position element))
         (λ position left right. hash (node_string position left right)) (from start (take count (drop start elements)))
         start (start + count) (plain_digest hash elements) }
+{}
+
+/// Each proof of a range that leads to a root gives digests: there are digests of trees that are made of the elements
+/// shown where a tree holds one, and that the proof gives where it holds none. So each such proof tells its nodes.
+pub fn proofs_that_lead_to_a_root_give_digests<F: Family>()
+    ensures { (names : Naming) (over : Over) (bagging : Bagging) (leaves inactive start : ℕ)
+        (shown digests : List (List ℕ)) (leaf_of : ℕ → List ℕ → List ℕ) (node_of : ℕ → List ℕ → List ℕ → List ℕ)
+        → let peaks = peaks_of F.merge_rule leaves in
+        let stop = start + length shown in
+        IfSome (range_root names over bagging F.merge_rule leaves inactive start shown digests)
+        (λ made. (digest : Digests) × AreMadeOf leaf_of node_of (from start shown) start stop digest
+        × AreGiven (from_left bagging inactive (length peaks)) start stop peaks digest digests) }
+{}
+
+/// What is kept of a proof that tells nodes with these digests are nodes of the tree with them, and so is what is known
+/// where such peaks are supplied besides. Where the digests are those of a list, what is known is the list's.
+pub fn kept_nodes_are_those_of_the_tree<F: Family, D: Digest>()
+    ensures kept { (digest : Digests) (leaves singles start stop : ℕ) (nodes : List (ℕ × D))
+        → AreExtracted D.encoding digest (extracted_nodes singles start stop (peaks_of F.merge_rule leaves)) nodes
+        → IsKnownOf F.merge_rule leaves digest (digest_among D.encoding nodes) }
+    ensures supplied { (digest : Digests) (leaves : ℕ) (nodes supplied : List (ℕ × D))
+        → IsKnownOf F.merge_rule leaves digest (digest_among D.encoding nodes)
+        → IsKnownOf F.merge_rule leaves digest (digest_among D.encoding supplied)
+        → IsKnownOf F.merge_rule leaves digest (known_with D.encoding nodes supplied) }
+    ensures listed { (node : NodeHash) (leaf_digests : List (List ℕ)) (known : Lookup)
+        → IsKnownOf F.merge_rule (length leaf_digests) (tree_digest node leaf_digests) known
+        → IsLookupOf node F.merge_rule leaf_digests known }
+{}
+
+/// What is kept of a proof are all the nodes that the proof of a part of its range is made of: each of them is one of
+/// the peaks that are kept in one digest with others, or is kept itself. So the proof of a part is refused only for
+/// want of memory.
+pub fn proofs_of_parts_lack_no_node<F: Family, D: Digest>()
+    ensures planned { (store : Kept D) (start stop : ℕ) → IsPart store start stop
+        → let peaks = peaks_of F.merge_rule store.leaves in
+        range_nodes start stop peaks ≡ (front_peaks F.merge_rule store ++ more_before F.merge_rule store start)
+        ++ ((more_after F.merge_rule store stop ++ back_peaks F.merge_rule store) ++ inner_nodes start stop peaks) }
+    ensures folds { (hash : Hash) (digest : Digests) (store : Kept D)
+        → AreFoldsOf D.encoding hash F.merge_rule digest store
+        → (length store.front ≡ min 1 (length (front_peaks F.merge_rule store)))
+        × (length store.back ≡ min 1 (length (back_peaks F.merge_rule store))) }
+    ensures kept { (store : Kept D) (start stop : ℕ) → IsPart store start stop
+        → All (Contains (kept_nodes F.merge_rule store)) (part_nodes F.merge_rule store start stop) }
+    ensures known { (digest : Digests) (store : Kept D) (start stop : ℕ) → IsPart store start stop
+        → AreExtracted D.encoding digest (kept_nodes F.merge_rule store) store.nodes
+        → first_missing (digest_among D.encoding store.nodes)
+        (positions_of (part_nodes F.merge_rule store start stop)) ≡ None }
+    ensures refused { (digest : Digests) (store : Kept D) (start stop : ℕ) (error : Error F)
+        → IsPart store start stop → AreExtracted D.encoding digest (kept_nodes F.merge_rule store) store.nodes
+        → IsRefusalToBuildPart F.merge_rule D.encoding store start stop error → error ≡ Memory }
 {}
 
 /// The proof of some elements is made of at most 122 nodes for each of them.

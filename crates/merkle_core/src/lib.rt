@@ -8,6 +8,8 @@ pub mod multi;
 pub mod pinned;
 pub mod plan;
 pub mod proof;
+pub mod proof_store;
+pub mod provable;
 pub mod range;
 pub mod ranges;
 pub mod readable;
@@ -21,8 +23,7 @@ pub use extraction::ExtractionError;
 pub use merkle_core_parts::{Mem, batch, error, mem};
 pub use plan::{ElementPlan, RangePlan};
 pub use proof::{MAX_PROOF_DIGESTS_PER_ELEMENT, Proof};
+pub use proof_store::{ProofStore, StoreError};
+pub use provable::Provable;
 pub use readable::Readable;
 pub use reconstruction::ReconstructionError;
-
-#[cfg(test)]
-mod tests;

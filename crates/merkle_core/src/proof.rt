@@ -192,6 +192,13 @@ impl<F: Family, D: Digest> Proof<F, D> {
             AreGiven singles start (start + length elements.now) peaks digest (map D.encoding self.now.digests.items)
             → IfOk result (λ found. AreExtracted D.encoding digest
             (extracted_nodes singles start (start + length elements.now) peaks) found.items) }
+        ensures within { OnOk result (HasRange (record {
+          leaves = self.now.leaves;
+          inactive = self.now.inactive_peaks;
+          start = start;
+          count = length elements.now;
+          digests = length self.now.digests.items;
+        })) }
         ensures refused { (names : Naming) (over : Over)
             → HashesAs F.merge_rule H.hash_of (H.leaf_of hasher.now) (H.node_of hasher.now) over
             → IfErr result (λ e. IsRefusalToExtract (option_map (value H.hash_of) (range_root names over

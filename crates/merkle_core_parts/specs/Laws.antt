@@ -14,7 +14,6 @@ pub mod PeakSteps
 pub mod Peaks
 pub mod PlaceCases
 pub mod Placed
-pub mod Places
 pub mod Plain
 pub mod Pruned
 pub mod Rebuilt

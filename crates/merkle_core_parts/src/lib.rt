@@ -13,6 +13,3 @@ pub mod rebuild;
 
 pub use error::Error;
 pub use mem::{Config, Mem};
-
-#[cfg(test)]
-mod tests;

@@ -20,8 +20,10 @@ pub mod MmrParents
 pub mod NodeGrowth
 pub mod Nodes
 pub mod Parents
+pub mod Paths
 pub mod Peaks
 pub mod Pending
+pub mod Places
 pub mod Powers
 pub mod RootLengths
 pub mod Rules

@@ -10,6 +10,7 @@ pub mod Maximal
 pub mod Mmb
 pub mod Mmr
 pub mod Nodes
+pub mod Paths
 pub mod Peaks
 pub mod Perfect
 pub mod Shape

@@ -16,6 +16,7 @@ pub mod location_range;
 pub mod mmb;
 pub mod mmr;
 pub mod parent_heights;
+pub mod path;
 pub mod peaks;
 pub mod pending;
 pub mod position;
@@ -33,6 +34,3 @@ pub use location_range::LocationRangeExt;
 pub use merkle_forest_parts::{Digest, codec, digest};
 pub use pending::{PendingOf, Unused};
 pub use position::Position;
-
-#[cfg(test)]
-mod tests;

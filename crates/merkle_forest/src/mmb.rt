@@ -208,6 +208,3 @@ pub type Error = error::Error<Family>;
 
 /// The hasher of plain trees. In the Rust: `merkle::mmb::StandardHasher`.
 pub type StandardHasher<H> = Standard<H>;
-
-#[cfg(test)]
-mod tests;

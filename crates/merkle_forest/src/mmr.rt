@@ -138,6 +138,3 @@ pub type Error = error::Error<Family>;
 
 /// The hasher of plain trees. In the Rust: `merkle::mmr::StandardHasher`.
 pub type StandardHasher<H> = Standard<H>;
-
-#[cfg(test)]
-mod tests;

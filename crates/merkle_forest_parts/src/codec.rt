@@ -20,6 +20,3 @@ pub use max_size::MaxEncodeSize;
 pub use traits::{Decode, Encode, EncodeSize, Faithful, FixedSize, Read, Write};
 pub use undo::or_undo;
 pub use varint::{UInt, number_size, read_number, write_number};
-
-#[cfg(test)]
-mod tests;

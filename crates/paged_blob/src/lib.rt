@@ -23,6 +23,3 @@ pub use scan::{prefix_of_blob, prefix_of_blob_at_most};
 pub use shrink::{LastPage, cut_blob};
 pub use writer::recovery::{Recovering, Recovery};
 pub use writer::{Append, Writer};
-
-#[cfg(test)]
-mod tests;

@@ -11,7 +11,7 @@ ghost use Rattle.paged_blob.specs.Flushes.{physical_size, last_slot};
 ghost use Rattle.paged_blob.specs.Writers.{WriterState, written, IsWriter, IsFlushed, Keeps, IsTaken};
 ghost use Rattle.paged_blob.specs.WritersCode.{IsTakingCause};
 ghost use Rattle.paged_blob.specs.Reads.{IsReadingCause};
-ghost use Rattle.paged_blob.specs.Caches.{AreGiven};
+ghost use Rattle.paged_blob.specs.Caches.{AreGiven, Cache};
 ghost use Rattle.paged_blob.specs.CachedContent.{HoldsPagesOf, KeepsOthers};
 ghost use Rattle.paged_blob.specs.declared.error.CallKind.{CallKind};
 
@@ -302,6 +302,10 @@ impl<C: Checksum, Phase> Writer<C, Phase> {
             → IsWriter C.checksum_of calls self.new }
         ensures content { (calls : List Call) → IsWriter C.checksum_of calls self.old → IfOk result (λ o. OnSome o
             (written C.checksum_of calls self.new ≡ written C.checksum_of calls self.old ++ bytes.now)) }
+        // The pages that are kept under the writer's name stay those of its content.
+        ensures cached { (calls : List Call) (cache : Cache) → IsWriter C.checksum_of calls self.old
+            → HoldsPagesOf (written C.checksum_of calls self.old) cache self.old.blob_id
+            → HoldsPagesOf (written C.checksum_of calls self.new) cache self.new.blob_id }
     {
         let size = self.size();
         if !is_within_numbers(self.page_size, size, bytes.len()) {
@@ -327,6 +331,10 @@ impl<C: Checksum, Phase> Writer<C, Phase> {
             → IsWriter C.checksum_of calls self.new }
         ensures content { (calls : List Call) → IsWriter C.checksum_of calls self.old → IfOk result (λ o. OnSome o
             (written C.checksum_of calls self.new ≡ written C.checksum_of calls self.old ++ T.encoding value.now)) }
+        // The pages that are kept under the writer's name stay those of its content.
+        ensures cached { (calls : List Call) (cache : Cache) → IsWriter C.checksum_of calls self.old
+            → HoldsPagesOf (written C.checksum_of calls self.old) cache self.old.blob_id
+            → HoldsPagesOf (written C.checksum_of calls self.new) cache self.new.blob_id }
     {
         let bytes = value.encode(self.alloc)?;
         self.try_append(&bytes)

@@ -18,6 +18,3 @@ pub mod tip;
 pub use footer::{CHECKSUM_SIZE, Footer, Slot, is_page_size, page_size};
 pub use prefix::prefix_len;
 pub use tip::TipBuffer;
-
-#[cfg(test)]
-mod tests;

@@ -5,10 +5,10 @@ use Rattle.std.proofs.Common.{ap₂, subst, arith, append_assoc, length-append}
 use Rattle.std.specs.Prelude.{slice_set, if◌then◌else◌}
 use Rattle.std.specs.Int.{bit_at}
 use Rattle.std.proofs.Math.Nat.{pow-suc}
-use Rattle.std.proofs.lemmas.Bool.{cases_eq, eqb-true, eqb-false}
+use Rattle.std.proofs.lemmas.Bool.{cases_eq, cases_lt, eqb-true, eqb-false, eq-eqb, ne_eqb}
 use Rattle.std.proofs.lemmas.List.{ext_get_or, length-set, get_or-set_same, get_or-set_other, get_or_append_left}
 use Rattle.std.proofs.lemmas.List.{get_or-append-add, set-append_left, set-append_right, take_at, take_all, drop_at}
-use Rattle.std.proofs.lemmas.List.{drop_all, drop-drop, replicate-append-replicate}
+use Rattle.std.proofs.lemmas.List.{drop_all, drop-drop, replicate-append-replicate, get_or-take, get_or-drop}
 use Rattle.std.proofs.lemmas.Nat.Bits.{bit_at_lowest, bit_at-suc}
 use Rattle.state_bitmap.specs.Bits.{byte_of, chunk_of, bits_of, bits_in}
 
@@ -170,6 +170,40 @@ pub length-chunk_of : (width : ℕ) (bits : List Bool) → length (chunk_of widt
 unfolding chunk_of
 length-chunk_of zero bits = refl
 length-chunk_of (suc width) bits = ap (λ n. suc n) (length-chunk_of width (drop 8 bits))
+
+-- ---- the bits of a chunk
+lowest : (bit : Bool) (rest : ℕ) → eqb (((if bit then 1 else 0) + 2 * rest) % 2) 1 ≡ bit
+lowest true rest = eq-eqb _ 1 (omega arith)
+lowest false rest = ne_eqb _ 1 (λ one. let clash = one in omega arith)
+
+half : (bit : Bool) (rest : ℕ) → ((if bit then 1 else 0) + 2 * rest) / 2 ≡ rest
+half true rest = omega arith
+half false rest = omega arith
+
+at-byte_of : (count : ℕ) (bits : List Bool) (k : ℕ) → k < count → get_or (bits_of count (byte_of bits)) k false ≡ get_or bits k false
+at-byte_of zero bits k lt = absurd (omega arith)
+at-byte_of (suc count) [] zero lt = refl
+at-byte_of (suc count) [] (suc k) lt = at-byte_of count [] k (omega arith)
+at-byte_of (suc count) (bit ∷ bits) zero lt = lowest bit (byte_of bits)
+at-byte_of (suc count) (bit ∷ bits) (suc k) lt =
+    ap (λ n. get_or (bits_of count n) k false) (half bit (byte_of bits)) ∙ at-byte_of count bits k (omega arith)
+
+pub at-chunk_of : (width : ℕ) (bits : List Bool) (k : ℕ) → k < 8 * width
+    → get_or (bits_in (chunk_of width bits)) k false ≡ get_or bits k false
+unfolding chunk_of bits_in
+at-chunk_of zero bits k lt = absurd (omega arith)
+at-chunk_of (suc width) bits k lt =
+    let first = bits_of 8 (byte_of (take 8 bits)) in
+    let more = bits_in (chunk_of width (drop 8 bits)) in
+    elim (cases_lt k 8) [
+      | inl within ↦ get_or_append_left first more false k (subst (λ n. k < n) (sym (length-bits_of 8 (byte_of (take 8 bits)))) within)
+          ∙ at-byte_of 8 (take 8 bits) k within ∙ get_or-take 8 bits k false within
+      | inr past ↦
+          let whole : 8 + (k - 8) ≡ k = omega (arith, past) in
+          ap (λ n. get_or (first ++ more) n false) (sym whole) ∙ get_or-append-add first more (k - 8) false
+          ∙ at-chunk_of width (drop 8 bits) (k - 8) (omega (arith, lt, past))
+          ∙ get_or-drop 8 bits (k - 8) false ∙ ap (λ n. get_or bits n false) whole
+    ]
 
 pub first_of_zeros : (n at : ℕ) (bit : Bool) → at ≡ 0 → 0 < n
     → slice_set (replicate n false) at bit ≡ bit ∷ replicate (n - 1) false

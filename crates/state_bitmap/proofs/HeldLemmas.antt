@@ -99,6 +99,16 @@ push_full width pruned kept bytes more bit held few full are long =
           ∙ ap (λ bits. bits ++ bit ∷ []) (sym (take_all kept (bits_in bytes) (omega (arith, all))));
     }
 
+zero_first : (n : ℕ) → get_or (replicate n false) 0 false ≡ false
+zero_first zero = refl
+zero_first (suc n) = refl
+
+-- what stands after the bits is not set
+pub zero_after : (width pruned kept : ℕ) (bytes : List ℕ) → IsHeld width pruned kept bytes → get_or (bits_in bytes) kept false ≡ false
+zero_after width pruned kept bytes held =
+    ap (λ i. get_or (bits_in bytes) i false) (omega arith) ∙ sym (get_or-drop kept (bits_in bytes) 0 false)
+    ∙ ap (λ bits. get_or bits 0 false) held.zeros ∙ zero_first (8 * length bytes - kept)
+
 pub push_within : (width pruned kept : ℕ) (bytes more : List ℕ) (bit : Bool) → IsHeld width pruned kept bytes
     → 8 * width * pruned + kept < 2 ^ 62 → kept < 8 * length bytes
     → bits_in more ≡ slice_set (bits_in bytes) kept bit → length more ≡ length bytes
@@ -203,7 +213,7 @@ few_held width pruned kept bytes bits held is few =
     omega (arith, subst (λ b. bit_count width b < 2 ^ 62) (sym is) few, held-length width pruned kept bytes held)
 
 -- the last chunk: the bytes end with it
-last_full : (width count : ℕ) (kept : List Bool) → 1 ≤ width → length kept ≡ 8 * width * suc count
+pub last_full : (width count : ℕ) (kept : List Bool) → 1 ≤ width → length kept ≡ 8 * width * suc count
     → last_chunk width kept ≡ (chunk_at width kept count, 8 * width)
 last_full width count kept some is =
     let rest : length kept % (8 * width) ≡ 0 =
@@ -213,7 +223,7 @@ last_full width count kept some is =
     ∙ cond-true (eqb (length kept % (8 * width)) 0) _ _ (eq-eqb _ 0 rest)
     ∙ ap (λ n. (chunk_of width (drop n kept), 8 * width)) before
 
-last_partial : (width count more : ℕ) (kept : List Bool) → 0 < more → more < 8 * width → length kept ≡ 8 * width * count + more
+pub last_partial : (width count more : ℕ) (kept : List Bool) → 0 < more → more < 8 * width → length kept ≡ 8 * width * count + more
     → last_chunk width kept ≡ (chunk_at width kept count, more)
 last_partial width count more kept some few is =
     let as_rows : length kept ≡ count * (8 * width) + more = omega (arith, is, mul_comm (8 * width) count) in

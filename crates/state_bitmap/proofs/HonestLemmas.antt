@@ -1,6 +1,6 @@
 -- The honest proof of a bit leads to the root of its list.
-use Rattle.std.proofs.Common.{◌≡◌, ℕ, zero, suc, ◌+◌, ◌-◌, ◌*◌, ◌/◌, ◌%◌, ◌<◌, ◌≤◌, ◌^◌, eqb, leb, ltb, Bool, true, false, cond, inl, inr, List, [], ◌∷◌, ◌++◌, length, take, drop, get_or}
-use Rattle.std.proofs.Common.{Option, None, Some, option_map, refl, sym, ◌∙◌, ap, ap₂, subst, arith, length-append}
+use Rattle.std.proofs.Common.{◌≡◌, ℕ, zero, suc, ◌+◌, ◌-◌, ◌*◌, ◌/◌, ◌%◌, ◌<◌, ◌≤◌, ◌^◌, eqb, leb, ltb, Bool, false, inl, inr, List, [], ◌∷◌, ◌++◌, length, take, drop, get_or}
+use Rattle.std.proofs.Common.{Option, None, Some, option_map, refl, sym, ◌∙◌, ap, ap₂, arith, length-append}
 use Rattle.std.specs.Prelude.{◌||◌}
 use Rattle.std.proofs.lemmas.Bool.{cases_eq, cond-true, cond-false, eq-eqb, ne_eqb, lt-leb}
 use Rattle.std.proofs.lemmas.List.{take_at, get_or-append-add}
@@ -10,15 +10,13 @@ use Rattle.merkle_forest.specs.declared.bagging.Bagging.{Bagging}
 use Rattle.merkle_forest.specs.Forest.{mmr_rule}
 use Rattle.merkle_forest.specs.Hashing.{Hash, leaf_string, number}
 use Rattle.merkle_forest.specs.Made.{Site, at_bitmap_root, Made, bytes, both, hashed, value}
-use Rattle.merkle_forest.specs.Trees.{tree_root}
 use Rattle.merkle_core_parts.specs.Mem.{node_count, tree_digest, plain_leaf_digests, plain_node, list_root}
-use Rattle.merkle_core.specs.MadeRoots.{peaks_of}
 use Rattle.merkle_core.specs.MadeTrees.{plain_over}
 use Rattle.merkle_core.specs.Plans.{honest_digests}
 use Rattle.merkle_core.specs.Reads.{range_root}
 use Rattle.merkle_core.specs.Soundness.{plain_names}
 use Rattle.state_bitmap.specs.Bits.{IsChunkWidth, chunk_at, full_chunks}
-use Rattle.state_bitmap.specs.Inclusion.{also, partial_made, last_made, BitClaim, tree_read, last_of, front_of, bit_root, plain_leaf, plain_root, honest_bit_digests, honest_claim}
+use Rattle.state_bitmap.specs.Inclusion.{also, partial_made, BitClaim, tree_read, last_of, front_of, bit_root, plain_leaf, plain_root, honest_bit_digests, honest_claim}
 use Rattle.state_bitmap.specs.Maps.{leaf_digests, chunks_root, sealed_root, bitmap_root}
 use Rattle.state_bitmap.proofs.ChunkLemmas.{length-chunks_of, at-chunks_of, chunks_of_bits}
 use Rattle.state_bitmap.proofs.MapLemmas.{full_more}

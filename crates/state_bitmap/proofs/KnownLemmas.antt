@@ -1,7 +1,7 @@
 -- A tree that is pruned before a chunk has each node that the proof of the chunk is made of.
-use Rattle.std.proofs.Common.{◌≡◌, ◌⊎◌, inl, inr, ℕ, suc, ◌+◌, ◌<◌, ◌≤◌, Bool, true, false, not, cond, leb, filter, List, [], ◌∷◌, ◌++◌, length}
-use Rattle.std.proofs.Common.{Option, None, Some, refl, sym, ◌∙◌, ap, subst, arith}
-use Rattle.std.proofs.lemmas.Bool.{cases_lt, lt-leb, le-leb, leb-false, cases_Bool}
+use Rattle.std.proofs.Common.{◌≡◌, inl, inr, ℕ, ◌+◌, ◌<◌, ◌≤◌, Bool, true, false, not, cond, leb, filter, List, [], ◌∷◌, ◌++◌}
+use Rattle.std.proofs.Common.{Option, None, Some, refl, sym, ◌∙◌, ap, arith}
+use Rattle.std.proofs.lemmas.Bool.{cases_lt, le-leb}
 use Rattle.std.specs.List.{flat_map, AllByRecursion}
 use Rattle.std.specs.Prelude.{◌||◌, IsSome, is_none}
 use Rattle.merkle_forest.specs.Forest.{Tree, leaf, branch, position, leaf_count, leaves, Rule, forest_of}
@@ -12,11 +12,11 @@ use Rattle.merkle_forest.specs.Perfect.{IsPairing}
 use Rattle.merkle_forest.specs.Trees.{Located, located}
 use Rattle.merkle_core_parts.specs.Laws.Held.{kept-there}
 use Rattle.merkle_core_parts.specs.Laws.Kept.{kept}
-use Rattle.merkle_core_parts.specs.Laws.Places.{node-left, node-right}
+use Rattle.merkle_forest.specs.Laws.Places.{node-left, node-right}
 use Rattle.merkle_core_parts.specs.Laws.Rebuilt.{after-leaf}
-use Rattle.merkle_core_parts.specs.Mem.{Nodes, AreKeptNodes, IsKept, node_at, node_count}
+use Rattle.merkle_core_parts.specs.Mem.{Nodes, AreKeptNodes, IsKept, node_at}
 use Rattle.merkle_core.specs.MadeRoots.{peaks_of}
-use Rattle.merkle_core.specs.Plans.{Lookup, first_missing, sibling_nodes, inner_nodes, range_nodes, positions_of, range_positions}
+use Rattle.merkle_core.specs.Plans.{first_missing, sibling_nodes, inner_nodes, range_nodes, positions_of, range_positions}
 use Rattle.merkle_core.specs.Ranges.{is_before, is_after, meets}
 
 module _ (P : Located → Type 0) where

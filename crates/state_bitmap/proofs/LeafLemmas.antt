@@ -1,14 +1,14 @@
 -- Leaves of the chunks of a list of bits, after a batch brought them to it.
-use Rattle.std.proofs.Common.{◌≡◌, ◌⊎◌, ℕ, zero, suc, ◌+◌, ◌-◌, ◌*◌, ◌/◌, ◌%◌, ◌<◌, ◌≤◌, Bool, true, false, eqb, cond, inl, inr, List, [], ◌∷◌, ◌++◌, length, map, get_or, replicate}
-use Rattle.std.proofs.Common.{Option, Some, None, refl, sym, ◌∙◌, ap, ap₂, subst, arith, length-append, eq-eqb}
-use Rattle.std.specs.List.{AllByRecursion, list_any}
+use Rattle.std.proofs.Common.{◌≡◌, ◌⊎◌, ℕ, zero, suc, ◌+◌, ◌-◌, ◌<◌, ◌≤◌, Bool, false, eqb, cond, inl, inr, List, [], ◌∷◌, ◌++◌, length, get_or}
+use Rattle.std.proofs.Common.{Some, None, refl, sym, ◌∙◌, ap, ap₂, arith, length-append, eq-eqb}
+use Rattle.std.specs.List.{AllByRecursion}
 use Rattle.std.specs.Prelude.{◌||◌, slice_get}
 use Rattle.std.specs.Option.{option_map}
 use Rattle.std.proofs.lemmas.Bool.{cases_lt, cases_eq, cond-true, cond-false, ne_eqb}
 use Rattle.std.proofs.lemmas.List.{ext_get_or, get_or_append_left, get_or-append_right}
 use Rattle.merkle_forest.specs.Forest.{mmr_rule}
 use Rattle.merkle_core_parts.specs.Mem.{Replacement, node_count, replaced, value_after}
-use Rattle.merkle_core_parts.specs.Laws.Replaced.{get-replaced, length-replaced}
+use Rattle.merkle_core_parts.specs.Laws.Replaced.{get-replaced}
 use Rattle.state_bitmap.specs.Bits.{Bits, AreBitsOf, chunks_of, chunk_at}
 use Rattle.state_bitmap.specs.Maps.{LeafHash, leaf_digests, is_one_of}
 use Rattle.state_bitmap.specs.MapsCode.{leaf_digest, leaves_from, leaves_at}

@@ -5,11 +5,15 @@ pub mod HeldLemmas
 pub mod HonestLemmas
 pub mod KeptLemmas
 pub mod KnownLemmas
+pub mod LastLemmas
 pub mod LeafLemmas
 pub mod MadeLemmas
 pub mod MapLemmas
+pub mod OneEachLemmas
+pub mod PartsLemmas
 pub mod ProveLemmas
 pub mod ReadLemmas
 pub mod RefusalLemmas
+pub mod SiteLemmas
 pub mod SoundLemmas
 pub mod WidthLemmas

@@ -1,13 +1,16 @@
 -- A map after each call is one of the list after it.
-use Rattle.std.proofs.Common.{◌≡◌, ◌⊎◌, ℕ, zero, suc, ◌+◌, ◌-◌, ◌*◌, ◌/◌, ◌%◌, ◌<◌, ◌≤◌, Bool, true, false, eqb, cond, leb, inl, inr, List, [], ◌∷◌, ◌++◌, length, get_or, drop}
+use Rattle.std.proofs.Common.{◌≡◌, ℕ, suc, ◌+◌, ◌-◌, ◌*◌, ◌/◌, ◌%◌, ◌<◌, ◌≤◌, Bool, true, false, eqb, leb, inl, inr, List, [], ◌∷◌, ◌++◌, length, drop}
 use Rattle.std.proofs.Common.{refl, sym, ◌∙◌, ap, ap₂, subst, arith, length-append, length-drop, eq-eqb}
-use Rattle.std.specs.List.{AllByRecursion, list_any}
+use Rattle.std.specs.List.{AllByRecursion}
 use Rattle.std.specs.Prelude.{◌||◌, slice_set}
 use Rattle.std.proofs.lemmas.Bool.{cases_lt, cases_eq, cond-true, cond-false, ne_eqb, lt-leb, le-leb}
 use Rattle.std.proofs.lemmas.List.{length-set}
-use Rattle.std.proofs.lemmas.List.Folds.{list_any-append}
 use Rattle.std.proofs.lemmas.Nat.{le-div, mod_below, div-add-mod', div-mul-add, mod-mul-add}
 use Rattle.std.proofs.Math.Nat.{mul_comm, mul-add}
+use Rattle.std.specs.BTreeSet.{insert_key}
+use Rattle.std.specs.Ordering.{nat_cmp, match_ordering}
+use Rattle.std.proofs.Common.{Ordering, Less, Equal, Greater}
+use Rattle.std.proofs.lemmas.Map.Lookups.{exact_unsigned}
 use Rattle.merkle_forest.specs.Hashing.{Hash}
 use Rattle.merkle_forest.specs.declared.bagging.Bagging.{Bagging}
 use Rattle.merkle_forest.specs.Forest.{mmr_rule}
@@ -15,11 +18,11 @@ use Rattle.merkle_core_parts.specs.Mem.{Nodes, NodeHash, AreNodesOf, node_count,
 use Rattle.merkle_core_parts.specs.Laws.Replaced.{length-replaced}
 use Rattle.state_bitmap.specs.Bits.{Bits, AreBitsOf, bit_count, chunk_at, full_chunks, last_chunk, pruned_to}
 use Rattle.state_bitmap.specs.Maps.{LeafHash, AreLeavesOf, HasLeaves, changed, full_count, is_one_of, leaf_digests}
-use Rattle.state_bitmap.specs.Maps.{Map, IsMap, IsMapOf, merkleized}
+use Rattle.state_bitmap.specs.Maps.{IsMap, IsMapOf}
 use Rattle.state_bitmap.specs.Maps.{chunks_root, bitmap_string, sealed_root, bitmap_root}
-use Rattle.state_bitmap.specs.MapsCode.{with_number, remembered, leaves_from, leaves_at}
+use Rattle.state_bitmap.specs.MapsCode.{remembered, leaves_from, leaves_at}
 use Rattle.state_bitmap.proofs.ChunkLemmas.{chunk_at-more, chunk_at-set, chunk_end, chunks_le, chunks_of_bits}
-use Rattle.state_bitmap.proofs.KeptLemmas.{count-kept, chunk-kept, kept-push, kept-set, kept-prune}
+use Rattle.state_bitmap.proofs.KeptLemmas.{count-kept, chunk-kept, kept-push, kept-set}
 use Rattle.state_bitmap.proofs.LeafLemmas.{leaves_are, length-leaves_from, brought_leaf}
 use Rattle.state_bitmap.proofs.WidthLemmas.{wide-some}
 
@@ -112,31 +115,44 @@ or_parts : (x y : Bool) → (x || y) ≡ false → (x ≡ false) × (y ≡ false
 or_parts true y none = absurd cc
 or_parts false y none = (refl, none)
 
-pub not_with : (numbers : List ℕ) (n i : ℕ) → is_one_of i (with_number numbers n) ≡ false → (i ≡ n → ⊥) × (is_one_of i numbers ≡ false)
-not_with numbers n i none = by (is_one_of n numbers) refl
+pub not_with : (numbers : List ℕ) (n i : ℕ) → is_one_of i (insert_key nat_cmp numbers n) ≡ false
+    → (i ≡ n → ⊥) × (is_one_of i numbers ≡ false)
+not_with [] n i none =
+    (λ same. (let clash : true ≡ false = sym (eq-eqb n i (sym same)) ∙ (or_parts (eqb n i) false none).0 in absurd cc), refl)
+not_with (m ∷ numbers) n i none = by (nat_cmp n m) refl (not_with numbers n i)
   where
-    by : (b : Bool) → is_one_of n numbers ≡ b → (i ≡ n → ⊥) × (is_one_of i numbers ≡ false)
-    by true known =
-        let old : is_one_of i numbers ≡ false =
-        ap (is_one_of i) (sym (cond-true (is_one_of n numbers) numbers (numbers ++ n ∷ []) known)) ∙ none in
-        (λ same. (let clash : true ≡ false = sym known ∙ ap (λ k. is_one_of k numbers) (sym same) ∙ old in absurd cc), old)
-    by false known =
-        let both : (is_one_of i numbers || is_one_of i (n ∷ [])) ≡ false =
-        sym (list_any-append (λ m. eqb m i) numbers (n ∷ []))
-        ∙ ap (is_one_of i) (sym (cond-false (is_one_of n numbers) numbers (numbers ++ n ∷ []) known)) ∙ none in
-        let parts = or_parts (is_one_of i numbers) (is_one_of i (n ∷ [])) both in
-        (λ same. (let clash : true ≡ false = sym (eq-eqb n i (sym same)) ∙ (or_parts (eqb n i) false parts.1).0 in absurd cc), parts.0)
+    apart : eqb n i ≡ false → i ≡ n → ⊥
+    apart test same = let clash : true ≡ false = sym (eq-eqb n i (sym same)) ∙ test in absurd cc
 
-all_more : (P : ℕ → Type 0) (numbers : List ℕ) (n : ℕ) → P n → AllByRecursion P numbers → AllByRecursion P (numbers ++ n ∷ [])
-all_more P [] n own all = (own, tt)
-all_more P (m ∷ numbers) n own all = (all.0, all_more P numbers n own all.1)
+    there : (o : Ordering) → nat_cmp n m ≡ o
+        → is_one_of i (match_ordering o (n ∷ m ∷ numbers) (m ∷ numbers) (m ∷ insert_key nat_cmp numbers n)) ≡ false
+    there o is =
+        ap (λ r. is_one_of i (match_ordering r (n ∷ m ∷ numbers) (m ∷ numbers) (m ∷ insert_key nat_cmp numbers n))) (sym is) ∙ none
 
-pub all_with : (P : ℕ → Type 0) (numbers : List ℕ) (n : ℕ) → P n → AllByRecursion P numbers → AllByRecursion P (with_number numbers n)
-all_with P numbers n own all = by (is_one_of n numbers)
+    by : (o : Ordering) → nat_cmp n m ≡ o
+        → (is_one_of i (insert_key nat_cmp numbers n) ≡ false → (i ≡ n → ⊥) × (is_one_of i numbers ≡ false))
+        → (i ≡ n → ⊥) × (is_one_of i (m ∷ numbers) ≡ false)
+    by Less is later =
+        let parts = or_parts (eqb n i) (is_one_of i (m ∷ numbers)) (there Less is) in (apart parts.0, parts.1)
+    by Equal is later =
+        let same : n ≡ m = exact_unsigned n m is in
+        let old = there Equal is in
+        (apart (ap (λ k. eqb k i) same ∙ (or_parts (eqb m i) (is_one_of i numbers) old).0), old)
+    by Greater is later =
+        let parts = or_parts (eqb m i) (is_one_of i (insert_key nat_cmp numbers n)) (there Greater is) in
+        let more = later parts.1 in
+        (more.0, ap₂ (λ x y. x || y) parts.0 more.1)
+
+pub all_with : (P : ℕ → Type 0) (numbers : List ℕ) (n : ℕ) → P n → AllByRecursion P numbers
+    → AllByRecursion P (insert_key nat_cmp numbers n)
+all_with P [] n own all = (own, tt)
+all_with P (m ∷ numbers) n own all = by (nat_cmp n m) (all_with P numbers n own all.1)
   where
-    by : (b : Bool) → AllByRecursion P (cond b numbers (numbers ++ n ∷ []))
-    by true = all
-    by false = all_more P numbers n own all
+    by : (o : Ordering) → AllByRecursion P (insert_key nat_cmp numbers n)
+        → AllByRecursion P (match_ordering o (n ∷ m ∷ numbers) (m ∷ numbers) (m ∷ insert_key nat_cmp numbers n))
+    by Less later = (own, all)
+    by Equal later = all
+    by Greater later = (all.0, later)
 
 pub all_weaker : (P Q : ℕ → Type 0) → ((n : ℕ) → P n → Q n) → (numbers : List ℕ) → AllByRecursion P numbers → AllByRecursion Q numbers
 all_weaker P Q each [] all = tt

@@ -1,15 +1,15 @@
 -- The digests that are put together as a proof are the honest ones.
-use Rattle.std.proofs.Common.{◌≡◌, ℕ, ◌+◌, ◌-◌, ◌*◌, ◌/◌, ◌%◌, ◌<◌, ◌≤◌, eqb, inl, inr, Bool, List, [], ◌∷◌, ◌++◌, length}
-use Rattle.std.proofs.Common.{refl, sym, ◌∙◌, ap, ap₂, arith, append-nil}
+use Rattle.std.proofs.Common.{◌≡◌, ℕ, ◌+◌, ◌*◌, ◌/◌, ◌%◌, ◌<◌, ◌≤◌, eqb, inl, inr, Bool, List, [], ◌∷◌, ◌++◌, length}
+use Rattle.std.proofs.Common.{sym, ◌∙◌, ap, arith, append-nil}
 use Rattle.std.proofs.lemmas.Bool.{cases_eq, cond-true, cond-false, eq-eqb, ne_eqb}
 use Rattle.std.proofs.lemmas.Nat.{div_below}
 use Rattle.std.proofs.Math.Nat.{mul_comm}
 use Rattle.merkle_forest.specs.declared.bagging.Bagging.{Bagging}
 use Rattle.merkle_forest.specs.Forest.{mmr_rule}
 use Rattle.merkle_forest.specs.Hashing.{Hash}
-use Rattle.merkle_core_parts.specs.Mem.{NodeHash, tree_digest, list_root}
+use Rattle.merkle_core_parts.specs.Mem.{NodeHash, tree_digest}
 use Rattle.merkle_core.specs.Plans.{honest_digests}
-use Rattle.state_bitmap.specs.Bits.{Bits, AreBitsOf, chunk_at, full_chunks, last_chunk}
+use Rattle.state_bitmap.specs.Bits.{Bits, AreBitsOf, full_chunks}
 use Rattle.state_bitmap.specs.Inclusion.{honest_bit_digests}
 use Rattle.state_bitmap.specs.InclusionCode.{last_digests, proof_digests}
 use Rattle.state_bitmap.specs.Maps.{LeafHash, leaf_digests, chunks_root}

@@ -1,21 +1,20 @@
 -- The cases of the root that a proof of a bit leads to.
-use Rattle.std.proofs.Common.{◌≡◌, ℕ, zero, suc, ◌+◌, ◌-◌, ◌*◌, ◌/◌, ◌%◌, ◌<◌, ◌≤◌, eqb, leb, ltb, Bool, true, false, cond, List, [], ◌∷◌, ◌++◌, length, map, take, get_or}
+use Rattle.std.proofs.Common.{◌≡◌, ℕ, zero, suc, ◌+◌, ◌-◌, ◌*◌, ◌/◌, ◌%◌, ◌<◌, ◌≤◌, eqb, leb, ltb, false, List, [], ◌∷◌, ◌++◌, length, map, take, get_or}
 use Rattle.std.proofs.Common.{Option, None, Some, option_map, refl, sym, ◌∙◌, ap, ap₂, arith}
 use Rattle.std.specs.Prelude.{◌||◌}
 use Rattle.std.proofs.lemmas.Bool.{cond-true, cond-false, eq-eqb, ne_eqb, lt-leb, le-leb, lt-ltb}
 use Rattle.std.proofs.lemmas.List.{length-map}
 use Rattle.merkle_forest.specs.declared.bagging.Bagging.{Bagging}
-use Rattle.merkle_forest.specs.Forest.{Rule, forest_of, mmr_rule}
+use Rattle.merkle_forest.specs.Forest.{Rule, mmr_rule}
 use Rattle.merkle_forest.specs.Hashing.{Hash, number}
 use Rattle.merkle_forest.specs.Made.{at_bitmap_root, Made, bytes, value}
-use Rattle.merkle_forest.specs.Nodes.{IsNodeAt}
 use Rattle.merkle_core_parts.specs.Laws.Held.{right-there}
 use Rattle.merkle_core_parts.specs.Mem.{Nodes, NodeHash, AreNodesOf, node_at, tree_digest, list_root}
 use Rattle.merkle_core.specs.MadeTrees.{Over}
 use Rattle.merkle_core.specs.Plans.{IsLookupOf, honest_digests}
 use Rattle.std.specs.Prelude.{IfSome}
 use Rattle.std.proofs.Common.{subst, append-nil}
-use Rattle.state_bitmap.specs.Inclusion.{also, partial_made, last_made, BitClaim, tree_read, last_of, front_of, partial_read, bit_root}
+use Rattle.state_bitmap.specs.Inclusion.{also, partial_made, BitClaim, tree_read, last_of, front_of, partial_read, bit_root}
 use Rattle.state_bitmap.specs.Bits.{Bits, last_chunk}
 use Rattle.state_bitmap.specs.InclusionCode.{last_digests, proof_digests}
 use Rattle.state_bitmap.specs.Maps.{bitmap_string}

@@ -1,11 +1,10 @@
 -- Where a proof of a bit leads to the root of a list of bits its claim is true of the list, or strings collide.
-use Rattle.std.proofs.Common.{◌≡◌, ◌⊎◌, inl, inr, ⊎_elim, ℕ, zero, suc, ◌+◌, ◌-◌, ◌*◌, ◌/◌, ◌%◌, ◌<◌, ◌≤◌, ◌^◌, eqb, leb, ltb, Bool, true, false, cond, List, [], ◌∷◌, ◌++◌, length, take, drop, map, get_or}
-use Rattle.std.proofs.Common.{Option, None, Some, option_map, option_and_then, IfSome, Contains, refl, sym, ◌∙◌, ap, ap₂, subst, arith, length-append}
-use Rattle.std.specs.List.{All}
+use Rattle.std.proofs.Common.{◌≡◌, ◌⊎◌, inl, inr, ⊎_elim, ℕ, zero, suc, ◌+◌, ◌-◌, ◌*◌, ◌/◌, ◌%◌, ◌<◌, ◌≤◌, ◌^◌, eqb, leb, ltb, Bool, true, false, List, [], ◌∷◌, ◌++◌, length, take, drop, get_or}
+use Rattle.std.proofs.Common.{Option, None, Some, option_map, option_and_then, IfSome, Contains, refl, sym, ◌∙◌, ap, subst, arith, length-append}
 use Rattle.std.specs.Prelude.{◌||◌}
-use Rattle.std.proofs.lemmas.Bool.{cases_eq, cases_Bool, cond-true, cond-false, eq-eqb, ne_eqb, eqb-true, eqb-false, leb-false, ltb-false}
+use Rattle.std.proofs.lemmas.Bool.{cases_eq, eqb-true, eqb-false, leb-false}
 use Rattle.std.proofs.lemmas.List.Elements.{Contains-append_left, Contains-append_right}
-use Rattle.std.proofs.lemmas.Nat.{mod_below, mul-le}
+use Rattle.std.proofs.lemmas.Nat.{mul-le}
 use Rattle.merkle_forest.specs.declared.bagging.Bagging.{Bagging}
 use Rattle.merkle_forest.specs.Forest.{mmr_rule}
 use Rattle.merkle_forest.specs.Hashing.{Hash, number, domain_of}
@@ -15,15 +14,15 @@ use Rattle.merkle_forest.specs.Made.{Site, at_tree_root, at_bitmap_root, at_last
 use Rattle.merkle_forest.specs.Trees.{Located}
 use Rattle.merkle_core.specs.Laws.MadeBags.{bag_good, bag_sized, map_good}
 use Rattle.merkle_core.specs.Laws.MadeRoots.{number_same}
-use Rattle.merkle_core.specs.Laws.MadeTrees.{AllSized, all_sized, choose, plain_fits}
-use Rattle.merkle_core.specs.Laws.Sound.{plain_sound, if_some, all_take, all_drop}
+use Rattle.merkle_core.specs.Laws.MadeTrees.{AllSized, choose, plain_fits}
+use Rattle.merkle_core.specs.Laws.Sound.{plain_sound, all_take, all_drop}
 use Rattle.merkle_core.specs.MadeRoots.{from_left, made_bag, peaks_of, root_made, Streams, used, read_bag, read_root}
 use Rattle.merkle_core.specs.MadeTrees.{from, whole, plain_over}
 use Rattle.merkle_core.specs.RangeCounts.{range_outer}
 use Rattle.merkle_core.specs.Reads.{claim_of}
 use Rattle.merkle_core.specs.Soundness.{plain_names, list_root, RangeClaim, IsTrueOf as IsTrueOfList, IsSound as IsSoundRange}
 use Rattle.state_bitmap.specs.Bits.{IsChunkWidth, chunk_at, full_chunks}
-use Rattle.state_bitmap.specs.Inclusion.{also, partial_made, last_made, made_bitmap, BitClaim, tree_read, last_of, front_of, partial_read, bit_root, IsTrueOf}
+use Rattle.state_bitmap.specs.Inclusion.{also, partial_made, last_made, BitClaim, tree_read, last_of, front_of, bit_root, IsTrueOf}
 use Rattle.state_bitmap.specs.Inclusion.{IsSound}
 use Rattle.state_bitmap.proofs.ChunkLemmas.{length-chunks_of, at-chunks_of, chunks_of_bits}
 use Rattle.state_bitmap.proofs.HonestLemmas.{value-also}

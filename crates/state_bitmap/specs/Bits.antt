@@ -66,6 +66,16 @@ last_chunk width kept =
     else (if length kept % bits == 0 then (chunk_of width (drop (length kept - bits) kept), bits)
     else (chunk_at width kept full, length kept % bits))
 
+-- The last chunk of a list of bits of which so many chunks are pruned, and how many of its bits there are. Where there are
+-- no others it is zeros, and has none; where the bits fill their chunks it is the last full one.
+abbrev pub last_chunk_of : ℕ → List Bool → ℕ → List ℕ × ℕ
+last_chunk_of width all pruned =
+    let bits = 8 * width in
+    let full = length all / bits in
+    if length all == bits * pruned then (replicate width 0, 0)
+    else (if length all % bits == 0 then (chunk_at width all (full - 1), bits)
+    else (chunk_at width all full, length all % bits))
+
 -- the bits without the chunks before the one at an index, which is not pruned
 abbrev pub pruned_to : ℕ → Bits → ℕ → Bits
 pruned_to width bits index = record {

@@ -8,7 +8,7 @@ use Rattle.std.specs.Prelude.{if◌then◌else◌, List, [], ◌∷◌, length, 
 use Rattle.merkle_forest.specs.declared.bagging.Bagging.{Bagging}
 use Rattle.merkle_forest.specs.Forest.{mmr_rule}
 use Rattle.merkle_forest.specs.Hashing.{Hash, leaf_string, number}
-use Rattle.merkle_forest.specs.Made.{Site, at_bitmap_root, at_last_chunk, Made, bytes, both, hashed, value, Strings, strings, Collision}
+use Rattle.merkle_forest.specs.Made.{Site, at_bitmap_root, at_last_chunk, Made, bytes, both, hashed, value, strings, Collision}
 use Rattle.merkle_core_parts.specs.Mem.{NodeHash, tree_digest, plain_node}
 use Rattle.merkle_core.specs.MadeTrees.{Over}
 use Rattle.merkle_core.specs.Plans.{honest_digests}

@@ -4,3 +4,4 @@ pub mod Inclusion
 pub mod InclusionCode
 pub mod Maps
 pub mod MapsCode
+pub mod Parts

@@ -1,17 +1,15 @@
 -- What the code remembers of chunks that changed, and adds to a batch to bring a tree to its bits.
-use Rattle.std.specs.Prelude.{ℕ, zero, suc, ◌-◌, nat_le, if◌then◌else◌, List, [], ◌∷◌, ◌++◌, map}
+use Rattle.std.specs.Prelude.{ℕ, zero, suc, ◌-◌, nat_le, if◌then◌else◌, List, [], ◌∷◌, map}
+use Rattle.std.specs.BTreeSet.{insert_key}
+use Rattle.std.specs.Ordering.{nat_cmp}
 use Rattle.merkle_forest.specs.Forest.{mmr_rule}
 use Rattle.merkle_core_parts.specs.Mem.{Replacement, node_count}
 use Rattle.state_bitmap.specs.Bits.{Bits, chunk_at}
-use Rattle.state_bitmap.specs.Maps.{LeafHash, is_one_of}
+use Rattle.state_bitmap.specs.Maps.{LeafHash}
 
--- these numbers, and one more where it is none of them
-abbrev pub with_number : List ℕ → ℕ → List ℕ
-with_number numbers n = if is_one_of n numbers then numbers else numbers ++ n ∷ []
-
--- these chunks, and one more if it is one of those that have a leaf
+-- these chunks, and one more at its place in their order, if it is one of those that have a leaf, and none of them
 abbrev pub remembered : ℕ → List ℕ → ℕ → List ℕ
-remembered leaves chunks chunk = if nat_le leaves chunk then chunks else with_number chunks chunk
+remembered leaves chunks chunk = if nat_le leaves chunk then chunks else insert_key nat_cmp chunks chunk
 
 -- the digest of the leaf of a chunk that is kept
 abbrev pub leaf_digest : LeafHash → ℕ → Bits → ℕ → List ℕ

@@ -14,20 +14,22 @@
 //! leaves of chunks with a bit that was set stand as they were. To merkleize it makes up for both.
 
 ghost use Rattle.std.specs.Prelude.{◌≡◌, ◌<◌, ◌≤◌, ◌+◌, ◌-◌, ◌*◌, ◌/◌, ◌%◌, ◌^◌, ◌++◌, [], ◌∷◌, ◌↔◌, false, Bool, ℕ, List};
-ghost use Rattle.std.specs.Prelude.{slice_set, slice_index_or, option_map, map, Some, IsTrue, OnOk, OnErr, IfOk, IfErr};
+ghost use Rattle.std.specs.Prelude.{length, take, slice_set, slice_index_or, option_map, map, Some, IsTrue, OnOk, OnErr, IfOk, IfErr};
 ghost use Rattle.merkle_forest.specs.Forest.{mmr_rule};
 ghost use Rattle.merkle_forest.specs.Made.{value};
-ghost use Rattle.merkle_core_parts.specs.Mem.{NodeHash, node_at, node_count, pruned_before};
+ghost use Rattle.merkle_core_parts.specs.Mem.{NodeHash, node_at, node_count, pinned_positions, pruned_before};
 ghost use Rattle.merkle_core.specs.MadeTrees.{Over};
 ghost use Rattle.merkle_core.specs.Reads.{HashesAs};
 ghost use Rattle.state_bitmap.specs.Bits.{IsChunkWidth, bits_in, chunk_at, bit_count, last_chunk};
 ghost use Rattle.state_bitmap.specs.Maps.{LeafHash, IsMapOf, merkleized, changed, map_root, bitmap_root, bits_before};
 ghost use Rattle.state_bitmap.specs.MapsCode.{remembered};
 ghost use Rattle.state_bitmap.specs.Inclusion.{bit_root, honest_bit_digests};
-ghost use Rattle.state_bitmap.specs.Errors.{IsRefusalOfBit};
+ghost use Rattle.state_bitmap.specs.Errors.{CanBePruned, IsRefusalOfBit, IsRefusalOfPruned};
+ghost use Rattle.state_bitmap.specs.Parts.{ArePinned, chunk_peaks, pruned_bits, pruned_tree};
 
 use crate::error::{Error, out_of_memory};
 use crate::inclusion::{bit_digests, root_of_bit};
+use crate::parts::{can_be_pruned, pinned_digests, tree_of_pinned};
 use crate::prunable::{Prunable, bit_in};
 use crate::tree::{root_over, tree_over};
 use merkle_core::{Mem, Proof};
@@ -35,6 +37,7 @@ use merkle_forest::hasher::Hasher;
 use merkle_forest::mmr::{Family, Position};
 use merkle_forest::{Digest, Location};
 use std::alloc::{AllocError, Global};
+use std::collections::BTreeSet;
 use std::marker::Model;
 
 /// Whether a map knows its root. In the Rust: `bitmap::authenticated::State`, which is sealed.
@@ -57,11 +60,11 @@ impl<D: Digest> State<D> for Merkleized<D> {
 /// In the Rust: `bitmap::authenticated::Unmerkleized`, with a set.
 #[derive(Debug, Drop)]
 pub struct Unmerkleized {
-    chunks: Vec<u64>,
+    chunks: BTreeSet<u64>,
 }
 
 impl<D: Digest> State<D> for Unmerkleized {
-    ghost stage_of = { λ state. changed state.chunks.items };
+    ghost stage_of = { λ state. changed state.chunks.keys };
 }
 
 /// Bits in chunks of N bytes, and a tree over the full chunks. Whole chunks may be pruned from the front. Contracts see
@@ -233,6 +236,62 @@ impl<D: Digest, const N: usize> BitMap<D, N, Merkleized<D>> {
         }
     }
 
+    /// The map of so many pruned chunks, and no other bits, of which these are the digests of the pinned nodes, from
+    /// left to right. Where there cannot be as many chunks: M21; then, where there are too few or too many digests:
+    /// M12; out of memory: M23. Of which list of bits it is a map is for the caller to know (own).
+    /// In the Rust: `bitmap::authenticated::BitMap::init`, out of a partition.
+    pub fn from_pruned<H: Hasher<Family, Digest = D>>(
+        alloc: Global,
+        hasher: &H,
+        chunks: u64,
+        digests: &[D],
+    ) -> Result<BitMap<D, N, Merkleized<D>>, Error>
+        requires { IsChunkWidth N }
+        ensures bits { IfOk result (λ made. made.bits ≡ pruned_bits chunks) }
+        ensures tree { IfOk result (λ made. made.tree ≡ pruned_tree chunks (map D.encoding digests.now)) }
+        ensures root { IfOk result (λ made. made.stage
+            ≡ merkleized (map_root H.hash_of (H.bagging_of hasher.now) N made.bits made.tree)) }
+        ensures of_list { (all : List Bool) → length all ≡ 8 * N * chunks
+            → map D.encoding digests.now ≡ chunk_peaks (H.leaf_of hasher.now) (H.node_of hasher.now) N all
+            → IfOk result (λ made. IsMapOf (H.leaf_of hasher.now) (H.node_of hasher.now) N all made) }
+        ensures root_of_list { (all : List Bool) → length all ≡ 8 * N * chunks
+            → map D.encoding digests.now ≡ chunk_peaks (H.leaf_of hasher.now) (H.node_of hasher.now) N all
+            → IfOk result (λ made. made.stage ≡ merkleized (bitmap_root H.hash_of (H.leaf_of hasher.now)
+            (H.node_of hasher.now) (H.bagging_of hasher.now) N all)) }
+        ensures fits { OnOk result (CanBePruned N chunks) }
+        ensures counted { OnOk result (length digests.now ≡ length (pinned_positions mmr_rule chunks)) }
+        ensures refused { IfErr result (IsRefusalOfPruned N chunks (length digests.now)) }
+    {
+        if !can_be_pruned::<N>(chunks) {
+            return Err(Error::DataCorrupted);
+        }
+        let tree = tree_of_pinned(alloc, chunks, digests)?;
+        let bits = Prunable::new_with_pruned_chunks(alloc, chunks);
+        let root = root_over(hasher, &bits, &tree);
+        Ok(BitMap {
+            alloc,
+            bits,
+            tree,
+            state: Merkleized { root },
+        })
+    }
+
+    /// How many chunks are pruned, and the digests of the nodes that stay pinned for them, from left to right: of them
+    /// `from_pruned` makes the map of the pruned bits again (own). It fails only when out of memory.
+    /// In the Rust: `bitmap::authenticated::MerkleizedBitMap::write_pruned`, into a partition.
+    pub fn pruned_parts(&self) -> Result<(u64, Vec<D>), AllocError>
+        ensures chunks { IfOk result (λ parts. parts.0 ≡ self.now.bits.pruned) }
+        ensures digests { IfOk result (λ parts. ArePinned self.now.tree self.now.bits.pruned
+            (map D.encoding parts.1.items)) }
+        ensures of_list { (leaf_of : LeafHash) (node_of : NodeHash) (all : List Bool)
+            → IsMapOf leaf_of node_of N all self.now
+            → IfOk result (λ parts. map D.encoding parts.1.items
+            ≡ chunk_peaks leaf_of node_of N (take (8 * N * self.now.bits.pruned) all)) }
+    {
+        let digests = pinned_digests(self.alloc, &self.tree)?;
+        Ok((self.bits.pruned_chunks(), digests))
+    }
+
     /// The digest of the node of the tree at a position. Where no node stands there, or it is pruned, it is None; a
     /// pinned one is there.
     /// In the Rust: `bitmap::authenticated::MerkleizedBitMap::get_node`.
@@ -259,7 +318,7 @@ impl<D: Digest, const N: usize> BitMap<D, N, Merkleized<D>> {
             bits: self.bits,
             tree: self.tree,
             state: Unmerkleized {
-                chunks: Vec::new(self.alloc),
+                chunks: BTreeSet::new(self.alloc),
             },
         }
     }
@@ -328,18 +387,24 @@ impl<D: Digest, const N: usize> BitMap<D, N, Merkleized<D>> {
 }
 
 // Remembers a chunk once, if it is one of those that have a leaf.
-fn remember(chunks: &mut Vec<u64>, leaves: u64, chunk: u64) -> Result<(), AllocError>
-    ensures with { OnOk result (chunks.new.items ≡ remembered leaves chunks.old.items chunk) }
-    ensures unchanged { OnErr result (chunks.new.items ≡ chunks.old.items) }
+fn remember(chunks: &mut BTreeSet<u64>, leaves: u64, chunk: u64) -> Result<(), AllocError>
+    ensures with { OnOk result (chunks.new.keys ≡ remembered leaves chunks.old.keys chunk) }
+    ensures unchanged { OnErr result (chunks.new.keys ≡ chunks.old.keys) }
 {
     if chunk >= leaves {
         return Ok(());
     }
-    if chunks.contains(&chunk) {
-        return Ok(());
+    match chunks.insert(chunk) {
+        Ok(_) => Ok(()),
+        Err(_) => Err(AllocError),
     }
-    chunks.push(chunk)?;
-    Ok(())
+}
+
+// The chunks of a set, in their order.
+fn in_order(alloc: Global, chunks: BTreeSet<u64>) -> Result<Vec<u64>, AllocError>
+    ensures { IfOk result (λ found. found.items ≡ chunks.keys) }
+{
+    chunks.into_iter().collect(alloc)
 }
 
 impl<D: Digest, const N: usize> BitMap<D, N, Unmerkleized> {
@@ -401,7 +466,7 @@ impl<D: Digest, const N: usize> BitMap<D, N, Unmerkleized> {
     {
         let alloc = self.alloc;
         let bits = self.bits;
-        let chunks = self.state.chunks;
+        let chunks = in_order(alloc, self.state.chunks)?;
         let tree = tree_over(hasher, &bits, self.tree, &chunks)?;
         let root = root_over(hasher, &bits, &tree);
         Ok(BitMap {

@@ -1,19 +1,23 @@
 //! What is kept of a list of bits says of the list, and what the proof of a bit says of it.
 
-ghost use Rattle.std.specs.Prelude.{◌≡◌, ◌<◌, ◌≤◌, ◌+◌, ◌-◌, ◌*◌, ◌^◌, ◌++◌, [], ◌∷◌, false, Bool, ℕ, List, length};
+ghost use Rattle.std.specs.Prelude.{◌≡◌, ◌<◌, ◌≤◌, ◌+◌, ◌-◌, ◌*◌, ◌/◌, ◌%◌, ◌^◌, ◌++◌, [], ◌∷◌, false, Bool, ℕ, List, length};
 ghost use Rattle.std.specs.Prelude.{slice_set, slice_index_or, option_map, Some, IfSome};
 ghost use Rattle.std.specs.List.{All};
 ghost use Rattle.merkle_forest.specs.declared.bagging.Bagging.{Bagging};
 ghost use Rattle.merkle_forest.specs.Hashing.{Hash};
-ghost use Rattle.merkle_forest.specs.Made.{value};
+ghost use Rattle.merkle_forest.specs.Made.{value, strings};
 ghost use Rattle.merkle_core_parts.specs.Mem.{plain_node};
 ghost use Rattle.merkle_core.specs.MadeTrees.{plain_over};
-ghost use Rattle.state_bitmap.specs.Bits.{Bits, IsChunkWidth, AreBitsOf, bit_count, chunk_at, pruned_to};
+ghost use Rattle.merkle_core.specs.OneEach.{OneEach};
+ghost use Rattle.state_bitmap.specs.Bits.{Bits, IsChunkWidth, AreBitsOf, bits_in, bit_count, chunk_at};
+ghost use Rattle.state_bitmap.specs.Bits.{last_chunk, last_chunk_of, pruned_to};
 ghost use Rattle.state_bitmap.specs.Inclusion.{made_bitmap, BitClaim, bit_root, IsSound, plain_leaf, plain_root};
-ghost use Rattle.state_bitmap.specs.Inclusion.{honest_claim};
+ghost use Rattle.state_bitmap.specs.Inclusion.{honest_claim, IsTrueOf};
 ghost use Rattle.state_bitmap.specs.Maps.{bitmap_string};
 
-use merkle_core::laws::built_proofs_lead_to_the_root;
+use merkle_core::laws::{
+    built_proofs_lead_to_the_root, each_site_has_one_string as tree_sites_have_one_string,
+};
 use merkle_core_parts::laws::plain_roots_are_tree_roots;
 use merkle_forest::mmr::Family;
 
@@ -34,6 +38,27 @@ pub fn a_kept_bit_is_that_of_the_list()
 pub fn a_kept_chunk_is_that_of_the_list()
     ensures { (width : ℕ) (all : List Bool) (bits : Bits) (index : ℕ) → AreBitsOf width all bits
         → bits.pruned ≤ index → chunk_at width bits.kept (index - bits.pruned) ≡ chunk_at width all index }
+{}
+
+/// The last chunk of what is kept is that of the list: where all bits are pruned, or there are none, zeros without a
+/// bit; where they fill their chunks the last full one; else the partial one.
+pub fn a_last_chunk_is_that_of_the_list()
+    ensures { (width : ℕ) (all : List Bool) (bits : Bits) → IsChunkWidth width → AreBitsOf width all bits
+        → last_chunk width bits.kept ≡ last_chunk_of width all bits.pruned }
+{}
+
+/// What is read out of the chunk of a bit is that bit of the list.
+pub fn a_bit_of_its_chunk_is_that_of_the_list()
+    ensures { (width : ℕ) (all : List Bool) (bit : ℕ) → IsChunkWidth width
+        → slice_index_or (bits_in (chunk_at width all (bit / (8 * width)))) (bit % (8 * width)) false
+        ≡ slice_index_or all bit false }
+{}
+
+/// What is read out of the chunk of a claim that is true of a list of bits is the claimed bit of the list.
+pub fn a_bit_of_a_true_claim_is_that_of_the_list()
+    ensures { (width : ℕ) (all : List Bool) (claim : BitClaim) → IsChunkWidth width → IsTrueOf width all claim
+        → slice_index_or (bits_in claim.chunk) (claim.bit % (8 * width)) false
+        ≡ slice_index_or all claim.bit false }
 {}
 
 /// What is kept with one more bit is kept of the list with that bit at its end.
@@ -95,3 +120,14 @@ pub fn strings_of_partial_roots_have_72_bytes()
     ensures { (tree_root last : List ℕ) (bits : ℕ) → length tree_root ≡ 32 → length last ≡ 32
         → length (bitmap_string tree_root bits last) ≡ 72 }
 {}
+
+/// At each site one string is hashed for the root of a list of bits, and one where a root is rebuilt from a proof of a
+/// bit: a collision is between the two strings of a site.
+pub fn each_site_has_one_string()
+    ensures hashed { (hash : Hash) (bagging : Bagging) (width : ℕ) (all : List Bool)
+        → OneEach (strings hash (made_bitmap bagging width all)) }
+    ensures rebuilt { (hash : Hash) (bagging : Bagging) (width : ℕ) (claim : BitClaim)
+        → IfSome (bit_root plain_over bagging width claim) (λ made. OneEach (strings hash made)) }
+{
+    tree_sites_have_one_string::<Family>();
+}

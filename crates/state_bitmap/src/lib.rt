@@ -11,12 +11,10 @@ pub mod authenticated;
 pub mod error;
 pub mod inclusion;
 pub mod laws;
+mod parts;
 pub mod prunable;
 mod tree;
 
 pub use authenticated::{BitMap, MerkleizedBitMap, UnmerkleizedBitMap};
 pub use error::Error;
 pub use prunable::Prunable;
-
-#[cfg(test)]
-mod tests;

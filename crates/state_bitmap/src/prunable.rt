@@ -45,6 +45,18 @@ fn put_bit(bytes: &mut Vec<u8>, at: u64, bit: bool)
     bytes[index] = with_bit(bytes[index], at % 8, bit);
 }
 
+// Sets the bit at a place in the bytes where none is set; one that is not to be set is there already.
+fn fill_bit(bytes: &mut Vec<u8>, at: u64, bit: bool)
+    requires there { at < 8 * length bytes.old.items }
+    requires zero { slice_index_or (bits_in bytes.old.items) at false ≡ false }
+    ensures bits { bits_in bytes.new.items ≡ slice_set (bits_in bytes.old.items) at bit }
+    ensures length { length bytes.new.items ≡ length bytes.old.items }
+{
+    if bit {
+        put_bit(bytes, at, true);
+    }
+}
+
 // So many bytes from a place on.
 fn part(bytes: &[u8], first: usize, count: usize) -> &[u8]
     requires { first + count ≤ length bytes.now }
@@ -99,6 +111,22 @@ impl<const N: usize> Prunable<N> {
         Prunable {
             alloc,
             pruned: 0,
+            kept: 0,
+            bytes: Vec::new(alloc),
+        }
+    }
+
+    /// So many chunks that are pruned, of fewer than 2^64 bits, and no other bits. It takes no memory yet.
+    /// In the Rust: `commonware_utils::bitmap::Prunable::new_with_pruned_chunks`, which refuses too many chunks.
+    pub fn new_with_pruned_chunks(alloc: Global, chunks: u64) -> Prunable<N>
+        requires wide { IsChunkWidth N }
+        requires few { chunks ≤ 2 ^ 62 }
+        requires within { 8 * N * chunks < 2 ^ 64 }
+        ensures { result ≡ record { pruned = chunks; kept = [] } }
+    {
+        Prunable {
+            alloc,
+            pruned: chunks,
             kept: 0,
             bytes: Vec::new(alloc),
         }
@@ -239,7 +267,7 @@ impl<const N: usize> Prunable<N> {
             self.kept += 1;
             return Ok(());
         }
-        put_bit(&mut self.bytes, self.kept, bit);
+        fill_bit(&mut self.bytes, self.kept, bit);
         self.kept += 1;
         Ok(())
     }

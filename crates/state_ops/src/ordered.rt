@@ -52,6 +52,3 @@ pub fn read<F: Family, K: FixedKey, V: FixedValue>(
 {
     read_operation(alloc, cursor)
 }
-
-#[cfg(test)]
-mod tests;

@@ -9,8 +9,6 @@ pub mod hexadecimal;
 pub mod key;
 pub mod laws;
 pub mod operation;
-#[cfg(test)]
-mod tests;
 pub mod traits;
 pub mod update;
 pub mod value;

@@ -76,7 +76,7 @@ inactive-case : (test : Bool) (count n : ℕ) → count ≤ n → cond test coun
 inactive-case true count n le = le
 inactive-case false count n le = omega arith
 
-aligned-few : (bits floor : ℕ) (peaks : List Located) → chunk_aligned_inactive_peaks bits floor peaks ≤ length peaks
+pub aligned-few : (bits floor : ℕ) (peaks : List Located) → chunk_aligned_inactive_peaks bits floor peaks ≤ length peaks
 aligned-few bits floor [] = omega arith
 aligned-few bits floor (peak ∷ peaks) =
     inactive-case (leb (end_of peak) floor) (aligned_count_with bits
@@ -95,13 +95,13 @@ inactive-few setting state =
     )
 
 -- the digests of chunks
-fits_some : (hash : Hash) (one held : List ℕ) (There Covered : Type 0) (test : Bool) → (test ≡ true → There)
+pub fits_some : (hash : Hash) (one held : List ℕ) (There Covered : Type 0) (test : Bool) → (test ≡ true → There)
     → (There → test ≡ true) → (Covered → held ≡ one)
     → FitsChunk hash one There Covered (cond test (Some (hash held)) None)
 fits_some hash one held There Covered true there test same = (there refl, λ covered. ap hash (same covered))
 fits_some hash one held There Covered false there test same = λ is. absurd (let e : false ≡ true = test is in cc)
 
-fits_none : (hash : Hash) (one held : List ℕ) (There Covered : Type 0) (test : Bool) → (test ≡ false → There)
+pub fits_none : (hash : Hash) (one held : List ℕ) (There Covered : Type 0) (test : Bool) → (test ≡ false → There)
     → (There → test ≡ false) → (Covered → held ≡ one)
     → FitsChunk hash one There Covered (cond test None (Some (hash held)))
 fits_none hash one held There Covered true there test same = λ is. absurd (let e : true ≡ false = test is in cc)

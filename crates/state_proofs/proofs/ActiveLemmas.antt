@@ -58,7 +58,7 @@ byte_at (suc width) (suc j) bits lt =
     byte_at width j (drop 8 bits) (omega arith) ∙ ap (λ rest. Some (byte_of (take 8 rest))) (drop_drop (8 * j) 8 bits
     ∙ ap (λ n. drop n bits) (omega arith))
 
-chunk_at : (width count k : ℕ) (bits : List Bool) → k < count
+pub chunk_at : (width count k : ℕ) (bits : List Bool) → k < count
     → slice_index_or (chunks_of width count bits) k [] ≡ chunk_of width (drop (8 * width * k) bits)
 unfolding chunks_of
 chunk_at width zero k bits lt = absurd (omega arith)

@@ -1,5 +1,5 @@
 -- A proof over a range that verifies under the canonical root of a state tells the truth, or strings collide.
-use Rattle.std.proofs.Common.{◌≡◌, ◌⊎◌, inl, inr, ⊎_elim, ℕ, zero, suc, ◌+◌, ◌-◌, ◌*◌, ◌/◌, ◌%◌, ◌^◌, ◌<◌, ◌≤◌, eqb, ltb, leb, cond, ◌&&◌, Bool, true, false, List, [], ◌∷◌, length, replicate, Option, None, Some, option_map, IfSome, ◌↔◌, refl, sym, ◌∙◌, ap, subst, arith}
+use Rattle.std.proofs.Common.{◌≡◌, ◌⊎◌, inl, inr, ⊎_elim, ℕ, zero, suc, ◌+◌, ◌-◌, ◌*◌, ◌/◌, ◌%◌, ◌^◌, ◌<◌, ◌≤◌, eqb, ltb, leb, cond, ◌&&◌, Bool, true, false, List, [], ◌∷◌, length, replicate, Option, None, Some, option_map, IfSome, refl, sym, ◌∙◌, ap, subst, arith}
 use Rattle.std.specs.Prelude.{slice_get, slice_index_or}
 use Rattle.std.specs.List.{AllByRecursion}
 use Rattle.std.proofs.lemmas.Bool.{cases_lt, lt-ltb, le-leb, ltb-true, leb-true, and_parts, eq-eqb, ne_eqb}
@@ -7,30 +7,29 @@ use Rattle.std.proofs.lemmas.List.{length-replicate}
 use Rattle.std.proofs.lemmas.Nat.{pow_pos, div-mul-add}
 use Rattle.std.proofs.Math.Nat.{div-add-mod, mul-le-mul_left}
 use Rattle.merkle_forest.specs.declared.bagging.Bagging.TheVariants.{BackwardFold}
-use Rattle.merkle_forest.specs.Forest.{Tree, height, leaf_count, Rule, forest_of}
+use Rattle.merkle_forest.specs.Forest.{height, leaf_count, Rule, forest_of}
 use Rattle.merkle_forest.specs.Hashing.{Hash}
 use Rattle.merkle_forest.specs.Laws.ForestGrowth.{leaves-forest_of}
 use Rattle.merkle_forest.specs.Laws.Nodes.{node-leaves}
 use Rattle.merkle_forest.specs.Laws.Matching.{Agrees}
 use Rattle.merkle_forest.specs.Made.{at_pending, at_partial, Made, bytes, value, strings, Collision}
-use Rattle.merkle_forest.specs.Nodes.{HasNode, nodes_of_height}
+use Rattle.merkle_forest.specs.Nodes.{nodes_of_height}
 use Rattle.merkle_forest.specs.Perfect.{IsPairing}
 use Rattle.merkle_forest.specs.Trees.{Located, located}
 use Rattle.merkle_core.specs.Laws.MadeTrees.{AgreeOver, all_sized}
 use Rattle.merkle_core.specs.Laws.Sound.{agree_in}
-use Rattle.merkle_core.specs.MadeTrees.{Elements, from, whole}
-use Rattle.merkle_core.specs.MadeRoots.{peaks_of, read_root}
+use Rattle.merkle_core.specs.MadeTrees.{from, whole}
+use Rattle.merkle_core.specs.MadeRoots.{peaks_of}
 use Rattle.merkle_core.specs.RangeCounts.{range_outer}
-use Rattle.state_proofs.specs.Canonical.{Setting, State, chunk_bits, full_chunks, next_bit, chunks, chunk, forest, peaks, grafted_inactive, canonical_string, canonical_root}
+use Rattle.state_proofs.specs.Canonical.{Setting, State, chunk_bits, full_chunks, next_bit, chunks, chunk, forest, grafted_inactive, canonical_string, canonical_root}
 use Rattle.state_proofs.specs.Laws.MadeCanonical.{value_canonical}
 use Rattle.state_proofs.specs.Laws.MadeGrafted.{SameChunk}
 use Rattle.state_proofs.specs.Laws.MadeStates.{state_sound}
-use Rattle.state_proofs.specs.MadeCanonical.{if_made, next_made, chunk_made}
-use Rattle.state_proofs.specs.MadeGrafted.{grafted_over, grafted_names}
+use Rattle.state_proofs.specs.MadeCanonical.{if_made, next_made}
 use Rattle.state_proofs.specs.MadeRanges.{is_covered, range_pending, range_partial, range_over, range_strings, HasRange}
-use Rattle.state_proofs.specs.MadeStates.{made_operations, made_chunk, made_pending, made_partial, made_state, hashed_strings, held_or_made, HasDigestsOf}
-use Rattle.state_proofs.specs.RangeVerified.{Shown, shown_bits, stop_of, first_index, last_index, full_shown, graftable_shown, Covers, covering, given_by, shown_over, shown_grafted, IsShaped, FitsShown, VerifiesRange}
-use Rattle.state_proofs.specs.Verified.{RangeParts, FitsChunk}
+use Rattle.state_proofs.specs.MadeStates.{made_operations, made_chunk, made_pending, made_partial, made_state, hashed_strings, HasDigestsOf}
+use Rattle.state_proofs.specs.RangeVerified.{Shown, shown_bits, stop_of, first_index, last_index, full_shown, graftable_shown, Covers, covering, given_by, shown_grafted, IsShaped, FitsShown, VerifiesRange}
+use Rattle.state_proofs.specs.Verified.{RangeParts}
 use Rattle.state_proofs.specs.Verifier.{Given, given_chunk, claimed_chunk}
 use Rattle.state_proofs.proofs.Accepted.{index-few}
 use Rattle.state_proofs.proofs.ActiveLemmas.{any_default, location_chunks, chunks-wide}
@@ -75,7 +74,7 @@ all_at width (c ∷ cs) none wide (suc k) lt = all_at width cs none wide.1 k (om
 get_index : (xs : List (List ℕ)) (i : ℕ) (none : List ℕ) → i < length xs → slice_get xs i ≡ Some (slice_index_or xs i none)
 get_index xs i none lt = get_some xs i (slice_index_or xs i none) lt (any_default xs i none [] lt)
 
-both_on : (a b : Bool) (x y : List ℕ) → a ≡ true → b ≡ true → cond (a && b) x y ≡ x
+pub both_on : (a b : Bool) (x y : List ℕ) → a ≡ true → b ≡ true → cond (a && b) x y ≡ x
 both_on a b x y one other = rw (one, other) refl
 
 module _ (setting : Setting) (hash_sized : (xs : List ℕ) → length (setting.hash xs) ≡ 32) (state : State) (proof : RangeParts) (shown : Shown)

@@ -1,18 +1,16 @@
 -- The hasher over a range of operations: where a position's node is found, and that it hashes as the grafted tree is made.
-use Rattle.std.proofs.Common.{◌≡◌, ◌⊎◌, inl, inr, ⊎_elim, ℕ, zero, suc, ◌+◌, ◌-◌, ◌/◌, ◌^◌, ◌<◌, ◌≤◌, eqb, leb, ltb, cond, ◌&&◌, Bool, true, false, List, [], ◌∷◌, ◌++◌, length, replicate, Option, None, Some, refl, sym, ◌∙◌, ap, subst, arith}
+use Rattle.std.proofs.Common.{◌≡◌, ◌⊎◌, inl, inr, ⊎_elim, ℕ, zero, suc, ◌+◌, ◌-◌, ◌/◌, ◌^◌, ◌<◌, ◌≤◌, eqb, leb, ltb, cond, ◌&&◌, Bool, true, false, List, [], ◌∷◌, length, replicate, Option, None, Some, refl, sym, ◌∙◌, ap, subst, arith}
 use Rattle.std.specs.Prelude.{slice_index_or}
-use Rattle.std.specs.List.{All}
 use Rattle.std.proofs.lemmas.Bool.{eqb-true, ne_eqb, eq-eqb, le-leb, lt-leb, le-ltb, lt-ltb}
 use Rattle.std.proofs.lemmas.List.{length-replicate}
 use Rattle.merkle_forest.specs.Forest.{Tree, leaf, branch, position, height, leaf_count, size, leaves, Rule, forest_of}
 use Rattle.merkle_forest.specs.Hashing.{Hash, number, leaf_string, node_string}
 use Rattle.merkle_forest.specs.Laws.NodeGrowth.{node-stays, numbered, one-node}
-use Rattle.merkle_forest.specs.Made.{Made, bytes, both, value}
+use Rattle.merkle_forest.specs.Made.{bytes, both, value}
 use Rattle.merkle_forest.specs.Nodes.{IsWithin, IsNodeAt}
 use Rattle.merkle_forest.specs.Perfect.{IsPairing}
 use Rattle.merkle_core.specs.Reads.{HashesAs}
 use Rattle.merkle_core.specs.Rebuilt.{HasTree}
-use Rattle.state_proofs.specs.Bits.{is_zero}
 use Rattle.state_proofs.specs.Grafting.{grafted}
 use Rattle.state_proofs.specs.Laws.MadeStates.{value_case, no_chunk}
 use Rattle.state_proofs.specs.MadeGrafted.{grafted_over}

@@ -1,12 +1,12 @@
 -- A witness leads from the root of the operations' tree to the canonical one.
-use Rattle.std.proofs.Common.{◌≡◌, ◌⊎◌, inl, inr, ⊎_elim, ℕ, List, length, cond, Bool, true, false, eqb, ltb, Option, None, Some, option_map, IfSome, refl, sym, ◌∙◌, ap}
+use Rattle.std.proofs.Common.{◌≡◌, ◌⊎◌, inl, inr, ⊎_elim, ℕ, List, length, eqb, ltb, Option, None, Some, option_map, IfSome, refl, sym, ◌∙◌, ap}
 use Rattle.merkle_forest.specs.Hashing.{Hash}
 use Rattle.merkle_forest.specs.Laws.Matching.{agrees_or_collides}
 use Rattle.merkle_forest.specs.Made.{at_pending, at_partial, Made, bytes, value, strings, Collision}
 use Rattle.merkle_forest.specs.Nodes.{nodes_of_height}
 use Rattle.state_proofs.specs.Canonical.{Setting, State, full_chunks, next_bit, chunk, forest, operations_root, grafted_root, pending_digest, partial_digest, canonical_string, canonical_root}
-use Rattle.state_proofs.specs.Laws.MadeCanonical.{SizedIf, SizedNext, MatchIf, MatchNext, canonical_matches, value_canonical}
-use Rattle.state_proofs.specs.MadeCanonical.{CanonicalParts, if_made, next_made, canonical_made}
+use Rattle.state_proofs.specs.Laws.MadeCanonical.{SizedIf, SizedNext, MatchIf, MatchNext, canonical_matches}
+use Rattle.state_proofs.specs.MadeCanonical.{CanonicalParts}
 use Rattle.state_proofs.specs.MadeStates.{made_operations, made_grafted, made_pending, made_partial, made_state, hashed_strings}
 use Rattle.state_proofs.specs.Witness.{WitnessParts, HasWitnessOf, next_of, witnessed_string, witnessed_made, honest_witness}
 use Rattle.state_proofs.proofs.YesIsTrue.{value_state, value_operations, next_sized, some_sized, none_sized}

@@ -4,7 +4,7 @@
 --
 --      a b [c d e) [f g .. l) [m n .. z            of c: c up to f; of f: f up to m; of m, whose next key is c: from m on, and
 --      ...)                                        before c
-use Rattle.std.specs.Prelude.{◌≡◌, ℕ, ◌⊎◌, ◌==◌, ◌&&◌, ◌||◌, not, Bool, true, if◌then◌else◌, List, [], ◌∷◌, ◌++◌, Option, Err, IfSome, length}
+use Rattle.std.specs.Prelude.{◌≡◌, ℕ, ◌⊎◌, ◌==◌, ◌&&◌, ◌||◌, not, Bool, true, if◌then◌else◌, List, [], ◌∷◌, ◌++◌, Option, Err}
 use Rattle.std.specs.Cmp.Lexicographic.{slice_cmp}
 use Rattle.std.specs.Ordering.{nat_cmp, is_lt}
 use Rattle.std.specs.declared.cmp.Ordering.{Ordering}
@@ -15,7 +15,7 @@ use Rattle.merkle_forest.specs.Forest.{Rule}
 use Rattle.merkle_forest.specs.Hashing.{Hash}
 use Rattle.state_ops_parts.specs.Grammar.{Lacks, after_ordered, OrderedLacks}
 use Rattle.state_ops.specs.Operation.{ordered, update, commit_floor, fixed_encoding}
-use Rattle.state_proofs.specs.Encoded.{operation_proof_encoding, after_operation_proof, OperationProofLacks}
+use Rattle.state_proofs.specs.Encoded.{operation_proof_encoding}
 use Rattle.state_proofs.specs.Verified.{Parts, Verifies}
 
 -- the key stands before the other one, in the order of bytes

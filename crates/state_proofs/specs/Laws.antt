@@ -1,4 +1,5 @@
 -- Lemmas that crates above cite, and the laws of the traits.
+pub mod Bits
 pub mod Encoded
 pub mod Exclusion
 pub mod MadeCanonical

@@ -1,4 +1,6 @@
 pub mod Bits
+pub mod Built
+pub mod BuiltCode
 pub mod Canonical
 pub mod Encoded
 pub mod Errors
@@ -7,6 +9,7 @@ pub mod ExclusionCode
 pub mod Grafting
 pub mod Honest
 pub mod Laws
+pub mod LogProofs
 pub mod MadeCanonical
 pub mod MadeGrafted
 pub mod MadeRanges
@@ -15,6 +18,7 @@ pub mod PeakEnds
 pub mod ProofsCode
 pub mod RangeVerified
 pub mod RangeVerifiedCode
+pub mod Requests
 pub mod Required
 pub mod RequiredCode
 pub mod SameNodes

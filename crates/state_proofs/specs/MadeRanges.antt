@@ -1,5 +1,5 @@
 -- The canonical root as a proof over a range leads to it, and what that shows.
-use Rattle.std.specs.Prelude.{◌≡◌, ℕ, ◌+◌, ◌%◌, ◌<◌, ◌&&◌, nat_lt, nat_le, Bool, List, length, Option, Some, option_map, slice_get}
+use Rattle.std.specs.Prelude.{◌≡◌, ℕ, ◌+◌, ◌%◌, ◌<◌, ◌&&◌, nat_lt, nat_le, Bool, length, Option, Some, option_map, slice_get}
 use Rattle.merkle_forest.specs.Made.{at_pending, at_partial, Made, bytes, Strings, strings}
 use Rattle.state_proofs.specs.Canonical.{Setting, State, chunk}
 use Rattle.state_proofs.specs.MadeCanonical.{if_made, canonical_made, chunk_made}

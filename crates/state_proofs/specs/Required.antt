@@ -1,5 +1,5 @@
 -- The chunks that a proof needs, and what is no snapshot.
-use Rattle.std.specs.Prelude.{◌≡◌, ◌⊎◌, ℕ, ◌+◌, ◌*◌, ◌/◌, ◌%◌, ◌<◌, ◌≤◌, min, Option, Some, IfSome, IsSomeAnd}
+use Rattle.std.specs.Prelude.{◌≡◌, ◌⊎◌, ℕ, ◌+◌, ◌/◌, ◌%◌, ◌<◌, ◌≤◌, min, Option, Some, IfSome, IsSomeAnd}
 use Rattle.merkle_core_parts.specs.declared.error.Error.{Error as MerkleError}
 use Rattle.merkle_core_parts.specs.declared.error.Error.TheVariants.{RangeOutOfBounds}
 use Rattle.merkle_forest.specs.Forest.{Rule, forest_of}

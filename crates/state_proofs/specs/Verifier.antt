@@ -1,6 +1,6 @@
 -- How the grafted tree is hashed over a range of operations: at the grafting height the chunk over the node is joined in, where it
 -- is one of those that are given.
-use Rattle.std.specs.Prelude.{◌≡◌, ℕ, ◌+◌, ◌-◌, ◌/◌, ◌^◌, ◌==◌, ◌&&◌, nat_lt, nat_le, if◌then◌else◌, List, [], ◌∷◌, Option, None, Some, replicate, slice_index_or}
+use Rattle.std.specs.Prelude.{ℕ, ◌+◌, ◌-◌, ◌/◌, ◌^◌, ◌==◌, ◌&&◌, nat_lt, nat_le, if◌then◌else◌, List, [], ◌∷◌, Option, None, Some, replicate, slice_index_or}
 use Rattle.merkle_forest.specs.Forest.{Tree, leaf, branch, height, leaf_count, leaves, Rule, forest_of}
 use Rattle.merkle_forest.specs.Hashing.{Hash, node_string}
 use Rattle.state_proofs.specs.Grafting.{grafted}

@@ -3,6 +3,8 @@
 ghost use Rattle.std.specs.Prelude.{◌≡◌, ◌<◌, ◌≤◌, ◌+◌, ◌*◌, ◌^◌, List, Bool, ℕ, length, drop};
 ghost use Rattle.state_proofs.specs.Bits.{chunk_of};
 
+use crate::bits::chunk_array;
+
 /// Bits in chunks of N bytes, of which chunks may be pruned from the front.
 /// In the Rust: `commonware_utils::bitmap::Readable`.
 pub trait BitmapReadable<const N: usize> {
@@ -29,4 +31,34 @@ pub trait BitmapReadable<const N: usize> {
 
     /// Chunks are pruned whole.
     ghost pruned_within: { (b : Self) → 8 * N * pruned b ≤ length (bits b) };
+}
+
+/// Bits of which none is pruned, as a list (own).
+#[derive(Clone, Copy, Debug)]
+pub struct BitList<'a> {
+    /// All bits, the first one first.
+    pub bits: &'a [bool],
+}
+
+impl<'a, const N: usize> BitmapReadable<N> for BitList<'a> {
+    ghost use Rattle.state_proofs.specs.Laws.Bits.{none_pruned};
+
+    ghost bits = { λ list. list.bits.now };
+
+    ghost pruned = { λ list. 0 };
+
+    fn len(&self) -> u64 {
+        self.bits.len() as u64
+    }
+
+    fn pruned_chunks(&self) -> u64 {
+        0
+    }
+
+    fn get_chunk(&self, index: u64) -> [u8; N] {
+        let (_, bits) = self.bits.split_at(N * index as usize * 8);
+        chunk_array(bits)
+    }
+
+    ghost pruned_within = { λ list. none_pruned N (length list.bits.now) };
 }

@@ -48,6 +48,20 @@ pub fn chunk_from(alloc: Global, width: usize, bits: &[bool]) -> Result<Vec<u8>,
     Ok(chunk)
 }
 
+// A chunk of N bytes from the first bits: zeros where there are no more bits. It takes no memory.
+pub(crate) fn chunk_array<const N: usize>(bits: &[bool]) -> [u8; N]
+    ensures { result ≡ chunk_of N bits.now }
+{
+    let mut chunk = [0; N];
+    let mut rest = bits;
+    for index in 0..N {
+        let (eight, later) = split_front(rest, 8);
+        chunk[index] = byte_from(eight);
+        rest = later;
+    }
+    chunk
+}
+
 /// The first `count` chunks (own). It fails only when out of memory.
 pub fn chunks_from(
     alloc: Global,

@@ -3,19 +3,21 @@
 ghost use Rattle.std.specs.Prelude.{◌≡◌, ◌<◌, ◌≤◌, ◌*◌, ◌^◌, ◌⊎◌, ℕ, List, [], length, slice_get, slice_index_or, Ok, Some, true};
 ghost use Rattle.merkle_forest.specs.Hashing.{Hash};
 ghost use Rattle.merkle_forest.specs.Made.{Collision, strings};
+ghost use Rattle.merkle_core.specs.OneEach.{OneEach};
 ghost use Rattle.state_proofs.specs.Canonical.{Setting, State, canonical_root, operations_root};
 ghost use Rattle.state_proofs.specs.Encoded.{format_of, ShowsOperation, ShowsUpdate};
 ghost use Rattle.state_proofs.specs.Exclusion.{ExclusionParts, proof_of, operation_of, LeavesOut, Excludes};
-ghost use Rattle.state_proofs.specs.Honest.{honest_parts, operation_proof, key_value_proof};
+ghost use Rattle.state_proofs.specs.Honest.{honest_parts, honest_range, operation_proof, key_value_proof};
 ghost use Rattle.state_proofs.specs.MadeRanges.{HasRange, range_strings};
 ghost use Rattle.state_proofs.specs.MadeStates.{HasActive, HasDigestsOf, hashed_strings, rebuilt_strings};
-ghost use Rattle.state_proofs.specs.RangeVerified.{Shown, VerifiesRange};
+ghost use Rattle.state_proofs.specs.RangeVerified.{Shown, IsShaped, VerifiesRange, stop_of};
 ghost use Rattle.state_proofs.specs.SameNodes.{IsSameNode};
 ghost use Rattle.state_proofs.specs.Verified.{RangeParts, Parts, Verifies};
 ghost use Rattle.state_proofs.specs.Witness.{WitnessParts, HasWitnessOf, witnessed_string, witnessed_made, honest_witness};
 
 use merkle_core::laws::{
-    honest_digests_are_few, honest_digests_lead_to_the_root, reconstructed_is_read,
+    honest_digests_are_few, honest_digests_lead_to_the_root, honest_ranges_lead_to_the_root,
+    reconstructed_is_read,
 };
 use merkle_forest::{Graftable, HashFunction, PendingOf};
 use state_ops::FixedKey;
@@ -130,6 +132,26 @@ pub fn verified_ranges_are_the_states_or_strings_collide<F: Graftable>()
         ⊎ Collision hash (hashed_strings setting state) (range_strings setting proof shown)) }
 {}
 
+/// Where operations stand in a state from a location on and the chunks over them are the state's, the honest proof over
+/// them shows them under the canonical root.
+pub fn honest_ranges_verify<F: Graftable>()
+    ensures { (hash : Hash) (width grafting_height : ℕ) (state : State) (shown : Shown)
+        → 8 * width ≡ 2 ^ grafting_height → grafting_height ≤ 62 → length state.operations ≤ 2 ^ 62
+        → shown.width ≡ width → IsShaped (length state.operations) shown
+        → (let setting : Setting = record {
+          rule = F.merge_rule;
+          hash = hash;
+          width = width;
+          grafting_height =
+              grafting_height;
+        } in
+        HasRange setting state shown
+        → VerifiesRange F.merge_rule hash (canonical_root setting state)
+        (honest_range setting state shown.start (stop_of shown)) shown) }
+{
+    honest_ranges_lead_to_the_root::<F>();
+}
+
 /// A node over whole chunks has one position in the tree of the operations and one in the tree of the chunks: so the two
 /// conversions of positions undo each other.
 pub fn a_node_has_one_position_in_each_tree<F: Graftable>()
@@ -180,3 +202,37 @@ pub fn verified_absences_are_the_states_or_strings_collide<F: Graftable>()
 {
     verified_operations_are_active_or_strings_collide::<F>();
 }
+
+/// At each site one string is hashed for a state, and one when a canonical root is rebuilt from a proof of one
+/// operation, from one over a range, or from a witness.
+pub fn each_site_has_one_string<F: Graftable>()
+    ensures hashed { (hash : Hash) (width grafting_height : ℕ) (state : State)
+        → (let setting : Setting = record {
+          rule = F.merge_rule;
+          hash = hash;
+          width = width;
+          grafting_height =
+              grafting_height;
+        } in
+        OneEach (hashed_strings setting state)) }
+    ensures rebuilt { (hash : Hash) (width grafting_height : ℕ) (proof : Parts) (operation : List ℕ)
+        → (let setting : Setting = record {
+          rule = F.merge_rule;
+          hash = hash;
+          width = width;
+          grafting_height =
+              grafting_height;
+        } in
+        OneEach (rebuilt_strings setting proof operation)) }
+    ensures shown { (hash : Hash) (width grafting_height : ℕ) (proof : RangeParts) (shown : Shown)
+        → (let setting : Setting = record {
+          rule = F.merge_rule;
+          hash = hash;
+          width = width;
+          grafting_height =
+              grafting_height;
+        } in
+        OneEach (range_strings setting proof shown)) }
+    ensures witnessed { (hash : Hash) (witness : WitnessParts) (operations : List ℕ)
+        → OneEach (strings hash (witnessed_made witness operations)) }
+{}

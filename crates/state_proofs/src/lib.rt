@@ -11,22 +11,25 @@ pub mod exclusion;
 pub mod grafting;
 pub mod honest;
 pub mod laws;
+pub mod log_proofs;
+pub mod log_read;
 pub mod operation;
 pub mod ordered;
 pub mod proof;
 pub mod required;
 pub mod seal;
 pub mod snapshot;
-#[cfg(test)]
-mod tests;
 pub mod verify;
 pub mod witness;
 
+pub use bitmap::{BitList, BitmapReadable};
 pub use chunk_size::ChunkSize;
 pub use error::Error;
 pub use exclusion::ExclusionProof;
+pub use log_read::LogRead;
 pub use ordered::KeyValueProof;
 pub use proof::RangeProof;
+pub use proof::request::RangeProofSpec;
 pub use required::RequiredChunks;
 pub use snapshot::Snapshot;
 pub use witness::OpsRootWitness;

@@ -6,6 +6,8 @@ ghost use Rattle.state_proofs.specs.Encoded.{operation_proof_encoding, after_ope
 ghost use Rattle.state_proofs.specs.ProofsCode.{parts_of};
 ghost use Rattle.state_proofs.specs.Verified.{Verifies};
 
+pub mod building;
+
 use crate::proof::RangeProof;
 use crate::verify::verify_operation;
 use merkle_forest::codec::{Cursor, EncodeSize, Error, Read, Write, or_undo};

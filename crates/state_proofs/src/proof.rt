@@ -6,6 +6,8 @@ ghost use Rattle.merkle_core.specs.Proofs.{ProofLacks};
 ghost use Rattle.state_proofs.specs.Encoded.{range_proof_encoding, after_range_proof};
 ghost use Rattle.state_proofs.specs.ProofsCode.{range_parts_of};
 
+pub mod building;
+pub mod request;
 pub mod verifying;
 
 use merkle_core::Proof;

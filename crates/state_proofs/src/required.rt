@@ -58,7 +58,7 @@ impl Iterator for RequiredChunks {
 }
 
 // How many full chunks have their node. None: more than one has none, or a pruned one has none.
-fn graftable_window<F: Graftable>(
+pub(crate) fn graftable_window<F: Graftable>(
     chunk_size: ChunkSize,
     leaves: Location<F>,
     complete: u64,

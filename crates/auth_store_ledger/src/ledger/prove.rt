@@ -132,6 +132,3 @@ impl<
         Ok(found)
     }
 }
-
-#[cfg(test)]
-mod tests;

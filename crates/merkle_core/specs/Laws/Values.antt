@@ -17,7 +17,7 @@ module _ (hash : Hash) (names : Naming) (over : Over) (elements : Elements) (dig
   abbrev digests : List Located → List (List ℕ)
   digests peaks = map (λ peak. digest peak.0 peak.1) peaks
 
-  value_back : (n : ℕ) (peak : Located) (peaks : List Located) → value hash (made_back names over elements last n peak peaks)
+  pub value_back : (n : ℕ) (peak : Located) (peaks : List Located) → value hash (made_back names over elements last n peak peaks)
       ≡ folded_backward hash (digests (peak ∷ peaks))
   value_back n peak [] = is peak.0 peak.1
   value_back n peak (next ∷ peaks) = rw (is peak.0 peak.1, value_back (suc n) next peaks) refl

@@ -14,7 +14,7 @@ use Rattle.merkle_core_parts.specs.Mem.{NodeHash, Replacement, encoded, node_cou
 use Rattle.merkle_core_parts.specs.Mem.{IsKept, IsPeak, digest_at, known_over}
 use Rattle.merkle_core_parts.specs.Laws.Growth.{IsNew, IsParent, grown}
 use Rattle.merkle_core_parts.specs.Laws.Kept.{kept}
-use Rattle.merkle_core_parts.specs.Laws.Places.{node-left, node-right}
+use Rattle.merkle_forest.specs.Laws.Places.{node-left, node-right}
 use Rattle.merkle_core_parts.specs.Laws.Rebuilt.{Digests}
 
 pub get-front : (xs ys : List (List ℕ)) (i : ℕ) (x : List ℕ) → slice_get xs i ≡ Some x → slice_get (xs ++ ys) i ≡ Some x

@@ -8,7 +8,7 @@ use Rattle.merkle_forest.specs.Laws.ForestGrowth.{height_fits, forest_of-perfect
 use Rattle.merkle_forest.specs.Laws.Nodes.{node-leaves, node-perfect}
 use Rattle.merkle_forest.specs.Laws.NodeGrowth.{numbered, one-node}
 use Rattle.merkle_core_parts.specs.Mem.{Replacement, NodeHash, encoded, node_count}
-use Rattle.merkle_core_parts.specs.Laws.Places.{node-left, node-right}
+use Rattle.merkle_forest.specs.Laws.Places.{node-left, node-right}
 use Rattle.merkle_core_parts.specs.Laws.Due.{not-due, due-first}
 use Rattle.merkle_core_parts.specs.Laws.Rebuilt.{Digests, IsSetting, ArePending, IsDue, AreTaken, IsRight, IsPlace}
 use Rattle.merkle_core_parts.specs.Laws.Rebuilt.{IsRebuilt, after-leaf, untouched-rebuilt, leaf-rebuilt, branch-rebuilt}

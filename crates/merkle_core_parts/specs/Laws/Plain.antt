@@ -12,7 +12,7 @@ use Rattle.merkle_forest.specs.Laws.ForestGrowth.{leaves-forest_of}
 use Rattle.merkle_forest.specs.Laws.Nodes.{node-fits, peak-node}
 use Rattle.merkle_core_parts.specs.Mem.{node_count, tree_digest, plain_leaf_digests, plain_node, list_root}
 use Rattle.merkle_core_parts.specs.Laws.Growth.{IsNew, grown}
-use Rattle.merkle_core_parts.specs.Laws.Places.{node-left, node-right}
+use Rattle.merkle_forest.specs.Laws.Places.{node-left, node-right}
 
 none : (rule : Rule) (first : ℕ) (tree : Tree) → IsNodeAt first tree (forest_of rule 0) → ⊥
 unfolding forest_of

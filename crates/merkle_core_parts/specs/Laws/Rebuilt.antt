@@ -11,7 +11,7 @@ use Rattle.merkle_forest.specs.Laws.Nodes.{node-fits, within-fits}
 use Rattle.merkle_forest.specs.Laws.NodeGrowth.{numbered, one-node}
 use Rattle.merkle_core_parts.specs.Mem.{Replacement, NodeHash, node_count, value_after}
 use Rattle.merkle_core_parts.specs.Laws.Kept.{later}
-use Rattle.merkle_core_parts.specs.Laws.Places.{node-left, node-right}
+use Rattle.merkle_forest.specs.Laws.Places.{node-left, node-right}
 use Rattle.merkle_core_parts.specs.Laws.Replaced.{after-more, AreFrom, after-before}
 
 -- the digest of each tree, told by the location of its first leaf

@@ -1,12 +1,11 @@
 -- A proof of absence is read again.
-use Rattle.std.proofs.Common.{◌≡◌, ℕ, ◌^◌, ◌<◌, ◌≤◌, List, ◌∷◌, ◌++◌, length, Option, Some, None, Ok, refl, ◌∙◌, ap, append_assoc}
+use Rattle.std.proofs.Common.{◌≡◌, ℕ, ◌^◌, ◌<◌, ◌≤◌, List, ◌++◌, length, Option, Some, None, Ok, refl, ◌∙◌, ap, append_assoc}
 use Rattle.std.specs.Prelude.{IfSome, option_map}
 use Rattle.merkle_forest.specs.Codec.{◌>>=◌, Outcome, option_encoding, after_option}
 use Rattle.state_ops_parts.specs.Grammar.{after_ordered}
 use Rattle.state_ops_parts.specs.Laws.Updates.{three_again}
 use Rattle.state_proofs.specs.declared.exclusion.ExclusionProof.{ExclusionProof}
 use Rattle.state_proofs.specs.declared.exclusion.ExclusionProof.TheVariants.{KeyValue, Commit}
-use Rattle.state_proofs.specs.declared.operation.Proof.{Proof}
 use Rattle.state_proofs.specs.Encoded.{operation_proof_encoding, after_operation_proof}
 use Rattle.state_proofs.specs.Exclusion.{exclusion_encoding, after_exclusion}
 use Rattle.state_proofs.specs.ExclusionCode.{exclusion_of, IsExclusionValue, IsExclusionWithin}

@@ -1,7 +1,7 @@
 -- A witness is read again.
-use Rattle.std.proofs.Common.{◌≡◌, ℕ, ◌^◌, ◌<◌, List, ◌∷◌, ◌++◌, length, Option, Some, None, Ok, refl, ◌∙◌, ap, append_assoc}
-use Rattle.std.specs.Prelude.{IfSome, option_map}
-use Rattle.merkle_forest.specs.Codec.{◌>>=◌, Outcome, option_encoding, after_option}
+use Rattle.std.proofs.Common.{◌≡◌, ℕ, List, ◌++◌, length, Option, Some, None, Ok, refl, ◌∙◌, append_assoc}
+use Rattle.std.specs.Prelude.{option_map}
+use Rattle.merkle_forest.specs.Codec.{Outcome, option_encoding, after_option}
 use Rattle.merkle_forest.specs.Laws.Codec.{fixed_again}
 use Rattle.merkle_forest.specs.Laws.Varint.{after_varint_again}
 use Rattle.merkle_forest.specs.Varint.{varint, after_varint}

@@ -13,6 +13,8 @@ use Rattle.auth_store_log.specs.Records.{Format, format_of, history_bytes, AreRe
 use Rattle.auth_store_session.specs.declared.error.StoreError.{StoreError}
 use Rattle.auth_store_session.specs.Machine.{commit_of, PassesLimit}
 use Rattle.auth_store_session.specs.Stores.{LiveState, IsCommitRefusal, EndsDisk}
+use Rattle.auth_store_log.specs.Laws.Shown.{keeps_log}
+use Rattle.auth_store_session.proofs.Kept.{keeps_history, keeps_before}
 use Rattle.auth_store_session.proofs.Grown.{wider, perhaps, keeps_live, ledger_refused}
 use Rattle.auth_store_session.proofs.live.grow_live.Goals as goal
 
@@ -46,6 +48,7 @@ returns-then-is_cut-clause-failed g c = λ none.
     let calls : List Call = g.B.Blob.calls c.args.blob.now in
     let size : ℕ = c.args.cache.now.page_size + 12 in
     let now : LiveState = record { history = c.args.ledger; writer = c.args.writer } in
+    let durable = keeps_live format calls c.args.cache.now now c.each_image_keeps_what_is_durable.ensures (search rules) c.requires.live in
     let is = c.in-Ok.ensures.ok in (
       subst (λ (h : History). length (log_of h) ≤ 2 ^ 62) is c.in-Ok.ensures.within,
       record {
@@ -55,8 +58,8 @@ returns-then-is_cut-clause-failed g c = λ none.
           recorded = subst (λ (h : History). AreRecorded format (log_of h)) is c.is_recorded.ensures;
         };
         shown = perhaps format size c.args.ledger commit calls (c.a_kept_log_is_shown.ensures.whole format crc32 size calls
-            c.args.ledger c.requires.live.recorded (keeps_live format calls c.args.cache.now now
-            c.each_image_keeps_what_is_durable.ensures (search rules) c.requires.live));
+            c.args.ledger c.requires.live.recorded durable);
+        kept = keeps_history format size c.args.ledger calls durable;
       },
     )
 
@@ -78,6 +81,7 @@ returns-clause-failed g c = λ none.
         written = record { states = c.holds_a_history.ensures.states; recorded = c.requires.live.recorded };
         next = record { states = subst AreStates is c.holds_a_history-2.ensures.states; recorded = recorded };
         shown = c.a_kept_log_is_shown.ensures.pending format crc32 size calls c.args.ledger commit recorded kept;
+        kept = keeps_before format size c.args.ledger calls (keeps_log format crc32 size calls c.args.ledger commit kept);
       },
     )
 

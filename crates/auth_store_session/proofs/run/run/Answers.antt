@@ -3,7 +3,7 @@ use Rattle.std.proofs.lemmas.List.{map-append, nil_from_length}
 use Rattle.auth_store_log.specs.Records.{format_of}
 use Rattle.auth_store_session.specs.Machine.{Machine, machine}
 use Rattle.auth_store_session.specs.MachineCode.{requests_of, meaning_of, meanings_of}
-use Rattle.auth_store_session.proofs.Runs.{taken_none, taken_next, taken_end}
+use Rattle.auth_store_session.proofs.Runs.{taken_none, taken_next, taken_end, taken_end_in_doubt}
 use Rattle.auth_store_session.proofs.run.run.Goals as goal
 
 pub loop-step-init : goal.loop-step-init
@@ -30,6 +30,10 @@ step-requires g c = assumption c.well_formed
 
 pub returns-clause-runs : goal.returns-clause-runs
 returns-clause-runs g c = taken_end _ _ _ _ _ _ _ c.loop-step.invariant.0 (ap (requests_of g.K.Write.encoding g.V.Write.encoding)
+    (nil_from_length _ (sym c.loop-step.steps.rest.ok.0 ∙ c.in_default.ensures.cases.0)))
+
+pub returns-clause-kept : goal.returns-clause-kept
+returns-clause-kept g c = taken_end_in_doubt _ _ _ _ _ _ _ c.loop-step.invariant.0 (ap (requests_of g.K.Write.encoding g.V.Write.encoding)
     (nil_from_length _ (sym c.loop-step.steps.rest.ok.0 ∙ c.in_default.ensures.cases.0)))
 
 pub returns-clause-page_size : goal.returns-clause-page_size

@@ -1,6 +1,5 @@
-use Rattle.std.proofs.Common.{◌≡◌, ◌*◌, ◌%◌, ◌++◌, ◌∷◌, [], List, ℕ, length, map, sym, ◌∙◌, ap, ap₂, arith}
+use Rattle.std.proofs.Common.{◌++◌, ◌∷◌, [], List, ℕ, map, sym, ◌∙◌, ap, ap₂}
 use Rattle.std.proofs.lemmas.List.{map-append}
-use Rattle.state_bitmap.specs.Bits.{last_chunk}
 use Rattle.state_bitmap.proofs.ReadLemmas.{put_last, put_full, put_partial}
 use Rattle.state_bitmap.proofs.inclusion.bit_digests.Goals as goal
 

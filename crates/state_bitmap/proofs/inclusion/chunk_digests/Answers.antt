@@ -1,4 +1,4 @@
-use Rattle.std.proofs.Common.{◌≡◌, ◌+◌, ◌<◌, None, ℕ, sym, ◌∙◌, ap, subst, arith}
+use Rattle.std.proofs.Common.{◌≡◌, ◌+◌, None, ℕ, sym, ◌∙◌, ap, subst, arith}
 use Rattle.merkle_forest.specs.Forest.{mmr_rule}
 use Rattle.merkle_forest.specs.Laws.Rules.{mmr_merges_equals}
 use Rattle.merkle_core_parts.specs.Mem.{node_at, tree_digest}

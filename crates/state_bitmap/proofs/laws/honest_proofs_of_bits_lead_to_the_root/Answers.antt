@@ -1,6 +1,4 @@
-use Rattle.std.proofs.Common.{ℕ, ◌≤◌, ◌<◌, List, length, sym, ◌∙◌, ap, arith, Some}
-use Rattle.merkle_forest.specs.Forest.{mmr_rule}
-use Rattle.merkle_core.specs.MadeRoots.{peaks_of}
+use Rattle.std.proofs.Common.{ℕ, List, sym, ◌∙◌, ap, arith, Some}
 use Rattle.state_bitmap.proofs.HonestLemmas.{honest_root}
 use Rattle.state_bitmap.proofs.laws.honest_proofs_of_bits_lead_to_the_root.Goals as goal
 

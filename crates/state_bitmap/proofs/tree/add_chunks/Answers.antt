@@ -1,4 +1,4 @@
-use Rattle.std.proofs.Common.{◌≡◌, ◌-◌, ◌<◌, sym, ◌∙◌, ap, arith}
+use Rattle.std.proofs.Common.{◌≡◌, ◌-◌, ◌∙◌, ap, arith}
 use Rattle.state_bitmap.specs.MapsCode.{leaves_from}
 use Rattle.state_bitmap.proofs.CallLemmas.{at_chunk, added_next}
 use Rattle.state_bitmap.proofs.RefusalLemmas.{past_memory}

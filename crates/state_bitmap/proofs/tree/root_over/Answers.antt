@@ -1,4 +1,4 @@
-use Rattle.std.proofs.Common.{◌≡◌, ◌∙◌, ap}
+use Rattle.std.proofs.Common.{◌∙◌, ap}
 use Rattle.state_bitmap.specs.Bits.{bit_count, last_chunk}
 use Rattle.state_bitmap.specs.Maps.{sealed_root, map_root}
 use Rattle.state_bitmap.proofs.tree.root_over.Goals as goal

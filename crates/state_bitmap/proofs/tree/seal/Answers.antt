@@ -1,4 +1,4 @@
-use Rattle.std.proofs.Common.{◌≡◌, ◌*◌, ◌%◌, length, sym, ◌∙◌, ap, true, List, ℕ}
+use Rattle.std.proofs.Common.{sym, ◌∙◌, ap, List, ℕ}
 use Rattle.state_bitmap.specs.Bits.{bit_count, last_chunk}
 use Rattle.state_bitmap.specs.Maps.{bitmap_string}
 use Rattle.state_bitmap.proofs.MapLemmas.{rest_count, sealed-full, sealed-partial}

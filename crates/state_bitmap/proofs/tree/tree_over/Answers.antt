@@ -1,9 +1,8 @@
-use Rattle.std.proofs.Common.{◌≡◌, ◌+◌, ◌≤◌, List, ℕ, length, sym, ◌∙◌, ap, subst, arith}
+use Rattle.std.proofs.Common.{◌≤◌, sym, ◌∙◌, ap, subst}
 use Rattle.std.specs.List.{AllByRecursion}
 use Rattle.merkle_forest.specs.Forest.{mmr_rule}
-use Rattle.merkle_core_parts.specs.Mem.{Nodes, Additions, Replacement, AreNodesOf, with_batch, with_leaves}
-use Rattle.state_bitmap.specs.Maps.{full_count}
-use Rattle.state_bitmap.proofs.CallLemmas.{batch_is, brought_batch, brought_leaves, updates_from}
+use Rattle.merkle_core_parts.specs.Mem.{Nodes, Additions, Replacement, AreNodesOf, with_leaves}
+use Rattle.state_bitmap.proofs.CallLemmas.{batch_is, brought_leaves, updates_from}
 use Rattle.state_bitmap.proofs.MapLemmas.{leaves-brought}
 use Rattle.state_bitmap.proofs.WidthLemmas.{wide-some}
 use Rattle.state_bitmap.proofs.tree.tree_over.Goals as goal

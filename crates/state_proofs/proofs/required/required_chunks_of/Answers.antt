@@ -1,8 +1,7 @@
-use Rattle.std.proofs.Common.{◌≡◌, ℕ, ◌<◌, ◌*◌, Option, Some, None, sym, ◌∙◌, ap, arith}
+use Rattle.std.proofs.Common.{ℕ, ◌*◌, ◌∙◌, ap, arith}
 use Rattle.std.specs.Prelude.{min}
 use Rattle.merkle_forest.specs.Forest.{forest_of}
 use Rattle.merkle_forest.specs.Nodes.{nodes_of_height}
-use Rattle.state_proofs.proofs.HeightLemmas.{some_height}
 use Rattle.state_proofs.proofs.RequiredLemmas.{needed_by, asked_none, asked_some, IsQueried}
 use Rattle.state_proofs.proofs.required.required_chunks_of.Goals as goal
 use Rattle.state_proofs.proofs.required.required_chunks_of.Goals.{in-None, in-Some-location+in_ok-queried_chunk-in-Some-location}

@@ -19,7 +19,8 @@ returns-clause-steps g c =
     let ends = now_closed c.self.inside.parts c.self.inside.store c.crash.new.self c.in-Some.cache c.args.self.now c.self.view_is c.requires in
     steps_from m format was c.args.self.now now (record { parts = Some (c.crash.new.self, c.in-Some.cache); store = c.self.inside.store }) ask_crash has_crashed is ends
     (rests_in m format c.in-Some.device c.crash.new.self c.in-Some.cache ask_crash has_crashed c.crash.ensures.device.1
-    c.crash.ensures.header (λ history pending. (refl, refl, subst (λ l. IsFalse (is_cut l)) (sym c.crash.ensures.device.2) refl)))
+    c.crash.ensures.header (λ history pending. (refl, refl, subst (λ l. IsFalse (is_cut l)) (sym c.crash.ensures.device.2) refl))
+    (λ history. (refl, refl, subst (λ l. IsFalse (is_cut l)) (sym c.crash.ensures.device.2) refl)))
 
 pub returns-clause-grows : goal.returns-clause-grows
 returns-clause-grows g c =

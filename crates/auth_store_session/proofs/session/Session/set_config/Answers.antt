@@ -18,7 +18,7 @@ returns-clause-steps g c =
     let ends = now_closed c.self.inside.parts c.self.inside.store c.set_config.new.self c.in-Some.cache c.args.self.now c.self.view_is c.requires in
     steps_from m format was c.args.self.now now (record { parts = Some (c.set_config.new.self, c.in-Some.cache); store = c.self.inside.store }) ask_config is_set is ends
     (rests_in m format c.in-Some.device c.set_config.new.self c.in-Some.cache ask_config is_set (ap (λ (d : DeviceState _). d.calls) c.set_config.ensures)
-    (header_same _ _ (ap (λ (d : DeviceState _). d.storage.inner) c.set_config.ensures)) (λ history pending. (refl, refl)))
+    (header_same _ _ (ap (λ (d : DeviceState _). d.storage.inner) c.set_config.ensures)) (λ history pending. (refl, refl)) (λ history. (refl, refl)))
 
 pub returns-clause-grows : goal.returns-clause-grows
 returns-clause-grows g c =

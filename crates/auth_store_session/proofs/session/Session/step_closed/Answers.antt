@@ -49,5 +49,9 @@ returns-clause-steps g c = elim c.match-step.branch [
       c.requires ((is_refused_closed g.K.Write.encoding g.V.Write.encoding c.args.step w.in_default.not-Open w.in_default.not-Crash
       w.in_default.not-Config w.in_default.not-CutAfter).steps
       (machine g.F.Family.merge_rule g.H.HashFunction.hash_of g.F.PendingOf.pending_encoding g.row.N g.K.FixedSize.SIZE g.V.FixedSize.SIZE
+      (page_size_in c.args.self.now.parts c.args.self.now.store)))
+      ((is_refused_closed g.K.Write.encoding g.V.Write.encoding c.args.step w.in_default.not-Open w.in_default.not-Crash
+      w.in_default.not-Config w.in_default.not-CutAfter).doubts
+      (machine g.F.Family.merge_rule g.H.HashFunction.hash_of g.F.PendingOf.pending_encoding g.row.N g.K.FixedSize.SIZE g.V.FixedSize.SIZE
       (page_size_in c.args.self.now.parts c.args.self.now.store))))
 ]

@@ -30,7 +30,7 @@ returns-clause-steps g c =
     (c.step_open.ensures.steps c.requires.left) in
     steps_from m format (open_at c.in-Some.store) c.args.self.now (open_at now) (record { parts = c.self.inside.parts; store = Some now })
     request answer is ends
-    (steps_open m format c.in-Some.store now request answer (sym sized ∙ ap (λ n. n + 12) (sym c.step_open.ensures.page_size)) steps)
+    (steps_open m format c.in-Some.store now request answer steps)
 
 pub returns-clause-page_size : goal.returns-clause-page_size
 returns-clause-page_size g c =

@@ -1,4 +1,4 @@
-use Rattle.std.proofs.Common.{◌≡◌, [], sym, ◌∙◌, ap, subst}
+use Rattle.std.proofs.Common.{[], sym, ◌∙◌, ap, subst}
 use Rattle.merkle_core_parts.specs.Mem.{Nodes}
 use Rattle.state_bitmap.specs.Bits.{AreBitsOf}
 use Rattle.state_bitmap.specs.Maps.{AreLeavesOf, full_count}

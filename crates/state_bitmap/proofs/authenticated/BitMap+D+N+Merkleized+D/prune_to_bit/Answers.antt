@@ -1,8 +1,8 @@
-use Rattle.std.proofs.Common.{◌≡◌, ◌-◌, ◌*◌, ◌/◌, ◌<◌, ◌≤◌, length, sym, ◌∙◌, ap, subst, arith}
+use Rattle.std.proofs.Common.{◌-◌, ◌*◌, ◌/◌, ◌≤◌, length, sym, ◌∙◌, ap, subst, arith}
 use Rattle.merkle_forest.specs.Forest.{mmr_rule}
 use Rattle.merkle_core_parts.specs.Mem.{pruned_before}
 use Rattle.state_bitmap.specs.Bits.{bit_count}
-use Rattle.state_bitmap.specs.Maps.{Map, IsMapOf, full_count}
+use Rattle.state_bitmap.specs.Maps.{Map, IsMapOf}
 use Rattle.state_bitmap.proofs.CallLemmas.{prune_fits, prune_of}
 use Rattle.state_bitmap.proofs.ChunkLemmas.{chunks_le, chunks_of_bits}
 use Rattle.state_bitmap.proofs.MapLemmas.{chunk_within}

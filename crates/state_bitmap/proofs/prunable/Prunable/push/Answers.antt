@@ -1,6 +1,6 @@
 use Rattle.std.proofs.Common.{◌++◌, [], ◌∷◌, take, ◌∙◌, ap, arith}
 use Rattle.state_bitmap.specs.Bits.{Bits, bits_in}
-use Rattle.state_bitmap.proofs.HeldLemmas.{Holds, few_held, push_full, push_within}
+use Rattle.state_bitmap.proofs.HeldLemmas.{Holds, few_held, push_full, push_within, zero_after}
 use Rattle.state_bitmap.proofs.WidthLemmas.{wide-few}
 use Rattle.state_bitmap.proofs.prunable.Prunable.push.Goals as goal
 
@@ -29,12 +29,15 @@ returns-then-self-len-clause-pushed g c =
     ap (λ bits. record { pruned = c.self.inside.pruned; kept = bits }) (full g c).bits_are
     ∙ ap (λ (b : Bits). record { pruned = b.pruned; kept = b.kept ++ c.args.bit ∷ [] }) c.self.view_is
 
+pub fill_bit-requires-clause-zero : goal.fill_bit-requires-clause-zero
+fill_bit-requires-clause-zero g c = zero_after g.row.N c.self.inside.pruned c.self.inside.kept c.self.inside.bytes.items c.self.invariant
+
 within : (g : _) (c : goal.After-self-2-1 g) → Holds g.row.N c.self.inside.pruned (Prim.Native.Nat.◌+◌ c.self.inside.kept 1)
-    c.put_bit.new.bytes.items (take c.self.inside.kept (bits_in c.self.inside.bytes.items) ++ c.args.bit ∷ [])
+    c.fill_bit.new.bytes.items (take c.self.inside.kept (bits_in c.self.inside.bytes.items) ++ c.args.bit ∷ [])
 within g c =
-    push_within g.row.N c.self.inside.pruned c.self.inside.kept c.self.inside.bytes.items c.put_bit.new.bytes.items c.args.bit c.self.invariant
+    push_within g.row.N c.self.inside.pruned c.self.inside.kept c.self.inside.bytes.items c.fill_bit.new.bytes.items c.args.bit c.self.invariant
     (few_held g.row.N c.self.inside.pruned c.self.inside.kept c.self.inside.bytes.items c.args.self.now c.self.invariant c.self.view_is c.requires)
-    (omega (arith, c.len.ensures, c.self.inside.bytes.ok, c.self.invariant.enough, c.if-self-len.false)) c.put_bit.ensures.bits c.put_bit.ensures.length
+    (omega (arith, c.len.ensures, c.self.inside.bytes.ok, c.self.invariant.enough, c.if-self-len.false)) c.fill_bit.ensures.bits c.fill_bit.ensures.length
 
 pub invariant_of-self-2 : goal.invariant_of-self-2
 invariant_of-self-2 g c = (within g c).held

@@ -1,4 +1,4 @@
-use Rattle.std.proofs.Common.{◌≡◌, true, false, sym, ◌∙◌, ap, refl}
+use Rattle.std.proofs.Common.{sym, ◌∙◌, ap}
 use Rattle.std.specs.Prelude.{IsTrue}
 use Rattle.state_proofs.specs.ExclusionCode.{exclusion_of}
 use Rattle.state_proofs.proofs.ExclusionLemmas.{excludes_exactly}

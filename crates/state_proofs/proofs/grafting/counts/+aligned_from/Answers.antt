@@ -1,8 +1,7 @@
-use Rattle.std.proofs.Common.{◌≡◌, ◌+◌, ◌%◌, List, ◌∷◌, length, ap, sym, ◌∙◌, arith}
-use Rattle.merkle_forest.specs.Forest.{leaves, forest_of, leaf_count}
+use Rattle.std.proofs.Common.{◌≡◌, ◌+◌, ◌%◌, ap, sym, ◌∙◌, arith}
+use Rattle.merkle_forest.specs.Forest.{leaves, forest_of}
 use Rattle.merkle_forest.specs.Laws.ForestGrowth.{leaves-forest_of}
 use Rattle.merkle_forest.specs.Laws.Peaks.{located_from-end}
-use Rattle.merkle_forest.specs.Peaks.{located_from}
 use Rattle.state_proofs.specs.Grafting.{chunk_aligned_inactive_peaks}
 use Rattle.state_proofs.proofs.PeakSteps.{located_step, aligned_past, aligned_before, count_border, count_none, count_more}
 use Rattle.state_proofs.proofs.grafting.counts.+aligned_from.Goals as goal

@@ -1,4 +1,4 @@
-use Rattle.std.proofs.Common.{◌≡◌, ℕ, List, ◌%◌, ◌^◌, Option, Some, None, refl, sym, ◌∙◌, ap, subst, arith}
+use Rattle.std.proofs.Common.{◌≡◌, ℕ, List, ◌%◌, Option, Some, None, refl, sym, ◌∙◌, ap, subst, arith}
 use Rattle.merkle_forest.specs.Forest.{forest_of}
 use Rattle.merkle_forest.specs.Nodes.{nodes_of_height}
 use Rattle.state_proofs.specs.Canonical.{canonical_string}

@@ -1,4 +1,4 @@
-use Rattle.std.proofs.Common.{◌≡◌, ℕ, List, Option, ◌∙◌, ap}
+use Rattle.std.proofs.Common.{ℕ, List, ◌∙◌, ap}
 use Rattle.std.specs.Prelude.{option_map}
 use Rattle.state_proofs.specs.Canonical.{canonical_string}
 use Rattle.state_proofs.proofs.WitnessLemmas.{next_same}

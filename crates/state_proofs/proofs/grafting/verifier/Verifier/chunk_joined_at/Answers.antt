@@ -1,4 +1,4 @@
-use Rattle.std.proofs.Common.{◌≡◌, ℕ, ◌/◌, ◌^◌, Some, inl, inr, sym, ◌∙◌, ap, arith}
+use Rattle.std.proofs.Common.{◌≡◌, ℕ, ◌/◌, ◌^◌, inl, inr, sym, ◌∙◌, ap, arith}
 use Rattle.merkle_forest.specs.Laws.Nodes.{node-low}
 use Rattle.state_proofs.specs.Verifier.{node_at, joined_chunk, given_chunk}
 use Rattle.state_proofs.specs.VerifierCode.{given_of}

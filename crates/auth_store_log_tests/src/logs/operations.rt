@@ -1,0 +1,128 @@
+//! Logs that are read as operations.
+
+use super::{FIRST, Name, SECOND};
+use auth_store_log::{LogError, append_batch, bytes_of, operations_of, read_operation};
+use fault_storage::Crc32;
+use merkle_forest::{Location, mmr};
+use paged_blob::bench::MemoryDisk;
+use paged_blob::{CacheRef, Error, Writer};
+use state_ops::{Operation, OrderedOperation, update};
+use std::alloc::Global;
+use std::test::Fail;
+
+type Entry = OrderedOperation<mmr::Family, Name, u64>;
+
+fn letter(byte: u8) -> Name {
+    Name::new([0, 0, 0, 0, 0, 0, 0, byte])
+}
+
+fn commit(floor: u64) -> Entry {
+    Operation::CommitFloor(None, Location::new(floor))
+}
+
+fn put(key: u8, value: u64, next: u8) -> Entry {
+    Operation::Update(update::Ordered {
+        key: letter(key),
+        value,
+        next_key: letter(next),
+    })
+}
+
+// The operations of the first log.
+fn first_entries() -> [Entry; 3] {
+    [commit(0), put(b'a', 1, b'a'), commit(1)]
+}
+
+fn read(alloc: Global, bytes: &[u8]) -> Result<Vec<Entry>, LogError> {
+    operations_of(alloc, bytes)
+}
+
+// The first log with these bytes behind it.
+fn first_and(alloc: Global, more: &[u8]) -> Result<Vec<u8>, Fail> {
+    let mut bytes = FIRST.to_vec(alloc)?;
+    bytes.extend_from_slice(more)?;
+    Ok(bytes)
+}
+
+// The first log with another byte at a place.
+fn first_with(alloc: Global, place: usize, byte: u8) -> Result<Vec<u8>, Fail> {
+    let mut bytes = FIRST.to_vec(alloc)?;
+    if let Some(there) = bytes.get_mut(place) {
+        *there = byte;
+    }
+    Ok(bytes)
+}
+
+#[test]
+fn a_log_is_read_as_its_operations(rt: HostRuntime) -> Result<(), Fail> {
+    let alloc = rt.alloc();
+    let log = read(alloc, FIRST)?;
+    assert_eq!(rt; log.as_slice(), first_entries().as_slice());
+    assert_eq!(rt; bytes_of(alloc, &log)?.as_slice(), FIRST);
+    let longer = read(alloc, &first_and(alloc, SECOND)?)?;
+    assert_eq!(rt; longer.len(), 6);
+    assert_eq!(rt; longer.get(4), Some(&put(b'c', 3, b'a')));
+    Ok(())
+}
+
+#[test]
+fn what_no_history_has_is_corrupt(rt: HostRuntime) -> Result<(), Fail> {
+    let alloc = rt.alloc();
+    let corrupt = Some(LogError::Corrupt);
+    assert_eq!(rt; read(alloc, &[]).err(), corrupt);
+    assert_eq!(rt;
+        read(alloc, &first_and(alloc, &[0])?).err(),
+        corrupt,
+        "a byte too many"
+    );
+    assert_eq!(rt;
+        read(alloc, &first_with(alloc, 25, 0xd4)?).err(),
+        corrupt,
+        "another tag"
+    );
+    assert_eq!(rt;
+        read(alloc, &first_with(alloc, 67, 2)?).err(),
+        corrupt,
+        "another floor"
+    );
+    assert_eq!(rt;
+        read(alloc, &first_with(alloc, 49, 0x62)?).err(),
+        corrupt,
+        "another next key"
+    );
+    Ok(())
+}
+
+#[test]
+fn a_commit_has_the_floor_of_its_log(rt: HostRuntime) -> Result<(), Fail> {
+    let alloc = rt.alloc();
+    let whole = bytes_of(alloc, &[commit(1)])?;
+    assert_eq!(rt; read(alloc, &first_and(alloc, &whole)?)?.len(), 4);
+    let wrong = bytes_of(alloc, &[commit(3)])?;
+    assert_eq!(rt;
+        read(alloc, &first_and(alloc, &wrong)?).err(),
+        Some(LogError::Corrupt)
+    );
+    Ok(())
+}
+
+#[test]
+fn one_operation_is_read_at_its_index(rt: HostRuntime) -> Result<(), Fail> {
+    let alloc = rt.alloc();
+    let mut disk = MemoryDisk::new(alloc);
+    let mut cache = CacheRef::new(alloc, 52, 8);
+    let writer = Writer::<Crc32>::new(alloc, &mut disk, &mut cache, 0, 128)?;
+    let writer = append_batch(writer, &mut disk, &mut cache, FIRST)?;
+    let first: Entry = read_operation(&writer, alloc, &mut disk, &mut cache, 0)?;
+    assert_eq!(rt; first, commit(0));
+    let second: Entry = read_operation(&writer, alloc, &mut disk, &mut cache, 1)?;
+    assert_eq!(rt; second, put(b'a', 1, b'a'));
+    let third: Entry = read_operation(&writer, alloc, &mut disk, &mut cache, 2)?;
+    assert_eq!(rt; third, commit(1));
+    let past: Result<Entry, LogError> = read_operation(&writer, alloc, &mut disk, &mut cache, 3);
+    assert_eq!(rt;
+        past.err(),
+        Some(LogError::Refused(Error::BlobInsufficientLength))
+    );
+    Ok(())
+}

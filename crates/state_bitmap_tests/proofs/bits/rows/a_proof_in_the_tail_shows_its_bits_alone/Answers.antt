@@ -1,0 +1,11 @@
+use Rattle.std.proofs.Common.{arith, refl}
+use Rattle.state_bitmap_tests.proofs.bits.rows.a_proof_in_the_tail_shows_its_bits_alone.Goals as goal
+
+pub shows-requires : goal.shows-requires
+shows-requires g c = (omega arith, (8, refl, omega arith))
+
+pub shows-requires-2 : goal.shows-requires-2
+shows-requires-2 g c = (omega arith, (8, refl, omega arith))
+
+pub shows-requires-3 : goal.shows-requires-3
+shows-requires-3 g c = (omega arith, (8, refl, omega arith))
