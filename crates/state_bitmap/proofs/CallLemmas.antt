@@ -69,22 +69,22 @@ all_at P [] i lt all = absurd (omega (arith, lt))
 all_at P (n ∷ numbers) zero lt all = all.0
 all_at P (n ∷ numbers) (suc i) lt all = all_at P numbers i (omega (arith, lt)) all.1
 
--- ---- a bit is pushed
-pub push_fits : {T E : Type 0} (r : Result T E) (width : ℕ) (old new : Bits) (tree : Nodes) (chunks : List ℕ) (bit : Bool)
-    → OnOk r (new ≡ record old { kept = old.kept ++ bit ∷ [] }) → OnErr r (new ≡ old) → IsMap width old tree (changed chunks)
+-- ---- bits are pushed
+pub push_fits : {T E : Type 0} (r : Result T E) (width : ℕ) (old new : Bits) (tree : Nodes) (chunks : List ℕ) (more : List Bool)
+    → OnOk r (new ≡ record old { kept = old.kept ++ more }) → OnErr r (new ≡ old) → IsMap width old tree (changed chunks)
     → IsMap width new tree (changed chunks)
-push_fits (Ok x) width old new tree chunks bit is same fits =
-    subst (λ b. IsMap width b tree (changed chunks)) (sym is) (map-push width old tree chunks bit fits)
-push_fits (Err e) width old new tree chunks bit is same fits = subst (λ b. IsMap width b tree (changed chunks)) (sym same) fits
+push_fits (Ok x) width old new tree chunks more is same fits =
+    subst (λ b. IsMap width b tree (changed chunks)) (sym is) (map-push width old tree chunks more fits)
+push_fits (Err e) width old new tree chunks more is same fits = subst (λ b. IsMap width b tree (changed chunks)) (sym same) fits
 
 pub push_of : {T E : Type 0} (r : Result T E) (leaf_of : LeafHash) (node_of : NodeHash) (width : ℕ) (all : List Bool) (old new : Bits)
-    (tree : Nodes) (chunks : List ℕ) (bit : Bool) → OnOk r (new ≡ record old { kept = old.kept ++ bit ∷ [] })
+    (tree : Nodes) (chunks : List ℕ) (more : List Bool) → OnOk r (new ≡ record old { kept = old.kept ++ more })
     → IsMapOf leaf_of node_of width all (record { bits = old; tree = tree; stage = changed chunks })
-    → OnOk r (IsMapOf leaf_of node_of width (all ++ bit ∷ []) (record { bits = new; tree = tree; stage = changed chunks }))
-push_of (Ok x) leaf_of node_of width all old new tree chunks bit is of =
-    subst (λ b. IsMapOf leaf_of node_of width (all ++ bit ∷ []) (record { bits = b; tree = tree; stage = changed chunks })) (sym is)
-    (mapof-push leaf_of node_of width all old tree chunks bit of)
-push_of (Err e) leaf_of node_of width all old new tree chunks bit is of = tt
+    → OnOk r (IsMapOf leaf_of node_of width (all ++ more) (record { bits = new; tree = tree; stage = changed chunks }))
+push_of (Ok x) leaf_of node_of width all old new tree chunks more is of =
+    subst (λ b. IsMapOf leaf_of node_of width (all ++ more) (record { bits = b; tree = tree; stage = changed chunks })) (sym is)
+    (mapof-push leaf_of node_of width all old tree chunks more of)
+push_of (Err e) leaf_of node_of width all old new tree chunks more is of = tt
 
 -- ---- a bit is set
 pub set_fits : (width : ℕ) (old new : Bits) (tree : Nodes) (chunks after : List ℕ) (bit at leaf_total chunk : ℕ) (value : Bool)

@@ -30,11 +30,11 @@ chunk-kept width all bits index are le =
     ap (λ xs. chunk_of width (drop (8 * width * (index - bits.pruned)) xs)) are.kept
     ∙ ap (chunk_of width) (dropped width bits.pruned index all le)
 
-pub kept-push : (width : ℕ) (all : List Bool) (bits : Bits) (bit : Bool) → AreBitsOf width all bits
-    → AreBitsOf width (all ++ bit ∷ []) (record bits { kept = bits.kept ++ bit ∷ [] })
-kept-push width all bits bit are = record {
-  pruned = omega (arith, are.pruned, length-append all (bit ∷ []));
-  kept = ap (λ xs. xs ++ bit ∷ []) are.kept ∙ sym (drop-append-le (8 * width * bits.pruned) all (bit ∷ []) are.pruned);
+pub kept-push : (width : ℕ) (all : List Bool) (bits : Bits) (more : List Bool) → AreBitsOf width all bits
+    → AreBitsOf width (all ++ more) (record bits { kept = bits.kept ++ more })
+kept-push width all bits more are = record {
+  pruned = omega (arith, are.pruned, length-append all more);
+  kept = ap (λ xs. xs ++ more) are.kept ∙ sym (drop-append-le (8 * width * bits.pruned) all more are.pruned);
 }
 
 pub kept-set : (width : ℕ) (all : List Bool) (bits : Bits) (bit : ℕ) (value : Bool) → AreBitsOf width all bits

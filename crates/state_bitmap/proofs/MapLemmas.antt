@@ -159,15 +159,15 @@ all_weaker P Q each [] all = tt
 all_weaker P Q each (n ∷ numbers) all = (each n all.0, all_weaker P Q each numbers all.1)
 
 module _ (leaf_of : LeafHash) (node_of : NodeHash) (width : ℕ) where
-  -- ---- a bit more
-  pub leaves-push : (all : List Bool) (tree : Nodes) (chunks : List ℕ) (bit : Bool) → AreLeavesOf leaf_of node_of width all tree chunks
-      → AreLeavesOf leaf_of node_of width (all ++ bit ∷ []) tree chunks
-  leaves-push all tree chunks bit are = record {
+  -- ---- more bits
+  pub leaves-push : (all : List Bool) (tree : Nodes) (chunks : List ℕ) (more : List Bool) → AreLeavesOf leaf_of node_of width all tree chunks
+      → AreLeavesOf leaf_of node_of width (all ++ more) tree chunks
+  leaves-push all tree chunks more are = record {
     digests = are.digests;
     nodes = are.nodes;
-    full = omega (arith, are.full, length-append all (bit ∷ []));
+    full = omega (arith, are.full, length-append all more);
     clean = λ i lt none. are.clean i lt none
-        ∙ ap (leaf_of (node_count mmr_rule i)) (sym (chunk_at-more width all (bit ∷ []) i
+        ∙ ap (leaf_of (node_count mmr_rule i)) (sym (chunk_at-more width all more i
         (omega (arith, are.full, chunks_le width (suc i) (length are.digests) (omega (arith, lt))))));
   }
 
@@ -273,18 +273,18 @@ root_is hash leaf_of node_of bagging width all bits tree some bits_are full are 
     ∙ ap (λ ds. sealed_root hash width (list_root hash node_of bagging mmr_rule ds 0) (length all) (chunk_at width all (length all / (8 * width))))
     (clean_digests leaf_of node_of width all bits tree some bits_are full are)
 
--- ---- bits and tree still fit after a bit is pushed
-pub map-push : (width : ℕ) (bits : Bits) (tree : Nodes) (chunks : List ℕ) (bit : Bool) → IsMap width bits tree (changed chunks)
-    → IsMap width (record bits { kept = bits.kept ++ bit ∷ [] }) tree (changed chunks)
-map-push width bits tree chunks bit is = record {
+-- ---- bits and tree still fit after bits are pushed
+pub map-push : (width : ℕ) (bits : Bits) (tree : Nodes) (chunks : List ℕ) (more : List Bool) → IsMap width bits tree (changed chunks)
+    → IsMap width (record bits { kept = bits.kept ++ more }) tree (changed chunks)
+map-push width bits tree chunks more is = record {
   wide = is.wide;
   pruned = is.pruned;
   leaves = (
     omega (
       arith,
       is.leaves.0,
-      full_more width (length bits.kept) (length (bits.kept ++ bit ∷ [])) (wide-some width is.wide)
-          (omega (arith, length-append bits.kept (bit ∷ []))),
+      full_more width (length bits.kept) (length (bits.kept ++ more)) (wide-some width is.wide)
+          (omega (arith, length-append bits.kept more)),
     ),
     is.leaves.1,
   );
@@ -335,13 +335,13 @@ full-pruned width bits chunk some low high =
     omega (arith, ap (λ n. n / size) long ∙ div-mul-add left size (kept % size) rest, whole, low)
 
 module _ (leaf_of : LeafHash) (node_of : NodeHash) (width : ℕ) (all : List Bool) where
-  pub mapof-push : (bits : Bits) (tree : Nodes) (chunks : List ℕ) (bit : Bool)
+  pub mapof-push : (bits : Bits) (tree : Nodes) (chunks : List ℕ) (more : List Bool)
       → IsMapOf leaf_of node_of width all (record { bits = bits; tree = tree; stage = changed chunks })
-      → IsMapOf leaf_of node_of width (all ++ bit ∷ [])
-      (record { bits = record bits { kept = bits.kept ++ bit ∷ [] }; tree = tree; stage = changed chunks })
-  mapof-push bits tree chunks bit is = record {
-    bits = kept-push width all bits bit is.bits;
-    leaves = leaves-push leaf_of node_of width all tree chunks bit is.leaves;
+      → IsMapOf leaf_of node_of width (all ++ more)
+      (record { bits = record bits { kept = bits.kept ++ more }; tree = tree; stage = changed chunks })
+  mapof-push bits tree chunks more is = record {
+    bits = kept-push width all bits more is.bits;
+    leaves = leaves-push leaf_of node_of width all tree chunks more is.leaves;
   }
 
   pub mapof-set : (bits : Bits) (tree : Nodes) (chunks : List ℕ) (bit : ℕ) (value : Bool) → 1 ≤ width → 8 * width * bits.pruned ≤ bit

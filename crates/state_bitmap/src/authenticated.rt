@@ -423,6 +423,23 @@ impl<D: Digest, const N: usize> BitMap<D, N, Unmerkleized> {
         self.bits.push(bit)
     }
 
+    /// Appends the bits of these bytes, the least of each byte first. That the bits there fill their bytes is on the
+    /// caller. It fails only when out of memory; the map then stays as it was. It is not in the Rust, where the bitmap
+    /// below has `push_byte` and `push_chunk`.
+    pub fn push_bytes(&mut self, bytes: &[u8]) -> Result<(), AllocError>
+        requires aligned { bit_count N self.old.bits % 8 ≡ 0 }
+        requires few { bit_count N self.old.bits + 8 * length bytes.now ≤ 2 ^ 62 }
+        ensures pushed { OnOk result (self.new ≡ record self.old {
+          bits = record self.old.bits { kept = self.old.bits.kept ++ bits_in bytes.now };
+        }) }
+        ensures of_list { (leaf_of : LeafHash) (node_of : NodeHash) (all : List Bool)
+            → IsMapOf leaf_of node_of N all self.old
+            → OnOk result (IsMapOf leaf_of node_of N (all ++ bits_in bytes.now) self.new) }
+        ensures unchanged { OnErr result (self.new ≡ self.old) }
+    {
+        self.bits.push_bytes(bytes)
+    }
+
     /// Sets or clears a bit that is there, and not pruned. It fails only when out of memory; the map then stays as it
     /// was.
     /// In the Rust: `bitmap::authenticated::UnmerkleizedBitMap::set_bit`, which refuses nothing.

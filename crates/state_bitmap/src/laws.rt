@@ -1,6 +1,6 @@
 //! What is kept of a list of bits says of the list, and what the proof of a bit says of it.
 
-ghost use Rattle.std.specs.Prelude.{◌≡◌, ◌<◌, ◌≤◌, ◌+◌, ◌-◌, ◌*◌, ◌/◌, ◌%◌, ◌^◌, ◌++◌, [], ◌∷◌, false, Bool, ℕ, List, length};
+ghost use Rattle.std.specs.Prelude.{◌≡◌, ◌<◌, ◌≤◌, ◌+◌, ◌-◌, ◌*◌, ◌/◌, ◌%◌, ◌^◌, ◌++◌, false, Bool, ℕ, List, length};
 ghost use Rattle.std.specs.Prelude.{slice_set, slice_index_or, option_map, Some, IfSome};
 ghost use Rattle.std.specs.List.{All};
 ghost use Rattle.merkle_forest.specs.declared.bagging.Bagging.{Bagging};
@@ -61,10 +61,10 @@ pub fn a_bit_of_a_true_claim_is_that_of_the_list()
         ≡ slice_index_or all claim.bit false }
 {}
 
-/// What is kept with one more bit is kept of the list with that bit at its end.
-pub fn a_pushed_bit_ends_the_list()
-    ensures { (width : ℕ) (all : List Bool) (bits : Bits) (bit : Bool) → AreBitsOf width all bits
-        → AreBitsOf width (all ++ bit ∷ []) (record bits { kept = bits.kept ++ bit ∷ [] }) }
+/// What is kept with more bits is kept of the list with those at its end.
+pub fn pushed_bits_end_the_list()
+    ensures { (width : ℕ) (all : List Bool) (bits : Bits) (more : List Bool) → AreBitsOf width all bits
+        → AreBitsOf width (all ++ more) (record bits { kept = bits.kept ++ more }) }
 {}
 
 /// What is kept with one bit changed is kept of the list with that bit changed.

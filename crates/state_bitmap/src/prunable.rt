@@ -57,6 +57,14 @@ fn fill_bit(bytes: &mut Vec<u8>, at: u64, bit: bool)
     }
 }
 
+// Lays bytes over others, which reach as far.
+fn overwrite(bytes: &mut [u8], first: usize, part: &[u8])
+    requires { first + length part.now ≤ length bytes.old }
+    ensures { bytes.new ≡ take first bytes.old ++ (part.now ++ drop (first + length part.now) bytes.old) }
+{
+    bytes[first..first + part.len()].copy_from_slice(part);
+}
+
 // So many bytes from a place on.
 fn part(bytes: &[u8], first: usize, count: usize) -> &[u8]
     requires { first + count ≤ length bytes.now }
@@ -269,6 +277,23 @@ impl<const N: usize> Prunable<N> {
         }
         fill_bit(&mut self.bytes, self.kept, bit);
         self.kept += 1;
+        Ok(())
+    }
+
+    /// Appends the bits of these bytes, the least of each byte first. That the bits there fill their bytes is on the
+    /// caller. It fails only when out of memory; the bits then stay as they were.
+    /// In the Rust: `commonware_utils::bitmap::Prunable::{push_byte, push_chunk}`, for one byte and for one chunk.
+    pub fn push_bytes(&mut self, bytes: &[u8]) -> Result<(), AllocError>
+        requires aligned { bit_count N self.old % 8 ≡ 0 }
+        requires few { bit_count N self.old + 8 * length bytes.now ≤ 2 ^ 62 }
+        ensures pushed { OnOk result (self.new ≡ record self.old { kept = self.old.kept ++ bits_in bytes.now }) }
+        ensures unchanged { OnErr result (self.new ≡ self.old) }
+    {
+        let first = (self.kept / 8) as usize;
+        let end = first + bytes.len();
+        self.bytes.resize(end.div_ceil(N) * N, 0)?;
+        overwrite(&mut self.bytes, first, bytes);
+        self.kept += 8 * bytes.len() as u64;
         Ok(())
     }
 

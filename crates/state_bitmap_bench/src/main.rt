@@ -47,7 +47,19 @@ fn measure_pushes<R: Print + Eprint + CpuClock>(
         count,
         |round| work::pushed_words(alloc, round),
     )?;
-    report_ratio(rt, "pushed over hashed, chunks of 32 bytes", pushed, bare)
+    report_ratio(rt, "pushed over hashed, chunks of 32 bytes", pushed, bare)?;
+    let pushed = measure(
+        rt,
+        "1,000,000 bits pushed as bytes and merkleized, in chunks of 32 bytes",
+        count,
+        |round| work::pushed_parts(alloc, round),
+    )?;
+    report_ratio(
+        rt,
+        "pushed as bytes over hashed, chunks of 32 bytes",
+        pushed,
+        bare,
+    )
 }
 
 fn measure_sets<R: Print + Eprint + CpuClock>(rt: &R, alloc: Global, count: u64) -> io::Result<()> {

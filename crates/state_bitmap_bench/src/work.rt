@@ -82,15 +82,54 @@ fn filled<const N: usize>(
     with_bits(map.into_dirty(), round)?.merkleize(hasher)
 }
 
+// The map with 40 bytes more at a time, up to a million bits, of which some every third one is set.
+fn with_bytes<const N: usize>(
+    map: UnmerkleizedBitMap<Bytes, N>,
+    round: u64,
+) -> Result<UnmerkleizedBitMap<Bytes, N>, AllocError> {
+    let mut map = map;
+    let mut part = [0x92; 40];
+    part[0] ^= round.to_le_bytes()[0];
+    for _ in 0..BITS / 320 {
+        if map.len() % 8 == 0 && map.len() < BITS {
+            map.push_bytes(&part)?;
+        }
+    }
+    Ok(map)
+}
+
+// A map of a million bits, pushed as bytes.
+fn filled_by_bytes<const N: usize>(
+    alloc: Global,
+    hasher: &Hashing,
+    round: u64,
+) -> Result<MerkleizedBitMap<Bytes, N>, Error>
+    requires { IsChunkWidth N }
+{
+    let map = MerkleizedBitMap::<Bytes, N>::new(alloc, hasher);
+    with_bytes(map.into_dirty(), round)?.merkleize(hasher)
+}
+
+// The last byte of the root of a map, or 0 when out of memory.
+fn told<const N: usize>(map: Result<MerkleizedBitMap<Bytes, N>, Error>) -> u64 {
+    match map {
+        Ok(map) => u64::from(map.root().bytes[31]),
+        Err(_) => 0,
+    }
+}
+
 // The last byte of its root, or 0 when out of memory.
 fn pushed<const N: usize>(alloc: Global, round: u64) -> u64
     requires { IsChunkWidth N }
 {
     let hasher = Hashing::new(Bagging::BackwardFold);
-    match filled::<N>(alloc, &hasher, round) {
-        Ok(map) => u64::from(map.root().bytes[31]),
-        Err(_) => 0,
-    }
+    told(filled::<N>(alloc, &hasher, round))
+}
+
+/// The last byte of the root of a million bits that are pushed as bytes, in chunks of 32 bytes, or 0 when out of memory.
+pub fn pushed_parts(alloc: Global, round: u64) -> u64 {
+    let hasher = Hashing::new(Bagging::BackwardFold);
+    told(filled_by_bytes::<32>(alloc, &hasher, round))
 }
 
 /// The last byte of the root of a million bits in chunks of one byte, or 0 when out of memory.
