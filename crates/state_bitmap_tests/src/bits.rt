@@ -16,6 +16,14 @@ fn push_thirds<const N: usize>(bits: &mut Prunable<N>, count: u64) -> Result<(),
     Ok(())
 }
 
+// The bits of so many bytes more, where those that are there fill theirs.
+fn push_bytes<const N: usize>(bits: &mut Prunable<N>, bytes: &[u8]) -> Result<(), Fail> {
+    if bits.len() % 8 == 0 && bits.len() < 64 && bytes.len() < 64 {
+        bits.push_bytes(bytes)?;
+    }
+    Ok(())
+}
+
 // Whether a bit is set, or none where it isn't kept.
 fn bit<const N: usize>(bits: &Prunable<N>, at: u64) -> Option<bool> {
     if at < bits.pruned_bits() || at >= bits.len() {
@@ -118,5 +126,22 @@ fn chunks_of_four_bytes(rt: HostRuntime) -> Result<(), Fail> {
     assert_eq!(rt; bit(&bits, 33), Some(true));
     assert_eq!(rt; chunk_with(&bits, 32), Some([0x92, 0, 0, 0]));
     assert_eq!(rt; bits.last_chunk(), ([0x92, 0, 0, 0], 8));
+    Ok(())
+}
+
+// Bytes that begin within a chunk of four bytes and end in the next one.
+#[test]
+fn bytes_go_on_where_the_bits_end(rt: HostRuntime) -> Result<(), Fail> {
+    let mut bits = Prunable::<4>::new(rt.alloc());
+    push_bytes(&mut bits, &[0x49])?;
+    push_bytes(&mut bits, &[])?;
+    push_bytes(&mut bits, &[0x92, 0x24, 0x49, 0x92])?;
+    assert_eq!(rt; bits.len(), 40);
+    assert_eq!(rt; chunk_with(&bits, 31), Some([0x49, 0x92, 0x24, 0x49]));
+    assert_eq!(rt; bits.last_chunk(), ([0x92, 0, 0, 0], 8));
+    prune(&mut bits, 1);
+    push_bytes(&mut bits, &[0x24])?;
+    assert_eq!(rt; bits.len(), 48);
+    assert_eq!(rt; bits.last_chunk(), ([0x92, 0x24, 0, 0], 16));
     Ok(())
 }

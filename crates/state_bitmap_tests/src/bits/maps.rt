@@ -44,6 +44,18 @@ fn thirds<const N: usize>(
     Ok(with_thirds(map, count)?.merkleize(hasher)?)
 }
 
+// A map with the bits of so many bytes more, where its own fill theirs.
+fn with_bytes<const N: usize>(
+    map: UnmerkleizedBitMap<Bytes, N>,
+    bytes: &[u8],
+) -> Result<UnmerkleizedBitMap<Bytes, N>, Fail> {
+    let mut map = map;
+    if map.len() % 8 == 0 && map.len() < 1024 && bytes.len() < 1024 {
+        map.push_bytes(bytes)?;
+    }
+    Ok(map)
+}
+
 // The proof of a bit, and the chunk with it; none where the bit is pruned.
 fn proof_of<const N: usize>(
     map: &MerkleizedBitMap<Bytes, N>,
@@ -165,6 +177,29 @@ fn twenty_bits_have_two_leaves(rt: HostRuntime) -> Result<(), Fail> {
     ]);
     assert_eq!(rt; map.get_node(Position::new(2)), Some(node));
     assert_eq!(rt; map.get_node(Position::new(3)), None);
+    let root = FixedBytes::new([
+        0x31, 0x0e, 0x2f, 0x00, 0xb3, 0xb1, 0xc5, 0xee, 0xfb, 0x3e, 0x70, 0x76, 0x1d, 0x46, 0x03,
+        0xcc, 0x4a, 0x02, 0x2a, 0xca, 0xaa, 0xa0, 0x31, 0x2c, 0x7c, 0x9f, 0x06, 0x20, 0x4e, 0x8a,
+        0x42, 0x9e,
+    ]);
+    assert_eq!(rt; map.root(), root);
+    Ok(())
+}
+
+// The first 16 of the twenty bits are the bytes 49 and 92.
+#[test]
+fn bits_that_are_pushed_as_bytes_are_those_bits(rt: HostRuntime) -> Result<(), Fail> {
+    let hasher = Hashing::new(Bagging::ForwardFold);
+    let map = MerkleizedBitMap::<Bytes, 1>::new(rt.alloc(), &hasher).into_dirty();
+    let mut map = with_bytes(map, &[0x49, 0x92])?;
+    for bit in [false, false, true, false] {
+        if map.len() < 20 {
+            map.push(bit)?;
+        }
+    }
+    let map = map.merkleize(&hasher)?;
+    assert_eq!(rt; map.len(), 20);
+    assert_eq!(rt; map.last_chunk(), ([0x04], 4));
     let root = FixedBytes::new([
         0x31, 0x0e, 0x2f, 0x00, 0xb3, 0xb1, 0xc5, 0xee, 0xfb, 0x3e, 0x70, 0x76, 0x1d, 0x46, 0x03,
         0xcc, 0x4a, 0x02, 0x2a, 0xca, 0xaa, 0xa0, 0x31, 0x2c, 0x7c, 0x9f, 0x06, 0x20, 0x4e, 0x8a,
