@@ -1,4 +1,5 @@
 pub mod BitLemmas
+pub mod WidthLemmas
 pub mod RootLemmas
 pub mod HonestLemmas
 pub mod HeightLemmas
@@ -28,3 +29,9 @@ pub mod OneEachRoots
 pub mod OneEachCanonical
 pub mod OneEachStates
 pub mod OneEachProofs
+pub mod RangeLed
+pub mod RangeTold
+pub mod RangeNodes
+pub mod GraftedNodeLemmas
+pub mod GraftedReads
+pub mod GraftedTrees

@@ -67,7 +67,7 @@ case_same p string one other false true is = refl
 case_same p string one other false false is = refl
 
 -- a tree that meets the range has a leaf in it
-met_in : (start stop at : ℕ) (t : Tree) → meets start stop (at, t) ≡ true → (start < at + leaf_count t) × (at < stop)
+pub met_in : (start stop at : ℕ) (t : Tree) → meets start stop (at, t) ≡ true → (start < at + leaf_count t) × (at < stop)
 met_in start stop at t met =
     let sides = or_parts (is_before start (at, t)) (is_after stop (at, t)) (not-true (is_before start (at, t) || is_after stop (at, t)) met) in
     (leb-false (at + leaf_count t) start sides.0, leb-false stop at sides.1)
@@ -135,7 +135,7 @@ module _ (setting : Setting) (state : State) (shown : Shown) (pairs : IsPairing 
       (omega (arith, first, first_is), omega (arith, last, last_is, shaped.counted))
 
   -- at a node of the grafting height that meets the range the reader joins in the state's chunk
-  same_at : (at p : ℕ) (left right : Tree) → IsNodeAt at (branch p left right) (forest setting state)
+  pub same_at : (at p : ℕ) (left right : Tree) → IsNodeAt at (branch p left right) (forest setting state)
       → meets start stop (at, branch p left right) ≡ true → eqb (height (branch p left right)) level ≡ true
       → claimed_chunk given shown.width at ≡ made_chunk setting state at
   same_at at p left right stands met tall =
@@ -182,7 +182,7 @@ module _ (setting : Setting) (state : State) (shown : Shown) (pairs : IsPairing 
       (alike_in (leaves ts) t (λ first node within. all first node (inl within)), tt)
 
   -- the digests of the state's grafted tree are made over the operations that are shown
-  agrees : Agrees setting.hash real (from start shown.operations) (grafted_digest setting.hash level bits (chunks setting state) state.operations)
+  pub agrees : Agrees setting.hash real (from start shown.operations) (grafted_digest setting.hash level bits (chunks setting state) state.operations)
       start stop
   agrees = record {
     leaf = λ at p from_start to.

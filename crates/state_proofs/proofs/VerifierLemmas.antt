@@ -133,6 +133,13 @@ pub node_at-none : (rule : Rule) → IsPairing rule → (p : ℕ) → size (fore
 unfolding node_at
 node_at-none rule pairs p past = found_none rule pairs p (found_among p (forest_of rule (2 ^ 62))) refl past
 
+-- what is found is a node of the greatest forest
+pub node_at-tree : (rule : Rule) (p : ℕ) (x : ℕ × ℕ) → node_at rule p ≡ Some x → HasTree rule x.0 p x.1
+unfolding node_at
+node_at-tree rule p x is =
+    let it = found_forest p (forest_of rule (2 ^ 62)) x is in
+    (it.node, record { leaf_total = 2 ^ 62; few = omega arith; stands = it.stands; subtree = sym it.at; level = it.high })
+
 -- a chunk that is not given is not joined in
 no_given : (hash : Hash) (given : Given) (width index : ℕ) (d : List ℕ) (test : Bool)
     → grafted hash (cond test (slice_index_or given.chunks (index - given.first) (replicate width 0)) (replicate width 0)) d
@@ -141,7 +148,7 @@ no_given hash given width index d true = no_chunk hash width given.chunks (index
 no_given hash given width index d false = no_chunk hash width [] 0 d
 
 -- at a node that begins at a location
-joined_is : (hash : Hash) (given : Given) (width first h : ℕ) (d : List ℕ) (test : Bool)
+pub joined_is : (hash : Hash) (given : Given) (width first h : ℕ) (d : List ℕ) (test : Bool)
     → cond test (grafted hash (claimed_chunk given width first) d) d
     ≡ grafted hash (cond test (given_chunk given [] (first / 2 ^ given.grafting_height)) []) d
 joined_is hash given width first h d true =

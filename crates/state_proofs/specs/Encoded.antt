@@ -38,10 +38,10 @@ abbrev pub after_key_value_proof : (List ℕ → Outcome) → (List ℕ → Outc
 after_key_value_proof digest pending key width most bytes =
     after_operation_proof digest pending width most bytes >>= key
 
--- memory may be lacking for the bytes of a chunk, where they are there and not none, and for the digests of a proof
-abbrev pub OperationProofLacks : ℕ → ℕ → List ℕ → Type 0
-OperationProofLacks width most bytes = LacksAfter (after_number (2 ^ 62) bytes)
-    (λ rest. ((0 < width) × (width ≤ length rest)) ⊎ LacksAfter (after_fixed width rest) (ProofLacks most))
+-- memory may be lacking for the chunk, as its form says, and for the digests of a proof
+abbrev pub OperationProofLacks : (List ℕ → Type 0) → ℕ → ℕ → List ℕ → Type 0
+OperationProofLacks chunk width most bytes = LacksAfter (after_number (2 ^ 62) bytes)
+    (λ rest. chunk rest ⊎ LacksAfter (after_fixed width rest) (ProofLacks most))
 
 -- How the proofs of a store are hashed and encoded: how a tree grows, how strings are hashed, how many bytes a chunk
 -- and a digest have, how many digests a proof may have, which pending digests it may hold and how they are encoded, and

@@ -6,6 +6,8 @@ pub mod Encoded
 pub mod Errors
 pub mod Exclusion
 pub mod ExclusionCode
+pub mod GraftedNodes
+pub mod Forms
 pub mod Grafting
 pub mod Honest
 pub mod Laws
@@ -16,6 +18,7 @@ pub mod MadeRanges
 pub mod MadeStates
 pub mod PeakEnds
 pub mod ProofsCode
+pub mod RangeExtracted
 pub mod RangeVerified
 pub mod RangeVerifiedCode
 pub mod Requests

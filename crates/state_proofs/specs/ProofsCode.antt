@@ -1,5 +1,7 @@
 -- Proofs, as the code holds them.
 use Rattle.std.specs.Prelude.{ℕ, List, Option, map, option_map}
+use Rattle.std.specs.declared.alloc.Global.{Global}
+use Rattle.std.specs.declared.vec.Vec.{Vec}
 use Rattle.state_proofs.specs.declared.operation.Proof.{Proof}
 use Rattle.state_proofs.specs.declared.proof.RangeProof.{RangeProof}
 use Rattle.state_proofs.specs.Verified.{RangeParts, Parts}
@@ -15,10 +17,14 @@ range_parts_of digest held proof = record {
   operations_root = digest proof.ops_root;
 }
 
--- what a proof of one operation holds
-abbrev pub parts_of : {F D P : Type 0} → (D → List ℕ) → (P → Option (List ℕ)) → Proof F D P → Parts
-parts_of digest held proof = record {
+-- what a proof of one operation holds, from the bytes of its chunk, too
+abbrev pub form_parts_of : {F D C P : Type 0} → (C → List ℕ) → (D → List ℕ) → (P → Option (List ℕ)) → Proof F D C P → Parts
+form_parts_of chunk digest held proof = record {
   location = proof.loc;
-  chunk = proof.chunk.items;
+  chunk = chunk proof.chunk;
   range = range_parts_of digest held proof.range_proof;
 }
+
+-- one whose chunk is a vector of bytes
+abbrev pub parts_of : {F D P : Type 0} → (D → List ℕ) → (P → Option (List ℕ)) → Proof F D (Vec ℕ Global) P → Parts
+parts_of digest held proof = form_parts_of (λ chunk. chunk.items) digest held proof

@@ -3,7 +3,7 @@
 ghost use Rattle.std.specs.Prelude.{◌≡◌, ◌↔◌, IsTrue, IfOk, option_map};
 ghost use Rattle.state_ops.specs.Operation.{fixed_encoding, commit_floor};
 ghost use Rattle.state_proofs.specs.Exclusion.{is_below, is_in_span, Excludes};
-ghost use Rattle.state_proofs.specs.ExclusionCode.{exclusion_of};
+ghost use Rattle.state_proofs.specs.ExclusionCode.{form_exclusion_of};
 
 pub mod codec;
 
@@ -14,15 +14,16 @@ use state_ops::ordered::encode;
 use state_ops::{FixedKey, FixedValue, Operation, OrderedOperation, OrderedUpdate};
 use std::alloc::{AllocError, Global};
 use std::cmp::Ordering;
+use std::convert::AsSlice;
 
 /// A proof that a key is not in a state.
 /// In the Rust: `qmdb::current::ordered::proof::ExclusionProof`.
 #[derive(Drop)]
-pub enum ExclusionProof<F: PendingOf<D>, K: FixedKey, V: FixedValue, D: Digest> {
+pub enum ExclusionProof<F: PendingOf<D>, K: FixedKey, V: FixedValue, D: Digest, C = Vec<u8>> {
     /// An update whose cyclic span, from its key up to its next key, holds the key, which is not its own.
-    KeyValue(Proof<F, D>, OrderedUpdate<K, V>),
+    KeyValue(Proof<F, D, C>, OrderedUpdate<K, V>),
     /// The last commit of an empty map, with its metadata: its floor is its own place.
-    Commit(Proof<F, D>, Option<V>),
+    Commit(Proof<F, D, C>, Option<V>),
 }
 
 // Whether a key stands before another.
@@ -69,12 +70,14 @@ fn encoded_commit<F: Family, K: FixedKey, V: FixedValue>(
     encode(alloc, &commit)
 }
 
-impl<F: Graftable + PendingOf<D>, K: FixedKey, V: FixedValue, D: Digest> ExclusionProof<
-    F,
-    K,
-    V,
-    D,
-> {
+impl<F, K, V, D, C> ExclusionProof<F, K, V, D, C>
+where
+    F: Graftable + PendingOf<D>,
+    K: FixedKey,
+    V: FixedValue,
+    D: Digest,
+    C: AsSlice<u8>,
+{
     /// Whether the proof shows that the key is not in the state of this root. It fails only when out of memory.
     /// In the Rust: `qmdb::current::ordered::proof::ExclusionProof::verify`, which never fails.
     pub fn verify<H: HashFunction<Digest = D>>(
@@ -84,7 +87,7 @@ impl<F: Graftable + PendingOf<D>, K: FixedKey, V: FixedValue, D: Digest> Exclusi
         key: &K,
     ) -> Result<bool, AllocError>
         ensures { IfOk result (λ yes. IsTrue yes ↔ Excludes F.merge_rule H.hash_of K.SIZE V.SIZE (D.encoding root.now)
-            (exclusion_of K.encoding V.encoding D.encoding F.held self.now) (K.encoding key.now)) }
+            (form_exclusion_of C.items K.encoding V.encoding D.encoding F.held self.now) (K.encoding key.now)) }
     {
         match self {
             ExclusionProof::KeyValue(proof, update) => {

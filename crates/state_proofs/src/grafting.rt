@@ -33,7 +33,10 @@ ghost use Rattle.merkle_forest.specs.TreesCode.{shapes};
 ghost use Rattle.state_proofs.specs.Grafting.{grafted, grafted_digest, chunk_aligned_inactive_peaks as aligned_peaks};
 
 pub mod counts;
+pub mod hasher;
+pub mod laws;
 pub mod positions;
+pub mod storage;
 pub mod verifier;
 
 use crate::bits::is_zero_chunk;

@@ -1,23 +1,29 @@
 //! What holds of all proofs of one operation.
 
 ghost use Rattle.std.specs.Prelude.{◌≡◌, ◌<◌, ◌≤◌, ◌*◌, ◌^◌, ◌⊎◌, ℕ, List, [], length, slice_get, slice_index_or, Ok, Some, true};
+ghost use Rattle.merkle_forest.specs.Forest.{Rule};
 ghost use Rattle.merkle_forest.specs.Hashing.{Hash};
 ghost use Rattle.merkle_forest.specs.Made.{Collision, strings};
+ghost use Rattle.merkle_core.specs.declared.extraction.ExtractionError.{ExtractionError};
+ghost use Rattle.merkle_core.specs.declared.extraction.ExtractionError.TheVariants.{Memory};
 ghost use Rattle.merkle_core.specs.OneEach.{OneEach};
-ghost use Rattle.state_proofs.specs.Canonical.{Setting, State, canonical_root, operations_root};
+ghost use Rattle.merkle_core.specs.Ranges.{Digests};
+ghost use Rattle.state_proofs.specs.Canonical.{Setting, State, canonical_root, grafted_digests, operations_root};
 ghost use Rattle.state_proofs.specs.Encoded.{format_of, ShowsOperation, ShowsUpdate};
 ghost use Rattle.state_proofs.specs.Exclusion.{ExclusionParts, proof_of, operation_of, LeavesOut, Excludes};
 ghost use Rattle.state_proofs.specs.Honest.{honest_parts, honest_range, operation_proof, key_value_proof};
 ghost use Rattle.state_proofs.specs.MadeRanges.{HasRange, range_strings};
 ghost use Rattle.state_proofs.specs.MadeStates.{HasActive, HasDigestsOf, hashed_strings, rebuilt_strings};
-ghost use Rattle.state_proofs.specs.RangeVerified.{Shown, IsShaped, VerifiesRange, stop_of};
+ghost use Rattle.state_proofs.specs.RangeExtracted.{IsRefusalToTell, LeadsNowhere, ShowsDigests};
+ghost use Rattle.state_proofs.specs.RangeVerified.{Shown, IsShaped, VerifiesRange, shown_bits, stop_of};
 ghost use Rattle.state_proofs.specs.SameNodes.{IsSameNode};
 ghost use Rattle.state_proofs.specs.Verified.{RangeParts, Parts, Verifies};
 ghost use Rattle.state_proofs.specs.Witness.{WitnessParts, HasWitnessOf, witnessed_string, witnessed_made, honest_witness};
 
 use merkle_core::laws::{
-    honest_digests_are_few, honest_digests_lead_to_the_root, honest_ranges_lead_to_the_root,
-    reconstructed_is_read,
+    honest_digests_are_few, honest_digests_lead_to_the_root,
+    honest_proofs_tell_the_nodes_of_the_list, honest_ranges_lead_to_the_root,
+    proofs_that_lead_to_a_root_give_digests, reconstructed_is_read,
 };
 use merkle_forest::{Graftable, HashFunction, PendingOf};
 use state_ops::FixedKey;
@@ -236,3 +242,55 @@ pub fn each_site_has_one_string<F: Graftable>()
     ensures witnessed { (hash : Hash) (witness : WitnessParts) (operations : List ℕ)
         → OneEach (strings hash (witnessed_made witness operations)) }
 {}
+
+/// A proof over a range leads to one root at most, and to none where it is told why.
+pub fn a_range_leads_to_one_root_or_to_none()
+    ensures one { (rule : Rule) (hash : Hash) (one other : List ℕ) (proof : RangeParts) (shown : Shown)
+        → VerifiesRange rule hash one proof shown → VerifiesRange rule hash other proof shown → one ≡ other }
+    ensures none { (rule : Rule) (hash : Hash) (root : List ℕ) (proof : RangeParts) (shown : Shown)
+        → LeadsNowhere rule hash proof shown → VerifiesRange rule hash root proof shown → ⊥ }
+{}
+
+/// Each proof over a range that leads to a root shows digests of the nodes that it tells.
+pub fn ranges_that_lead_to_a_root_show_digests<F: Graftable>()
+    ensures { (hash : Hash) (grafting_height : ℕ) (root : List ℕ) (proof : RangeParts) (shown : Shown)
+        → shown_bits shown ≡ 2 ^ grafting_height → VerifiesRange F.merge_rule hash root proof shown
+        → (digest : Digests) × ShowsDigests F.merge_rule hash grafting_height proof shown digest }
+{
+    proofs_that_lead_to_a_root_give_digests::<F>();
+}
+
+/// Where operations stand in a state from a location on and the chunks over them are the state's, the honest proof over
+/// them shows the digests of the state's grafted tree: what it tells are the nodes of the state, and under the canonical
+/// root only memory may be lacking for them.
+pub fn honest_ranges_tell_the_nodes_of_the_state<F: Graftable>()
+    ensures nodes { (hash : Hash) (width grafting_height : ℕ) (state : State) (shown : Shown)
+        → 8 * width ≡ 2 ^ grafting_height → grafting_height ≤ 62 → length state.operations ≤ 2 ^ 62
+        → shown.width ≡ width → IsShaped (length state.operations) shown
+        → (let setting : Setting = record {
+          rule = F.merge_rule;
+          hash = hash;
+          width = width;
+          grafting_height =
+              grafting_height;
+        } in
+        HasRange setting state shown
+        → ShowsDigests F.merge_rule hash grafting_height (honest_range setting state shown.start (stop_of shown)) shown
+        (grafted_digests setting state)) }
+    ensures refused { (hash : Hash) (width grafting_height : ℕ) (state : State) (shown : Shown) (error : ExtractionError)
+        → 8 * width ≡ 2 ^ grafting_height → grafting_height ≤ 62 → length state.operations ≤ 2 ^ 62
+        → shown.width ≡ width → IsShaped (length state.operations) shown
+        → (let setting : Setting = record {
+          rule = F.merge_rule;
+          hash = hash;
+          width = width;
+          grafting_height =
+              grafting_height;
+        } in
+        HasRange setting state shown
+        → IsRefusalToTell F.merge_rule hash (canonical_root setting state)
+        (honest_range setting state shown.start (stop_of shown)) shown error → error ≡ Memory) }
+{
+    honest_proofs_tell_the_nodes_of_the_list::<F>();
+    honest_ranges_verify::<F>();
+}

@@ -5,7 +5,10 @@
 pub mod bitmap;
 pub mod bits;
 pub mod canonical;
+pub mod chunk_form;
 pub mod chunk_size;
+pub mod constant;
+pub mod dynamic;
 pub mod error;
 pub mod exclusion;
 pub mod grafting;
@@ -23,6 +26,7 @@ pub mod verify;
 pub mod witness;
 
 pub use bitmap::{BitList, BitmapReadable};
+pub use chunk_form::ChunkForm;
 pub use chunk_size::ChunkSize;
 pub use error::Error;
 pub use exclusion::ExclusionProof;

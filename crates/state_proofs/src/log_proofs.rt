@@ -28,7 +28,10 @@ fn log_hasher<H: HashFunction>() -> Standard<H>
 }
 
 // The encodings of operations.
-fn encodings<O: Encode>(alloc: Global, operations: &[O]) -> Result<Vec<Vec<u8>>, AllocError>
+pub(crate) fn encodings<O: Encode>(
+    alloc: Global,
+    operations: &[O],
+) -> Result<Vec<Vec<u8>>, AllocError>
     ensures { IfOk result (λ found. map (λ e. e.items) found.items ≡ map O.encoding operations.now) }
 {
     let mut found = Vec::new(alloc);
@@ -41,7 +44,7 @@ fn encodings<O: Encode>(alloc: Global, operations: &[O]) -> Result<Vec<Vec<u8>>,
 }
 
 // The bytes of each, lent.
-fn lent<'a>(alloc: Global, encodings: &'a [Vec<u8>]) -> Result<Vec<&'a [u8]>, AllocError>
+pub(crate) fn lent<'a>(alloc: Global, encodings: &'a [Vec<u8>]) -> Result<Vec<&'a [u8]>, AllocError>
     ensures { IfOk result (λ found. map (λ e. e.now) found.items ≡ map (λ e. e.items) encodings.now) }
 {
     let mut found: Vec<&'a [u8]> = Vec::new(alloc);

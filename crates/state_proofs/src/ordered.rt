@@ -3,10 +3,12 @@
 ghost use Rattle.std.specs.Prelude.{◌≡◌, ◌⊎◌, ◌↔◌, ◌++◌, ℕ, List, [], false, IsTrue, IsErr, IfOk, length, Ok, OnOk, OnErr};
 ghost use Rattle.merkle_forest.specs.Codec.{Extends, LacksAfter, Reads};
 ghost use Rattle.state_ops.specs.Operation.{fixed_encoding, ordered, update};
-ghost use Rattle.state_proofs.specs.Encoded.{key_value_proof_encoding, after_operation_proof, after_key_value_proof, format_of, OperationProofLacks, ShowsUpdate};
-ghost use Rattle.state_proofs.specs.ProofsCode.{parts_of};
+ghost use Rattle.state_proofs.specs.Encoded.{key_value_proof_encoding, format_of, ShowsUpdate};
+ghost use Rattle.state_proofs.specs.Forms.{after_form, after_key_value_form, FormLacks};
+ghost use Rattle.state_proofs.specs.ProofsCode.{form_parts_of};
 ghost use Rattle.state_proofs.specs.Verified.{Verifies};
 
+use crate::chunk_form::ChunkForm;
 use crate::operation;
 use merkle_core::MAX_PROOF_DIGESTS_PER_ELEMENT;
 use merkle_forest::codec::{Cursor, EncodeSize, Error, Read, Write, or_undo};
@@ -15,39 +17,41 @@ use state_ops::ordered::encode;
 use state_ops::update::Ordered;
 use state_ops::{FixedKey, FixedValue, Operation, OrderedOperation};
 use std::alloc::{AllocError, Global};
+use std::convert::AsSlice;
 
 /// A proof that a key has a value in a state: the proof of the key's active update, and the next key
 /// that the update names. Its encoding is these in order. Reading takes what the proof's reading and a key's take.
 /// In the Rust: `qmdb::current::ordered::proof::KeyValueProof`.
 #[derive(Debug, PartialEq, Eq, Drop)]
-pub struct KeyValueProof<F: PendingOf<D>, K: FixedKey, D: Digest> {
+pub struct KeyValueProof<F: PendingOf<D>, K: FixedKey, D: Digest, C = Vec<u8>> {
     /// The proof of the key's update.
-    pub proof: operation::Proof<F, D>,
+    pub proof: operation::Proof<F, D, C>,
     /// The next key that the update names.
     pub next_key: K,
 }
 
 // Appends the encoding. Out of memory, some of its bytes may have been appended.
-fn write_parts<F: PendingOf<D>, K: FixedKey, D: Digest>(
-    proof: &KeyValueProof<F, K, D>,
+fn write_parts<F: PendingOf<D>, K: FixedKey, D: Digest, C: AsSlice<u8> + Drop>(
+    proof: &KeyValueProof<F, K, D, C>,
     out: &mut Vec<u8>,
 ) -> Result<(), AllocError>
     ensures ok { OnOk result (out.new.items ≡ out.old.items
-        ++ key_value_proof_encoding F.pending_encoding (parts_of D.encoding F.held proof.now.proof)
+        ++ key_value_proof_encoding F.pending_encoding (form_parts_of C.items D.encoding F.held proof.now.proof)
         (K.encoding proof.now.next_key)) }
     ensures err { OnErr result (Extends out.old.items out.new.items) }
-    ensures proof { OnOk result (⟦<operation::Proof<F, D> as Write>⟧.is_value proof.now.proof) }
+    ensures proof { OnOk result (⟦<operation::Proof<F, D, C> as Write>⟧.is_value proof.now.proof) }
     ensures key { OnOk result (K.is_value proof.now.next_key) }
 {
     proof.proof.write(out)?;
     proof.next_key.write(out)
 }
 
-impl<F: PendingOf<D>, K: FixedKey, D: Digest> Write for KeyValueProof<F, K, D> {
-    ghost encoding = { λ p. key_value_proof_encoding F.pending_encoding (parts_of D.encoding F.held p.proof)
-        (K.encoding p.next_key) };
+impl<F: PendingOf<D>, K: FixedKey, D: Digest, C: AsSlice<u8> + Drop> Write
+    for KeyValueProof<F, K, D, C> {
+    ghost encoding = { λ p. key_value_proof_encoding F.pending_encoding
+        (form_parts_of C.items D.encoding F.held p.proof) (K.encoding p.next_key) };
 
-    ghost is_value = { λ p. ⟦<operation::Proof<F, D> as Write>⟧.is_value p.proof × K.is_value p.next_key };
+    ghost is_value = { λ p. ⟦<operation::Proof<F, D, C> as Write>⟧.is_value p.proof × K.is_value p.next_key };
 
     fn write(&self, out: &mut Vec<u8>) -> Result<(), AllocError> {
         let start = out.len();
@@ -55,38 +59,37 @@ impl<F: PendingOf<D>, K: FixedKey, D: Digest> Write for KeyValueProof<F, K, D> {
     }
 }
 
-impl<F: PendingOf<D>, K: FixedKey + EncodeSize, D: Digest> EncodeSize for KeyValueProof<F, K, D> {
+impl<F: PendingOf<D>, K: FixedKey + EncodeSize, D: Digest, C: AsSlice<u8> + Drop> EncodeSize
+    for KeyValueProof<F, K, D, C> {
     fn encode_size(&self) -> usize {
         self.proof.encode_size() + self.next_key.encode_size()
     }
 }
 
-impl<F: PendingOf<D>, K: FixedKey, D: Digest> Read for KeyValueProof<F, K, D> {
+impl<F: PendingOf<D>, K: FixedKey, D: Digest, C: ChunkForm> Read for KeyValueProof<F, K, D, C> {
     ghost use Rattle.state_proofs.specs.Laws.Reading.{read_key_value_again};
 
-    type Cfg = ((usize, usize), ());
+    type Cfg = (C::Limits, ());
 
-    ghost after = { λ cfg bytes. after_key_value_proof (D.after tt) F.pending_after
-        (K.after tt) cfg.0.0 cfg.0.1 bytes };
+    ghost after = { λ cfg bytes. after_key_value_form (D.after tt) F.pending_after (K.after tt) (C.told cfg.0) bytes };
 
-    ghost may_lack = { λ cfg bytes. OperationProofLacks cfg.0.0 cfg.0.1 bytes
-        ⊎ LacksAfter (after_operation_proof (D.after tt) F.pending_after cfg.0.0 cfg.0.1 bytes) (K.may_lack tt) };
+    ghost may_lack = { λ cfg bytes. FormLacks (C.may_lack cfg.0) (C.told cfg.0) bytes
+        ⊎ LacksAfter (after_form (D.after tt) F.pending_after (C.told cfg.0) bytes) (K.may_lack tt) };
 
-    ghost is_within = { λ cfg p. ⟦<operation::Proof<F, D> as Read>⟧.is_within cfg.0 p.proof
+    ghost is_within = { λ cfg p. ⟦<operation::Proof<F, D, C> as Read>⟧.is_within cfg.0 p.proof
         × K.is_within tt p.next_key };
 
     fn read_cfg(
         alloc: Global,
         cursor: &mut Cursor<'_>,
-        cfg: &((usize, usize), ()),
-    ) -> Result<KeyValueProof<F, K, D>, Error>
-        ensures read { Reads ⟦<KeyValueProof<F, K, D> as Write>⟧.encoding cursor.old cursor.new
-            (after_key_value_proof (D.after tt) F.pending_after (K.after tt) cfg.now.0.0 cfg.now.0.1 cursor.old)
-            (OperationProofLacks cfg.now.0.0 cfg.now.0.1 cursor.old
-            ⊎ LacksAfter (after_operation_proof (D.after tt) F.pending_after cfg.now.0.0 cfg.now.0.1 cursor.old)
-            (K.may_lack tt)) result }
-        ensures value { IfOk result ⟦<KeyValueProof<F, K, D> as Write>⟧.is_value }
-        ensures chunk { IfOk result (λ proof. length proof.proof.chunk.items ≡ cfg.now.0.0) }
+        cfg: &(C::Limits, ()),
+    ) -> Result<KeyValueProof<F, K, D, C>, Error>
+        ensures read { Reads ⟦<KeyValueProof<F, K, D, C> as Write>⟧.encoding cursor.old cursor.new
+            (after_key_value_form (D.after tt) F.pending_after (K.after tt) (C.told cfg.now.0) cursor.old)
+            (FormLacks (C.may_lack cfg.now.0) (C.told cfg.now.0) cursor.old
+            ⊎ LacksAfter (after_form (D.after tt) F.pending_after (C.told cfg.now.0) cursor.old) (K.may_lack tt)) result }
+        ensures value { IfOk result ⟦<KeyValueProof<F, K, D, C> as Write>⟧.is_value }
+        ensures chunk { IfOk result (λ proof. length (C.items proof.proof.chunk) ≡ (C.told cfg.now.0).width) }
     {
         let (limits, _) = cfg;
         let proof = operation::Proof::read_cfg(alloc, cursor, limits)?;
@@ -97,8 +100,8 @@ impl<F: PendingOf<D>, K: FixedKey, D: Digest> Read for KeyValueProof<F, K, D> {
     ghost read_again = { λ cfg p rest value within.
         read_key_value_again D.encoding D.is_value D.SIZE D.sized F.held F.Pending.is_value
         F.is_pending F.pending_value (D.after tt) F.pending_after F.pending_encoding
-        (record { any = D.any_bytes; again = F.pending_again; once = F.pending_once }) (K.after tt) cfg.0.0 cfg.0.1
-        p.proof (K.encoding p.next_key) rest
+        (record { any = D.any_bytes; again = F.pending_again; once = F.pending_once }) C.items (C.told cfg.0)
+        (K.after tt) p.proof (K.encoding p.next_key) rest
         value.0 within.0 (K.read_again tt p.next_key rest value.1 within.1) };
 }
 
@@ -121,7 +124,12 @@ pub(crate) fn encoded_update<F: Family, K: FixedKey, V: FixedValue>(
     encode(alloc, &update)
 }
 
-impl<F: Graftable + PendingOf<D>, K: FixedKey, D: Digest> KeyValueProof<F, K, D> {
+impl<F: Graftable + PendingOf<D>, K: FixedKey, D: Digest, C: AsSlice<u8>> KeyValueProof<
+    F,
+    K,
+    D,
+    C,
+> {
     /// Whether the proof shows that the key has the value in the state of this root. It fails only when out of memory.
     /// In the Rust: `qmdb::current::ordered::proof::KeyValueProof::verify`, which never fails.
     pub fn verify<H: HashFunction<Digest = D>, V: FixedValue>(
@@ -134,7 +142,7 @@ impl<F: Graftable + PendingOf<D>, K: FixedKey, D: Digest> KeyValueProof<F, K, D>
         ensures { let operation = fixed_encoding K.SIZE V.SIZE
             (update (ordered (K.encoding key.now) (V.encoding value.now) (K.encoding self.now.next_key))) in
             IfOk result (λ yes. IsTrue yes ↔ Verifies F.merge_rule H.hash_of (D.encoding root.now)
-            (parts_of D.encoding F.held self.now.proof) operation) }
+            (form_parts_of C.items D.encoding F.held self.now.proof) operation) }
     {
         let operation = encoded_update::<F, K, V>(alloc, key, value, &self.next_key)?;
         Ok(self.proof.verify::<H>(root, &operation))

@@ -7,9 +7,11 @@ ghost use Rattle.state_proofs.specs.Encoded.{range_proof_encoding, after_range_p
 ghost use Rattle.state_proofs.specs.ProofsCode.{range_parts_of};
 
 pub mod building;
+pub mod extracting;
 pub mod request;
 pub mod verifying;
 
+pub use extracting::verify_proof_and_extract_digests;
 use merkle_core::Proof;
 use merkle_forest::codec::{Cursor, EncodeSize, Error, Read, Write, or_undo};
 use merkle_forest::{Digest, PendingOf};

@@ -8,7 +8,7 @@ ghost use Rattle.merkle_core.specs.Reconstructed.{reconstructed};
 ghost use Rattle.state_proofs.specs.Canonical.{canonical_string};
 ghost use Rattle.state_proofs.specs.Grafting.{grafted};
 ghost use Rattle.state_proofs.specs.Bits.{is_set};
-ghost use Rattle.state_proofs.specs.ProofsCode.{parts_of, range_parts_of};
+ghost use Rattle.state_proofs.specs.ProofsCode.{form_parts_of, range_parts_of};
 ghost use Rattle.state_proofs.specs.Verified.{FitsChunk, FitsChunks, Verifies, grafted_hashing};
 
 use crate::chunk_size::ChunkSize;
@@ -21,6 +21,7 @@ use merkle_core::reconstruct::reconstruct_one;
 use merkle_forest::bagging::Bagging;
 use merkle_forest::hasher::{HashFunction, Standard};
 use merkle_forest::{Graftable, Location, MAX_LEAVES, PendingOf};
+use std::convert::AsSlice;
 use std::marker::PhantomData;
 
 /// At the grafting height the chunk is joined in.
@@ -116,15 +117,15 @@ fn fits_partial<H: HashFunction>(
 }
 
 // Whether the digests of the pending and of the partial chunk fit the number of operations and the chunk.
-fn fits_chunks<F: Graftable + PendingOf<H::Digest>, H: HashFunction>(
-    proof: &Proof<F, H::Digest>,
+fn fits_chunks<F: Graftable + PendingOf<H::Digest>, H: HashFunction, C: AsSlice<u8>>(
+    proof: &Proof<F, H::Digest, C>,
     chunk_size: ChunkSize,
 ) -> bool
-    requires width { chunk_size.width ≡ length proof.now.chunk.items }
+    requires width { chunk_size.width ≡ length (C.items proof.now.chunk) }
     requires few { proof.now.range_proof.proof.leaves ≤ 2 ^ 62 }
     ensures { let graftable =
         nodes_of_height chunk_size.grafting_height (forest_of F.merge_rule proof.now.range_proof.proof.leaves) in
-        IsTrue result ↔ FitsChunks H.hash_of graftable (parts_of H.Digest.encoding F.held proof.now) }
+        IsTrue result ↔ FitsChunks H.hash_of graftable (form_parts_of C.items H.Digest.encoding F.held proof.now) }
 {
     let leaves = proof.range_proof.proof.leaves.as_u64();
     let full = chunk_size.full_chunks(leaves);
@@ -133,25 +134,26 @@ fn fits_chunks<F: Graftable + PendingOf<H::Digest>, H: HashFunction>(
     let left = chunk_size.bit_of(leaves);
     let pending = F::digest_of(&proof.range_proof.pending_chunk_digest);
     let partial = &proof.range_proof.partial_chunk_digest;
-    fits_pending::<H>(&pending, &proof.chunk, graftable, full, index)
-        && fits_partial::<H>(partial, &proof.chunk, left, full, index)
+    let chunk = proof.chunk.as_slice();
+    fits_pending::<H>(&pending, chunk, graftable, full, index)
+        && fits_partial::<H>(partial, chunk, left, full, index)
 }
 
 // The root of the grafted tree that the proof of this operation leads to.
-fn grafted_root_of<F: Graftable + PendingOf<H::Digest>, H: HashFunction>(
-    proof: &Proof<F, H::Digest>,
+fn grafted_root_of<F: Graftable + PendingOf<H::Digest>, H: HashFunction, C: AsSlice<u8>>(
+    proof: &Proof<F, H::Digest, C>,
     grafting_height: u32,
     operation: &[u8],
 ) -> Option<H::Digest>
     ensures { let tree = proof.now.range_proof.proof in
         option_map H.Digest.encoding result
-        ≡ reconstructed (grafted_hashing H.hash_of grafting_height proof.now.chunk.items) H.hash_of BackwardFold
+        ≡ reconstructed (grafted_hashing H.hash_of grafting_height (C.items proof.now.chunk)) H.hash_of BackwardFold
         F.merge_rule
         tree.leaves tree.inactive_peaks proof.now.loc operation.now (map H.Digest.encoding tree.digests.items) }
 {
     let hasher: Standard<H> = Standard::new(Bagging::BackwardFold);
     let over: GraftedChunk<'_, H> = GraftedChunk {
-        chunk: &proof.chunk,
+        chunk: proof.chunk.as_slice(),
         grafting_height,
         function: PhantomData,
     };
@@ -186,17 +188,18 @@ pub(crate) fn sealed_root<F: PendingOf<H::Digest>, H: HashFunction>(
 }
 
 /// Whether the proof shows that the encoded operation stands at its location in the state of this root and is active
-/// there.
+/// there. It takes no memory.
 /// In the Rust: `qmdb::current::proof::operation::Proof::verify`, which encodes the operation itself.
-pub fn verify_operation<F: Graftable + PendingOf<H::Digest>, H: HashFunction>(
+pub fn verify_operation<F: Graftable + PendingOf<H::Digest>, H: HashFunction, C: AsSlice<u8>>(
     root: &H::Digest,
-    proof: &Proof<F, H::Digest>,
+    proof: &Proof<F, H::Digest, C>,
     operation: &[u8],
 ) -> bool
     ensures { IsTrue result ↔ Verifies F.merge_rule H.hash_of (H.Digest.encoding root.now)
-        (parts_of H.Digest.encoding F.held proof.now) operation.now }
+        (form_parts_of C.items H.Digest.encoding F.held proof.now) operation.now }
 {
-    let Some(chunk_size) = ChunkSize::of(&proof.chunk) else {
+    let chunk = proof.chunk.as_slice();
+    let Some(chunk_size) = ChunkSize::of(chunk) else {
         return false;
     };
     let leaves = proof.range_proof.proof.leaves.as_u64();
@@ -204,13 +207,13 @@ pub fn verify_operation<F: Graftable + PendingOf<H::Digest>, H: HashFunction>(
     if leaves > MAX_LEAVES || location >= leaves {
         return false;
     }
-    if !is_bit_set(&proof.chunk, chunk_size.bit_of(location)) {
+    if !is_bit_set(chunk, chunk_size.bit_of(location)) {
         return false;
     }
-    if !fits_chunks::<F, H>(proof, chunk_size) {
+    if !fits_chunks::<F, H, C>(proof, chunk_size) {
         return false;
     }
-    match grafted_root_of::<F, H>(proof, chunk_size.grafting_height, operation) {
+    match grafted_root_of::<F, H, C>(proof, chunk_size.grafting_height, operation) {
         None => false,
         Some(grafted) => {
             let next = chunk_size.bit_of(leaves);

@@ -2,7 +2,11 @@
 
 mod built;
 mod counts;
+mod extracting;
+mod forms;
+mod grafted;
 mod log_proofs;
 mod proofs;
+mod requested;
 mod required;
 mod witnesses;

@@ -3,17 +3,20 @@
 ghost use Rattle.std.specs.Prelude.{◌≡◌, ◌⊎◌, ◌++◌, ◌∷◌, [], length, option_map, IfSome, IfOk, IfErr, OnOk, OnErr};
 ghost use Rattle.merkle_forest.specs.Codec.{Extends, Reads, LacksAfter, OptionLacks, option_encoding};
 ghost use Rattle.state_ops_parts.specs.Grammar.{OrderedLacks};
-ghost use Rattle.state_proofs.specs.Encoded.{operation_proof_encoding, after_operation_proof, OperationProofLacks};
+ghost use Rattle.state_proofs.specs.Encoded.{operation_proof_encoding};
 ghost use Rattle.state_proofs.specs.Exclusion.{exclusion_encoding, after_by_update, after_by_commit, after_exclusion, ExclusionLacks};
-ghost use Rattle.state_proofs.specs.ExclusionCode.{exclusion_of, IsExclusionValue, IsExclusionWithin};
-ghost use Rattle.state_proofs.specs.ProofsCode.{parts_of};
+ghost use Rattle.state_proofs.specs.ExclusionCode.{form_exclusion_of, IsExclusionValue, IsExclusionWithin};
+ghost use Rattle.state_proofs.specs.Forms.{after_form, FormLacks};
+ghost use Rattle.state_proofs.specs.ProofsCode.{form_parts_of};
 
 use super::ExclusionProof;
+use crate::chunk_form::ChunkForm;
 use crate::operation::Proof;
 use merkle_forest::codec::{Cursor, EncodeSize, Error, Read, Write, or_undo};
 use merkle_forest::{Digest, PendingOf};
 use state_ops::{FixedKey, FixedValue, OrderedUpdate};
 use std::alloc::{AllocError, Global};
+use std::convert::AsSlice;
 
 /// The tag of a proof by an update, the first byte of its encoding.
 /// In the Rust: `qmdb::current::ordered::KEY_VALUE_CONTEXT`.
@@ -23,15 +26,15 @@ pub const KEY_VALUE_CONTEXT: u8 = 1;
 pub const COMMIT_CONTEXT: u8 = 2;
 
 // Appends the encoding. Out of memory, some of its bytes may have been appended.
-fn write_parts<F: PendingOf<D>, K: FixedKey, V: FixedValue, D: Digest>(
-    proof: &ExclusionProof<F, K, V, D>,
+fn write_parts<F: PendingOf<D>, K: FixedKey, V: FixedValue, D: Digest, C: AsSlice<u8> + Drop>(
+    proof: &ExclusionProof<F, K, V, D, C>,
     out: &mut Vec<u8>,
 ) -> Result<(), AllocError>
     ensures ok { OnOk result (out.new.items ≡ out.old.items ++ exclusion_encoding F.pending_encoding
-        (exclusion_of K.encoding V.encoding D.encoding F.held proof.now)) }
+        (form_exclusion_of C.items K.encoding V.encoding D.encoding F.held proof.now)) }
     ensures err { OnErr result (Extends out.old.items out.new.items) }
     ensures value { OnOk result
-        (IsExclusionValue ⟦<Proof<F, D> as Write>⟧.is_value K.is_value V.is_value proof.now) }
+        (IsExclusionValue ⟦<Proof<F, D, C> as Write>⟧.is_value K.is_value V.is_value proof.now) }
 {
     match proof {
         ExclusionProof::KeyValue(proof, update) => {
@@ -48,11 +51,18 @@ fn write_parts<F: PendingOf<D>, K: FixedKey, V: FixedValue, D: Digest>(
 }
 
 /// Its encoding is a tag; the proof of the operation; and the update without its tag, or the metadata if any.
-impl<F: PendingOf<D>, K: FixedKey, V: FixedValue, D: Digest> Write for ExclusionProof<F, K, V, D> {
+impl<F, K, V, D, C> Write for ExclusionProof<F, K, V, D, C>
+where
+    F: PendingOf<D>,
+    K: FixedKey,
+    V: FixedValue,
+    D: Digest,
+    C: AsSlice<u8> + Drop,
+{
     ghost encoding = { λ p. exclusion_encoding F.pending_encoding
-        (exclusion_of K.encoding V.encoding D.encoding F.held p) };
+        (form_exclusion_of C.items K.encoding V.encoding D.encoding F.held p) };
 
-    ghost is_value = { λ p. IsExclusionValue ⟦<Proof<F, D> as Write>⟧.is_value K.is_value V.is_value p };
+    ghost is_value = { λ p. IsExclusionValue ⟦<Proof<F, D, C> as Write>⟧.is_value K.is_value V.is_value p };
 
     fn write(&self, out: &mut Vec<u8>) -> Result<(), AllocError> {
         let start = out.len();
@@ -60,12 +70,13 @@ impl<F: PendingOf<D>, K: FixedKey, V: FixedValue, D: Digest> Write for Exclusion
     }
 }
 
-impl<F, K, V, D> EncodeSize for ExclusionProof<F, K, V, D>
+impl<F, K, V, D, C> EncodeSize for ExclusionProof<F, K, V, D, C>
 where
     F: PendingOf<D>,
     K: FixedKey + EncodeSize,
     V: FixedValue + EncodeSize,
     D: Digest,
+    C: AsSlice<u8> + Drop,
 {
     fn encode_size(&self) -> usize {
         match self {
@@ -91,21 +102,21 @@ fn read_tag(cursor: &mut Cursor<'_>) -> Result<u8, Error>
 }
 
 // A proof and an update at the front.
-fn read_update<F: PendingOf<D>, K: FixedKey, V: FixedValue, D: Digest>(
+fn read_update<F: PendingOf<D>, K: FixedKey, V: FixedValue, D: Digest, C: ChunkForm>(
     alloc: Global,
     cursor: &mut Cursor<'_>,
-    limits: &(usize, usize),
-) -> Result<(Proof<F, D>, OrderedUpdate<K, V>), Error>
-    ensures read { Reads (λ x. operation_proof_encoding F.pending_encoding (parts_of D.encoding F.held x.0)
+    limits: &C::Limits,
+) -> Result<(Proof<F, D, C>, OrderedUpdate<K, V>), Error>
+    ensures read { Reads (λ x. operation_proof_encoding F.pending_encoding (form_parts_of C.items D.encoding F.held x.0)
         ++ (K.encoding x.1.key ++ (V.encoding x.1.value ++ K.encoding x.1.next_key))) cursor.old cursor.new
-        (after_by_update (after_operation_proof (D.after tt) F.pending_after limits.now.0 limits.now.1) (K.after tt)
+        (after_by_update (after_form (D.after tt) F.pending_after (C.told limits.now)) (K.after tt)
         (V.after tt) cursor.old)
-        (OperationProofLacks limits.now.0 limits.now.1 cursor.old
-        ⊎ LacksAfter (after_operation_proof (D.after tt) F.pending_after limits.now.0 limits.now.1 cursor.old)
+        (FormLacks (C.may_lack limits.now) (C.told limits.now) cursor.old
+        ⊎ LacksAfter (after_form (D.after tt) F.pending_after (C.told limits.now) cursor.old)
         (OrderedLacks (K.after tt) (V.after tt) (K.may_lack tt) (V.may_lack tt))) result }
-    ensures proof { IfOk result (λ x. ⟦<Proof<F, D> as Write>⟧.is_value x.0) }
+    ensures proof { IfOk result (λ x. ⟦<Proof<F, D, C> as Write>⟧.is_value x.0) }
     ensures update { IfOk result (λ x. K.is_value x.1.key × (V.is_value x.1.value × K.is_value x.1.next_key)) }
-    ensures chunk { IfOk result (λ x. length x.0.chunk.items ≡ limits.now.0) }
+    ensures chunk { IfOk result (λ x. length (C.items x.0.chunk) ≡ (C.told limits.now).width) }
 {
     let proof = Proof::read_cfg(alloc, cursor, limits)?;
     let update = OrderedUpdate::<K, V>::read_cfg(alloc, cursor, &())?;
@@ -113,21 +124,21 @@ fn read_update<F: PendingOf<D>, K: FixedKey, V: FixedValue, D: Digest>(
 }
 
 // A proof and metadata at the front.
-fn read_commit<F: PendingOf<D>, V: FixedValue, D: Digest>(
+fn read_commit<F: PendingOf<D>, V: FixedValue, D: Digest, C: ChunkForm>(
     alloc: Global,
     cursor: &mut Cursor<'_>,
-    limits: &(usize, usize),
-) -> Result<(Proof<F, D>, Option<V>), Error>
-    ensures read { Reads (λ x. operation_proof_encoding F.pending_encoding (parts_of D.encoding F.held x.0)
+    limits: &C::Limits,
+) -> Result<(Proof<F, D, C>, Option<V>), Error>
+    ensures read { Reads (λ x. operation_proof_encoding F.pending_encoding (form_parts_of C.items D.encoding F.held x.0)
         ++ option_encoding V.encoding x.1) cursor.old cursor.new
-        (after_by_commit (after_operation_proof (D.after tt) F.pending_after limits.now.0 limits.now.1) (V.after tt)
+        (after_by_commit (after_form (D.after tt) F.pending_after (C.told limits.now)) (V.after tt)
         cursor.old)
-        (OperationProofLacks limits.now.0 limits.now.1 cursor.old
-        ⊎ LacksAfter (after_operation_proof (D.after tt) F.pending_after limits.now.0 limits.now.1 cursor.old)
+        (FormLacks (C.may_lack limits.now) (C.told limits.now) cursor.old
+        ⊎ LacksAfter (after_form (D.after tt) F.pending_after (C.told limits.now) cursor.old)
         (OptionLacks (V.may_lack tt))) result }
-    ensures proof { IfOk result (λ x. ⟦<Proof<F, D> as Write>⟧.is_value x.0) }
+    ensures proof { IfOk result (λ x. ⟦<Proof<F, D, C> as Write>⟧.is_value x.0) }
     ensures metadata { IfOk result (λ x. IfSome x.1 V.is_value) }
-    ensures chunk { IfOk result (λ x. length x.0.chunk.items ≡ limits.now.0) }
+    ensures chunk { IfOk result (λ x. length (C.items x.0.chunk) ≡ (C.told limits.now).width) }
 {
     let proof = Proof::read_cfg(alloc, cursor, limits)?;
     let metadata = Option::read_cfg(alloc, cursor, &())?;
@@ -135,25 +146,32 @@ fn read_commit<F: PendingOf<D>, V: FixedValue, D: Digest>(
 }
 
 /// Reading takes what the operation proof's reading, an update's and a value's take. Another tag is C5.
-impl<F: PendingOf<D>, K: FixedKey, V: FixedValue, D: Digest> Read for ExclusionProof<F, K, V, D> {
+impl<F, K, V, D, C> Read for ExclusionProof<F, K, V, D, C>
+where
+    F: PendingOf<D>,
+    K: FixedKey,
+    V: FixedValue,
+    D: Digest,
+    C: ChunkForm,
+{
     ghost use Rattle.state_proofs.specs.Laws.Exclusion.{exclusion_again};
 
-    type Cfg = ((usize, usize), (), ());
+    type Cfg = (C::Limits, (), ());
 
     ghost after = { λ cfg bytes. after_exclusion
-        (after_operation_proof (D.after tt) F.pending_after cfg.0.0 cfg.0.1) (K.after tt) (V.after tt) bytes };
+        (after_form (D.after tt) F.pending_after (C.told cfg.0)) (K.after tt) (V.after tt) bytes };
 
     ghost may_lack = { λ cfg bytes. ExclusionLacks
-        (after_operation_proof (D.after tt) F.pending_after cfg.0.0 cfg.0.1) (K.after tt) (V.after tt)
-        (OperationProofLacks cfg.0.0 cfg.0.1) (K.may_lack tt) (V.may_lack tt) bytes };
+        (after_form (D.after tt) F.pending_after (C.told cfg.0)) (K.after tt) (V.after tt)
+        (FormLacks (C.may_lack cfg.0) (C.told cfg.0)) (K.may_lack tt) (V.may_lack tt) bytes };
 
-    ghost is_within = { λ cfg p. IsExclusionWithin (⟦<Proof<F, D> as Read>⟧.is_within cfg.0) p };
+    ghost is_within = { λ cfg p. IsExclusionWithin (⟦<Proof<F, D, C> as Read>⟧.is_within cfg.0) p };
 
     fn read_cfg(
         alloc: Global,
         cursor: &mut Cursor<'_>,
-        cfg: &((usize, usize), (), ()),
-    ) -> Result<ExclusionProof<F, K, V, D>, Error> {
+        cfg: &(C::Limits, (), ()),
+    ) -> Result<ExclusionProof<F, K, V, D, C>, Error> {
         match read_tag(cursor)? {
             KEY_VALUE_CONTEXT => {
                 let (proof, update) = read_update(alloc, cursor, &cfg.0)?;
@@ -173,5 +191,5 @@ impl<F: PendingOf<D>, K: FixedKey, V: FixedValue, D: Digest> Read for ExclusionP
         (record { any = D.any_bytes; again = F.pending_again; once = F.pending_once }) K.encoding V.encoding K.is_value
         V.is_value (K.after tt) (V.after tt)
         (λ k more is. K.read_again tt k more is (K.within k)) (λ v more is. V.read_again tt v more is (V.within v))
-        cfg.0.0 cfg.0.1 p rest value within };
+        C.items (C.told cfg.0) p rest value within };
 }

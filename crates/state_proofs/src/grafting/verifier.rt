@@ -4,19 +4,24 @@ ghost use Rattle.std.specs.Prelude.{◌≡◌, ◌-◌, [], map, slice_index_or}
 ghost use Rattle.merkle_forest.specs.declared.bagging.Bagging.TheVariants.{BackwardFold};
 ghost use Rattle.merkle_forest.specs.Hashing.{leaf_string};
 ghost use Rattle.state_proofs.specs.Verifier.{node_at, joined_chunk, grafted_node};
-ghost use Rattle.state_proofs.specs.VerifierCode.{given_of};
+ghost use Rattle.state_proofs.specs.VerifierCode.{form_given_of};
 
 use crate::grafting::graft;
 use merkle_forest::hasher::{HashFunction, Hasher, hash_leaf, hash_node};
 use merkle_forest::{Bagging, Graftable, MAX_LEAVES, Position};
+use std::convert::AsSlice;
 use std::marker::PhantomData;
 
 // The chunk with this index, of those from a first one on. Where it is none of them it is open which is answered.
-pub(crate) fn covering_chunk<'a>(chunks: &'a [&'a [u8]], first: u64, index: u64) -> &'a [u8]
-    ensures { result.now ≡ slice_index_or (map (λ chunk. chunk.now) chunks.now) (index - first) [] }
+pub(crate) fn covering_chunk<'a, C: AsSlice<u8>>(
+    chunks: &'a [C],
+    first: u64,
+    index: u64,
+) -> &'a [u8]
+    ensures { result.now ≡ slice_index_or (map C.items chunks.now) (index - first) [] }
 {
     match chunks.get(index.saturating_sub(first) as usize) {
-        Some(chunk) => chunk,
+        Some(chunk) => chunk.as_slice(),
         None => &[],
     }
 }
@@ -25,27 +30,27 @@ pub(crate) fn covering_chunk<'a>(chunks: &'a [&'a [u8]], first: u64, index: u64)
 /// the operations' tree; at that height the chunk over it is joined in, where it is graftable and is one of those given.
 /// In the Rust: `qmdb::current::grafting::Verifier`, which owns the list of chunks.
 #[derive(Drop)]
-pub struct Verifier<'a, F: Graftable, H> {
+pub struct Verifier<'a, F: Graftable, H, C = &'a [u8]> {
     grafting_height: u32,
     start_chunk_index: u64,
-    chunks: &'a [&'a [u8]],
+    chunks: &'a [C],
     graftable_chunks: u64,
     marker: PhantomData<(F, H)>,
 }
 
-impl<'a, F: Graftable, H> Verifier<'a, F, H> {
+impl<'a, F: Graftable, H, C: AsSlice<u8>> Verifier<'a, F, H, C> {
     /// The hasher with these chunks, of which the first has this index; so many chunks of the tree are graftable.
     /// In the Rust: `qmdb::current::grafting::Verifier::new`.
     pub fn new(
         grafting_height: u32,
         start_chunk_index: u64,
-        chunks: &'a [&'a [u8]],
+        chunks: &'a [C],
         graftable_chunks: u64,
-    ) -> Verifier<'a, F, H>
-        ensures { given_of result ≡ record {
+    ) -> Verifier<'a, F, H, C>
+        ensures { form_given_of C.items result ≡ record {
           grafting_height = grafting_height;
           first = start_chunk_index;
-          chunks = map (λ chunk. chunk.now) chunks.now;
+          chunks = map C.items chunks.now;
           graftable = graftable_chunks;
         } }
     {
@@ -60,7 +65,7 @@ impl<'a, F: Graftable, H> Verifier<'a, F, H> {
 
     // The chunk that is joined in at a position: no byte where none is.
     fn chunk_joined_at(&self, position: u64) -> &'a [u8]
-        ensures { result.now ≡ joined_chunk (given_of self.now) (node_at F.merge_rule position) }
+        ensures { result.now ≡ joined_chunk (form_given_of C.items self.now) (node_at F.merge_rule position) }
     {
         if position >= F::leaf_position(MAX_LEAVES) {
             return &[];
@@ -78,7 +83,7 @@ impl<'a, F: Graftable, H> Verifier<'a, F, H> {
     }
 }
 
-impl<F: Graftable, H: HashFunction> Hasher<F> for Verifier<'_, F, H> {
+impl<F: Graftable, H: HashFunction, C: AsSlice<u8>> Hasher<F> for Verifier<'_, F, H, C> {
     type Digest = H::Digest;
 
     ghost hash_of = { H.hash_of };
@@ -86,7 +91,7 @@ impl<F: Graftable, H: HashFunction> Hasher<F> for Verifier<'_, F, H> {
     ghost leaf_of = { λ _ position element. H.hash_of (leaf_string position element) };
 
     ghost node_of = { λ verifier position left right.
-        grafted_node F.merge_rule H.hash_of (given_of verifier) position left right };
+        grafted_node F.merge_rule H.hash_of (form_given_of C.items verifier) position left right };
 
     ghost bagging_of = { λ _. BackwardFold };
 

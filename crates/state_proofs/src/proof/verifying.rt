@@ -1,12 +1,14 @@
 //! The check of a proof over a range of operations.
 
-ghost use Rattle.std.specs.Prelude.{◌≡◌, ◌↔◌, ◌<◌, ◌≤◌, ◌+◌, ◌-◌, ◌*◌, ◌/◌, ◌^◌, ℕ, List, [], IsTrue, map, length, option_map, slice_index_or};
+ghost use Rattle.std.specs.Prelude.{◌≡◌, ◌↔◌, ◌<◌, ◌≤◌, ◌+◌, ◌-◌, ◌*◌, ◌/◌, ◌^◌, ℕ, List, [], IsTrue, MatchOption, map, length, option_map, slice_index_or};
 ghost use Rattle.std.specs.List.{AllByRecursion};
 ghost use Rattle.merkle_forest.specs.Made.{value};
 ghost use Rattle.state_proofs.specs.ProofsCode.{range_parts_of};
-ghost use Rattle.state_proofs.specs.RangeVerified.{Covers, covering, FitsShown, IsShaped, VerifiesRange, graftable_shown, shown_grafted};
-ghost use Rattle.state_proofs.specs.RangeVerifiedCode.{shown_of};
+ghost use Rattle.state_proofs.specs.RangeExtracted.{LeadsNowhere};
+ghost use Rattle.state_proofs.specs.RangeVerified.{Covers, covering, FitsShown, IsShaped, VerifiesRange, given_by, graftable_shown, shown_grafted};
+ghost use Rattle.state_proofs.specs.RangeVerifiedCode.{form_shown_of};
 ghost use Rattle.state_proofs.specs.Verified.{FitsChunk};
+ghost use Rattle.state_proofs.specs.VerifierCode.{form_given_of};
 
 use crate::chunk_size::ChunkSize;
 use crate::grafting::verifier::{Verifier, covering_chunk};
@@ -14,16 +16,18 @@ use crate::proof::RangeProof;
 use crate::verify::{fits_chunk, graftable_chunks_of, sealed_root};
 use merkle_core::range::reconstruct_range;
 use merkle_forest::{Digest, Graftable, HashFunction, Location, MAX_LEAVES, PendingOf};
+use std::convert::AsSlice;
 
-/// What is shown with a proof over a range: encoded operations from a location on, and the chunks over them (own).
-#[derive(Clone, Copy)]
-pub struct Shown<'a> {
+/// What is shown with a proof over a range: encoded operations from a location on, and the chunks over them, slices or
+/// arrays (own).
+#[derive_where(Clone, Copy)]
+pub struct Shown<'a, C = &'a [u8]> {
     /// The location of the first operation.
     pub start: u64,
     /// The encoded operations.
     pub operations: &'a [&'a [u8]],
     /// The chunks with their activity bits.
-    pub chunks: &'a [&'a [u8]],
+    pub chunks: &'a [C],
     /// How many bits a chunk has.
     pub chunk_size: ChunkSize,
 }
@@ -37,14 +41,14 @@ fn is_covered(first: u64, count: usize, index: u64) -> bool
 
 // Whether the digest of the chunk with this index is held exactly if the chunk is there, and is that of the chunk that is
 // shown if this is covered.
-fn fits_index<H: HashFunction>(
-    shown: &Shown<'_>,
+fn fits_index<H: HashFunction, C: AsSlice<u8>>(
+    shown: &Shown<'_, C>,
     digest: &Option<H::Digest>,
     is_there: bool,
     index: u64,
 ) -> bool
-    ensures { IsTrue result ↔ FitsChunk H.hash_of (covering (shown_of shown.now) index) (IsTrue is_there)
-        (Covers (shown_of shown.now) index) (option_map H.Digest.encoding digest.now) }
+    ensures { IsTrue result ↔ FitsChunk H.hash_of (covering (form_shown_of C.items shown.now) index) (IsTrue is_there)
+        (Covers (form_shown_of C.items shown.now) index) (option_map H.Digest.encoding digest.now) }
 {
     let first = shown.chunk_size.index_of(shown.start);
     let chunk = covering_chunk(shown.chunks, first, index);
@@ -57,36 +61,36 @@ fn fits_index<H: HashFunction>(
 }
 
 // Whether the digests of the pending and of the partial chunk fit the number of operations and the chunks that are shown.
-fn fits_shown<F: Graftable + PendingOf<H::Digest>, H: HashFunction>(
+fn fits_shown<F: Graftable + PendingOf<H::Digest>, H: HashFunction, C: AsSlice<u8>>(
     proof: &RangeProof<F, H::Digest>,
-    shown: &Shown<'_>,
+    shown: &Shown<'_, C>,
     graftable: u64,
 ) -> bool
     ensures { IsTrue result ↔ FitsShown H.hash_of graftable (range_parts_of H.Digest.encoding F.held proof.now)
-        (shown_of shown.now) }
+        (form_shown_of C.items shown.now) }
 {
     let leaves = proof.proof.leaves.as_u64();
     let full = shown.chunk_size.full_chunks(leaves);
     let left = shown.chunk_size.bit_of(leaves);
     let pending = F::digest_of(&proof.pending_chunk_digest);
     full.saturating_sub(graftable) <= 1
-        && fits_index::<H>(shown, &pending, graftable < full, graftable)
-        && fits_index::<H>(shown, &proof.partial_chunk_digest, left > 0, full)
+        && fits_index::<H, C>(shown, &pending, graftable < full, graftable)
+        && fits_index::<H, C>(shown, &proof.partial_chunk_digest, left > 0, full)
 }
 
 // Whether all chunks have this width.
-fn are_wide(chunks: &[&[u8]], width: usize) -> bool
-    ensures { IsTrue result ↔ AllByRecursion (λ chunk. length chunk ≡ width) (map (λ chunk. chunk.now) chunks.now) }
+fn are_wide<C: AsSlice<u8>>(chunks: &[C], width: usize) -> bool
+    ensures { IsTrue result ↔ AllByRecursion (λ chunk. length chunk ≡ width) (map C.items chunks.now) }
 {
     match chunks {
         [] => true,
-        [chunk, rest @ ..] => chunk.len() == width && are_wide(rest, width),
+        [chunk, rest @ ..] => chunk.as_slice().len() == width && are_wide(rest, width),
     }
 }
 
 // Whether there is an operation, all are within a tree of so many, and the chunks are those over them.
-fn is_shaped(shown: &Shown<'_>, leaves: u64) -> bool
-    ensures { IsTrue result ↔ IsShaped leaves (shown_of shown.now) }
+fn is_shaped<C: AsSlice<u8>>(shown: &Shown<'_, C>, leaves: u64) -> bool
+    ensures { IsTrue result ↔ IsShaped leaves (form_shown_of C.items shown.now) }
 {
     let count = shown.operations.len() as u64;
     if count == 0 {
@@ -100,24 +104,35 @@ fn is_shaped(shown: &Shown<'_>, leaves: u64) -> bool
     last - first + 1 == shown.chunks.len() as u64 && are_wide(shown.chunks, shown.chunk_size.width)
 }
 
+// The hasher of the grafted tree with the chunks that are shown, of which so many first ones of the state are graftable.
+pub(crate) fn shown_hasher<'a, F: Graftable, H: HashFunction, C: AsSlice<u8>>(
+    shown: &Shown<'a, C>,
+    graftable: u64,
+) -> Verifier<'a, F, H, C>
+    ensures { form_given_of C.items result
+        ≡ given_by shown.now.chunk_size.grafting_height graftable (form_shown_of C.items shown.now) }
+{
+    Verifier::new(
+        shown.chunk_size.grafting_height,
+        shown.chunk_size.index_of(shown.start),
+        shown.chunks,
+        graftable,
+    )
+}
+
 // The root of the grafted tree that the proof leads to from what is shown.
-fn shown_root<F: Graftable + PendingOf<H::Digest>, H: HashFunction>(
+fn shown_root<F: Graftable + PendingOf<H::Digest>, H: HashFunction, C: AsSlice<u8>>(
     proof: &RangeProof<F, H::Digest>,
-    shown: &Shown<'_>,
+    shown: &Shown<'_, C>,
     graftable: u64,
 ) -> Option<H::Digest>
     requires { graftable ≡ graftable_shown F.merge_rule shown.now.chunk_size.grafting_height
         (range_parts_of H.Digest.encoding F.held proof.now) }
     ensures { option_map H.Digest.encoding result
         ≡ option_map (value H.hash_of) (shown_grafted F.merge_rule shown.now.chunk_size.grafting_height
-        (range_parts_of H.Digest.encoding F.held proof.now) (shown_of shown.now)) }
+        (range_parts_of H.Digest.encoding F.held proof.now) (form_shown_of C.items shown.now)) }
 {
-    let verifier: Verifier<'_, F, H> = Verifier::new(
-        shown.chunk_size.grafting_height,
-        shown.chunk_size.index_of(shown.start),
-        shown.chunks,
-        graftable,
-    );
+    let verifier = shown_hasher::<F, H, C>(shown, graftable);
     reconstruct_range(
         &verifier,
         &proof.proof,
@@ -127,30 +142,78 @@ fn shown_root<F: Graftable + PendingOf<H::Digest>, H: HashFunction>(
     .ok()
 }
 
-// Whether the proof shows it.
-fn verifies_shown<F: Graftable + PendingOf<H::Digest>, H: HashFunction>(
+// The canonical root that the proof leads to from what is shown. None: it leads to none.
+pub(crate) fn led_root<F: Graftable + PendingOf<H::Digest>, H: HashFunction, C: AsSlice<u8>>(
     proof: &RangeProof<F, H::Digest>,
-    shown: &Shown<'_>,
+    shown: &Shown<'_, C>,
+) -> Option<H::Digest>
+    ensures { MatchOption result
+        (LeadsNowhere F.merge_rule H.hash_of (range_parts_of H.Digest.encoding F.held proof.now)
+        (form_shown_of C.items shown.now))
+        (λ root. VerifiesRange F.merge_rule H.hash_of (H.Digest.encoding root)
+        (range_parts_of H.Digest.encoding F.held proof.now) (form_shown_of C.items shown.now)) }
+{
+    let leaves = proof.proof.leaves.as_u64();
+    if leaves > MAX_LEAVES {
+        return None;
+    }
+    if !is_shaped(shown, leaves) {
+        return None;
+    }
+    let graftable = graftable_chunks_of::<F>(leaves, shown.chunk_size);
+    if !fits_shown::<F, H, C>(proof, shown, graftable) {
+        return None;
+    }
+    let Some(grafted) = shown_root::<F, H, C>(proof, shown, graftable) else {
+        return None;
+    };
+    let next = shown.chunk_size.bit_of(leaves);
+    Some(sealed_root::<F, H>(proof, &grafted, next))
+}
+
+// Whether the proof shows it.
+fn verifies_shown<F: Graftable + PendingOf<H::Digest>, H: HashFunction, C: AsSlice<u8>>(
+    proof: &RangeProof<F, H::Digest>,
+    shown: &Shown<'_, C>,
     root: &H::Digest,
 ) -> bool
     ensures { IsTrue result ↔ VerifiesRange F.merge_rule H.hash_of (H.Digest.encoding root.now)
-        (range_parts_of H.Digest.encoding F.held proof.now) (shown_of shown.now) }
+        (range_parts_of H.Digest.encoding F.held proof.now) (form_shown_of C.items shown.now) }
 {
-    let leaves = proof.proof.leaves.as_u64();
-    if leaves > MAX_LEAVES || !is_shaped(shown, leaves) {
-        return false;
-    }
-    let graftable = graftable_chunks_of::<F>(leaves, shown.chunk_size);
-    if !fits_shown::<F, H>(proof, shown, graftable) {
-        return false;
-    }
-    match shown_root::<F, H>(proof, shown, graftable) {
+    match led_root::<F, H, C>(proof, shown) {
         None => false,
-        Some(grafted) => {
-            let next = shown.chunk_size.bit_of(leaves);
-            sealed_root::<F, H>(proof, &grafted, next) == *root
-        }
+        Some(led) => led == *root,
     }
+}
+
+// Whether the proof shows these encoded operations from a location on, with these chunks over them of so many bytes each.
+fn verifies_chunks<F: Graftable + PendingOf<H::Digest>, H: HashFunction, C: AsSlice<u8>>(
+    proof: &RangeProof<F, H::Digest>,
+    start: u64,
+    operations: &[&[u8]],
+    chunks: &[C],
+    width: usize,
+    root: &H::Digest,
+) -> bool
+    ensures { IsTrue result ↔ VerifiesRange F.merge_rule H.hash_of (H.Digest.encoding root.now)
+        (range_parts_of H.Digest.encoding F.held proof.now)
+        (record {
+          start = start;
+          operations = map (λ operation. operation.now) operations.now;
+          chunks = map C.items chunks.now;
+          width = width;
+        }) }
+{
+    let Some(chunk_size) = ChunkSize::new(width) else {
+        return false;
+    };
+    let shown = Shown {
+        start,
+        operations,
+        chunks,
+        chunk_size,
+    };
+    verifies_shown::<F, H, C>(proof, &shown, root)
 }
 
 impl<F: Graftable + PendingOf<D>, D: Digest> RangeProof<F, D> {
@@ -177,15 +240,30 @@ impl<F: Graftable + PendingOf<D>, D: Digest> RangeProof<F, D> {
               width = chunk_size;
             }) }
     {
-        let Some(chunk_size) = ChunkSize::new(chunk_size) else {
-            return false;
-        };
-        let shown = Shown {
-            start: start_loc.as_u64(),
-            operations,
-            chunks,
-            chunk_size,
-        };
-        verifies_shown::<F, H>(self, &shown, root)
+        let start = start_loc.as_u64();
+        verifies_chunks::<F, H, _>(self, start, operations, chunks, chunk_size, root)
+    }
+
+    /// Whether the proof shows that these encoded operations stand in the state of this root from a location on, and that
+    /// the chunks over them, of N bytes each, are these. It does not where `verify_with_chunk_size` says no. It takes no
+    /// memory. In the Rust: `qmdb::current::proof::RangeProof::verify`, which encodes the operations itself.
+    pub fn verify<H: HashFunction<Digest = D>, const N: usize>(
+        &self,
+        start_loc: Location<F>,
+        operations: &[&[u8]],
+        chunks: &[[u8; N]],
+        root: &D,
+    ) -> bool
+        ensures { IsTrue result ↔ VerifiesRange F.merge_rule H.hash_of (D.encoding root.now)
+            (range_parts_of D.encoding F.held self.now)
+            (record {
+              start = start_loc;
+              operations = map (λ operation. operation.now) operations.now;
+              chunks = chunks.now;
+              width = N;
+            }) }
+    {
+        let start = start_loc.as_u64();
+        verifies_chunks::<F, H, _>(self, start, operations, chunks, N, root)
     }
 }

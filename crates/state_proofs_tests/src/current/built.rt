@@ -19,21 +19,21 @@ type Built = Result<RangeProof<mmr::Family, Hash>, Error<mmr::Family>>;
 type BuiltOfOne = Result<operation::Proof<mmr::Family, Hash>, Error<mmr::Family>>;
 
 // The root of the operations' tree.
-const OPERATIONS_ROOT: [u8; 32] = [
+pub(crate) const OPERATIONS_ROOT: [u8; 32] = [
     0x12, 0x9a, 0x40, 0xf6, 0x4f, 0x6b, 0x5d, 0x67, 0x33, 0xd4, 0x97, 0xbc, 0x8a, 0xff, 0x80, 0xcd,
     0x4f, 0x32, 0x68, 0x51, 0xcc, 0x89, 0x27, 0x08, 0xb0, 0x04, 0xb5, 0x21, 0x17, 0x22, 0x96, 0x27,
 ];
 
 // The canonical root, with the chunk of the three bits.
-const ROOT: [u8; 32] = [
+pub(crate) const ROOT: [u8; 32] = [
     0x1a, 0xbb, 0x31, 0xad, 0x0e, 0xae, 0x75, 0x76, 0x6a, 0x06, 0x59, 0x5b, 0xc6, 0x31, 0xdb, 0x40,
     0x1b, 0xda, 0x9f, 0xcf, 0xa9, 0xcf, 0x88, 0xdb, 0x64, 0xe9, 0x77, 0x5b, 0x8f, 0x0d, 0xa2, 0x89,
 ];
 
-const BITS: &[bool] = &[true, false, true];
+pub(crate) const BITS: &[bool] = &[true, false, true];
 
 // The tree of the operations.
-fn tree(alloc: Global) -> Result<Mem<mmr::Family, Hash>, TreeError<mmr::Family>> {
+pub(crate) fn tree(alloc: Global) -> Result<Mem<mmr::Family, Hash>, TreeError<mmr::Family>> {
     let hasher: Standard<ByteHash> = Standard::new(Bagging::BackwardFold);
     let mut tree = Mem::new(alloc);
     let mut batch = tree.new_batch()?;

@@ -1,4 +1,6 @@
 use Rattle.std.proofs.Common.{◌≡◌, ◌++◌, List, ℕ, [], Ok, refl, ap, sym, ◌∙◌, append-nil, arith}
+use Rattle.std.specs.declared.alloc.Global.{Global}
+use Rattle.std.specs.declared.vec.Vec.{Vec}
 use Rattle.merkle_forest.specs.Codec.{Outcome, ◌>>=◌}
 use Rattle.merkle_forest.specs.Laws.Lists.{bind_ok}
 use Rattle.state_ops.specs.Operation.{ordered, update, fixed_encoding}
@@ -79,7 +81,7 @@ returns-else-not-is_empty g c =
     g.met.H.Digest.FixedSize.sized
     g.F.PendingOf.held g.F.Pending.Write.is_value g.F.PendingOf.is_pending g.met.F.PendingOf.pending_value digest held
     g.F.PendingOf.pending_encoding grammar
-    c.args.width 122 c.in-Ok.proof.proof next front.0 c.in-Ok.ensures.value.0 c.in-Ok.ensures.chunk front.1 in
+    (λ (chunk : Vec ℕ Global). chunk.items) c.args.width 122 c.in-Ok.proof.proof next front.0 c.in-Ok.ensures.value.0 c.in-Ok.ensures.chunk front.1 in
     let is_key : key next ≡ Ok [] = ap key (sym (append-nil next))
     ∙ g.met.K.Read.read_again tt c.in-Ok.proof.next_key [] c.in-Ok.ensures.value.1
     (g.met.K.FixedKey.within c.in-Ok.proof.next_key) in

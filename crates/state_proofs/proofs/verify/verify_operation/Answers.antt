@@ -1,6 +1,6 @@
-use Rattle.std.proofs.Common.{◌≡◌, ℕ, List, ◌*◌, ◌^◌, ◌%◌, Option, Some, None, refl, sym, ◌∙◌, ap, arith}
+use Rattle.std.proofs.Common.{◌≡◌, ℕ, List, ◌*◌, ◌^◌, ◌%◌, length, Option, Some, None, refl, sym, ◌∙◌, ap, arith}
 use Rattle.state_proofs.specs.Canonical.{canonical_string}
-use Rattle.state_proofs.specs.ProofsCode.{parts_of}
+use Rattle.state_proofs.specs.ProofsCode.{form_parts_of}
 use Rattle.state_proofs.specs.Verified.{Parts, bits_of, bit_of}
 use Rattle.state_proofs.proofs.HeightLemmas.{at_height}
 use Rattle.state_proofs.proofs.verify.verify_operation.Goals as goal
@@ -9,9 +9,9 @@ pub returns-then-not-fits_chunks : goal.returns-then-not-fits_chunks
 returns-then-not-fits_chunks g c = (
   λ e. absurd cc,
   λ it.
-      let proof : Parts = parts_of g.H.Digest.Write.encoding g.F.PendingOf.held c.args.proof.now in
+      let proof : Parts = form_parts_of g.C.AsSlice.items g.H.Digest.Write.encoding g.F.PendingOf.held c.args.proof.now in
       let whole : bits_of proof ≡ 2 ^ c.in-Some.chunk_size.grafting_height =
-      omega (arith, c.in-Some.ensures.some, c.in-Some.chunk_size.whole) in
+      omega (arith, c.in-Some.ensures.some, ap length c.as_slice-chunk.ensures, c.in-Some.chunk_size.whole) in
       let same = at_height g.F.Family.merge_rule g.H.HashFunction.hash_of
       (g.H.Digest.Write.encoding c.args.root.now) proof c.args.operation.now
       c.in-Some.chunk_size.grafting_height whole it in
@@ -22,9 +22,9 @@ pub returns-in-None : goal.returns-in-None
 returns-in-None g c = (
   λ e. absurd cc,
   λ it.
-      let proof : Parts = parts_of g.H.Digest.Write.encoding g.F.PendingOf.held c.args.proof.now in
+      let proof : Parts = form_parts_of g.C.AsSlice.items g.H.Digest.Write.encoding g.F.PendingOf.held c.args.proof.now in
       let whole : bits_of proof ≡ 2 ^ c.in-Some.chunk_size.grafting_height =
-      omega (arith, c.in-Some.ensures.some, c.in-Some.chunk_size.whole) in
+      omega (arith, c.in-Some.ensures.some, ap length c.as_slice-chunk.ensures, c.in-Some.chunk_size.whole) in
       let same = at_height g.F.Family.merge_rule g.H.HashFunction.hash_of
       (g.H.Digest.Write.encoding c.args.root.now) proof c.args.operation.now
       c.in-Some.chunk_size.grafting_height whole it in
@@ -34,9 +34,9 @@ returns-in-None g c = (
 pub returns-in-Some-grafted_root_of : goal.returns-in-Some-grafted_root_of
 returns-in-Some-grafted_root_of g c =
     let encoding = g.H.Digest.Write.encoding in
-    let proof : Parts = parts_of encoding g.F.PendingOf.held c.args.proof.now in
+    let proof : Parts = form_parts_of g.C.AsSlice.items encoding g.F.PendingOf.held c.args.proof.now in
     let whole : bits_of proof ≡ 2 ^ c.in-Some.chunk_size.grafting_height =
-    omega (arith, c.in-Some.ensures.some, c.in-Some.chunk_size.whole) in
+    omega (arith, c.in-Some.ensures.some, ap length c.as_slice-chunk.ensures, c.in-Some.chunk_size.whole) in
     let bits : 8 * c.in-Some.chunk_size.width ≡ bits_of proof = omega (arith, c.in-Some.chunk_size.whole, whole) in
     let bit : c.bit_of.result ≡ bit_of proof = c.bit_of.ensures.bit
     ∙ ap (λ n. n % (8 * c.in-Some.chunk_size.width)) c.as_u64-location.ensures
@@ -52,7 +52,7 @@ returns-in-Some-grafted_root_of g c =
         low = c.in-Some.chunk_size.low;
         few = omega arith;
         within = omega arith;
-        active = rw (bit, c.deref-2.ensures.value) at (sym c.if-not-is_bit_set.ensures);
+        active = rw (bit, c.as_slice-chunk.ensures) at (sym c.if-not-is_bit_set.ensures);
         fits = c.if-not-fits_chunks.ensures.0 refl;
         grafted_root = grafted;
         leads = sym c.in-Some-grafted_root_of.ensures;

@@ -1,6 +1,6 @@
 use Rattle.std.proofs.Common.{sym, ◌∙◌, ap}
 use Rattle.std.specs.Prelude.{IsTrue}
-use Rattle.state_proofs.specs.ExclusionCode.{exclusion_of}
+use Rattle.state_proofs.specs.ExclusionCode.{form_exclusion_of}
 use Rattle.state_proofs.proofs.ExclusionLemmas.{excludes_exactly}
 use Rattle.state_proofs.proofs.exclusion.ExclusionProof.verify.Goals as goal
 
@@ -8,7 +8,7 @@ pub returns-in_ok-operation-in-KeyValue : goal.returns-in_ok-operation-in-KeyVal
 returns-in_ok-operation-in-KeyValue g c =
     excludes_exactly (IsTrue c.verify.result) g.F.Family.merge_rule g.H.HashFunction.hash_of g.K.FixedSize.SIZE g.V.FixedSize.SIZE
     (g.D.Write.encoding c.args.root.now) _ _ (g.K.Write.encoding c.args.key.now) c.deref.result.now
-    (ap (exclusion_of g.K.Write.encoding g.V.Write.encoding g.D.Write.encoding g.F.PendingOf.held) c.in-KeyValue.is)
+    (ap (form_exclusion_of g.C.AsSlice.items g.K.Write.encoding g.V.Write.encoding g.D.Write.encoding g.F.PendingOf.held) c.in-KeyValue.is)
     (c.deref.ensures.value ∙ c.in_ok-operation-in-KeyValue.ensures)
     (λ same. (let no = c.if-is_key.ensures.1 same in absurd cc), sym c.span_holds_key.ensures ∙ c.if-not-span_holds_key.false)
     c.verify.ensures
@@ -17,6 +17,6 @@ pub returns-in_ok-operation-in-Commit : goal.returns-in_ok-operation-in-Commit
 returns-in_ok-operation-in-Commit g c =
     excludes_exactly (IsTrue c.verify-in-Commit.result) g.F.Family.merge_rule g.H.HashFunction.hash_of g.K.FixedSize.SIZE g.V.FixedSize.SIZE
     (g.D.Write.encoding c.args.root.now) _ _ (g.K.Write.encoding c.args.key.now) c.deref-in-Commit.result.now
-    (ap (exclusion_of g.K.Write.encoding g.V.Write.encoding g.D.Write.encoding g.F.PendingOf.held) c.in-Commit.is)
+    (ap (form_exclusion_of g.C.AsSlice.items g.K.Write.encoding g.V.Write.encoding g.D.Write.encoding g.F.PendingOf.held) c.in-Commit.is)
     (c.deref-in-Commit.ensures.value ∙ c.in_ok-operation-in-Commit.ensures) tt
     c.verify-in-Commit.ensures

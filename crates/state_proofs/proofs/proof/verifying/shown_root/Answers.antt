@@ -7,11 +7,11 @@ use Rattle.merkle_core.specs.MadeTrees.{Over}
 use Rattle.merkle_core.specs.Reads.{HashesAs, range_root}
 use Rattle.state_proofs.specs.MadeGrafted.{grafted_names}
 use Rattle.state_proofs.specs.ProofsCode.{range_parts_of}
-use Rattle.state_proofs.specs.RangeVerified.{Shown, given_by, shown_over, first_index, graftable_shown}
-use Rattle.state_proofs.specs.RangeVerifiedCode.{shown_of}
+use Rattle.state_proofs.specs.RangeVerified.{Shown, given_by, shown_over, graftable_shown}
+use Rattle.state_proofs.specs.RangeVerifiedCode.{form_shown_of}
 use Rattle.state_proofs.specs.Verified.{RangeParts}
 use Rattle.state_proofs.specs.Verifier.{Given, grafted_node}
-use Rattle.state_proofs.specs.VerifierCode.{given_of}
+use Rattle.state_proofs.specs.VerifierCode.{form_given_of}
 use Rattle.state_proofs.proofs.VerifierLemmas.{hashes_grafted}
 use Rattle.state_proofs.proofs.proof.verifying.shown_root.Goals as goal
 
@@ -20,16 +20,13 @@ returns g c =
     let hash : Hash = g.H.HashFunction.hash_of in
     let level : ℕ = c.args.shown.now.chunk_size.grafting_height in
     let proof : RangeParts = range_parts_of g.H.Digest.Write.encoding g.F.PendingOf.held c.args.proof.now in
-    let shown : Shown = shown_of c.args.shown.now in
+    let shown : Shown = form_shown_of g.C.AsSlice.items c.args.shown.now in
     let over : Over = shown_over g.F.Family.merge_rule level proof shown in
     let given : Given = given_by level (graftable_shown g.F.Family.merge_rule level proof) shown in
-    let made : ℕ → ℕ → Given = λ first graftable.
-    record { grafting_height = level; first = first; chunks = shown.chunks; graftable = graftable } in
-    let same : given_of c.new-verifier.result ≡ given =
-    c.new-verifier.ensures ∙ ap (λ k. made k c.args.graftable) c.index_of.ensures ∙ ap (made (first_index shown)) c.requires in
+    let same : form_given_of g.C.AsSlice.items c.shown_hasher-verifier.result ≡ given = c.shown_hasher-verifier.ensures ∙ ap (λ n. given_by level n shown) c.requires in
     let Hashes : Given → Type 0 = λ x. HashesAs g.F.Family.merge_rule hash (λ p element. hash (leaf_string p element))
     (grafted_node g.F.Family.merge_rule hash x) over in
-    let hashes : Hashes (given_of c.new-verifier.result) =
+    let hashes : Hashes (form_given_of g.C.AsSlice.items c.shown_hasher-verifier.result) =
     subst Hashes (sym same) (hashes_grafted g.F.Family.merge_rule g.met.F.Family.merges_equals hash given shown.width) in
     ap (option_map g.H.Digest.Write.encoding) c.ok.ensures.value
     ∙ c.reconstruct_range.ensures.root grafted_names over hashes

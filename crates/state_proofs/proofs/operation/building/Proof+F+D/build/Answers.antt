@@ -10,7 +10,7 @@ use Rattle.state_proofs.specs.ProofsCode.{range_parts_of}
 use Rattle.state_proofs.specs.Required.{Measures}
 use Rattle.state_proofs.proofs.ActiveLemmas.{chunk_is}
 use Rattle.state_proofs.proofs.BuiltLemmas.{operation_refusal, same_parts}
-use Rattle.state_proofs.proofs.operation.Proof.build.Goals as goal
+use Rattle.state_proofs.proofs.operation.building.Proof+F+D.build.Goals as goal
 
 pub returns-in-Err-clause-refused : goal.returns-in-Err-clause-refused
 returns-in-Err-clause-refused g c = λ height known whole answers.

@@ -8,7 +8,7 @@ use Rattle.state_proofs.specs.Honest.{honest_parts}
 use Rattle.state_proofs.specs.ProofsCode.{parts_of}
 use Rattle.state_proofs.specs.Required.{Measures}
 use Rattle.state_proofs.proofs.BuiltLemmas.{err_as, located}
-use Rattle.state_proofs.proofs.operation.Proof.new.Goals as goal
+use Rattle.state_proofs.proofs.operation.building.Proof+F+D.new.Goals as goal
 
 pub returns-clause-honest : goal.returns-clause-honest
 returns-clause-honest g c = λ height state whole is floor root.
