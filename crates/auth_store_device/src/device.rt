@@ -288,6 +288,7 @@ impl<R: Rng + Drop> Device<R> {
         ensures refused { OnErr result ((self.new.calls ≡ self.old.calls) × (self.new.log ≡ None)
             × (self.new.storage.inner ≡ self.old.storage.inner)) }
         ensures count { self.new.storage.injections ≡ injected_after result self.old.storage.injections }
+        ensures settings { self.new.storage.config ≡ self.old.storage.config }
         ensures ended { HasEnded self.old → result ≡ Err OpenError.NumberEnded }
         ensures numbers { result ≡ Err OpenError.NumberEnded
             → HasEnded self.old ⊎ (self.old.storage.inner.next ≡ 2 ^ 64 - 1) }

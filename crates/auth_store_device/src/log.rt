@@ -13,7 +13,7 @@ ghost use Rattle.paged_blob.specs.Calls.{File, wrote, resized_to, file_of};
 ghost use Rattle.paged_blob.specs.Recorded.{call_of, calls_of};
 ghost use Rattle.paged_blob.specs.WriteModes.{is_sync};
 ghost use Rattle.paged_blob.specs.declared.error.CallKind.{CallKind};
-ghost use Rattle.auth_store_device.specs.Devices.{Passes, mode_below, refusal_of};
+ghost use Rattle.auth_store_device.specs.Devices.{Passes, failures_in, mode_below, refusal_of};
 ghost use Rattle.auth_store_device.specs.Logs.{IsOpenLog};
 
 use crate::device::copy_behind_header;
@@ -104,9 +104,8 @@ pub(crate) fn write_log<R: Rng>(
     ensures calls { Records result (wrote offset bytes.now (is_sync mode)) (calls_of record_kept.old.items)
         (calls_of record_kept.new.items) }
     ensures cause { (failures : Failures) → IfErr result (IsCause failures CallKind.Write (offset + length bytes.now)) }
-    ensures count { (refused : ℕ) → (is_open : Bool)
-        → record { injected = storage.new.injections; refused = refused; is_open = is_open }
-        ≡ failures_after result (record { injected = storage.old.injections; refused = refused; is_open = is_open }) }
+    ensures count { (refused : ℕ) (is_open : Bool) → failures_in storage.new refused is_open
+        ≡ failures_after result (failures_in storage.old refused is_open) }
     ensures stands { IsOpenLog storage.new.inner (file_of (calls_of record_kept.new.items)) log.new.inner }
 {
     let copy = bytes.to_vec(alloc)?;
@@ -140,9 +139,8 @@ pub(crate) fn resize_log<R: Rng>(
         FaultyResizes (R.stream) blob len below answer changed left) log.old storage.old result log.new storage.new }
     ensures calls { Records result (resized_to len) (calls_of record_kept.old.items) (calls_of record_kept.new.items) }
     ensures cause { (failures : Failures) → IfErr result (IsCause failures CallKind.Resize len) }
-    ensures count { (refused : ℕ) → (is_open : Bool)
-        → record { injected = storage.new.injections; refused = refused; is_open = is_open }
-        ≡ failures_after result (record { injected = storage.old.injections; refused = refused; is_open = is_open }) }
+    ensures count { (refused : ℕ) (is_open : Bool) → failures_in storage.new refused is_open
+        ≡ failures_after result (failures_in storage.old refused is_open) }
     ensures stands { IsOpenLog storage.new.inner (file_of (calls_of record_kept.new.items)) log.new.inner }
 {
     record_kept.reserve(1)?;
@@ -175,9 +173,8 @@ pub(crate) fn read_log<R: Rng>(
         → IfOk result (λ bytes. IsSlice file offset len bytes.items) }
     ensures cause { (file : File) (failures : Failures) → IsOpenLog storage.old.inner file log.now.inner
         → IfErr result (IsReadCause failures file offset len) }
-    ensures count { (refused : ℕ) → (is_open : Bool)
-        → record { injected = storage.new.injections; refused = refused; is_open = is_open }
-        ≡ failures_after result (record { injected = storage.old.injections; refused = refused; is_open = is_open }) }
+    ensures count { (refused : ℕ) (is_open : Bool) → failures_in storage.new refused is_open
+        ≡ failures_after result (failures_in storage.old refused is_open) }
     ensures store { storage.new.inner ≡ storage.old.inner }
 {
     match log.read_at(storage, offset, len) {
@@ -213,9 +210,8 @@ pub(crate) fn sync_log<R: Rng + Drop>(
         log.now storage.old result log.now storage.new }
     ensures calls { RecordsSync result (calls_of record_kept.old.items) (calls_of record_kept.new.items) }
     ensures cause { (failures : Failures) → IfErr result (IsCause failures CallKind.Sync 0) }
-    ensures count { (refused : ℕ) → (is_open : Bool)
-        → record { injected = storage.new.injections; refused = refused; is_open = is_open }
-        ≡ failures_after result (record { injected = storage.old.injections; refused = refused; is_open = is_open }) }
+    ensures count { (refused : ℕ) (is_open : Bool) → failures_in storage.new refused is_open
+        ≡ failures_after result (failures_in storage.old refused is_open) }
     ensures stands { IsOpenLog storage.new.inner (file_of (calls_of record_kept.new.items)) log.now.inner }
 {
     let synced = copy_live(alloc, storage, log)?;

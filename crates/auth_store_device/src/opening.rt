@@ -111,6 +111,7 @@ pub(crate) fn open_log<R: Rng + Drop>(
         (shown_file (behind_header (durable_log storage.old.inner))) log.inner) }
     ensures admitted { OnOk result ((log_of storage.new.inner).log ≡ []) }
     ensures count { storage.new.injections ≡ injected_after result storage.old.injections }
+    ensures settings { storage.new.config ≡ storage.old.config }
     ensures power { result ≡ Err OpenError.PowerCut → ⊥ }
     ensures numbers { result ≡ Err OpenError.NumberEnded → storage.old.inner.next ≡ 2 ^ 64 - 1 }
     ensures refused { OnErr result (storage.new.inner ≡ storage.old.inner) }

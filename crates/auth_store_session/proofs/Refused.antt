@@ -1,5 +1,5 @@
 -- Why a call over the blob refuses, from the causes of its parts.
-use Rattle.std.proofs.Common.{◌≡◌, ◌⊎◌, ◌+◌, ◌<◌, ◌≤◌, ◌^◌, ℕ, true, false, inl, inr, rules, ⊎_elim, arith, max}
+use Rattle.std.proofs.Common.{◌≡◌, refl, ◌⊎◌, ◌+◌, ◌<◌, ◌≤◌, ◌^◌, ℕ, true, false, inl, inr, rules, ⊎_elim, arith, max}
 use Rattle.std.proofs.lemmas.Bool.{cases_lt}
 use Rattle.std.specs.Prelude.{Result, Ok, Err, IsFalse}
 use Rattle.paged_blob.specs.Answers.{Failures, failures_after, IsPastNumbers, IsCause}
@@ -22,6 +22,18 @@ open_after (Err BlobInsufficientLength) failures is = is
 open_after (Err NumberEnded) failures is = is
 open_after (Err Memory) failures is = is
 open_after (Err ChecksumMismatch) failures is = is
+
+-- the settings stay in a call
+pub settings_after : {T : Type 0} (result : Result T Error) (failures : Failures)
+    → (failures_after result failures).settings ≡ failures.settings
+settings_after (Ok value) failures = refl
+settings_after (Err (Injected kind)) failures = refl
+settings_after (Err PowerCut) failures = refl
+settings_after (Err BlobMissing) failures = refl
+settings_after (Err BlobInsufficientLength) failures = refl
+settings_after (Err NumberEnded) failures = refl
+settings_after (Err Memory) failures = refl
+settings_after (Err ChecksumMismatch) failures = refl
 
 -- where an opening stands, none is missing
 is_missing : (failures : Failures) → failures.is_open ≡ true → IsFalse failures.is_open → ⊥

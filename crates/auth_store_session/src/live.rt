@@ -92,6 +92,7 @@ where
     ensures cache { IsCache cache.new }
     ensures page_size { cache.new.page_size ≡ cache.old.page_size }
     ensures open { (B.failures blob.new).is_open ≡ true }
+    ensures settings { (B.failures blob.new).settings ≡ (B.failures blob.old).settings }
     ensures refused { IfErr result (IsOpenRefusal (B.failures blob.old) (B.failures blob.new)
         (EndsOpening (cache.old.page_size + 12) (K.SIZE, V.SIZE) cache.old.next_id
         (length (content (B.calls blob.old))))
@@ -138,6 +139,7 @@ where
     ensures cache { IsCache cache.new }
     ensures page_size { cache.new.page_size ≡ cache.old.page_size }
     ensures open { (B.failures blob.new).is_open ≡ true }
+    ensures settings { (B.failures blob.new).settings ≡ (B.failures blob.old).settings }
     ensures refused { IfErr result (IsCommitRefusal false (B.failures blob.old) (B.failures blob.new)
         (EndsDisk (cache.old.page_size + 12) (history_bytes (format_of (K.after tt) (V.after tt) K.SIZE V.SIZE)
         ledger))) }
@@ -190,6 +192,7 @@ where
     ensures cache { IsCache cache.new }
     ensures page_size { cache.new.page_size ≡ cache.old.page_size }
     ensures open { (B.failures blob.new).is_open ≡ true }
+    ensures settings { (B.failures blob.new).settings ≡ (B.failures blob.old).settings }
     ensures grows { Grows (B.calls blob.old) (B.calls blob.new) }
     ensures untouched { is_cut ≡ true → blob.new ≡ blob.old }
 {
@@ -250,6 +253,7 @@ where
     ensures cache { IsCache cache.new }
     ensures page_size { cache.new.page_size ≡ cache.old.page_size }
     ensures open { (B.failures blob.new).is_open ≡ true }
+    ensures settings { (B.failures blob.new).settings ≡ (B.failures blob.old).settings }
     ensures grows { Grows (B.calls blob.old) (B.calls blob.new) }
     ensures untouched { is_cut ≡ true → blob.new ≡ blob.old }
 {
@@ -293,6 +297,7 @@ where
     ensures cache { IsCache cache.new }
     ensures page_size { cache.new.page_size ≡ cache.old.page_size }
     ensures open { (B.failures blob.new).is_open ≡ true }
+    ensures settings { (B.failures blob.new).settings ≡ (B.failures blob.old).settings }
     ensures refused { IfErr result (IsRefusal (B.failures blob.old) (B.failures blob.new) ⊥) }
 {
     let Some(index) = live.ledger.location(key) else {

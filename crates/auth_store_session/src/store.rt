@@ -1,6 +1,6 @@
 //! A store on a disk that fails.
 
-ghost use Rattle.std.specs.Prelude.{◌≡◌, ◌+◌, length, option_map, Ok, Err, None, true, is_some, IfOk, IfErr, OnOk, IsFalse};
+ghost use Rattle.std.specs.Prelude.{◌≡◌, ◌+◌, length, option_map, Ok, Err, None, true, is_some, IfOk, IfErr, OnOk, IsFalse, MatchResult};
 ghost use Rattle.paged_blob.specs.Moments.{Grows};
 ghost use Rattle.auth_store_parts.specs.Batch as words;
 ghost use Rattle.auth_store_parts.specs.History.{History, latest_map, log_of};
@@ -92,6 +92,7 @@ where
     ensures any_moment { let format = format_of (K.after tt) (V.after tt) K.SIZE V.SIZE in
         IsOpenedThrough format (cache.old.page_size + 12) (shown_of device.old) device.old.calls device.new.calls }
     ensures header { HasOwnHeader device.old.storage.inner → HasOwnHeader device.new.storage.inner }
+    ensures settings { device.new.storage.config ≡ device.old.storage.config }
     ensures cache { IsCache cache.new }
     ensures page_size { cache.new.page_size ≡ cache.old.page_size }
     ensures refused { let format = format_of (K.after tt) (V.after tt) K.SIZE V.SIZE in
@@ -142,6 +143,8 @@ where
             refused.device.calls) }
         ensures header { IfErr result (λ refused. HasOwnHeader device.storage.inner
             → HasOwnHeader refused.device.storage.inner) }
+        ensures settings { MatchResult result (λ store. store.device.storage.config ≡ device.storage.config)
+            (λ refused. refused.device.storage.config ≡ device.storage.config) }
         ensures cache { IfErr result (λ refused. IsCache refused.cache
             × (refused.cache.page_size ≡ cache.page_size)) }
         ensures refused { let format = format_of (K.after tt) (V.after tt) K.SIZE V.SIZE in
@@ -186,6 +189,7 @@ where
             (result_of H.Digest.encoding result) self.new }
         ensures failed { self.old.live ≡ None → (result ≡ Err StoreError.Failed) × (self.new ≡ self.old) }
         ensures page_size { self.new.cache.page_size ≡ self.old.cache.page_size }
+        ensures settings { self.new.device.storage.config ≡ self.old.device.storage.config }
         ensures grows { Grows self.old.device.calls self.new.device.calls }
     {
         let is_cut = self.device.is_cut();
@@ -212,6 +216,7 @@ where
         ensures stays { (history : History) → IsLiveAt self.old history → IsLiveAt self.new history }
         ensures failed { self.old.live ≡ None → (result ≡ Err StoreError.Failed) × (self.new ≡ self.old) }
         ensures page_size { self.new.cache.page_size ≡ self.old.cache.page_size }
+        ensures settings { self.new.device.storage.config ≡ self.old.device.storage.config }
         ensures calls { self.new.device.calls ≡ self.old.device.calls }
     {
         let Some(live) = &self.live else {

@@ -1,5 +1,6 @@
 -- What a call's answer says of the calls that are recorded, of the failures, and of the bytes that were read.
-use Rattle.std.specs.Prelude.{◌≡◌, ◌⊎◌, ℕ, ◌+◌, ◌<◌, ◌≤◌, ◌^◌, ⊤, Bool, true, false, IsFalse, List, [], ◌∷◌, length, take, drop, Result, Ok, Err, Contains}
+use Rattle.std.specs.Prelude.{◌≡◌, ◌⊎◌, ℕ, ◌+◌, ◌<◌, ◌≤◌, ◌^◌, ⊤, Bool, true, false, IsFalse, List, [], ◌∷◌, length, take, drop, Option, Result, Ok, Err, Contains}
+use Rattle.fault_storage_parts.specs.declared.config.Config.{Config}
 use Rattle.paged_blob.specs.Calls.{Call, opened, synced, content, File, file_of}
 use Rattle.paged_blob.specs.Images.{IsImage, IsLive}
 use Rattle.paged_blob.specs.declared.error.CallKind.{CallKind}
@@ -29,13 +30,14 @@ abbrev pub RecordsOpening : List Call → List Call → Type 0
 RecordsOpening old new = (shown : List ℕ) × IsImage (file_of old) shown × (new ≡ opened shown ∷ old)
 
 -- what has refused calls of a blob so far: how many faults were injected, how many calls a cut of the power refused, and whether an
--- opening stands, without which none is taken
+-- opening stands, without which none is taken; and the settings by which faults are drawn, where any are
 pub record Failures : Type 0 where
   pub injected : ℕ
   pub refused : ℕ
   pub is_open : Bool
+  pub settings : Option Config
 
--- this after a call: an injected fault and a call that a cut refuses are counted
+-- this after a call: an injected fault and a call that a cut refuses are counted, and no call changes the settings
 abbrev pub failures_after : {T : Type 0} → Result T Error → Failures → Failures
 failures_after (Ok _) failures = failures
 failures_after (Err (Injected _)) failures = record failures { injected = failures.injected + 1 }

@@ -11,12 +11,16 @@ use Rattle.paged_blob.specs.Writers.{written}
 use Rattle.auth_store_log.specs.Records.{format_of, history_bytes}
 use Rattle.auth_store_session.specs.declared.error.StoreError.{StoreError}
 use Rattle.auth_store_session.specs.Stores.{IsCommitRefusal, EndsDisk}
-use Rattle.auth_store_session.proofs.Refused.{open_after, append_refused}
+use Rattle.auth_store_session.proofs.Refused.{open_after, settings_after, append_refused}
 use Rattle.auth_store_session.proofs.live.append_live.Goals as goal
 
 pub returns-in_err-appended-clause-open : goal.returns-in_err-appended-clause-open
 returns-in_err-appended-clause-open g c = ap (λ (f : Failures). f.is_open) c.append_batch.ensures.failures
     ∙ open_after c.append_batch.result (g.B.Blob.failures c.args.blob.now) c.requires.open
+
+pub returns-in_err-appended-clause-settings : goal.returns-in_err-appended-clause-settings
+returns-in_err-appended-clause-settings g c = ap (λ (f : Failures). f.settings) c.append_batch.ensures.failures
+    ∙ settings_after c.append_batch.result (g.B.Blob.failures c.args.blob.now)
 
 pub returns-in_err-appended-clause-refused : goal.returns-in_err-appended-clause-refused
 returns-in_err-appended-clause-refused g c =
