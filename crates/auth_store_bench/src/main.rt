@@ -34,6 +34,12 @@ fn measure_openings<R: Print + Eprint + CpuClock>(
     let read = measure(rt, "its log, read and decoded twice", 1, |_round| {
         stores::decoded(alloc, keys, batch, OPENINGS)
     })?;
+    let indexed = measure(
+        rt,
+        "its log, read, decoded and indexed twice",
+        1,
+        |_round| { stores::indexed(alloc, keys, batch, OPENINGS) },
+    )?;
     let opened = measure(rt, "it is opened twice", 1, |_round| {
         stores::opened(alloc, keys, batch, OPENINGS)
     })?;
@@ -42,6 +48,12 @@ fn measure_openings<R: Print + Eprint + CpuClock>(
         "opening over reading and decoding",
         opened.saturating_sub(made),
         read.saturating_sub(made),
+    )?;
+    report_ratio(
+        rt,
+        "opening over reading, decoding and indexing",
+        opened.saturating_sub(made),
+        indexed.saturating_sub(made),
     )
 }
 

@@ -9,6 +9,7 @@ use auth_store_device::Device;
 use auth_store_ledger::Batch;
 use auth_store_log::operations::next_operation;
 use auth_store_log::recover;
+use auth_store_parts::history::Places;
 use auth_store_session::{Sizes, Store, StoreError};
 use fault_storage::Crc32;
 use merkle_forest::codec::{Cursor, FixedBytes};
@@ -102,8 +103,36 @@ fn decode_all(alloc: Global, bytes: &[u8]) -> u64 {
     operations
 }
 
-// How many operations the log of a device has that is read so many times.
-fn read_often(alloc: Global, device: Device<Pcg32>, cache: CacheRef, count: u64) -> u64
+// How many operations some bytes have, and one more where the first key has a place among them.
+fn index_all(alloc: Global, bytes: &[u8]) -> u64 {
+    let mut cursor = Cursor::new(bytes);
+    let mut operations = Vec::new(alloc);
+    for _ in 0..bytes.len() {
+        if cursor.is_empty() {
+            break;
+        }
+        let Ok(operation) = next_operation::<mmr::Family, Key, u64>(alloc, &mut cursor) else {
+            return 0;
+        };
+        if operations.push(operation).is_err() {
+            return 0;
+        }
+    }
+    match Places::of(alloc, &operations) {
+        Ok(places) => operations.len() as u64 + u64::from(places.get(&key_of(0)).is_some()),
+        Err(_) => 0,
+    }
+}
+
+// What is made of the log of a device that is read so many times: its operations are counted, or their keys get places
+// too.
+fn read_often(
+    alloc: Global,
+    device: Device<Pcg32>,
+    cache: CacheRef,
+    count: u64,
+    with_places: bool,
+) -> u64
     requires closed { device.log ≡ None }
     requires cache { IsCache cache }
 {
@@ -123,7 +152,12 @@ fn read_often(alloc: Global, device: Device<Pcg32>, cache: CacheRef, count: u64)
         ) else {
             return 0;
         };
-        operations = operations.wrapping_add(decode_all(alloc, &bytes));
+        let made = if with_places {
+            index_all(alloc, &bytes)
+        } else {
+            decode_all(alloc, &bytes)
+        };
+        operations = operations.wrapping_add(made);
         device.close();
     }
     operations
@@ -132,7 +166,15 @@ fn read_often(alloc: Global, device: Device<Pcg32>, cache: CacheRef, count: u64)
 /// The log of such a store, read and decoded so many times.
 pub fn decoded(alloc: Global, keys: u64, batch: u64, count: u64) -> u64 {
     match filled(alloc, keys, batch) {
-        Ok((device, cache)) => read_often(alloc, device, cache, count),
+        Ok((device, cache)) => read_often(alloc, device, cache, count, false),
+        Err(_) => 0,
+    }
+}
+
+/// The log of such a store, read and decoded so many times, and a place found for each of its keys.
+pub fn indexed(alloc: Global, keys: u64, batch: u64, count: u64) -> u64 {
+    match filled(alloc, keys, batch) {
+        Ok((device, cache)) => read_often(alloc, device, cache, count, true),
         Err(_) => 0,
     }
 }

@@ -1,13 +1,13 @@
 //! Whether operations are the log of a history.
 
-ghost use Rattle.std.specs.Prelude.{◌≡◌, ◌++◌, ◌∷◌, [], None, option_map, IfOk, OnOk};
+ghost use Rattle.std.specs.Prelude.{◌≡◌, ◌≤◌, ◌++◌, ◌∷◌, [], None, option_map, IfOk, OnOk};
 ghost use Rattle.std.specs.Bool.{Decides};
 ghost use Rattle.state_ops.specs.Operation.{meaning_of, fields_of};
 ghost use Rattle.auth_store_parts.specs.Map.{state_of};
 ghost use Rattle.auth_store_parts.specs.History as spec;
 
 use auth_store_parts::history::replay::apply_operation;
-use auth_store_parts::history::{batch_operations, inactivity_floor};
+use auth_store_parts::history::{batch_operations, inactivity_floor_from};
 use auth_store_parts::state::copy_of;
 use merkle_forest::codec::Encode;
 use merkle_forest::{Family, Location};
@@ -25,35 +25,46 @@ fn copy_metadata<V: FixedValue>(metadata: &Option<V>) -> Result<Option<V>, Alloc
     }
 }
 
-// Appends what leads from the old state to the new one, with a commit. It fails only when out of memory.
+// Appends what leads from the old state to the new one, with a commit, and answers the floor that it records; that of the
+// log so far is `floor` or greater, and none falls. It fails only when out of memory.
 fn append_changes<F: Family, K: FixedKey, V: FixedValue>(
     alloc: Global,
     log: &mut Vec<OrderedOperation<F, K, V>>,
     old: &BTreeMap<K, V>,
     new: &BTreeMap<K, V>,
     metadata: &Option<V>,
-) -> Result<(), AllocError>
-    ensures { OnOk result (spec.meanings K.encoding V.encoding log.new.items
+    floor: u64,
+) -> Result<u64, AllocError>
+    requires { floor ≤ spec.inactivity_floor (spec.meanings K.encoding V.encoding log.old.items) }
+    ensures appended { OnOk result (spec.meanings K.encoding V.encoding log.new.items
         ≡ spec.meanings K.encoding V.encoding log.old.items
         ++ spec.appended (spec.meanings K.encoding V.encoding log.old.items)
         (state_of K.encoding V.encoding old.now.entries) (state_of K.encoding V.encoding new.now.entries)
         (option_map V.encoding metadata.now)) }
+    ensures floor { IfOk result (λ floor. floor ≤ spec.inactivity_floor
+        (spec.meanings K.encoding V.encoding log.new.items)) }
 {
     let mut changes = batch_operations(alloc, old, new)?;
     log.append(&mut changes)?;
-    let floor = inactivity_floor(log);
+    let floor = inactivity_floor_from(log, floor);
     let copy = copy_metadata(metadata)?;
-    Ok(log.push(Operation::CommitFloor(copy, Location::new(floor)))?)
+    log.push(Operation::CommitFloor(copy, Location::new(floor)))?;
+    Ok(floor)
 }
 
-// Takes one operation more of a log that is made anew from what its operations do. It fails only when out of memory.
+// Takes one operation more of a log that is made anew from what its operations do, whose floor is `floor` or greater. It
+// fails only when out of memory.
 fn follow<F: Family, K: FixedKey, V: FixedValue>(
     alloc: Global,
     log: &mut Vec<OrderedOperation<F, K, V>>,
+    floor: &mut u64,
     before: &mut BTreeMap<K, V>,
     state: &mut BTreeMap<K, V>,
     operation: &OrderedOperation<F, K, V>,
 ) -> Result<(), AllocError>
+    requires { floor.old ≤ spec.inactivity_floor (spec.meanings K.encoding V.encoding log.old.items) }
+    ensures floor { OnOk result (floor.new ≤ spec.inactivity_floor
+        (spec.meanings K.encoding V.encoding log.new.items)) }
     ensures state { OnOk result (state_of K.encoding V.encoding state.new.entries
         ≡ spec.after_operation (meaning_of K.encoding V.encoding operation.now)
         (state_of K.encoding V.encoding state.old.entries)) }
@@ -70,7 +81,7 @@ fn follow<F: Family, K: FixedKey, V: FixedValue>(
         (meaning_of K.encoding V.encoding operation.now ∷ []))) }
 {
     if let Operation::CommitFloor(metadata, _) = operation {
-        append_changes(alloc, log, before, state, metadata)?;
+        *floor = append_changes(alloc, log, before, state, metadata, *floor)?;
         *before = copy_of(state)?;
     }
     apply_operation(state, operation)
@@ -86,21 +97,36 @@ fn log_anew<F: Family, K: FixedKey, V: FixedValue>(
 {
     let mut log = Vec::new(alloc);
     log.push(Operation::CommitFloor(None, Location::new(0)))?;
+    let mut floor = 0;
     let mut before = BTreeMap::new(alloc);
     let mut state = BTreeMap::new(alloc);
     let mut rest = operations;
     while let [operation, later @ ..] = rest {
-        follow(alloc, &mut log, &mut before, &mut state, operation)?;
+        follow(
+            alloc,
+            &mut log,
+            &mut floor,
+            &mut before,
+            &mut state,
+            operation,
+        )?;
         rest = later;
     }
     Ok(log)
 }
 
-// Whether two items have one encoding. It fails only when out of memory.
-fn is_same<T: Encode>(alloc: Global, item: &T, other: &T) -> Result<bool, AllocError>
-    ensures { IfOk result (λ same. Decides same (T.encoding item.now ≡ T.encoding other.now)) }
+// Whether two keys have one encoding.
+fn is_same_key<K: FixedKey>(key: &K, other: &K) -> bool
+    ensures { Decides result (K.encoding key.now ≡ K.encoding other.now) }
 {
-    let left = item.encode(alloc)?;
+    key.as_bytes() == other.as_bytes()
+}
+
+// Whether two values have one encoding. It fails only when out of memory.
+fn is_same_value<V: FixedValue>(alloc: Global, value: &V, other: &V) -> Result<bool, AllocError>
+    ensures { IfOk result (λ same. Decides same (V.encoding value.now ≡ V.encoding other.now)) }
+{
+    let left = value.encode(alloc)?;
     let right = other.encode(alloc)?;
     Ok(left.as_slice() == right.as_slice())
 }
@@ -116,7 +142,7 @@ fn is_same_metadata<V: FixedValue>(
 {
     match (metadata, other) {
         (None, None) => Ok(true),
-        (Some(value), Some(others)) => is_same(alloc, value, others),
+        (Some(value), Some(others)) => is_same_value(alloc, value, others),
         _ => Ok(false),
     }
 }
@@ -130,13 +156,10 @@ fn is_same_update<K: FixedKey, V: FixedValue>(
     ensures { IfOk result (λ same. Decides same (fields_of K.encoding V.encoding update.now
         ≡ fields_of K.encoding V.encoding other.now)) }
 {
-    if !is_same(alloc, &update.key, &other.key)? {
+    if !is_same_key(&update.key, &other.key) || !is_same_key(&update.next_key, &other.next_key) {
         return Ok(false);
     }
-    if !is_same(alloc, &update.value, &other.value)? {
-        return Ok(false);
-    }
-    is_same(alloc, &update.next_key, &other.next_key)
+    is_same_value(alloc, &update.value, &other.value)
 }
 
 // Whether two operations say the same. It fails only when out of memory.
@@ -149,7 +172,7 @@ fn is_same_operation<F: Family, K: FixedKey, V: FixedValue>(
         ≡ meaning_of K.encoding V.encoding other.now)) }
 {
     match (operation, other) {
-        (Operation::Delete(key), Operation::Delete(others)) => is_same(alloc, key, others),
+        (Operation::Delete(key), Operation::Delete(others)) => Ok(is_same_key(key, others)),
         (Operation::Update(update), Operation::Update(others)) => {
             is_same_update(alloc, update, others)
         }

@@ -1,4 +1,5 @@
 pub mod Entries
+pub mod Neighbours
 pub mod Batches
 pub mod Mapped
 pub mod Numbers

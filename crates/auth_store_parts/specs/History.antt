@@ -39,13 +39,21 @@ delete_of new key = if is_some (value_at new key) then [] else (delete key ∷ [
 abbrev pub deletes : Map → Map → List Operation
 deletes entries new = flat_map (λ e. delete_of new e.0) entries
 
+-- whether a state has the key with this value and this next key
+abbrev pub has_fields : Map → List ℕ → List ℕ → List ℕ → Bool
+has_fields state key value next = is_value (value_at state key) value && bytes_eq (next_key state key) next
+
 -- whether the old state has the key with the same value and the same next key
 abbrev pub is_kept : Map → Map → List ℕ → List ℕ → Bool
-is_kept old new key value = is_value (value_at old key) value && bytes_eq (next_key old key) (next_key new key)
+is_kept old new key value = has_fields old key value (next_key new key)
+
+-- an update of a key to this value and this next key, where the old state does not have it so
+abbrev pub update_to : Map → List ℕ → List ℕ → List ℕ → List Operation
+update_to old key value next = if has_fields old key value next then [] else (update (ordered key value next) ∷ [])
 
 -- an update of a key that isn't kept
 abbrev pub update_of : Map → Map → List ℕ → List ℕ → List Operation
-update_of old new key value = if is_kept old new key value then [] else (update (ordered key value (next_key new key)) ∷ [])
+update_of old new key value = update_to old key value (next_key new key)
 
 -- an update for each of these entries of the new state that isn't kept
 abbrev pub updates : Map → Map → Map → List Operation

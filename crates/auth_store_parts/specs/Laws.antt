@@ -3,3 +3,4 @@ pub mod Lookups
 pub mod Logs
 pub mod Actives
 pub mod Places
+pub mod Floors

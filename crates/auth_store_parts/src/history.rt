@@ -6,7 +6,7 @@ pub mod laws;
 pub mod places;
 pub mod replay;
 
-pub use activity::{activity_bits, inactivity_floor};
+pub use activity::{activity_bits, inactivity_floor, inactivity_floor_from};
 pub use changes::{batch_operations, changes_of};
 pub use places::Places;
 pub use replay::latest_map_of;

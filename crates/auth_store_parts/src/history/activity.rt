@@ -1,6 +1,6 @@
 //! Which operations of a log still count.
 
-ghost use Rattle.std.specs.Prelude.{◌≡◌, ◌<◌, length, slice_get, Some, IfOk};
+ghost use Rattle.std.specs.Prelude.{◌≡◌, ◌<◌, ◌≤◌, length, slice_get, Some, IfOk};
 ghost use Rattle.std.specs.List.{list_any};
 ghost use Rattle.state_ops.specs.Operation.{meaning_of};
 ghost use Rattle.auth_store_parts.specs.History as spec;
@@ -115,14 +115,16 @@ pub fn activity_bits<F: Family, K: FixedKey, V: FixedValue>(
     Ok(bits)
 }
 
-/// The floor that a commit at the end of these operations records: the location of their first update that still counts, or
-/// their number where none does.
-pub fn inactivity_floor<F: Family, K: FixedKey, V: FixedValue>(
+/// The floor that a commit at the end of these operations records, where it is `start` or greater: the location of their
+/// first update that still counts, or their number where none does. It looks at none before `start`.
+pub fn inactivity_floor_from<F: Family, K: FixedKey, V: FixedValue>(
     operations: &[OrderedOperation<F, K, V>],
+    start: u64,
 ) -> u64
+    requires { start ≤ spec.inactivity_floor (spec.meanings K.encoding V.encoding operations.now) }
     ensures { result ≡ spec.inactivity_floor (spec.meanings K.encoding V.encoding operations.now) }
 {
-    let mut rest = operations;
+    let mut rest = &operations[start as usize..];
     while let [operation, later @ ..] = rest {
         if is_active_update(operation, later) {
             break;
@@ -130,4 +132,14 @@ pub fn inactivity_floor<F: Family, K: FixedKey, V: FixedValue>(
         rest = later;
     }
     (operations.len() - rest.len()) as u64
+}
+
+/// The floor that a commit at the end of these operations records: the location of their first update that still counts, or
+/// their number where none does.
+pub fn inactivity_floor<F: Family, K: FixedKey, V: FixedValue>(
+    operations: &[OrderedOperation<F, K, V>],
+) -> u64
+    ensures { result ≡ spec.inactivity_floor (spec.meanings K.encoding V.encoding operations.now) }
+{
+    inactivity_floor_from(operations, 0)
 }

@@ -34,37 +34,29 @@ fn next_of<'a, K: FixedKey, V: FixedValue>(state: &'a BTreeMap<K, V>, key: &K) -
     state::next_key(state, key).unwrap()
 }
 
-/// Whether the key has the same next key in both states.
-fn is_same_next<K: FixedKey, V: FixedValue>(
-    old: &BTreeMap<K, V>,
-    new: &BTreeMap<K, V>,
-    key: &K,
-) -> bool
-    requires in_old { 0 < length old.now.entries }
-    requires in_new { 0 < length new.now.entries }
-    ensures { result ≡ bytes_eq
-        (next_key (state_of K.encoding V.encoding old.now.entries) (K.encoding key.now))
-        (next_key (state_of K.encoding V.encoding new.now.entries) (K.encoding key.now)) }
+/// Whether the key has this next key in the state.
+fn is_next<K: FixedKey, V: FixedValue>(state: &BTreeMap<K, V>, key: &K, next: &K) -> bool
+    requires { 0 < length state.now.entries }
+    ensures { result ≡ bytes_eq (next_key (state_of K.encoding V.encoding state.now.entries) (K.encoding key.now))
+        (K.encoding next.now) }
 {
-    next_of(old, key).cmp(next_of(new, key)).is_eq()
+    next_of(state, key).cmp(next).is_eq()
 }
 
-/// Whether the old state has the key of the new one with the same value and the same next key. It fails only when out of
-/// memory.
-fn is_kept<K: FixedKey, V: FixedValue>(
+/// Whether the state has the key with this value and this next key. It fails only when out of memory.
+fn has_fields<K: FixedKey, V: FixedValue>(
     alloc: Global,
-    old: &BTreeMap<K, V>,
-    new: &BTreeMap<K, V>,
+    state: &BTreeMap<K, V>,
     key: &K,
     value: &V,
+    next: &K,
 ) -> Result<bool, AllocError>
-    requires { 0 < length new.now.entries }
-    ensures { IfOk result (λ kept. kept ≡ spec.is_kept (state_of K.encoding V.encoding old.now.entries)
-        (state_of K.encoding V.encoding new.now.entries) (K.encoding key.now) (V.encoding value.now)) }
+    ensures { IfOk result (λ has. has ≡ spec.has_fields (state_of K.encoding V.encoding state.now.entries)
+        (K.encoding key.now) (V.encoding value.now) (K.encoding next.now)) }
 {
-    match state::get(old, key) {
+    match state::get(state, key) {
         None => Ok(false),
-        Some(before) => Ok(is_same_value(alloc, before, value)? && is_same_next(old, new, key)),
+        Some(before) => Ok(is_same_value(alloc, before, value)? && is_next(state, key, next)),
     }
 }
 
@@ -84,29 +76,28 @@ fn push_delete<F: Family, K: FixedKey, V: FixedValue>(
     Ok(out.push(Operation::Delete(key.clone()?))?)
 }
 
-/// Appends an update where the key isn't kept. It fails only when out of memory.
+/// Appends an update of the key to this value and this next key, where the old state does not have it so. It fails only
+/// when out of memory.
 fn push_update<F: Family, K: FixedKey, V: FixedValue>(
     alloc: Global,
     old: &BTreeMap<K, V>,
-    new: &BTreeMap<K, V>,
     key: &K,
     value: &V,
+    next: &K,
     out: &mut Vec<OrderedOperation<F, K, V>>,
 ) -> Result<(), AllocError>
-    requires { 0 < length new.now.entries }
     ensures { OnOk result (spec.meanings K.encoding V.encoding out.new.items ≡ spec.meanings K.encoding V.encoding
         out.old.items
-        ++ spec.update_of (state_of K.encoding V.encoding old.now.entries)
-        (state_of K.encoding V.encoding new.now.entries)
-        (K.encoding key.now) (V.encoding value.now)) }
+        ++ spec.update_to (state_of K.encoding V.encoding old.now.entries)
+        (K.encoding key.now) (V.encoding value.now) (K.encoding next.now)) }
 {
-    if is_kept(alloc, old, new, key, value)? {
+    if has_fields(alloc, old, key, value, next)? {
         return Ok(());
     }
     let update = Ordered {
         key: key.clone()?,
         value: value.clone()?,
-        next_key: next_of(new, key).clone()?,
+        next_key: next.clone()?,
     };
     Ok(out.push(Operation::Update(update))?)
 }
@@ -128,7 +119,8 @@ fn push_deletes<F: Family, K: FixedKey, V: FixedValue>(
     Ok(())
 }
 
-/// Appends an update for each key of the new state that isn't kept. It fails only when out of memory.
+/// Appends an update for each key of the new state that isn't kept. Each key's next one is that of the entry behind it, and
+/// the first one behind the last. It fails only when out of memory.
 fn push_updates<F: Family, K: FixedKey, V: FixedValue>(
     alloc: Global,
     old: &BTreeMap<K, V>,
@@ -140,10 +132,17 @@ fn push_updates<F: Family, K: FixedKey, V: FixedValue>(
         out.old.items
         ++ spec.updates next (state_of K.encoding V.encoding old.now.entries) next) }
 {
-    for (key, value) in new {
-        push_update(alloc, old, new, key, value, out)?;
+    let mut entries = new.iter();
+    let Some((first, mut value)) = entries.next() else {
+        return Ok(());
+    };
+    let mut key = first;
+    for (next, later) in entries {
+        push_update(alloc, old, key, value, next, out)?;
+        key = next;
+        value = later;
     }
-    Ok(())
+    push_update(alloc, old, key, value, first, out)
 }
 
 /// The operations that lead from the old state to the new one, without the commit. It fails only when out of memory.

@@ -1,4 +1,4 @@
-use Rattle.std.proofs.Common.{◌≡◌, ◌∙◌, ◌≤◌, ◌-◌, take, length, get_or, arith, ap, refl, List, [], ◌∷◌, drop}
+use Rattle.std.proofs.Common.{rules, ◌≡◌, ◌∙◌, ◌≤◌, ◌-◌, take, length, get_or, arith, ap, refl, List, [], ◌∷◌, drop}
 use Rattle.std.proofs.lemmas.List.{take_rest}
 use Rattle.state_ops.specs.Operation.{Operation, delete, update, ordered, commit_floor, meaning_of}
 use Rattle.auth_store_parts.specs.Map.{Map, state_of}
@@ -18,6 +18,9 @@ first_is : {A : Type 0} (xs : List A) (x : A) → 1 ≤ length xs → x ≡ get_
 first_is [] x some is = absurd (omega (arith, some))
 first_is (y ∷ xs) x some is = ap (λ l. x ∷ l) (take_rest (y ∷ xs) 1) ∙ ap (λ z. z ∷ xs) is
 
+pub loop-rest-init : goal.loop-rest-init
+loop-rest-init g c = ([], search rules, search rules, search rules, omega arith)
+
 pub loop-rest-preserved : goal.loop-rest-preserved
 loop-rest-preserved g c =
     let key = g.K.Write.encoding in
@@ -35,4 +38,5 @@ loop-rest-preserved g c =
       ap (λ s. spec.history_from s next later) does.state ∙ leads_on state history operation later
           ∙ ap (λ l. spec.history_from state history (spec.meanings key value l))
           (first_is c.loop-rest.rest.now c.operation-item.result c.in-len1-up.len_at_least c.operation-item.is) ∙ before.3,
+      does.floor,
     )

@@ -1,4 +1,4 @@
-use Rattle.std.proofs.Common.{◌≡◌, length, []}
+use Rattle.std.proofs.Common.{◌≡◌, ◌≤◌, length, []}
 use Rattle.auth_store_parts.specs.History as spec
 use Rattle.auth_store_parts.specs.Map.{state_of}
 use Rattle.auth_store_log.proofs.replay.log_anew.Given as goal
@@ -11,6 +11,7 @@ invariant-loop-rest g l =
     × (spec.history_from (state_of g.K.Write.encoding g.V.Write.encoding l.state.entries) history
     (spec.meanings g.K.Write.encoding g.V.Write.encoding l.rest)
     ≡ spec.history_from [] [] (spec.meanings g.K.Write.encoding g.V.Write.encoding l.operations))
+    × (l.floor ≤ spec.inactivity_floor (spec.meanings g.K.Write.encoding g.V.Write.encoding l.log.items))
 
 abbrev pub decreases-loop-rest : goal.decreases-loop-rest
 decreases-loop-rest g l = length l.rest

@@ -1,17 +1,15 @@
-use Rattle.std.proofs.Common.{◌≡◌, ◌++◌, ◌≤◌, length}
-use Rattle.auth_store_parts.specs.Map.{state_of}
+use Rattle.std.proofs.Common.{◌≡◌, ◌++◌, ◌∷◌, List, ℕ}
+use Rattle.auth_store_parts.specs.Map.{Map, state_of, first_key}
 use Rattle.auth_store_parts.specs.History as spec
 use Rattle.auth_store_parts.proofs.history.changes.push_updates.Given as goal
 
-abbrev pub invariant-loop-key : goal.invariant-loop-key
-invariant-loop-key g l = record {
-  within : length l.key-iterator ≤ length l.new.entries;
-  said : spec.meanings
-      g.K.Write.encoding g.V.Write.encoding l.out.items ++ spec.updates
-      (state_of g.K.Write.encoding g.V.Write.encoding l.key-iterator)
-      (state_of g.K.Write.encoding g.V.Write.encoding l.old.entries)
-      (state_of g.K.Write.encoding g.V.Write.encoding l.new.entries) ≡ spec.meanings g.K.Write.encoding
-      g.V.Write.encoding l.fn.out.items ++ spec.updates (state_of g.K.Write.encoding g.V.Write.encoding l.new.entries)
-      (state_of g.K.Write.encoding g.V.Write.encoding l.old.entries)
-      (state_of g.K.Write.encoding g.V.Write.encoding l.new.entries);
-}
+-- the entries passed, the one whose update comes next, and those behind it are the new state
+abbrev pub invariant-loop-next : goal.invariant-loop-next
+invariant-loop-next g l =
+    let old : Map = state_of g.K.Write.encoding g.V.Write.encoding l.old.entries in
+    let new : Map = state_of g.K.Write.encoding g.V.Write.encoding l.new.entries in
+    let left : Map = (g.K.Write.encoding l.key, g.V.Write.encoding l.value)
+    ∷ state_of g.K.Write.encoding g.V.Write.encoding l.next-iterator in
+    (passed : Map) × (passed ++ left ≡ new) × spec.IsState new × (g.K.Write.encoding l.first ≡ first_key new)
+    × (spec.meanings g.K.Write.encoding g.V.Write.encoding l.out.items ++ spec.updates left old new
+    ≡ spec.meanings g.K.Write.encoding g.V.Write.encoding l.fn.out.items ++ spec.updates new old new)

@@ -1,6 +1,6 @@
 use Rattle.std.proofs.Common.{◌≡◌, ◌+◌, ◌≤◌, length}
 use Rattle.auth_store_parts.specs.History as spec
-use Rattle.auth_store_parts.proofs.history.activity.inactivity_floor.Given as goal
+use Rattle.auth_store_parts.proofs.history.activity.inactivity_floor_from.Given as goal
 
 abbrev pub invariant-loop-rest : goal.invariant-loop-rest
 invariant-loop-rest g l = record {
