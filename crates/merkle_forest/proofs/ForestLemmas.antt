@@ -4,6 +4,7 @@ use Rattle.std.specs.Prelude.{IfSome}
 use Rattle.std.specs.List.{insert, remove}
 use Rattle.merkle_forest.specs.declared.forest.Tree.{Tree as CodeTree}
 use Rattle.merkle_forest.specs.Forest.{Tree, branch, height, leaf_count, size, leaves, Rule, merged, peaks_after_merges, with_leaf, forest_of, IsPairOfEquals}
+use Rattle.merkle_forest.specs.Laws.ForestGrowth.{node_count-twice}
 pub use Rattle.merkle_forest.specs.Laws.ForestGrowth.{height_below, leaves-merged, size-merged, pair_within, size_bound}
 use Rattle.merkle_forest.specs.Shape.{shape}
 
@@ -96,3 +97,8 @@ forest_of-zero rule = refl
 pub size-none : (rule : Rule) → size (forest_of rule 0) ≡ 0
 unfolding forest_of
 size-none rule = refl
+
+-- a forest has at least as many nodes as leaves
+pub leaves-le-size : (peaks : List Tree) → leaves peaks ≤ size peaks
+leaves-le-size [] = omega arith
+leaves-le-size (t ∷ peaks) = omega (arith, node_count-twice t, height_below t, leaves-le-size peaks)

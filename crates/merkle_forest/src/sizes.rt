@@ -12,7 +12,8 @@ pub fn greatest_leaf_count<F: Family>(nodes: u64) -> u64
     ensures greatest { (n : ℕ) → n ≤ MAX_LEAVES → size (forest_of F.merge_rule n) ≤ nodes → n ≤ result }
 {
     let mut low = 0;
-    let mut above = MAX_LEAVES + 1;
+    // A forest has at least as many nodes as leaves.
+    let mut above = nodes.min(MAX_LEAVES) + 1;
     while above - low > 1 {
         let middle = low + (above - low) / 2;
         if F::leaf_position(middle) <= nodes {
