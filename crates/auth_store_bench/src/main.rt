@@ -8,6 +8,7 @@ mod calls;
 mod plain_hash;
 mod stores;
 
+use crate::stores::Use;
 use measurement::{measure, read_count, report_ratio};
 use std::alloc::Global;
 use std::io;
@@ -32,29 +33,33 @@ fn measure_openings<R: Print + Eprint + CpuClock>(
         stores::opened(alloc, keys, batch, 0)
     })?;
     let read = measure(rt, "its log, read and decoded twice", 1, |_round| {
-        stores::decoded(alloc, keys, batch, OPENINGS)
+        stores::used(alloc, keys, batch, OPENINGS, Use::Decoded)
     })?;
     let indexed = measure(
         rt,
         "its log, read, decoded and indexed twice",
         1,
-        |_round| { stores::indexed(alloc, keys, batch, OPENINGS) },
+        |_round| { stores::used(alloc, keys, batch, OPENINGS, Use::Indexed) },
     )?;
+    let checked = measure(rt, "its log, checked and indexed twice", 1, |_round| {
+        stores::used(alloc, keys, batch, OPENINGS, Use::Checked)
+    })?;
     let opened = measure(rt, "it is opened twice", 1, |_round| {
         stores::opened(alloc, keys, batch, OPENINGS)
     })?;
+    let read = read.saturating_sub(made);
+    let indexed = indexed.saturating_sub(made);
+    let checked = checked.saturating_sub(made);
+    let opened = opened.saturating_sub(made);
+    report_ratio(rt, "indexing over decoding", indexed, read)?;
+    report_ratio(rt, "opening without the root over decoding", checked, read)?;
     report_ratio(
         rt,
-        "opening over reading and decoding",
-        opened.saturating_sub(made),
-        read.saturating_sub(made),
+        "opening without the root over indexing",
+        checked,
+        indexed,
     )?;
-    report_ratio(
-        rt,
-        "opening over reading, decoding and indexing",
-        opened.saturating_sub(made),
-        indexed.saturating_sub(made),
-    )
+    report_ratio(rt, "opening over decoding", opened, read)
 }
 
 // What so many reads of values cost in a store with so many keys.

@@ -8,7 +8,7 @@ use crate::plain_hash::PlainHash;
 use auth_store_device::Device;
 use auth_store_ledger::Batch;
 use auth_store_log::operations::next_operation;
-use auth_store_log::recover;
+use auth_store_log::{operations_of, recover};
 use auth_store_parts::history::Places;
 use auth_store_session::{Sizes, Store, StoreError};
 use fault_storage::Crc32;
@@ -17,6 +17,7 @@ use merkle_forest::mmr;
 use paged_blob::CacheRef;
 use rand_core::SeedableRng;
 use rand_pcg::Pcg32;
+use state_ops::OrderedOperation;
 use std::alloc::Global;
 
 type Key = FixedBytes<8>;
@@ -103,7 +104,15 @@ fn decode_all(alloc: Global, bytes: &[u8]) -> u64 {
     operations
 }
 
-// How many operations some bytes have, and one more where the first key has a place among them.
+// How many operations there are, and one more where the first key has a place among them.
+fn index(alloc: Global, operations: &[OrderedOperation<mmr::Family, Key, u64>]) -> u64 {
+    match Places::of(alloc, operations) {
+        Ok(places) => operations.len() as u64 + u64::from(places.get(&key_of(0)).is_some()),
+        Err(_) => 0,
+    }
+}
+
+// The same of the operations of some bytes.
 fn index_all(alloc: Global, bytes: &[u8]) -> u64 {
     let mut cursor = Cursor::new(bytes);
     let mut operations = Vec::new(alloc);
@@ -118,21 +127,30 @@ fn index_all(alloc: Global, bytes: &[u8]) -> u64 {
             return 0;
         }
     }
-    match Places::of(alloc, &operations) {
-        Ok(places) => operations.len() as u64 + u64::from(places.get(&key_of(0)).is_some()),
+    index(alloc, &operations)
+}
+
+// The same, where the operations are those of a history.
+fn index_checked(alloc: Global, bytes: &[u8]) -> u64 {
+    match operations_of::<mmr::Family, Key, u64>(alloc, bytes) {
+        Ok(operations) => index(alloc, &operations),
         Err(_) => 0,
     }
 }
 
-// What is made of the log of a device that is read so many times: its operations are counted, or their keys get places
-// too.
-fn read_often(
-    alloc: Global,
-    device: Device<Pcg32>,
-    cache: CacheRef,
-    count: u64,
-    with_places: bool,
-) -> u64
+/// What is made of a log that is read.
+#[derive(Clone, Copy, Debug)]
+pub enum Use {
+    /// Its operations are decoded, and counted.
+    Decoded,
+    /// They are kept, and a place is found for each key.
+    Indexed,
+    /// So, and it is checked that they are those of a history: all that an opening does but for the root.
+    Checked,
+}
+
+// How many operations the log of a device has that is read so many times, with what is made of it each time.
+fn read_often(alloc: Global, device: Device<Pcg32>, cache: CacheRef, count: u64, used: Use) -> u64
     requires closed { device.log ≡ None }
     requires cache { IsCache cache }
 {
@@ -152,10 +170,10 @@ fn read_often(
         ) else {
             return 0;
         };
-        let made = if with_places {
-            index_all(alloc, &bytes)
-        } else {
-            decode_all(alloc, &bytes)
+        let made = match used {
+            Use::Decoded => decode_all(alloc, &bytes),
+            Use::Indexed => index_all(alloc, &bytes),
+            Use::Checked => index_checked(alloc, &bytes),
         };
         operations = operations.wrapping_add(made);
         device.close();
@@ -163,18 +181,10 @@ fn read_often(
     operations
 }
 
-/// The log of such a store, read and decoded so many times.
-pub fn decoded(alloc: Global, keys: u64, batch: u64, count: u64) -> u64 {
+/// The log of such a store, read so many times, with what is made of it each time.
+pub fn used(alloc: Global, keys: u64, batch: u64, count: u64, used: Use) -> u64 {
     match filled(alloc, keys, batch) {
-        Ok((device, cache)) => read_often(alloc, device, cache, count, false),
-        Err(_) => 0,
-    }
-}
-
-/// The log of such a store, read and decoded so many times, and a place found for each of its keys.
-pub fn indexed(alloc: Global, keys: u64, batch: u64, count: u64) -> u64 {
-    match filled(alloc, keys, batch) {
-        Ok((device, cache)) => read_often(alloc, device, cache, count, true),
+        Ok((device, cache)) => read_often(alloc, device, cache, count, used),
         Err(_) => 0,
     }
 }

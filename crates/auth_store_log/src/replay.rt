@@ -1,6 +1,6 @@
 //! Whether operations are the log of a history.
 
-ghost use Rattle.std.specs.Prelude.{◌≡◌, ◌≤◌, ◌++◌, ◌∷◌, [], None, option_map, IfOk, OnOk};
+ghost use Rattle.std.specs.Prelude.{◌≡◌, ◌≤◌, false, ◌++◌, ◌∷◌, [], None, option_map, IfOk, OnOk};
 ghost use Rattle.std.specs.Bool.{Decides};
 ghost use Rattle.state_ops.specs.Operation.{meaning_of, fields_of};
 ghost use Rattle.auth_store_parts.specs.Map.{state_of};
@@ -52,8 +52,8 @@ fn append_changes<F: Family, K: FixedKey, V: FixedValue>(
     Ok(floor)
 }
 
-// Takes one operation more of a log that is made anew from what its operations do, whose floor is `floor` or greater. It
-// fails only when out of memory.
+// Takes one operation more of a log that is made anew from what its operations do, whose floor is `floor` or greater.
+// After a commit the state is copied, unless no operation comes behind it. It fails only when out of memory.
 fn follow<F: Family, K: FixedKey, V: FixedValue>(
     alloc: Global,
     log: &mut Vec<OrderedOperation<F, K, V>>,
@@ -61,6 +61,7 @@ fn follow<F: Family, K: FixedKey, V: FixedValue>(
     before: &mut BTreeMap<K, V>,
     state: &mut BTreeMap<K, V>,
     operation: &OrderedOperation<F, K, V>,
+    is_last: bool,
 ) -> Result<(), AllocError>
     requires { floor.old ≤ spec.inactivity_floor (spec.meanings K.encoding V.encoding log.old.items) }
     ensures floor { OnOk result (floor.new ≤ spec.inactivity_floor
@@ -74,7 +75,7 @@ fn follow<F: Family, K: FixedKey, V: FixedValue>(
         → spec.meanings K.encoding V.encoding log.new.items ≡ spec.log_of
         (spec.history_from (state_of K.encoding V.encoding state.old.entries) history
         (meaning_of K.encoding V.encoding operation.now ∷ []))) }
-    ensures before { OnOk result ((history : spec.History)
+    ensures before { is_last ≡ false → OnOk result ((history : spec.History)
         → state_of K.encoding V.encoding before.old.entries ≡ spec.latest_map history
         → state_of K.encoding V.encoding before.new.entries ≡ spec.latest_map
         (spec.history_from (state_of K.encoding V.encoding state.old.entries) history
@@ -82,7 +83,9 @@ fn follow<F: Family, K: FixedKey, V: FixedValue>(
 {
     if let Operation::CommitFloor(metadata, _) = operation {
         *floor = append_changes(alloc, log, before, state, metadata, *floor)?;
-        *before = copy_of(state)?;
+        if !is_last {
+            *before = copy_of(state)?;
+        }
     }
     apply_operation(state, operation)
 }
@@ -109,6 +112,7 @@ fn log_anew<F: Family, K: FixedKey, V: FixedValue>(
             &mut before,
             &mut state,
             operation,
+            later.is_empty(),
         )?;
         rest = later;
     }

@@ -19,7 +19,7 @@ first_is [] x some is = absurd (omega (arith, some))
 first_is (y ∷ xs) x some is = ap (λ l. x ∷ l) (take_rest (y ∷ xs) 1) ∙ ap (λ z. z ∷ xs) is
 
 pub loop-rest-init : goal.loop-rest-init
-loop-rest-init g c = ([], search rules, search rules, search rules, omega arith)
+loop-rest-init g c = ([], search rules, λ some. search rules, search rules, omega arith)
 
 pub loop-rest-preserved : goal.loop-rest-preserved
 loop-rest-preserved g c =
@@ -33,8 +33,8 @@ loop-rest-preserved g c =
     let later : List Operation = spec.meanings key value (take (length c.loop-rest.rest.now - 1) (drop 1 c.loop-rest.rest.now)) in
     let does = c.in_ok-follow.ensures in (
       next,
-      does.log history before.1 before.2,
-      does.before history before.2,
+      does.log history before.1 (before.2 c.in-len1-up.len_at_least),
+      λ some. does.before (search rules) history (before.2 c.in-len1-up.len_at_least),
       ap (λ s. spec.history_from s next later) does.state ∙ leads_on state history operation later
           ∙ ap (λ l. spec.history_from state history (spec.meanings key value l))
           (first_is c.loop-rest.rest.now c.operation-item.result c.in-len1-up.len_at_least c.operation-item.is) ∙ before.3,
