@@ -18,7 +18,7 @@ use std::time::CpuClock;
 const DEFAULT_THOUSANDS: u64 = 1;
 
 // How often a store is opened in a measure.
-const OPENINGS: u64 = 2;
+const OPENINGS: u64 = 20;
 
 // What openings of a store with so many keys, which came in batches of so many, cost beside reading its log.
 fn measure_openings<R: Print + Eprint + CpuClock>(
@@ -32,19 +32,19 @@ fn measure_openings<R: Print + Eprint + CpuClock>(
     let made = measure(rt, "the store alone", 1, |_round| {
         stores::opened(alloc, keys, batch, 0)
     })?;
-    let read = measure(rt, "its log, read and decoded twice", 1, |_round| {
+    let read = measure(rt, "its log, read and decoded 20 times", 1, |_round| {
         stores::used(alloc, keys, batch, OPENINGS, Use::Decoded)
     })?;
     let indexed = measure(
         rt,
-        "its log, read, decoded and indexed twice",
+        "its log, read, decoded and indexed 20 times",
         1,
         |_round| { stores::used(alloc, keys, batch, OPENINGS, Use::Indexed) },
     )?;
-    let checked = measure(rt, "its log, checked and indexed twice", 1, |_round| {
+    let checked = measure(rt, "its log, checked and indexed 20 times", 1, |_round| {
         stores::used(alloc, keys, batch, OPENINGS, Use::Checked)
     })?;
-    let opened = measure(rt, "it is opened twice", 1, |_round| {
+    let opened = measure(rt, "it is opened 20 times", 1, |_round| {
         stores::opened(alloc, keys, batch, OPENINGS)
     })?;
     let read = read.saturating_sub(made);

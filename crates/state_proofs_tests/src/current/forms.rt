@@ -202,7 +202,7 @@ const OTHER: [u8; 32] = [
 #[test]
 fn chunks_that_are_arrays_are_checked_at_their_width(rt: HostRuntime) -> Result<(), Fail> {
     let alloc = rt.alloc();
-    let bytes = &operation_bytes()[33..];
+    let bytes = operation_bytes().get(33..).unwrap_or(&[]);
     let proof: RangeProof<mmr::Family, Hash> = RangeProof::decode_cfg(alloc, bytes, &3)?;
     let root = FixedBytes::new(ROOT);
     let start = Location::new(9);
