@@ -1,4 +1,5 @@
 pub mod Found
+pub mod Batches
 pub mod Causes
 pub mod Reading
 pub mod Places

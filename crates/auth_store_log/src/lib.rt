@@ -2,6 +2,7 @@
 //! appended is durable or wholly lost.
 #![tactic(auto)]
 
+mod anew;
 pub mod append;
 pub mod encoding;
 pub mod error;

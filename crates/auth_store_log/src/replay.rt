@@ -1,119 +1,69 @@
 //! Whether operations are the log of a history.
 
-ghost use Rattle.std.specs.Prelude.{◌≡◌, ◌≤◌, false, ◌++◌, ◌∷◌, [], None, option_map, IfOk, OnOk};
+ghost use Rattle.std.specs.Prelude.{◌≡◌, false, [], option_map, IfOk, MatchOption};
 ghost use Rattle.std.specs.Bool.{Decides};
+ghost use Rattle.std.specs.List.{list_any};
 ghost use Rattle.state_ops.specs.Operation.{meaning_of, fields_of};
 ghost use Rattle.auth_store_parts.specs.Map.{state_of};
 ghost use Rattle.auth_store_parts.specs.History as spec;
+ghost use Rattle.auth_store_log.specs.Batches.{IsNextBatch};
 
-use auth_store_parts::history::replay::apply_operation;
-use auth_store_parts::history::{batch_operations, inactivity_floor_from};
-use auth_store_parts::state::copy_of;
+use crate::anew::LogAnew;
+use auth_store_parts::history::changes_by;
+use auth_store_parts::history::replay::apply_operations;
+use merkle_forest::Family;
 use merkle_forest::codec::Encode;
-use merkle_forest::{Family, Location};
 use state_ops::{FixedKey, FixedValue, Operation, OrderedOperation, OrderedUpdate};
 use std::alloc::{AllocError, Global};
 use std::collections::BTreeMap;
 
-// A copy of metadata. It fails only when out of memory.
-fn copy_metadata<V: FixedValue>(metadata: &Option<V>) -> Result<Option<V>, AllocError>
-    ensures { IfOk result (λ copy. option_map V.encoding copy ≡ option_map V.encoding metadata.now) }
-{
-    match metadata {
-        None => Ok(None),
-        Some(value) => Ok(Some(value.clone()?)),
-    }
-}
+// The operations of a batch, the metadata of its commit, and the operations behind that.
+type NextBatch<'a, F, K, V> = (
+    &'a [OrderedOperation<F, K, V>],
+    &'a Option<V>,
+    &'a [OrderedOperation<F, K, V>],
+);
 
-// Appends what leads from the old state to the new one, with a commit, and answers the floor that it records; that of the
-// log so far is `floor` or greater, and none falls. It fails only when out of memory.
-fn append_changes<F: Family, K: FixedKey, V: FixedValue>(
-    alloc: Global,
-    log: &mut Vec<OrderedOperation<F, K, V>>,
-    old: &BTreeMap<K, V>,
-    new: &BTreeMap<K, V>,
-    metadata: &Option<V>,
-    floor: u64,
-) -> Result<u64, AllocError>
-    requires { floor ≤ spec.inactivity_floor (spec.meanings K.encoding V.encoding log.old.items) }
-    ensures appended { OnOk result (spec.meanings K.encoding V.encoding log.new.items
-        ≡ spec.meanings K.encoding V.encoding log.old.items
-        ++ spec.appended (spec.meanings K.encoding V.encoding log.old.items)
-        (state_of K.encoding V.encoding old.now.entries) (state_of K.encoding V.encoding new.now.entries)
-        (option_map V.encoding metadata.now)) }
-    ensures floor { IfOk result (λ floor. floor ≤ spec.inactivity_floor
-        (spec.meanings K.encoding V.encoding log.new.items)) }
+// The first batch of these operations. `None` where there is no commit.
+fn next_batch<'a, F: Family, K: FixedKey, V: FixedValue>(
+    operations: &'a [OrderedOperation<F, K, V>],
+) -> Option<NextBatch<'a, F, K, V>>
+    ensures { MatchOption result
+        (list_any spec.is_commit (spec.meanings K.encoding V.encoding operations.now) ≡ false)
+        (λ batch. IsNextBatch (spec.meanings K.encoding V.encoding batch.0.now)
+        (option_map V.encoding batch.1.now) (spec.meanings K.encoding V.encoding batch.2.now)
+        (spec.meanings K.encoding V.encoding operations.now)) }
 {
-    let mut changes = batch_operations(alloc, old, new)?;
-    log.append(&mut changes)?;
-    let floor = inactivity_floor_from(log, floor);
-    let copy = copy_metadata(metadata)?;
-    log.push(Operation::CommitFloor(copy, Location::new(floor)))?;
-    Ok(floor)
-}
-
-// Takes one operation more of a log that is made anew from what its operations do, whose floor is `floor` or greater.
-// After a commit the state is copied, unless no operation comes behind it. It fails only when out of memory.
-fn follow<F: Family, K: FixedKey, V: FixedValue>(
-    alloc: Global,
-    log: &mut Vec<OrderedOperation<F, K, V>>,
-    floor: &mut u64,
-    before: &mut BTreeMap<K, V>,
-    state: &mut BTreeMap<K, V>,
-    operation: &OrderedOperation<F, K, V>,
-    is_last: bool,
-) -> Result<(), AllocError>
-    requires { floor.old ≤ spec.inactivity_floor (spec.meanings K.encoding V.encoding log.old.items) }
-    ensures floor { OnOk result (floor.new ≤ spec.inactivity_floor
-        (spec.meanings K.encoding V.encoding log.new.items)) }
-    ensures state { OnOk result (state_of K.encoding V.encoding state.new.entries
-        ≡ spec.after_operation (meaning_of K.encoding V.encoding operation.now)
-        (state_of K.encoding V.encoding state.old.entries)) }
-    ensures log { OnOk result ((history : spec.History)
-        → spec.meanings K.encoding V.encoding log.old.items ≡ spec.log_of history
-        → state_of K.encoding V.encoding before.old.entries ≡ spec.latest_map history
-        → spec.meanings K.encoding V.encoding log.new.items ≡ spec.log_of
-        (spec.history_from (state_of K.encoding V.encoding state.old.entries) history
-        (meaning_of K.encoding V.encoding operation.now ∷ []))) }
-    ensures before { is_last ≡ false → OnOk result ((history : spec.History)
-        → state_of K.encoding V.encoding before.old.entries ≡ spec.latest_map history
-        → state_of K.encoding V.encoding before.new.entries ≡ spec.latest_map
-        (spec.history_from (state_of K.encoding V.encoding state.old.entries) history
-        (meaning_of K.encoding V.encoding operation.now ∷ []))) }
-{
-    if let Operation::CommitFloor(metadata, _) = operation {
-        *floor = append_changes(alloc, log, before, state, metadata, *floor)?;
-        if !is_last {
-            *before = copy_of(state)?;
+    for (at, operation) in operations.iter().enumerate() {
+        if let Operation::CommitFloor(metadata, _) = operation {
+            return Some((&operations[..at], metadata, &operations[at + 1..]));
         }
     }
-    apply_operation(state, operation)
+    None
 }
 
-// The log of the history that these operations stand for. It fails only when out of memory.
+// The log of the history that these operations stand for. It goes from commit to commit: what a batch changed is found
+// from its operations, and the state before it takes them in afterwards, unless none comes behind its commit. So
+// neither the state nor the log is walked for a small batch. It fails only when out of memory.
 fn log_anew<F: Family, K: FixedKey, V: FixedValue>(
     alloc: Global,
     operations: &[OrderedOperation<F, K, V>],
-) -> Result<Vec<OrderedOperation<F, K, V>>, AllocError>
-    ensures { IfOk result (λ log. spec.meanings K.encoding V.encoding log.items
+) -> Result<LogAnew<F, K, V>, AllocError>
+    ensures { IfOk result (λ log. log
         ≡ spec.log_of (spec.history_from [] [] (spec.meanings K.encoding V.encoding operations.now))) }
 {
-    let mut log = Vec::new(alloc);
-    log.push(Operation::CommitFloor(None, Location::new(0)))?;
-    let mut floor = 0;
+    let mut log = LogAnew::new(alloc)?;
     let mut before = BTreeMap::new(alloc);
     let mut state = BTreeMap::new(alloc);
     let mut rest = operations;
-    while let [operation, later @ ..] = rest {
-        follow(
-            alloc,
-            &mut log,
-            &mut floor,
-            &mut before,
-            &mut state,
-            operation,
-            later.is_empty(),
-        )?;
+    while let Some((batch, metadata, later)) = next_batch(rest) {
+        apply_operations(&mut state, batch)?;
+        let changes = changes_by(alloc, &before, &state, batch)?;
+        log = log.with_commit(changes, metadata)?;
+        if later.is_empty() {
+            break;
+        }
+        apply_operations(&mut before, batch)?;
         rest = later;
     }
     Ok(log)
@@ -227,5 +177,5 @@ pub fn is_log_of_a_history<F: Family, K: FixedKey, V: FixedValue>(
         return Ok(false);
     };
     let anew = log_anew(alloc, later)?;
-    is_same_log(alloc, operations, &anew)
+    is_same_log(alloc, operations, anew.operations())
 }

@@ -1,5 +1,6 @@
 pub mod Entries
 pub mod Neighbours
+pub mod Previous
 pub mod Batches
 pub mod Mapped
 pub mod Numbers

@@ -4,3 +4,5 @@ pub mod Logs
 pub mod Actives
 pub mod Places
 pub mod Floors
+pub mod NextKeys
+pub mod Touched

@@ -2,6 +2,7 @@ pub mod Map
 pub mod Batch
 pub mod History
 pub mod Places
+pub mod Touched
 pub mod Script
 pub mod Line
 pub mod Report

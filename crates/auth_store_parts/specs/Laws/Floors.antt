@@ -1,10 +1,10 @@
 -- The floor of a log never falls.
-use Rattle.std.proofs.Common.{◌≡◌, ℕ, zero, suc, ◌+◌, ◌≤◌, Bool, true, false, cond, not, List, [], ◌∷◌, ◌++◌, drop, length, refl, ap, sym, ◌∙◌, subst, arith, ⊎_elim}
-use Rattle.std.specs.Prelude.{◌||◌, ◌&&◌}
+use Rattle.std.proofs.Common.{◌≡◌, ℕ, zero, suc, ◌+◌, ◌≤◌, Bool, Option, Some, slice_get, add-one, true, false, cond, not, List, [], ◌∷◌, ◌++◌, drop, length, refl, ap, sym, ◌∙◌, arith, ⊎_elim}
+use Rattle.std.specs.Prelude.{◌||◌, unwrap_or}
 use Rattle.std.specs.List.{list_any}
 use Rattle.std.proofs.lemmas.Bool.{cases_Bool}
 use Rattle.state_ops.specs.Operation.{Operation, delete, update, ordered, commit_floor}
-use Rattle.auth_store_parts.specs.History.{has_key, is_commit, is_active, is_active_update, inactivity_floor}
+use Rattle.auth_store_parts.specs.History.{has_key, is_active_update, inactivity_floor}
 
 any_more : (p : Operation → Bool) (xs ys : List Operation) → list_any p xs ≡ true → list_any p (xs ++ ys) ≡ true
 any_more p [] ys some = absurd (cc)
@@ -66,3 +66,39 @@ floor_within (operation ∷ later) =
     (λ none. let one : inactivity_floor (operation ∷ later) ≡ inactivity_floor later + 1 =
     ap (λ b. cond b 0 (inactivity_floor later + 1)) none in omega (arith, one, floor_within later))
     (cases_Bool (is_active_update operation later))
+
+-- the operation at a location, and those behind it
+stands : (log : List Operation) (location : ℕ) (operation : Operation) → slice_get log location ≡ Some operation
+    → drop location log ≡ operation ∷ drop (suc location) log
+stands [] location operation there = absurd (cc)
+stands (first ∷ later) zero operation there = ap (λ (o : Option Operation). unwrap_or o first ∷ later) there
+stands (first ∷ later) (suc location) operation there = stands later location operation there
+
+-- the floor from a location on, where it is not before that
+from_there : (log : List Operation) (location : ℕ) (operation : Operation) → slice_get log location ≡ Some operation
+    → location ≤ inactivity_floor log
+    → cond (is_active_update operation (drop (location + 1) log)) 0 (inactivity_floor (drop (suc location) log) + 1)
+    + location ≡ inactivity_floor log
+from_there log location operation there before =
+    let rest : ℕ = inactivity_floor (drop (suc location) log) + 1 in
+    ap (λ n. cond (is_active_update operation (drop n log)) 0 rest + location) (add-one location)
+    ∙ ap (λ l. inactivity_floor l + location) (sym (stands log location operation there))
+    ∙ floor_left log location before
+
+-- it is there where the operation counts
+pub floor_there : (log : List Operation) (location : ℕ) (operation : Operation)
+    → slice_get log location ≡ Some operation → location ≤ inactivity_floor log
+    → is_active_update operation (drop (location + 1) log) ≡ true
+    → location ≡ inactivity_floor log
+floor_there log location operation there before counts =
+    let rest : ℕ = inactivity_floor (drop (suc location) log) + 1 in
+    omega (arith, ap (λ b. cond b 0 rest + location) counts, from_there log location operation there before)
+
+-- and behind it where it does not
+pub floor_behind : (log : List Operation) (location : ℕ) (operation : Operation)
+    → slice_get log location ≡ Some operation → location ≤ inactivity_floor log
+    → is_active_update operation (drop (location + 1) log) ≡ false
+    → location + 1 ≤ inactivity_floor log
+floor_behind log location operation there before none =
+    let rest : ℕ = inactivity_floor (drop (suc location) log) + 1 in
+    omega (arith, ap (λ b. cond b 0 rest + location) none, from_there log location operation there before)

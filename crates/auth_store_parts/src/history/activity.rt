@@ -1,7 +1,8 @@
 //! Which operations of a log still count.
 
-ghost use Rattle.std.specs.Prelude.{◌≡◌, ◌<◌, ◌≤◌, length, slice_get, Some, IfOk};
+ghost use Rattle.std.specs.Prelude.{◌≡◌, ◌+◌, ◌<◌, ◌≤◌, length, drop, slice_get, Some, IfOk};
 ghost use Rattle.std.specs.List.{list_any};
+ghost use Rattle.state_ops.specs.Operation as meaning;
 ghost use Rattle.state_ops.specs.Operation.{meaning_of};
 ghost use Rattle.auth_store_parts.specs.History as spec;
 ghost use Rattle.auth_store_parts.specs.Places.{places_of};
@@ -113,6 +114,44 @@ pub fn activity_bits<F: Family, K: FixedKey, V: FixedValue>(
         bits.push(counts_at(log, location, places))?;
     }
     Ok(bits)
+}
+
+/// Whether the operation at a location of a log is an update that still counts, given the places of the log.
+fn is_active_update_at<F: Family, K: FixedKey, V: FixedValue>(
+    log: &[OrderedOperation<F, K, V>],
+    location: usize,
+    places: &Places<K>,
+) -> bool
+    requires within { location < length log.now }
+    requires places { places.now ≡ places_of (spec.meanings K.encoding V.encoding log.now) }
+    ensures { let said = spec.meanings K.encoding V.encoding log.now in
+        (operation : meaning.Operation) → slice_get said location ≡ Some operation
+        → result ≡ spec.is_active_update operation (drop (location + 1) said) }
+{
+    match &log[location] {
+        Operation::Delete(_) => false,
+        Operation::Update(_) => counts_at(log, location, places),
+        Operation::CommitFloor(_, _) => false,
+    }
+}
+
+/// The floor that a commit at the end of a log records, given the places of the log, where it is `start` or greater:
+/// the location of the first update that still counts, or the number of operations where none does. It looks at none
+/// before `start` and at none behind the floor.
+pub fn inactivity_floor_by<F: Family, K: FixedKey, V: FixedValue>(
+    log: &[OrderedOperation<F, K, V>],
+    places: &Places<K>,
+    start: u64,
+) -> u64
+    requires start { start ≤ spec.inactivity_floor (spec.meanings K.encoding V.encoding log.now) }
+    requires places { places.now ≡ places_of (spec.meanings K.encoding V.encoding log.now) }
+    ensures { result ≡ spec.inactivity_floor (spec.meanings K.encoding V.encoding log.now) }
+{
+    let mut location = start as usize;
+    while location < log.len() && !is_active_update_at(log, location, places) {
+        location += 1;
+    }
+    location as u64
 }
 
 /// The floor that a commit at the end of these operations records, where it is `start` or greater: the location of their

@@ -31,6 +31,22 @@ pub fn apply_operation<F: Family, K: FixedKey, V: FixedValue>(
     }
 }
 
+/// Applies operations to the state, one after the other. It fails only when out of memory; the state is then that after
+/// some of them.
+pub fn apply_operations<F: Family, K: FixedKey, V: FixedValue>(
+    state: &mut BTreeMap<K, V>,
+    operations: &[OrderedOperation<F, K, V>],
+) -> Result<(), AllocError>
+    ensures { OnOk result (state_of K.encoding V.encoding state.new.entries
+        ≡ spec.replayed (state_of K.encoding V.encoding state.old.entries)
+        (spec.meanings K.encoding V.encoding operations.now)) }
+{
+    for operation in operations {
+        apply_operation(state, operation)?;
+    }
+    Ok(())
+}
+
 /// The state after all operations of a log. It fails only when out of memory.
 pub fn latest_map_of<F: Family, K: FixedKey, V: FixedValue>(
     alloc: Global,
@@ -40,8 +56,6 @@ pub fn latest_map_of<F: Family, K: FixedKey, V: FixedValue>(
         ≡ spec.replayed [] (spec.meanings K.encoding V.encoding operations.now)) }
 {
     let mut state = BTreeMap::new(alloc);
-    for operation in operations {
-        apply_operation(&mut state, operation)?;
-    }
+    apply_operations(&mut state, operations)?;
     Ok(state)
 }

@@ -1,0 +1,13 @@
+use Rattle.std.proofs.Common.{◌≡◌, drop, []}
+use Rattle.auth_store_parts.specs.Map.{state_of}
+use Rattle.auth_store_parts.specs.History as spec
+use Rattle.auth_store_parts.specs.Touched.{set_of, touched}
+use Rattle.auth_store_parts.proofs.history.touched.touched_keys.Given as goal
+
+abbrev pub invariant-loop-operation : goal.invariant-loop-operation
+invariant-loop-operation g l =
+    touched (state_of g.K.Write.encoding g.V.Write.encoding l.state.entries)
+    (spec.meanings g.K.Write.encoding g.V.Write.encoding (drop l.operation-index l.operations))
+    (set_of g.K.Write.encoding l.keys.keys)
+    ≡ touched (state_of g.K.Write.encoding g.V.Write.encoding l.state.entries)
+    (spec.meanings g.K.Write.encoding g.V.Write.encoding l.operations) []
