@@ -34,6 +34,7 @@ pub mod OneEachBag
 pub mod OneEachRoot
 pub mod Unnamed
 mod GivenDigests
+pub mod Lengths
 mod PartFolds
 mod PartGiven
 mod PartKnown

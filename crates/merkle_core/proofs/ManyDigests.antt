@@ -5,7 +5,7 @@ use Rattle.merkle_forest.specs.Forest.{Rule, position}
 use Rattle.merkle_core_parts.specs.Mem.{NodeHash}
 use Rattle.merkle_core_parts.specs.declared.error.Error.{Error}
 use Rattle.merkle_core_parts.specs.declared.error.Error.TheVariants.{LocationOverflow, Empty, RangeOutOfBounds, LeafOutOfBounds}
-use Rattle.merkle_core_parts.specs.declared.error.Error.TheVariants.{DuplicateLocation, UnsortedLocation, ElementPruned, StaleBatch}
+use Rattle.merkle_core_parts.specs.declared.error.Error.TheVariants.{DuplicateLocation, UnsortedLocation, ElementPruned, StaleBatch, AncestorDropped}
 use Rattle.merkle_core_parts.specs.declared.error.Error.TheVariants.{InvalidInactivePeaks, MissingNode, Memory, InvalidSize, InvalidPinnedNodes}
 use Rattle.merkle_core.specs.MadeRoots.{peaks_of}
 use Rattle.merkle_core.specs.Multi.{AreMultiPositions, AreDigestsAt, IsRefusalToProveMany}
@@ -26,6 +26,7 @@ refused_many rule leaves locations inactive known positions there (LeafOutOfBoun
 refused_many rule leaves locations inactive known positions there (DuplicateLocation l) enough at same why = absurd why
 refused_many rule leaves locations inactive known positions there (UnsortedLocation l) enough at same why = absurd why
 refused_many rule leaves locations inactive known positions there StaleBatch enough at same why = absurd why
+refused_many rule leaves locations inactive known positions there AncestorDropped enough at same why = absurd why
 refused_many rule leaves locations inactive known positions there InvalidInactivePeaks enough at same why = absurd why
 refused_many rule leaves locations inactive known positions there (MissingNode p) enough at same why = absurd why
 

@@ -4,7 +4,7 @@ use Rattle.std.specs.Prelude.{slice_get}
 use Rattle.merkle_forest.specs.Forest.{Rule}
 use Rattle.merkle_core_parts.specs.declared.error.Error.{Error}
 use Rattle.merkle_core_parts.specs.declared.error.Error.TheVariants.{LocationOverflow, Empty, RangeOutOfBounds, LeafOutOfBounds}
-use Rattle.merkle_core_parts.specs.declared.error.Error.TheVariants.{DuplicateLocation, UnsortedLocation, ElementPruned, StaleBatch}
+use Rattle.merkle_core_parts.specs.declared.error.Error.TheVariants.{DuplicateLocation, UnsortedLocation, ElementPruned, StaleBatch, AncestorDropped}
 use Rattle.merkle_core_parts.specs.declared.error.Error.TheVariants.{InvalidInactivePeaks, MissingNode, Memory, InvalidSize, InvalidPinnedNodes}
 use Rattle.merkle_core.specs.MadeRoots.{peaks_of}
 use Rattle.merkle_core.specs.Plans.{Lookup, Asked, first_missing, range_positions, IsRefusalToLookUp, IsRefusalToBuild}
@@ -63,5 +63,6 @@ refused_too rule asked inactive known positions (LeafOutOfBounds l) enough same 
 refused_too rule asked inactive known positions (DuplicateLocation l) enough same why = absurd why
 refused_too rule asked inactive known positions (UnsortedLocation l) enough same why = absurd why
 refused_too rule asked inactive known positions StaleBatch enough same why = absurd why
+refused_too rule asked inactive known positions AncestorDropped enough same why = absurd why
 refused_too rule asked inactive known positions InvalidInactivePeaks enough same why = absurd why
 refused_too rule asked inactive known positions (MissingNode p) enough same why = absurd why

@@ -10,7 +10,7 @@ use Rattle.merkle_core_parts.specs.declared.error.Error.{Error}
 use Rattle.merkle_core_parts.specs.declared.error.Error.TheVariants.{LocationOverflow, Empty, RangeOutOfBounds}
 use Rattle.merkle_core_parts.specs.declared.error.Error.TheVariants.{LeafOutOfBounds}
 use Rattle.merkle_core_parts.specs.declared.error.Error.TheVariants.{DuplicateLocation, UnsortedLocation, ElementPruned}
-use Rattle.merkle_core_parts.specs.declared.error.Error.TheVariants.{StaleBatch}
+use Rattle.merkle_core_parts.specs.declared.error.Error.TheVariants.{StaleBatch, AncestorDropped}
 use Rattle.merkle_core_parts.specs.declared.error.Error.TheVariants.{InvalidInactivePeaks, MissingNode, Memory}
 use Rattle.merkle_core_parts.specs.declared.error.Error.TheVariants.{InvalidSize, InvalidPinnedNodes}
 use Rattle.merkle_core.specs.Multi.{AscendFrom, first_bad, AreMultiPositions, IsRefusalOfLocations}
@@ -42,6 +42,7 @@ refused_cannot leaves locations (ElementPruned p) some why other = absurd why
 refused_cannot leaves locations InvalidSize some why other = absurd why
 refused_cannot leaves locations InvalidPinnedNodes some why other = absurd why
 refused_cannot leaves locations StaleBatch some why other = absurd why
+refused_cannot leaves locations AncestorDropped some why other = absurd why
 refused_cannot leaves locations InvalidInactivePeaks some why other = absurd why
 refused_cannot leaves locations (MissingNode p) some why other = absurd why
 

@@ -2,7 +2,7 @@
 use Rattle.std.proofs.Common.{◌≡◌, ℕ, List, refl}
 use Rattle.merkle_core_parts.specs.declared.error.Error.{Error}
 use Rattle.merkle_core_parts.specs.declared.error.Error.TheVariants.{LocationOverflow, Empty, RangeOutOfBounds, LeafOutOfBounds}
-use Rattle.merkle_core_parts.specs.declared.error.Error.TheVariants.{DuplicateLocation, UnsortedLocation, ElementPruned, StaleBatch}
+use Rattle.merkle_core_parts.specs.declared.error.Error.TheVariants.{DuplicateLocation, UnsortedLocation, ElementPruned, StaleBatch, AncestorDropped}
 use Rattle.merkle_core_parts.specs.declared.error.Error.TheVariants.{InvalidInactivePeaks, MissingNode, Memory, InvalidSize, InvalidPinnedNodes}
 use Rattle.merkle_core.specs.ProofStores.{IsMissedApart}
 
@@ -18,6 +18,7 @@ missed_apart suffix (DuplicateLocation l) other = tt
 missed_apart suffix (UnsortedLocation l) other = tt
 missed_apart suffix InvalidPinnedNodes other = tt
 missed_apart suffix StaleBatch other = tt
+missed_apart suffix AncestorDropped other = tt
 missed_apart suffix InvalidInactivePeaks other = tt
 missed_apart suffix (MissingNode p) other = tt
 missed_apart suffix Memory other = tt

@@ -1,12 +1,13 @@
 -- Which nodes the proof of a range is made of, and their digests where these are looked up by position.
-use Rattle.std.specs.Prelude.{◌≡◌, ◌⊎◌, ℕ, ◌+◌, ◌-◌, nat_lt, slice_get, ◌<◌, ◌≤◌, ◌^◌, if◌then◌else◌, List, [], ◌∷◌, ◌++◌, map, filter, take, drop, length, find, is_none, unwrap_or, Option, Some, None, option_map}
+use Rattle.std.specs.Prelude.{◌≡◌, ◌⊎◌, ℕ, ◌+◌, ◌<◌, ◌≤◌, ◌^◌, if◌then◌else◌, List, [], ◌∷◌, ◌++◌, map, filter, take, drop, length, find, is_none, unwrap_or, Option, Some, None, option_map}
 use Rattle.std.specs.List.{flat_map}
 use Rattle.merkle_forest.specs.declared.bagging.Bagging.{Bagging}
 use Rattle.merkle_forest.specs.Forest.{Tree, leaf, branch, position, leaf_count, Rule, forest_of}
 use Rattle.merkle_forest.specs.Hashing.{Hash}
 use Rattle.merkle_forest.specs.Nodes.{IsNodeAt}
 use Rattle.merkle_forest.specs.Trees.{Located}
-use Rattle.merkle_core_parts.specs.Mem.{NodeHash, Growth, node_count, tree_digest}
+use Rattle.merkle_core_parts.specs.Layers.{known_above}
+use Rattle.merkle_core_parts.specs.Mem.{NodeHash, Growth, own_layer, tree_digest}
 use Rattle.merkle_core_parts.specs.declared.error.Error.{Error}
 use Rattle.merkle_core_parts.specs.declared.error.Error.TheVariants.{LocationOverflow, Empty, RangeOutOfBounds, LeafOutOfBounds, ElementPruned}
 use Rattle.merkle_core_parts.specs.declared.error.Error.TheVariants.{InvalidInactivePeaks, Memory}
@@ -46,10 +47,9 @@ honest_digests hash digest bagging rule leaves inactive start stop =
 abbrev pub Lookup : Type 0
 Lookup = ℕ → Option (List ℕ)
 
--- of a batch's nodes, those that it adds to its base
-abbrev pub added_at : Rule → Growth → Lookup
-added_at rule batch p =
-    if nat_lt p (node_count rule batch.base.leaves) then None else slice_get batch.digests (p - node_count rule batch.base.leaves)
+-- the nodes that a batch makes, and those that the batches below it make
+abbrev pub made_by : Rule → Growth → Lookup
+made_by rule batch = known_above rule (own_layer batch ∷ batch.below) (λ p. None)
 
 -- the digest of a tree, as it is looked up at its position
 abbrev pub looked_up : Lookup → Digests

@@ -1,13 +1,14 @@
 //! What holds of all proofs.
 
-ghost use Rattle.std.specs.Prelude.{◌≡◌, ◌<◌, ◌≤◌, ◌+◌, ◌-◌, ◌*◌, ◌^◌, ◌++◌, ℕ, min, List, map, length, take, drop, replicate, Contains, Some, None, true, IfSome, IsSomeAnd, option_map};
+ghost use Rattle.std.specs.Prelude.{◌≡◌, ◌<◌, ◌≤◌, ◌+◌, ◌-◌, ◌*◌, ◌^◌, ◌++◌, ◌∷◌, ℕ, min, List, map, length, take, drop, replicate, Contains, Some, None, true, IfSome, IsSomeAnd, option_map};
 ghost use Rattle.std.specs.List.{All};
 ghost use Rattle.merkle_forest.specs.declared.bagging.Bagging.{Bagging};
-ghost use Rattle.merkle_forest.specs.Forest.{forest_of};
+ghost use Rattle.merkle_forest.specs.Forest.{forest_of, mmr_rule, mmb_rule};
 ghost use Rattle.merkle_forest.specs.Hashing.{Hash, leaf_string, node_string, root_of};
 ghost use Rattle.merkle_forest.specs.Made.{value, strings};
 ghost use Rattle.merkle_forest.specs.Trees.{located, peak_digests, plain_digest, tree_root};
-ghost use Rattle.merkle_core_parts.specs.Mem.{Nodes, node_at, NodeHash, AreNodesOf, tree_digest, plain_node, plain_leaf_digests};
+ghost use Rattle.merkle_core_parts.specs.Layers.{AreLed};
+ghost use Rattle.merkle_core_parts.specs.Mem.{Nodes, Growth, node_at, own_layer, NodeHash, AreNodesOf, tree_digest, plain_node, plain_leaf_digests, pinned_positions};
 ghost use Rattle.merkle_core_parts.specs.declared.error.Error.{Error};
 ghost use Rattle.merkle_core_parts.specs.declared.error.Error.TheVariants.{Memory};
 ghost use Rattle.merkle_core.specs.Followed.{FollowsIn};
@@ -20,7 +21,7 @@ ghost use Rattle.merkle_core.specs.MultiReads.{Shown, can_be_shown, needed_posit
 ghost use Rattle.merkle_core.specs.MultiSoundness.{AreSound, shown_of};
 ghost use Rattle.merkle_core.specs.OneEach.{OneEach};
 ghost use Rattle.merkle_core.specs.PinnedSoundness.{ArePinnedBeside, PinsListOrCollides};
-ghost use Rattle.merkle_core.specs.Plans.{Lookup, IsLookupOf, honest_digests, first_missing, positions_of, inner_nodes, range_nodes};
+ghost use Rattle.merkle_core.specs.Plans.{Lookup, IsLookupOf, made_by, honest_digests, first_missing, positions_of, inner_nodes, range_nodes};
 ghost use Rattle.merkle_core.specs.ProofStores.{Kept, AreFoldsOf, IsPart, IsRefusalToBuildPart, digest_among, known_with, IsKnownOf, front_peaks, back_peaks, more_before, more_after, part_nodes, kept_nodes};
 ghost use Rattle.merkle_core.specs.Ranges.{Digests, range_digests};
 ghost use Rattle.merkle_core.specs.Reads.{Agrees, HashesAs, range_root, claim_of};
@@ -28,8 +29,9 @@ ghost use Rattle.merkle_core.specs.Rebuilt.{Hashing};
 ghost use Rattle.merkle_core.specs.Reconstructed.{reconstructed};
 ghost use Rattle.merkle_core.specs.Soundness.{RangeClaim, claimed_root, hashed_strings, IsSound, Makes, list_root, one_root, plain_names};
 
+use crate::proof::MAX_PINNED_NODES;
 use merkle_forest::Digest;
-use merkle_forest::family::Family;
+use merkle_forest::family::{Family, MAX_LEAVES};
 use merkle_forest::graftable::Graftable;
 use merkle_forest::hasher::HashFunction;
 
@@ -178,6 +180,13 @@ pub fn nodes_of_a_tree_are_those_of_its_list<F: Family>()
         (node_at F.merge_rule nodes) }
 {}
 
+/// What a batch and those below it know of the nodes of a tree is known of the list that they lead to.
+pub fn nodes_of_a_batch_are_those_of_its_list<F: Family>()
+    ensures { (node : NodeHash) (leaf_digests : List (List ℕ)) (earlier : List (List (List ℕ))) (batch : Growth)
+        → AreLed node F.merge_rule (own_layer batch ∷ batch.below) earlier leaf_digests
+        → IsLookupOf node F.merge_rule leaf_digests (made_by F.merge_rule batch) }
+{}
+
 /// The proof of a range that is built out of the nodes of the plain tree of a list leads to the root of that tree.
 pub fn built_proofs_lead_to_the_root<F: Family>()
     ensures { (hash : Hash) (bagging : Bagging) (elements : List (List ℕ)) (inactive start stop : ℕ)
@@ -290,4 +299,15 @@ pub fn proofs_of_parts_lack_no_node<F: Family, D: Digest>()
 pub fn proofs_of_elements_are_short<F: Graftable>()
     ensures { (leaves : ℕ) (locations : List ℕ) → 0 < length locations → can_be_shown leaves locations ≡ true
         → length (needed_positions F.merge_rule leaves locations) ≤ 122 * length locations }
+{}
+
+/// At most `MAX_PINNED_NODES` nodes stay pinned where a tree is pruned, be it a Merkle Mountain Range or a Merkle
+/// Mountain Belt; so many do where the boundary is one less than `MAX_LEAVES`.
+pub fn pinned_nodes_are_few()
+    ensures ranges { (boundary : ℕ) → boundary ≤ MAX_LEAVES
+        → length (pinned_positions mmr_rule boundary) ≤ MAX_PINNED_NODES }
+    ensures belts { (boundary : ℕ) → boundary ≤ MAX_LEAVES
+        → length (pinned_positions mmb_rule boundary) ≤ MAX_PINNED_NODES }
+    ensures reached_by_ranges { length (pinned_positions mmr_rule (MAX_LEAVES - 1)) ≡ MAX_PINNED_NODES }
+    ensures reached_by_belts { length (pinned_positions mmb_rule (MAX_LEAVES - 1)) ≡ MAX_PINNED_NODES }
 {}

@@ -4,6 +4,8 @@
 
 pub mod extraction;
 pub mod laws;
+pub mod mmb;
+pub mod mmr;
 pub mod multi;
 pub mod pinned;
 pub mod plan;
@@ -22,7 +24,7 @@ pub mod walk;
 pub use extraction::ExtractionError;
 pub use merkle_core_parts::{Mem, batch, error, mem};
 pub use plan::{ElementPlan, RangePlan};
-pub use proof::{MAX_PROOF_DIGESTS_PER_ELEMENT, Proof};
+pub use proof::{MAX_PINNED_NODES, MAX_PROOF_DIGESTS_PER_ELEMENT, Proof};
 pub use proof_store::{ProofStore, StoreError};
 pub use provable::Provable;
 pub use readable::Readable;

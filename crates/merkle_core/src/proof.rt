@@ -1,6 +1,7 @@
 //! Merkle proofs and how they are written and read.
 
-ghost use Rattle.std.specs.Prelude.{◌≡◌, ◌<◌, ◌≤◌, ◌+◌, ◌^◌, ◌++◌, ◌↔◌, [], ◌∷◌, ℕ, List, map, length, option_map, Some, IsTrue, Ok, IfOk, IfErr, OnOk, OnErr, replicate};
+ghost use Rattle.std.specs.Prelude.{◌≡◌, ◌<◌, ◌≤◌, ◌+◌, ◌^◌, ◌++◌, ◌↔◌, [], ◌∷◌, ℕ, List, map, length, option_map, Some, IsSome, IfSome, IsTrue, Ok, IfOk, IfErr, OnOk, OnErr, replicate};
+ghost use Rattle.std.specs.List.{All};
 ghost use Rattle.std.specs.Result.{result_ok};
 ghost use Rattle.merkle_forest.specs.Forest.{forest_of};
 ghost use Rattle.merkle_forest.specs.Trees.{located, inactive_peaks};
@@ -16,7 +17,7 @@ ghost use Rattle.merkle_core.specs.RangeCounts.{range_outer};
 ghost use Rattle.merkle_core.specs.Ranges.{Digests};
 ghost use Rattle.merkle_core.specs.Reads.{HashesAs, range_root};
 ghost use Rattle.merkle_core.specs.Reconstruction.{HasRange, IsRefusalToReconstruct};
-ghost use Rattle.merkle_core.specs.Proofs.{proof_encoding, after_proof, ProofLacks};
+ghost use Rattle.merkle_core.specs.Proofs.{proof_encoding, greatest_length, after_proof, ProofLacks};
 
 use crate::extraction::{ExtractionError, extract};
 use crate::multi::root::reconstruct_shown;
@@ -39,6 +40,9 @@ use std::marker::PhantomData;
 
 /// The greatest count of digests in the proof of one element. In the Rust: `merkle::MAX_PROOF_DIGESTS_PER_ELEMENT`.
 pub const MAX_PROOF_DIGESTS_PER_ELEMENT: usize = 122;
+
+/// The greatest count of nodes that stay pinned where a tree is pruned. In the Rust: `merkle::MAX_PINNED_NODES`.
+pub const MAX_PINNED_NODES: usize = 62;
 
 /// A proof against a root: the leaf count, the count of inactive peaks, and digests of nodes. Its encoding is these in
 /// order. Reading takes the greatest count of digests; more are C6, and a leaf count past 2^62 is C7.
@@ -75,6 +79,24 @@ impl<F: Family, D: Digest> Proof<F, D> {
             inactive_peaks: 0,
             digests: Vec::new(alloc),
         }
+    }
+
+    /// The greatest length in bytes of the encoding of a proof of at most `MAX_LEAVES` leaves with at most so many
+    /// digests. A proof of `MAX_LEAVES` leaves, with the greatest count of inactive peaks and so many digests, reaches
+    /// it. Where it does not fit it is None. In the Rust: `merkle::proof::Proof::max_encode_size`, a usize.
+    pub fn max_encode_size(max_digests: usize) -> Option<usize>
+        ensures fits { IsSome result ↔ (greatest_length D.SIZE max_digests < 2 ^ 64) }
+        ensures value { IfSome result (λ most. most ≡ greatest_length D.SIZE max_digests) }
+        ensures enough { (leaves inactive : ℕ) (digests : List D) → leaves ≤ MAX_LEAVES → inactive < 2 ^ 64
+            → length digests ≤ max_digests → All D.is_value digests
+            → IfSome result (λ most. length (proof_encoding leaves inactive (map D.encoding digests)) ≤ most) }
+        ensures reached { IfSome result (λ most. length (proof_encoding MAX_LEAVES u64.MAX
+            (replicate max_digests (replicate D.SIZE 0))) ≡ most) }
+    {
+        let numbers = number_size(MAX_LEAVES)
+            + number_size(u64::MAX)
+            + number_size(max_digests as u64);
+        max_digests.checked_mul(D::SIZE)?.checked_add(numbers)
     }
 
     /// Whether the proof's count of inactive peaks is that of the peaks before a floor, a location, in a tree of its

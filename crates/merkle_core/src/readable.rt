@@ -2,7 +2,7 @@
 
 ghost use Rattle.std.specs.Prelude.{◌≡◌, ◌≤◌, ◌^◌, ℕ, List, Option, option_map};
 ghost use Rattle.merkle_core_parts.specs.Mem.{node_count, node_at};
-ghost use Rattle.merkle_core.specs.Plans.{added_at};
+ghost use Rattle.merkle_core.specs.Plans.{made_by};
 
 use merkle_core_parts::Mem;
 use merkle_core_parts::batch::MerkleizedBatch;
@@ -66,13 +66,14 @@ impl<F: Family, D: Digest> Readable<F> for Mem<F, D> {
     }
 }
 
-/// The tree with a batch, of which only the nodes that the batch adds are there.
+/// The tree with a batch, of which only the nodes are there that the batch makes, or one below it: those that are added,
+/// and those that change.
 impl<F: Family, D: Digest> Readable<F> for MerkleizedBatch<F, D> {
     type Digest = D;
 
     ghost leaf_total = { λ batch. batch.leaves };
 
-    ghost digest_at = { λ batch. added_at F.merge_rule batch };
+    ghost digest_at = { λ batch. made_by F.merge_rule batch };
 
     fn leaf_count(&self) -> u64 {
         self.leaves().as_u64()

@@ -1,13 +1,14 @@
 -- The printed texts of the errors, and which calls refuse what.
-use Rattle.std.specs.Prelude.{◌≡◌, ℕ, List, length, ◌+◌, ◌++◌, ◌<◌, ◌≤◌, ◌^◌, codes, nat_le, nat_lt, ◌||◌, find, Option, option_map, Some, None}
+use Rattle.std.specs.Prelude.{◌≡◌, true, ℕ, List, length, ◌+◌, ◌++◌, ◌<◌, ◌≤◌, ◌^◌, codes, nat_le, nat_lt, ◌||◌, find, Option, option_map, Some, None}
 use Rattle.std.specs.Fmt.{decimal}
 use Rattle.merkle_forest.specs.Forest.{Rule}
 use Rattle.merkle_forest.specs.Nodes.{IsSize}
-use Rattle.merkle_core_parts.specs.Mem.{Base, Replacement, node_count, pinned_positions}
+use Rattle.merkle_core_parts.specs.Layers.{Layered, HasNone, known_at, bases, oldest_leaves}
+use Rattle.merkle_core_parts.specs.Mem.{Base, Growth, Replacement, node_count, pinned_positions}
 use Rattle.merkle_core_parts.specs.declared.error.Error.{Error}
 use Rattle.merkle_core_parts.specs.declared.error.Error.TheVariants.{LocationOverflow, Empty, RangeOutOfBounds, InvalidSize}
 use Rattle.merkle_core_parts.specs.declared.error.Error.TheVariants.{LeafOutOfBounds, DuplicateLocation, UnsortedLocation}
-use Rattle.merkle_core_parts.specs.declared.error.Error.TheVariants.{ElementPruned, InvalidPinnedNodes, StaleBatch}
+use Rattle.merkle_core_parts.specs.declared.error.Error.TheVariants.{ElementPruned, InvalidPinnedNodes, StaleBatch, AncestorDropped}
 use Rattle.merkle_core_parts.specs.declared.error.Error.TheVariants.{InvalidInactivePeaks, MissingNode, Memory}
 
 -- an error's number and what it means
@@ -22,16 +23,20 @@ error_text (UnsortedLocation location) = codes "M9: location " ++ decimal locati
 error_text (ElementPruned position) = codes "M10: node " ++ decimal position ++ codes " is pruned"
 error_text InvalidPinnedNodes = codes "M12: too few or too many pinned nodes"
 error_text StaleBatch = codes "M13: the batch begins from another tree"
+error_text AncestorDropped = codes "M14: a batch that was given up is needed"
 error_text InvalidInactivePeaks = codes "M16: fewer peaks than inactive ones"
 error_text (MissingNode position) = codes "M20: node " ++ decimal position ++ codes " is missing"
 error_text Memory = codes "M23: out of memory"
 
--- why nodes over a base may not be made, of which so many are needed and these are there: out of memory, or one that is
--- needed is not there
-abbrev pub IsRefusalOver : {F : Type 0} → ℕ → (ℕ → Option (List ℕ)) → Error F → Type 0
-IsRefusalOver needed there (MissingNode position) = (position < needed) × (there position ≡ None)
-IsRefusalOver needed there Memory = Unit {0}
-IsRefusalOver needed there other = ⊥
+-- why nodes may not be made, of which those before a position are needed and these are known: out of memory, or one that is
+-- needed is not known, which only a batch had that was given up where it is none of the tree's
+abbrev pub IsRefusalOver : {F : Type 0} → Rule → ℕ → Layered → Error F → Type 0
+IsRefusalOver rule needed known (MissingNode position) = (position < needed) × (known_at rule known position ≡ None)
+    × (known.dropped ≡ true → position < node_count rule known.tree.leaves)
+IsRefusalOver rule needed known AncestorDropped = (known.dropped ≡ true) × ((position : ℕ) × (position < needed)
+    × (known_at rule known position ≡ None) × (node_count rule known.tree.leaves ≤ position))
+IsRefusalOver rule needed known Memory = Unit {0}
+IsRefusalOver rule needed known other = ⊥
 
 -- why a leaf may not be added after so many: out of memory, or its location is past the limit
 abbrev pub IsRefusalPast : {F : Type 0} → ℕ → Error F → Type 0
@@ -69,11 +74,15 @@ IsRefusalOfUpdates rule boundary leaves updates (ElementPruned position) =
 IsRefusalOfUpdates rule boundary leaves updates Memory = Unit {0}
 IsRefusalOfUpdates rule boundary leaves updates other = ⊥
 
--- why a batch over this base may not be applied to that tree: out of memory, or it is another base
-abbrev pub IsRefusalOnto : {F : Type 0} → Base → Base → Error F → Type 0
-IsRefusalOnto base tree StaleBatch = base ≡ tree → ⊥
-IsRefusalOnto base tree Memory = Unit {0}
-IsRefusalOnto base tree other = ⊥
+-- why a batch may not be applied to a tree: out of memory, or the tree is none of the bases that the batch knows; batches were
+-- given up that may have known it where it has fewer leaves than the oldest of these
+abbrev pub IsRefusalOnto : {F : Type 0} → Growth → Base → Error F → Type 0
+IsRefusalOnto batch tree StaleBatch = HasNone tree (bases batch.base batch.below)
+    × (batch.dropped ≡ true → oldest_leaves batch.base.leaves batch.below ≤ tree.leaves)
+IsRefusalOnto batch tree AncestorDropped = HasNone tree (bases batch.base batch.below)
+    × (batch.dropped ≡ true) × (tree.leaves < oldest_leaves batch.base.leaves batch.below)
+IsRefusalOnto batch tree Memory = Unit {0}
+IsRefusalOnto batch tree other = ⊥
 
 -- why a tree of so many leaves may not be pruned before a location: out of memory, or it is past the leaves
 abbrev pub IsRefusalToPrune : {F : Type 0} → ℕ → ℕ → Error F → Type 0

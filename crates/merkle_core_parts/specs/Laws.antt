@@ -7,9 +7,11 @@ pub mod Enough
 pub mod Growth
 pub mod Held
 pub mod Kept
+pub mod Layers
 pub mod Made
 pub mod Mem
 pub mod Merkleized
+pub mod Ordered
 pub mod PeakSteps
 pub mod Peaks
 pub mod PlaceCases

@@ -1,5 +1,5 @@
 -- A tree that is kept in memory as the digests of its nodes.
-use Rattle.std.specs.Prelude.{◌≡◌, ◌==◌, ℕ, suc, ◌+◌, ◌-◌, ◌≤◌, ◌⊎◌, List, [], ◌∷◌, ◌++◌, map, length, drop, find}
+use Rattle.std.specs.Prelude.{◌≡◌, ◌==◌, Bool, ℕ, suc, ◌+◌, ◌-◌, ◌≤◌, ◌⊎◌, List, [], ◌∷◌, ◌++◌, map, length, drop, find}
 use Rattle.std.specs.Prelude.{slice_get, slice_set, slice_index_or, Option, Some, option_map, unwrap_or, nat_le, nat_lt, if◌then◌else◌}
 use Rattle.merkle_forest.specs.Forest.{Tree, leaf, branch, position, leaf_count, size, Rule, forest_of}
 use Rattle.merkle_forest.specs.declared.bagging.Bagging.{Bagging}
@@ -94,11 +94,14 @@ digests_from rule leaves digest_of first =
 abbrev pub peak_digests : Rule → Nodes → List (List ℕ)
 peak_digests rule nodes = digests_from rule nodes.leaves (node_at rule nodes) 0
 
+-- the digests of the peaks of the tree over these leaf digests, from left to right
+abbrev pub list_peaks : NodeHash → Rule → List (List ℕ) → List (List ℕ)
+list_peaks node rule leaf_digests = forest_digests (tree_digest node leaf_digests) (forest_of rule (length leaf_digests))
+
 -- the root of the tree over these leaf digests, of whose peaks so many come first as inactive ones
 abbrev pub list_root : Hash → NodeHash → Bagging → Rule → List (List ℕ) → ℕ → List ℕ
 list_root hash node bagging rule leaf_digests inactive =
-    root_of hash bagging (length leaf_digests) inactive
-    (forest_digests (tree_digest node leaf_digests) (forest_of rule (length leaf_digests)))
+    root_of hash bagging (length leaf_digests) inactive (list_peaks node rule leaf_digests)
 
 -- the digests of plain leaves from a location on: each element is hashed with the position of its leaf
 abbrev pub plain_leaf_digests : Hash → Rule → ℕ → List (List ℕ) → List (List ℕ)
@@ -143,35 +146,63 @@ replaced_at digests changes = map (λ one. (one.0, value_after changes one.0 one
 abbrev pub encoded : {D : Type 0} → (D → List ℕ) → List (ℕ × D) → List Replacement
 encoded encoding digests = map (λ one. (one.0, encoding one.1)) digests
 
+-- what a batch makes of its base: how many leaves there are then, the digests of the new nodes in order of position, and the
+-- nodes of the base that get another digest, each at its position
+pub record Layer : Type 0 where
+  pub base : Base
+  pub leaves : ℕ
+  pub digests : List (List ℕ)
+  pub changed : List Replacement
+
+-- a tree with a layer's nodes after its own, and its own changed as the layer says
+abbrev pub with_layer : Rule → Nodes → Layer → Nodes
+with_layer rule nodes layer = record {
+  leaves = layer.leaves;
+  boundary = nodes.boundary;
+  pinned = replaced_at nodes.pinned layer.changed;
+  digests = replaced_from (node_count rule nodes.boundary) (nodes.digests ++ layer.digests) layer.changed;
+}
+
 -- a batch of leaves: the base, the location before which it is pruned, the digests of the leaves that are added to it, and
--- then the leaves of either that get another digest, one after the other, each at its location
+-- then the leaves of either that get another digest, one after the other, each at its location; the layers of the batches
+-- that it is made over, the newest first, and whether some of these were given up
 pub record Additions : Type 0 where
   pub base : Base
   pub boundary : ℕ
   pub added : List (List ℕ)
   pub updates : List Replacement
+  pub below : List Layer
+  pub dropped : Bool
 
 -- the leaf digests of the base with a batch's leaves
 abbrev pub with_leaves : List (List ℕ) → Additions → List (List ℕ)
 with_leaves leaf_digests batch = replaced (leaf_digests ++ batch.added) batch.updates
 
 -- a batch of nodes: the base, the location before which it is pruned, how many leaves there are then, the digests of the new
--- nodes in order of position, and the nodes of the base that get another digest, each at its position
+-- nodes in order of position, the nodes of the base that get another digest, each at its position, and the digests of the
+-- peaks that there are then; the layers of the batches that it is made over, and whether some of these were given up
 pub record Growth : Type 0 where
   pub base : Base
   pub boundary : ℕ
   pub leaves : ℕ
   pub digests : List (List ℕ)
   pub changed : List Replacement
+  pub peaks : List (List ℕ)
+  pub below : List Layer
+  pub dropped : Bool
+
+-- what a batch makes of its own base
+abbrev pub own_layer : Growth → Layer
+own_layer batch = record {
+  base = batch.base;
+  leaves = batch.leaves;
+  digests = batch.digests;
+  changed = batch.changed;
+}
 
 -- a tree with a batch's nodes after its own, and its own changed as the batch says
 abbrev pub with_batch : Rule → Nodes → Growth → Nodes
-with_batch rule nodes batch = record {
-  leaves = batch.leaves;
-  boundary = nodes.boundary;
-  pinned = replaced_at nodes.pinned batch.changed;
-  digests = replaced_from (node_count rule nodes.boundary) (nodes.digests ++ batch.digests) batch.changed;
-}
+with_batch rule nodes batch = with_layer rule nodes (own_layer batch)
 
 -- the digests that stay pinned where a tree is pruned before a location, each at its position, from left to right
 abbrev pub pinned_digests : Rule → Nodes → ℕ → List Replacement

@@ -1,16 +1,25 @@
 //! Batches of changes to a tree: first the leaves that they add over a base, then the nodes that these make.
+//!
+//! A batch may be made over another one before that is applied. It knows what the batches below it make of their bases, as
+//! layers that they share (layer.rt), and so needs no copy of the tree.
 
 ghost use Rattle.std.specs.Prelude.{◌≡◌, ◌<◌, ◌≤◌, ◌+◌, ◌^◌, ◌++◌, ◌∷◌, [], ℕ, List, map, length};
-ghost use Rattle.std.specs.Prelude.{◌-◌, option_map, slice_get, IsNone, IfOk, IfErr};
+ghost use Rattle.std.specs.Prelude.{option_map, IfOk, IfErr, false};
 ghost use Rattle.std.specs.Prelude.{◌↔◌, IsOk, ◌||◌, OnOk, None, find, nat_le, nat_lt};
 ghost use Rattle.merkle_core_parts.specs.Errors.{IsRefusalOver, IsRefusalPast, IsRefusalOfMany, IsRefusalAt};
 ghost use Rattle.merkle_core_parts.specs.Errors.{first_refused, IsRefusalOfUpdates};
+ghost use Rattle.merkle_core_parts.specs.Errors.{IsRefusalOnto};
 ghost use Rattle.std.specs.List.{AllByRecursion};
-ghost use Rattle.merkle_core_parts.specs.Mem.{node_count, node_at, encoded, AreKeptNodes, AreNodesOf, base_of};
-ghost use Rattle.merkle_core_parts.specs.Mem.{with_leaves, with_batch};
+ghost use Rattle.merkle_forest.specs.Hashing.{root_of};
+ghost use Rattle.merkle_core_parts.specs.Layers.{AreStacked, IsWhole, AreLed, IsLed, IsOfOne, HasNone, bases, known_above, given_up};
+ghost use Rattle.merkle_core_parts.specs.Layers.{oldest_leaves};
+ghost use Rattle.merkle_core_parts.specs.Mem.{node_count, encoded, AreKeptNodes, base_of, peak_digests};
+ghost use Rattle.merkle_core_parts.specs.Mem.{with_leaves, own_layer, list_peaks, list_root};
 
 use crate::error::Error;
-use crate::growth::push_leaves;
+use crate::growth::{grown_peaks, push_leaves};
+use crate::layer::{Layer, node_of};
+use crate::layered::Layered;
 use crate::mem::Mem;
 use crate::rebuild::{put_all, rebuild_peaks, sort_updates};
 use merkle_forest::family::{Family, MAX_LEAVES};
@@ -18,6 +27,7 @@ use merkle_forest::hasher::Hasher;
 use merkle_forest::{Digest, Location, Position};
 use std::alloc::{AllocError, Global};
 use std::marker::{Model, PhantomData};
+use std::rc::Rc;
 
 /// Leaves that are to be added to a tree, its base, and leaves that are to get other digests. Contracts see the base,
 /// as its leaf count and the digests of its peaks, the location before which it is pruned, the digests of the new
@@ -31,11 +41,16 @@ pub struct UnmerkleizedBatch<F: Family, D: Digest> {
     boundary: u64,
     added: Vec<D>,
     updates: Vec<(u64, D)>,
+    // The layers of the batches that it is made over, the newest first.
+    below: Vec<Rc<Layer<F, D>>>,
+    // Whether some of these were given up.
+    dropped: bool,
     family: PhantomData<F>,
 }
 
 impl<F: Family, D: Digest> Model for UnmerkleizedBatch<F, D> {
     ghost use Rattle.std.specs.Prelude.{◌≤◌, ◌+◌, ◌^◌, map, length};
+    ghost use Rattle.merkle_core_parts.specs.Layers.{AreStacked};
     ghost use Rattle.merkle_core_parts.specs.Mem.{Additions, encoded};
 
     ghost Value = { Additions };
@@ -45,26 +60,34 @@ impl<F: Family, D: Digest> Model for UnmerkleizedBatch<F, D> {
       boundary = b.boundary;
       added = map D.encoding b.added.items;
       updates = encoded D.encoding b.updates.items;
+      below = map (λ layer. layer.value) b.below.items;
+      dropped = b.dropped;
     } };
 
-    ghost invariant = { λ b. b.base_leaves + length b.added.items ≤ 2 ^ 62 };
+    ghost invariant = { λ b. (b.base_leaves + length b.added.items ≤ 2 ^ 62)
+        × AreStacked F.merge_rule b.base_leaves (map (λ layer. layer.value) b.below.items) };
 }
 
 impl<F: Family, D: Digest> UnmerkleizedBatch<F, D> {
     // A batch that adds nothing to the base of so many leaves, with these digests of peaks, that is pruned before a
-    // location.
+    // location, made over these layers.
     pub(crate) fn over(
         alloc: Global,
         base_leaves: u64,
         base_peaks: Vec<D>,
         boundary: u64,
+        below: Vec<Rc<Layer<F, D>>>,
+        dropped: bool,
     ) -> UnmerkleizedBatch<F, D>
-        requires { base_leaves ≤ MAX_LEAVES }
+        requires few { base_leaves ≤ MAX_LEAVES }
+        requires stacked { AreStacked F.merge_rule base_leaves (map (λ layer. layer.value) below.items) }
         ensures { result ≡ record {
           base = record { leaves = base_leaves; peaks = map D.encoding base_peaks.items };
           boundary = boundary;
           added = [];
           updates = [];
+          below = map (λ layer. layer.value) below.items;
+          dropped = dropped;
         } }
     {
         UnmerkleizedBatch {
@@ -74,6 +97,8 @@ impl<F: Family, D: Digest> UnmerkleizedBatch<F, D> {
             boundary,
             added: Vec::new(alloc),
             updates: Vec::new(alloc),
+            below,
+            dropped,
             family: PhantomData,
         }
     }
@@ -231,11 +256,27 @@ impl<F: Family, D: Digest> UnmerkleizedBatch<F, D> {
         Ok(batch)
     }
 
-    /// Makes the nodes that the batch adds to its base, and those of the base that its updates change. A node that is
-    /// needed and that the base does not have: M20 with its position; out of memory: M23. The batch is given up. A base
-    /// that is pruned before none of the updates has all that is needed. That
-    /// the tree handed in is the one that the batch was made over is on the caller; over one of another leaf count the
-    /// digests are of no tree.
+    /// Gives up what the batches below have, as when they are applied: then a tree has to be the batch's own base where
+    /// it is to be applied. It takes no memory.
+    /// Own: in the Rust a batch holds those below it weakly, and loses what nobody else holds.
+    pub fn forget_ancestors(self) -> UnmerkleizedBatch<F, D>
+        ensures { result ≡ record self { below = []; dropped = given_up self.dropped self.below } }
+    {
+        let mut batch = self;
+        if let [_, ..] = &batch.below[..] {
+            batch.dropped = true;
+        }
+        batch.below = Vec::new(batch.alloc);
+        batch
+    }
+
+    /// Makes the nodes that the batch adds to its base, and those of the base that its updates change. They are read of
+    /// the batches below and of the tree, which is the batch's base, or that of one of the batches below it. A node
+    /// that is needed and that none of them has: M14 where batches were given up and the tree is too small to have it,
+    /// else M20 with its position; out of memory: M23. The batch is given up. Where the tree has at least the leaves of
+    /// the oldest of these bases, and no more than the batch's, and is pruned before none of the updates, all is there
+    /// that is needed. That the tree handed in is one of these is on the caller; over another one the digests are of no
+    /// tree.
     /// In the Rust: `merkle::batch::UnmerkleizedBatch::merkleize`, which shares its answer.
     pub fn merkleize<H: Hasher<F, Digest = D>>(
         self,
@@ -245,13 +286,18 @@ impl<F: Family, D: Digest> UnmerkleizedBatch<F, D> {
         ensures base { IfOk result (λ batch. batch.base ≡ self.base) }
         ensures boundary { IfOk result (λ batch. batch.boundary ≡ self.boundary) }
         ensures leaves { IfOk result (λ batch. batch.leaves ≡ self.base.leaves + length self.added) }
-        ensures of_list { (leaf_digests : List (List ℕ)) → base.now.leaves ≡ self.base.leaves
-            → AreNodesOf (H.node_of hasher.now) F.merge_rule leaf_digests base.now
-            → IfOk result (λ batch. AreNodesOf (H.node_of hasher.now) F.merge_rule (with_leaves leaf_digests self)
-            (with_batch F.merge_rule base.now batch)) }
-        ensures refused { IfErr result (λ e. IsRefusalOver (node_count F.merge_rule self.base.leaves)
-            (node_at F.merge_rule base.now) e) }
-        ensures enough { base.now.leaves ≡ self.base.leaves → AreKeptNodes F.merge_rule base.now
+        ensures below { IfOk result (λ batch. (batch.below ≡ self.below) × (batch.dropped ≡ self.dropped)) }
+        ensures of_list { (leaf_digests : List (List ℕ)) (earlier : List (List (List ℕ)))
+            → self.base.leaves ≡ length leaf_digests
+            → AreLed (H.node_of hasher.now) F.merge_rule self.below earlier leaf_digests
+            → IsOfOne (H.node_of hasher.now) F.merge_rule base.now (leaf_digests ∷ earlier)
+            → IfOk result (λ batch. IsLed (H.node_of hasher.now) F.merge_rule (own_layer batch) leaf_digests
+            (with_leaves leaf_digests self) × (batch.peaks
+            ≡ list_peaks (H.node_of hasher.now) F.merge_rule (with_leaves leaf_digests self))) }
+        ensures refused { IfErr result (λ e. IsRefusalOver F.merge_rule (node_count F.merge_rule self.base.leaves)
+            (record { tree = base.now; layers = self.below; dropped = self.dropped }) e) }
+        ensures enough { oldest_leaves self.base.leaves self.below ≤ base.now.leaves
+            → base.now.leaves ≤ self.base.leaves → AreKeptNodes F.merge_rule base.now
             → AllByRecursion (λ one. base.now.boundary ≤ one.0) self.updates
             → IfErr result (λ e. e ≡ Error.Memory) }
     {
@@ -262,10 +308,11 @@ impl<F: Family, D: Digest> UnmerkleizedBatch<F, D> {
         put_all(&mut added, self.base_leaves, &updates);
         sort_updates(&mut updates)?;
         let mut changed = Vec::new(self.alloc);
-        let peaks = rebuild_peaks::<F, H>(
+        let known = Layered::new(base, &self.below, self.dropped);
+        let rebuilt = rebuild_peaks::<F, H>(
             self.alloc,
             hasher,
-            base,
+            &known,
             self.base_leaves,
             &updates,
             &mut changed,
@@ -275,18 +322,27 @@ impl<F: Family, D: Digest> UnmerkleizedBatch<F, D> {
             hasher,
             self.base_leaves,
             base_size,
-            &peaks,
+            &rebuilt,
             &mut digests,
             &added,
         )?;
-        Ok(MerkleizedBatch {
-            base_leaves: self.base_leaves,
-            base_peaks: self.base_peaks,
-            boundary: self.boundary,
+        let peaks = grown_peaks::<F, D>(
+            self.alloc,
+            self.base_leaves,
+            base_size,
             leaves,
-            digests,
-            changed,
-            family: PhantomData,
+            &rebuilt,
+            &digests,
+        )?;
+        sort_updates(&mut changed)?;
+        let layer = Layer::new(self.base_leaves, self.base_peaks, leaves, digests, changed);
+        Ok(MerkleizedBatch {
+            alloc: self.alloc,
+            layer: Rc::new(self.alloc, layer)?,
+            boundary: self.boundary,
+            peaks,
+            below: self.below,
+            dropped: self.dropped,
         })
     }
 }
@@ -323,35 +379,41 @@ fn push_updates<F: Family, D: Digest>(
 /// Nodes that are to be added to a tree, their base, and nodes of it that get other digests. Contracts see the base,
 /// as its leaf count and the digests of its peaks, the location before which it was pruned, how many leaves there are
 /// with the new ones, the digests of the new nodes in order of position, and the digests of the changed ones, each at
-/// its position.
+/// its position, the digests of the peaks that there are then, and the layers of the batches that it was made over.
 /// In the Rust: `merkle::batch::MerkleizedBatch`.
 #[derive(Debug, Drop)]
 pub struct MerkleizedBatch<F: Family, D: Digest> {
-    base_leaves: u64,
-    base_peaks: Vec<D>,
+    alloc: Global,
+    // What the batch makes of its own base.
+    layer: Rc<Layer<F, D>>,
     boundary: u64,
-    leaves: u64,
-    digests: Vec<D>,
-    changed: Vec<(u64, D)>,
-    family: PhantomData<F>,
+    peaks: Vec<D>,
+    // The layers of the batches that it was made over, the newest first.
+    below: Vec<Rc<Layer<F, D>>>,
+    // Whether some of these were given up.
+    dropped: bool,
 }
 
 impl<F: Family, D: Digest> Model for MerkleizedBatch<F, D> {
-    ghost use Rattle.std.specs.Prelude.{◌≡◌, ◌≤◌, ◌+◌, ◌^◌, map, length};
-    ghost use Rattle.merkle_core_parts.specs.Mem.{Growth, encoded, node_count};
+    ghost use Rattle.std.specs.Prelude.{◌∷◌, map};
+    ghost use Rattle.merkle_core_parts.specs.Layers.{AreStacked};
+    ghost use Rattle.merkle_core_parts.specs.Mem.{Growth};
 
     ghost Value = { Growth };
 
     ghost view = { λ b. record {
-      base = record { leaves = b.base_leaves; peaks = map D.encoding b.base_peaks.items };
+      base = b.layer.value.base;
       boundary = b.boundary;
-      leaves = b.leaves;
-      digests = map D.encoding b.digests.items;
-      changed = encoded D.encoding b.changed.items;
+      leaves = b.layer.value.leaves;
+      digests = b.layer.value.digests;
+      changed = b.layer.value.changed;
+      peaks = map D.encoding b.peaks.items;
+      below = map (λ layer. layer.value) b.below.items;
+      dropped = b.dropped;
     } };
 
-    ghost invariant = { λ b. (b.base_leaves ≤ b.leaves) × (b.leaves ≤ 2 ^ 62)
-        × (node_count F.merge_rule b.base_leaves + length b.digests.items ≡ node_count F.merge_rule b.leaves) };
+    ghost invariant = { λ b. AreStacked F.merge_rule b.layer.value.leaves
+        (b.layer.value ∷ map (λ layer. layer.value) b.below.items) };
 }
 
 impl<F: Family, D: Digest> MerkleizedBatch<F, D> {
@@ -364,19 +426,23 @@ impl<F: Family, D: Digest> MerkleizedBatch<F, D> {
           leaves = tree.now.leaves;
           digests = [];
           changed = [];
+          peaks = peak_digests F.merge_rule tree.now;
+          below = [];
+          dropped = false;
         }) }
         ensures refused { IfErr result (λ e. e ≡ Error.Memory) }
     {
         let (alloc, base_peaks) = tree.base()?;
+        let peaks = Vec::from_slice(alloc, &base_peaks)?;
         let leaves = tree.leaves().as_u64();
+        let layer = Layer::new(leaves, base_peaks, leaves, Vec::new(alloc), Vec::new(alloc));
         Ok(MerkleizedBatch {
-            base_leaves: leaves,
-            base_peaks,
+            alloc,
+            layer: Rc::new(alloc, layer)?,
             boundary: tree.pruning_boundary().as_u64(),
-            leaves,
-            digests: Vec::new(alloc),
-            changed: Vec::new(alloc),
-            family: PhantomData,
+            peaks,
+            below: Vec::new(alloc),
+            dropped: false,
         })
     }
 
@@ -386,7 +452,7 @@ impl<F: Family, D: Digest> MerkleizedBatch<F, D> {
         ensures few { result ≤ 2 ^ 62 }
         ensures grown { self.now.base.leaves ≤ result }
     {
-        Location::new(self.leaves)
+        Location::new(self.layer.leaves())
     }
 
     /// The location before which the base was pruned when the batch was begun.
@@ -402,61 +468,134 @@ impl<F: Family, D: Digest> MerkleizedBatch<F, D> {
         ensures size { result ≡ node_count F.merge_rule self.now.leaves }
         ensures held { result ≡ node_count F.merge_rule self.now.base.leaves + length self.now.digests }
     {
-        let base_size = F::location_to_position(Location::new(self.base_leaves));
-        base_size + self.digests.len() as u64
+        F::location_to_position(Location::new(self.layer.leaves()))
     }
 
     /// How many nodes the base has. In the Rust: `merkle::batch::MerkleizedBatch::base_size`.
     pub fn base_size(&self) -> Position<F>
         ensures { result ≡ node_count F.merge_rule self.now.base.leaves }
     {
-        F::location_to_position(Location::new(self.base_leaves))
+        F::location_to_position(Location::new(self.layer.base_leaves()))
     }
 
-    /// The digest of the new node at a position. Where no new node stands there, as at a position of the base, it is
-    /// None.
+    /// The digest of the node at a position that the batch makes, or one of those below it. Where none of them makes one
+    /// there it is None: such nodes are the tree's.
     /// In the Rust: `merkle::batch::MerkleizedBatch::get_node`.
     pub fn get_node(&self, position: Position<F>) -> Option<D>
-        ensures before { position < node_count F.merge_rule self.now.base.leaves → IsNone result }
-        ensures there { node_count F.merge_rule self.now.base.leaves ≤ position → option_map D.encoding result
-            ≡ slice_get self.now.digests (position - node_count F.merge_rule self.now.base.leaves) }
+        ensures { option_map D.encoding result
+            ≡ known_above F.merge_rule (own_layer self.now ∷ self.now.below) (λ p. None) position }
     {
-        let base_size = self.base_size().as_u64();
-        if position.as_u64() < base_size {
-            return None;
+        match self.layer.node(position.as_u64()) {
+            Some(digest) => Some(digest),
+            None => node_of(&self.below, position.as_u64()),
         }
-        self.digests
-            .get((position.as_u64() - base_size) as usize)
-            .copied()
     }
 
-    // How many leaves the base has.
-    pub(crate) fn base_leaves(&self) -> u64
-        ensures { result ≡ self.now.base.leaves }
+    /// The root of the tree with the batch, of whose peaks so many come first as inactive ones. Where there are fewer:
+    /// M16. It takes no memory, and no tree: a batch knows its peaks.
+    /// In the Rust: `merkle::batch::MerkleizedBatch::root`, which reads the peaks of the tree and of the batches below.
+    pub fn root<H: Hasher<F, Digest = D>>(
+        &self,
+        hasher: &H,
+        inactive_peaks: usize,
+    ) -> Result<D, Error<F>>
+        ensures answered { IsOk result ↔ (inactive_peaks ≤ length self.now.peaks) }
+        ensures root { IfOk result (λ root. D.encoding root ≡ root_of H.hash_of (H.bagging_of hasher.now)
+            self.now.leaves inactive_peaks self.now.peaks) }
+        ensures of_list { (leaf_digests : List (List ℕ)) → self.now.leaves ≡ length leaf_digests
+            → self.now.peaks ≡ list_peaks (H.node_of hasher.now) F.merge_rule leaf_digests
+            → IfOk result (λ root. D.encoding root ≡ list_root H.hash_of (H.node_of hasher.now)
+            (H.bagging_of hasher.now) F.merge_rule leaf_digests inactive_peaks) }
+        ensures refused { IfErr result (λ e. e ≡ Error.InvalidInactivePeaks) }
     {
-        self.base_leaves
+        match hasher.root(self.leaves(), inactive_peaks, &self.peaks) {
+            Ok(root) => Ok(root),
+            Err(_) => Err(Error::InvalidInactivePeaks),
+        }
     }
 
-    // The digests of the base's peaks, from left to right.
-    pub(crate) fn base_peaks(&self) -> &[D]
-        ensures { map D.encoding result.now ≡ self.now.base.peaks }
+    /// A batch over this one that adds nothing yet. It fails only when out of memory: M23.
+    /// In the Rust: `merkle::batch::MerkleizedBatch::new_batch`, over a shared batch.
+    pub fn new_batch(&self) -> Result<UnmerkleizedBatch<F, D>, Error<F>>
+        ensures batch { IfOk result (λ batch. batch ≡ record {
+          base = record { leaves = self.now.leaves; peaks = self.now.peaks };
+          boundary = self.now.boundary;
+          added = [];
+          updates = [];
+          below = own_layer self.now ∷ self.now.below;
+          dropped = self.now.dropped;
+        }) }
+        ensures refused { IfErr result (λ e. e ≡ Error.Memory) }
     {
-        &self.base_peaks
+        let peaks = Vec::from_slice(self.alloc, &self.peaks)?;
+        let layers = shared(self.alloc, &self.layer, &self.below)?;
+        Ok(UnmerkleizedBatch::over(
+            self.alloc,
+            self.layer.leaves(),
+            peaks,
+            self.boundary,
+            layers,
+            self.dropped,
+        ))
     }
 
-    // The digests of the new nodes, in order of position.
-    pub(crate) fn digests(&self) -> &[D]
-        ensures digests { map D.encoding result.now ≡ self.now.digests }
-        ensures counted { node_count F.merge_rule self.now.base.leaves + length result.now
-            ≡ node_count F.merge_rule self.now.leaves }
+    // What the batch makes of its own base.
+    pub(crate) fn layer(&self) -> &Layer<F, D>
+        ensures layer { result.now ≡ own_layer self.now }
+        ensures whole { IsWhole F.merge_rule result.now }
+        ensures few { result.now.leaves ≤ 2 ^ 62 }
     {
-        &self.digests
+        &self.layer
     }
 
-    // The digests of the changed nodes, each with its position.
-    pub(crate) fn changed(&self) -> &[(u64, D)]
-        ensures { encoded D.encoding result.now ≡ self.now.changed }
+    // The layers of the batches that it was made over, the newest first.
+    pub(crate) fn below(&self) -> &[Rc<Layer<F, D>>]
+        ensures layers { map (λ layer. layer.value) result.now ≡ self.now.below }
+        ensures stacked { AreStacked F.merge_rule self.now.base.leaves (map (λ layer. layer.value) result.now) }
     {
-        &self.changed
+        &self.below
     }
+
+    // Why the batch is not applied to a tree that is none of its bases: M14 where batches were given up and the tree has
+    // fewer leaves than the oldest base that is left, else M13.
+    pub(crate) fn refusal(&self, leaves: u64) -> Error<F>
+        ensures { (peaks : List (List ℕ))
+            → HasNone (record { leaves = leaves; peaks = peaks }) (bases self.now.base self.now.below)
+            → IsRefusalOnto self.now (record { leaves = leaves; peaks = peaks }) result }
+    {
+        if self.dropped && leaves < oldest_base(&self.layer, &self.below) {
+            return Error::AncestorDropped;
+        }
+        Error::StaleBatch
+    }
+}
+
+// How many leaves the oldest base has that these layers know, the newest of which is the first one.
+fn oldest_base<F: Family, D: Digest>(own: &Layer<F, D>, below: &[Rc<Layer<F, D>>]) -> u64
+    ensures { result ≡ oldest_leaves own.now.base.leaves (map (λ layer. layer.value) below.now) }
+{
+    let mut leaves = own.base_leaves();
+    let mut rest = below;
+    while let [layer, older @ ..] = rest {
+        leaves = layer.base_leaves();
+        rest = older;
+    }
+    leaves
+}
+
+// The own layer, and then those below it, shared.
+fn shared<F: Family, D: Digest>(
+    alloc: Global,
+    own: &Rc<Layer<F, D>>,
+    below: &[Rc<Layer<F, D>>],
+) -> Result<Vec<Rc<Layer<F, D>>>, AllocError>
+    ensures { IfOk result (λ layers. map (λ layer. layer.value) layers.items
+        ≡ own.now.value ∷ map (λ layer. layer.value) below.now) }
+{
+    let mut layers = Vec::new(alloc);
+    layers.push(own.clone()?)?;
+    for layer in below {
+        layers.push(layer.clone()?)?;
+    }
+    Ok(layers)
 }

@@ -31,6 +31,8 @@ pub enum Error<F: Family> {
     InvalidPinnedNodes,
     /// M13: the tree is not the one that the batch begins from. In the Rust: `merkle::Error::StaleBatch`.
     StaleBatch,
+    /// M14: what a batch had that was given up is needed. In the Rust: `merkle::Error::AncestorDropped`, with the sizes.
+    AncestorDropped,
     /// M16: there are fewer peaks than inactive ones. In the Rust: `merkle::Error::InvalidInactivePeaks`.
     InvalidInactivePeaks,
     /// M20: the node at this position is needed, and is not there. In the Rust: `merkle::Error::MissingNode`.
@@ -67,6 +69,7 @@ impl<F: Family> fmt::Display for Error<F> {
             Error::ElementPruned(position) => write!(f, "M10: node {position} is pruned"),
             Error::InvalidPinnedNodes => f.write_str("M12: too few or too many pinned nodes"),
             Error::StaleBatch => f.write_str("M13: the batch begins from another tree"),
+            Error::AncestorDropped => f.write_str("M14: a batch that was given up is needed"),
             Error::InvalidInactivePeaks => f.write_str("M16: fewer peaks than inactive ones"),
             Error::MissingNode(position) => write!(f, "M20: node {position} is missing"),
             Error::Memory => f.write_str("M23: out of memory"),

@@ -4,9 +4,9 @@
 //! of the base is read, and a leaf costs one hash for each node that it adds.
 
 ghost use Rattle.std.specs.Prelude.{◌≡◌, ◌<◌, ◌≤◌, ◌+◌, ◌^◌, ℕ, suc, List, Some, map, length, slice_get};
-ghost use Rattle.std.specs.Prelude.{option_map, find, ◌==◌, IsSome, OnOk};
+ghost use Rattle.std.specs.Prelude.{option_map, find, ◌==◌, IsSome, IfOk, OnOk};
 ghost use Rattle.merkle_forest.specs.Forest.{leaf};
-ghost use Rattle.merkle_core_parts.specs.Mem.{node_count, encoded, known_over};
+ghost use Rattle.merkle_core_parts.specs.Mem.{node_count, digests_from, encoded, known_over};
 ghost use Rattle.merkle_core_parts.specs.Laws.Growth.{IsParent};
 ghost use Rattle.merkle_core_parts.specs.Laws.Made.{HavePeaks, IsHashed, AreMade};
 ghost use Rattle.merkle_core_parts.specs.Laws.Rebuilt.{Digests};
@@ -14,7 +14,7 @@ ghost use Rattle.merkle_core_parts.specs.Laws.Rebuilt.{Digests};
 use merkle_forest::Digest;
 use merkle_forest::family::{Family, MAX_LEAVES};
 use merkle_forest::hasher::Hasher;
-use std::alloc::AllocError;
+use std::alloc::{AllocError, Global};
 
 // The digest of the peak at a position.
 fn peak_digest<D: Digest>(peaks: &[(u64, D)], position: u64) -> Option<D>
@@ -49,8 +49,8 @@ pub(crate) fn known_digest<D: Digest>(
     digest_of(added, position - base_size)
 }
 
-// The digest of a child of a branch that is made next.
-fn child_digest<D: Digest>(peaks: &[(u64, D)], base_size: u64, added: &[D], position: u64) -> D
+// The digest of a node that is known.
+fn digest_there<D: Digest>(peaks: &[(u64, D)], base_size: u64, added: &[D], position: u64) -> D
     requires { IsSome (known_over base_size (encoded D.encoding peaks.now) (map D.encoding added.now) position) }
     ensures { known_over base_size (encoded D.encoding peaks.now) (map D.encoding added.now) position
         ≡ Some (D.encoding result) }
@@ -86,8 +86,8 @@ fn push_parent<F: Family, H: Hasher<F>>(
 {
     let position = base_size + added.len() as u64;
     let (left, right) = F::child_positions(position, height);
-    let left = child_digest(peaks, base_size, added, left);
-    let right = child_digest(peaks, base_size, added, right);
+    let left = digest_there(peaks, base_size, added, left);
+    let right = digest_there(peaks, base_size, added, right);
     added.push(hasher.digest_of_branch(position, &left, &right))?;
     Ok(())
 }
@@ -153,4 +153,32 @@ pub(crate) fn push_leaves<F: Family, H: Hasher<F>>(
         leaves += 1;
     }
     Ok(())
+}
+
+// The digests of the peaks of the forest of so many leaves, from left to right, of which those of a base are known, and
+// the nodes that were added to it.
+pub(crate) fn grown_peaks<F: Family, D: Digest>(
+    alloc: Global,
+    base: u64,
+    base_size: u64,
+    leaves: u64,
+    peaks: &[(u64, D)],
+    added: &[D],
+) -> Result<Vec<D>, AllocError>
+    requires few { leaves ≤ MAX_LEAVES }
+    requires over { base ≤ leaves }
+    requires sized { base_size ≡ node_count F.merge_rule base }
+    requires peaks { HavePeaks F.merge_rule base (encoded D.encoding peaks.now) }
+    requires counted { base_size + length added.now ≡ node_count F.merge_rule leaves }
+    ensures { IfOk result (λ found. map D.encoding found.items ≡ digests_from F.merge_rule leaves
+        (known_over base_size (encoded D.encoding peaks.now) (map D.encoding added.now)) 0) }
+{
+    let mut found = Vec::new(alloc);
+    let mut first = 0;
+    while first < leaves {
+        let (position, height) = F::peak_from(leaves, first);
+        found.push(digest_there(peaks, base_size, added, position))?;
+        first += 1u64 << height;
+    }
+    Ok(found)
 }

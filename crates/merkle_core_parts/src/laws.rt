@@ -1,10 +1,11 @@
 //! What the definitions say, beyond what the code needs of them.
 
-ghost use Rattle.std.specs.Prelude.{◌≡◌, ◌≤◌, ◌++◌, ◌∷◌, [], ℕ, List, length, map, slice_set};
+ghost use Rattle.std.specs.Prelude.{◌≡◌, ◌≤◌, ◌++◌, ◌∷◌, [], ℕ, List, Some, length, map, take, slice_get, slice_set};
 ghost use Rattle.merkle_forest.specs.declared.bagging.Bagging.{Bagging};
 ghost use Rattle.merkle_forest.specs.Hashing.{Hash};
 ghost use Rattle.merkle_forest.specs.Trees.{tree_root};
-ghost use Rattle.merkle_core_parts.specs.Mem.{placed, pinned_positions};
+ghost use Rattle.merkle_core_parts.specs.Layers.{IsLed, AreLed, with_layers};
+ghost use Rattle.merkle_core_parts.specs.Mem.{placed, pinned_positions, Base, Layer, own_layer, base_of, list_peaks};
 ghost use Rattle.merkle_core_parts.specs.Mem.{Nodes, Additions, Growth, NodeHash, AreNodesOf, with_leaves, with_batch};
 ghost use Rattle.merkle_core_parts.specs.Mem.{AreKeptNodes, pruned_before, plain_leaf_digests, plain_node, list_root};
 
@@ -26,6 +27,29 @@ pub fn nodes_fit_each_tree_of_the_list<F: Family>()
         → AreNodesOf node F.merge_rule some one → AreNodesOf node F.merge_rule some other
         → AreNodesOf node F.merge_rule list (with_batch F.merge_rule one batch)
         → AreNodesOf node F.merge_rule list (with_batch F.merge_rule other batch) }
+{}
+
+/// A batch's nodes that lead from one list of leaf digests to another make of each tree of the one a tree of the other.
+pub fn a_batch_makes_the_nodes_of_its_list<F: Family>()
+    ensures { (node : NodeHash) (before after : List (List ℕ)) (nodes : Nodes) (batch : Growth)
+        → IsLed node F.merge_rule (own_layer batch) before after → AreNodesOf node F.merge_rule before nodes
+        → AreNodesOf node F.merge_rule after (with_batch F.merge_rule nodes batch) }
+{}
+
+/// The layers below a batch that follow a tree, which is one of a list that one of them leads from, make of it a tree of
+/// the list that the newest one leads to.
+pub fn what_follows_a_tree_makes_the_nodes_of_the_list<F: Family>()
+    ensures { (node : NodeHash) (below : List Layer) (earlier : List (List (List ℕ))) (list stage : List (List ℕ))
+        (count : ℕ) (nodes : Nodes) → AreLed node F.merge_rule below earlier list
+        → slice_get (list ∷ earlier) count ≡ Some stage → AreNodesOf node F.merge_rule stage nodes
+        → AreNodesOf node F.merge_rule list (with_layers F.merge_rule nodes (take count below)) }
+{}
+
+/// A tree of a list is the base that a batch knows which has the list's length and the digests of its peaks.
+pub fn a_tree_of_a_list_is_its_base<F: Family>()
+    ensures { (node : NodeHash) (list : List (List ℕ)) (nodes : Nodes) (base : Base)
+        → AreNodesOf node F.merge_rule list nodes → base.leaves ≡ length list
+        → base.peaks ≡ list_peaks node F.merge_rule list → base_of F.merge_rule nodes ≡ base }
 {}
 
 /// A leaf that a batch gives a digest has it in the list that the batch makes, and no other leaf changes.

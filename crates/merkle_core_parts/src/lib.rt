@@ -7,6 +7,8 @@ pub mod components;
 pub mod error;
 pub mod growth;
 pub mod laws;
+mod layer;
+mod layered;
 pub mod mem;
 pub mod peaks;
 pub mod rebuild;

@@ -1,21 +1,22 @@
 //! The tree that is kept in memory.
 
 ghost use Rattle.std.specs.Prelude.{◌≡◌, ◌<◌, ◌≤◌, ◌+◌, ◌↔◌, ◌^◌, [], ℕ, List, Some, map, length, option_map};
-ghost use Rattle.std.specs.Prelude.{IsTrue, IsSome, IsOk, IfOk, IfErr, OnOk, OnErr};
+ghost use Rattle.std.specs.Prelude.{false, take, IsTrue, IsSome, IsNone, IfSome, IsOk, IfOk, IfErr, OnOk, OnErr};
 ghost use Rattle.merkle_forest.specs.Forest.{size, forest_of};
 ghost use Rattle.merkle_forest.specs.Hashing.{root_of};
 ghost use Rattle.merkle_forest.specs.Peaks.{peak_positions};
 ghost use Rattle.merkle_core_parts.specs.Errors.{IsRefusalOnto, IsRefusalToPrune, IsRefusalOfParts};
 ghost use Rattle.merkle_core_parts.specs.Mem.{node_count, node_at, peak_digests, AreNodesOf, list_root};
 ghost use Rattle.merkle_core_parts.specs.Mem.{AreKeptNodes, pinned_positions, placed};
+ghost use Rattle.merkle_core_parts.specs.Layers.{IsFirstAt, HasNone, bases, with_layers};
 ghost use Rattle.merkle_core_parts.specs.Mem.{base_of, with_batch, pruned_before, IsKept, IsPeakPosition, NodeHash};
 
 use crate::batch::{MerkleizedBatch, UnmerkleizedBatch};
 use crate::components::{leaves_of, placed_at_peaks};
 use crate::error::Error;
 use crate::growth::known_digest;
+use crate::layer::{Layer, put_layers};
 use crate::peaks::{count_peaks, have_all_peaks, peaks_of, pinned_of, root_of_tree};
-use crate::rebuild::{put_all, put_pinned};
 use merkle_forest::family::MAX_LEAVES;
 use merkle_forest::hasher::Hasher;
 use merkle_forest::peaks::Peaks;
@@ -23,6 +24,7 @@ use merkle_forest::{Digest, Family, Location, Position};
 use std::alloc::{AllocError, Global};
 use std::marker::{Model, PhantomData};
 use std::ops::Range;
+use std::rc::Rc;
 
 /// A tree that is kept in memory as the digests of its nodes, and that may be pruned. Contracts see the number of its
 /// leaves, the location before which it is pruned, the digests that stay pinned before it, each at its position, and
@@ -315,11 +317,14 @@ impl<F: Family, D: Digest> Mem<F, D> {
           boundary = self.now.boundary;
           added = [];
           updates = [];
+          below = [];
+          dropped = false;
         }) }
         ensures refused { IfErr result (λ e. e ≡ Error.Memory) }
     {
         let (alloc, peaks) = self.base()?;
-        Ok(UnmerkleizedBatch::over(alloc, self.leaves, peaks, self.boundary))
+        let none = Vec::new(alloc);
+        Ok(UnmerkleizedBatch::over(alloc, self.leaves, peaks, self.boundary, none, false))
     }
 
     // What a batch over the tree is made with: its allocator, and the digests of its peaks.
@@ -330,32 +335,65 @@ impl<F: Family, D: Digest> Mem<F, D> {
         Ok((self.alloc, peaks))
     }
 
-    // Whether the tree is the batch's base, by its leaf count and the digests of its peaks.
-    fn is_base_of(&self, batch: &MerkleizedBatch<F, D>) -> bool
-        ensures { IsTrue result ↔ (batch.now.base ≡ base_of F.merge_rule self.now) }
+    // Whether the tree is a layer's base, by its leaf count and the digests of its peaks.
+    fn is_base_of(&self, layer: &Layer<F, D>) -> bool
+        ensures { IsTrue result ↔ (layer.now.base ≡ base_of F.merge_rule self.now) }
     {
-        if self.leaves != batch.base_leaves() {
+        if self.leaves != layer.base_leaves() {
             return false;
         }
-        have_all_peaks::<F, D>(self.leaves, self, batch.base_peaks())
+        have_all_peaks::<F, D>(self.leaves, self, layer.base_peaks())
     }
 
-    /// Adds the batch's nodes, and changes those that it changes. Where the tree is not the batch's base, by its leaf
-    /// count and the digests of its peaks: M13; out of memory: M23. It then stays as it was. That trees of one leaf
-    /// count and equal digests of peaks stand over one list of leaf digests is for the caller to know.
+    // How many of the layers below a batch follow the tree: those that are newer than the first base, from the batch's
+    // own one back, that is the tree. Where none is: None.
+    fn following(&self, own: &Layer<F, D>, below: &[Rc<Layer<F, D>>]) -> Option<usize>
+        ensures found { IfSome result (λ count. IsFirstAt (base_of F.merge_rule self.now)
+            (bases own.now.base (map (λ layer. layer.value) below.now)) count) }
+        ensures within { IfSome result (λ count. count ≤ length below.now) }
+        ensures none { IsNone result → HasNone (base_of F.merge_rule self.now)
+            (bases own.now.base (map (λ layer. layer.value) below.now)) }
+    {
+        if self.is_base_of(own) {
+            return Some(0);
+        }
+        let mut count = 0;
+        for layer in below {
+            count += 1;
+            if self.is_base_of(layer) {
+                return Some(count);
+            }
+        }
+        None
+    }
+
+    /// Adds the nodes of the batch and of those below it that the tree is without, the oldest first, and changes those
+    /// that they change: of the bases that the batch knows, from its own one back, the first that is the tree, by its leaf
+    /// count and the digests of its peaks, tells which batches follow it. Where none is: M14 where batches were given
+    /// up and the tree has fewer leaves than the oldest base that is left, else M13; out of memory: M23. The tree then
+    /// stays as it was. That trees of one leaf count and equal digests of peaks stand over one list of leaf digests is for
+    /// the caller to know.
     /// In the Rust: `merkle::mem::Mem::apply_batch`.
     pub fn apply_batch(&mut self, batch: &MerkleizedBatch<F, D>) -> Result<(), Error<F>>
-        ensures applied { OnOk result (self.new ≡ with_batch F.merge_rule self.old batch.now) }
-        ensures base { OnOk result (batch.now.base ≡ base_of F.merge_rule self.old) }
-        ensures refused { IfErr result (λ e. IsRefusalOnto batch.now.base (base_of F.merge_rule self.old) e) }
+        ensures applied { OnOk result ((count : ℕ)
+            × IsFirstAt (base_of F.merge_rule self.old) (bases batch.now.base batch.now.below) count
+            × (self.new ≡ with_batch F.merge_rule
+            (with_layers F.merge_rule self.old (take count batch.now.below)) batch.now)) }
+        ensures refused { IfErr result (λ e. IsRefusalOnto batch.now (base_of F.merge_rule self.old) e) }
         ensures unchanged { OnErr result (self.new ≡ self.old) }
     {
-        if !self.is_base_of(batch) {
-            return Err(Error::StaleBatch);
-        }
-        self.digests.extend_from_slice(batch.digests())?;
-        put_all(&mut self.digests, self.start, batch.changed());
-        put_pinned(&mut self.pinned, batch.changed());
+        let own = batch.layer();
+        let below = batch.below();
+        let Some(count) = self.following(own, below) else {
+            return Err(batch.refusal(self.leaves));
+        };
+        put_layers(
+            self.start,
+            &mut self.pinned,
+            &mut self.digests,
+            own,
+            &below[..count],
+        )?;
         self.leaves = batch.leaves().as_u64();
         Ok(())
     }

@@ -3,10 +3,12 @@
 ghost use Rattle.std.specs.Prelude.{◌≡◌, ◌<◌, ◌≤◌, ◌+◌, ◌^◌, ◌↔◌, ℕ, suc, List, Some, map, length, drop, slice_get};
 ghost use Rattle.std.specs.Prelude.{option_map, IsTrue, IfOk, IfErr, OnOk};
 ghost use Rattle.std.specs.List.{AllByRecursion};
+ghost use Rattle.std.specs.Prelude.{vec_len, vec_capacity};
 ghost use Rattle.merkle_forest.specs.Forest.{Tree, position, leaf_count, forest_of};
 ghost use Rattle.merkle_forest.specs.Nodes.{IsNodeAt};
 ghost use Rattle.merkle_core_parts.specs.Errors.{IsRefusalOver};
-ghost use Rattle.merkle_core_parts.specs.Mem.{node_count, node_at, encoded, IsKept, replaced_at, value_after};
+ghost use Rattle.merkle_core_parts.specs.Layers.{known_at};
+ghost use Rattle.merkle_core_parts.specs.Mem.{node_count, encoded, IsKept, replaced_at, value_after};
 ghost use Rattle.merkle_core_parts.specs.Laws.Made.{HavePeaks};
 ghost use Rattle.merkle_core_parts.specs.Laws.Replaced.{AreFrom};
 ghost use Rattle.merkle_core_parts.specs.Laws.Rebuilt.{Digests, IsSetting, ArePending, IsDue, AreTaken, IsRight};
@@ -15,7 +17,7 @@ ghost use Rattle.merkle_core_parts.specs.Laws.Updated.{AreRebuilt};
 ghost use Rattle.merkle_core_parts.specs.Laws.Enough.{IsRefusalOfKept};
 
 use crate::error::Error;
-use crate::mem::Mem;
+use crate::layered::Layered;
 use merkle_forest::family::{Family, MAX_LEAVES};
 use merkle_forest::hasher::Hasher;
 use merkle_forest::{Digest, Position};
@@ -51,6 +53,8 @@ pub(crate) fn put_all<D: Digest>(digests: &mut Vec<D>, first: u64, changes: &[(u
         ≡ option_map (value_after (encoded D.encoding changes.now) (first + k))
         (slice_get (map D.encoding digests.old.items) k) }
     ensures counted { length digests.new.items ≡ length digests.old.items }
+    ensures len { vec_len digests.new ≡ vec_len digests.old }
+    ensures room { vec_capacity digests.new ≡ vec_capacity digests.old }
 {
     put_digests(digests, first, changes);
 }
@@ -142,7 +146,7 @@ fn leaf_span(height: u32) -> u64
 // them is the first past its leaves. Appends the nodes that change.
 fn rebuild<F: Family, H: Hasher<F>>(
     hasher: &H,
-    base: &Mem<F, H::Digest>,
+    base: &Layered<F, H::Digest>,
     leaves: u64,
     updates: &[(u64, H::Digest)],
     next: usize,
@@ -152,7 +156,7 @@ fn rebuild<F: Family, H: Hasher<F>>(
     requires few { leaves ≤ MAX_LEAVES }
     requires place { IsPlace F.merge_rule leaves place.first place.position place.height }
     ensures rebuilt { IfOk result (λ made. (boundary : ℕ) (before after : Digests) (tree : Tree)
-        → IsSetting F.merge_rule (H.node_of hasher.now) leaves boundary (node_at F.merge_rule base.now) before after
+        → IsSetting F.merge_rule (H.node_of hasher.now) leaves boundary (known_at F.merge_rule base.now) before after
         → ArePending F.merge_rule leaves boundary before after place.first
         (drop next (encoded H.Digest.encoding updates.now))
         → IsRight F.merge_rule leaves after (encoded H.Digest.encoding changed.old.items)
@@ -161,15 +165,14 @@ fn rebuild<F: Family, H: Hasher<F>>(
         (encoded H.Digest.encoding changed.old.items) (encoded H.Digest.encoding changed.new.items)
         (H.Digest.encoding made.0) (place.first + leaf_count tree)
         (drop made.1 (encoded H.Digest.encoding updates.now))) }
-    ensures refused { IfErr result (λ e. IsRefusalOver (node_count F.merge_rule leaves)
-        (node_at F.merge_rule base.now) e) }
+    ensures refused { IfErr result (λ e. IsRefusalOver F.merge_rule (node_count F.merge_rule leaves) base.now e) }
     ensures kept { IfErr result (λ e. (b : ℕ) → b ≤ leaves → AreFrom b (encoded H.Digest.encoding updates.now)
         → IsKept F.merge_rule b place.position → IsRefusalOfKept F.merge_rule b e) }
 {
     if !is_due(updates, next, place.first + leaf_span(place.height)) {
         return match base.get_node(Position::new(place.position)) {
             Some(digest) => Ok((digest, next)),
-            None => Err(Error::MissingNode(Position::new(place.position))),
+            None => Err(base.refusal(Position::new(place.position))),
         };
     }
     if place.height == 0 {
@@ -200,7 +203,7 @@ fn rebuild<F: Family, H: Hasher<F>>(
 pub(crate) fn rebuild_peaks<F: Family, H: Hasher<F>>(
     alloc: Global,
     hasher: &H,
-    base: &Mem<F, H::Digest>,
+    base: &Layered<F, H::Digest>,
     leaves: u64,
     updates: &[(u64, H::Digest)],
     changed: &mut Vec<(u64, H::Digest)>,
@@ -208,13 +211,12 @@ pub(crate) fn rebuild_peaks<F: Family, H: Hasher<F>>(
     requires { leaves ≤ MAX_LEAVES }
     ensures peaks { IfOk result (λ peaks. HavePeaks F.merge_rule leaves (encoded H.Digest.encoding peaks.items)) }
     ensures rebuilt { IfOk result (λ peaks. (boundary : ℕ) (before after : Digests)
-        → IsSetting F.merge_rule (H.node_of hasher.now) leaves boundary (node_at F.merge_rule base.now) before after
+        → IsSetting F.merge_rule (H.node_of hasher.now) leaves boundary (known_at F.merge_rule base.now) before after
         → ArePending F.merge_rule leaves boundary before after 0 (encoded H.Digest.encoding updates.now)
         → IsRight F.merge_rule leaves after (encoded H.Digest.encoding changed.old.items)
         → AreRebuilt F.merge_rule leaves before after (encoded H.Digest.encoding changed.old.items)
         (encoded H.Digest.encoding changed.new.items) (encoded H.Digest.encoding peaks.items)) }
-    ensures refused { IfErr result (λ e. IsRefusalOver (node_count F.merge_rule leaves)
-        (node_at F.merge_rule base.now) e) }
+    ensures refused { IfErr result (λ e. IsRefusalOver F.merge_rule (node_count F.merge_rule leaves) base.now e) }
     ensures kept { IfErr result (λ e. (b : ℕ) → b ≤ leaves → AreFrom b (encoded H.Digest.encoding updates.now)
         → IsRefusalOfKept F.merge_rule b e) }
 {

@@ -2,6 +2,10 @@
 #![tactic(auto)]
 
 #[cfg(test)]
+mod batches;
+#[cfg(test)]
+mod names;
+#[cfg(test)]
 mod proofs;
 #[cfg(test)]
 mod trees;

@@ -2,6 +2,7 @@ mod multi;
 mod pinned;
 mod plans;
 mod shown;
+mod sizes;
 mod stores;
 mod told;
 

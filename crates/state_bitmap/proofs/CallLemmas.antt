@@ -1,5 +1,5 @@
 -- What the calls of a map owe, over plain values.
-use Rattle.std.proofs.Common.{◌≡◌, ℕ, zero, suc, ◌+◌, ◌-◌, ◌*◌, ◌/◌, ◌<◌, ◌≤◌, Bool, leb, List, [], ◌∷◌, ◌++◌, length, take, get_or}
+use Rattle.std.proofs.Common.{◌≡◌, ℕ, zero, suc, ◌+◌, ◌-◌, ◌*◌, ◌/◌, ◌<◌, ◌≤◌, Bool, false, leb, List, [], ◌∷◌, ◌++◌, length, map, take, get_or}
 use Rattle.std.proofs.Common.{Result, Ok, Err, OnOk, OnErr, sym, ◌∙◌, ap, subst, arith}
 use Rattle.std.specs.List.{AllByRecursion}
 use Rattle.std.specs.Prelude.{slice_set}
@@ -7,7 +7,9 @@ use Rattle.std.proofs.lemmas.Bool.{cond-false, lt-leb}
 use Rattle.std.proofs.lemmas.List.{map-append, take_more, drop_all}
 use Rattle.merkle_forest.specs.Forest.{mmr_rule}
 use Rattle.merkle_core_parts.specs.Laws.Mem.{nodes-empty}
-use Rattle.merkle_core_parts.specs.Mem.{Nodes, NodeHash, Additions, Replacement, AreNodesOf, base_of, node_count, pruned_before, cut_before}
+use Rattle.merkle_core_parts.specs.Layers.{IsFirstAt, bases, with_layers}
+use Rattle.merkle_core_parts.specs.Laws.Layers.{first-own}
+use Rattle.merkle_core_parts.specs.Mem.{Nodes, NodeHash, Additions, Growth, Replacement, with_batch, AreNodesOf, base_of, node_count, pruned_before, cut_before}
 use Rattle.state_bitmap.specs.Bits.{Bits, AreBitsOf, chunk_at, pruned_to}
 use Rattle.state_bitmap.specs.Maps.{LeafHash, Map, IsMap, IsMapOf, AreLeavesOf, merkleized, changed, full_count}
 use Rattle.state_bitmap.proofs.ChunkLemmas.{chunks_of_bits}
@@ -182,10 +184,19 @@ module _ (leaf_of : LeafHash) (width : ℕ) (bits : Bits) where
     boundary = tree.boundary;
     added = leaves_from leaf_of width bits tree.leaves (full_count width bits - tree.leaves);
     updates = leaves_at leaf_of width bits chunks;
+    below = [];
+    dropped = false;
   }
 
   pub batch_is : (tree : Nodes) (chunks : List ℕ) (first end : ℕ) (none some all : Additions)
-      → none ≡ record { base = base_of mmr_rule tree; boundary = tree.boundary; added = []; updates = [] }
+      → none ≡ record {
+        base = base_of mmr_rule tree;
+        boundary = tree.boundary;
+        added = [];
+        updates = [];
+        below = [];
+        dropped = false;
+      }
       → some ≡ record none { added = leaves_from leaf_of width bits first (end - first) }
       → all ≡ record some { updates = leaves_at leaf_of width bits chunks } → first ≡ tree.leaves → end ≡ full_count width bits
       → all ≡ brought_batch tree chunks
@@ -202,6 +213,15 @@ module _ (leaf_of : LeafHash) (width : ℕ) (bits : Bits) where
   updates_from boundary leaf_total [] same all = tt
   updates_from boundary leaf_total (chunk ∷ chunks) same all =
       (omega (arith, same, all.0.0), updates_from boundary leaf_total chunks same all.1)
+
+  -- a batch over a tree that is its own base is applied alone
+  pub applied_alone : (tree after : Nodes) (batch : Growth) (count : ℕ) → batch.base ≡ base_of mmr_rule tree
+      → IsFirstAt (base_of mmr_rule tree) (bases batch.base batch.below) count
+      → after ≡ with_batch mmr_rule (with_layers mmr_rule tree (take count batch.below)) batch
+      → after ≡ with_batch mmr_rule tree batch
+  applied_alone tree after batch count base first is =
+      is ∙ ap (λ n. with_batch mmr_rule (with_layers mmr_rule tree (take n batch.below)) batch)
+      (first-own (base_of mmr_rule tree) batch.base (map (λ layer. layer.base) batch.below) count base first)
 
   pub brought_leaves : (tree : Nodes) (chunks : List ℕ) (batch : Additions) → batch ≡ brought_batch tree chunks
       → tree.leaves ≤ full_count width bits → batch.base.leaves + length batch.added ≡ full_count width bits

@@ -1,10 +1,10 @@
 -- Calls of the tree that are refused only for want of memory.
-use Rattle.std.proofs.Common.{◌≡◌, ℕ, ◌+◌, ◌^◌, ◌<◌, ◌≤◌, None, Some, refl, sym, ◌∙◌, arith}
+use Rattle.std.proofs.Common.{◌≡◌, ℕ, ◌+◌, ◌^◌, ◌<◌, ◌≤◌, None, Some, refl, sym, ◌∙◌, ap, arith}
 use Rattle.merkle_forest.specs.Forest.{Rule}
 use Rattle.merkle_core_parts.specs.Errors.{IsRefusalPast, IsRefusalAt, IsRefusalOnto, IsRefusalToPrune}
-use Rattle.merkle_core_parts.specs.Mem.{Base}
+use Rattle.merkle_core_parts.specs.Mem.{Base, Growth}
 use Rattle.merkle_core_parts.specs.declared.error.Error.{Error}
-use Rattle.merkle_core_parts.specs.declared.error.Error.TheVariants.{LocationOverflow, LeafOutOfBounds, ElementPruned, StaleBatch, Memory}
+use Rattle.merkle_core_parts.specs.declared.error.Error.TheVariants.{LocationOverflow, LeafOutOfBounds, ElementPruned, StaleBatch, AncestorDropped, Memory}
 use Rattle.merkle_core_parts.specs.declared.error.Error.TheVariants.{InvalidInactivePeaks}
 use Rattle.merkle_core.specs.Plans.{Lookup, first_missing, range_positions, IsRefusalToProveElement}
 
@@ -20,10 +20,12 @@ at_memory rule boundary leaves asked (ElementPruned position) low high refused =
 at_memory rule boundary leaves asked Memory low high refused = refl
 at_memory rule boundary leaves asked other low high refused = absurd refused
 
-pub onto_memory : {F : Type 0} (base tree : Base) (e : Error F) → base ≡ tree → IsRefusalOnto base tree e → e ≡ Memory
-onto_memory base tree StaleBatch same refused = absurd (refused same)
-onto_memory base tree Memory same refused = refl
-onto_memory base tree other same refused = absurd refused
+pub onto_memory : {F : Type 0} (batch : Growth) (tree : Base) (e : Error F) → batch.base ≡ tree → IsRefusalOnto batch tree e
+    → e ≡ Memory
+onto_memory batch tree StaleBatch same refused = absurd (refused.0 0 (ap (λ b. Some b) same))
+onto_memory batch tree AncestorDropped same refused = absurd (refused.0 0 (ap (λ b. Some b) same))
+onto_memory batch tree Memory same refused = refl
+onto_memory batch tree other same refused = absurd refused
 
 pub prune_memory : {F : Type 0} (leaves asked : ℕ) (e : Error F) → asked ≤ leaves → IsRefusalToPrune leaves asked e → e ≡ Memory
 prune_memory leaves asked (LeafOutOfBounds location) within refused = absurd (omega (arith, within, refused.1))

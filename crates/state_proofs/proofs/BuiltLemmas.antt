@@ -6,7 +6,7 @@ use Rattle.std.proofs.Math.Nat.{div-add-mod, div-lt_iff_lt-mul, mul_comm, mul-lt
 use Rattle.merkle_core_parts.specs.declared.error.Error.{Error as MerkleError}
 use Rattle.merkle_core_parts.specs.declared.error.Error.TheVariants.{LocationOverflow, Empty, RangeOutOfBounds, InvalidSize, LeafOutOfBounds}
 use Rattle.merkle_core_parts.specs.declared.error.Error.TheVariants.{DuplicateLocation, UnsortedLocation, ElementPruned, InvalidPinnedNodes}
-use Rattle.merkle_core_parts.specs.declared.error.Error.TheVariants.{StaleBatch, InvalidInactivePeaks, MissingNode, Memory as NoMemory}
+use Rattle.merkle_core_parts.specs.declared.error.Error.TheVariants.{StaleBatch, AncestorDropped, InvalidInactivePeaks, MissingNode, Memory as NoMemory}
 use Rattle.merkle_core.specs.MadeRoots.{peaks_of}
 use Rattle.merkle_core.specs.Plans.{Asked as Span, IsRefusalToBuild, IsWithinTree, Lookup, honest_digests, looked_up}
 use Rattle.merkle_core.specs.Ranges.{Digests, range_digests}
@@ -108,6 +108,7 @@ lifted_refusal rule span inactive known (DuplicateLocation l) few is = absurd is
 lifted_refusal rule span inactive known (UnsortedLocation l) few is = absurd is
 lifted_refusal rule span inactive known InvalidPinnedNodes few is = absurd is
 lifted_refusal rule span inactive known StaleBatch few is = absurd is
+lifted_refusal rule span inactive known AncestorDropped few is = absurd is
 lifted_refusal rule span inactive known (MissingNode p) few is = absurd is
 
 -- the first peaks that end at a chunk's border before the floor are peaks

@@ -8,8 +8,9 @@ use Rattle.merkle_forest.specs.Forest.{Tree, position, size, Rule, forest_of}
 use Rattle.merkle_forest.specs.Nodes.{IsNodeAt}
 use Rattle.merkle_forest.specs.Perfect.{IsPairing}
 use Rattle.merkle_forest.specs.Laws.ForestGrowth.{size-mono}
-use Rattle.merkle_core_parts.specs.Mem.{Nodes, Growth, Replacement, NodeHash, tree_digest, AreNodesOf, AreKeptNodes, IsKept}
-use Rattle.merkle_core_parts.specs.Mem.{node_count, with_batch, value_after, digest_at, known_over}
+use Rattle.merkle_core_parts.specs.Layers.{IsLed}
+use Rattle.merkle_core_parts.specs.Mem.{Nodes, Layer, Growth, Replacement, NodeHash, tree_digest, AreNodesOf, AreKeptNodes, IsKept}
+use Rattle.merkle_core_parts.specs.Mem.{node_count, own_layer, with_layer, with_batch, value_after, digest_at, known_over}
 use Rattle.merkle_core_parts.specs.Laws.Kept.{kept, later}
 use Rattle.merkle_core_parts.specs.Laws.Made.{get-front}
 use Rattle.merkle_core_parts.specs.Laws.Replaced.{known-replaced, length-replaced_from, positions-replaced_at}
@@ -67,21 +68,53 @@ alike node rule some one other more first tree ones others here there (inr after
     ∙ sym (known-new (node_count rule one.boundary) one.pinned one.digests more count (position tree)
     (ones.shape.counted ∙ ap (node_count rule) ones.counted) after)
 
--- the shape of a tree with a batch's nodes
-pub shape-with : (rule : Rule) (nodes : Nodes) (batch : Growth) → AreKeptNodes rule nodes → nodes.leaves ≤ batch.leaves
-    → node_count rule nodes.leaves + length batch.digests ≡ node_count rule batch.leaves
-    → AreKeptNodes rule (with_batch rule nodes batch)
-shape-with rule nodes batch shape longer counted = record {
+-- the shape of a tree with a layer's nodes
+pub shape-with : (rule : Rule) (nodes : Nodes) (layer : Layer) → AreKeptNodes rule nodes → nodes.leaves ≤ layer.leaves
+    → node_count rule nodes.leaves + length layer.digests ≡ node_count rule layer.leaves
+    → AreKeptNodes rule (with_layer rule nodes layer)
+shape-with rule nodes layer shape longer counted = record {
   within = omega (arith, shape.within, longer);
-  pinned = positions-replaced_at nodes.pinned batch.changed ∙ shape.pinned;
+  pinned = positions-replaced_at nodes.pinned layer.changed ∙ shape.pinned;
   counted = omega (
     arith,
-    length-replaced_from (node_count rule nodes.boundary) (nodes.digests ++ batch.digests) batch.changed,
-    length-append nodes.digests batch.digests,
+    length-replaced_from (node_count rule nodes.boundary) (nodes.digests ++ layer.digests) layer.changed,
+    length-append nodes.digests layer.digests,
     shape.counted,
     counted,
   );
 }
+
+-- a layer that leads from one list to another makes of a tree of the one a tree of the other
+pub led-nodes : (rule : Rule) → IsPairing rule → (node : NodeHash) (layer : Layer) (before after : List (List ℕ)) (nodes : Nodes)
+    → IsLed node rule layer before after → AreNodesOf node rule before nodes
+    → AreNodesOf node rule after (with_layer rule nodes layer)
+led-nodes rule pairs node layer before after nodes led are =
+    let start = node_count rule nodes.boundary in
+    let counted : node_count rule nodes.leaves + length layer.digests ≡ node_count rule layer.leaves =
+    ap (λ n. node_count rule n + length layer.digests) are.counted ∙ led.counted ∙ ap (node_count rule) (sym led.to) in
+    let held : start + length nodes.digests ≡ node_count rule (length before) =
+    are.shape.counted ∙ ap (node_count rule) are.counted in
+    record {
+      counted = led.to;
+      shape = shape-with rule nodes layer are.shape (omega (arith, are.counted, led.longer, led.to)) counted;
+      digests = λ first tree stands keeps.
+          (let long : length before + (length after - length before) ≡ length after = omega (arith, led.longer) in
+          let p = position tree in
+          known-replaced start nodes.pinned (nodes.digests ++ layer.digests) layer.changed p
+          ∙ elim (later rule pairs (length before) (length after - length before) first tree
+          (subst (λ n. IsNodeAt first tree (forest_of rule n)) (sym long) stands)) [
+            | inl there ↦
+                ap (option_map (value_after layer.changed p))
+                (known-old start nodes.pinned nodes.digests layer.digests (tree_digest node before first tree) p
+                (are.digests first tree there keeps))
+                ∙ ap (λ d. Some d) (led.old first tree there)
+            | inr past ↦
+                ap (option_map (value_after layer.changed p))
+                (known-new start nodes.pinned nodes.digests layer.digests (node_count rule (length before)) p held past
+                ∙ led.new first tree stands past)
+                ∙ ap (λ d. Some d) (led.unchanged p (tree_digest node after first tree) past)
+          ]);
+    }
 
 grows : (rule : Rule) (nodes : Nodes) (batch : Growth) → AreKeptNodes rule nodes
     → AreKeptNodes rule (with_batch rule nodes batch)
@@ -104,7 +137,7 @@ fits-each rule pairs node some list one other batch longer less ones others made
     let grown = grows rule one batch ones.shape made.shape in
     record {
       counted = made.counted;
-      shape = shape-with rule other batch others.shape (omega (arith, others.counted, made.counted, longer))
+      shape = shape-with rule other (own_layer batch) others.shape (omega (arith, others.counted, made.counted, longer))
           (subst (λ n. node_count rule n + length batch.digests ≡ node_count rule batch.leaves) leaves grown);
       digests = λ first tree stands keeps.
           (let long : length some + (length list - length some) ≡ length list = omega (arith, longer) in

@@ -1,15 +1,21 @@
 -- What is read of a tree that was pruned, while leaves that are not pruned get other digests, is kept.
-use Rattle.std.proofs.Common.{◌≡◌, ℕ, zero, suc, ◌+◌, ◌^◌, ◌<◌, ◌≤◌, List, [], ◌∷◌, drop, None, refl, sym, subst, arith}
-use Rattle.std.specs.Prelude.{IsSome}
+use Rattle.std.proofs.Common.{◌≡◌, ℕ, zero, suc, ◌+◌, ◌^◌, ◌-◌, ◌<◌, ◌≤◌, inl, inr, ltb, List, [], ◌∷◌, drop, length}
+use Rattle.std.proofs.Common.{Option, Some, None, refl, sym, ap, subst, arith}
+use Rattle.std.proofs.lemmas.Bool.{cases_lt, cond-false, le-ltb}
+use Rattle.std.specs.Option.{option_or}
+use Rattle.std.specs.Prelude.{IsSome, slice_get}
 use Rattle.std.specs.List.{AllByRecursion}
 use Rattle.merkle_forest.specs.Forest.{Tree, leaf, branch, position, height, leaf_count, Rule, forest_of}
 use Rattle.merkle_forest.specs.Nodes.{IsNodeAt, AreChildren}
 use Rattle.merkle_forest.specs.Perfect.{IsPairing}
+use Rattle.merkle_forest.specs.Laws.ForestGrowth.{size-mono}
 use Rattle.merkle_core_parts.specs.Errors.{IsRefusalOver}
-use Rattle.merkle_core_parts.specs.Mem.{Nodes, Replacement, AreKeptNodes, node_count, node_at, IsKept, encoded}
+use Rattle.merkle_core_parts.specs.Layers.{Layered, AreStacked, known_at, known_above, layer_at, replacement_at, oldest_leaves}
+use Rattle.merkle_core_parts.specs.Mem.{Nodes, Layer, Replacement, AreKeptNodes, node_count, node_at, IsKept, encoded}
 use Rattle.merkle_core_parts.specs.declared.error.Error.{Error}
 use Rattle.merkle_core_parts.specs.declared.error.Error.TheVariants.{LocationOverflow, Empty, RangeOutOfBounds, InvalidSize, LeafOutOfBounds, ElementPruned}
 use Rattle.merkle_core_parts.specs.declared.error.Error.TheVariants.{DuplicateLocation, UnsortedLocation, InvalidPinnedNodes, StaleBatch, InvalidInactivePeaks}
+use Rattle.merkle_core_parts.specs.declared.error.Error.TheVariants.{AncestorDropped}
 use Rattle.merkle_core_parts.specs.declared.error.Error.TheVariants.{MissingNode, Memory}
 use Rattle.merkle_core_parts.specs.Laws.Due.{due-first}
 use Rattle.merkle_core_parts.specs.Laws.Held.{kept-there}
@@ -21,6 +27,7 @@ use Rattle.merkle_core_parts.specs.Laws.Replaced.{AreFrom, from-less}
 -- out of memory, or a node is missing that is kept
 abbrev pub IsRefusalOfKept : {F : Type 0} → Rule → ℕ → Error F → Type 0
 IsRefusalOfKept rule boundary (MissingNode position) = IsKept rule boundary position
+IsRefusalOfKept rule boundary AncestorDropped = Unit {0}
 IsRefusalOfKept rule boundary Memory = Unit {0}
 IsRefusalOfKept rule boundary other = ⊥
 
@@ -70,22 +77,62 @@ pub from-all : {D : Type 0} (encoding : D → List ℕ) (b : ℕ) (us : List (�
 from-all encoding b [] all from = tt
 from-all encoding b (u ∷ us) all from = (all.0, from.1)
 
--- so nodes are made of such a tree unless out of memory
-pub only-memory : {F : Type 0} (rule : Rule) (nodes : Nodes) (needed : ℕ) (e : Error F) → AreKeptNodes rule nodes
-    → needed ≡ node_count rule nodes.leaves → IsRefusalOver needed (node_at rule nodes) e
-    → IsRefusalOfKept rule nodes.boundary e → e ≡ Memory
-only-memory rule nodes needed (LocationOverflow l) shape is refused keeps = absurd refused
-only-memory rule nodes needed Empty shape is refused keeps = absurd refused
-only-memory rule nodes needed (RangeOutOfBounds l) shape is refused keeps = absurd refused
-only-memory rule nodes needed (DuplicateLocation l) shape is refused keeps = absurd refused
-only-memory rule nodes needed (UnsortedLocation l) shape is refused keeps = absurd refused
-only-memory rule nodes needed InvalidSize shape is refused keeps = absurd refused
-only-memory rule nodes needed (LeafOutOfBounds l) shape is refused keeps = absurd refused
-only-memory rule nodes needed (ElementPruned p) shape is refused keeps = absurd refused
-only-memory rule nodes needed InvalidPinnedNodes shape is refused keeps = absurd refused
-only-memory rule nodes needed StaleBatch shape is refused keeps = absurd refused
-only-memory rule nodes needed InvalidInactivePeaks shape is refused keeps = absurd refused
-only-memory rule nodes needed (MissingNode p) shape is refused keeps =
-    let some : IsSome (node_at rule nodes p) = kept-there rule nodes p shape keeps (omega (arith, refused.0, is)) in
+some_or : (o q : Option (List ℕ)) → IsSome q → IsSome (option_or o q)
+some_or None q some = some
+some_or (Some x) q some = refl
+
+some_at : (xs : List (List ℕ)) (i : ℕ) (q : Option (List ℕ)) → i < length xs → IsSome (option_or (slice_get xs i) q)
+some_at [] i q lt = absurd (omega arith)
+some_at (x ∷ xs) zero q lt = refl
+some_at (x ∷ xs) (suc i) q lt = some_at xs i q (omega arith)
+
+-- what a tree keeps is known over it, and what layers add to it
+known_kept : (rule : Rule) (nodes : Nodes) (leaves : ℕ) (layers : List Layer) (p : ℕ) → AreKeptNodes rule nodes
+    → AreStacked rule leaves layers → oldest_leaves leaves layers ≤ nodes.leaves
+    → IsPairing rule → IsKept rule nodes.boundary p → p < node_count rule leaves
+    → IsSome (known_above rule layers (node_at rule nodes) p)
+known_kept rule nodes leaves [] p shape stacked le pairs keeps lt =
+    kept-there rule nodes p shape keeps (omega (arith, lt, size-mono rule pairs leaves nodes.leaves le))
+known_kept rule nodes leaves (layer ∷ below) p shape stacked le pairs keeps lt =
+    let size = node_count rule layer.base.leaves in
+    let rest = known_above rule below (node_at rule nodes) p in
+    elim (cases_lt p size) [
+      | inl low ↦
+          some_or (layer_at rule layer p) rest
+          (known_kept rule nodes layer.base.leaves below p shape stacked.2 le pairs keeps low)
+      | inr past ↦
+          subst (λ o. IsSome (option_or o rest))
+          (sym (cond-false (ltb p size) (replacement_at layer.changed p) (slice_get layer.digests (p - size))
+          (le-ltb p size past)))
+          (some_at layer.digests (p - size) rest
+          (omega (arith, past, lt, ap (node_count rule) stacked.0, stacked.1.counted)))
+    ]
+
+-- so nodes are made of such a tree and the layers over it unless out of memory
+pub only-memory : {F : Type 0} (rule : Rule) → IsPairing rule → (known : Layered) (leaves : ℕ) (e : Error F)
+    → AreKeptNodes rule known.tree → AreStacked rule leaves known.layers
+    → oldest_leaves leaves known.layers ≤ known.tree.leaves → IsRefusalOver rule (node_count rule leaves) known e
+    → IsRefusalOfKept rule known.tree.boundary e → e ≡ Memory
+only-memory rule pairs known leaves (LocationOverflow l) shape stacked le refused keeps = absurd refused
+only-memory rule pairs known leaves Empty shape stacked le refused keeps = absurd refused
+only-memory rule pairs known leaves (RangeOutOfBounds l) shape stacked le refused keeps = absurd refused
+only-memory rule pairs known leaves (DuplicateLocation l) shape stacked le refused keeps = absurd refused
+only-memory rule pairs known leaves (UnsortedLocation l) shape stacked le refused keeps = absurd refused
+only-memory rule pairs known leaves InvalidSize shape stacked le refused keeps = absurd refused
+only-memory rule pairs known leaves (LeafOutOfBounds l) shape stacked le refused keeps = absurd refused
+only-memory rule pairs known leaves (ElementPruned p) shape stacked le refused keeps = absurd refused
+only-memory rule pairs known leaves InvalidPinnedNodes shape stacked le refused keeps = absurd refused
+only-memory rule pairs known leaves StaleBatch shape stacked le refused keeps = absurd refused
+only-memory rule pairs known leaves AncestorDropped shape stacked le refused keeps =
+    let p = refused.1.0 in
+    let after : node_count rule known.tree.boundary ≤ p =
+    omega (arith, refused.1.3, size-mono rule pairs known.tree.boundary known.tree.leaves shape.within) in
+    let some : IsSome (known_at rule known p) =
+    known_kept rule known.tree leaves known.layers p shape stacked le pairs (inl after) refused.1.1 in
+    absurd (let bad : IsSome {T = List ℕ} None = subst (λ o. IsSome o) refused.1.2 some in cc bad)
+only-memory rule pairs known leaves InvalidInactivePeaks shape stacked le refused keeps = absurd refused
+only-memory rule pairs known leaves (MissingNode p) shape stacked le refused keeps =
+    let some : IsSome (known_at rule known p) =
+    known_kept rule known.tree leaves known.layers p shape stacked le pairs keeps refused.0 in
     absurd (let bad : IsSome {T = List ℕ} None = subst (λ o. IsSome o) refused.1 some in cc bad)
-only-memory rule nodes needed Memory shape is refused keeps = refl
+only-memory rule pairs known leaves Memory shape stacked le refused keeps = refl

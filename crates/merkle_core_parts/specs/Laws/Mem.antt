@@ -21,16 +21,16 @@ get_some (y ∷ xs) zero x is = cc
 get_some (y ∷ xs) (suc i) x is = get_some xs i x is
 
 -- at the peaks stand the digests of their trees
-at_peaks : (digests : ℕ → Option (List ℕ)) (digest : ℕ → Tree → List ℕ) (peaks : List Tree)
+pub at-peaks : (digests : ℕ → Option (List ℕ)) (digest : ℕ → Tree → List ℕ) (peaks : List Tree)
     → ((first : ℕ) (tree : Tree) → IsPeakAt first tree peaks → digests (position tree) ≡ Some (digest first tree))
     → map (λ peak. unwrap_or (digests peak.0) []) (map position_and_height (located peaks)) ≡ forest_digests digest peaks
-at_peaks digests digest [] each = refl
-at_peaks digests digest (t ∷ ts) each =
+at-peaks digests digest [] each = refl
+at-peaks digests digest (t ∷ ts) each =
     let last = (leaves ts, t) ∷ [] in
     let own : ℕ × ℕ → List ℕ = λ peak. unwrap_or (digests peak.0) [] in
     ap (map own) (map-append position_and_height (located ts) last)
     ∙ map-append own (map position_and_height (located ts)) (position_and_height (leaves ts, t) ∷ [])
-    ∙ ap₂ (λ front d. front ++ d ∷ []) (at_peaks digests digest ts (λ first tree stands. each first tree (inr stands)))
+    ∙ ap₂ (λ front d. front ++ d ∷ []) (at-peaks digests digest ts (λ first tree stands. each first tree (inr stands)))
     (ap (λ o. unwrap_or o []) (each (leaves ts) t (inl (refl, refl))))
     ∙ sym (map-append (λ (peak : Located). digest peak.0 peak.1) (located ts) last)
 
@@ -42,7 +42,7 @@ peaks-of rule pairs node leaf_digests nodes are =
     ap (λ n. digests_from rule n (node_at rule nodes) 0) are.counted
     ∙ ap (λ peaks. map (λ peak. unwrap_or (node_at rule nodes peak.0) []) (map position_and_height peaks))
     (located_from-zero (forest_of rule count))
-    ∙ at_peaks (node_at rule nodes) (tree_digest node leaf_digests) (forest_of rule count)
+    ∙ at-peaks (node_at rule nodes) (tree_digest node leaf_digests) (forest_of rule count)
     (λ first tree stands. are.digests first tree (peak-node first tree (forest_of rule count) stands)
     ((kept rule pairs nodes.boundary count (subst (λ n. nodes.boundary ≤ n) are.counted are.shape.within)).peak tree
     (first, stands)))

@@ -1,33 +1,37 @@
 -- A batch's nodes over the tree of a list are those of the list that the batch makes of it.
-use Rattle.std.proofs.Common.{◌≡◌, ℕ, zero, suc, ◌+◌, ◌-◌, ◌<◌, ◌≤◌, ◌⊎◌, inl, inr, ltb, List, [], ◌∷◌, ◌++◌, length}
+use Rattle.std.proofs.Common.{◌≡◌, ℕ, zero, suc, ◌+◌, ◌-◌, ◌<◌, ◌≤◌, inl, inr, ltb, List, [], ◌∷◌, ◌++◌, length}
 use Rattle.std.proofs.Common.{Option, Some, None, refl, sym, ◌∙◌, ap, ap₂, subst, arith, length-append}
 use Rattle.std.proofs.lemmas.Bool.{cond-true, cond-false, lt-ltb, le-ltb}
-use Rattle.std.specs.Prelude.{slice_get, slice_index_or, IfSome, IsSome}
+use Rattle.std.specs.Prelude.{map, slice_get, slice_index_or, IfSome, IsSome, unwrap_or}
 use Rattle.std.specs.Option.{option_map}
-use Rattle.merkle_forest.specs.Forest.{Tree, leaf, position, size, Rule, forest_of}
+use Rattle.merkle_forest.specs.Forest.{Tree, leaf, position, Rule, forest_of}
 use Rattle.merkle_forest.specs.Nodes.{IsNodeAt}
+use Rattle.merkle_forest.specs.Peaks.{position_and_height}
 use Rattle.merkle_forest.specs.Perfect.{IsPairing}
+use Rattle.merkle_forest.specs.Trees.{peak_digests as forest_digests}
 use Rattle.merkle_forest.specs.Laws.ForestGrowth.{leaves-forest_of}
-use Rattle.merkle_forest.specs.Laws.Nodes.{node-fits}
+use Rattle.merkle_forest.specs.Laws.Nodes.{node-fits, peak-node}
+use Rattle.merkle_forest.specs.Laws.Peaks.{located_from-zero}
 use Rattle.merkle_forest.specs.Laws.NodeGrowth.{numbered}
-use Rattle.merkle_core_parts.specs.Mem.{Nodes, Additions, Growth, Replacement, NodeHash, node_count, node_at}
-use Rattle.merkle_core_parts.specs.Mem.{tree_digest, AreNodesOf, IsKept, replaced_from, replaced_at, with_leaves, with_batch}
+use Rattle.merkle_core_parts.specs.Layers.{IsLed}
+use Rattle.merkle_core_parts.specs.Mem.{Additions, Layer, Replacement, NodeHash, node_count}
+use Rattle.merkle_core_parts.specs.Mem.{tree_digest, replaced_from, with_leaves, digests_from}
 use Rattle.merkle_core_parts.specs.Mem.{known_over, digest_at, value_after}
-use Rattle.merkle_core_parts.specs.Laws.Batches.{get-back, known-old, known-new, shape-with}
-use Rattle.merkle_core_parts.specs.Laws.Held.{right-there}
-use Rattle.merkle_core_parts.specs.Laws.Kept.{later}
+use Rattle.merkle_core_parts.specs.Laws.Batches.{get-back}
+use Rattle.merkle_core_parts.specs.Laws.Kept.{kept}
 use Rattle.merkle_core_parts.specs.Laws.Made.{AreMade, HavePeaks, known-some, get-front}
-use Rattle.merkle_core_parts.specs.Laws.Mem.{get_some}
-use Rattle.merkle_core_parts.specs.Laws.Rebuilt.{IsSetting, ArePending, IsRight}
-use Rattle.merkle_core_parts.specs.Laws.Replaced.{get-replaced, length-replaced, AreFrom, get-replaced_from, known-replaced}
+use Rattle.merkle_core_parts.specs.Laws.Mem.{get_some, at-peaks}
+use Rattle.merkle_core_parts.specs.Laws.Rebuilt.{Digests, IsSetting, ArePending, IsRight}
+use Rattle.merkle_core_parts.specs.Laws.Replaced.{get-replaced, length-replaced, AreFrom, get-replaced_from}
 use Rattle.merkle_core_parts.specs.Laws.Updated.{AreRebuilt}
 
-pub setting-of : (rule : Rule) (node : NodeHash) (list after : List (List ℕ)) (base : Nodes) (n : ℕ) → n ≡ length list
-    → AreNodesOf node rule list base
-    → IsSetting rule node n 0 (node_at rule base) (tree_digest node list) (tree_digest node after)
-setting-of rule node list after base n is are = record {
-  known_is = λ f t stands. right-there node rule list base are f t
-      (subst (λ k. IsNodeAt f t (forest_of rule k)) is stands);
+pub setting-of : (rule : Rule) (node : NodeHash) (list after : List (List ℕ)) (known : ℕ → Option (List ℕ)) (n : ℕ)
+    → n ≡ length list
+    → ((f : ℕ) (t : Tree) → IsNodeAt f t (forest_of rule (length list))
+    → IfSome (known (position t)) (λ d. d ≡ tree_digest node list f t))
+    → IsSetting rule node n 0 known (tree_digest node list) (tree_digest node after)
+setting-of rule node list after known n is right = record {
+  known_is = λ f t stands. right f t (subst (λ k. IsNodeAt f t (forest_of rule k)) is stands);
   same = λ f p l r stands left right. ap₂ (node p) left right;
   hashed = λ f p l r stands past. refl;
 }
@@ -93,62 +97,65 @@ base-made rule pairs node before after n base_size old changed peaks sized have 
       (subst (λ o. IfSome o (λ d. d ≡ after f t)) (sym known) (rebuilt.sound f t stands)));
 }
 
-whole_at : (rule : Rule) (node : NodeHash) (list : List (List ℕ)) (batch : Additions) (base : Nodes) (growth : Growth)
-    (n m base_size : ℕ) (peaks : List Replacement) (f : ℕ) (t : Tree) → n ≡ length list → base_size ≡ node_count rule n
-    → AreNodesOf node rule list base
-    → AreRebuilt rule n (tree_digest node list) (tree_digest node (with_leaves list batch)) [] growth.changed peaks
-    → AreMade rule (tree_digest node (with_leaves list batch)) n m (node_count rule m)
-    (known_over base_size peaks growth.digests)
-    → IsNodeAt f t (forest_of rule m) → position t < node_count rule m → IsKept rule base.boundary (position t)
-    → IsNodeAt f t (forest_of rule n) ⊎ (size (forest_of rule n) ≤ position t)
-    → node_at rule (with_batch rule base growth) (position t)
-    ≡ Some (tree_digest node (with_leaves list batch) f t)
-whole_at rule node list batch base growth n m base_size peaks f t is sized are rebuilt made stands below keeps (inl old) =
-    known-replaced (node_count rule base.boundary) base.pinned (base.digests ++ growth.digests) growth.changed (position t)
-    ∙ ap (option_map (value_after growth.changed (position t)))
-    (known-old (node_count rule base.boundary) base.pinned base.digests growth.digests (tree_digest node list f t) (position t)
-    (are.digests f t (subst (λ k. IsNodeAt f t (forest_of rule k)) is old) keeps))
-    ∙ ap (λ d. Some d) (rebuilt.done f t old)
-whole_at rule node list batch base growth n m base_size peaks f t is sized are rebuilt made stands below keeps (inr new) =
-    let held : node_count rule base.boundary + length base.digests ≡ base_size =
-    are.shape.counted ∙ ap (node_count rule) (are.counted ∙ sym is) ∙ sym sized in
-    let known : slice_get growth.digests (position t - base_size)
-    ≡ Some (tree_digest node (with_leaves list batch) f t) =
-    sym (cond-false (ltb (position t) base_size) (digest_at peaks (position t))
-    (slice_get growth.digests (position t - base_size)) (le-ltb (position t) base_size (omega (arith, new, sized))))
-    ∙ made.each f t stands (inl new) below in
-    known-replaced (node_count rule base.boundary) base.pinned (base.digests ++ growth.digests) growth.changed (position t)
-    ∙ ap (option_map (value_after growth.changed (position t)))
-    (known-new (node_count rule base.boundary) base.pinned base.digests growth.digests base_size (position t) held
-    (omega (arith, new, sized)) ∙ known)
-    ∙ ap (λ d. Some d) (rebuilt.low (position t) (tree_digest node (with_leaves list batch) f t) new)
+-- changes may be told in another order that leaves the same
+pub rebuilt-same : (rule : Rule) (n : ℕ) (before after : Digests) (old one other found : List Replacement)
+    → ((k : ℕ) (x : List ℕ) → value_after one k x ≡ value_after other k x)
+    → AreRebuilt rule n before after old one found → AreRebuilt rule n before after old other found
+rebuilt-same rule n before after old one other found same it = record {
+  right = λ f t stands. elim (it.right f t stands) [
+    | inl untouched ↦ inl (λ x. sym (same (position t) x) ∙ untouched x)
+    | inr right ↦ inr (λ x. sym (same (position t) x) ∙ right x)
+  ];
+  done = λ f t stands. sym (same (position t) (before f t)) ∙ it.done f t stands;
+  low = λ p x past. sym (same p x) ∙ it.low p x past;
+  sound = it.sound;
+}
 
-pub whole : (rule : Rule) → IsPairing rule → (node : NodeHash) (list : List (List ℕ)) (batch : Additions) (base : Nodes)
-    (growth : Growth) (n base_size : ℕ) (peaks : List Replacement) → n ≡ length list → base_size ≡ node_count rule n
-    → AreNodesOf node rule list base
-    → AreRebuilt rule n (tree_digest node list) (tree_digest node (with_leaves list batch)) [] growth.changed peaks
+-- so the batch's nodes lead from the list to that which the batch makes of it
+pub led-of : (rule : Rule) → IsPairing rule → (node : NodeHash) (list : List (List ℕ)) (batch : Additions) (layer : Layer)
+    (n base_size : ℕ) (peaks : List Replacement) → n ≡ length list → base_size ≡ node_count rule n
+    → AreRebuilt rule n (tree_digest node list) (tree_digest node (with_leaves list batch)) [] layer.changed peaks
     → AreMade rule (tree_digest node (with_leaves list batch)) n (n + length batch.added)
-    (node_count rule (n + length batch.added)) (known_over base_size peaks growth.digests)
-    → base_size + length growth.digests ≡ node_count rule (n + length batch.added)
-    → growth.leaves ≡ n + length batch.added
-    → AreNodesOf node rule (with_leaves list batch) (with_batch rule base growth)
-whole rule pairs node list batch base growth n base_size peaks is sized are rebuilt made counted leaves =
-    let long : length (with_leaves list batch) ≡ n + length batch.added =
+    (node_count rule (n + length batch.added)) (known_over base_size peaks layer.digests)
+    → base_size + length layer.digests ≡ node_count rule (n + length batch.added)
+    → layer.base.leaves ≡ n → layer.leaves ≡ n + length batch.added
+    → IsLed node rule layer list (with_leaves list batch)
+led-of rule pairs node list batch layer n base_size peaks is sized rebuilt made counted from leaves =
+    let m = n + length batch.added in
+    let long : length (with_leaves list batch) ≡ m =
     length-replaced (list ++ batch.added) batch.updates ∙ length-append list batch.added
     ∙ ap (λ k. k + length batch.added) (sym is) in
-    let here : base.leaves ≡ n = are.counted ∙ sym is in
-    let held : node_count rule base.leaves ≡ base_size = ap (node_count rule) here ∙ sym sized in
-    let grown : node_count rule growth.leaves ≡ node_count rule (n + length batch.added) = ap (node_count rule) leaves in
+    let start : base_size ≡ node_count rule (length list) = sized ∙ ap (node_count rule) is in
     record {
-      counted = leaves ∙ sym long;
-      shape = shape-with rule base growth are.shape (omega (arith, here, leaves)) (omega (arith, held, counted, grown));
-      digests = λ f t stands keeps.
-          (let there : IsNodeAt f t (forest_of rule (n + length batch.added)) =
-          subst (λ k. IsNodeAt f t (forest_of rule k)) long stands in
-          whole_at rule node list batch base growth n (n + length batch.added) base_size peaks f t is sized are rebuilt made
-          there ((numbered rule pairs (n + length batch.added)).below f t there) keeps
-          (later rule pairs n (length batch.added) f t there));
+      from = from ∙ is;
+      to = leaves ∙ sym long;
+      longer = omega (arith, is, long);
+      counted = ap (λ k. k + length layer.digests) (sym start) ∙ counted ∙ ap (node_count rule) (sym long);
+      old = λ f t stands. rebuilt.done f t (subst (λ k. IsNodeAt f t (forest_of rule k)) (sym is) stands);
+      new = λ f t stands past.
+          (let there : IsNodeAt f t (forest_of rule m) = subst (λ k. IsNodeAt f t (forest_of rule k)) long stands in
+          let from_base : node_count rule n ≤ position t = omega (arith, past, ap (node_count rule) is) in
+          ap (λ s. slice_get layer.digests (position t - s)) (sym start)
+          ∙ sym (cond-false (ltb (position t) base_size) (digest_at peaks (position t))
+          (slice_get layer.digests (position t - base_size))
+          (le-ltb (position t) base_size (omega (arith, from_base, sized))))
+          ∙ made.each f t there (inl from_base) ((numbered rule pairs m).below f t there));
+      unchanged = λ p digest past. rebuilt.low p digest (omega (arith, past, ap (node_count rule) is));
     }
+
+-- the digests at the peaks are those of the list's peaks
+pub made-peaks : (rule : Rule) → IsPairing rule → (node : NodeHash) (list : List (List ℕ)) (n m : ℕ) (known : ℕ → Option (List ℕ))
+    → n ≤ m → m ≡ length list → AreMade rule (tree_digest node list) n m (node_count rule m) known
+    → digests_from rule m known 0 ≡ forest_digests (tree_digest node list) (forest_of rule (length list))
+made-peaks rule pairs node list n m known le is made =
+    ap (λ peaks. map (λ peak. unwrap_or (known peak.0) []) (map position_and_height peaks))
+    (located_from-zero (forest_of rule m))
+    ∙ at-peaks known (tree_digest node list) (forest_of rule m)
+    (λ first tree stands.
+    (let node_there = peak-node first tree (forest_of rule m) stands in
+    made.each first tree node_there ((kept rule pairs n m le).peak tree (first, stands))
+    ((numbered rule pairs m).below first tree node_there)))
+    ∙ ap (λ k. forest_digests (tree_digest node list) (forest_of rule k)) is
 
 -- lists that have the same at each index
 pub list-same : (xs ys : List (List ℕ)) → ((k : ℕ) → slice_get xs k ≡ slice_get ys k) → xs ≡ ys
@@ -165,23 +172,3 @@ pub put-all : (first : ℕ) (old new : List (List ℕ)) (us : List Replacement)
     → ((k : ℕ) → slice_get new k ≡ option_map (value_after us (first + k)) (slice_get old k)) → new ≡ replaced_from first old us
 put-all first old new us each =
     list-same new (replaced_from first old us) (λ k. each k ∙ sym (get-replaced_from first old us k))
-
--- what a tree has become that has a batch's nodes
-pub applied : (rule : Rule) (nodes : Nodes) (batch : Growth) (n : ℕ) (pinned : List Replacement) (digests : List (List ℕ))
-    → n ≡ batch.leaves → pinned ≡ replaced_at nodes.pinned batch.changed
-    → digests ≡ replaced_from (node_count rule nodes.boundary) (nodes.digests ++ batch.digests) batch.changed
-    → ◌≡◌ {A = Nodes} (record { leaves = n; boundary = nodes.boundary; pinned = pinned; digests = digests })
-    (with_batch rule nodes batch)
-applied rule nodes batch n pinned digests is_n is_pinned is_digests =
-    ap₂ (λ (k : ℕ) (ds : List (List ℕ)). record {
-      leaves = k;
-      boundary = nodes.boundary;
-      pinned = pinned;
-      digests = ds;
-    }) is_n is_digests
-    ∙ ap (λ (ps : List Replacement). record {
-      leaves = batch.leaves;
-      boundary = nodes.boundary;
-      pinned = ps;
-      digests = replaced_from (node_count rule nodes.boundary) (nodes.digests ++ batch.digests) batch.changed;
-    }) is_pinned

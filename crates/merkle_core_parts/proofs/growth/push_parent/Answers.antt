@@ -18,8 +18,8 @@ child_positions-left-requires g c =
           (parent-branch g.F.Family.merge_rule c.args.leaves _ c.args.height c.requires.few parent),
     )
 
-pub child_digest-left-requires : goal.child_digest-left-requires
-child_digest-left-requires g c =
+pub digest_there-left-requires : goal.digest_there-left-requires
+digest_there-left-requires g c =
     let encoding = g.H.Digest.Write.encoding in
     let rule = g.F.Family.merge_rule in
     let parent = c.requires.parent in
@@ -38,8 +38,8 @@ child_digest-left-requires g c =
     (omega (arith, c.requires.sized)) parent)
     parent.left_before))
 
-pub child_digest-right-requires : goal.child_digest-right-requires
-child_digest-right-requires g c =
+pub digest_there-right-requires : goal.digest_there-right-requires
+digest_there-right-requires g c =
     let encoding = g.H.Digest.Write.encoding in
     let rule = g.F.Family.merge_rule in
     let parent = c.requires.parent in
@@ -67,8 +67,8 @@ returns-clause-made g c after hashed made =
     let items = c.args.added.now.items in
     let peaks = encoded encoding c.args.peaks.now in
     let count : ℕ = c.args.base_size + length items in
-    let x = encoding c.child_digest-left.result in
-    let y = encoding c.child_digest-right.result in
+    let x = encoding c.digest_there-left.result in
+    let y = encoding c.digest_there-right.result in
     let at : c.args.base_size + c.len.result ≡ count = search rules in
     let children = c.child_positions-left.ensures parent.left parent.right
     (subst (λ p. IsBranchOf rule p c.args.height parent.left parent.right) (sym at)
@@ -76,11 +76,11 @@ returns-clause-made g c after hashed made =
     let is_x : known_over c.args.base_size peaks (map encoding items) (position parent.left) ≡ Some x =
     subst (λ p. known_over c.args.base_size peaks (map encoding items) p ≡ Some x) children.0
     (subst (λ xs. known_over c.args.base_size peaks (map encoding xs) c.child_positions-left.result.0 ≡ Some x)
-    c.deref.ensures.value c.child_digest-left.ensures) in
+    c.deref.ensures.value c.digest_there-left.ensures) in
     let is_y : known_over c.args.base_size peaks (map encoding items) (position parent.right) ≡ Some y =
     subst (λ p. known_over c.args.base_size peaks (map encoding items) p ≡ Some y) children.1
     (subst (λ xs. known_over c.args.base_size peaks (map encoding xs) c.child_positions-left.result.1 ≡ Some y)
-    c.deref-2.ensures.value c.child_digest-right.ensures) in
+    c.deref-2.ensures.value c.digest_there-right.ensures) in
     subst (λ ds. AreMade rule after c.args.base (suc c.args.leaves) (suc count) (known_over c.args.base_size peaks ds))
     (mapped-push encoding items c.push.new.self.items c.digest_of_branch.result c.in_ok-push.ensures.items)
     (made-branch rule g.met.F.Family.merges_equals node after c.args.base c.args.leaves c.args.base_size count

@@ -2,7 +2,8 @@ use Rattle.std.proofs.Common.{◌≡◌, ◌≤◌, ◌+◌, ◌-◌, ◌^◌, �
 use Rattle.std.proofs.lemmas.Result.{err_from_is_err_and}
 use Rattle.std.specs.Prelude.{IfErr}
 use Rattle.merkle_forest.specs.Forest.{leaf_count}
-use Rattle.merkle_core_parts.specs.Mem.{encoded, node_at, IsKept}
+use Rattle.merkle_core_parts.specs.Layers.{known_at}
+use Rattle.merkle_core_parts.specs.Mem.{node_count, encoded, IsKept}
 use Rattle.merkle_core_parts.specs.Laws.Enough.{IsRefusalOfKept, AreKeptHalves, halves-kept, from-drop}
 use Rattle.merkle_core_parts.specs.Laws.Replaced.{AreFrom}
 use Rattle.merkle_core_parts.specs.Laws.Rebuilt.{IsDue, IsRebuilt, AreTaken}
@@ -28,10 +29,10 @@ overflow_add-place g t c =
 pub returns-in-Some-clause-rebuilt : goal.returns-in-Some-clause-rebuilt
 returns-in-Some-clause-rebuilt g t c boundary before after tree setting pending right stands at =
     let encoding = g.H.Digest.Write.encoding in
-    let found : node_at g.F.Family.merge_rule c.args.base.now c.args.place.position ≡ Some (encoding c.in-Some.digest) =
-    ap (node_at g.F.Family.merge_rule c.args.base.now) (sym c.new.ensures) ∙ sym c.in-Some.ensures in
+    let found : (known_at g.F.Family.merge_rule c.args.base.now) c.args.place.position ≡ Some (encoding c.in-Some.digest) =
+    ap (known_at g.F.Family.merge_rule c.args.base.now) (sym c.new.ensures) ∙ sym c.in-Some.ensures in
     case-untouched g.F.Family.merge_rule g.met.F.Family.merges_equals (g.H.Hasher.node_of c.args.hasher.now)
-    c.args.leaves boundary (node_at g.F.Family.merge_rule c.args.base.now) before after setting c.args.place.first c.args.place.position
+    c.args.leaves boundary (known_at g.F.Family.merge_rule c.args.base.now) before after setting c.args.place.first c.args.place.position
     c.args.place.height tree (encoded encoding c.args.changed.now.items)
     (drop c.args.next (encoded encoding c.args.updates.now)) (encoding c.in-Some.digest) c.requires.place stands at
     pending
@@ -41,15 +42,15 @@ returns-in-Some-clause-rebuilt g t c boundary before after tree setting pending 
     found right
 
 pub returns-in-None-clause-refused : goal.returns-in-None-clause-refused
-returns-in-None-clause-refused g t c = (
-  omega (
-    arith,
-    c.new-in-None.ensures,
-    place-below g.F.Family.merge_rule g.met.F.Family.merges_equals c.args.leaves c.args.place.first
-        c.args.place.position c.args.place.height c.requires.place,
-  ),
-  search rules,
-)
+returns-in-None-clause-refused g t c =
+    c.refusal.ensures.refused (node_count g.F.Family.merge_rule c.args.leaves)
+    (omega (
+      arith,
+      c.new-in-None.ensures,
+      place-below g.F.Family.merge_rule g.met.F.Family.merges_equals c.args.leaves c.args.place.first
+          c.args.place.position c.args.place.height c.requires.place,
+    ))
+    (search rules)
 
 pub taken-digest-requires-clause-few : goal.taken-digest-requires-clause-few
 taken-digest-requires-clause-few g t c =
@@ -136,7 +137,7 @@ returns-clause-rebuilt g t c boundary before after tree setting pending right st
     (encoded-push encoding c.rebuild-2.new.changed.items c.push-2.new.self.items c.args.place.position
     c.digest_of_branch-digest.result c.in_ok-push-2.ensures.items)
     (case-branch g.F.Family.merge_rule g.met.F.Family.merges_equals (g.H.Hasher.node_of c.args.hasher.now)
-    c.args.leaves boundary (node_at g.F.Family.merge_rule c.args.base.now) before after setting first c.args.place.position
+    c.args.leaves boundary (known_at g.F.Family.merge_rule c.args.base.now) before after setting first c.args.place.position
     c.args.place.height c.child_positions-at_left.result.0 c.child_positions-at_left.result.1
     (first + c.leaf_span-2.result) tree (encoded encoding c.args.changed.now.items)
     (encoded encoding c.rebuild.new.changed.items) (encoded encoding c.rebuild-2.new.changed.items) us middle rest

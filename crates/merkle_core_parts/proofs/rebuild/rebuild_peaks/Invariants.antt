@@ -3,7 +3,8 @@ use Rattle.std.specs.Prelude.{IsSome}
 use Rattle.merkle_forest.specs.Forest.{Tree, position, forest_of}
 use Rattle.merkle_forest.specs.Nodes.{IsPeakAt}
 use Rattle.merkle_forest.specs.Peaks.{is_cut}
-use Rattle.merkle_core_parts.specs.Mem.{encoded, node_at, digest_at}
+use Rattle.merkle_core_parts.specs.Layers.{known_at}
+use Rattle.merkle_core_parts.specs.Mem.{encoded, digest_at}
 use Rattle.merkle_core_parts.specs.Laws.Rebuilt.{Digests, IsSetting, ArePending, IsRight}
 use Rattle.merkle_core_parts.specs.Laws.Updated.{IsProgress}
 use Rattle.merkle_core_parts.proofs.rebuild.rebuild_peaks.Given as goal
@@ -15,7 +16,7 @@ invariant-loop-first g l = record {
   found : (f : ℕ) (t : Tree) → IsPeakAt f t (forest_of g.F.Family.merge_rule l.leaves) → f < l.first
       → IsSome (digest_at (encoded g.H.Digest.Write.encoding l.peaks.items) (position t));
   made : (boundary : ℕ) (before after : Digests)
-      → IsSetting g.F.Family.merge_rule (g.H.Hasher.node_of l.hasher) l.leaves boundary (node_at g.F.Family.merge_rule l.base) before after
+      → IsSetting g.F.Family.merge_rule (g.H.Hasher.node_of l.hasher) l.leaves boundary ((known_at g.F.Family.merge_rule l.base)) before after
       → ArePending g.F.Family.merge_rule l.leaves boundary before after 0 (encoded g.H.Digest.Write.encoding l.updates)
       → IsRight g.F.Family.merge_rule l.leaves after (encoded g.H.Digest.Write.encoding l.fn.changed.items)
       → IsProgress g.F.Family.merge_rule l.leaves boundary before after l.first

@@ -1,81 +1,99 @@
-use Rattle.std.proofs.Common.{◌≡◌, ◌+◌, ◌≤◌, ◌++◌, ℕ, List, length, map, refl, sym, ◌∙◌, ap, ap₂, subst, arith}
-use Rattle.std.proofs.lemmas.List.{length-map, map-append}
-use Rattle.merkle_core_parts.specs.Mem.{Nodes, Growth, Base, AreKeptNodes, encoded, node_count}
-use Rattle.merkle_core_parts.specs.Mem.{replaced_from, replaced_at, with_batch, base_of}
+use Rattle.std.proofs.Common.{◌≡◌, ◌+◌, List, length, map, take, refl, sym, ◌∙◌, ap, subst, arith}
+use Rattle.std.proofs.lemmas.List.{length-map, take-map}
+use Rattle.merkle_core_parts.specs.Layers.{AreStacked, IsFirstAt, bases, oldest_leaves, with_layers}
+use Rattle.merkle_core_parts.specs.Mem.{Nodes, Layer, Base, AreKeptNodes, encoded, node_count, base_of, own_layer, with_layer}
 use Rattle.merkle_core_parts.specs.Laws.Batches.{shape-with}
-use Rattle.merkle_core_parts.specs.Laws.Merkleized.{put-all, applied}
+use Rattle.merkle_core_parts.specs.Laws.Layers.{stacked-take, leaves-at, shape-layers, put-over}
 use Rattle.merkle_core_parts.proofs.mem.Mem.apply_batch.Goals as goal
 
-pub returns-clause-applied : goal.returns-clause-applied
-returns-clause-applied g c =
+pub put_layers-requires-clause-stacked : goal.put_layers-requires-clause-stacked
+put_layers-requires-clause-stacked g c =
+    let rule = g.F.Family.merge_rule in
+    let below = map (λ layer. layer.value) c.below-below.result.now in
+    subst (λ (l : Layer). AreStacked rule l.base.leaves
+    (map (λ layer. layer.value) (take c.in-Some.count c.below-below.result.now))) (sym c.layer-own.ensures.layer)
+    (subst (AreStacked rule c.args.batch.now.base.leaves) (take-map (λ layer. layer.value) c.in-Some.count c.below-below.result.now)
+    (stacked-take rule c.args.batch.now.base.leaves below c.in-Some.count c.below-below.ensures.stacked))
+
+pub put_layers-requires-clause-counted : goal.put_layers-requires-clause-counted
+put_layers-requires-clause-counted g c =
     let encoding = g.D.Write.encoding in
     let rule = g.F.Family.merge_rule in
-    let growth : Growth = c.args.batch.now in
-    let nodes : Nodes = record {
-      leaves = c.self.inside.leaves;
-      boundary = c.self.inside.boundary;
-      pinned = encoded encoding c.self.inside.pinned.items;
-      digests = map encoding c.self.inside.digests.items;
-    } in
-    let same : nodes ≡ c.args.self.now = c.self.view_is in
-    let old = c.extend_from_slice.new.self.items in
-    let new = map encoding c.put_all.new.digests.items in
-    let longer : map encoding old ≡ nodes.digests ++ growth.digests =
-    ap (map encoding) c.in_ok-extend_from_slice.ensures.items
-    ∙ map-append encoding c.self.inside.digests.items c.digests.result.now
-    ∙ ap (λ (back : List (List ℕ)). nodes.digests ++ back) c.digests.ensures.digests in
-    let made : new ≡ replaced_from c.self.inside.start (map encoding old) (encoded encoding c.changed.result.now) =
-    put-all c.self.inside.start (map encoding old) new (encoded encoding c.changed.result.now) c.put_all.ensures.each in
-    let digests : new ≡ replaced_from (node_count rule nodes.boundary) (nodes.digests ++ growth.digests) growth.changed =
-    made ∙ ap (λ s. replaced_from s (map encoding old) (encoded encoding c.changed.result.now)) c.self.invariant.1
-    ∙ ap₂ (replaced_from (node_count rule nodes.boundary)) longer c.changed.ensures in
-    let pinned : encoded encoding c.put_pinned.new.digests.items ≡ replaced_at nodes.pinned growth.changed =
-    c.put_pinned.ensures ∙ ap (replaced_at nodes.pinned) c.changed-2.ensures in
-    let leaves : c.as_u64-self-inside.result ≡ growth.leaves =
-    c.as_u64-self-inside.ensures ∙ c.leaves.ensures.leaves in
-    applied rule nodes growth c.as_u64-self-inside.result (encoded encoding c.put_pinned.new.digests.items) new leaves pinned
-    digests
-    ∙ ap (λ (n : Nodes). with_batch rule n growth) same
+    let below = map (λ layer. layer.value) c.below-below.result.now in
+    let own : Layer = c.layer-own.result.now in
+    let tree = base_of rule c.args.self.now in
+    let at = leaves-at tree own.base below c.in-Some.count c.in-Some.ensures.found.there in
+    let same : tree.leaves ≡ c.self.inside.leaves = sym (ap (λ (n : Nodes). n.leaves) c.self.view_is) in
+    ap (λ k. c.self.inside.start + k) (sym (length-map c.self.inside.digests.items encoding))
+    ∙ ap (λ s. s + length (map encoding c.self.inside.digests.items)) c.self.invariant.1
+    ∙ c.self.invariant.2.counted
+    ∙ ap (node_count rule) (sym same ∙ sym at
+    ∙ ap (oldest_leaves own.base.leaves) (take-map (λ layer. layer.value) c.in-Some.count c.below-below.result.now))
 
 pub invariant_of-self-2 : goal.invariant_of-self-2
 invariant_of-self-2 g c =
     let encoding = g.D.Write.encoding in
     let rule = g.F.Family.merge_rule in
-    let growth : Growth = c.args.batch.now in
     let nodes : Nodes = record {
       leaves = c.self.inside.leaves;
       boundary = c.self.inside.boundary;
       pinned = encoded encoding c.self.inside.pinned.items;
       digests = map encoding c.self.inside.digests.items;
     } in
-    let same : nodes ≡ c.args.self.now = c.self.view_is in
-    let old = c.extend_from_slice.new.self.items in
-    let new = map encoding c.put_all.new.digests.items in
-    let longer : map encoding old ≡ nodes.digests ++ growth.digests =
-    ap (map encoding) c.in_ok-extend_from_slice.ensures.items
-    ∙ map-append encoding c.self.inside.digests.items c.digests.result.now
-    ∙ ap (λ (back : List (List ℕ)). nodes.digests ++ back) c.digests.ensures.digests in
-    let made : new ≡ replaced_from c.self.inside.start (map encoding old) (encoded encoding c.changed.result.now) =
-    put-all c.self.inside.start (map encoding old) new (encoded encoding c.changed.result.now) c.put_all.ensures.each in
-    let digests : new ≡ replaced_from (node_count rule nodes.boundary) (nodes.digests ++ growth.digests) growth.changed =
-    made ∙ ap (λ s. replaced_from s (map encoding old) (encoded encoding c.changed.result.now)) c.self.invariant.1
-    ∙ ap₂ (replaced_from (node_count rule nodes.boundary)) longer c.changed.ensures in
-    let pinned : encoded encoding c.put_pinned.new.digests.items ≡ replaced_at nodes.pinned growth.changed =
-    c.put_pinned.ensures ∙ ap (replaced_at nodes.pinned) c.changed-2.ensures in
-    let leaves : c.as_u64-self-inside.result ≡ growth.leaves =
-    c.as_u64-self-inside.ensures ∙ c.leaves.ensures.leaves in
-    let base : growth.base ≡ base_of rule c.args.self.now = c.if-not-is_base_of.ensures.0 refl in
-    let over : growth.base.leaves ≡ nodes.leaves =
-    ap (λ (b : Base). b.leaves) base ∙ sym (ap (λ (n : Nodes). n.leaves) same) in
-    let counted : node_count rule nodes.leaves + length growth.digests ≡ node_count rule growth.leaves =
-    ap (λ n. node_count rule n + length growth.digests) (sym over)
-    ∙ ap (λ n. node_count rule growth.base.leaves + n)
-    (ap length (sym c.digests.ensures.digests) ∙ length-map c.digests.result.now encoding)
-    ∙ c.digests.ensures.counted in
-    let longer : nodes.leaves ≤ growth.leaves = omega (arith, over, c.leaves.ensures.grown, c.leaves.ensures.leaves) in (
+    let own : Layer = c.layer-own.result.now in
+    let below = map (λ layer. layer.value) c.below-below.result.now in
+    let layers = map (λ layer. layer.value) (take c.in-Some.count c.below-below.result.now) in
+    let tree = base_of rule c.args.self.now in
+    let taken = take-map (λ layer. layer.value) c.in-Some.count c.below-below.result.now in
+    let at = leaves-at tree own.base below c.in-Some.count c.in-Some.ensures.found.there in
+    let same : nodes.leaves ≡ tree.leaves = ap (λ (n : Nodes). n.leaves) c.self.view_is in
+    let oldest : nodes.leaves ≡ oldest_leaves own.base.leaves layers =
+    same ∙ sym at ∙ ap (oldest_leaves own.base.leaves) taken in
+    let stacked : AreStacked rule own.base.leaves layers =
+    subst (λ (l : Layer). AreStacked rule l.base.leaves layers) (sym c.layer-own.ensures.layer)
+    (subst (AreStacked rule c.args.batch.now.base.leaves) taken
+    (stacked-take rule c.args.batch.now.base.leaves below c.in-Some.count c.below-below.ensures.stacked)) in
+    let grown = shape-layers rule nodes own.base.leaves layers c.self.invariant.2 stacked oldest in
+    let put = c.in_ok-put_layers.ensures.applied nodes c.self.invariant.1 refl refl in
+    let leaves : c.as_u64-self-inside.result ≡ own.leaves =
+    c.as_u64-self-inside.ensures ∙ c.leaves.ensures.leaves ∙ sym (ap (λ (l : Layer). l.leaves) c.layer-own.ensures.layer) in (
       omega (arith, c.as_u64-self-inside.ensures, c.leaves.ensures.few),
       c.self.invariant.1,
-      subst (AreKeptNodes rule) (sym (applied rule nodes growth c.as_u64-self-inside.result
-          (encoded encoding c.put_pinned.new.digests.items) new leaves pinned digests))
-          (shape-with rule nodes growth c.self.invariant.2 longer counted),
+      subst (AreKeptNodes rule) (sym (put-over rule nodes layers own c.as_u64-self-inside.result
+          (encoded encoding c.put_layers.new.pinned.items) (map encoding c.put_layers.new.digests.items) leaves put.0 put.1))
+          (shape-with rule (with_layers rule nodes layers) own grown.shape
+          (omega (arith, grown.leaves, c.layer-own.ensures.whole.grown))
+          (ap (λ n. node_count rule n + length own.digests) grown.leaves ∙ c.layer-own.ensures.whole.counted)),
+    )
+
+pub returns-clause-applied : goal.returns-clause-applied
+returns-clause-applied g c =
+    let encoding = g.D.Write.encoding in
+    let rule = g.F.Family.merge_rule in
+    let nodes : Nodes = record {
+      leaves = c.self.inside.leaves;
+      boundary = c.self.inside.boundary;
+      pinned = encoded encoding c.self.inside.pinned.items;
+      digests = map encoding c.self.inside.digests.items;
+    } in
+    let own : Layer = c.layer-own.result.now in
+    let layers = map (λ layer. layer.value) (take c.in-Some.count c.below-below.result.now) in
+    let taken : layers ≡ take c.in-Some.count c.args.batch.now.below =
+    sym (take-map (λ layer. layer.value) c.in-Some.count c.below-below.result.now)
+    ∙ ap (take c.in-Some.count) c.below-below.ensures.layers in
+    let put = c.in_ok-put_layers.ensures.applied nodes c.self.invariant.1 refl refl in
+    let leaves : c.as_u64-self-inside.result ≡ own.leaves =
+    c.as_u64-self-inside.ensures ∙ c.leaves.ensures.leaves ∙ sym (ap (λ (l : Layer). l.leaves) c.layer-own.ensures.layer) in (
+      c.in-Some.count,
+      subst (λ (b : Base). IsFirstAt (base_of rule c.args.self.now) (bases b c.args.batch.now.below) c.in-Some.count)
+          (ap (λ (l : Layer). l.base) c.layer-own.ensures.layer)
+          (subst (λ (ls : List Layer). IsFirstAt (base_of rule c.args.self.now) (bases own.base ls) c.in-Some.count)
+          c.below-below.ensures.layers c.in-Some.ensures.found),
+      put-over rule nodes layers own c.as_u64-self-inside.result (encoded encoding c.put_layers.new.pinned.items)
+          (map encoding c.put_layers.new.digests.items) leaves put.0 put.1
+          ∙ ap (λ (ls : List Layer). with_layer rule (with_layers rule nodes ls) own) taken
+          ∙ ap (λ (l : Layer). with_layer rule (with_layers rule nodes (take c.in-Some.count c.args.batch.now.below)) l)
+          c.layer-own.ensures.layer
+          ∙ ap (λ (n : Nodes). with_layer rule (with_layers rule n (take c.in-Some.count c.args.batch.now.below))
+          (own_layer c.args.batch.now)) c.self.view_is,
     )
