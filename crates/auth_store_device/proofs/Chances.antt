@@ -9,10 +9,8 @@ use Rattle.paged_format.specs.declared.footer.Slot.{Slot}
 use Rattle.paged_format.specs.declared.footer.Slot.TheVariants.{First, Second}
 use Rattle.std.specs.Prelude.{bytes_eq, not}
 use Rattle.std.specs.List.{list_any}
-use Rattle.paged_blob.specs.Calls.{Change, write, resize, changed, whole, File}
+use Rattle.paged_blob.specs.Calls.{Call, opened, wrote, resized_to, synced, Change, write, resize, changed, whole, File}
 use Rattle.paged_blob.specs.Chance.{page_at, has_slot, slot_in, was_written, is_chance_slot}
-use Rattle.paged_blob.specs.declared.record.Recorded.{Recorded}
-use Rattle.paged_blob.specs.declared.record.Recorded.TheVariants.{Opened, Wrote, ResizedTo, Synced}
 use Rattle.auth_store_device.specs.OpeningsCode.{is_base, change_in, file_after, file_from}
 use Rattle.auth_store_device.proofs.Replays.{from-push}
 use Rattle.std.proofs.lemmas.Bool.{both_ways, or_left, or_parts, not-true, not-false, and_left, and_right, le-leb, lt-leb, lt-ltb}
@@ -119,15 +117,15 @@ or-flip false true = refl
 or-flip false false = refl
 
 -- one call more, whole
-pub written-step : (size page : ℕ) (slot : Slot) (shown : List ℕ) (before : File) (call : Recorded) (file now : List ℕ) (found : Bool) → is_base call ≡ false
+pub written-step : (size page : ℕ) (slot : Slot) (shown : List ℕ) (before : File) (call : Call) (file now : List ℕ) (found : Bool) → is_base call ≡ false
     → file ≡ whole before.base before.changes → now ≡ whole file (change_in call)
     → found ≡ was_written size page slot shown before.base before.changes
     → (now ≡ whole (file_after call before).base (file_after call before).changes)
     × (found || has_slot size slot shown (page_at size page now)
     ≡ was_written size page slot shown (file_after call before).base (file_after call before).changes)
-written-step size page slot shown before (Opened bytes) file now found none is made said = absurd (both_ways true none refl)
-written-step size page slot shown before (Synced bytes true) file now found none is made said = absurd (both_ways true none refl)
-written-step size page slot shown before (Synced bytes false) file now found none is made said =
+written-step size page slot shown before (opened bytes) file now found none is made said = absurd (both_ways true none refl)
+written-step size page slot shown before (synced bytes true) file now found none is made said = absurd (both_ways true none refl)
+written-step size page slot shown before (synced bytes false) file now found none is made said =
     let same : now ≡ whole before.base before.changes = made ∙ is in
     let has : List ℕ → Bool = λ l. has_slot size slot shown (page_at size page l) in (
       same,
@@ -135,15 +133,15 @@ written-step size page slot shown before (Synced bytes false) file now found non
           ∙ either_way (has (whole before.base before.changes)) (was_written size page slot shown before.base before.changes)
           (written_now size page slot shown before.base before.changes),
     )
-written-step size page slot shown before (Wrote offset bytes is_sync ok) file now found none is made said =
-    let change = write offset bytes.items (is_sync && ok) in
+written-step size page slot shown before (wrote offset bytes is_sync ok) file now found none is made said =
+    let change = write offset bytes (is_sync && ok) in
     let same : now ≡ whole before.base (change ∷ before.changes) = made ∙ ap (changed change) is in
     let has : List ℕ → Bool = λ l. has_slot size slot shown (page_at size page l) in (
       same,
       ap (λ b. b || has now) said ∙ ap (λ l. was_written size page slot shown before.base before.changes || has l) same
           ∙ or-flip (was_written size page slot shown before.base before.changes) (has (whole before.base (change ∷ before.changes))),
     )
-written-step size page slot shown before (ResizedTo length_asked ok) file now found none is made said =
+written-step size page slot shown before (resized_to length_asked ok) file now found none is made said =
     let change = resize length_asked in
     let same : now ≡ whole before.base (change ∷ before.changes) = made ∙ ap (changed change) is in
     let has : List ℕ → Bool = λ l. has_slot size slot shown (page_at size page l) in (
@@ -153,14 +151,14 @@ written-step size page slot shown before (ResizedTo length_asked ok) file now fo
     )
 
 -- one of calls with which no file begins anew
-pub none-at : (calls : List Recorded) (place : ℕ) (d : Recorded) → list_any is_base calls ≡ false → place < length calls
+pub none-at : (calls : List Call) (place : ℕ) (d : Call) → list_any is_base calls ≡ false → place < length calls
     → is_base (get_or calls place d) ≡ false
 none-at [] place d none below = absurd (omega (arith, below))
 none-at (call ∷ later) zero d none below = (or_parts (is_base call) (list_any is_base later) none).0
 none-at (call ∷ later) (suc place) d none below = none-at later place d (or_parts (is_base call) (list_any is_base later) none).1 (omega (arith, below))
 
 -- and what is so far, with it
-pub so-far : (file : File) (calls : List Recorded) (place : ℕ) (d : Recorded) → place < length calls
+pub so-far : (file : File) (calls : List Call) (place : ℕ) (d : Call) → place < length calls
     → file_from file (take (place + 1) calls) ≡ file_after (get_or calls place d) (file_from file (take place calls))
 so-far file calls place d below =
     ap (file_from file) (take_more calls place d below) ∙ from-push file (take place calls) (get_or calls place d)

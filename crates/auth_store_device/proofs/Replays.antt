@@ -1,105 +1,113 @@
 -- What the calls of a record make of the file, and which openings stand among them.
-use Rattle.std.proofs.Common.{◌≡◌, ℕ, ◌+◌, ◌<◌, true, false, List, [], ◌∷◌, ◌++◌, length, take, drop, get_or, map, reverse}
-use Rattle.std.proofs.Common.{sym, ◌∙◌, ap, refl, append_assoc}
+use Rattle.std.proofs.Common.{◌≡◌, ℕ, ◌+◌, ◌<◌, true, false, ◌||◌, List, [], ◌∷◌, ◌++◌, length, take, drop, get_or, map, reverse}
+use Rattle.std.proofs.Common.{sym, ◌∙◌, ap, refl, append_assoc, arith}
 use Rattle.std.specs.List.{list_any}
 use Rattle.std.proofs.lemmas.Bool.{both_ways, or_parts}
 use Rattle.std.proofs.lemmas.List.{append-nil, drop_more, map_push, reverse-append, reverse-reverse, take-append-drop, take_more}
-use Rattle.paged_blob.specs.Calls.{File, file_of}
-use Rattle.paged_blob.specs.Recorded.{call_of, calls_of}
-use Rattle.paged_blob.specs.declared.record.Recorded.{Recorded}
-use Rattle.paged_blob.specs.declared.record.Recorded.TheVariants.{Opened, Wrote, ResizedTo, Synced}
+use Rattle.paged_blob.specs.Calls.{Call, opened, wrote, resized_to, synced, File, file_of}
 use Rattle.auth_store_device.specs.Devices.{shown_file}
 use Rattle.auth_store_device.specs.Openings.{openings_of, plain}
 use Rattle.auth_store_device.specs.OpeningsCode.{opening_in, openings_from, is_base, file_after, file_from, change_in, changes_in}
 
--- one more call of a record comes first among its calls
-pub calls-push : (before : List Recorded) (call : Recorded) → calls_of (before ++ call ∷ []) ≡ call_of call ∷ calls_of before
-calls-push before call = ap reverse (map_push call_of before call) ∙ reverse-append (map call_of before) (call_of call ∷ [])
+-- one more call comes first among them
+pub calls-push : (before : List Call) (call : Call) → reverse (before ++ call ∷ []) ≡ call ∷ reverse before
+calls-push before call = reverse-append before (call ∷ [])
 
-pub file-push : (before : List Recorded) (call : Recorded) → file_of (calls_of (before ++ call ∷ [])) ≡ file_after call (file_of (calls_of before))
+pub file-push : (before : List Call) (call : Call) → file_of (reverse (before ++ call ∷ [])) ≡ file_after call (file_of (reverse before))
 file-push before call = ap file_of (calls-push before call) ∙ one call
   where
-    one : (c : Recorded) → file_of (call_of c ∷ calls_of before) ≡ file_after c (file_of (calls_of before))
-    one (Opened shown) = refl
-    one (Wrote offset bytes is_sync ok) = refl
-    one (ResizedTo size ok) = refl
-    one (Synced bytes ok) = refl
+    one : (c : Call) → file_of (c ∷ reverse before) ≡ file_after c (file_of (reverse before))
+    one (opened shown) = refl
+    one (wrote offset bytes is_sync ok) = refl
+    one (resized_to size ok) = refl
+    one (synced bytes ok) = refl
 
 -- the file of a record, by its first calls and then the others
-pub file-append : (before later : List Recorded) → file_of (calls_of (before ++ later)) ≡ file_from (file_of (calls_of before)) later
-file-append before [] = ap (λ l. file_of (calls_of l)) (append-nil before)
+pub file-append : (before later : List Call) → file_of (reverse (before ++ later)) ≡ file_from (file_of (reverse before)) later
+file-append before [] = ap (λ l. file_of (reverse l)) (append-nil before)
 file-append before (call ∷ later) =
-    ap (λ l. file_of (calls_of l)) (sym (append_assoc before (call ∷ []) later))
+    ap (λ l. file_of (reverse l)) (sym (append_assoc before (call ∷ []) later))
     ∙ file-append (before ++ call ∷ []) later
     ∙ ap (λ file. file_from file later) (file-push before call)
 
-pub from-push : (file : File) (before : List Recorded) (call : Recorded) → file_from file (before ++ call ∷ []) ≡ file_after call (file_from file before)
+pub from-push : (file : File) (before : List Call) (call : Call) → file_from file (before ++ call ∷ []) ≡ file_after call (file_from file before)
 from-push file [] call = refl
 from-push file (first ∷ before) call = from-push (file_after first file) before call
 
 -- the openings of a record, by its first calls and then the others
-openings-push : (before : List Recorded) (call : Recorded) → openings_of (calls_of (before ++ call ∷ [])) ≡ openings_of
-    (calls_of before) ++ opening_in before call
+openings-push : (before : List Call) (call : Call) → openings_of (reverse (before ++ call ∷ [])) ≡ openings_of
+    (reverse before) ++ opening_in before call
 openings-push before call = ap openings_of (calls-push before call) ∙ one call
   where
-    one : (c : Recorded) → openings_of (call_of c ∷ calls_of before) ≡ openings_of (calls_of before) ++ opening_in before c
-    one (Opened shown) = refl
-    one (Wrote offset bytes is_sync ok) = sym (append-nil (openings_of (calls_of before)))
-    one (ResizedTo size ok) = sym (append-nil (openings_of (calls_of before)))
-    one (Synced bytes ok) = sym (append-nil (openings_of (calls_of before)))
+    one : (c : Call) → openings_of (c ∷ reverse before) ≡ openings_of (reverse before) ++ opening_in before c
+    one (opened shown) = refl
+    one (wrote offset bytes is_sync ok) = sym (append-nil (openings_of (reverse before)))
+    one (resized_to size ok) = sym (append-nil (openings_of (reverse before)))
+    one (synced bytes ok) = sym (append-nil (openings_of (reverse before)))
 
-openings-append : (before later : List Recorded) → openings_of (calls_of (before ++ later)) ≡ openings_of (calls_of before) ++ openings_from before later
-openings-append before [] = ap (λ l. openings_of (calls_of l)) (append-nil before) ∙ sym (append-nil (openings_of (calls_of before)))
+openings-append : (before later : List Call) → openings_of (reverse (before ++ later)) ≡ openings_of (reverse before) ++ openings_from before later
+openings-append before [] = ap (λ l. openings_of (reverse l)) (append-nil before) ∙ sym (append-nil (openings_of (reverse before)))
 openings-append before (call ∷ later) =
-    ap (λ l. openings_of (calls_of l)) (sym (append_assoc before (call ∷ []) later))
+    ap (λ l. openings_of (reverse l)) (sym (append_assoc before (call ∷ []) later))
     ∙ openings-append (before ++ call ∷ []) later
     ∙ ap (λ l. l ++ openings_from (before ++ call ∷ []) later) (openings-push before call)
-    ∙ append_assoc (openings_of (calls_of before)) (opening_in before call) (openings_from (before ++ call ∷ []) later)
+    ∙ append_assoc (openings_of (reverse before)) (opening_in before call) (openings_from (before ++ call ∷ []) later)
 
 -- the openings of a whole record
-pub openings-all : (all : List Recorded) → openings_from [] all ≡ openings_of (calls_of all)
+pub openings-all : (all : List Call) → openings_from [] all ≡ openings_of (reverse all)
 openings-all all = sym (openings-append [] all)
 
 -- one call of it is passed
-pub openings-more : (all : List Recorded) (place : ℕ) (d : Recorded) → place < length all
+pub openings-more : (all : List Call) (place : ℕ) (d : Call) → place < length all
     → openings_from (take place all) (drop place all)
     ≡ opening_in (take place all) (get_or all place d) ++ openings_from (take (place + 1) all) (drop (place + 1) all)
 openings-more all place d below =
     ap (openings_from (take place all)) (drop_more all place d below)
     ∙ ap (λ l. opening_in (take place all) (get_or all place d) ++ openings_from l (drop (place + 1) all)) (sym (take_more all place d below))
 
+-- an opening among them is the next
+pub opening-next : (all first : List Call) (place : ℕ) (shown : List ℕ) (d : Call) → place < length all → opened shown ≡ get_or all place d
+    → first ≡ take place all
+    → openings_from (take place all) (drop place all)
+    ≡ record { before = reverse first; shown = shown } ∷ openings_from (take (place + 1) all) (drop (place + 1) all)
+opening-next all first place shown d below is before =
+    let later = openings_from (take (place + 1) all) (drop (place + 1) all) in
+    openings-more all place d below
+    ∙ ap (λ c. opening_in (take place all) c ++ later) (sym is)
+    ∙ ap (λ l. record { before = reverse l; shown = shown } ∷ later) (sym before)
+
 -- calls with which no file begins anew add their changes to those of the file
-abbrev HaveNoBase : List Recorded → Type 0
+abbrev HaveNoBase : List Call → Type 0
 HaveNoBase calls = list_any is_base calls ≡ false
 
-base-after : (call : Recorded) (file : File) → is_base call ≡ false → (file_after call file).base ≡ file.base
-base-after (Opened shown) file none = absurd (both_ways true none refl)
-base-after (Wrote offset bytes is_sync ok) file none = refl
-base-after (ResizedTo size ok) file none = refl
-base-after (Synced bytes true) file none = absurd (both_ways true none refl)
-base-after (Synced bytes false) file none = refl
+base-after : (call : Call) (file : File) → is_base call ≡ false → (file_after call file).base ≡ file.base
+base-after (opened shown) file none = absurd (both_ways true none refl)
+base-after (wrote offset bytes is_sync ok) file none = refl
+base-after (resized_to size ok) file none = refl
+base-after (synced bytes true) file none = absurd (both_ways true none refl)
+base-after (synced bytes false) file none = refl
 
-changes-after : (call : Recorded) (file : File) → is_base call ≡ false → (file_after call file).changes ≡ change_in call ++ file.changes
-changes-after (Opened shown) file none = absurd (both_ways true none refl)
-changes-after (Wrote offset bytes is_sync ok) file none = refl
-changes-after (ResizedTo size ok) file none = refl
-changes-after (Synced bytes true) file none = absurd (both_ways true none refl)
-changes-after (Synced bytes false) file none = refl
+changes-after : (call : Call) (file : File) → is_base call ≡ false → (file_after call file).changes ≡ change_in call ++ file.changes
+changes-after (opened shown) file none = absurd (both_ways true none refl)
+changes-after (wrote offset bytes is_sync ok) file none = refl
+changes-after (resized_to size ok) file none = refl
+changes-after (synced bytes true) file none = absurd (both_ways true none refl)
+changes-after (synced bytes false) file none = refl
 
-pub base-from : (file : File) (calls : List Recorded) → list_any is_base calls ≡ false → (file_from file calls).base ≡ file.base
+pub base-from : (file : File) (calls : List Call) → list_any is_base calls ≡ false → (file_from file calls).base ≡ file.base
 base-from file [] none = refl
 base-from file (call ∷ later) none =
     let both = or_parts (is_base call) (list_any is_base later) none in
     base-from (file_after call file) later both.1 ∙ base-after call file both.0
 
 -- of one call there is one change, or none
-same-reversed : (call : Recorded) → reverse (change_in call) ≡ change_in call
-same-reversed (Opened shown) = refl
-same-reversed (Wrote offset bytes is_sync ok) = refl
-same-reversed (ResizedTo size ok) = refl
-same-reversed (Synced bytes ok) = refl
+same-reversed : (call : Call) → reverse (change_in call) ≡ change_in call
+same-reversed (opened shown) = refl
+same-reversed (wrote offset bytes is_sync ok) = refl
+same-reversed (resized_to size ok) = refl
+same-reversed (synced bytes ok) = refl
 
-pub changes-from : (file : File) (calls : List Recorded) → list_any is_base calls ≡ false
+pub changes-from : (file : File) (calls : List Call) → list_any is_base calls ≡ false
     → (file_from file calls).changes ≡ reverse (changes_in calls) ++ file.changes
 changes-from file [] none = refl
 changes-from file (call ∷ later) none =
@@ -111,16 +119,16 @@ changes-from file (call ∷ later) none =
     ∙ ap (λ l. l ++ file.changes) (sym (reverse-append (change_in call) (changes_in later)))
 
 -- where the file begins anew with the last of the first calls, the others go on from there
-pub base-place : (all : List Recorded) (place : ℕ) (call d : Recorded) (base : List ℕ) → place < length all → call ≡ get_or all place d
+pub base-place : (all : List Call) (place : ℕ) (call d : Call) (base : List ℕ) → place < length all → call ≡ get_or all place d
     → ((file : File) → file_after call file ≡ shown_file base)
-    → file_of (calls_of all) ≡ file_from (shown_file base) (drop (place + 1) all)
+    → file_of (reverse all) ≡ file_from (shown_file base) (drop (place + 1) all)
 base-place all place call d base below is anew =
     let before = take place all in
-    ap (λ l. file_of (calls_of l)) (sym (take-append-drop (place + 1) all))
+    ap (λ l. file_of (reverse l)) (sym (take-append-drop (place + 1) all))
     ∙ file-append (take (place + 1) all) (drop (place + 1) all)
-    ∙ ap (λ l. file_from (file_of (calls_of l)) (drop (place + 1) all)) (take_more all place d below)
+    ∙ ap (λ l. file_from (file_of (reverse l)) (drop (place + 1) all)) (take_more all place d below)
     ∙ ap (λ file. file_from file (drop (place + 1) all))
-    (file-push before (get_or all place d) ∙ ap (λ c. file_after c (file_of (calls_of before))) (sym is) ∙ anew (file_of (calls_of before)))
+    (file-push before (get_or all place d) ∙ ap (λ c. file_after c (file_of (reverse before))) (sym is) ∙ anew (file_of (reverse before)))
 
 -- the mutations of such calls, the oldest first
 map-reverse : {X Y : Type 0} (f : X → Y) (xs : List X) → map f (reverse xs) ≡ reverse (map f xs)
@@ -129,10 +137,25 @@ map-reverse f (x ∷ xs) =
     ap (map f) (reverse-append (x ∷ []) xs) ∙ map_push f (reverse xs) x ∙ ap (λ l. l ++ f x ∷ []) (map-reverse f xs)
     ∙ sym (reverse-append (f x ∷ []) (map f xs))
 
-pub mutations-since : (before : File) (base : List ℕ) (calls : List Recorded) → before ≡ file_from (shown_file base) calls → list_any is_base calls ≡ false
+pub mutations-since : (before : File) (base : List ℕ) (calls : List Call) → before ≡ file_from (shown_file base) calls → list_any is_base calls ≡ false
     → map plain (changes_in calls) ≡ reverse (map plain before.changes)
 mutations-since before base calls is none =
     let changes : before.changes ≡ reverse (changes_in calls) =
     ap (λ (f : File). f.changes) is ∙ changes-from (shown_file base) calls none ∙ append-nil (reverse (changes_in calls)) in
     sym (reverse-reverse (map plain (changes_in calls)))
     ∙ ap reverse (sym (map-reverse plain (changes_in calls)) ∙ ap (map plain) (sym changes))
+
+-- the first of calls makes the first of their changes, where it makes one
+pub changes-first : (calls later : List Call) (call : Call) → 0 < length calls → ((d : Call) → call ≡ get_or calls 0 d) → later ≡ drop 1 calls
+    → changes_in calls ≡ change_in call ++ changes_in later
+changes-first [] later call some is rest = absurd (omega (arith, some))
+changes-first (first ∷ others) later call some is rest =
+    ap (λ c. change_in c ++ changes_in others) (sym (is first)) ∙ ap (λ l. change_in call ++ changes_in l) (sym rest)
+
+-- and where the file does not begin anew with one of them, it begins anew with those from it on only where it does with the others
+pub base-before : (calls : List Call) (place : ℕ) (call : Call) → place < length calls → ((d : Call) → call ≡ get_or calls place d) → is_base call ≡ false
+    → list_any is_base (drop place calls) ≡ list_any is_base (drop (place + 1) calls)
+base-before calls place call below is none =
+    ap (list_any is_base) (drop_more calls place call below)
+    ∙ ap (λ c. is_base c || list_any is_base (drop (place + 1) calls)) (sym (is call))
+    ∙ ap (λ b. b || list_any is_base (drop (place + 1) calls)) none

@@ -3,5 +3,7 @@ pub mod Mutations
 pub mod Devices
 pub mod Openings
 pub mod OpeningsCode
+pub mod Records
+pub mod RecordsCode
 pub mod Settings
 pub mod Laws

@@ -9,10 +9,11 @@ ghost use Rattle.paged_format.specs.Pages.{verifies};
 ghost use Rattle.paged_format.specs.declared.footer.Slot.TheVariants.{First, Second};
 ghost use Rattle.auth_store_device.specs.Devices.{shown_file};
 ghost use Rattle.auth_store_device.specs.OpeningsCode.{is_base, change_in, file_from};
+ghost use Rattle.auth_store_device.specs.RecordsCode.{call_of};
 
 use crate::openings::Since;
+use crate::record::Entry;
 use fault_storage::Checksum;
-use paged_blob::Recorded;
 use paged_format::Slot;
 use std::alloc::{AllocError, Global};
 
@@ -123,12 +124,12 @@ fn put_bytes(file: &mut Vec<u8>, offset: usize, bytes: &[u8]) -> Result<(), Allo
 }
 
 // Makes the mutation that a call is, where it is one, on the file, whole. It fails only when out of memory.
-fn make_whole(file: &mut Vec<u8>, call: &Recorded) -> Result<(), AllocError>
-    ensures { OnOk result (file.new.items ≡ whole file.old.items (change_in call.now)) }
+fn make_whole(file: &mut Vec<u8>, call: Entry<'_>) -> Result<(), AllocError>
+    ensures { OnOk result (file.new.items ≡ whole file.old.items (change_in (call_of call.entry))) }
 {
     match call {
-        Recorded::Wrote(offset, bytes, _, _) => put_bytes(file, *offset as usize, bytes),
-        Recorded::ResizedTo(len, _) => set_length(file, *len as usize),
+        Entry::Wrote(offset, bytes, _, _) => put_bytes(file, offset as usize, bytes),
+        Entry::ResizedTo(len, _) => set_length(file, len as usize),
         _ => Ok(()),
     }
 }
@@ -144,14 +145,14 @@ fn was_written(
 ) -> Result<bool, AllocError>
     requires size { 12 ≤ length shown.now }
     requires page { page * length shown.now < 2 ^ 64 }
-    requires calls { list_any is_base since.now.calls.now ≡ false }
-    ensures { let file = file_from (shown_file since.now.base.now) since.now.calls.now in
+    requires calls { list_any is_base since.now.calls ≡ false }
+    ensures { let file = file_from (shown_file since.now.base.now) since.now.calls in
         IfOk result (λ is. is ≡ was_written (length shown.now) page slot shown.now file.base file.changes) }
 {
     let mut file = since.base.to_vec(alloc)?;
     let mut is_found = has_slot(shown, slot, page_at(shown.len(), page, &file));
-    for call in since.calls {
-        make_whole(&mut file, call)?;
+    for place in 0..since.calls.len() {
+        make_whole(&mut file, since.calls.entry(place))?;
         is_found |= has_slot(shown, slot, page_at(shown.len(), page, &file));
     }
     Ok(is_found)
@@ -168,8 +169,8 @@ fn is_chance_slot<C: Checksum>(
 ) -> Result<bool, AllocError>
     requires size { 12 ≤ size }
     requires page { page < length shown.now / size }
-    requires calls { list_any is_base since.now.calls.now ≡ false }
-    ensures { let file = file_from (shown_file since.now.base.now) since.now.calls.now in
+    requires calls { list_any is_base since.now.calls ≡ false }
+    ensures { let file = file_from (shown_file since.now.base.now) since.now.calls in
         IfOk result (λ is. is ≡ is_chance_slot C.checksum_of size file shown.now page slot) }
 {
     let here = page_at(size, page, shown);
@@ -188,8 +189,8 @@ pub(crate) fn has_chance_slot<C: Checksum>(
     size: usize,
 ) -> Result<bool, AllocError>
     requires size { 12 ≤ size }
-    requires calls { list_any is_base since.now.calls.now ≡ false }
-    ensures { let file = file_from (shown_file since.now.base.now) since.now.calls.now in
+    requires calls { list_any is_base since.now.calls ≡ false }
+    ensures { let file = file_from (shown_file since.now.base.now) since.now.calls in
         IfOk result (λ is. is ≡ has_chance_slot C.checksum_of size file shown.now (length shown.now / size)) }
 {
     let count = shown.len() / size;

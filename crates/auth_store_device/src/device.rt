@@ -21,16 +21,17 @@ ghost use Rattle.auth_store_device.specs.Devices.{left_after, left_after_opening
 ghost use Rattle.auth_store_device.specs.Openings.{openings_of};
 ghost use Rattle.auth_store_device.specs.Settings.{AreFirst};
 ghost use Rattle.auth_store_device.specs.Logs.{has_log, log_of, behind_header, durable_log, HasOwnHeader};
-ghost use Rattle.paged_blob.specs.Recorded.{calls_of};
+ghost use Rattle.auth_store_device.specs.Records.{calls_of};
 
 use crate::error::OpenError;
-use crate::log::{note, read_log, resize_log, sync_log, write_log};
+use crate::log::{read_log, resize_log, sync_log, write_log};
 use crate::opening::{Durable, copy_log, open_log};
 use crate::openings::Openings;
+use crate::record::Record;
 use fault_storage::{
     Config, PartialWriteMode, Probability, ResizeConfig, WriteConfig, faulty, memory,
 };
-use paged_blob::{Blob, Error, Recorded, WriteMode};
+use paged_blob::{Blob, Error, WriteMode};
 use rand_core::Rng;
 use std::alloc::{AllocError, Global};
 use std::marker::Model;
@@ -42,21 +43,21 @@ pub struct Device<R: Rng> {
     alloc: Global,
     storage: faulty::Storage<memory::Storage, R>,
     log: Option<faulty::Blob<memory::Blob>>,
-    record_kept: Vec<Recorded>,
+    record_kept: Record,
     left: Option<u64>,
     refused: u64,
 }
 
 impl<R: Rng> Model for Device<R> {
     ghost use Rattle.auth_store_device.specs.Devices.{DeviceState, IsDevice};
-    ghost use Rattle.paged_blob.specs.Recorded.{calls_of};
+    ghost use Rattle.auth_store_device.specs.Records.{calls_of};
 
     ghost Value = { DeviceState R };
 
     ghost view = { λ it. record {
       storage = it.storage;
       log = it.log;
-      calls = calls_of it.record_kept.items;
+      calls = calls_of it.record_kept;
       left = it.left;
       refused = it.refused;
     } };
@@ -64,7 +65,7 @@ impl<R: Rng> Model for Device<R> {
     ghost invariant = { λ it. IsDevice (record {
       storage = it.storage;
       log = it.log;
-      calls = calls_of it.record_kept.items;
+      calls = calls_of it.record_kept;
       left = it.left;
       refused = it.refused;
     }) };
@@ -122,8 +123,9 @@ impl<R: Rng + Drop> Device<R> {
         }) }
     {
         let durable = copy_log(alloc, storage.inner())?;
-        let mut record_kept = Vec::new(alloc);
-        record_kept.push(Recorded::Synced(durable.shown, true))?;
+        let mut record_kept = Record::new(alloc);
+        record_kept.make_room(0)?;
+        record_kept.note_sync(durable.shown, true);
         Ok(Device {
             alloc,
             storage,
@@ -155,7 +157,7 @@ impl<R: Rng + Drop> Device<R> {
     pub fn openings(&self) -> Openings<'_>
         ensures { result ≡ openings_of self.now.calls }
     {
-        Openings::of(&self.record_kept)
+        Openings::of(self.record_kept.all())
     }
 
     /// Whether a cut of the power stands, under which each call is refused.
@@ -307,12 +309,12 @@ impl<R: Rng + Drop> Device<R> {
             return Err(stopped_opening(error));
         }
         let Durable { whole, shown } = copy_log(self.alloc, self.storage.inner())?;
-        self.record_kept.reserve(1)?;
+        self.record_kept.make_room(0)?;
         let count = shown.len() as u64;
         let answer = open_log(&mut self.storage, whole);
         self.left = left_after_opening(&answer, self.left);
         let log = answer?;
-        note(&mut self.record_kept, Recorded::Opened(shown));
+        self.record_kept.note_opening(shown);
         self.log = Some(log);
         Ok(count)
     }
@@ -397,7 +399,6 @@ impl<R: Rng + Drop> Blob for Device<R> {
             return Err(Error::BlobMissing);
         };
         let answer = write_log(
-            self.alloc,
             &mut self.storage,
             log,
             &mut self.record_kept,

@@ -9,6 +9,7 @@ pub mod laws;
 pub(crate) mod log;
 pub(crate) mod opening;
 pub mod openings;
+pub(crate) mod record;
 
 pub use device::Device;
 pub use error::OpenError;

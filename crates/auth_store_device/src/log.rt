@@ -1,27 +1,26 @@
 //! The calls of the open log, each of which is recorded.
 
-ghost use Rattle.std.specs.Prelude.{◌≡◌, ◌+◌, ◌-◌, ◌<◌, ◌^◌, ◌∷◌, ℕ, Bool, List, IfOk, IfErr, true, length, drop};
-ghost use Rattle.std.specs.Vec.{vec_len, vec_capacity};
+ghost use Rattle.std.specs.Prelude.{◌≡◌, ◌+◌, ◌-◌, ◌<◌, ◌^◌, ℕ, Bool, List, IfOk, IfErr, length};
 ghost use Rattle.fault_storage_parts.specs.declared.error.Call.TheVariants.{Read, Sync};
 ghost use Rattle.fault_storage.specs.Changes.{FaultyWrites, FaultyResizes};
 ghost use Rattle.fault_storage.specs.Directory.{MemoryReads, MemorySyncs};
 ghost use Rattle.fault_storage.specs.Faults.{IsFaultyCall};
 ghost use Rattle.paged_blob.specs.Answers.{Records, RecordsSync, Failures, failures_after};
 ghost use Rattle.paged_blob.specs.Answers.{IsCause, IsReadCause, IsSlice};
-ghost use Rattle.fault_storage.specs.Stores.{is_there};
 ghost use Rattle.paged_blob.specs.Calls.{File, wrote, resized_to, file_of};
-ghost use Rattle.paged_blob.specs.Recorded.{call_of, calls_of};
 ghost use Rattle.paged_blob.specs.WriteModes.{is_sync};
 ghost use Rattle.paged_blob.specs.declared.error.CallKind.{CallKind};
 ghost use Rattle.auth_store_device.specs.Devices.{Passes, failures_in, mode_below, refusal_of};
 ghost use Rattle.auth_store_device.specs.Logs.{IsOpenLog};
+ghost use Rattle.auth_store_device.specs.Records.{calls_of};
 
 use crate::device::copy_behind_header;
+use crate::record::Record;
 use fault_storage::storage::Blob as _;
 use fault_storage::{Error as StorageError, WriteMode as StorageMode, faulty, memory};
-use paged_blob::{CallKind, Error, Recorded, WriteMode};
+use paged_blob::{CallKind, Error, WriteMode};
 use rand_core::Rng;
-use std::alloc::{AllocError, Global};
+use std::alloc::Global;
 
 /// What the store answered a change of the log, or a sync of it.
 #[derive(Clone, Copy, Debug, PartialEq, Eq)]
@@ -78,46 +77,36 @@ fn mode_below(bytes: &[u8], mode: WriteMode) -> StorageMode
     }
 }
 
-// Records the call. There is room for it.
-pub(crate) fn note(record_kept: &mut Vec<Recorded>, call: Recorded)
-    requires { vec_len record_kept.old < vec_capacity record_kept.old }
-    ensures { calls_of record_kept.new.items ≡ call_of call ∷ calls_of record_kept.old.items }
-{
-    let _ = record_kept.push(call);
-}
-
 /// Writes bytes of the log, behind its header. There is room for the record before the store is asked.
 pub(crate) fn write_log<R: Rng>(
-    alloc: Global,
     storage: &mut faulty::Storage<memory::Storage, R>,
     log: &mut faulty::Blob<memory::Blob>,
-    record_kept: &mut Vec<Recorded>,
+    record_kept: &mut Record,
     offset: u64,
     bytes: &[u8],
     mode: WriteMode,
 ) -> Result<(), Error>
     requires room { storage.old.injections < 2 ^ 64 - 1 }
-    requires stands { IsOpenLog storage.old.inner (file_of (calls_of record_kept.old.items)) log.old.inner }
+    requires stands { IsOpenLog storage.old.inner (file_of (calls_of record_kept.old)) log.old.inner }
     ensures passes { Passes CallKind.Write (λ blob below answer changed left.
         FaultyWrites (R.stream) blob offset bytes.now (mode_below bytes.now mode) below answer changed left)
         log.old storage.old result log.new storage.new }
-    ensures calls { Records result (wrote offset bytes.now (is_sync mode)) (calls_of record_kept.old.items)
-        (calls_of record_kept.new.items) }
+    ensures calls { Records result (wrote offset bytes.now (is_sync mode)) (calls_of record_kept.old)
+        (calls_of record_kept.new) }
     ensures cause { (failures : Failures) → IfErr result (IsCause failures CallKind.Write (offset + length bytes.now)) }
     ensures count { (refused : ℕ) (is_open : Bool) → failures_in storage.new refused is_open
         ≡ failures_after result (failures_in storage.old refused is_open) }
-    ensures stands { IsOpenLog storage.new.inner (file_of (calls_of record_kept.new.items)) log.new.inner }
+    ensures stands { IsOpenLog storage.new.inner (file_of (calls_of record_kept.new)) log.new.inner }
 {
-    let copy = bytes.to_vec(alloc)?;
-    record_kept.reserve(1)?;
+    record_kept.make_room(bytes.len())?;
     let is_sync = mode == WriteMode::Sync;
     match Told::of(log.write_at(storage, offset, bytes, mode_below(bytes, mode))) {
         Told::Made => {
-            note(record_kept, Recorded::Wrote(offset, copy, is_sync, true));
+            record_kept.note_write(offset, bytes, is_sync, true);
             Ok(())
         }
         Told::Failed => {
-            note(record_kept, Recorded::Wrote(offset, copy, is_sync, false));
+            record_kept.note_write(offset, bytes, is_sync, false);
             Err(Error::Injected(CallKind::Write))
         }
         Told::Ended => Err(Error::NumberEnded),
@@ -130,27 +119,27 @@ pub(crate) fn write_log<R: Rng>(
 pub(crate) fn resize_log<R: Rng>(
     storage: &mut faulty::Storage<memory::Storage, R>,
     log: &mut faulty::Blob<memory::Blob>,
-    record_kept: &mut Vec<Recorded>,
+    record_kept: &mut Record,
     len: u64,
 ) -> Result<(), Error>
     requires room { storage.old.injections < 2 ^ 64 - 1 }
-    requires stands { IsOpenLog storage.old.inner (file_of (calls_of record_kept.old.items)) log.old.inner }
+    requires stands { IsOpenLog storage.old.inner (file_of (calls_of record_kept.old)) log.old.inner }
     ensures passes { Passes CallKind.Resize (λ blob below answer changed left.
         FaultyResizes (R.stream) blob len below answer changed left) log.old storage.old result log.new storage.new }
-    ensures calls { Records result (resized_to len) (calls_of record_kept.old.items) (calls_of record_kept.new.items) }
+    ensures calls { Records result (resized_to len) (calls_of record_kept.old) (calls_of record_kept.new) }
     ensures cause { (failures : Failures) → IfErr result (IsCause failures CallKind.Resize len) }
     ensures count { (refused : ℕ) (is_open : Bool) → failures_in storage.new refused is_open
         ≡ failures_after result (failures_in storage.old refused is_open) }
-    ensures stands { IsOpenLog storage.new.inner (file_of (calls_of record_kept.new.items)) log.new.inner }
+    ensures stands { IsOpenLog storage.new.inner (file_of (calls_of record_kept.new)) log.new.inner }
 {
-    record_kept.reserve(1)?;
+    record_kept.make_room(0)?;
     match Told::of(log.resize(storage, len)) {
         Told::Made => {
-            note(record_kept, Recorded::ResizedTo(len, true));
+            record_kept.note_resize(len, true);
             Ok(())
         }
         Told::Failed => {
-            note(record_kept, Recorded::ResizedTo(len, false));
+            record_kept.note_resize(len, false);
             Err(Error::Injected(CallKind::Resize))
         }
         Told::Ended => Err(Error::NumberEnded),
@@ -183,46 +172,33 @@ pub(crate) fn read_log<R: Rng>(
     }
 }
 
-// A copy of the live bytes of the log behind its header. It fails only when out of memory.
-fn copy_live<R: Rng + Drop>(
-    alloc: Global,
-    storage: &faulty::Storage<memory::Storage, R>,
-    log: &faulty::Blob<memory::Blob>,
-) -> Result<Vec<u8>, AllocError>
-    requires { is_there log.now.inner.number storage.now.inner ≡ true }
-    ensures { IfOk result (λ bytes. bytes.items ≡ drop 8 log.now.inner.live) }
-{
-    let live = log.inner().copy_live(storage.inner())?.unwrap();
-    copy_behind_header(alloc, &live)
-}
-
 /// Makes the log durable. There is room for the record before the store is asked.
 pub(crate) fn sync_log<R: Rng + Drop>(
     alloc: Global,
     storage: &mut faulty::Storage<memory::Storage, R>,
     log: &faulty::Blob<memory::Blob>,
-    record_kept: &mut Vec<Recorded>,
+    record_kept: &mut Record,
 ) -> Result<(), Error>
     requires room { storage.old.injections < 2 ^ 64 - 1 }
-    requires stands { IsOpenLog storage.old.inner (file_of (calls_of record_kept.old.items)) log.now.inner }
+    requires stands { IsOpenLog storage.old.inner (file_of (calls_of record_kept.old)) log.now.inner }
     ensures passes { Passes CallKind.Sync (λ blob below answer changed left. (changed ≡ blob)
         × IsFaultyCall (R.stream) Sync below.config.sync (MemorySyncs blob.inner) below answer left)
         log.now storage.old result log.now storage.new }
-    ensures calls { RecordsSync result (calls_of record_kept.old.items) (calls_of record_kept.new.items) }
+    ensures calls { RecordsSync result (calls_of record_kept.old) (calls_of record_kept.new) }
     ensures cause { (failures : Failures) → IfErr result (IsCause failures CallKind.Sync 0) }
     ensures count { (refused : ℕ) (is_open : Bool) → failures_in storage.new refused is_open
         ≡ failures_after result (failures_in storage.old refused is_open) }
-    ensures stands { IsOpenLog storage.new.inner (file_of (calls_of record_kept.new.items)) log.now.inner }
+    ensures stands { IsOpenLog storage.new.inner (file_of (calls_of record_kept.new)) log.now.inner }
 {
-    let synced = copy_live(alloc, storage, log)?;
-    record_kept.reserve(1)?;
+    let synced = copy_behind_header(alloc, log.inner().live())?;
+    record_kept.make_room(0)?;
     match Told::of(log.sync(storage)) {
         Told::Made => {
-            note(record_kept, Recorded::Synced(synced, true));
+            record_kept.note_sync(synced, true);
             Ok(())
         }
         Told::Failed => {
-            note(record_kept, Recorded::Synced(Vec::new(alloc), false));
+            record_kept.note_sync(Vec::new(alloc), false);
             Err(Error::Injected(CallKind::Sync))
         }
         Told::Ended => Err(Error::NumberEnded),

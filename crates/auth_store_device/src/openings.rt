@@ -7,21 +7,21 @@ ghost use Rattle.fault_storage_parts.specs.Crc32.{crc32};
 ghost use Rattle.paged_format.specs.Footers.{IsPageSize};
 ghost use Rattle.paged_blob.specs.Calls.{File, file_of};
 ghost use Rattle.paged_blob.specs.Chance.{is_by_chance};
-ghost use Rattle.paged_blob.specs.Recorded.{calls_of};
 ghost use Rattle.auth_store_device.specs.Openings.{openings_of, mutations_of, plain};
 ghost use Rattle.auth_store_device.specs.OpeningsCode.{is_base, file_after, file_from};
+ghost use Rattle.auth_store_device.specs.RecordsCode.{call_of};
 ghost use Rattle.auth_store_device.specs.Devices.{shown_file};
 
 use crate::chance::has_chance_slot;
+use crate::record::{Calls, Entry};
 use fault_storage::Crc32;
-use paged_blob::Recorded;
 use std::alloc::{AllocError, Global};
 use std::marker::Model;
 
 /// The openings that are left of a record, the oldest first (own).
 #[derive(Debug, Drop)]
 pub struct Openings<'a> {
-    record_kept: &'a [Recorded],
+    record_kept: Calls<'a>,
     place: usize,
 }
 
@@ -32,15 +32,15 @@ impl<'a> Model for Openings<'a> {
 
     ghost Value = { List Showing };
 
-    ghost view = { λ it. openings_from (take it.place it.record_kept.now) (drop it.place it.record_kept.now) };
+    ghost view = { λ it. openings_from (take it.place it.record_kept) (drop it.place it.record_kept) };
 
-    ghost invariant = { λ it. it.place ≤ length it.record_kept.now };
+    ghost invariant = { λ it. it.place ≤ length it.record_kept };
 }
 
 impl<'a> Openings<'a> {
     /// Those of a record that has the oldest call first.
-    pub(crate) fn of(record_kept: &'a [Recorded]) -> Openings<'a>
-        ensures { result ≡ openings_of (calls_of record_kept.now) }
+    pub(crate) fn of(record_kept: Calls<'a>) -> Openings<'a>
+        ensures { result ≡ openings_of (reverse record_kept.entry) }
     {
         Openings {
             record_kept,
@@ -60,9 +60,9 @@ impl<'a> Iterator for Openings<'a> {
         while self.place < self.record_kept.len() {
             let place = self.place;
             self.place += 1;
-            if let Recorded::Opened(shown) = &self.record_kept[place] {
+            if let Entry::Opened(shown) = self.record_kept.entry(place) {
                 return Some(Opening {
-                    earlier: &self.record_kept[..place],
+                    earlier: self.record_kept.first(place),
                     shown,
                 });
             }
@@ -74,17 +74,17 @@ impl<'a> Iterator for Openings<'a> {
 /// An opening of the device: what it showed, and the calls before it (own).
 #[derive(Debug, Drop)]
 pub struct Opening<'a> {
-    earlier: &'a [Recorded],
+    earlier: Calls<'a>,
     shown: &'a [u8],
 }
 
 impl<'a> Model for Opening<'a> {
-    ghost use Rattle.paged_blob.specs.Recorded.{calls_of};
+    ghost use Rattle.std.specs.Prelude.{reverse};
     ghost use Rattle.auth_store_device.specs.Openings.{Showing};
 
     ghost Value = { Showing };
 
-    ghost view = { λ it. record { before = calls_of it.earlier.now; shown = it.shown.now } };
+    ghost view = { λ it. record { before = reverse it.earlier; shown = it.shown.now } };
 }
 
 impl<'a> Opening<'a> {
@@ -92,7 +92,7 @@ impl<'a> Opening<'a> {
     pub fn base(&self) -> &'a [u8]
         ensures { result.now ≡ (file_of self.now.before).base }
     {
-        since_base(self.earlier).base
+        since_base(&self.earlier).base
     }
 
     /// The bytes that the opening showed, behind the header.
@@ -108,7 +108,7 @@ impl<'a> Opening<'a> {
         ensures { result ≡ mutations_of self.now }
     {
         Mutations {
-            calls: since_base(self.earlier).calls,
+            calls: since_base(&self.earlier).calls,
         }
     }
 
@@ -121,7 +121,7 @@ impl<'a> Opening<'a> {
         ensures { IfOk result (λ is. is
             ≡ is_by_chance crc32 physical_page_size (file_of self.now.before) self.now.shown) }
     {
-        let since = since_base(self.earlier);
+        let since = since_base(&self.earlier);
         has_chance_slot::<Crc32>(alloc, &since, self.shown, physical_page_size as usize)
     }
 }
@@ -146,7 +146,7 @@ pub enum Mutation<'a> {
 /// The mutations that are left of calls, the oldest first (own).
 #[derive(Debug, Drop)]
 pub struct Mutations<'a> {
-    calls: &'a [Recorded],
+    calls: Calls<'a>,
 }
 
 impl<'a> Model for Mutations<'a> {
@@ -157,7 +157,7 @@ impl<'a> Model for Mutations<'a> {
 
     ghost Value = { List Change };
 
-    ghost view = { λ it. map plain (changes_in it.calls.now) };
+    ghost view = { λ it. map plain (changes_in it.calls) };
 }
 
 impl<'a> Iterator for Mutations<'a> {
@@ -170,17 +170,15 @@ impl<'a> Iterator for Mutations<'a> {
     ghost remaining = { item_count (λ s. s) };
 
     fn next(&mut self) -> Option<Mutation<'a>> {
-        while let Some((call, later)) = self.calls.split_first() {
-            self.calls = later;
+        while self.calls.len() > 0 {
+            let call = self.calls.entry(0);
+            self.calls = self.calls.behind(1);
             match call {
-                Recorded::Wrote(offset, bytes, _, _) => {
-                    return Some(Mutation::Write {
-                        offset: *offset,
-                        bytes,
-                    });
+                Entry::Wrote(offset, bytes, _, _) => {
+                    return Some(Mutation::Write { offset, bytes });
                 }
-                Recorded::ResizedTo(length, _) => {
-                    return Some(Mutation::Resize { length: *length });
+                Entry::ResizedTo(length, _) => {
+                    return Some(Mutation::Resize { length });
                 }
                 _ => {}
             }
@@ -195,38 +193,38 @@ pub(crate) struct Since<'a> {
     /// The bytes that were durable.
     pub(crate) base: &'a [u8],
     /// The calls since, the oldest first.
-    pub(crate) calls: &'a [Recorded],
+    pub(crate) calls: Calls<'a>,
 }
 
 // The bytes with which the file begins anew, where it does with this call.
-fn base_in(call: &Recorded) -> Option<&[u8]>
-    ensures none { IfNone result (is_base call.now ≡ false) }
-    ensures some { IfSome result (λ base. (file : File) → file_after call.now file ≡ shown_file base.now) }
+fn base_in(call: Entry<'_>) -> Option<&[u8]>
+    ensures none { IfNone result (is_base (call_of call.entry) ≡ false) }
+    ensures some { IfSome result (λ base. (file : File) → file_after (call_of call.entry) file ≡ shown_file base.now) }
 {
     match call {
-        Recorded::Opened(shown) => Some(shown),
-        Recorded::Synced(bytes, true) => Some(bytes),
+        Entry::Opened(shown) => Some(shown),
+        Entry::Synced(bytes, true) => Some(bytes),
         _ => None,
     }
 }
 
 /// The last base of a record, and the calls since; nothing and all of them where there is none.
-pub(crate) fn since_base(earlier: &[Recorded]) -> Since<'_>
-    ensures file { file_of (calls_of earlier.now) ≡ file_from (shown_file result.base.now) result.calls.now }
-    ensures calls { list_any is_base result.calls.now ≡ false }
+pub(crate) fn since_base<'a>(earlier: &Calls<'a>) -> Since<'a>
+    ensures file { file_of (reverse earlier.now) ≡ file_from (shown_file result.base.now) result.calls }
+    ensures calls { list_any is_base result.calls ≡ false }
 {
     let mut count = earlier.len();
     while count > 0 {
-        if let Some(base) = base_in(&earlier[count - 1]) {
+        if let Some(base) = base_in(earlier.entry(count - 1)) {
             return Since {
                 base,
-                calls: &earlier[count..],
+                calls: earlier.behind(count),
             };
         }
         count -= 1;
     }
     Since {
         base: &[],
-        calls: earlier,
+        calls: earlier.behind(0),
     }
 }

@@ -6,6 +6,7 @@ ghost use Rattle.state_ops.specs.Operation.{meaning_of};
 ghost use Rattle.auth_store_ledger.specs.Batch as words;
 ghost use Rattle.auth_store_ledger.specs.History as spec;
 ghost use Rattle.auth_store_ledger.specs.Map.{value_at};
+ghost use Rattle.auth_store_parts.specs.Places.{places_of};
 ghost use Rattle.auth_store_log.specs.Records.{format_of, log_bytes, AreRecorded};
 ghost use Rattle.auth_store_ledger.specs.Store.{IsChunkWidth, Keeps, HasValueAt, commit_count, setting_of_width, floor_of, root_of_history, commit_after};
 
@@ -18,6 +19,7 @@ pub mod root;
 use crate::batch::Batch;
 use crate::error::LedgerError;
 use crate::history;
+use auth_store_log::PlacedLog;
 use auth_store_log::laws::a_log_has_floors_within;
 use commit::{Committed, append_commit};
 use log::Log;
@@ -115,26 +117,24 @@ fn floor_of<F: Family, K: FixedKey, V: FixedValue>(operations: &[OrderedOperatio
 }
 
 impl<F: Family, H: HashFunction, K: FixedKey, V: FixedValue, const N: usize> Ledger<F, H, K, V, N> {
-    /// The history whose log these operations are. It is refused where they are more than 2^62, or out of memory.
-    pub fn of(
-        alloc: Global,
-        operations: Vec<OrderedOperation<F, K, V>>,
-    ) -> Result<Ledger<F, H, K, V, N>, LedgerError>
+    /// The history whose log this is. It is refused where the log has more than 2^62 operations, or out of memory.
+    pub fn of(alloc: Global, log: PlacedLog<F, K, V>) -> Result<Ledger<F, H, K, V, N>, LedgerError>
         requires width { IsChunkWidth N }
-        requires log { spec.meanings K.encoding V.encoding operations.items
-            ≡ spec.log_of (spec.history_of (spec.meanings K.encoding V.encoding operations.items)) }
+        requires log { spec.meanings K.encoding V.encoding log.operations.items
+            ≡ spec.log_of (spec.history_of (spec.meanings K.encoding V.encoding log.operations.items)) }
+        requires places { log.places ≡ places_of (spec.meanings K.encoding V.encoding log.operations.items) }
         ensures ok { IfOk result (λ ledger. ledger
-            ≡ spec.history_of (spec.meanings K.encoding V.encoding operations.items)) }
+            ≡ spec.history_of (spec.meanings K.encoding V.encoding log.operations.items)) }
         ensures refused { IfErr result (λ e. (e ≡ LedgerError.Memory) ⊎ ((e ≡ LedgerError.NumberEnded)
-            × (2 ^ 62 < length operations.items))) }
+            × (2 ^ 62 < length log.operations.items))) }
     {
+        let PlacedLog { operations, places } = log;
         if operations.len() as u64 > MAX_OPERATIONS {
             return Err(LedgerError::NumberEnded);
         }
         let commits = commits_of(&operations);
         let floor = floor_of(&operations);
-        let mut log = Log::new(alloc);
-        log.append(operations)?;
+        let log = Log::of(alloc, operations, places)?;
         let root = root_of_log::<F, H, K, V, N>(alloc, &log, floor)?;
         Ok(Ledger {
             alloc,

@@ -4,9 +4,8 @@ use Rattle.std.specs.List.{list_any}
 use Rattle.state_ops.specs.Operation.{Operation, commit_floor}
 use Rattle.auth_store_parts.specs.History.{is_commit}
 
--- of these operations the first batch, the metadata of its commit, and what comes behind
-pub record IsNextBatch (batch : List Operation) (metadata : Option (List ℕ)) (later operations : List Operation)
-    : Type 0 where
-  pub floor : ℕ
+-- of these operations the first batch, the floor that its commit records, and what comes behind
+pub record IsNextBatch (batch : List Operation) (floor : ℕ) (later operations : List Operation) : Type 0 where
+  pub metadata : Option (List ℕ)
   pub whole : operations ≡ batch ++ commit_floor metadata floor ∷ later
   pub before_commit : list_any is_commit batch ≡ false

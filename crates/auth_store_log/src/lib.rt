@@ -2,7 +2,6 @@
 //! appended is durable or wholly lost.
 #![tactic(auto)]
 
-mod anew;
 pub mod append;
 pub mod encoding;
 pub mod error;
@@ -16,5 +15,5 @@ pub use append::append_batch;
 pub use encoding::bytes_of;
 pub use error::LogError;
 pub use opening::recover;
-pub use operations::{operations_of, read_operation};
-pub use replay::is_log_of_a_history;
+pub use operations::{PlacedLog, operations_of, read_operation};
+pub use replay::places_of_log;

@@ -8,13 +8,15 @@ ghost use Rattle.paged_blob.specs.Writers.{written, IsWriter};
 ghost use Rattle.state_ops.specs.Operation.{Operation, meaning_of};
 ghost use Rattle.state_ops.specs.Reading.{OperationLacks};
 ghost use Rattle.auth_store_parts.specs.History as history;
+ghost use Rattle.auth_store_parts.specs.Places.{places_of};
 ghost use Rattle.auth_store_log.specs.Causes.{AreNamed, IsRecordCause, failures_after_reading};
 ghost use Rattle.auth_store_log.specs.Records.{format_of, record_size, record_of, log_bytes, history_bytes};
 ghost use Rattle.auth_store_log.specs.Records.{IsRecorded, AreRecorded, IsNoLog};
 
 use crate::error::LogError;
 use crate::records::record_len;
-use crate::replay::is_log_of_a_history;
+use crate::replay::places_of_log;
+use auth_store_parts::history::Places;
 use fault_storage::Checksum;
 use merkle_forest::Family;
 use merkle_forest::codec::{Cursor, Error as Fault};
@@ -81,30 +83,41 @@ fn read_all<F: Family, K: FixedKey, V: FixedValue>(
     Ok(log)
 }
 
-/// The operations of a log, from all of its bytes: they are the log of a history, which has states. Where no history
-/// has a log of these bytes: Corrupt. Otherwise it fails only when out of memory.
+/// The operations of the log of a history, and where the updates stand among them that give keys their values (own).
+#[derive(Drop)]
+pub struct PlacedLog<F: Family, K: FixedKey, V: FixedValue> {
+    /// The operations, the first of the log first.
+    pub operations: Vec<OrderedOperation<F, K, V>>,
+    /// The places of the keys that are there.
+    pub places: Places<K>,
+}
+
+/// The operations of a log, from all of its bytes, with their places: they are the log of a history, which has states.
+/// Where no history has a log of these bytes: Corrupt. Otherwise it fails only when out of memory.
 pub fn operations_of<F: Family, K: FixedKey, V: FixedValue>(
     alloc: Global,
     bytes: &[u8],
-) -> Result<Vec<OrderedOperation<F, K, V>>, LogError>
-    ensures bytes { IfOk result (λ log. log_bytes K.SIZE V.SIZE (history.meanings K.encoding V.encoding log.items)
-        ≡ bytes.now) }
+) -> Result<PlacedLog<F, K, V>, LogError>
+    ensures bytes { IfOk result (λ log. log_bytes K.SIZE V.SIZE
+        (history.meanings K.encoding V.encoding log.operations.items) ≡ bytes.now) }
     ensures recorded { IfOk result (λ log. AreRecorded (format_of (K.after tt) (V.after tt) K.SIZE V.SIZE)
-        (history.meanings K.encoding V.encoding log.items)) }
-    ensures whole { IfOk result (λ log. history.meanings K.encoding V.encoding log.items
-        ≡ history.log_of (history.history_of (history.meanings K.encoding V.encoding log.items))) }
+        (history.meanings K.encoding V.encoding log.operations.items)) }
+    ensures whole { IfOk result (λ log. history.meanings K.encoding V.encoding log.operations.items
+        ≡ history.log_of (history.history_of (history.meanings K.encoding V.encoding log.operations.items))) }
+    ensures places { IfOk result (λ log. log.places
+        ≡ places_of (history.meanings K.encoding V.encoding log.operations.items)) }
     ensures states { IfOk result (λ log. history.AreStates
-        (history.history_of (history.meanings K.encoding V.encoding log.items))) }
+        (history.history_of (history.meanings K.encoding V.encoding log.operations.items))) }
     ensures corrupt { IfErr result (λ e. e ≡ LogError.Corrupt → (past : history.History) → history.AreStates past
         → AreRecorded (format_of (K.after tt) (V.after tt) K.SIZE V.SIZE) (history.log_of past)
         → history_bytes (format_of (K.after tt) (V.after tt) K.SIZE V.SIZE) past ≡ bytes.now → ⊥) }
     ensures memory { IfErr result (λ e. (e ≡ LogError.Refused Error.Memory) ⊎ (e ≡ LogError.Corrupt)) }
 {
-    let log = read_all(alloc, bytes)?;
-    if !is_log_of_a_history(alloc, &log)? {
+    let operations = read_all(alloc, bytes)?;
+    let Some(places) = places_of_log(alloc, &operations)? else {
         return Err(LogError::Corrupt);
-    }
-    Ok(log)
+    };
+    Ok(PlacedLog { operations, places })
 }
 
 // Where the record at an index stands in a log of so many bytes, and how many bytes it has. None where the log ends

@@ -1,26 +1,35 @@
 //! Whether operations are the log of a history.
+//!
+//! The log is gone over from commit to commit. The operations of a batch tell the state that they lead to; they are those
+//! of a history only where they are what leads there from the state before, and where the commit records the floor of the
+//! log with them. So neither the states nor the log are walked for a small batch, and the first one is looked at where it
+//! stands, with no state made of it unless others come behind.
+//!
+//!     commit ┊ update a  update c  commit ┊ delete a  update c  commit
+//!            ┊  from [] to {a, c}  floor  ┊  from {a, c} to {c}  floor
 
-ghost use Rattle.std.specs.Prelude.{◌≡◌, false, [], option_map, IfOk, MatchOption};
+ghost use Rattle.std.specs.Prelude.{◌≡◌, false, [], None, option_map, IfOk, OnOk, IsFalse, MatchOption};
 ghost use Rattle.std.specs.Bool.{Decides};
 ghost use Rattle.std.specs.List.{list_any};
-ghost use Rattle.state_ops.specs.Operation.{meaning_of, fields_of};
+ghost use Rattle.state_ops.specs.Operation.{commit_floor, meaning_of, fields_of};
 ghost use Rattle.auth_store_parts.specs.Map.{state_of};
 ghost use Rattle.auth_store_parts.specs.History as spec;
+ghost use Rattle.auth_store_parts.specs.Places.{places_of};
 ghost use Rattle.auth_store_log.specs.Batches.{IsNextBatch};
 
-use crate::anew::LogAnew;
-use auth_store_parts::history::changes_by;
+use auth_store_parts::history::laws::one_commit_a_batch;
 use auth_store_parts::history::replay::apply_operations;
+use auth_store_parts::history::{Places, changes_by, inactivity_floor_by, is_first_batch};
 use merkle_forest::Family;
 use merkle_forest::codec::Encode;
 use state_ops::{FixedKey, FixedValue, Operation, OrderedOperation, OrderedUpdate};
 use std::alloc::{AllocError, Global};
 use std::collections::BTreeMap;
 
-// The operations of a batch, the metadata of its commit, and the operations behind that.
+// The operations of a batch, the floor that its commit records, and the operations behind that.
 type NextBatch<'a, F, K, V> = (
     &'a [OrderedOperation<F, K, V>],
-    &'a Option<V>,
+    u64,
     &'a [OrderedOperation<F, K, V>],
 );
 
@@ -30,43 +39,15 @@ fn next_batch<'a, F: Family, K: FixedKey, V: FixedValue>(
 ) -> Option<NextBatch<'a, F, K, V>>
     ensures { MatchOption result
         (list_any spec.is_commit (spec.meanings K.encoding V.encoding operations.now) ≡ false)
-        (λ batch. IsNextBatch (spec.meanings K.encoding V.encoding batch.0.now)
-        (option_map V.encoding batch.1.now) (spec.meanings K.encoding V.encoding batch.2.now)
-        (spec.meanings K.encoding V.encoding operations.now)) }
+        (λ batch. IsNextBatch (spec.meanings K.encoding V.encoding batch.0.now) batch.1
+        (spec.meanings K.encoding V.encoding batch.2.now) (spec.meanings K.encoding V.encoding operations.now)) }
 {
     for (at, operation) in operations.iter().enumerate() {
-        if let Operation::CommitFloor(metadata, _) = operation {
-            return Some((&operations[..at], metadata, &operations[at + 1..]));
+        if let Operation::CommitFloor(_, floor) = operation {
+            return Some((&operations[..at], floor.as_u64(), &operations[at + 1..]));
         }
     }
     None
-}
-
-// The log of the history that these operations stand for. It goes from commit to commit: what a batch changed is found
-// from its operations, and the state before it takes them in afterwards, unless none comes behind its commit. So
-// neither the state nor the log is walked for a small batch. It fails only when out of memory.
-fn log_anew<F: Family, K: FixedKey, V: FixedValue>(
-    alloc: Global,
-    operations: &[OrderedOperation<F, K, V>],
-) -> Result<LogAnew<F, K, V>, AllocError>
-    ensures { IfOk result (λ log. log
-        ≡ spec.log_of (spec.history_from [] [] (spec.meanings K.encoding V.encoding operations.now))) }
-{
-    let mut log = LogAnew::new(alloc)?;
-    let mut before = BTreeMap::new(alloc);
-    let mut state = BTreeMap::new(alloc);
-    let mut rest = operations;
-    while let Some((batch, metadata, later)) = next_batch(rest) {
-        apply_operations(&mut state, batch)?;
-        let changes = changes_by(alloc, &before, &state, batch)?;
-        log = log.with_commit(changes, metadata)?;
-        if later.is_empty() {
-            break;
-        }
-        apply_operations(&mut before, batch)?;
-        rest = later;
-    }
-    Ok(log)
 }
 
 // Whether two keys have one encoding.
@@ -164,18 +145,86 @@ fn is_same_log<F: Family, K: FixedKey, V: FixedValue>(
     Ok(right.is_empty())
 }
 
-/// Whether operations are the log of a history: of that which they stand for, since they can be the log of no other. It
-/// fails only when out of memory.
-pub fn is_log_of_a_history<F: Family, K: FixedKey, V: FixedValue>(
+// Whether the operation is the one that each log begins with: a commit of nothing.
+fn is_beginning<F: Family, K: FixedKey, V: FixedValue>(
+    operation: &OrderedOperation<F, K, V>,
+) -> bool
+    ensures { Decides result (meaning_of K.encoding V.encoding operation.now ≡ commit_floor None 0) }
+{
+    match operation {
+        Operation::CommitFloor(None, floor) => floor.as_u64() == 0,
+        _ => false,
+    }
+}
+
+// Whether operations are those that lead from a state, which is there twice, to the one that they lead to. The second one
+// takes them in where more come behind them. It fails only when out of memory.
+fn is_batch<F: Family, K: FixedKey, V: FixedValue>(
+    alloc: Global,
+    before: &BTreeMap<K, V>,
+    state: &mut BTreeMap<K, V>,
+    operations: &[OrderedOperation<F, K, V>],
+    is_last: bool,
+) -> Result<bool, AllocError>
+    requires { state_of K.encoding V.encoding state.old.entries ≡ state_of K.encoding V.encoding before.now.entries }
+    ensures is { let old = state_of K.encoding V.encoding before.now.entries in
+        let said = spec.meanings K.encoding V.encoding operations.now in
+        IfOk result (λ is. Decides is (said ≡ spec.batch_operations old (spec.replayed old said))) }
+    ensures led { OnOk result (IsFalse is_last → state_of K.encoding V.encoding state.new.entries
+        ≡ spec.replayed (state_of K.encoding V.encoding before.now.entries)
+        (spec.meanings K.encoding V.encoding operations.now)) }
+{
+    if before.is_empty() {
+        let is = is_first_batch(operations);
+        if !is_last {
+            apply_operations(state, operations)?;
+        }
+        return Ok(is);
+    }
+    apply_operations(state, operations)?;
+    let changes = changes_by(alloc, before, state, operations)?;
+    is_same_log(alloc, operations, &changes)
+}
+
+/// The places of the log of a history. None: the operations are the log of none. They can be the log of that history
+/// alone which they stand for. It fails only when out of memory.
+pub fn places_of_log<F: Family, K: FixedKey, V: FixedValue>(
     alloc: Global,
     operations: &[OrderedOperation<F, K, V>],
-) -> Result<bool, AllocError>
-    ensures { IfOk result (λ is. Decides is (spec.meanings K.encoding V.encoding operations.now
-        ≡ spec.log_of (spec.history_of (spec.meanings K.encoding V.encoding operations.now)))) }
+) -> Result<Option<Places<K>>, AllocError>
+    ensures { let said = spec.meanings K.encoding V.encoding operations.now in
+        IfOk result (λ found. MatchOption found (said ≡ spec.log_of (spec.history_of said) → ⊥)
+        (λ places. (said ≡ spec.log_of (spec.history_of said)) × (places ≡ places_of said))) }
 {
-    let [_, later @ ..] = operations else {
-        return Ok(false);
+    one_commit_a_batch();
+    let [first, behind @ ..] = operations else {
+        return Ok(None);
     };
-    let anew = log_anew(alloc, later)?;
-    is_same_log(alloc, operations, anew.operations())
+    if !is_beginning(first) {
+        return Ok(None);
+    }
+    let mut places = Places::new(alloc);
+    let mut floor = 0u64;
+    let mut before = BTreeMap::new(alloc);
+    let mut state = BTreeMap::new(alloc);
+    let mut rest = behind;
+    while let Some((batch, recorded, later)) = next_batch(rest) {
+        let start = operations.len() - rest.len();
+        places.follow_all(start, batch)?;
+        floor = inactivity_floor_by(&operations[..start + batch.len()], &places, floor);
+        if floor != recorded {
+            return Ok(None);
+        }
+        if !is_batch(alloc, &before, &mut state, batch, later.is_empty())? {
+            return Ok(None);
+        }
+        if !later.is_empty() {
+            apply_operations(&mut before, batch)?;
+        }
+        rest = later;
+    }
+    if rest.is_empty() {
+        return Ok(Some(places));
+    }
+    Ok(None)
 }

@@ -2,6 +2,8 @@ ghost use Rattle.auth_store_ledger.specs.Store.{IsChunkWidth};
 
 use auth_store_ledger::ledger::*;
 use auth_store_ledger::{Batch, LedgerError};
+use auth_store_log::PlacedLog;
+use auth_store_parts::history::Places;
 use merkle_forest::codec::FixedBytes;
 use merkle_forest::digest::Digest;
 use merkle_forest::{ByteHash, Graftable, Location, PendingOf, mmb, mmr};
@@ -101,7 +103,8 @@ fn empty<F: Graftable + PendingOf<FixedBytes<32>>, const N: usize>(
 {
     let mut operations = Vec::new(alloc);
     operations.push(Operation::CommitFloor(None, Location::new(0)))?;
-    Ledger::of(alloc, operations)
+    let places = Places::new(alloc);
+    Ledger::of(alloc, PlacedLog { operations, places })
 }
 
 /// Whether the ledger's root has these digits.

@@ -2,6 +2,8 @@ use auth_store_ledger::batch::Batch;
 use auth_store_ledger::client::{Claim, check};
 use auth_store_ledger::ledger::prove::*;
 use auth_store_ledger::{Ledger, LedgerError};
+use auth_store_log::PlacedLog;
+use auth_store_parts::history::Places;
 use merkle_forest::codec::FixedBytes;
 use merkle_forest::{ByteHash, Location, mmr};
 use state_ops::Operation;
@@ -16,7 +18,8 @@ type Small = Ledger<mmr::Family, ByteHash, Keys, u64, 1>;
 fn empty(alloc: Global) -> Result<Small, LedgerError> {
     let mut operations = Vec::new(alloc);
     operations.push(Operation::CommitFloor(None, Location::new(0)))?;
-    Ledger::of(alloc, operations)
+    let places = Places::new(alloc);
+    Ledger::of(alloc, PlacedLog { operations, places })
 }
 
 // The key `0000000000000061` after {put a 1} and {put c 3}: 174 bytes, which begin with the location, the chunk, the

@@ -2,7 +2,10 @@ pub mod Entries
 pub mod Neighbours
 pub mod Previous
 pub mod Batches
+pub mod FirstBatches
+pub mod Many
 pub mod Mapped
+pub mod Runs
 pub mod Numbers
 pub mod Lines
 pub mod Spellings

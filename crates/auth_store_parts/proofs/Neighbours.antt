@@ -17,7 +17,7 @@ both : (a b : Bool) → T a → T b → T (a && b)
 both true b p q = q
 both false b p q = p
 
-first : (a b : Bool) → T (a && b) → T a
+pub first : (a b : Bool) → T (a && b) → T a
 first true b p = tt
 first false b p = p
 
@@ -25,7 +25,7 @@ second : (a b : Bool) → T (a && b) → T b
 second true b p = p
 second false b p = absurd p
 
-is : (b : Bool) → T b → b ≡ true
+pub is : (b : Bool) → T b → b ≡ true
 is true t = refl
 is false t = absurd t
 
@@ -76,10 +76,14 @@ above_passed (d ∷ done) e rest sorted =
     (not_above e.0 d.0 (below_at d.0 done e rest (first _ _ sorted)))
     ∙ above_passed done e rest (second (below_all key_order d.0 (done ++ e ∷ rest)) _ sorted)
 
-pub next_behind : (done : Map) (e f : List ℕ × List ℕ) (rest : Map) → IsState (done ++ e ∷ f ∷ rest)
-    → next_key (done ++ e ∷ f ∷ rest) e.0 ≡ f.0
-next_behind done e f rest sorted = ap (λ a. first_key (a ++ (done ++ e ∷ f ∷ rest))) (above_passed done e (f ∷ rest) sorted)
+pub next_behind : (state done : Map) (e f : List ℕ × List ℕ) (rest : Map) → done ++ e ∷ f ∷ rest ≡ state → IsState state
+    → next_key state e.0 ≡ f.0
+next_behind state done e f rest at =
+    subst (λ s. IsState s → next_key s e.0 ≡ f.0) at
+    (λ sorted. ap (λ a. first_key (a ++ (done ++ e ∷ f ∷ rest))) (above_passed done e (f ∷ rest) sorted))
 
-pub next_of_last : (done : Map) (e : List ℕ × List ℕ) → IsState (done ++ e ∷ [])
-    → next_key (done ++ e ∷ []) e.0 ≡ first_key (done ++ e ∷ [])
-next_of_last done e sorted = ap (λ a. first_key (a ++ (done ++ e ∷ []))) (above_passed done e [] sorted)
+pub next_of_last : (state done : Map) (e : List ℕ × List ℕ) → done ++ e ∷ [] ≡ state → IsState state
+    → next_key state e.0 ≡ first_key state
+next_of_last state done e at =
+    subst (λ s. IsState s → next_key s e.0 ≡ first_key s) at
+    (λ sorted. ap (λ a. first_key (a ++ (done ++ e ∷ []))) (above_passed done e [] sorted))

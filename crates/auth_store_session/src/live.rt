@@ -101,8 +101,8 @@ where
         (content (B.calls blob.old))))) }
 {
     let (writer, bytes) = recover::<F, K, V, B, Crc32>(alloc, blob, cache, blob_size, capacity)?;
-    let operations = operations_of::<F, K, V>(alloc, &bytes)?;
-    let ledger = Ledger::of(alloc, operations)?;
+    let log = operations_of::<F, K, V>(alloc, &bytes)?;
+    let ledger = Ledger::of(alloc, log)?;
     Ok(Live { ledger, writer })
 }
 

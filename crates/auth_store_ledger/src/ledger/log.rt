@@ -57,16 +57,22 @@ fn encodings_of<F: Family, K: FixedKey, V: FixedValue>(
 }
 
 impl<F: Family, K: FixedKey, V: FixedValue> Log<F, K, V> {
-    /// A log of no operations.
-    pub fn new(alloc: Global) -> Log<F, K, V>
-        ensures { result ≡ [] }
+    /// A log of these operations, whose places these are. It fails only when out of memory.
+    pub fn of(
+        alloc: Global,
+        operations: Vec<OrderedOperation<F, K, V>>,
+        places: Places<K>,
+    ) -> Result<Log<F, K, V>, AllocError>
+        requires { places ≡ places_of (meanings K.encoding V.encoding operations.items) }
+        ensures { IfOk result (λ log. log ≡ meanings K.encoding V.encoding operations.items) }
     {
-        Log {
+        let encodings = encodings_of(alloc, &operations)?;
+        Ok(Log {
             alloc,
-            operations: Vec::new(alloc),
-            encodings: Vec::new(alloc),
-            places: Places::new(alloc),
-        }
+            operations,
+            encodings,
+            places,
+        })
     }
 
     /// How many operations there are.

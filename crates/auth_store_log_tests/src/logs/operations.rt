@@ -34,7 +34,7 @@ fn first_entries() -> [Entry; 3] {
 }
 
 fn read(alloc: Global, bytes: &[u8]) -> Result<Vec<Entry>, LogError> {
-    operations_of(alloc, bytes)
+    Ok(operations_of(alloc, bytes)?.operations)
 }
 
 // The first log with these bytes behind it.

@@ -5,8 +5,10 @@ use Rattle.std.proofs.lemmas.Map.Lookups.{exact_bytes}
 use Rattle.std.proofs.lemmas.Cmp.{nat_list_cmp_total}
 use Rattle.std.specs.declared.cmp.Ordering.{Ordering}
 use Rattle.std.specs.declared.cmp.Ordering.TheVariants.{Less, Equal, Greater}
-use Rattle.std.specs.Cmp.{tied_itself}
-use Rattle.std.specs.Ordering.{match_ordering, is_lt, is_eq}
+use Rattle.std.specs.Cmp.{IsTotalOrder, tied_itself}
+use Rattle.std.specs.Ordering.{match_ordering, is_lt, is_eq, eq_by_cmp}
+use Rattle.std.specs.BTreeMap.{insert_entry, is_at}
+use Rattle.std.specs.Map.{lookup}
 use Rattle.std.specs.FinMap.Entries.{by_order, find, put, below_all, is_sorted-put, find-put}
 use Rattle.auth_store_parts.specs.Map.{Map, with_entry, without_key, value_at, key_order}
 use Rattle.auth_store_parts.specs.History.{IsState}
@@ -43,30 +45,41 @@ exact q k e = exact_bytes q k (equal (key_order q k) e)
 pub same_self : (q : List ℕ) → same q q ≡ true
 same_self q = ap is_eq (tied_itself nat_list_cmp_total q)
 
-pub value_at-find : (q : List ℕ) (s : Map) → value_at s q ≡ find key_order q s
-value_at-find q [] = refl
-value_at-find q (e ∷ s) = ap (λ r. cond (same q e.0) (Some e.1) r) (value_at-find q s)
+-- entries in the order of their keys, in the words of the kit's maps
+lookup-find : {K X : Type 0} (cmp : K → K → Ordering) (q : K) (es : List (K × X))
+    → lookup (is_at (cmp q)) es ≡ find cmp q es
+lookup-find cmp q [] = refl
+lookup-find cmp q (e ∷ es) = ap (λ r. cond (eq_by_cmp cmp q e.0) (Some e.1) r) (lookup-find cmp q es)
 
-with_entry-put : (s : Map) (k v : List ℕ) → with_entry s k v ≡ put key_order k v s
-with_entry-put [] k v = refl
-with_entry-put (e ∷ s) k v =
-    elim (key_order k e.0) as (λ o. match_ordering o ((k, v) ∷ e ∷ s) ((e.0, v) ∷ s) (e ∷ with_entry s k v) ≡ by_order o
-    ((k, v) ∷ e ∷ s) ((e.0, v) ∷ s) (e ∷ put key_order k v s)) [
+insert_entry-put : {K X : Type 0} (cmp : K → K → Ordering) (es : List (K × X)) (k : K) (v : X)
+    → insert_entry cmp es k v ≡ put cmp k v es
+insert_entry-put cmp [] k v = refl
+insert_entry-put cmp (e ∷ es) k v =
+    elim (cmp k e.0) as (λ o. match_ordering o ((k, v) ∷ e ∷ es) ((e.0, v) ∷ es) (e ∷ insert_entry cmp es k v)
+    ≡ by_order o ((k, v) ∷ e ∷ es) ((e.0, v) ∷ es) (e ∷ put cmp k v es)) [
       | Less ↦ refl
       | Equal ↦ refl
-      | Greater ↦ ap (λ r. e ∷ r) (with_entry-put s k v)
+      | Greater ↦ ap (λ r. e ∷ r) (insert_entry-put cmp es k v)
     ]
 
+-- what a key has after an entry was put in
+pub lookup-insert_entry : {K X : Type 0} (cmp : K → K → Ordering) → IsTotalOrder cmp
+    → (es : List (K × X)) (k : K) (v : X) (q : K)
+    → lookup (is_at (cmp q)) (insert_entry cmp es k v) ≡ cond (eq_by_cmp cmp q k) (Some v) (lookup (is_at (cmp q)) es)
+lookup-insert_entry cmp total es k v q =
+    lookup-find cmp q (insert_entry cmp es k v) ∙ (ap (find cmp q) (insert_entry-put cmp es k v)
+    ∙ (find-put cmp total q k v es ∙ ap (λ r. cond (eq_by_cmp cmp q k) (Some v) r) (sym (lookup-find cmp q es))))
+
+pub value_at-find : (q : List ℕ) (s : Map) → value_at s q ≡ find key_order q s
+value_at-find q s = lookup-find key_order q s
+
 pub IsState-with_entry : (s : Map) (k v : List ℕ) → IsState s → IsState (with_entry s k v)
-IsState-with_entry s k v h = subst IsState (sym (with_entry-put s k v))
+IsState-with_entry s k v h = subst IsState (sym (insert_entry-put key_order s k v))
     (is_sorted-put key_order nat_list_cmp_total k v s h)
 
 pub value_at-with_entry : (s : Map) (k v q : List ℕ) → value_at (with_entry s k v) q ≡ cond (same q k) (Some v)
     (value_at s q)
-value_at-with_entry s k v q =
-    value_at-find q (with_entry s k v) ∙ (ap (find key_order q) (with_entry-put s k v)
-    ∙ (find-put key_order nat_list_cmp_total q k v s ∙ ap (λ r. cond (same q k) (Some v) r)
-    (sym (value_at-find q s))))
+value_at-with_entry s k v q = lookup-insert_entry key_order nat_list_cmp_total s k v q
 
 below_none : (x : List ℕ) (s : Map) → T (below_all key_order x s) → value_at s x ≡ None
 below_none x [] h = refl

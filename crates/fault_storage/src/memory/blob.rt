@@ -299,6 +299,13 @@ impl Blob {
         Ok(())
     }
 
+    /// The live bytes, those of the header first (own).
+    pub fn live(&self) -> &[u8]
+        ensures { result.now ≡ self.now.live }
+    {
+        &self.live
+    }
+
     /// A copy of the live bytes, those of the header first. None: the blob is gone. It fails only when out of memory.
     pub fn copy_live(&self, storage: &Storage) -> Result<Option<Vec<u8>>, AllocError>
         ensures ok { IfOk result (λ live. MatchOption live (is_there self.now.number storage.now ≡ false)

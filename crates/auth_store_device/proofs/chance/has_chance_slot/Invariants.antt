@@ -6,4 +6,4 @@ use Rattle.auth_store_device.proofs.chance.has_chance_slot.Given as goal
 
 abbrev pub invariant-loop-page : goal.invariant-loop-page
 invariant-loop-page g l =
-    l.is_found ≡ has_chance_slot g.C.Checksum.checksum_of l.size (file_from (shown_file l.since.base.now) l.since.calls.now) l.shown l.page
+    l.is_found ≡ has_chance_slot g.C.Checksum.checksum_of l.size (file_from (shown_file l.since.base.now) l.since.calls) l.shown l.page

@@ -7,7 +7,7 @@ use Rattle.auth_store_device.proofs.chance.is_chance_slot.Goals as goal
 
 pub returns-then-not-verifies : goal.returns-then-not-verifies
 returns-then-not-verifies g c =
-    let file : File = file_from (shown_file c.args.since.now.base.now) c.args.since.now.calls.now in
+    let file : File = file_from (shown_file c.args.since.now.base.now) c.args.since.now.calls in
     let some : 0 < c.args.size = omega (arith, c.requires.size) in
     let here = c.page_at-here.ensures in
     let long : length c.page_at-here.result.now ≡ c.args.size = ap length here ∙ page-long c.args.size c.args.page c.args.shown.now some c.requires.page in
@@ -15,7 +15,7 @@ returns-then-not-verifies g c =
 
 pub returns : goal.returns
 returns g c =
-    let file : File = file_from (shown_file c.args.since.now.base.now) c.args.since.now.calls.now in
+    let file : File = file_from (shown_file c.args.since.now.base.now) c.args.since.now.calls in
     let some : 0 < c.args.size = omega (arith, c.requires.size) in
     let here = c.page_at-here.ensures in
     let long : length c.page_at-here.result.now ≡ c.args.size = ap length here ∙ page-long c.args.size c.args.page c.args.shown.now some c.requires.page in

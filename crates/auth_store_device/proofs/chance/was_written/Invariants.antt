@@ -5,7 +5,7 @@ use Rattle.auth_store_device.specs.Devices.{shown_file}
 use Rattle.auth_store_device.specs.OpeningsCode.{file_from}
 use Rattle.auth_store_device.proofs.chance.was_written.Given as goal
 
-abbrev pub invariant-loop-call : goal.invariant-loop-call
-invariant-loop-call l = let sofar = file_from (shown_file l.since.base.now) (take l.call-index l.since.calls.now) in
+abbrev pub invariant-loop-place : goal.invariant-loop-place
+invariant-loop-place l = let sofar = file_from (shown_file l.since.base.now) (take l.place l.since.calls) in
     (l.file.items ≡ whole sofar.base sofar.changes)
     × (l.is_found ≡ was_written (length l.shown) l.page l.slot l.shown sofar.base sofar.changes)

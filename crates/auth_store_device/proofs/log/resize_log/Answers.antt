@@ -1,6 +1,6 @@
 use Rattle.std.proofs.Common.{rules, ◌≡◌, ◌∷◌, true, false}
 use Rattle.paged_blob.specs.Calls.{resized_to}
-use Rattle.paged_blob.specs.Recorded.{calls_of}
+use Rattle.auth_store_device.specs.Records.{calls_of}
 use Rattle.auth_store_device.specs.Devices.{told_of}
 use Rattle.auth_store_device.proofs.Changes.{resize_made, resize_failed}
 use Rattle.auth_store_device.specs.declared.log.Told.TheVariants.{Made, Failed}
@@ -9,15 +9,15 @@ use Rattle.auth_store_device.proofs.log.resize_log.Goals as goal
 pub returns-in-Made-clause-stands : goal.returns-in-Made-clause-stands
 returns-in-Made-clause-stands g c =
     let told : told_of c.resize.result ≡ Made = search rules in
-    let recorded : calls_of c.note.new.record_kept.items ≡ resized_to c.args.len true ∷ calls_of c.args.record_kept.now.items =
+    let recorded : calls_of c.note_resize.new.self ≡ resized_to c.args.len true ∷ calls_of c.args.record_kept.now =
     search rules in
     resize_made g.R.Rng.stream c.args.log.now c.resize.new.self c.args.len c.args.storage.now c.resize.new.storage c.resize.result
-    (calls_of c.args.record_kept.now.items) (calls_of c.note.new.record_kept.items) (search rules) told recorded c.requires.stands
+    (calls_of c.args.record_kept.now) (calls_of c.note_resize.new.self) (search rules) told recorded c.requires.stands
 
 pub returns-in-Failed-clause-stands : goal.returns-in-Failed-clause-stands
 returns-in-Failed-clause-stands g c =
     let told : told_of c.resize.result ≡ Failed = search rules in
-    let recorded : calls_of c.note-in-Failed.new.record_kept.items ≡ resized_to c.args.len false ∷ calls_of c.args.record_kept.now.items =
+    let recorded : calls_of c.note_resize-in-Failed.new.self ≡ resized_to c.args.len false ∷ calls_of c.args.record_kept.now =
     search rules in
     resize_failed g.R.Rng.stream c.args.log.now c.resize.new.self c.args.len c.args.storage.now c.resize.new.storage c.resize.result
-    (calls_of c.args.record_kept.now.items) (calls_of c.note-in-Failed.new.record_kept.items) (search rules) told recorded c.requires.stands
+    (calls_of c.args.record_kept.now) (calls_of c.note_resize-in-Failed.new.self) (search rules) told recorded c.requires.stands

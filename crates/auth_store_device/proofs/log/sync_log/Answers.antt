@@ -1,7 +1,7 @@
 use Rattle.std.proofs.Common.{rules, ◌≡◌, ◌∷◌, ◌∙◌, true}
 use Rattle.fault_storage.specs.Stores.{has_number, is_there}
 use Rattle.paged_blob.specs.Calls.{synced}
-use Rattle.paged_blob.specs.Recorded.{calls_of}
+use Rattle.auth_store_device.specs.Records.{calls_of}
 use Rattle.auth_store_device.specs.declared.log.Told.TheVariants.{Made}
 use Rattle.auth_store_device.specs.Devices.{told_of}
 use Rattle.auth_store_device.specs.Logs.{behind_header, is_log}
@@ -12,16 +12,10 @@ use Rattle.auth_store_device.proofs.log.sync_log.Goals as goal
 pub returns-in-Made-clause-stands : goal.returns-in-Made-clause-stands
 returns-in-Made-clause-stands g c =
     let told : told_of c.sync.result ≡ Made = search rules in
-    let recorded : calls_of c.note.new.record_kept.items ≡ synced (behind_header c.args.log.now.inner.live) true ∷ calls_of c.args.record_kept.now.items =
+    let recorded : calls_of c.note_sync.new.self ≡ synced (behind_header c.args.log.now.inner.live) true ∷ calls_of c.args.record_kept.now =
     search rules in
     sync_made g.R.Rng.stream c.args.storage.now.config.sync c.args.log.now.inner c.args.storage.now c.sync.new.storage c.sync.result
-    (calls_of c.args.record_kept.now.items) (calls_of c.note.new.record_kept.items) c.sync.ensures told recorded c.requires.stands
-
--- the log that is open is among the files
-pub copy_live-requires : goal.copy_live-requires
-copy_live-requires g c =
-    let opened = c.requires.stands.opened in
-    any-first (has_number c.args.log.now.inner.number) is_log c.args.storage.now.inner.files opened.first ∙ opened.there
+    (calls_of c.args.record_kept.now) (calls_of c.note_sync.new.self) c.sync.ensures told recorded c.requires.stands
 
 pub returns-in-Unmade-clause-passes : goal.returns-in-Unmade-clause-passes
 returns-in-Unmade-clause-passes g c =

@@ -1,6 +1,6 @@
 use Rattle.std.proofs.Common.{rules, ◌≡◌, ◌∷◌, true, false}
 use Rattle.paged_blob.specs.Calls.{wrote}
-use Rattle.paged_blob.specs.Recorded.{calls_of}
+use Rattle.auth_store_device.specs.Records.{calls_of}
 use Rattle.paged_blob.specs.WriteModes.{is_sync}
 use Rattle.auth_store_device.specs.Devices.{told_of}
 use Rattle.auth_store_device.proofs.Changes.{write_made, write_failed}
@@ -10,19 +10,19 @@ use Rattle.auth_store_device.proofs.log.write_log.Goals as goal
 pub returns-in-Made-clause-stands : goal.returns-in-Made-clause-stands
 returns-in-Made-clause-stands g c =
     let told : told_of c.write_at.result ≡ Made = search rules in
-    let recorded : calls_of c.note.new.record_kept.items ≡ wrote c.args.offset c.args.bytes.now
-    (is_sync c.args.mode) true ∷ calls_of c.args.record_kept.now.items =
+    let recorded : calls_of c.note_write.new.self ≡ wrote c.args.offset c.args.bytes.now
+    (is_sync c.args.mode) true ∷ calls_of c.args.record_kept.now =
     search rules in
     write_made g.R.Rng.stream c.args.log.now c.write_at.new.self c.args.offset c.args.bytes.now c.args.mode c.args.storage.now c.write_at.new.storage
     c.write_at.result
-    (calls_of c.args.record_kept.now.items) (calls_of c.note.new.record_kept.items) (search rules) told recorded c.requires.stands
+    (calls_of c.args.record_kept.now) (calls_of c.note_write.new.self) (search rules) told recorded c.requires.stands
 
 pub returns-in-Failed-clause-stands : goal.returns-in-Failed-clause-stands
 returns-in-Failed-clause-stands g c =
     let told : told_of c.write_at.result ≡ Failed = search rules in
-    let recorded : calls_of c.note-in-Failed.new.record_kept.items ≡ wrote c.args.offset c.args.bytes.now
-    (is_sync c.args.mode) false ∷ calls_of c.args.record_kept.now.items =
+    let recorded : calls_of c.note_write-in-Failed.new.self ≡ wrote c.args.offset c.args.bytes.now
+    (is_sync c.args.mode) false ∷ calls_of c.args.record_kept.now =
     search rules in
     write_failed g.R.Rng.stream c.args.log.now c.write_at.new.self c.args.offset c.args.bytes.now c.args.mode c.args.storage.now
     c.write_at.new.storage c.write_at.result
-    (calls_of c.args.record_kept.now.items) (calls_of c.note-in-Failed.new.record_kept.items) (search rules) told recorded c.requires.stands
+    (calls_of c.args.record_kept.now) (calls_of c.note_write-in-Failed.new.self) (search rules) told recorded c.requires.stands

@@ -1,8 +1,8 @@
-use Rattle.std.proofs.Common.{◌≡◌, ◌∙◌, ◌+◌, ◌++◌, ◌∷◌, false, refl, ap, sym, take, drop, List, ℕ, Option}
+use Rattle.std.proofs.Common.{◌≡◌, ◌∙◌, ◌+◌, ◌++◌, ◌∷◌, false, refl, ap, sym, take, drop, List, ℕ, Option, option_map}
 use Rattle.std.proofs.lemmas.List.{take_rest}
 use Rattle.merkle_forest.specs.declared.location.Location as location
 use Rattle.state_ops_parts.specs.declared.operation.Operation.TheVariants.{Delete, Update, CommitFloor}
-use Rattle.state_ops.specs.Operation.{Operation, Code, meaning_of}
+use Rattle.state_ops.specs.Operation.{Operation, Code, meaning_of, commit_floor}
 use Rattle.auth_store_parts.specs.History as spec
 use Rattle.auth_store_log.proofs.Batches.{cut_at, no_commit_more}
 use Rattle.auth_store_log.proofs.replay.next_batch.Goals as goal
@@ -24,12 +24,14 @@ returns-in-CommitFloor g c =
     let all = c.args.operations.now in
     let at = c.loop-at.at in
     let before : List Operation = spec.meanings key value (take at all) in
+    let behind : List Operation = spec.meanings key value (drop (at + 1) all) in
+    let metadata = option_map value c.in-CommitFloor.field-0 in
     record {
-      floor = c.in-CommitFloor.field-1;
+      metadata = metadata;
       whole = cut_at meaning all at c.index-operations-at.result c.loop-at-test.true c.index-operations-at.is
-          ∙ ap (λ o. before ++ meaning o ∷ spec.meanings key value (drop (at + 1) all)) c.in-CommitFloor.is
-          ∙ ap (λ l. before ++ meaning (CommitFloor c.in-CommitFloor.metadata c.in-CommitFloor.field-1)
-          ∷ spec.meanings key value l)
+          ∙ ap (λ o. before ++ meaning o ∷ behind) c.in-CommitFloor.is
+          ∙ ap (λ f. before ++ commit_floor metadata f ∷ behind) (sym c.as_u64.ensures)
+          ∙ ap (λ l. before ++ commit_floor metadata c.as_u64.result ∷ spec.meanings key value l)
           (sym (take_rest all (at + 1)));
       before_commit = c.loop-at.invariant;
     }

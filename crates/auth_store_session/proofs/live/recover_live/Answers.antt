@@ -26,10 +26,10 @@ returns-in_err-ledger-clause-refused g c =
     let Refused : StoreError → Type 0 = IsOpenRefusal (g.B.Blob.failures c.args.blob.now) (g.B.Blob.failures c.recover.new.blob)
     (EndsOpening size (g.K.FixedSize.SIZE, g.V.FixedSize.SIZE) c.args.cache.now.next_id (length shown))
     (IsNoHistory format (recovered_log format crc32 size shown)) in
-    let ops = meanings g.K.Write.encoding g.V.Write.encoding c.in_ok-operations.operations.items in
-    let count = length-map c.in_ok-operations.operations.items (meaning_of g.K.Write.encoding g.V.Write.encoding) in
-    let long = log_long format ops c.in_ok-operations.ensures.recorded in
-    let bytes = ap length c.in_ok-operations.ensures.bytes in
+    let ops = meanings g.K.Write.encoding g.V.Write.encoding c.in_ok-log.log.operations.items in
+    let count = length-map c.in_ok-log.log.operations.items (meaning_of g.K.Write.encoding g.V.Write.encoding) in
+    let long = log_long format ops c.in_ok-log.ensures.recorded in
+    let bytes = ap length c.in_ok-log.ensures.bytes in
     let p = err_from_is_err_and c.from_residual-in_err-ledger.result c.from_residual-in_err-ledger.ensures.1 in
     subst (λ r. IfErr r Refused) (sym p.1)
     (subst Refused (sym p.2)
@@ -42,10 +42,10 @@ pub returns-clause-live : goal.returns-clause-live
 returns-clause-live g c =
     let format : Format = format_of (g.K.Read.after tt) (g.V.Read.after tt) g.K.FixedSize.SIZE g.V.FixedSize.SIZE in
     let list : List ℕ = c.in_ok-writer.bytes.items in
-    let ops : List Operation = meanings g.K.Write.encoding g.V.Write.encoding c.in_ok-operations.operations.items in
-    let log : ops ≡ log_of c.in_ok-ledger.ledger = c.in_ok-operations.ensures.whole ∙ ap log_of (sym c.in_ok-ledger.ensures.ok) in
+    let ops : List Operation = meanings g.K.Write.encoding g.V.Write.encoding c.in_ok-log.log.operations.items in
+    let log : ops ≡ log_of c.in_ok-ledger.ledger = c.in_ok-log.ensures.whole ∙ ap log_of (sym c.in_ok-ledger.ensures.ok) in
     let bytes : list ≡ history_bytes format c.in_ok-ledger.ledger = sym c.deref.ensures.value
-    ∙ (sym c.in_ok-operations.ensures.bytes ∙ ap (log_bytes g.K.FixedSize.SIZE g.V.FixedSize.SIZE) log) in
+    ∙ (sym c.in_ok-log.ensures.bytes ∙ ap (log_bytes g.K.FixedSize.SIZE g.V.FixedSize.SIZE) log) in
     record {
       writer = c.in_ok-writer.ensures.writer;
       content = c.in_ok-writer.ensures.content ∙ bytes;
@@ -53,7 +53,7 @@ returns-clause-live g c =
       sized = c.in_ok-writer.ensures.page_size ∙ ap (λ (k : Cache). k.page_size + 12) (sym c.recover.ensures.same);
       named = c.in_ok-writer.ensures.name.1;
       cached = subst (λ l. HoldsPagesOf l c.recover.new.cache c.in_ok-writer.writer.blob_id) bytes c.in_ok-writer.ensures.cached;
-      recorded = subst (AreRecorded format) log c.in_ok-operations.ensures.recorded;
+      recorded = subst (AreRecorded format) log c.in_ok-log.ensures.recorded;
     }
 
 pub returns-clause-cache : goal.returns-clause-cache

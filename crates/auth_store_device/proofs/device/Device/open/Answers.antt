@@ -1,7 +1,7 @@
 use Rattle.std.proofs.Common.{rules, ◌≡◌, ◌∷◌, ◌<◌, ◌∙◌, Some, Ok, Err, inl, ap, subst, sym}
 use Rattle.paged_blob.specs.Calls.{opened, file_of}
 use Rattle.paged_blob.specs.Images.{IsImage}
-use Rattle.paged_blob.specs.Recorded.{calls_of}
+use Rattle.auth_store_device.specs.Records.{calls_of}
 use Rattle.auth_store_device.specs.Logs.{behind_header, durable_log, log_of, HasOwnHeader}
 use Rattle.auth_store_device.specs.Devices.{DeviceState, stopped_opening}
 use Rattle.auth_store_device.proofs.Steps.{draws_opening, durable_image, opened_device, own_refused, stopped_ended, stopped_number, tells_err, tells_ok}
@@ -15,16 +15,16 @@ returns-in-Err-clause-ended g c = λ has.
 pub invariant_of-self-2 : goal.invariant_of-self-2
 invariant_of-self-2 g c =
     let at = c.self.inside in
-    let recorded : calls_of c.note.new.record_kept.items ≡ opened (behind_header
-    (durable_log at.storage.inner)) ∷ calls_of at.record_kept.items = search rules in
+    let recorded : calls_of c.note_opening.new.self ≡ opened (behind_header
+    (durable_log at.storage.inner)) ∷ calls_of at.record_kept = search rules in
     let cut : 0 < at.refused → c.left_after_opening-self-inside.result ≡ Some 0 = search rules in
-    opened_device c.open_log-answer.new.storage c.in_ok-log.log (calls_of c.note.new.record_kept.items) (calls_of at.record_kept.items)
+    opened_device c.open_log-answer.new.storage c.in_ok-log.log (calls_of c.note_opening.new.self) (calls_of at.record_kept)
     (behind_header (durable_log at.storage.inner)) c.left_after_opening-self-inside.result at.refused (search rules) recorded cut
 
 pub returns-clause-records : goal.returns-clause-records
 returns-clause-records g c =
     let at = c.self.inside in
-    let inside = durable_image (file_of (calls_of at.record_kept.items)) (log_of at.storage.inner) c.self.invariant.stands in
+    let inside = durable_image (file_of (calls_of at.record_kept)) (log_of at.storage.inner) c.self.invariant.stands in
     let image : IsImage (file_of c.args.self.now.calls) (behind_header (durable_log c.args.self.now.storage.inner)) = search (rules, inside) in
     (behind_header (durable_log c.args.self.now.storage.inner), image, search rules)
 
@@ -32,11 +32,11 @@ pub returns-clause-draw : goal.returns-clause-draw
 returns-clause-draw g c =
     let at = c.self.inside in
     let before : DeviceState g.row.R.Denot =
-    record { storage = at.storage; log = at.log; calls = calls_of at.record_kept.items; left = at.left; refused = at.refused } in
+    record { storage = at.storage; log = at.log; calls = calls_of at.record_kept; left = at.left; refused = at.refused } in
     let now : DeviceState g.row.R.Denot = record {
       storage = c.open_log-answer.new.storage;
       log = Some c.in_ok-log.log;
-      calls = calls_of c.note.new.record_kept.items;
+      calls = calls_of c.note_opening.new.self;
       left = c.left_after_opening-self-inside.result;
       refused = at.refused;
     } in
@@ -50,11 +50,11 @@ pub returns-in_err-log-clause-draw : goal.returns-in_err-log-clause-draw
 returns-in_err-log-clause-draw g c =
     let at = c.self.inside in
     let before : DeviceState g.row.R.Denot =
-    record { storage = at.storage; log = at.log; calls = calls_of at.record_kept.items; left = at.left; refused = at.refused } in
+    record { storage = at.storage; log = at.log; calls = calls_of at.record_kept; left = at.left; refused = at.refused } in
     let now : DeviceState g.row.R.Denot = record {
       storage = c.open_log-answer.new.storage;
       log = at.log;
-      calls = calls_of c.reserve.new.self.items;
+      calls = calls_of c.make_room.new.self;
       left = c.left_after_opening-self-inside.result;
       refused = at.refused;
     } in
@@ -68,7 +68,7 @@ pub returns-in_err-log-clause-own : goal.returns-in_err-log-clause-own
 returns-in_err-log-clause-own g c = λ fault own is.
     let at = c.self.inside in
     let old : DeviceState g.row.R.Denot =
-    record { storage = at.storage; log = at.log; calls = calls_of at.record_kept.items; left = at.left; refused = at.refused } in
+    record { storage = at.storage; log = at.log; calls = calls_of at.record_kept; left = at.left; refused = at.refused } in
     let same : old ≡ c.args.self.now = search rules in
     own_refused at.storage.inner fault c.self.invariant.orderly (subst (λ (s : DeviceState g.row.R.Denot). HasOwnHeader s.storage.inner) (sym same) own)
     (c.open_log-answer.ensures.header fault (search rules))

@@ -8,6 +8,6 @@ use Rattle.auth_store_device.proofs.openings.Opening.base.Goals as goal
 pub returns : goal.returns
 returns c =
     let since = c.since_base.result in
-    sym (base-from (shown_file since.base.now) since.calls.now c.since_base.ensures.calls)
+    sym (base-from (shown_file since.base.now) since.calls c.since_base.ensures.calls)
     ∙ ap (λ (f : File). f.base) (sym c.since_base.ensures.file)
     ∙ ap (λ (s : Showing). (file_of s.before).base) c.self.view_is

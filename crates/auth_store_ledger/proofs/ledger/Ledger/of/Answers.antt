@@ -7,15 +7,15 @@ use Rattle.auth_store_ledger.proofs.ledger.Ledger.of.Goals as goal
 
 pub invariant_of-result : goal.invariant_of-result
 invariant_of-result g c =
-    let ops = meanings g.K.Write.encoding g.V.Write.encoding c.args.operations.items in
-    let is : c.append.new.self ≡ ops = c.in_ok-append.ensures.ok ∙ ap (λ l. l ++ ops) c.new-log.ensures in (
+    let ops = meanings g.K.Write.encoding g.V.Write.encoding c.args.log.operations.items in
+    let is : c.in_ok-log.log ≡ ops = c.in_ok-log.ensures in (
       c.requires.width,
       record {
-        states = AreStates-history_of c.append.new.self;
+        states = AreStates-history_of c.in_ok-log.log;
         whole = is ∙ (c.requires.log ∙ ap (λ l. log_of (history_of l)) (sym is));
         commits = cc (c.commits_of-commits.ensures, c.deref.ensures.value, is);
         floor = cc (c.floor_of-floor.ensures, c.deref-2.ensures.value, is);
-        few = omega (arith, ap length is, length-map c.args.operations.items (meaning_of g.K.Write.encoding g.V.Write.encoding));
+        few = omega (arith, ap length is, length-map c.args.log.operations.items (meaning_of g.K.Write.encoding g.V.Write.encoding));
         root = c.in_ok-root.ensures;
       },
     )

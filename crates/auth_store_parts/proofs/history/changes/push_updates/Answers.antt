@@ -1,4 +1,4 @@
-use Rattle.std.proofs.Common.{◌≡◌, ◌∙◌, ◌++◌, ◌∷◌, [], List, ℕ, ap, sym, subst, append_assoc, append-nil}
+use Rattle.std.proofs.Common.{◌≡◌, ◌∙◌, ◌++◌, ◌∷◌, [], List, ℕ, ap, sym, append_assoc, append-nil}
 use Rattle.std.proofs.lemmas.Result.{on_ok_weaker}
 use Rattle.state_ops.specs.Operation.{Operation}
 use Rattle.auth_store_parts.specs.Map.{Map, state_of, first_key, next_key}
@@ -14,7 +14,7 @@ passes : (old new passed : Map) (e f : Entry) (rest : Map) (before after said : 
     → passed ++ e ∷ f ∷ rest ≡ new → spec.IsState new → after ≡ before ++ spec.update_to old e.0 e.1 f.0
     → before ++ spec.updates (e ∷ f ∷ rest) old new ≡ said → after ++ spec.updates (f ∷ rest) old new ≡ said
 passes old new passed e f rest before after said is sorted does whole =
-    let next : next_key new e.0 ≡ f.0 = subst (λ s. spec.IsState s → next_key s e.0 ≡ f.0) is (next_behind passed e f rest) sorted in
+    let next : next_key new e.0 ≡ f.0 = next_behind new passed e f rest is sorted in
     ap (λ l. l ++ spec.updates (f ∷ rest) old new) does
     ∙ (append_assoc before (spec.update_to old e.0 e.1 f.0) (spec.updates (f ∷ rest) old new)
     ∙ (ap (λ n. before ++ (spec.update_to old e.0 e.1 n ++ spec.updates (f ∷ rest) old new)) (sym next) ∙ whole))
@@ -24,8 +24,7 @@ ends : (old new passed : Map) (e : Entry) (first : List ℕ) (before after said 
     → passed ++ e ∷ [] ≡ new → spec.IsState new → first ≡ first_key new → after ≡ before ++ spec.update_to old e.0 e.1 first
     → before ++ spec.updates (e ∷ []) old new ≡ said → after ≡ said
 ends old new passed e first before after said is sorted least does whole =
-    let next : next_key new e.0 ≡ first_key new =
-    subst (λ s. spec.IsState s → next_key s e.0 ≡ first_key s) is (next_of_last passed e) sorted in
+    let next : next_key new e.0 ≡ first_key new = next_of_last new passed e is sorted in
     does ∙ (ap (λ n. before ++ spec.update_to old e.0 e.1 n) (least ∙ sym next)
     ∙ (ap (λ l. before ++ l) (sym (append-nil (spec.update_of old new e.0 e.1))) ∙ whole))
 
