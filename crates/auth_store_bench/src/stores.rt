@@ -20,43 +20,69 @@ use rand_pcg::Pcg32;
 use state_ops::OrderedOperation;
 use std::alloc::Global;
 
-type Key = FixedBytes<8>;
+/// Keys of eight bytes.
+pub type Key = FixedBytes<8>;
 
-type Measured = Store<Pcg32, mmr::Family, PlainHash, Key, u64, 1>;
+/// The stores that are measured.
+pub type Measured = Store<Pcg32, mmr::Family, PlainHash, Key, u64, 1>;
 
 // A key for each number.
 fn key_of(number: u64) -> Key {
     FixedBytes::new(number.wrapping_mul(0x9e37_79b9_7f4a_7c15).to_be_bytes())
 }
 
-// Commits as many keys as the batch has, from a number on.
+/// What a store is filled with: so many keys, in batches of so many, and all of them so many times, each time with other
+/// values.
+#[derive(Clone, Copy, Debug)]
+pub struct Filling {
+    pub keys: u64,
+    pub batch: u64,
+    pub times: u64,
+}
+
+impl Filling {
+    /// So many keys, in batches of so many, once.
+    pub fn once(keys: u64, batch: u64) -> Filling {
+        Filling {
+            keys,
+            batch,
+            times: 1,
+        }
+    }
+}
+
+// Commits as many keys as the batch has, from a number on. The value of each is its number and what is added.
 fn commit_keys(
     alloc: Global,
     store: &mut Measured,
     from: u64,
     keys: u64,
+    added: u64,
 ) -> Result<(), StoreError> {
     let mut batch = Batch::new(alloc);
     for number in from..from.saturating_add(keys) {
-        batch.put(key_of(number), number)?;
+        batch.put(key_of(number), number.wrapping_add(added))?;
     }
     store.commit(batch, None)?;
     Ok(())
 }
 
-// A device with a store of so many keys, committed in batches of so many.
-fn filled(alloc: Global, keys: u64, batch: u64) -> Result<(Device<Pcg32>, CacheRef), StoreError>
+// A device with a store that is filled so. The first time the value of a key is its number, and each time one more.
+fn filled(alloc: Global, filling: Filling) -> Result<(Device<Pcg32>, CacheRef), StoreError>
     ensures closed { IfOk result (λ r. r.0.log ≡ None) }
     ensures cache { IfOk result (λ r. IsCache r.1) }
 {
+    let Filling { keys, batch, times } = filling;
     let device = Device::empty(alloc, Pcg32::seed_from_u64(0))?;
     let cache = CacheRef::new(alloc, 4084, 1024);
     let mut store: Measured = match Store::open(alloc, device, cache, Sizes::default()) {
         Ok(store) => store,
         Err(refused) => return Err(refused.error),
     };
-    for number in 0..keys / batch.max(1) {
-        commit_keys(alloc, &mut store, number.saturating_mul(batch), batch)?;
+    for time in 0..times {
+        for number in 0..keys / batch.max(1) {
+            commit_keys(alloc, &mut store, number.saturating_mul(batch), batch, time)?;
+        }
     }
     Ok(store.into_parts())
 }
@@ -80,9 +106,9 @@ fn open_often(alloc: Global, device: Device<Pcg32>, cache: CacheRef, count: u64)
     operations
 }
 
-/// A store with so many keys, committed in batches of so many, opened so many times.
-pub fn opened(alloc: Global, keys: u64, batch: u64, count: u64) -> u64 {
-    match filled(alloc, keys, batch) {
+/// A store that is filled so, opened so many times.
+pub fn opened(alloc: Global, filling: Filling, count: u64) -> u64 {
+    match filled(alloc, filling) {
         Ok((device, cache)) => open_often(alloc, device, cache, count),
         Err(_) => 0,
     }
@@ -104,12 +130,9 @@ fn decode_all(alloc: Global, bytes: &[u8]) -> u64 {
     operations
 }
 
-// How many operations there are, and one more where the first key has a place among them.
-fn index(alloc: Global, operations: &[OrderedOperation<mmr::Family, Key, u64>]) -> u64 {
-    match Places::of(alloc, operations) {
-        Ok(places) => operations.len() as u64 + u64::from(places.get(&key_of(0)).is_some()),
-        Err(_) => 0,
-    }
+// So many operations, and one more where the first key has a place.
+fn placed(operations: usize, places: &Places<Key>) -> u64 {
+    (operations as u64).wrapping_add(u64::from(places.get(&key_of(0)).is_some()))
 }
 
 // The same of the operations of some bytes.
@@ -127,13 +150,16 @@ fn index_all(alloc: Global, bytes: &[u8]) -> u64 {
             return 0;
         }
     }
-    index(alloc, &operations)
+    match Places::of(alloc, &operations) {
+        Ok(places) => placed(operations.len(), &places),
+        Err(_) => 0,
+    }
 }
 
 // The same, where the operations are those of a history.
 fn index_checked(alloc: Global, bytes: &[u8]) -> u64 {
     match operations_of::<mmr::Family, Key, u64>(alloc, bytes) {
-        Ok(operations) => index(alloc, &operations),
+        Ok(log) => placed(log.operations.len(), &log.places),
         Err(_) => 0,
     }
 }
@@ -182,15 +208,21 @@ fn read_often(alloc: Global, device: Device<Pcg32>, cache: CacheRef, count: u64,
 }
 
 /// The log of such a store, read so many times, with what is made of it each time.
-pub fn used(alloc: Global, keys: u64, batch: u64, count: u64, used: Use) -> u64 {
-    match filled(alloc, keys, batch) {
+pub fn used(alloc: Global, filling: Filling, count: u64, used: Use) -> u64 {
+    match filled(alloc, filling) {
         Ok((device, cache)) => read_often(alloc, device, cache, count, used),
         Err(_) => 0,
     }
 }
 
-// The sum of so many values that are read, one key after the other.
-fn sum_of(store: &mut Measured, keys: u64, count: u64) -> u64 {
+/// A store that is filled so, closed and opened again.
+pub fn made(alloc: Global, filling: Filling) -> Option<Measured> {
+    let (device, cache) = filled(alloc, filling).ok()?;
+    Store::open(alloc, device, cache, Sizes::default()).ok()
+}
+
+/// The sum of so many values that are read, one key after the other.
+pub fn read(store: &mut Measured, keys: u64, count: u64) -> u64 {
     let mut sum = 0u64;
     for number in 0..count {
         if let Ok(Some(value)) = store.get(&key_of(number % keys.max(1))) {
@@ -200,13 +232,46 @@ fn sum_of(store: &mut Measured, keys: u64, count: u64) -> u64 {
     sum
 }
 
-/// A store with so many keys in one batch, of which so many values are read.
-pub fn read(alloc: Global, keys: u64, count: u64) -> u64 {
-    let Ok((device, cache)) = filled(alloc, keys, keys) else {
-        return 0;
+// The places of the keys in the log of a device.
+fn read_places(alloc: Global, device: Device<Pcg32>, cache: CacheRef) -> Option<Places<Key>>
+    requires closed { device.log ≡ None }
+    requires cache { IsCache cache }
+{
+    let mut device = device;
+    let mut cache = cache;
+    let Ok(size) = device.open() else {
+        return None;
     };
-    match Measured::open(alloc, device, cache, Sizes::default()) {
-        Ok(mut store) => sum_of(&mut store, keys, count),
-        Err(_) => 0,
+    let Ok((_, bytes)) = recover::<mmr::Family, Key, u64, Device<Pcg32>, Crc32>(
+        alloc,
+        &mut device,
+        &mut cache,
+        size,
+        Sizes::default().write_buffer,
+    ) else {
+        return None;
+    };
+    match operations_of::<mmr::Family, Key, u64>(alloc, &bytes) {
+        Ok(log) => Some(log.places),
+        Err(_) => None,
     }
+}
+
+/// The places of the keys in the log of a store that is filled so.
+pub fn index_of(alloc: Global, filling: Filling) -> Option<Places<Key>> {
+    match filled(alloc, filling) {
+        Ok((device, cache)) => read_places(alloc, device, cache),
+        Err(_) => None,
+    }
+}
+
+/// The sum of so many places that are looked up, one key after the other.
+pub fn look_up(places: &Places<Key>, keys: u64, count: u64) -> u64 {
+    let mut sum = 0u64;
+    for number in 0..count {
+        if let Some(place) = places.get(&key_of(number % keys.max(1))) {
+            sum = sum.wrapping_add(place as u64);
+        }
+    }
+    sum
 }
