@@ -127,8 +127,19 @@ impl CacheRef {
         (offset / size, offset % size)
     }
 
-    /// The content of a page, if it is kept (own).
-    pub fn page(&self, blob_id: u64, number: u64) -> Option<&[u8]>
+    // Where a page of this number is most likely kept: pages that were kept one after the other stand so, up to the last.
+    fn likely_place(&self, number: u64) -> usize {
+        match self.pages.last() {
+            Some(last) => {
+                let before = last.number.wrapping_sub(number) as usize;
+                self.pages.len().wrapping_sub(1).wrapping_sub(before)
+            }
+            None => 0,
+        }
+    }
+
+    // The content of a page, if it is kept, wherever that is.
+    fn page_anywhere(&self, blob_id: u64, number: u64) -> Option<&[u8]>
         ensures some { IfSome result (λ bytes. Contains self.now.pages
             (record { blob_id = blob_id; number = number; bytes = bytes.now })) }
         ensures none { IsNone result → (page : Page) → Contains self.now.pages page → IsElsewhere blob_id number page }
@@ -139,6 +150,20 @@ impl CacheRef {
             }
         }
         None
+    }
+
+    /// The content of a page, if it is kept (own). It is looked for where it most likely stands, and then among all pages.
+    pub fn page(&self, blob_id: u64, number: u64) -> Option<&[u8]>
+        ensures some { IfSome result (λ bytes. Contains self.now.pages
+            (record { blob_id = blob_id; number = number; bytes = bytes.now })) }
+        ensures none { IsNone result → (page : Page) → Contains self.now.pages page → IsElsewhere blob_id number page }
+    {
+        if let Some(likely) = self.pages.get(self.likely_place(number)) {
+            if is_at(likely, blob_id, number) {
+                return Some(&likely.bytes);
+            }
+        }
+        self.page_anywhere(blob_id, number)
     }
 
     // Keeps a page in place of what was kept there, and gives up the oldest where there is no room. Out of memory, it

@@ -3,7 +3,7 @@ use Rattle.paged_blob.specs.Caches.{Page}
 use Rattle.paged_blob.specs.CachesCode.{is_at, pages_of}
 use Rattle.paged_blob.specs.declared.cache.CachedPage.{CachedPage}
 use Rattle.paged_blob.proofs.Kept.{none_at}
-use Rattle.paged_blob.proofs.cache.CacheRef.page.Goals as goal
+use Rattle.paged_blob.proofs.cache.CacheRef.page_anywhere.Goals as goal
 
 pub returns-clause-none : goal.returns-clause-none
 returns-clause-none c = λ nothing.
