@@ -1,5 +1,6 @@
 //! The device, opened, written, crashed and cut.
 
+mod below;
 mod openings;
 
 use auth_store_device::{Device, OpenError};

@@ -4,6 +4,8 @@
 #[cfg(test)]
 mod device;
 #[cfg(test)]
+mod lists;
+#[cfg(test)]
 mod live;
 #[cfg(test)]
 mod run;

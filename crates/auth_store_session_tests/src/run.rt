@@ -6,7 +6,7 @@ use auth_store_session::error::StoreError;
 use auth_store_session::run::run;
 use auth_store_session::session::{Answer, Session, Step};
 use auth_store_session::sizes::Sizes;
-use fault_storage::{Config, Probability};
+use fault_storage::{Config, PartialWriteMode, Probability, WriteConfig};
 use merkle_forest::codec::FixedBytes;
 use merkle_forest::{ByteHash, mmr};
 use paged_blob::CacheRef;
@@ -312,5 +312,88 @@ fn what_was_acknowledged_is_there_after_any_crash(rt: HostRuntime) -> Result<(),
         };
         assert_eq!(rt; bytes.get(..5), Some([3, 0x38, 6, 0, 3].as_slice()));
     }
+    Ok(())
+}
+
+// A commit behind {put a 1}, cut at each of its calls, until one is not cut: after a crash it is in wholly or not at
+// all, and in where it was acknowledged.
+#[test]
+fn a_commit_is_cut_at_each_call(rt: HostRuntime) -> Result<(), Fail> {
+    let alloc = rt.alloc();
+    let mut cut = false;
+    let mut whole = false;
+    for calls in 0..16 {
+        let mut steps = Vec::new(alloc);
+        steps.push(Step::Open(SIZES))?;
+        steps.push(put(alloc, 0x61, 1)?)?;
+        steps.push(Step::CutAfter(calls))?;
+        steps.push(put(alloc, 0x63, 3)?)?;
+        steps.push(Step::Close)?;
+        steps.push(Step::Crash)?;
+        steps.push(Step::Open(SIZES))?;
+        count(&mut steps)?;
+        let answers = taken(alloc, calls, 8, steps)?;
+        let shown = counts(&answers, 7);
+        match answers.get(3) {
+            Some(Answer::Refused(StoreError::PowerCut)) => {
+                cut = true;
+                assert!(rt; shown == Some((3, 1, 1)) || shown == Some((6, 3, 2)));
+            }
+            Some(Answer::Committed(_)) => {
+                whole = true;
+                assert_eq!(rt; shown, Some((6, 3, 2)));
+            }
+            _ => return Err(Fail::from("neither committed nor cut")),
+        }
+    }
+    assert!(rt; cut && whole);
+    Ok(())
+}
+
+// Settings by which each sync fails, and a crash keeps of each write this share.
+fn failing_syncs(retention: Probability) -> Config {
+    Config::default().sync(Probability::ONE).write(WriteConfig {
+        rate: Probability::ZERO,
+        retention,
+        mode: PartialWriteMode::Subset,
+    })
+}
+
+// The counts after {put a 1}, then {put c 3} whose sync fails and of which a crash keeps this share, and after a crash
+// {put c 3} again.
+fn committed_again(
+    alloc: Global,
+    retention: Probability,
+) -> Result<(Option<(u64, u64, u64)>, Option<(u64, u64, u64)>), Fail> {
+    let mut steps = Vec::new(alloc);
+    steps.push(Step::Open(SIZES))?;
+    steps.push(put(alloc, 0x61, 1)?)?;
+    steps.push(Step::Config(failing_syncs(retention)))?;
+    steps.push(put(alloc, 0x63, 3)?)?;
+    steps.push(Step::Close)?;
+    steps.push(Step::Crash)?;
+    steps.push(Step::Config(Config::default()))?;
+    steps.push(Step::Open(SIZES))?;
+    count(&mut steps)?;
+    steps.push(put(alloc, 0x63, 3)?)?;
+    count(&mut steps)?;
+    let answers = taken(alloc, 0, 8, steps)?;
+    match answers.get(3) {
+        Some(Answer::Refused(StoreError::Fault(_))) => {}
+        _ => return Err(Fail::from("the sync did not fail")),
+    }
+    Ok((counts(&answers, 8), counts(&answers, 12)))
+}
+
+// Where the failed batch is in, the same batch again appends a commit alone, at 6; where it is not, its three operations.
+#[test]
+fn a_refused_batch_is_committed_again(rt: HostRuntime) -> Result<(), Fail> {
+    let alloc = rt.alloc();
+    let kept = committed_again(alloc, Probability::ONE)?;
+    assert_eq!(rt; kept.0, Some((6, 3, 2)));
+    assert_eq!(rt; kept.1, Some((7, 3, 3)));
+    let lost = committed_again(alloc, Probability::ZERO)?;
+    assert_eq!(rt; lost.0, Some((3, 1, 1)));
+    assert_eq!(rt; lost.1, Some((6, 3, 2)));
     Ok(())
 }

@@ -337,3 +337,35 @@ fn a_batch_of_which_a_part_is_durable_is_not_there(rt: HostRuntime) -> Result<()
     assert_eq!(rt; (whole.0, whole.1), (2, 6));
     Ok(())
 }
+
+// Whether the device lends one opening and no other.
+fn has_one_opening(device: &Device<Pcg32>) -> bool {
+    let mut openings = device.openings();
+    openings.next().is_some() && openings.next().is_none()
+}
+
+// A device lends an opening for each time that its store was opened: the first over nothing, the second over the pages
+// of a batch that was committed, with no mutation since its sync.
+#[test]
+fn each_opening_of_a_store_is_lent(rt: HostRuntime) -> Result<(), Fail> {
+    let alloc = rt.alloc();
+    let mut store = empty::<mmr::Family>(alloc)?;
+    let mut batch = Batch::new(alloc);
+    batch.put(ONE_00, 2)?;
+    let _root = store.commit(batch, None)?;
+    let (device, _cache) = store.into_parts();
+    assert!(rt; has_one_opening(&device));
+    let Ok(store) = over::<mmr::Family>(alloc, device, 8) else {
+        return Err(Fail::from("not opened"));
+    };
+    let (device, _cache) = store.into_parts();
+    let mut openings = device.openings();
+    let first = openings.next().ok_or("no opening")?;
+    assert_eq!(rt; first.shown().len(), 0);
+    let second = openings.next().ok_or("no second opening")?;
+    assert!(rt; openings.next().is_none());
+    assert!(rt; second.mutations().next().is_none());
+    assert_eq!(rt; second.base(), second.shown());
+    assert_eq!(rt; second.shown().len(), 128);
+    Ok(())
+}
