@@ -121,14 +121,19 @@ left_after (Err refusals.NumberEnded) left = left
 left_after (Err refusals.Memory) left = left
 left_after result left = one_less left
 
--- what has refused calls of a log of the store so far, where so many were refused by a cut
-abbrev pub failures_in : {R : Type 0} → Storage Store R → ℕ → Bool → Failures
-failures_in storage refused is_open =
-    record { injected = storage.injections; refused = refused; is_open = is_open; settings = Some storage.config }
+-- what has refused calls of a log of the store so far, where so many were refused by a cut, if one was asked for
+abbrev pub failures_in : {R : Type 0} → Storage Store R → ℕ → Bool → Bool → Failures
+failures_in storage refused is_open is_asked = record {
+  injected = storage.injections;
+  refused = refused;
+  is_open = is_open;
+  is_asked = is_asked;
+  settings = Some storage.config;
+}
 
 -- what has refused calls of the device so far
 abbrev pub failures_of : {R : Type 0} → DeviceState R → Failures
-failures_of state = failures_in state.storage state.refused (is_some state.log)
+failures_of state = failures_in state.storage state.refused (is_some state.log) (is_some state.left)
 
 -- one of the counts stands at its last value
 abbrev pub HasEnded : {R : Type 0} → DeviceState R → Type 0

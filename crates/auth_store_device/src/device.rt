@@ -240,7 +240,8 @@ impl<R: Rng + Drop> Device<R> {
 
 // How many calls are left after one that was let through. One that counts as not made uses none up.
 fn left_after<T>(answer: &Result<T, Error>, left: Option<u64>) -> Option<u64>
-    ensures { result ≡ left_after answer.now left }
+    ensures left { result ≡ left_after answer.now left }
+    ensures asked { is_some result ≡ is_some left }
 {
     match answer {
         Err(Error::NumberEnded) => left,
@@ -262,7 +263,8 @@ fn stopped_opening(error: Error) -> OpenError
 
 // How many calls are left after an opening. One that counts as not made, or that a cut refused, uses none up.
 fn left_after_opening<T>(answer: &Result<T, OpenError>, left: Option<u64>) -> Option<u64>
-    ensures { result ≡ left_after_opening answer.now left }
+    ensures left { result ≡ left_after_opening answer.now left }
+    ensures asked { is_some result ≡ is_some left }
 {
     match answer {
         Err(OpenError::NumberEnded) => left,
@@ -304,6 +306,7 @@ impl<R: Rng + Drop> Device<R> {
         ensures draw { IsOpeningCall (R.stream) self.old result self.new }
         ensures refusals { self.new.refused ≡ refused_after result self.old.refused }
         ensures left { self.new.left ≡ left_after_opening result self.old.left }
+        ensures asked { is_some self.new.left ≡ is_some self.old.left }
     {
         if let Err(error) = self.stop() {
             return Err(stopped_opening(error));

@@ -94,8 +94,8 @@ pub(crate) fn write_log<R: Rng>(
     ensures calls { Records result (wrote offset bytes.now (is_sync mode)) (calls_of record_kept.old)
         (calls_of record_kept.new) }
     ensures cause { (failures : Failures) → IfErr result (IsCause failures CallKind.Write (offset + length bytes.now)) }
-    ensures count { (refused : ℕ) (is_open : Bool) → failures_in storage.new refused is_open
-        ≡ failures_after result (failures_in storage.old refused is_open) }
+    ensures count { (refused : ℕ) (is_open is_asked : Bool) → failures_in storage.new refused is_open is_asked
+        ≡ failures_after result (failures_in storage.old refused is_open is_asked) }
     ensures stands { IsOpenLog storage.new.inner (file_of (calls_of record_kept.new)) log.new.inner }
 {
     record_kept.make_room(bytes.len())?;
@@ -128,8 +128,8 @@ pub(crate) fn resize_log<R: Rng>(
         FaultyResizes (R.stream) blob len below answer changed left) log.old storage.old result log.new storage.new }
     ensures calls { Records result (resized_to len) (calls_of record_kept.old) (calls_of record_kept.new) }
     ensures cause { (failures : Failures) → IfErr result (IsCause failures CallKind.Resize len) }
-    ensures count { (refused : ℕ) (is_open : Bool) → failures_in storage.new refused is_open
-        ≡ failures_after result (failures_in storage.old refused is_open) }
+    ensures count { (refused : ℕ) (is_open is_asked : Bool) → failures_in storage.new refused is_open is_asked
+        ≡ failures_after result (failures_in storage.old refused is_open is_asked) }
     ensures stands { IsOpenLog storage.new.inner (file_of (calls_of record_kept.new)) log.new.inner }
 {
     record_kept.make_room(0)?;
@@ -162,8 +162,8 @@ pub(crate) fn read_log<R: Rng>(
         → IfOk result (λ bytes. IsSlice file offset len bytes.items) }
     ensures cause { (file : File) (failures : Failures) → IsOpenLog storage.old.inner file log.now.inner
         → IfErr result (IsReadCause failures file offset len) }
-    ensures count { (refused : ℕ) (is_open : Bool) → failures_in storage.new refused is_open
-        ≡ failures_after result (failures_in storage.old refused is_open) }
+    ensures count { (refused : ℕ) (is_open is_asked : Bool) → failures_in storage.new refused is_open is_asked
+        ≡ failures_after result (failures_in storage.old refused is_open is_asked) }
     ensures store { storage.new.inner ≡ storage.old.inner }
 {
     match log.read_at(storage, offset, len) {
@@ -186,8 +186,8 @@ pub(crate) fn sync_log<R: Rng + Drop>(
         log.now storage.old result log.now storage.new }
     ensures calls { RecordsSync result (calls_of record_kept.old) (calls_of record_kept.new) }
     ensures cause { (failures : Failures) → IfErr result (IsCause failures CallKind.Sync 0) }
-    ensures count { (refused : ℕ) (is_open : Bool) → failures_in storage.new refused is_open
-        ≡ failures_after result (failures_in storage.old refused is_open) }
+    ensures count { (refused : ℕ) (is_open is_asked : Bool) → failures_in storage.new refused is_open is_asked
+        ≡ failures_after result (failures_in storage.old refused is_open is_asked) }
     ensures stands { IsOpenLog storage.new.inner (file_of (calls_of record_kept.new)) log.now.inner }
 {
     let synced = copy_behind_header(alloc, log.inner().live())?;

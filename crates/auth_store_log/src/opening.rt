@@ -163,6 +163,7 @@ where
     ensures name { IfOk result (λ r. (cache.old.next_id ≤ r.0.blob_id) × (r.0.blob_id < cache.new.next_id)) }
     ensures named { AreNamed cache.new }
     ensures same { cache.new ≡ record cache.old { next_id = cache.new.next_id; pages = cache.new.pages } }
+    ensures names { cache.old.next_id ≤ cache.new.next_id }
     ensures cached { IfOk result (λ r. HoldsPagesOf r.1.items cache.new r.0.blob_id) }
     ensures cause { IfErr result (IsLogCause (B.failures blob.old) (cache.old.next_id + 3)
         (length (content (B.calls blob.old)))) }
@@ -229,6 +230,7 @@ where
     ensures cached { IfOk result (λ r. HoldsPagesOf r.1.items cache.new r.0.blob_id) }
     ensures named { AreNamed cache.new }
     ensures same { cache.new ≡ record cache.old { next_id = cache.new.next_id; pages = cache.new.pages } }
+    ensures names { cache.old.next_id ≤ cache.new.next_id }
     ensures any_moment { Through (IsKeptThrough (format_of (K.after tt) (V.after tt) K.SIZE V.SIZE) C.checksum_of
         (cache.old.page_size + 12) (recovered_log (format_of (K.after tt) (V.after tt) K.SIZE V.SIZE) C.checksum_of
         (cache.old.page_size + 12) (content (B.calls blob.old)))) (B.calls blob.old) (B.calls blob.new) }

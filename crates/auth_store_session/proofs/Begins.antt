@@ -1,19 +1,17 @@
 -- What stands at the beginning: a device of which nothing was called yet.
 use Rattle.std.proofs.Common.{◌≡◌, ◌<◌, ◌≤◌, ◌+◌, ℕ, List, [], ◌∷◌, length, None, Some, refl, sym, subst, ◌∙◌, ap, inr, arith}
-use Rattle.std.specs.Prelude.{true, false, IfSome}
+use Rattle.std.specs.Prelude.{true, false}
 use Rattle.fault_storage_parts.specs.Crc32.{crc32}
 use Rattle.paged_format.specs.Pages.{recovered}
 use Rattle.paged_format.specs.Laws.Pages.{recovered-none}
 use Rattle.paged_blob.specs.Caches.{Cache}
-use Rattle.paged_blob.specs.Calls.{Call, synced, file_of}
-use Rattle.paged_blob.specs.Images.{IsImage}
+use Rattle.paged_blob.specs.Calls.{synced}
 use Rattle.state_ops.specs.Operation.{Operation, commit_floor}
 use Rattle.state_ops.specs.Reading.{HasEncoding}
 use Rattle.auth_store_device.specs.Devices.{DeviceState}
-use Rattle.auth_store_device.specs.Logs.{HasOwnHeader, has_log}
+use Rattle.auth_store_device.specs.Logs.{has_log}
 use Rattle.auth_store_device.specs.Settings.{IsNew}
-use Rattle.auth_store_log.specs.Records.{Format, IsRecorded, committed, record_size, recovered_log}
-use Rattle.auth_store_log.specs.Shown.{MayShow}
+use Rattle.auth_store_log.specs.Records.{Format, IsRecorded, committed, recovered_log}
 use Rattle.auth_store_log.proofs.Found.{committed_short}
 use Rattle.auth_store_session.specs.Machine.{closed}
 use Rattle.auth_store_session.specs.Stores.{IsWritten, Shows}

@@ -1,7 +1,6 @@
 -- What has to stay does, whatever openings show.
-use Rattle.std.proofs.Common.{◌≡◌, ℕ, List, [], ◌∷◌, ◌++◌, Some, None, refl, sym, subst, ◌∙◌, ap, ⊎_elim, append_assoc}
+use Rattle.std.proofs.Common.{◌≡◌, List, [], ◌∷◌, ◌++◌, Some, None, refl, sym, subst, ◌∙◌, ap, ⊎_elim, append_assoc}
 use Rattle.std.proofs.lemmas.List.{append-nil}
-use Rattle.state_ops.specs.Operation.{Operation}
 use Rattle.auth_store_parts.specs.History.{History, Commit, latest_map, log_of, appended}
 use Rattle.auth_store_session.specs.Machine.{Machine, Power, State, closed, live, failed, doubtful, Request, ask_open, ask_commit, ask_get, ask_root, ask_commits, ask_floor, ask_len, ask_proof, ask_close, ask_crash, ask_config, ask_cut, Answer, IsStep, IsStepInDoubt, IsStepLive, IsStepFailed, IsRunInDoubt, in_doubt, kept_history, Begins, commit_of}
 
@@ -94,6 +93,6 @@ run_keeps m before first [] [] after last ran = stays_at (kept_history first) fi
 run_keeps m before first (request ∷ requests) (answer ∷ answers) after last ran =
     begins_trans (kept_history first) (kept_history ran.1) (kept_history last)
     (step_keeps m before ran.0 first request answer ran.1 ran.2)
-    (run_keeps m ran.0 ran.1 requests answers after last ran.3)
+    (run_keeps m ran.0 ran.1 requests answers after last ran.4)
 run_keeps m before first [] (answer ∷ answers) after last ran = absurd ran
 run_keeps m before first (request ∷ requests) [] after last ran = absurd ran

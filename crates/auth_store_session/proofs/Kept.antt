@@ -2,7 +2,7 @@
 use Rattle.std.proofs.Common.{◌≡◌, ◌≤◌, ◌<◌, ◌++◌, ⊎_elim, ℕ, zero, suc, List, [], ◌∷◌, length, take, arith, refl, sym, subst, ◌∙◌, ap, inl, inr, append_assoc}
 use Rattle.std.proofs.lemmas.List.{length-take, take-take, append-nil}
 use Rattle.std.proofs.lemmas.Bool.{cases_lt}
-use Rattle.std.proofs.Math.Seq.{take-length, take-append_seam}
+use Rattle.std.proofs.Math.Seq.{take-length}
 use Rattle.fault_storage_parts.specs.Crc32.{crc32}
 use Rattle.paged_format.specs.Pages.{recovered}
 use Rattle.paged_blob.specs.Calls.{Call, file_of}
@@ -11,7 +11,7 @@ use Rattle.paged_blob.specs.Laws.Moments.{at_end}
 use Rattle.paged_blob.specs.Writers.{Keeps}
 use Rattle.auth_store_parts.specs.History.{History, latest_map, log_of, appended}
 use Rattle.auth_store_log.specs.Records.{Format, begun, committed, history_bytes, recovered_log, AreRecorded}
-use Rattle.auth_store_log.specs.Shown.{KeepsBytes, KeepsLog}
+use Rattle.auth_store_log.specs.Shown.{KeepsLog}
 use Rattle.auth_store_log.specs.Laws.Once.{log_begins}
 use Rattle.auth_store_log.specs.Laws.Shown.{history_more}
 use Rattle.auth_store_log.specs.Laws.Records.{committed_whole, committed_again, committed_begins}

@@ -4,6 +4,8 @@ pub mod Opens
 pub mod Kept
 pub mod Doubts
 pub mod Refused
+pub mod Powers
+pub mod Causes
 pub mod Long
 pub mod Reading
 pub mod Grown

@@ -25,7 +25,7 @@ use Rattle.auth_store_log.specs.Shown.{MayShow, IsKeptThrough}
 use Rattle.auth_store_session.specs.declared.error.StoreError.{StoreError}
 use Rattle.auth_store_session.specs.declared.error.StoreError.TheVariants.{Fault, PowerCut, NumberEnded, Memory, Corrupt, Failed, Header}
 use Rattle.auth_store_session.specs.Refusals.{of_opening}
-use Rattle.auth_store_session.specs.Machine.{Machine, MayRefuse, MayRefuseCommit, PassesLimit, commit_of}
+use Rattle.auth_store_session.specs.Machine.{Machine, IsEndingOpening, MayRefuse, MayRefuseCommit, PassesLimit, commit_of}
 use Rattle.auth_store_session.specs.Stores.{StoreState, LiveState, IsStore, IsLive, IsLiveAt, IsNoHistory, Shows, IsRefusal, IsOpenRefusal, IsCommitRefusal, EndsDisk, EndsOpening}
 use Rattle.auth_store_session.proofs.Kept.{keeps_history}
 use Rattle.auth_store_session.specs.Standing.{power_of, shown_of, result_of, Commits, IsOpenError, IsShownThrough}
@@ -70,11 +70,10 @@ module _ {R T : Type 0} (m : Machine) (format : Format) (old new : DeviceState R
     device_refused openings.NumberEnded result is count numbers power header own left = inl (ends (numbers is))
       where
         ends : HasEnded old ⊎ (old.storage.inner.next ≡ 2 ^ 64 - 1)
-            → (2 ^ 64 ≤ old.storage.injections + 1) ⊎ (2 ^ 64 ≤ old.refused + 1) ⊎ (2 ^ 64 ≤ cache.next_id + 3)
-            ⊎ (2 ^ 64 ≤ length (shown_of old) + 4096) ⊎ (2 ^ 64 ≤ old.storage.inner.next + 1)
-        ends (inl (inl full)) = inl (omega (arith, full))
-        ends (inl (inr full)) = inr (inl (omega (arith, full)))
-        ends (inr last) = inr (inr (inr (inr (omega (arith, last)))))
+            → IsEndingOpening (power_of old cache)
+        ends (inl (inl full)) = inl (inl (omega (arith, full)))
+        ends (inl (inr full)) = inl (inr (omega (arith, full)))
+        ends (inr last) = inr (inr (inr (omega (arith, last))))
 
 -- a recovery that is refused after the device was opened
 module _ {R : Type 0} (m : Machine) (format : Format) (old mid new : DeviceState R) (cache now : Cache)
@@ -89,11 +88,11 @@ module _ {R : Type 0} (m : Machine) (format : Format) (old mid new : DeviceState
     recovery_on_device (Fault kind) injected refused shown law through cause = omega (arith, injected, cause)
     recovery_on_device PowerCut injected refused shown law through cause =
         cut_stands new.left (law (omega (arith, cause)))
-    recovery_on_device NumberEnded injected refused shown law through (inl (inl full)) = inl (inl (omega (arith, full, injected)))
-    recovery_on_device NumberEnded injected refused shown law through (inl (inr full)) = inl (inr (inl (omega (arith, full, refused))))
-    recovery_on_device NumberEnded injected refused shown law through (inr (inl names)) = inl (inr (inr (inl names)))
+    recovery_on_device NumberEnded injected refused shown law through (inl (inl full)) = inl (inl (inl (omega (arith, full, injected))))
+    recovery_on_device NumberEnded injected refused shown law through (inl (inr full)) = inl (inl (inr (omega (arith, full, refused))))
+    recovery_on_device NumberEnded injected refused shown law through (inr (inl names)) = inl (inr (inl names))
     recovery_on_device NumberEnded injected refused shown law through (inr (inr (inl long))) =
-        inl (inr (inr (inr (inl (subst (λ (bytes : List ℕ). 2 ^ 64 ≤ length bytes + 4096) shown long)))))
+        inl (inr (inr (inl (subst (λ (bytes : List ℕ). 2 ^ 64 ≤ length bytes + 4096) shown long))))
     recovery_on_device NumberEnded injected refused shown law through (inr (inr (inr first))) = inr first
     recovery_on_device Memory injected refused shown law through cause = tt
     recovery_on_device Corrupt injected refused shown law through cause =
@@ -109,7 +108,7 @@ module _ {R : Type 0} (old new : DeviceState R) (cache now : Cache)
     read_on_device (Fault kind) law cause = cause
     read_on_device PowerCut law cause = cut_stands new.left (law (omega (arith, cause)))
     read_on_device NumberEnded law (inl (inl full)) = inl full
-    read_on_device NumberEnded law (inl (inr full)) = inr (inl full)
+    read_on_device NumberEnded law (inl (inr full)) = inr full
     read_on_device NumberEnded law (inr none) = absurd none
     read_on_device Memory law cause = tt
     read_on_device Corrupt law cause = absurd cause
@@ -126,7 +125,7 @@ module _ {R : Type 0} (old new : DeviceState R) (cache now : Cache)
     commit_on_device m next PowerCut law untouched (inl cut) = ap (λ (d : DeviceState R). is_cut d.left) (untouched cut) ∙ cut
     commit_on_device m next PowerCut law untouched (inr counted) = cut_stands new.left (law (omega (arith, counted)))
     commit_on_device m next NumberEnded law untouched (inl (inl full)) = inl (inl full)
-    commit_on_device m next NumberEnded law untouched (inl (inr full)) = inl (inr (inl full))
+    commit_on_device m next NumberEnded law untouched (inl (inr full)) = inl (inr full)
     commit_on_device m next NumberEnded law untouched (inr (inl limit)) = inr (inl limit)
     commit_on_device m next NumberEnded law untouched (inr (inr disk)) = inr (inr disk)
     commit_on_device m next Memory law untouched cause = tt

@@ -1,5 +1,5 @@
 -- What an opening shows, and what stands after it.
-use Rattle.std.proofs.Common.{◌≡◌, ◌++◌, ⊎_elim, ℕ, List, [], ◌∷◌, Option, Some, None, refl, sym, subst, ◌∙◌, ap, inl, inr}
+use Rattle.std.proofs.Common.{◌≡◌, ⊎_elim, ℕ, List, [], ◌∷◌, Option, Some, None, sym, subst, ◌∙◌, ap, inl, inr}
 use Rattle.std.specs.Prelude.{IfSome}
 use Rattle.fault_storage_parts.specs.Crc32.{crc32}
 use Rattle.paged_blob.specs.Calls.{Call, opened, wrote, resized_to, synced, file_of}

@@ -22,7 +22,7 @@ use Rattle.auth_store_session.specs.declared.session.Step.{Step}
 use Rattle.auth_store_session.specs.declared.session.Step.TheVariants as steps
 use Rattle.auth_store_session.specs.declared.sizes.Sizes.{Sizes}
 use Rattle.fault_storage_parts.specs.declared.config.Config.{Config}
-use Rattle.auth_store_session.specs.Standing.{StandsFor, Steps, StepsOpen, SessionState, IsSession, calls_in, page_size_in, IsOpenedThrough, IsShownThrough, IsRecovered, IsOpenError, power_of, shown_of}
+use Rattle.auth_store_session.specs.Standing.{StandsFor, Moves, Steps, StepsOpen, SessionState, IsSession, calls_in, page_size_in, IsOpenedThrough, IsShownThrough, IsRecovered, IsOpenError, power_of, shown_of}
 use Rattle.auth_store_session.specs.Stores.{StoreState, IsCache, IsLiveAt, IsNoHistory, IsWritten, IsKept, Shows}
 use Rattle.auth_store_session.proofs.Kept.{begun_same, some_bytes, opened_keeps, opening_begins}
 use Rattle.auth_store_session.proofs.Opens.{fewer, opening_shows, still_shows, grown, behind}
@@ -47,7 +47,7 @@ pub opens_in : {R : Type 0} (m : Machine) (format : Format) (device : DeviceStat
     → ShowsWhatStood → store.cache.page_size ≡ cache.page_size → IsFalse (is_cut device.left)
     → ((history : History) × IsLiveAt store history × IsRecovered format (cache.page_size + 12) (shown_of device) history)
     → IsShownThrough format (cache.page_size + 12) (shown_of device) device.calls store.device.calls
-    → Steps m format (closed_at device cache) ask_open machine.opened (open_at store)
+    → Moves m format (closed_at device cache) ask_open machine.opened (open_at store)
 opens_in m format device cache store law sized uncut recovered shown (closed history pending) none stands =
     let size = cache.page_size + 12 in
     let now = subst (λ s. NoneByChance crc32 (s + 12) store.device.calls) sized none in (
@@ -131,7 +131,7 @@ pub refused_in : {R : Type 0} (m : Machine) (format : Format) (device new : Devi
     → IsOpenedThrough format (cache.page_size + 12) (shown_of device) device.calls new.calls
     → (HasOwnHeader device.storage.inner → HasOwnHeader new.storage.inner)
     → IsOpenError m format device cache new now e
-    → Steps m format (closed_at device cache) ask_open (refused e) (closed_at new now)
+    → Moves m format (closed_at device cache) ask_open (refused e) (closed_at new now)
 refused_in m format device new cache now e paged sized moments header cause (closed history pending) none stands =
     let at = subst (λ s. NoneByChance crc32 (s + 12) new.calls) sized none in
     let shows = still_shows format (cache.page_size + 12) history pending device.calls new.calls (shown_of device) stands.0 moments at in (
@@ -162,7 +162,7 @@ pub rests_in : {R : Type 0} (m : Machine) (format : Format) (device new : Device
     → IsStepClosed m (power_of device cache) (power_of new cache) history pending request answer (closed history pending))
     → ((history : History)
     → IsStepInDoubt m (power_of device cache) (power_of new cache) history request answer (doubtful history))
-    → Steps m format (closed_at device cache) request answer (closed_at new cache)
+    → Moves m format (closed_at device cache) request answer (closed_at new cache)
 rests_in m format device new cache request answer calls header steps doubts (closed history pending) none stands = (
   closed history pending,
   steps history pending,
@@ -195,7 +195,7 @@ rests_at format store device cache (doubtful history) is calls header shows stan
 pub closes_in : {R : Type 0} (m : Machine) (format : Format) (store : StoreState R) (device : DeviceState R) (cache : Cache)
     → cache ≡ store.cache → device.calls ≡ store.device.calls → HasOwnHeader device.storage.inner
     → ((history : History) → IsLiveAt store history → Shows format (store.cache.page_size + 12) history None device.calls)
-    → Steps m format (open_at store) machine.ask_close machine.has_closed (closed_at device cache)
+    → Moves m format (open_at store) machine.ask_close machine.has_closed (closed_at device cache)
 closes_in m format store device cache is calls header shows (live history) none stands =
     (closed history None, (refl, refl), rests_at format store device cache (live history) is calls header shows stands)
 closes_in m format store device cache is calls header shows (failed history commit) none stands =
@@ -206,7 +206,7 @@ closes_in m format store device cache is calls header shows (doubtful history) n
 -- a step of an open store is one of the session
 pub steps_open : {R : Type 0} (m : Machine) (format : Format) (old new : StoreState R) (request : Request) (answer : Answer)
     → StepsOpen m format old request answer new → Steps m format (open_at old) request answer (open_at new)
-steps_open m format old new request answer steps state sure stands = steps state stands
+steps_open m format old new request answer steps = (steps.0, λ state sure stands. steps.1 state stands)
 
 -- a session whose store is closed, from its parts
 pub was_closed : {R : Type 0} (parts : Option (DeviceState R × Cache)) (store : Option (StoreState R)) (device : DeviceState R)
@@ -264,7 +264,7 @@ pub rest_same : {R : Type 0} (m : Machine) (format : Format) (parts : Option (De
     → ((before after : Power) (history : History) (pending : Option Commit)
     → IsStepClosed m before after history pending request answer (closed history pending))
     → ((before after : Power) (history : History) → IsStepInDoubt m before after history request answer (doubtful history))
-    → Steps m format (record { parts = parts; store = store }) request answer (record { parts = parts; store = store })
+    → Moves m format (record { parts = parts; store = store }) request answer (record { parts = parts; store = store })
 rest_same m format (Some parts) None request answer at steps doubts (closed history pending) none stands =
     (closed history pending, steps (power_of parts.0 parts.1) (power_of parts.0 parts.1) history pending, stands)
 rest_same m format (Some parts) None request answer at steps doubts (doubtful history) none stands =
@@ -281,6 +281,7 @@ pub record IsRefusedClosed (request : Request) : Type 0 where
   pub doubts : (m : Machine) (before after : Power) (history : History)
       → IsStepInDoubt m before after history request machine.not_open (doubtful history)
   pub kind : IsAnswerTo false request machine.not_open
+  pub turned : (power : Power) → machine.turned request machine.not_open power ≡ power
 
 pub is_refused_closed : {K V : Type 0} (key : K → List ℕ) (value : V → List ℕ) (step : Step K V)
     → ((sizes : Sizes) → step ≡ steps.Open sizes → ⊥) → (step ≡ steps.Crash → ⊥) → ((config : Config) → step ≡ steps.Config config → ⊥)
@@ -290,21 +291,21 @@ is_refused_closed key value steps.Crash a b c d = absurd (b refl)
 is_refused_closed key value (steps.Config config) a b c d = absurd (c config refl)
 is_refused_closed key value (steps.CutAfter calls) a b c d = absurd (d calls refl)
 is_refused_closed key value (steps.Commit batch metadata) a b c d =
-    record { steps = λ m before after h p. (refl, refl); doubts = λ m before after h. (refl, refl); kind = refl }
+    record { steps = λ m before after h p. (refl, refl); doubts = λ m before after h. (refl, refl); kind = refl; turned = λ power. refl }
 is_refused_closed key value (steps.Get k) a b c d =
-    record { steps = λ m before after h p. (refl, refl); doubts = λ m before after h. (refl, refl); kind = refl }
+    record { steps = λ m before after h p. (refl, refl); doubts = λ m before after h. (refl, refl); kind = refl; turned = λ power. refl }
 is_refused_closed key value steps.Root a b c d =
-    record { steps = λ m before after h p. (refl, refl); doubts = λ m before after h. (refl, refl); kind = refl }
+    record { steps = λ m before after h p. (refl, refl); doubts = λ m before after h. (refl, refl); kind = refl; turned = λ power. refl }
 is_refused_closed key value steps.Commits a b c d =
-    record { steps = λ m before after h p. (refl, refl); doubts = λ m before after h. (refl, refl); kind = refl }
+    record { steps = λ m before after h p. (refl, refl); doubts = λ m before after h. (refl, refl); kind = refl; turned = λ power. refl }
 is_refused_closed key value steps.Floor a b c d =
-    record { steps = λ m before after h p. (refl, refl); doubts = λ m before after h. (refl, refl); kind = refl }
+    record { steps = λ m before after h p. (refl, refl); doubts = λ m before after h. (refl, refl); kind = refl; turned = λ power. refl }
 is_refused_closed key value steps.Len a b c d =
-    record { steps = λ m before after h p. (refl, refl); doubts = λ m before after h. (refl, refl); kind = refl }
+    record { steps = λ m before after h p. (refl, refl); doubts = λ m before after h. (refl, refl); kind = refl; turned = λ power. refl }
 is_refused_closed key value (steps.ProveKey k) a b c d =
-    record { steps = λ m before after h p. (refl, refl); doubts = λ m before after h. (refl, refl); kind = refl }
+    record { steps = λ m before after h p. (refl, refl); doubts = λ m before after h. (refl, refl); kind = refl; turned = λ power. refl }
 is_refused_closed key value steps.Close a b c d =
-    record { steps = λ m before after h p. (refl, refl); doubts = λ m before after h. (refl, refl); kind = refl }
+    record { steps = λ m before after h p. (refl, refl); doubts = λ m before after h. (refl, refl); kind = refl; turned = λ power. refl }
 
 -- where a store is open, a session has nothing beside it
 pub parts_none : {R : Type 0} (parts : Option (DeviceState R × Cache)) (store : Option (StoreState R)) (is : StoreState R)

@@ -8,43 +8,46 @@ use Rattle.paged_blob.specs.Chance.{NoneByChance}
 use Rattle.paged_blob.specs.Moments.{Grows}
 use Rattle.auth_store_device.specs.Devices.{DeviceState}
 use Rattle.auth_store_log.specs.Records.{Format}
-use Rattle.auth_store_session.specs.Machine.{Machine, Power, State, closed, live, failed, doubtful, Request, Answer, IsStep, IsRun, IsRunInDoubt, at_rest, in_doubt}
+use Rattle.auth_store_session.specs.Machine.{Machine, Power, State, closed, live, failed, doubtful, Request, Answer, IsStep, IsRun, IsRunInDoubt, Passes, at_rest, in_doubt}
 use Rattle.auth_store_session.specs.Standing.{SessionState, StandsFor, IsSure, Steps, Runs, RunsInDoubt, RunsWhole, calls_in, page_size_in, power_in, power_of}
 use Rattle.auth_store_session.specs.Stores.{StoreState}
 use Rattle.auth_store_session.proofs.Opens.{fewer}
 
 pub one_more : (m : Machine) (before : Power) (first : State) (requests : List Request) (answers : List Answer)
     (at : Power) (now : State) (request : Request) (answer : Answer) (after : Power) (next : State)
-    → IsRun m before first requests answers at now → IsStep m at after now request answer next
+    → IsRun m before first requests answers at now → IsStep m at after now request answer next → Passes request answer at after
     → IsRun m before first (requests ++ request ∷ []) (answers ++ answer ∷ []) after next
-one_more m before first [] [] at now request answer after next ran step = (
+one_more m before first [] [] at now request answer after next ran step passes = (
   after,
   next,
   subst (λ s. IsStep m before after s request answer next) ran.1
       (subst (λ p. IsStep m p after now request answer next) ran.0 step),
+  subst (λ p. Passes request answer p after) ran.0 passes,
   (refl, refl),
 )
-one_more m before first (r ∷ requests) (a ∷ answers) at now request answer after next ran step =
-    (ran.0, ran.1, ran.2, one_more m ran.0 ran.1 requests answers at now request answer after next ran.3 step)
-one_more m before first [] (a ∷ answers) at now request answer after next ran step = absurd ran
-one_more m before first (r ∷ requests) [] at now request answer after next ran step = absurd ran
+one_more m before first (r ∷ requests) (a ∷ answers) at now request answer after next ran step passes =
+    (ran.0, ran.1, ran.2, ran.3, one_more m ran.0 ran.1 requests answers at now request answer after next ran.4 step passes)
+one_more m before first [] (a ∷ answers) at now request answer after next ran step passes = absurd ran
+one_more m before first (r ∷ requests) [] at now request answer after next ran step passes = absurd ran
 
 -- so in doubt
 pub one_more_in_doubt : (m : Machine) (before : Power) (first : State) (requests : List Request) (answers : List Answer)
     (at : Power) (now : State) (request : Request) (answer : Answer) (after : Power) (next : State)
     → IsRunInDoubt m before first requests answers at now → IsStep m at after (in_doubt now) request answer next
+    → Passes request answer at after
     → IsRunInDoubt m before first (requests ++ request ∷ []) (answers ++ answer ∷ []) after next
-one_more_in_doubt m before first [] [] at now request answer after next ran step = (
+one_more_in_doubt m before first [] [] at now request answer after next ran step passes = (
   after,
   next,
   subst (λ s. IsStep m before after (in_doubt s) request answer next) ran.1
       (subst (λ p. IsStep m p after (in_doubt now) request answer next) ran.0 step),
+  subst (λ p. Passes request answer p after) ran.0 passes,
   (refl, refl),
 )
-one_more_in_doubt m before first (r ∷ requests) (a ∷ answers) at now request answer after next ran step =
-    (ran.0, ran.1, ran.2, one_more_in_doubt m ran.0 ran.1 requests answers at now request answer after next ran.3 step)
-one_more_in_doubt m before first [] (a ∷ answers) at now request answer after next ran step = absurd ran
-one_more_in_doubt m before first (r ∷ requests) [] at now request answer after next ran step = absurd ran
+one_more_in_doubt m before first (r ∷ requests) (a ∷ answers) at now request answer after next ran step passes =
+    (ran.0, ran.1, ran.2, ran.3, one_more_in_doubt m ran.0 ran.1 requests answers at now request answer after next ran.4 step passes)
+one_more_in_doubt m before first [] (a ∷ answers) at now request answer after next ran step passes = absurd ran
+one_more_in_doubt m before first (r ∷ requests) [] at now request answer after next ran step passes = absurd ran
 
 -- where no opening is by chance, none is from any state
 sure_of : (size : ℕ) (calls : List Call) (state : State) → NoneByChance crc32 size calls → IsSure size calls state
@@ -80,10 +83,10 @@ runs_go_on m format first now next requests answers request answer sized grows r
     let at = runs (subst (λ size. NoneByChance crc32 size (calls_in now.parts now.store)) sized
     (fewer crc32 (page_size_in next.parts next.store) grows chance)) state stands in
     let sure = sure_of (page_size_in next.parts next.store) (calls_in next.parts next.store) at.0 chance in
-    let step = steps at.0 sure at.2 in (
+    let step = steps.1 at.0 sure at.2 in (
       step.0,
       one_more m (power_in first.parts first.store) state requests answers (power_in now.parts now.store) at.0 request answer
-          (power_in next.parts next.store) step.0 at.1 step.1,
+          (power_in next.parts next.store) step.0 at.1 step.1 steps.0,
       step.2,
     )
 
@@ -97,11 +100,11 @@ pub runs_go_on_in_doubt : {R : Type 0} (m : Machine) (format : Format) (first no
     → Steps m format now request answer next → RunsInDoubt m format first (requests ++ request ∷ []) (answers ++ answer ∷ []) next
 runs_go_on_in_doubt m format first now next requests answers request answer runs steps state stands =
     let at = runs state stands in
-    let step = steps (in_doubt at.0) (sure_in_doubt (page_size_in next.parts next.store) (calls_in next.parts next.store) at.0)
+    let step = steps.1 (in_doubt at.0) (sure_in_doubt (page_size_in next.parts next.store) (calls_in next.parts next.store) at.0)
     (stands_in_doubt format now.parts now.store at.0 at.2) in (
       step.0,
       one_more_in_doubt m (power_in first.parts first.store) state requests answers (power_in now.parts now.store) at.0 request answer
-          (power_in next.parts next.store) step.0 at.1 step.1,
+          (power_in next.parts next.store) step.0 at.1 step.1 steps.0,
       step.2,
     )
 

@@ -1,5 +1,5 @@
 -- A call of an open store is a step of the machine.
-use Rattle.std.proofs.Common.{◌≡◌, ◌+◌, ℕ, List, Option, Some, None, refl, sym, ◌∙◌, subst, ap, inl, inr, ⊎_elim}
+use Rattle.std.proofs.Common.{◌≡◌, ◌+◌, ℕ, List, ◌⊎◌, Option, Some, None, refl, sym, ◌∙◌, subst, ap, inl, inr, ⊎_elim}
 use Rattle.std.specs.Prelude.{Result, Ok, Err, IfOk, IfErr, option_map}
 use Rattle.paged_blob.specs.Calls.{Call}
 use Rattle.paged_blob.specs.Moments.{Grows, here}
@@ -10,9 +10,13 @@ use Rattle.auth_store_log.specs.Records.{Format}
 use Rattle.auth_store_ledger.specs.Store.{commit_after}
 use Rattle.auth_store_session.specs.declared.error.StoreError.{StoreError}
 use Rattle.auth_store_session.specs.declared.error.StoreError.TheVariants.{Failed, Memory}
-use Rattle.auth_store_session.specs.Machine.{Machine, Power, State, closed, live, failed, doubtful, Request, ask_commit, ask_get, ask_proof, Answer, committed, value, proof, refused, IsStep, IsStepLive, IsStepFailed, MayRefuse, commit_of, proof_of}
-use Rattle.auth_store_session.specs.MachineCode.{answer_of}
-use Rattle.auth_store_session.specs.Standing.{Commits, StandsFor, StepsOpen, power_of, result_of}
+use Rattle.auth_store_session.specs.Machine.{Machine, Power, State, closed, live, failed, doubtful, Request, ask_open, ask_crash, ask_commit, ask_get, ask_proof, Answer, still_open, committed, value, proof, refused, IsStep, IsStepLive, IsStepFailed, MayRefuse, commit_of, proof_of}
+use Rattle.auth_store_session.specs.MachineCode.{answer_of, request_of}
+use Rattle.auth_store_session.specs.declared.session.Step.{Step}
+use Rattle.auth_store_session.specs.declared.session.Step.TheVariants as steps
+use Rattle.auth_store_session.specs.declared.sizes.Sizes.{Sizes}
+use Rattle.auth_store_session.proofs.Powers.{leaves_none}
+use Rattle.auth_store_session.specs.Standing.{Commits, IsLeftOpen, StandsFor, MovesOpen, StepsOpen, power_of, result_of}
 use Rattle.auth_store_session.specs.Stores.{StoreState, IsLiveAt, Shows}
 
 -- what a failed store answers to a request
@@ -38,7 +42,7 @@ pub commits_in : {R D : Type 0} (m : Machine) (format : Format) (encoding : D �
     (old new : StoreState R) (result : Result D StoreError) → m.page_size ≡ new.cache.page_size + 12
     → ((history : History) → IsLiveAt old history → Commits m format words metadata history old (result_of encoding result) new)
     → (old.live ≡ None → (result ≡ Err Failed) × (new ≡ old))
-    → StepsOpen m format old (ask_commit words metadata) (answer_of (λ root. committed (encoding root)) result) new
+    → MovesOpen m format old (ask_commit words metadata) (answer_of (λ root. committed (encoding root)) result) new
 commits_in m format encoding words metadata old new (Ok root) sized commits lost (live history) stands =
     let c = commits history stands in
     (live (commit_after words metadata history), inl (ap committed c.0, refl, c.2, c.3), c.1)
@@ -67,7 +71,7 @@ pub gets_in : {R V : Type 0} (m : Machine) (format : Format) (encoding : V → L
     → IfErr result (MayRefuse (power_of old.device old.cache) (power_of new.device new.cache)))
     → ((history : History) → IsLiveAt old history → IsLiveAt new history)
     → (old.live ≡ None → (result ≡ Err Failed) × (new ≡ old))
-    → StepsOpen m format old (ask_get key) (answer_of (λ found. value (option_map encoding found)) result) new
+    → MovesOpen m format old (ask_get key) (answer_of (λ found. value (option_map encoding found)) result) new
 gets_in m format encoding key old new (Ok found) is refuses stays lost (live history) stands =
     (live history, (refl, inl (ap value (is history stands))), stays history stands)
 gets_in m format encoding key old new (Err e) is refuses stays lost (live history) stands =
@@ -84,7 +88,7 @@ pub proves_in : {R P : Type 0} (m : Machine) (format : Format) (parts : P → Li
     → ((history : History) → IsLiveAt store history → IfOk result (λ found. option_map parts found ≡ proof_of m history key))
     → ((history : History) → IsLiveAt store history → IfErr result (λ e. e ≡ Memory))
     → (store.live ≡ None → result ≡ Err Failed)
-    → StepsOpen m format store (ask_proof key) (answer_of (λ found. proof (option_map parts found)) result) store
+    → MovesOpen m format store (ask_proof key) (answer_of (λ found. proof (option_map parts found)) result) store
 proves_in m format parts key store (Ok found) is refuses lost (live history) stands =
     (live history, (refl, inl (ap proof (is history stands))), stands)
 proves_in m format parts key store (Err e) is refuses lost (live history) stands = (
@@ -106,7 +110,7 @@ pub tells_in : {R T : Type 0} (m : Machine) (format : Format) (store : StoreStat
     → ((before after : Power) (history : History) (answer : Answer) → answer ≡ said (told history)
     → IsStepLive m before after history request answer (live history))
     → IsRefusedOnceFailed request
-    → StepsOpen m format store request (answer_of said result) store
+    → MovesOpen m format store request (answer_of said result) store
 tells_in m format store request said told result is lost steps fails (live history) stands = (
   live history,
   steps (power_of store.device store.cache) (power_of store.device store.cache) history (answer_of said result)
@@ -123,7 +127,7 @@ pub stays_in : {R : Type 0} (m : Machine) (format : Format) (old new : StoreStat
     → new.cache ≡ old.cache → new.live ≡ old.live → new.device.calls ≡ old.device.calls
     → ((before after : Power) (history : History) → IsStepLive m before after history request answer (live history))
     → ((history : History) (commit : Commit) → IsStepFailed history commit request answer (failed history commit))
-    → StepsOpen m format old request answer new
+    → MovesOpen m format old request answer new
 stays_in m format old new request answer cache alive calls steps fails (live history) stands = (
   live history,
   steps (power_of old.device old.cache) (power_of new.device new.cache) history,
@@ -143,3 +147,19 @@ stays_in m format old new request answer cache alive calls steps fails (doubtful
 
 pub same_grows : (old new : List Call) → new ≡ old → Grows old new
 same_grows old new is = subst (Grows old) (sym is) (here tt)
+
+-- an open store that is to be opened, or to crash
+pub still_open_in : {R K V : Type 0} (m : Machine) (format : Format) (keys : K → List ℕ) (values : V → List ℕ) (step : Step K V)
+    (store : StoreState R) → ((sizes : Sizes) × (step ≡ steps.Open sizes)) ⊎ ((step ≡ steps.Crash) ⊎ (step ≡ steps.Close))
+    → IsLeftOpen (request_of keys values step) → StepsOpen m format store (request_of keys values step) still_open store
+still_open_in m format keys values step store (inl is) left =
+    subst (λ s. StepsOpen m format store (request_of keys values s) still_open store) (sym is.1) (
+      leaves_none store.device store.cache,
+      stays_in m format store store ask_open still_open refl refl refl (λ before after history. (refl, refl)) (λ history commit. (refl, refl)),
+    )
+still_open_in m format keys values step store (inr (inl is)) left =
+    subst (λ s. StepsOpen m format store (request_of keys values s) still_open store) (sym is) (
+      leaves_none store.device store.cache,
+      stays_in m format store store ask_crash still_open refl refl refl (λ before after history. (refl, refl)) (λ history commit. (refl, refl)),
+    )
+still_open_in m format keys values step store (inr (inr is)) left = absurd (subst (λ s. IsLeftOpen (request_of keys values s)) is left)

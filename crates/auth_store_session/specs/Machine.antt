@@ -98,22 +98,26 @@ pub data Answer : Type 0 where
   not_open : Answer
   still_open : Answer
 
--- What the machine sees of the device under it and of its cache: how many faults were injected and how many calls a cut refused so
--- far, how many names the cache has given, how many bytes the log has on the disk, which number the next file of the disk has, and
--- whether a cut of the power stands.
+-- What the machine sees of the device under it and of its cache: how many faults were injected so far, and how many calls a cut refused
+-- since the last crash; how many names the cache has given, how many bytes the log has on the disk, which number the next file of the
+-- disk has; whether a cut of the power was asked for since the last crash, and whether one stands.
 pub record Power : Type 0 where
   pub injected : ℕ
   pub refused : ℕ
   pub names : ℕ
   pub size : ℕ
   pub files : ℕ
+  pub is_asked : Bool
   pub is_cut : Bool
 
--- one of these numbers is about to pass its type
+-- a count of refusals is about to pass its type
 abbrev pub IsEnding : Power → Type 0
-IsEnding power =
-    (2 ^ 64 ≤ power.injected + 1) ⊎ (2 ^ 64 ≤ power.refused + 1) ⊎ (2 ^ 64 ≤ power.names + 3) ⊎ (2 ^ 64 ≤ power.size + 4096)
-    ⊎ (2 ^ 64 ≤ power.files + 1)
+IsEnding power = (2 ^ 64 ≤ power.injected + 1) ⊎ (2 ^ 64 ≤ power.refused + 1)
+
+-- and in an opening the names of the cache, the bytes of the disk, or the numbers of its files are
+abbrev pub IsEndingOpening : Power → Type 0
+IsEndingOpening power =
+    IsEnding power ⊎ (2 ^ 64 ≤ power.names + 3) ⊎ (2 ^ 64 ≤ power.size + 4096) ⊎ (2 ^ 64 ≤ power.files + 1)
 
 -- the key's value with its honest proof, where the latest map has the key
 abbrev pub proof_of : Machine → History → List ℕ → Option (List ℕ × List ℕ)
@@ -153,7 +157,7 @@ PassesFirst m = 2 ^ 64 ≤ physical_size m.page_size (fixed_size m.key_size m.va
 
 -- why an opening may be refused
 abbrev pub MayRefuseOpening : Machine → Power → Power → StoreError → Type 0
-MayRefuseOpening m before after refusals.NumberEnded = IsEnding before ⊎ PassesFirst m
+MayRefuseOpening m before after refusals.NumberEnded = IsEndingOpening before ⊎ PassesFirst m
 MayRefuseOpening m before after error = MayRefuse before after error
 
 -- why a commit that leads to this history may be refused
@@ -251,13 +255,37 @@ IsStep m before after (live history) request answer next = IsStepLive m before a
 IsStep m before after (failed history commit) request answer next = IsStepFailed history commit request answer next
 IsStep m before after (doubtful history) request answer next = IsStepInDoubt m before after history request answer next
 
+-- a count is the same, or one more
+abbrev pub IsRaised : ℕ → ℕ → Type 0
+IsRaised before after = (before ≤ after) × (after ≤ before + 1)
+
+-- What the calls of a request leave of the power: one fault is injected at most, and a cut refuses one call at most, as each of them
+-- ends the request; names are only given; no call asks for a cut, and none stands that was not asked for.
+pub record Leaves (before after : Power) : Type 0 where
+  pub injected : IsRaised before.injected after.injected
+  pub refused : IsRaised before.refused after.refused
+  pub names : before.names ≤ after.names
+  pub asked : after.is_asked ≡ before.is_asked
+  pub cut : IsTrue after.is_cut → IsTrue after.is_asked
+
+-- What a request makes of the power without its calls: a cut is asked for, or a crash ends what was asked.
+abbrev pub turned : Request → Answer → Power → Power
+turned ask_cut answer power = record power { is_asked = true }
+turned ask_crash has_crashed power = record power { is_asked = false; refused = 0 }
+turned request answer power = power
+
+-- The power before a step and after it. So in a run there are at most as many answers that tell of an injected fault as faults were
+-- injected, and one that tells of a cut comes only where a cut was asked for since the last crash.
+abbrev pub Passes : Request → Answer → Power → Power → Type 0
+Passes request answer before after = Leaves (turned request answer before) after
+
 -- A run: an answer for each request, one step after the other; each step meets the power that the one before left.
 abbrev pub IsRun : Machine → Power → State → List Request → List Answer → Power → State → Type 0
 IsRun m before first [] [] after last = (after ≡ before) × (last ≡ first)
 IsRun m before first [] (answer ∷ answers) after last = ⊥
 IsRun m before first (request ∷ requests) [] after last = ⊥
 IsRun m before first (request ∷ requests) (answer ∷ answers) after last =
-    (now : Power) × (next : State) × IsStep m before now first request answer next
+    (now : Power) × (next : State) × IsStep m before now first request answer next × Passes request answer before now
     × IsRun m now next requests answers after last
 
 -- A run in which each opening may be by chance.
@@ -267,7 +295,25 @@ IsRunInDoubt m before first [] (answer ∷ answers) after last = ⊥
 IsRunInDoubt m before first (request ∷ requests) [] after last = ⊥
 IsRunInDoubt m before first (request ∷ requests) (answer ∷ answers) after last =
     (now : Power) × (next : State) × IsStep m before now (in_doubt first) request answer next
-    × IsRunInDoubt m now next requests answers after last
+    × Passes request answer before now × IsRunInDoubt m now next requests answers after last
+
+-- how many answers tell of an injected fault
+abbrev pub faults_told : List Answer → ℕ
+faults_told [] = 0
+faults_told (refused (refusals.Fault kind) ∷ answers) = faults_told answers + 1
+faults_told (answer ∷ answers) = faults_told answers
+
+-- no request asks for a cut of the power
+abbrev pub AskNoCut : List Request → Type 0
+AskNoCut [] = ⊤
+AskNoCut (ask_cut ∷ requests) = ⊥
+AskNoCut (request ∷ requests) = AskNoCut requests
+
+-- no answer tells of one
+abbrev pub TellNoCut : List Answer → Type 0
+TellNoCut [] = ⊤
+TellNoCut (refused refusals.PowerCut ∷ answers) = ⊥
+TellNoCut (answer ∷ answers) = TellNoCut answers
 
 -- an answer of this kind, or a refusal
 abbrev pub IsSaid : (Answer → Bool) → Answer → Type 0

@@ -1,5 +1,5 @@
 -- Which states of the machine a session stands for, and when its calls are steps of the machine.
-use Rattle.std.specs.Prelude.{◌≡◌, ◌⊎◌, ◌+◌, ◌≤◌, ◌^◌, ℕ, ⊤, false, IsFalse, List, [], ◌∷◌, length, Option, Some, None, Result, Ok, Err, MatchResult}
+use Rattle.std.specs.Prelude.{◌≡◌, ◌⊎◌, ◌+◌, ◌≤◌, ◌^◌, ℕ, ⊤, false, IsFalse, List, [], ◌∷◌, length, Option, Some, None, is_some, Result, Ok, Err, MatchResult}
 use Rattle.fault_storage_parts.specs.Crc32.{crc32}
 use Rattle.paged_blob.specs.Caches.{Cache}
 use Rattle.paged_blob.specs.Calls.{Call, opened, file_of}
@@ -15,7 +15,7 @@ use Rattle.auth_store_log.specs.Shown.{IsKeptThrough}
 use Rattle.auth_store_ledger.specs.Store.{commit_after, root_of_history}
 use Rattle.auth_store_session.specs.declared.error.StoreError.{StoreError}
 use Rattle.auth_store_session.specs.declared.error.StoreError.TheVariants as refusals
-use Rattle.auth_store_session.specs.Machine.{Machine, Power, State, closed, live, failed, doubtful, Request, ask_close, Answer, at_rest, IsStep, IsRun, IsRunInDoubt, MayRefuseOpening, MayRefuseCommit, commit_of}
+use Rattle.auth_store_session.specs.Machine.{Machine, Power, State, closed, live, failed, doubtful, Request, ask_close, Answer, at_rest, IsStep, IsRun, IsRunInDoubt, Passes, MayRefuseOpening, MayRefuseCommit, commit_of}
 use Rattle.auth_store_session.specs.Stores.{StoreState, IsCache, IsLiveAt, IsNoHistory, IsWritten, IsKept, Shows}
 
 -- a session: the device and the cache while no store is open, or the store
@@ -35,6 +35,7 @@ power_of device cache = record {
   names = cache.next_id;
   size = length (shown_of device);
   files = device.storage.inner.next;
+  is_asked = is_some device.left;
   is_cut = is_cut device.left;
 }
 
@@ -84,7 +85,8 @@ IsOpenError m format old cache new now error = MayRefuseOpening m (power_of old 
 abbrev pub power_in : {R : Type 0} → Option (DeviceState R × Cache) → Option (StoreState R) → Power
 power_in (Some parts) store = power_of parts.0 parts.1
 power_in None (Some store) = power_of store.device store.cache
-power_in None None = record { injected = 0; refused = 0; names = 0; size = 0; files = 0; is_cut = false }
+power_in None None =
+    record { injected = 0; refused = 0; names = 0; size = 0; files = 0; is_asked = false; is_cut = false }
 
 -- the calls that were made of its device
 abbrev pub calls_in : {R : Type 0} → Option (DeviceState R × Cache) → Option (StoreState R) → List Call
@@ -121,19 +123,28 @@ IsSure size calls (closed history pending) = NoneByChance crc32 size calls
 IsSure size calls _ = ⊤
 
 -- The call is a step of the machine from each state for which the session stood, to one for which it stands.
-abbrev pub Steps : {R : Type 0} → Machine → Format → SessionState R → Request → Answer → SessionState R → Type 0
-Steps m format old request answer new =
+abbrev pub Moves : {R : Type 0} → Machine → Format → SessionState R → Request → Answer → SessionState R → Type 0
+Moves m format old request answer new =
     (state : State) → IsSure (page_size_in new.parts new.store) (calls_in new.parts new.store) state
     → StandsFor format old.parts old.store state
     → (next : State) × IsStep m (power_in old.parts old.store) (power_in new.parts new.store) state request answer next
     × StandsFor format new.parts new.store next
 
+-- It is, and the power before it and after it are those of one step.
+abbrev pub Steps : {R : Type 0} → Machine → Format → SessionState R → Request → Answer → SessionState R → Type 0
+Steps m format old request answer new =
+    Passes request answer (power_in old.parts old.store) (power_in new.parts new.store) × Moves m format old request answer new
+
 -- so a call of an open store
-abbrev pub StepsOpen : {R : Type 0} → Machine → Format → StoreState R → Request → Answer → StoreState R → Type 0
-StepsOpen m format old request answer new =
+abbrev pub MovesOpen : {R : Type 0} → Machine → Format → StoreState R → Request → Answer → StoreState R → Type 0
+MovesOpen m format old request answer new =
     (state : State) → StandsFor format None (Some old) state
     → (next : State) × IsStep m (power_of old.device old.cache) (power_of new.device new.cache) state request answer next
     × StandsFor format None (Some new) next
+
+abbrev pub StepsOpen : {R : Type 0} → Machine → Format → StoreState R → Request → Answer → StoreState R → Type 0
+StepsOpen m format old request answer new =
+    Passes request answer (power_of old.device old.cache) (power_of new.device new.cache) × MovesOpen m format old request answer new
 
 -- the request leaves an open store open
 abbrev pub IsLeftOpen : Request → Type 0

@@ -16,6 +16,7 @@ use Rattle.auth_store_log.specs.Causes.{AreNamed}
 use Rattle.auth_store_log.specs.Shown.{MayShow, KeepsLog}
 use Rattle.auth_store_session.specs.declared.error.StoreError.{StoreError}
 use Rattle.auth_store_session.specs.declared.error.StoreError.TheVariants.{Fault, PowerCut, NumberEnded, Memory, Corrupt}
+use Rattle.auth_store_session.specs.Machine.{IsRaised}
 
 -- an open store that has not failed: its history, and the writer of its log
 pub record LiveState : Type 0 where
@@ -48,6 +49,13 @@ pub record IsStore {R : Type 0} (format : Format) (state : StoreState R) : Type 
   pub opened : is_some state.device.log ≡ true
   pub cache : IsCache state.cache
   pub live : IfSome state.live (IsLive format state.device.calls state.cache)
+
+-- What the calls of a request leave of what has refused calls: one fault is injected at most, a cut refuses one call at most, and none
+-- asks for a cut.
+pub record Raises (before after : Failures) : Type 0 where
+  pub injected : IsRaised before.injected after.injected
+  pub refused : IsRaised before.refused after.refused
+  pub asked : after.is_asked ≡ before.is_asked
 
 -- Why a call over the blob may refuse: a count was raised, a number ended, or there was no memory.
 abbrev pub IsRefusal : Failures → Failures → Type 0 → StoreError → Type 0

@@ -1,6 +1,6 @@
 //! What holds of all openings and of all runs.
 
-ghost use Rattle.std.specs.Prelude.{◌≡◌, ◌++◌, ℕ, List, [], ◌∷◌, Option, Some, None};
+ghost use Rattle.std.specs.Prelude.{◌≡◌, ◌+◌, ◌≤◌, ◌++◌, ℕ, IsFalse, List, [], ◌∷◌, Option, Some, None};
 ghost use Rattle.fault_storage_parts.specs.Crc32.{crc32};
 ghost use Rattle.paged_blob.specs.Caches.{Cache};
 ghost use Rattle.paged_blob.specs.Calls.{Call, opened, file_of};
@@ -11,7 +11,8 @@ ghost use Rattle.auth_store_parts.specs.History.{History, Commit};
 ghost use Rattle.auth_store_device.specs.Devices.{DeviceState};
 ghost use Rattle.auth_store_device.specs.Settings.{IsNew};
 ghost use Rattle.auth_store_log.specs.Records.{Format, begun, history_bytes, recovered_log};
-ghost use Rattle.auth_store_session.specs.Machine.{Machine, Power, State, Request, Answer, IsShownOf, IsStep, IsRun};
+ghost use Rattle.auth_store_session.specs.Machine.{Machine, Power, State, Request, Answer, IsShownOf, IsStep, IsRun, Passes};
+ghost use Rattle.auth_store_session.specs.Machine.{AskNoCut, TellNoCut, faults_told};
 ghost use Rattle.auth_store_session.specs.Machine.{closed, in_doubt, kept_history, Begins, IsRunInDoubt};
 ghost use Rattle.auth_store_session.specs.Standing.{IsOpenedThrough, StandsFor};
 ghost use Rattle.auth_store_session.specs.Stores.{StoreState, IsWritten, Shows};
@@ -49,6 +50,7 @@ pub fn a_run_goes_on()
     ensures { (m : Machine) (before : Power) (first : State) (requests : List Request) (answers : List Answer)
         (at : Power) (now : State) (request : Request) (answer : Answer) (after : Power) (next : State)
         → IsRun m before first requests answers at now → IsStep m at after now request answer next
+        → Passes request answer at after
         → IsRun m before first (requests ++ request ∷ []) (answers ++ answer ∷ []) after next }
 {}
 
@@ -57,7 +59,19 @@ pub fn a_run_in_doubt_goes_on()
     ensures { (m : Machine) (before : Power) (first : State) (requests : List Request) (answers : List Answer)
         (at : Power) (now : State) (request : Request) (answer : Answer) (after : Power) (next : State)
         → IsRunInDoubt m before first requests answers at now → IsStep m at after (in_doubt now) request answer next
+        → Passes request answer at after
         → IsRunInDoubt m before first (requests ++ request ∷ []) (answers ++ answer ∷ []) after next }
+{}
+
+/// A run tells causes that were there: of injected faults at most as many answers as there were faults, and of a cut of
+/// the power none where none was asked for.
+pub fn a_run_tells_causes()
+    ensures faults { (m : Machine) (before : Power) (first : State) (requests : List Request) (answers : List Answer)
+        (after : Power) (last : State) → IsRun m before first requests answers after last
+        → before.injected + faults_told answers ≤ after.injected }
+    ensures cuts { (m : Machine) (before : Power) (first : State) (requests : List Request) (answers : List Answer)
+        (after : Power) (last : State) → IsRun m before first requests answers after last
+        → IsFalse before.is_asked → AskNoCut requests → TellNoCut answers }
 {}
 
 /// Whatever openings show, what has to stay does: the log of the history before a run in doubt begins that of the

@@ -15,7 +15,7 @@ ghost use Rattle.auth_store_ledger.specs.Store.{IsChunkWidth, commit_after, root
 ghost use Rattle.auth_store_log.specs.Records.{format_of, begun, history_bytes, recovered_log, AreRecorded};
 ghost use Rattle.auth_store_log.specs.Shown.{IsKeptThrough};
 ghost use Rattle.auth_store_session.specs.Machine.{commit_of, PassesLimit};
-ghost use Rattle.auth_store_session.specs.Stores.{IsCache, IsLive, IsNoHistory, IsRefusal, IsOpenRefusal, IsCommitRefusal, EndsDisk, EndsOpening, Shows};
+ghost use Rattle.auth_store_session.specs.Stores.{IsCache, IsLive, IsNoHistory, IsRefusal, IsOpenRefusal, IsCommitRefusal, Raises, EndsDisk, EndsOpening, Shows};
 
 use crate::error::StoreError;
 use auth_store_ledger::{Batch, Ledger};
@@ -93,6 +93,8 @@ where
     ensures page_size { cache.new.page_size ≡ cache.old.page_size }
     ensures open { (B.failures blob.new).is_open ≡ true }
     ensures settings { (B.failures blob.new).settings ≡ (B.failures blob.old).settings }
+    ensures raised { Raises (B.failures blob.old) (B.failures blob.new) }
+    ensures names { cache.old.next_id ≤ cache.new.next_id }
     ensures refused { IfErr result (IsOpenRefusal (B.failures blob.old) (B.failures blob.new)
         (EndsOpening (cache.old.page_size + 12) (K.SIZE, V.SIZE) cache.old.next_id
         (length (content (B.calls blob.old))))
@@ -140,6 +142,8 @@ where
     ensures page_size { cache.new.page_size ≡ cache.old.page_size }
     ensures open { (B.failures blob.new).is_open ≡ true }
     ensures settings { (B.failures blob.new).settings ≡ (B.failures blob.old).settings }
+    ensures raised { Raises (B.failures blob.old) (B.failures blob.new) }
+    ensures names { cache.old.next_id ≤ cache.new.next_id }
     ensures refused { IfErr result (IsCommitRefusal false (B.failures blob.old) (B.failures blob.new)
         (EndsDisk (cache.old.page_size + 12) (history_bytes (format_of (K.after tt) (V.after tt) K.SIZE V.SIZE)
         ledger))) }
@@ -193,6 +197,8 @@ where
     ensures page_size { cache.new.page_size ≡ cache.old.page_size }
     ensures open { (B.failures blob.new).is_open ≡ true }
     ensures settings { (B.failures blob.new).settings ≡ (B.failures blob.old).settings }
+    ensures raised { Raises (B.failures blob.old) (B.failures blob.new) }
+    ensures names { cache.old.next_id ≤ cache.new.next_id }
     ensures grows { Grows (B.calls blob.old) (B.calls blob.new) }
     ensures untouched { is_cut ≡ true → blob.new ≡ blob.old }
 {
@@ -254,6 +260,8 @@ where
     ensures page_size { cache.new.page_size ≡ cache.old.page_size }
     ensures open { (B.failures blob.new).is_open ≡ true }
     ensures settings { (B.failures blob.new).settings ≡ (B.failures blob.old).settings }
+    ensures raised { Raises (B.failures blob.old) (B.failures blob.new) }
+    ensures names { cache.old.next_id ≤ cache.new.next_id }
     ensures grows { Grows (B.calls blob.old) (B.calls blob.new) }
     ensures untouched { is_cut ≡ true → blob.new ≡ blob.old }
 {
@@ -298,6 +306,8 @@ where
     ensures page_size { cache.new.page_size ≡ cache.old.page_size }
     ensures open { (B.failures blob.new).is_open ≡ true }
     ensures settings { (B.failures blob.new).settings ≡ (B.failures blob.old).settings }
+    ensures raised { Raises (B.failures blob.old) (B.failures blob.new) }
+    ensures names { cache.old.next_id ≤ cache.new.next_id }
     ensures refused { IfErr result (IsRefusal (B.failures blob.old) (B.failures blob.new) ⊥) }
 {
     let Some(index) = live.ledger.location(key) else {

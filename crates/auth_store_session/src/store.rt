@@ -10,7 +10,7 @@ ghost use Rattle.auth_store_device.specs.Logs.{HasOwnHeader};
 ghost use Rattle.auth_store_ledger.specs.ProvingCode.{parts_of};
 ghost use Rattle.auth_store_ledger.specs.Store.{IsChunkWidth, floor_of, root_of_history};
 ghost use Rattle.auth_store_log.specs.Records.{format_of};
-ghost use Rattle.auth_store_session.specs.Machine.{machine, proof_of, MayRefuse};
+ghost use Rattle.auth_store_session.specs.Machine.{machine, proof_of, Leaves, MayRefuse};
 ghost use Rattle.auth_store_session.specs.Standing.{Commits, IsOpenError, IsOpenedThrough, IsRecovered, IsShownThrough};
 ghost use Rattle.auth_store_session.specs.Standing.{power_of, result_of, shown_of};
 ghost use Rattle.auth_store_session.specs.Stores.{IsCache, IsLive, IsLiveAt, Shows};
@@ -93,6 +93,7 @@ where
         IsOpenedThrough format (cache.old.page_size + 12) (shown_of device.old) device.old.calls device.new.calls }
     ensures header { HasOwnHeader device.old.storage.inner → HasOwnHeader device.new.storage.inner }
     ensures settings { device.new.storage.config ≡ device.old.storage.config }
+    ensures leaves { Leaves (power_of device.old cache.old) (power_of device.new cache.new) }
     ensures cache { IsCache cache.new }
     ensures page_size { cache.new.page_size ≡ cache.old.page_size }
     ensures refused { let format = format_of (K.after tt) (V.after tt) K.SIZE V.SIZE in
@@ -145,6 +146,9 @@ where
             → HasOwnHeader refused.device.storage.inner) }
         ensures settings { MatchResult result (λ store. store.device.storage.config ≡ device.storage.config)
             (λ refused. refused.device.storage.config ≡ device.storage.config) }
+        ensures leaves { MatchResult result
+            (λ store. Leaves (power_of device cache) (power_of store.device store.cache))
+            (λ refused. Leaves (power_of device cache) (power_of refused.device refused.cache)) }
         ensures cache { IfErr result (λ refused. IsCache refused.cache
             × (refused.cache.page_size ≡ cache.page_size)) }
         ensures refused { let format = format_of (K.after tt) (V.after tt) K.SIZE V.SIZE in
@@ -190,6 +194,8 @@ where
         ensures failed { self.old.live ≡ None → (result ≡ Err StoreError.Failed) × (self.new ≡ self.old) }
         ensures page_size { self.new.cache.page_size ≡ self.old.cache.page_size }
         ensures settings { self.new.device.storage.config ≡ self.old.device.storage.config }
+        ensures leaves { Leaves (power_of self.old.device self.old.cache)
+            (power_of self.new.device self.new.cache) }
         ensures grows { Grows self.old.device.calls self.new.device.calls }
     {
         let is_cut = self.device.is_cut();
@@ -217,6 +223,8 @@ where
         ensures failed { self.old.live ≡ None → (result ≡ Err StoreError.Failed) × (self.new ≡ self.old) }
         ensures page_size { self.new.cache.page_size ≡ self.old.cache.page_size }
         ensures settings { self.new.device.storage.config ≡ self.old.device.storage.config }
+        ensures leaves { Leaves (power_of self.old.device self.old.cache)
+            (power_of self.new.device self.new.cache) }
         ensures calls { self.new.device.calls ≡ self.old.device.calls }
     {
         let Some(live) = &self.live else {

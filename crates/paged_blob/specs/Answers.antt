@@ -30,14 +30,16 @@ abbrev pub RecordsOpening : List Call → List Call → Type 0
 RecordsOpening old new = (shown : List ℕ) × IsImage (file_of old) shown × (new ≡ opened shown ∷ old)
 
 -- what has refused calls of a blob so far: how many faults were injected, how many calls a cut of the power refused, and whether an
--- opening stands, without which none is taken; and the settings by which faults are drawn, where any are
+-- opening stands, without which none is taken; whether a cut was asked for, without which none comes; and the settings by which faults
+-- are drawn, where any are
 pub record Failures : Type 0 where
   pub injected : ℕ
   pub refused : ℕ
   pub is_open : Bool
+  pub is_asked : Bool
   pub settings : Option Config
 
--- this after a call: an injected fault and a call that a cut refuses are counted, and no call changes the settings
+-- this after a call: an injected fault and a call that a cut refuses are counted; no call asks for a cut or changes the settings
 abbrev pub failures_after : {T : Type 0} → Result T Error → Failures → Failures
 failures_after (Ok _) failures = failures
 failures_after (Err (Injected _)) failures = record failures { injected = failures.injected + 1 }

@@ -1,6 +1,7 @@
 //! What tests and measurements stand on.
 
-ghost use Rattle.std.specs.Prelude.{◌≡◌, ◌<◌, ◌≤◌, ◌^◌, ◌+◌, ◌++◌, ◌∷◌, [], true, None, length, take, drop, IfOk, OnOk, OnErr};
+ghost use Rattle.std.specs.Prelude.{◌≡◌, ◌<◌, ◌≤◌, ◌^◌, ◌+◌, ◌++◌, ◌∷◌, [], length, take, drop};
+ghost use Rattle.std.specs.Prelude.{true, false, None, IfOk, OnOk, OnErr};
 ghost use Rattle.paged_blob.specs.Calls.{opened, content, resized, with_bytes};
 ghost use Rattle.paged_blob.specs.Recorded.{calls_of};
 
@@ -101,7 +102,13 @@ impl MemoryDisk {
 impl Blob for MemoryDisk {
     ghost calls = { λ d. calls_of d.record_kept.items };
 
-    ghost failures = { λ _. record { injected = 0; refused = 0; is_open = true; settings = None } };
+    ghost failures = { λ _. record {
+      injected = 0;
+      refused = 0;
+      is_open = true;
+      is_asked = false;
+      settings = None;
+    } };
 
     fn read_at(&mut self, alloc: Global, offset: u64, len: usize) -> Result<Vec<u8>, Error> {
         let Some(end) = (offset as usize).checked_add(len) else {

@@ -6,7 +6,7 @@
 //!     step    4, 2, ef     these stood there before
 //!     before  abcdefgh     and so on with the steps before it
 
-ghost use Rattle.std.specs.Prelude.{◌≡◌, [], true, None, take, drop, reverse, IfOk};
+ghost use Rattle.std.specs.Prelude.{◌≡◌, [], true, false, None, take, drop, reverse, IfOk};
 ghost use Rattle.paged_blob.specs.Calls.{content};
 ghost use Rattle.paged_blob_bench.specs.Undone.{calls_from};
 
@@ -56,7 +56,13 @@ impl UndoDisk {
 impl Blob for UndoDisk {
     ghost calls = { λ d. calls_from (reverse d.steps.items) d.bytes.items };
 
-    ghost failures = { λ _. record { injected = 0; refused = 0; is_open = true; settings = None } };
+    ghost failures = { λ _. record {
+      injected = 0;
+      refused = 0;
+      is_open = true;
+      is_asked = false;
+      settings = None;
+    } };
 
     fn read_at(&mut self, alloc: Global, offset: u64, len: usize) -> Result<Vec<u8>, Error> {
         let Some(end) = (offset as usize).checked_add(len) else {

@@ -12,6 +12,7 @@ use Rattle.auth_store_log.specs.Records.{format_of, history_bytes}
 use Rattle.auth_store_session.specs.declared.error.StoreError.{StoreError}
 use Rattle.auth_store_session.specs.Stores.{IsCommitRefusal, EndsDisk}
 use Rattle.auth_store_session.proofs.Refused.{open_after, settings_after, append_refused}
+use Rattle.auth_store_session.proofs.Powers.{raises_by}
 use Rattle.auth_store_session.proofs.live.append_live.Goals as goal
 
 pub returns-in_err-appended-clause-open : goal.returns-in_err-appended-clause-open
@@ -63,3 +64,9 @@ returns-clause-cache g c =
       size = subst (λ n. IsPageSize (n + 12)) (sym cache) c.requires.cache.size;
       named = c.append_batch.ensures.named c.requires.cache.named c.requires.named;
     }
+
+pub returns-in_err-appended-clause-raised : goal.returns-in_err-appended-clause-raised
+returns-in_err-appended-clause-raised g c = raises_by c.append_batch.result _ _ c.append_batch.ensures.failures
+
+pub returns-clause-raised : goal.returns-clause-raised
+returns-clause-raised g c = raises_by c.append_batch.result _ _ c.append_batch.ensures.failures

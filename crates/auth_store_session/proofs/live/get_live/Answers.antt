@@ -8,6 +8,7 @@ use Rattle.auth_store_log.specs.Records.{Format, format_of}
 use Rattle.auth_store_session.specs.declared.error.StoreError.{StoreError}
 use Rattle.auth_store_session.specs.Stores.{LiveState, IsLive, IsRefusal}
 use Rattle.auth_store_session.proofs.Reading.{read_refused, same_value, not_deleted, not_committed}
+use Rattle.auth_store_session.proofs.Powers.{raises_none, raises_reading}
 use Rattle.auth_store_session.proofs.live.get_live.Goals as goal
 
 pub returns-in_err-operation-clause-refused : goal.returns-in_err-operation-clause-refused
@@ -58,3 +59,18 @@ returns-clause-refused g c =
     let same = sym (c.in_ok-operation.ensures.operation (log_of now.history) is.recorded (sym is.content)) ∙ c.in-Some.ensures.stands in
     let said = rw c.in-CommitFloor.is at same in
     not_committed _ _ _ c.in-Some.ensures.value c.in-Some.ensures.next said
+
+pub returns-in_err-operation-clause-raised : goal.returns-in_err-operation-clause-raised
+returns-in_err-operation-clause-raised g c = raises_reading c.read_operation.result _ _ c.read_operation.ensures.failures
+
+pub returns-in-Update-clause-raised : goal.returns-in-Update-clause-raised
+returns-in-Update-clause-raised g c = raises_reading c.read_operation.result _ _ c.read_operation.ensures.failures
+
+pub returns-in-Delete-clause-raised : goal.returns-in-Delete-clause-raised
+returns-in-Delete-clause-raised g c = raises_reading c.read_operation.result _ _ c.read_operation.ensures.failures
+
+pub returns-clause-raised : goal.returns-clause-raised
+returns-clause-raised g c = raises_reading c.read_operation.result _ _ c.read_operation.ensures.failures
+
+pub returns-in_default-clause-raised : goal.returns-in_default-clause-raised
+returns-in_default-clause-raised g c = raises_none (g.B.Blob.failures c.args.blob.now)

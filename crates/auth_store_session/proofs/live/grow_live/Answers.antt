@@ -16,6 +16,7 @@ use Rattle.auth_store_session.specs.Stores.{LiveState, IsCommitRefusal, EndsDisk
 use Rattle.auth_store_log.specs.Laws.Shown.{keeps_log}
 use Rattle.auth_store_session.proofs.Kept.{keeps_history, keeps_before}
 use Rattle.auth_store_session.proofs.Grown.{wider, perhaps, keeps_live, ledger_refused}
+use Rattle.auth_store_session.proofs.Powers.{raises_none}
 use Rattle.auth_store_session.proofs.live.grow_live.Goals as goal
 
 pub returns-in-Err-clause-refused : goal.returns-in-Err-clause-refused
@@ -97,3 +98,9 @@ returns-clause-refused g c =
     (PassesLimit next ⊎ EndsDisk size (history_bytes format next)) c.in-Err-append_live.error (λ ends. inr ends)
     (subst (λ (h : History). IsCommitRefusal false before after (EndsDisk size (history_bytes format h)) c.in-Err-append_live.error)
     c.in-Ok.ensures.ok c.in-Err-append_live.ensures.refused)
+
+pub returns-in-Err-clause-raised : goal.returns-in-Err-clause-raised
+returns-in-Err-clause-raised g c = raises_none (g.B.Blob.failures c.args.blob.now)
+
+pub returns-then-is_cut-clause-raised : goal.returns-then-is_cut-clause-raised
+returns-then-is_cut-clause-raised g c = raises_none (g.B.Blob.failures c.args.blob.now)

@@ -16,6 +16,7 @@ use Rattle.auth_store_session.specs.declared.error.StoreError.{StoreError}
 use Rattle.auth_store_session.specs.Refusals.{of_ledger}
 use Rattle.auth_store_session.specs.Stores.{IsOpenRefusal, IsNoHistory, EndsOpening}
 use Rattle.auth_store_session.proofs.Long.{log_long}
+use Rattle.auth_store_session.proofs.Powers.{raises_by}
 use Rattle.auth_store_session.proofs.live.recover_live.Goals as goal
 
 pub returns-in_err-ledger-clause-refused : goal.returns-in_err-ledger-clause-refused
@@ -61,3 +62,15 @@ returns-clause-cache g c = record {
   size = subst (λ n. IsPageSize (n + 12)) (sym (ap (λ (k : Cache). k.page_size) c.recover.ensures.same)) c.requires.cache.size;
   named = c.recover.ensures.named;
 }
+
+pub returns-in_err-writer-clause-raised : goal.returns-in_err-writer-clause-raised
+returns-in_err-writer-clause-raised g c = raises_by c.recover.result _ _ c.recover.ensures.failures
+
+pub returns-in_err-log-clause-raised : goal.returns-in_err-log-clause-raised
+returns-in_err-log-clause-raised g c = raises_by c.recover.result _ _ c.recover.ensures.failures
+
+pub returns-in_err-ledger-clause-raised : goal.returns-in_err-ledger-clause-raised
+returns-in_err-ledger-clause-raised g c = raises_by c.recover.result _ _ c.recover.ensures.failures
+
+pub returns-clause-raised : goal.returns-clause-raised
+returns-clause-raised g c = raises_by c.recover.result _ _ c.recover.ensures.failures

@@ -4,15 +4,20 @@ use Rattle.auth_store_session.specs.Machine.{machine}
 use Rattle.auth_store_device.specs.Devices.{DeviceState}
 use Rattle.auth_store_session.specs.Machine.{ask_cut, is_set}
 use Rattle.auth_store_session.proofs.Steps.{stays_in, same_grows}
+use Rattle.auth_store_session.proofs.Powers.{passes_asking}
 use Rattle.auth_store_session.proofs.session.cut.Goals as goal
 
 pub returns-clause-steps : goal.returns-clause-steps
-returns-clause-steps g c = stays_in
-    (machine g.F.Family.merge_rule g.H.HashFunction.hash_of g.F.PendingOf.pending_encoding g.row.N g.K.FixedSize.SIZE g.V.FixedSize.SIZE
-    (c.args.store.now.cache.page_size + 12))
-    (format_of (g.K.Read.after (tt {0})) (g.V.Read.after (tt {0})) g.K.FixedSize.SIZE g.V.FixedSize.SIZE) c.args.store.now c.cut_after.new.self ask_cut is_set
-    c.cut_after.ensures.rest.0 c.cut_after.ensures.rest.1 (ap (λ (d : DeviceState _). d.calls) c.cut_after.ensures.device)
-    (λ before after history. (refl, refl)) (λ history commit. (refl, refl))
+returns-clause-steps g c = (
+  passes_asking c.args.store.now.device c.cut_after.new.self.device c.args.store.now.cache c.cut_after.new.self.cache c.args.calls
+      c.cut_after.ensures.device c.cut_after.ensures.rest.0,
+  stays_in
+      (machine g.F.Family.merge_rule g.H.HashFunction.hash_of g.F.PendingOf.pending_encoding g.row.N g.K.FixedSize.SIZE g.V.FixedSize.SIZE
+      (c.args.store.now.cache.page_size + 12))
+      (format_of (g.K.Read.after (tt {0})) (g.V.Read.after (tt {0})) g.K.FixedSize.SIZE g.V.FixedSize.SIZE) c.args.store.now c.cut_after.new.self ask_cut is_set
+      c.cut_after.ensures.rest.0 c.cut_after.ensures.rest.1 (ap (λ (d : DeviceState _). d.calls) c.cut_after.ensures.device)
+      (λ before after history. (refl, refl)) (λ history commit. (refl, refl)),
+)
 
 pub returns-clause-grows : goal.returns-clause-grows
 returns-clause-grows g c = same_grows _ _ (ap (λ (d : DeviceState _). d.calls) c.cut_after.ensures.device)

@@ -4,20 +4,27 @@ use Rattle.auth_store_log.specs.Records.{format_of}
 use Rattle.auth_store_session.specs.Machine.{machine}
 use Rattle.auth_store_ledger.specs.ProvingCode.{parts_of}
 use Rattle.auth_store_session.proofs.Steps.{proves_in}
+use Rattle.auth_store_session.proofs.Powers.{leaves_none}
 use Rattle.auth_store_session.proofs.session.prove.Goals as goal
 
 pub returns-in-Ok-clause-steps : goal.returns-in-Ok-clause-steps
-returns-in-Ok-clause-steps g c = proves_in
-    (machine g.F.Family.merge_rule g.H.HashFunction.hash_of g.F.PendingOf.pending_encoding g.row.N g.K.FixedSize.SIZE g.V.FixedSize.SIZE
-    (c.args.store.now.cache.page_size + 12))
-    (format_of (g.K.Read.after (tt {0})) (g.V.Read.after (tt {0})) g.K.FixedSize.SIZE g.V.FixedSize.SIZE) (parts_of g.V.Write.encoding)
-    (g.K.Write.encoding c.args.key.now) c.args.store.now (Ok c.in-Ok.found) c.in-Ok.ensures.proof c.in-Ok.ensures.refused
-    c.in-Ok.ensures.failed
+returns-in-Ok-clause-steps g c = (
+  leaves_none c.args.store.now.device c.args.store.now.cache,
+  proves_in
+      (machine g.F.Family.merge_rule g.H.HashFunction.hash_of g.F.PendingOf.pending_encoding g.row.N g.K.FixedSize.SIZE g.V.FixedSize.SIZE
+      (c.args.store.now.cache.page_size + 12))
+      (format_of (g.K.Read.after (tt {0})) (g.V.Read.after (tt {0})) g.K.FixedSize.SIZE g.V.FixedSize.SIZE) (parts_of g.V.Write.encoding)
+      (g.K.Write.encoding c.args.key.now) c.args.store.now (Ok c.in-Ok.found) c.in-Ok.ensures.proof c.in-Ok.ensures.refused
+      c.in-Ok.ensures.failed,
+)
 
 pub returns-in-Err-clause-steps : goal.returns-in-Err-clause-steps
-returns-in-Err-clause-steps g c = proves_in
-    (machine g.F.Family.merge_rule g.H.HashFunction.hash_of g.F.PendingOf.pending_encoding g.row.N g.K.FixedSize.SIZE g.V.FixedSize.SIZE
-    (c.args.store.now.cache.page_size + 12))
-    (format_of (g.K.Read.after (tt {0})) (g.V.Read.after (tt {0})) g.K.FixedSize.SIZE g.V.FixedSize.SIZE) (parts_of g.V.Write.encoding)
-    (g.K.Write.encoding c.args.key.now) c.args.store.now (Err c.in-Err.error) c.in-Err.ensures.proof c.in-Err.ensures.refused
-    c.in-Err.ensures.failed
+returns-in-Err-clause-steps g c = (
+  leaves_none c.args.store.now.device c.args.store.now.cache,
+  proves_in
+      (machine g.F.Family.merge_rule g.H.HashFunction.hash_of g.F.PendingOf.pending_encoding g.row.N g.K.FixedSize.SIZE g.V.FixedSize.SIZE
+      (c.args.store.now.cache.page_size + 12))
+      (format_of (g.K.Read.after (tt {0})) (g.V.Read.after (tt {0})) g.K.FixedSize.SIZE g.V.FixedSize.SIZE) (parts_of g.V.Write.encoding)
+      (g.K.Write.encoding c.args.key.now) c.args.store.now (Err c.in-Err.error) c.in-Err.ensures.proof c.in-Err.ensures.refused
+      c.in-Err.ensures.failed,
+)

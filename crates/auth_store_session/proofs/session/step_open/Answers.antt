@@ -1,4 +1,8 @@
+use Rattle.std.proofs.Common.{◌+◌}
 use Rattle.paged_blob.specs.Moments.{here}
+use Rattle.auth_store_log.specs.Records.{format_of}
+use Rattle.auth_store_session.specs.Machine.{machine}
+use Rattle.auth_store_session.proofs.Steps.{still_open_in}
 use Rattle.auth_store_session.proofs.session.step_open.Goals as goal
 
 pub returns-in-Open-clause-grows : goal.returns-in-Open-clause-grows
@@ -24,3 +28,10 @@ returns-in-Commit-clause-steps g c = rw c.in-Commit.is (λ left. c.commit.ensure
 
 pub returns-in-Config-clause-steps : goal.returns-in-Config-clause-steps
 returns-in-Config-clause-steps g c = rw (c.in-Config.is, c.configure.ensures.set) (λ left. c.configure.ensures.steps)
+
+pub returns-in-Open-clause-steps : goal.returns-in-Open-clause-steps
+returns-in-Open-clause-steps g c = λ left. still_open_in
+    (machine g.F.Family.merge_rule g.H.HashFunction.hash_of g.F.PendingOf.pending_encoding g.row.N g.K.FixedSize.SIZE g.V.FixedSize.SIZE
+    (c.args.store.now.cache.page_size + 12))
+    (format_of (g.K.Read.after (tt {0})) (g.V.Read.after (tt {0})) g.K.FixedSize.SIZE g.V.FixedSize.SIZE) g.K.Write.encoding
+    g.V.Write.encoding c.args.step c.args.store.now c.in-Open.is left

@@ -1,4 +1,4 @@
-use Rattle.std.proofs.Common.{◌+◌, Ok, ap, sym, subst}
+use Rattle.std.proofs.Common.{◌+◌, Ok, ap, sym, subst, arith}
 use Rattle.std.specs.Prelude.{IfErr}
 use Rattle.std.proofs.lemmas.Result.{err_from_is_err_and}
 use Rattle.paged_blob.specs.Calls.{content}
@@ -7,6 +7,7 @@ use Rattle.auth_store_session.specs.declared.error.StoreError.{StoreError}
 use Rattle.auth_store_session.specs.Machine.{Machine, machine}
 use Rattle.auth_store_session.specs.Standing.{IsOpenError, shown_of}
 use Rattle.auth_store_session.proofs.OnDevice.{device_refused, recovery_on_device, opened_uncut, shown_through}
+use Rattle.auth_store_session.proofs.Powers.{leaves_of, raises_opening, raises_behind}
 use Rattle.auth_store_session.proofs.store.open_live.Goals as goal
 
 pub returns-in_err-count-clause-refused : goal.returns-in_err-count-clause-refused
@@ -40,3 +41,24 @@ returns-in_err-live-clause-refused g c =
 
 pub returns-clause-uncut : goal.returns-clause-uncut
 returns-clause-uncut g c = opened_uncut c.args.device.now (Ok c.in_ok-count.count) c.in_ok-count.ensures.cut c.in_ok-count.ensures.ended
+
+pub returns-in_err-count-clause-leaves : goal.returns-in_err-count-clause-leaves
+returns-in_err-count-clause-leaves g c = leaves_of c.args.device.now c.open.new.self c.args.cache.now c.args.cache.now
+    (raises_opening c.args.device.now c.open.new.self c.open.result c.open.ensures.count c.open.ensures.refusals c.open.ensures.asked)
+    (omega arith)
+
+pub returns-in_err-live-clause-leaves : goal.returns-in_err-live-clause-leaves
+returns-in_err-live-clause-leaves g c =
+    let old = c.args.device.now in
+    let new = c.recover_live-recovered.new.blob in
+    leaves_of old new c.args.cache.now c.recover_live-recovered.new.cache
+    (raises_behind old c.open.new.self new c.in_ok-count.ensures.count c.in_ok-count.ensures.refusals c.in_ok-count.ensures.asked
+    c.recover_live-recovered.ensures.raised) c.recover_live-recovered.ensures.names
+
+pub returns-clause-leaves : goal.returns-clause-leaves
+returns-clause-leaves g c =
+    let old = c.args.device.now in
+    let new = c.recover_live-recovered.new.blob in
+    leaves_of old new c.args.cache.now c.recover_live-recovered.new.cache
+    (raises_behind old c.open.new.self new c.in_ok-count.ensures.count c.in_ok-count.ensures.refusals c.in_ok-count.ensures.asked
+    c.recover_live-recovered.ensures.raised) c.recover_live-recovered.ensures.names

@@ -1,10 +1,11 @@
-use Rattle.std.proofs.Common.{◌+◌, Some, sym, ap}
+use Rattle.std.proofs.Common.{◌+◌, Some, sym, ap, ◌∙◌}
 use Rattle.auth_store_device.specs.Devices.{DeviceState}
 use Rattle.paged_blob.specs.Caches.{Cache}
 use Rattle.auth_store_log.specs.Records.{format_of}
 use Rattle.auth_store_session.specs.Machine.{machine, ask_close, has_closed}
-use Rattle.auth_store_session.specs.Standing.{page_size_in}
+use Rattle.auth_store_session.specs.Standing.{page_size_in, power_of}
 use Rattle.auth_store_session.proofs.Rests.{closed_at, open_at, was_open, steps_from, grows_from, closes_in, page_from}
+use Rattle.auth_store_session.proofs.Powers.{leaves_same}
 use Rattle.auth_store_session.proofs.session.Session.close.Goals as goal
 
 pub returns-clause-steps : goal.returns-clause-steps
@@ -18,9 +19,13 @@ returns-clause-steps g c =
     let is = was_open c.self.inside.parts c.self.inside.store c.in-Some.store c.args.self.now c.self.view_is c.in-Some.ensures.value
     c.self.invariant.1 in
     steps_from m format was c.args.self.now now (record { parts = Some parts; store = c.take.new.self }) ask_close has_closed is
-    (ap (λ s. record { parts = Some parts; store = s }) (sym c.take.ensures.after))
-    (closes_in m format c.in-Some.store parts.0 parts.1 c.into_parts.ensures.cache.0 (ap (λ (d : DeviceState _). d.calls)
-    c.into_parts.ensures.device) c.into_parts.ensures.header c.into_parts.ensures.shows)
+    (ap (λ s. record { parts = Some parts; store = s }) (sym c.take.ensures.after)) (
+      leaves_same c.in-Some.store.device parts.0 c.in-Some.store.cache parts.1
+          (ap (λ (d : DeviceState _). power_of d parts.1) c.into_parts.ensures.device
+          ∙ ap (power_of c.in-Some.store.device) c.into_parts.ensures.cache.0),
+      closes_in m format c.in-Some.store parts.0 parts.1 c.into_parts.ensures.cache.0 (ap (λ (d : DeviceState _). d.calls)
+          c.into_parts.ensures.device) c.into_parts.ensures.header c.into_parts.ensures.shows,
+    )
 
 pub returns-clause-page_size : goal.returns-clause-page_size
 returns-clause-page_size g c =

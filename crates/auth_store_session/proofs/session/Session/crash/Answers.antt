@@ -5,6 +5,7 @@ use Rattle.auth_store_log.specs.Records.{format_of}
 use Rattle.auth_store_session.specs.Machine.{machine, ask_crash, has_crashed}
 use Rattle.auth_store_session.specs.Standing.{page_size_in}
 use Rattle.auth_store_session.proofs.Rests.{closed_at, was_closed, now_closed, steps_from, grows_from, rests_in}
+use Rattle.auth_store_session.proofs.Powers.{passes_crash}
 use Rattle.auth_store_session.proofs.session.Session.crash.Goals as goal
 
 pub returns-clause-steps : goal.returns-clause-steps
@@ -17,10 +18,13 @@ returns-clause-steps g c =
     let is = was_closed c.self.inside.parts c.self.inside.store c.in-Some.device c.in-Some.cache c.args.self.now c.self.view_is
     c.in-Some.ensures.value c.requires in
     let ends = now_closed c.self.inside.parts c.self.inside.store c.crash.new.self c.in-Some.cache c.args.self.now c.self.view_is c.requires in
-    steps_from m format was c.args.self.now now (record { parts = Some (c.crash.new.self, c.in-Some.cache); store = c.self.inside.store }) ask_crash has_crashed is ends
-    (rests_in m format c.in-Some.device c.crash.new.self c.in-Some.cache ask_crash has_crashed c.crash.ensures.device.1
-    c.crash.ensures.header (λ history pending. (refl, refl, subst (λ l. IsFalse (is_cut l)) (sym c.crash.ensures.device.2) refl))
-    (λ history. (refl, refl, subst (λ l. IsFalse (is_cut l)) (sym c.crash.ensures.device.2) refl)))
+    steps_from m format was c.args.self.now now (record { parts = Some (c.crash.new.self, c.in-Some.cache); store = c.self.inside.store }) ask_crash has_crashed is ends (
+      passes_crash c.in-Some.device c.crash.new.self c.in-Some.cache c.crash.ensures.rest.0 c.crash.ensures.device.3
+          c.crash.ensures.device.2,
+      rests_in m format c.in-Some.device c.crash.new.self c.in-Some.cache ask_crash has_crashed c.crash.ensures.device.1
+          c.crash.ensures.header (λ history pending. (refl, refl, subst (λ l. IsFalse (is_cut l)) (sym c.crash.ensures.device.2) refl))
+          (λ history. (refl, refl, subst (λ l. IsFalse (is_cut l)) (sym c.crash.ensures.device.2) refl)),
+    )
 
 pub returns-clause-grows : goal.returns-clause-grows
 returns-clause-grows g c =

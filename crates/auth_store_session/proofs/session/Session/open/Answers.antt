@@ -16,9 +16,11 @@ returns-in-Ok-clause-steps g c =
     let is = was_closed c.self.inside.parts c.self.inside.store c.in-Some.device c.in-Some.cache c.args.self.now c.self.view_is
     c.in-Some.ensures.value c.requires in
     steps_from m format was c.args.self.now (open_at store) (record { parts = c.take.new.self; store = Some store }) ask_open opened is
-    (ap (λ p. record { parts = p; store = Some store }) (sym c.take.ensures.after))
-    (opens_in m format c.in-Some.device c.in-Some.cache store c.an_opening_shows_what_stood.ensures c.in-Ok.ensures.page_size
-    c.in-Ok.ensures.uncut c.in-Ok.ensures.recovers c.in-Ok.ensures.shown)
+    (ap (λ p. record { parts = p; store = Some store }) (sym c.take.ensures.after)) (
+      c.in-Ok.ensures.leaves,
+      opens_in m format c.in-Some.device c.in-Some.cache store c.an_opening_shows_what_stood.ensures c.in-Ok.ensures.page_size
+          c.in-Ok.ensures.uncut c.in-Ok.ensures.recovers c.in-Ok.ensures.shown,
+    )
 
 pub returns-in-Ok-clause-page_size : goal.returns-in-Ok-clause-page_size
 returns-in-Ok-clause-page_size g c =
@@ -45,13 +47,15 @@ returns-in-Err-clause-steps g c =
     c.in-Some.ensures.value c.requires in
     let ends = now_closed c.self.inside.parts c.self.inside.store c.in-Err.field-0.device c.in-Err.field-0.cache c.args.self.now c.self.view_is c.requires in
     steps_from m format was c.args.self.now now (record { parts = Some (c.in-Err.field-0.device, c.in-Err.field-0.cache); store = c.self.inside.store })
-    ask_open (refused c.in-Err.field-0.error) is ends
-    (refused_in m format c.in-Some.device c.in-Err.field-0.device c.in-Some.cache c.in-Err.field-0.cache c.in-Err.field-0.error
-    (ap (λ (s : SessionState _). page_size_in s.parts s.store) (sym is)) c.in-Err.ensures.cache.1 c.in-Err.ensures.kept
-    c.in-Err.ensures.header
-    (subst (λ size. IsOpenError (machine g.F.Family.merge_rule g.H.HashFunction.hash_of g.F.PendingOf.pending_encoding g.row.N
-    g.K.FixedSize.SIZE g.V.FixedSize.SIZE size) format c.in-Some.device c.in-Some.cache c.in-Err.field-0.device c.in-Err.field-0.cache
-    c.in-Err.field-0.error) (ap (λ (s : SessionState _). page_size_in s.parts s.store) is) c.in-Err.ensures.refused))
+    ask_open (refused c.in-Err.field-0.error) is ends (
+      c.in-Err.ensures.leaves,
+      refused_in m format c.in-Some.device c.in-Err.field-0.device c.in-Some.cache c.in-Err.field-0.cache c.in-Err.field-0.error
+          (ap (λ (s : SessionState _). page_size_in s.parts s.store) (sym is)) c.in-Err.ensures.cache.1 c.in-Err.ensures.kept
+          c.in-Err.ensures.header
+          (subst (λ size. IsOpenError (machine g.F.Family.merge_rule g.H.HashFunction.hash_of g.F.PendingOf.pending_encoding g.row.N
+          g.K.FixedSize.SIZE g.V.FixedSize.SIZE size) format c.in-Some.device c.in-Some.cache c.in-Err.field-0.device c.in-Err.field-0.cache
+          c.in-Err.field-0.error) (ap (λ (s : SessionState _). page_size_in s.parts s.store) is) c.in-Err.ensures.refused),
+    )
 
 pub returns-in-Err-clause-page_size : goal.returns-in-Err-clause-page_size
 returns-in-Err-clause-page_size g c =

@@ -8,6 +8,9 @@ use Rattle.auth_store_session.specs.Machine.{Machine, machine}
 use Rattle.auth_store_session.specs.Standing.{Commits, result_of}
 use Rattle.auth_store_session.specs.Stores.{StoreState, IsLiveAt}
 use Rattle.auth_store_session.proofs.OnDevice.{commits_on_device, same_store, store_of}
+use Rattle.auth_store_session.specs.Machine.{Leaves}
+use Rattle.auth_store_session.specs.Standing.{power_of}
+use Rattle.auth_store_session.proofs.Powers.{leaves_of}
 use Rattle.auth_store_session.proofs.store.Store.commit.Goals as goal
 
 pub invariant_of-self : goal.invariant_of-self
@@ -44,3 +47,10 @@ returns-clause-failed g c = λ none.
       same_store c.commit_live-answer.new.blob c.self.inside.device c.commit_live-answer.new.cache c.self.inside.cache
           c.commit_live-answer.new.store c.self.inside.live all.2 all.3 (all.1 ∙ sym was) ∙ c.self.view_is,
     )
+
+pub returns-clause-leaves : goal.returns-clause-leaves
+returns-clause-leaves g c =
+    let new = c.commit_live-answer.new.blob in
+    let now = c.commit_live-answer.new.cache in
+    subst (λ (s : StoreState g.row.R.Denot). Leaves (power_of s.device s.cache) (power_of new now)) c.self.view_is
+    (leaves_of c.self.inside.device new c.self.inside.cache now c.commit_live-answer.ensures.raised c.commit_live-answer.ensures.names)

@@ -7,6 +7,8 @@ use Rattle.auth_store_session.specs.Machine.{MayRefuse}
 use Rattle.auth_store_session.specs.Standing.{power_of}
 use Rattle.auth_store_session.specs.Stores.{StoreState}
 use Rattle.auth_store_session.proofs.OnDevice.{one_history, read_on_device, live_stays}
+use Rattle.auth_store_session.specs.Machine.{Leaves}
+use Rattle.auth_store_session.proofs.Powers.{leaves_of, leaves_none}
 use Rattle.auth_store_session.proofs.store.Store.get.Goals as goal
 
 pub invariant_of-self : goal.invariant_of-self
@@ -33,3 +35,13 @@ returns-clause-refused g c = λ history live.
     (IfErr-weaker c.get_live-answer.result _ _
     (λ e cause. read_on_device c.self.inside.device c.get_live-answer.new.blob c.self.inside.cache c.get_live-answer.new.cache e
     c.refuses_only_under_a_cut.ensures cause) c.get_live-answer.ensures.refused)
+
+pub returns-clause-leaves : goal.returns-clause-leaves
+returns-clause-leaves g c =
+    let new = c.get_live-answer.new.blob in
+    let now = c.get_live-answer.new.cache in
+    subst (λ (s : StoreState g.row.R.Denot). Leaves (power_of s.device s.cache) (power_of new now)) c.self.view_is
+    (leaves_of c.self.inside.device new c.self.inside.cache now c.get_live-answer.ensures.raised c.get_live-answer.ensures.names)
+
+pub returns-in_default-clause-leaves : goal.returns-in_default-clause-leaves
+returns-in_default-clause-leaves g c = leaves_none c.args.self.now.device c.args.self.now.cache

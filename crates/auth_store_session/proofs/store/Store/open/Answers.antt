@@ -5,6 +5,8 @@ use Rattle.auth_store_log.specs.Records.{Format, format_of}
 use Rattle.auth_store_session.specs.Machine.{Machine, machine}
 use Rattle.auth_store_session.specs.Standing.{IsOpenError, IsOpenedThrough, shown_of}
 use Rattle.auth_store_session.proofs.OnDevice.{refused_closed}
+use Rattle.auth_store_session.specs.Machine.{Leaves}
+use Rattle.auth_store_session.specs.Standing.{power_of}
 use Rattle.auth_store_session.proofs.store.Store.open.Goals as goal
 
 pub invariant_of-result : goal.invariant_of-result
@@ -31,3 +33,11 @@ returns-in-Err-clause-refused g c =
     g.V.FixedSize.SIZE (c.args.cache.page_size + 12) in
     subst (λ (d : DeviceState g.row.R.Denot). IsOpenError m format c.args.device c.args.cache d c.open_live.new.cache c.in-Err.error) (sym c.close.ensures)
     (refused_closed m format c.args.device c.open_live.new.device c.args.cache c.open_live.new.cache c.in-Err.error c.in-Err.ensures.refused)
+
+pub returns-in-Ok-clause-leaves : goal.returns-in-Ok-clause-leaves
+returns-in-Ok-clause-leaves g c = c.open_live.ensures.leaves
+
+pub returns-in-Err-clause-leaves : goal.returns-in-Err-clause-leaves
+returns-in-Err-clause-leaves g c =
+    subst (λ (d : DeviceState g.row.R.Denot). Leaves (power_of c.args.device c.args.cache) (power_of d c.open_live.new.cache))
+    (sym c.close.ensures) c.open_live.ensures.leaves

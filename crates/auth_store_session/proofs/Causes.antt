@@ -1,0 +1,318 @@
+-- What a run tells of causes: they were there.
+use Rattle.std.proofs.Common.{◌≡◌, ◌+◌, ◌<◌, ◌≤◌, ℕ, Bool, true, false, List, [], ◌∷◌, refl, sym, ◌∙◌, ap, subst, ⊎_elim, arith}
+use Rattle.std.specs.Prelude.{⊤, IsTrue, IsFalse}
+use Rattle.auth_store_parts.specs.History.{History}
+use Rattle.auth_store_ledger.specs.Store.{commit_after}
+use Rattle.auth_store_session.specs.declared.error.StoreError.{StoreError}
+use Rattle.auth_store_session.specs.declared.error.StoreError.TheVariants.{Fault, PowerCut, NumberEnded, Memory, Corrupt, Failed, Header}
+use Rattle.auth_store_session.specs.Machine.{Machine, Power, State, closed, live, failed, doubtful, Request, ask_open, ask_commit, ask_get, ask_root, ask_commits, ask_floor, ask_len, ask_proof, ask_close, ask_crash, ask_config, ask_cut, Answer, opened, committed, value, root_is, commits_are, floor_is, len_is, proof, has_closed, has_crashed, is_set, refused, not_open, still_open, MayRefuse, MayRefuseOpening, MayRefuseCommit, IsStep, IsRun, Passes, turned, faults_told, AskNoCut, TellNoCut}
+
+-- what a refusal tells of the power
+abbrev Why : Power → Power → StoreError → Type 0
+Why before after (Fault kind) = before.injected < after.injected
+Why before after PowerCut = IsTrue after.is_cut
+Why before after NumberEnded = ⊤
+Why before after Memory = ⊤
+Why before after Corrupt = ⊤
+Why before after Failed = ⊤
+Why before after (Header fault) = ⊤
+
+may_why : (before after : Power) (e : StoreError) → MayRefuse before after e → Why before after e
+may_why before after (Fault kind) cause = cause
+may_why before after PowerCut cause = cause
+may_why before after NumberEnded cause = tt
+may_why before after Memory cause = tt
+may_why before after Corrupt cause = tt
+may_why before after Failed cause = tt
+may_why before after (Header fault) cause = tt
+
+opening_why : (m : Machine) (before after : Power) (e : StoreError) → MayRefuseOpening m before after e → Why before after e
+opening_why m before after (Fault kind) cause = cause
+opening_why m before after PowerCut cause = cause
+opening_why m before after NumberEnded cause = tt
+opening_why m before after Memory cause = tt
+opening_why m before after Corrupt cause = tt
+opening_why m before after Failed cause = tt
+opening_why m before after (Header fault) cause = tt
+
+commit_why : (m : Machine) (before after : Power) (next : History) (e : StoreError) → MayRefuseCommit m before after next e
+    → Why before after e
+commit_why m before after next (Fault kind) cause = cause
+commit_why m before after next PowerCut cause = cause
+commit_why m before after next NumberEnded cause = tt
+commit_why m before after next Memory cause = tt
+commit_why m before after next Corrupt cause = tt
+commit_why m before after next Failed cause = tt
+commit_why m before after next (Header fault) cause = tt
+
+-- an answer that is no refusal
+abbrev is_refusal : Answer → Bool
+is_refusal opened = false
+is_refusal (committed root) = false
+is_refusal (value found) = false
+is_refusal (root_is root) = false
+is_refusal (commits_are count) = false
+is_refusal (floor_is location) = false
+is_refusal (len_is count) = false
+is_refusal (proof found) = false
+is_refusal has_closed = false
+is_refusal has_crashed = false
+is_refusal is_set = false
+is_refusal (refused e) = true
+is_refusal not_open = false
+is_refusal still_open = false
+
+plain : {A : Type 0} (e : StoreError) (answer : Answer) → refused e ≡ answer → is_refusal answer ≡ false → A
+plain e answer is none = let bad : true ≡ false = ap is_refusal is ∙ none in absurd (cc)
+
+-- a refusal is one
+same_refusal : (e error : StoreError) → refused e ≡ refused error → e ≡ error
+same_refusal e error is = cc
+
+-- so is one that a cause is told of
+why_of : (before after : Power) (e error : StoreError) → refused e ≡ refused error → Why before after error → Why before after e
+why_of before after e error is why = subst (Why before after) (sym (same_refusal e error is)) why
+
+-- what a step tells
+step_why : (m : Machine) (before after : Power) (state : State) (request : Request) (e : StoreError) (next : State)
+    → IsStep m before after state request (refused e) next → Why before after e
+step_why m before after (closed history pending) ask_open e next step = ⊎_elim
+    (λ opens. plain e opened opens.0 refl)
+    (λ refuses. let (error, is, same, cause) = refuses in why_of before after e error is (opening_why m before after error cause))
+    step
+step_why m before after (closed history pending) (ask_commit words metadata) e next step = plain e not_open step.0 refl
+step_why m before after (closed history pending) (ask_get key) e next step = plain e not_open step.0 refl
+step_why m before after (closed history pending) ask_root e next step = plain e not_open step.0 refl
+step_why m before after (closed history pending) ask_commits e next step = plain e not_open step.0 refl
+step_why m before after (closed history pending) ask_floor e next step = plain e not_open step.0 refl
+step_why m before after (closed history pending) ask_len e next step = plain e not_open step.0 refl
+step_why m before after (closed history pending) (ask_proof key) e next step = plain e not_open step.0 refl
+step_why m before after (closed history pending) ask_close e next step = plain e not_open step.0 refl
+step_why m before after (closed history pending) ask_crash e next step = plain e has_crashed step.0 refl
+step_why m before after (closed history pending) ask_config e next step = plain e is_set step.0 refl
+step_why m before after (closed history pending) ask_cut e next step = plain e is_set step.0 refl
+step_why m before after (doubtful history) ask_open e next step = ⊎_elim
+    (λ opens. plain e opened opens.0 refl)
+    (λ refuses. let (error, is, same, cause) = refuses in why_of before after e error is (⊎_elim
+    (λ corrupt. subst (Why before after) (sym corrupt) tt)
+    (λ may. opening_why m before after error may)
+    cause))
+    step
+step_why m before after (doubtful history) (ask_commit words metadata) e next step = plain e not_open step.0 refl
+step_why m before after (doubtful history) (ask_get key) e next step = plain e not_open step.0 refl
+step_why m before after (doubtful history) ask_root e next step = plain e not_open step.0 refl
+step_why m before after (doubtful history) ask_commits e next step = plain e not_open step.0 refl
+step_why m before after (doubtful history) ask_floor e next step = plain e not_open step.0 refl
+step_why m before after (doubtful history) ask_len e next step = plain e not_open step.0 refl
+step_why m before after (doubtful history) (ask_proof key) e next step = plain e not_open step.0 refl
+step_why m before after (doubtful history) ask_close e next step = plain e not_open step.0 refl
+step_why m before after (doubtful history) ask_crash e next step = plain e has_crashed step.0 refl
+step_why m before after (doubtful history) ask_config e next step = plain e is_set step.0 refl
+step_why m before after (doubtful history) ask_cut e next step = plain e is_set step.0 refl
+step_why m before after (live history) ask_open e next step = plain e still_open step.0 refl
+step_why m before after (live history) (ask_commit words metadata) e next step = ⊎_elim
+    (λ commits. plain e (committed _) commits.0 refl)
+    (λ refuses. let (error, is, cause, left) = refuses in why_of before after e error is (commit_why m before after (commit_after words metadata history) error cause))
+    step
+step_why m before after (live history) (ask_get key) e next step = ⊎_elim
+    (λ said. plain e (value _) said refl)
+    (λ refuses. let (error, is, cause) = refuses in why_of before after e error is (may_why before after error cause))
+    step.1
+step_why m before after (live history) ask_root e next step = plain e (root_is _) step.0 refl
+step_why m before after (live history) ask_commits e next step = plain e (commits_are _) step.0 refl
+step_why m before after (live history) ask_floor e next step = plain e (floor_is _) step.0 refl
+step_why m before after (live history) ask_len e next step = plain e (len_is _) step.0 refl
+step_why m before after (live history) (ask_proof key) e next step = ⊎_elim
+    (λ said. plain e (proof _) said refl)
+    (λ refuses. let (error, is, cause) = refuses in why_of before after e error is (may_why before after error cause))
+    step.1
+step_why m before after (live history) ask_close e next step = plain e has_closed step.0 refl
+step_why m before after (live history) ask_crash e next step = plain e still_open step.0 refl
+step_why m before after (live history) ask_config e next step = plain e is_set step.0 refl
+step_why m before after (live history) ask_cut e next step = plain e is_set step.0 refl
+step_why m before after (failed history commit) ask_open e next step = plain e still_open step.0 refl
+step_why m before after (failed history commit) (ask_commit words metadata) e next step = why_of before after e Failed step.0 tt
+step_why m before after (failed history commit) (ask_get key) e next step = why_of before after e Failed step.0 tt
+step_why m before after (failed history commit) ask_root e next step = why_of before after e Failed step.0 tt
+step_why m before after (failed history commit) ask_commits e next step = why_of before after e Failed step.0 tt
+step_why m before after (failed history commit) ask_floor e next step = why_of before after e Failed step.0 tt
+step_why m before after (failed history commit) ask_len e next step = why_of before after e Failed step.0 tt
+step_why m before after (failed history commit) (ask_proof key) e next step = why_of before after e Failed step.0 tt
+step_why m before after (failed history commit) ask_close e next step = plain e has_closed step.0 refl
+step_why m before after (failed history commit) ask_crash e next step = plain e still_open step.0 refl
+step_why m before after (failed history commit) ask_config e next step = plain e is_set step.0 refl
+step_why m before after (failed history commit) ask_cut e next step = plain e is_set step.0 refl
+
+-- what a request makes of the power without its calls injects nothing
+turned_injected : (request : Request) (answer : Answer) (power : Power) → (turned request answer power).injected ≡ power.injected
+turned_injected ask_open answer power = refl
+turned_injected (ask_commit words metadata) answer power = refl
+turned_injected (ask_get key) answer power = refl
+turned_injected ask_root answer power = refl
+turned_injected ask_commits answer power = refl
+turned_injected ask_floor answer power = refl
+turned_injected ask_len answer power = refl
+turned_injected (ask_proof key) answer power = refl
+turned_injected ask_close answer power = refl
+turned_injected ask_config answer power = refl
+turned_injected ask_cut answer power = refl
+turned_injected ask_crash opened power = refl
+turned_injected ask_crash (committed root) power = refl
+turned_injected ask_crash (value found) power = refl
+turned_injected ask_crash (root_is root) power = refl
+turned_injected ask_crash (commits_are count) power = refl
+turned_injected ask_crash (floor_is location) power = refl
+turned_injected ask_crash (len_is count) power = refl
+turned_injected ask_crash (proof found) power = refl
+turned_injected ask_crash has_closed power = refl
+turned_injected ask_crash has_crashed power = refl
+turned_injected ask_crash is_set power = refl
+turned_injected ask_crash (refused e) power = refl
+turned_injected ask_crash not_open power = refl
+turned_injected ask_crash still_open power = refl
+
+-- nor does it ask for a cut, where the request does not
+turned_asked : (request : Request) (answer : Answer) (power : Power) (requests : List Request) → AskNoCut (request ∷ requests)
+    → IsFalse power.is_asked → IsFalse (turned request answer power).is_asked
+turned_asked ask_open answer power requests none is = is
+turned_asked (ask_commit words metadata) answer power requests none is = is
+turned_asked (ask_get key) answer power requests none is = is
+turned_asked ask_root answer power requests none is = is
+turned_asked ask_commits answer power requests none is = is
+turned_asked ask_floor answer power requests none is = is
+turned_asked ask_len answer power requests none is = is
+turned_asked (ask_proof key) answer power requests none is = is
+turned_asked ask_close answer power requests none is = is
+turned_asked ask_config answer power requests none is = is
+turned_asked ask_cut answer power requests none is = absurd none
+turned_asked ask_crash opened power requests none is = is
+turned_asked ask_crash (committed root) power requests none is = is
+turned_asked ask_crash (value found) power requests none is = is
+turned_asked ask_crash (root_is root) power requests none is = is
+turned_asked ask_crash (commits_are count) power requests none is = is
+turned_asked ask_crash (floor_is location) power requests none is = is
+turned_asked ask_crash (len_is count) power requests none is = is
+turned_asked ask_crash (proof found) power requests none is = is
+turned_asked ask_crash has_closed power requests none is = is
+turned_asked ask_crash has_crashed power requests none is = refl
+turned_asked ask_crash is_set power requests none is = is
+turned_asked ask_crash (refused e) power requests none is = is
+turned_asked ask_crash not_open power requests none is = is
+turned_asked ask_crash still_open power requests none is = is
+
+fewer_asked : (request : Request) (requests : List Request) → AskNoCut (request ∷ requests) → AskNoCut requests
+fewer_asked ask_open requests none = none
+fewer_asked (ask_commit words metadata) requests none = none
+fewer_asked (ask_get key) requests none = none
+fewer_asked ask_root requests none = none
+fewer_asked ask_commits requests none = none
+fewer_asked ask_floor requests none = none
+fewer_asked ask_len requests none = none
+fewer_asked (ask_proof key) requests none = none
+fewer_asked ask_close requests none = none
+fewer_asked ask_crash requests none = none
+fewer_asked ask_config requests none = none
+fewer_asked ask_cut requests none = absurd none
+
+-- no step takes faults back
+stays_injected : (before after : Power) (request : Request) (answer : Answer) → Passes request answer before after → (n : ℕ)
+    → before.injected + n ≤ after.injected + n
+stays_injected before after request answer passes n =
+    let turns = turned_injected request answer before in
+    let rises = passes.injected.0 in omega (arith, turns, rises)
+
+-- the faults that a step tells of were injected in it
+told_injected : (m : Machine) (before after : Power) (state : State) (request : Request) (answer : Answer) (next : State)
+    (answers : List Answer) → IsStep m before after state request answer next → Passes request answer before after
+    → before.injected + faults_told (answer ∷ answers) ≤ after.injected + faults_told answers
+told_injected m before after state request opened next answers step passes =
+    stays_injected before after request opened passes (faults_told answers)
+told_injected m before after state request (committed root) next answers step passes =
+    stays_injected before after request (committed root) passes (faults_told answers)
+told_injected m before after state request (value found) next answers step passes =
+    stays_injected before after request (value found) passes (faults_told answers)
+told_injected m before after state request (root_is root) next answers step passes =
+    stays_injected before after request (root_is root) passes (faults_told answers)
+told_injected m before after state request (commits_are count) next answers step passes =
+    stays_injected before after request (commits_are count) passes (faults_told answers)
+told_injected m before after state request (floor_is location) next answers step passes =
+    stays_injected before after request (floor_is location) passes (faults_told answers)
+told_injected m before after state request (len_is count) next answers step passes =
+    stays_injected before after request (len_is count) passes (faults_told answers)
+told_injected m before after state request (proof found) next answers step passes =
+    stays_injected before after request (proof found) passes (faults_told answers)
+told_injected m before after state request has_closed next answers step passes =
+    stays_injected before after request has_closed passes (faults_told answers)
+told_injected m before after state request has_crashed next answers step passes =
+    stays_injected before after request has_crashed passes (faults_told answers)
+told_injected m before after state request is_set next answers step passes =
+    stays_injected before after request is_set passes (faults_told answers)
+told_injected m before after state request (refused (Fault kind)) next answers step passes =
+    let rose : before.injected < after.injected = step_why m before after state request (Fault kind) next step in omega (arith, rose)
+told_injected m before after state request (refused PowerCut) next answers step passes =
+    stays_injected before after request (refused PowerCut) passes (faults_told answers)
+told_injected m before after state request (refused NumberEnded) next answers step passes =
+    stays_injected before after request (refused NumberEnded) passes (faults_told answers)
+told_injected m before after state request (refused Memory) next answers step passes =
+    stays_injected before after request (refused Memory) passes (faults_told answers)
+told_injected m before after state request (refused Corrupt) next answers step passes =
+    stays_injected before after request (refused Corrupt) passes (faults_told answers)
+told_injected m before after state request (refused Failed) next answers step passes =
+    stays_injected before after request (refused Failed) passes (faults_told answers)
+told_injected m before after state request (refused (Header fault)) next answers step passes =
+    stays_injected before after request (refused (Header fault)) passes (faults_told answers)
+told_injected m before after state request not_open next answers step passes =
+    stays_injected before after request not_open passes (faults_told answers)
+told_injected m before after state request still_open next answers step passes =
+    stays_injected before after request still_open passes (faults_told answers)
+
+pub run_faults : (m : Machine) (before : Power) (first : State) (requests : List Request) (answers : List Answer) (after : Power)
+    (last : State) → IsRun m before first requests answers after last → before.injected + faults_told answers ≤ after.injected
+run_faults m before first [] [] after last ran =
+    let same : after.injected ≡ before.injected = ap (λ (p : Power). p.injected) ran.0 in omega (arith, same)
+run_faults m before first (request ∷ requests) (answer ∷ answers) after last ran =
+    let here = told_injected m before ran.0 first request answer ran.1 answers ran.2 ran.3 in
+    let later = run_faults m ran.0 ran.1 requests answers after last ran.4 in omega (arith, here, later)
+run_faults m before first [] (answer ∷ answers) after last ran = absurd ran
+run_faults m before first (request ∷ requests) [] after last ran = absurd ran
+
+-- where no cut was asked for, none stands, and no step tells of one
+uncut_told : (m : Machine) (before after : Power) (state : State) (request : Request) (answer : Answer) (next : State)
+    (answers : List Answer) → IsStep m before after state request answer next → (IsTrue after.is_cut → ⊥) → TellNoCut answers
+    → TellNoCut (answer ∷ answers)
+uncut_told m before after state request opened next answers step uncut rest = rest
+uncut_told m before after state request (committed root) next answers step uncut rest = rest
+uncut_told m before after state request (value found) next answers step uncut rest = rest
+uncut_told m before after state request (root_is root) next answers step uncut rest = rest
+uncut_told m before after state request (commits_are count) next answers step uncut rest = rest
+uncut_told m before after state request (floor_is location) next answers step uncut rest = rest
+uncut_told m before after state request (len_is count) next answers step uncut rest = rest
+uncut_told m before after state request (proof found) next answers step uncut rest = rest
+uncut_told m before after state request has_closed next answers step uncut rest = rest
+uncut_told m before after state request has_crashed next answers step uncut rest = rest
+uncut_told m before after state request is_set next answers step uncut rest = rest
+uncut_told m before after state request (refused (Fault kind)) next answers step uncut rest = rest
+uncut_told m before after state request (refused PowerCut) next answers step uncut rest =
+    uncut (step_why m before after state request PowerCut next step)
+uncut_told m before after state request (refused NumberEnded) next answers step uncut rest = rest
+uncut_told m before after state request (refused Memory) next answers step uncut rest = rest
+uncut_told m before after state request (refused Corrupt) next answers step uncut rest = rest
+uncut_told m before after state request (refused Failed) next answers step uncut rest = rest
+uncut_told m before after state request (refused (Header fault)) next answers step uncut rest = rest
+uncut_told m before after state request not_open next answers step uncut rest = rest
+uncut_told m before after state request still_open next answers step uncut rest = rest
+
+pub run_cuts : (m : Machine) (before : Power) (first : State) (requests : List Request) (answers : List Answer) (after : Power)
+    (last : State) → IsRun m before first requests answers after last → IsFalse before.is_asked → AskNoCut requests
+    → TellNoCut answers
+run_cuts m before first [] [] after last ran unasked none = tt
+run_cuts m before first (request ∷ requests) (answer ∷ answers) after last ran unasked none =
+    let passes : Passes request answer before ran.0 = ran.3 in
+    let still : IsFalse ran.0.is_asked = passes.asked ∙ turned_asked request answer before requests none unasked in
+    uncut_told m before ran.0 first request answer ran.1 answers ran.2 (λ cut. both ran.0.is_asked (passes.cut cut) still)
+    (run_cuts m ran.0 ran.1 requests answers after last ran.4 still (fewer_asked request requests none))
+  where
+    both : (b : Bool) → IsTrue b → IsFalse b → ⊥
+    both b is none = let bad : true ≡ false = sym is ∙ none in cc
+run_cuts m before first [] (answer ∷ answers) after last ran unasked none = absurd ran
+run_cuts m before first (request ∷ requests) [] after last ran unasked none = absurd ran

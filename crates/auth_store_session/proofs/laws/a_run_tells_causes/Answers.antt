@@ -1,0 +1,8 @@
+use Rattle.auth_store_session.proofs.Causes.{run_faults, run_cuts}
+use Rattle.auth_store_session.proofs.laws.a_run_tells_causes.Goals as goal
+
+pub returns-clause-faults : goal.returns-clause-faults
+returns-clause-faults c = run_faults
+
+pub returns-clause-cuts : goal.returns-clause-cuts
+returns-clause-cuts c = run_cuts
