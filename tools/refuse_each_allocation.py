@@ -8,10 +8,12 @@ library's `malloc` or `realloc` is asked for at that place, by a small library t
 
 What has to hold, and is compared: the run ends with status 3 where the script itself found no memory, having printed the
 first lines of the allowed run; else the line that met the refusal prints `error S4`, and every other line prints what it
-prints in an allowed run of the script without that line (a refused commit leaves out its puts too). With ample memory no
-line prints `error S4`. The gate does not run this.
+prints in an allowed run of the script without that line (a refused commit leaves out its puts too), or, where it is a
+commit whose bytes were on their way to the disk, each later line that asks the store prints `error S6` and every other
+one what it prints without those. With ample memory no line prints `error S4`. The gate does not run this.
 """
 import os
+import re
 import subprocess
 import sys
 import tempfile
@@ -64,12 +66,36 @@ def without(lines, at):
     return left
 
 
+# the lines that ask the store
+ASKS = re.compile(r"(commit( \d+)?|(get|prove) [0-9A-Fa-f]{16}|root|floor|len)$")
+
+
+def failed(lines, at, program, shim):
+    """What the script prints where the commit at this index leaves a store that has failed, and its status."""
+    left = without(lines, at)
+    for i in range(at + 1, len(lines)):
+        if ASKS.match(left[i]):
+            left[i] = ""
+    others, status, _ = run(program, shim, "\n".join(left).encode(), 0)
+    others, wanted = iter(others), []
+    for i in answering(lines):
+        if i == at:
+            wanted.append("error S4")
+        elif i > at and ASKS.match(lines[i]):
+            wanted.append("error S6")
+        else:
+            wanted.append(next(others))
+            if wanted[-1].startswith("bad line"):
+                break
+    return wanted, status
+
+
 def check(program, shim, path):
     script = open(path, "rb").read()
     lines = script.decode().split("\n")
     allowed, status, calls = run(program, shim, script, 0)
     assert "error S4" not in allowed, f"{path}: want of memory was answered though there was memory"
-    kept, counts = {}, {"S4": 0, "status 3": 0, "no difference": 0}
+    kept, counts = {}, {"S4": 0, "S4 and failed": 0, "status 3": 0, "no difference": 0}
     for refused in range(1, calls + 1):
         printed, ended, _ = run(program, shim, script, refused)
         if ended == 3:
@@ -79,11 +105,12 @@ def check(program, shim, path):
             place = printed.index("error S4")
             at = answering(lines)[place]
             if at not in kept:
-                kept[at] = run(program, shim, "\n".join(without(lines, at)).encode(), 0)[:2]
-            others, other_status = kept[at]
-            wanted = others[:place] + ["error S4"] + others[place:]
-            assert (printed, ended) == (wanted, other_status), (path, refused, printed, wanted)
-            counts["S4"] += 1
+                others, other_status, _ = run(program, shim, "\n".join(without(lines, at)).encode(), 0)
+                kept[at] = [(others[:place] + ["error S4"] + others[place:], other_status)]
+                if lines[at].startswith("commit"):
+                    kept[at].append(failed(lines, at, program, shim))
+            assert (printed, ended) in kept[at], (path, refused, printed, kept[at])
+            counts["S4" if (printed, ended) == kept[at][0] else "S4 and failed"] += 1
         else:
             assert (printed, ended) == (allowed, status), (path, refused, printed)
             counts["no difference"] += 1
