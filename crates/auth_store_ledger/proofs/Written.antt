@@ -1,5 +1,5 @@
 -- Operations that are read again as they were written, in parts.
-use Rattle.std.proofs.Common.{◌≡◌, ℕ, zero, suc, List, [], ◌∷◌, ◌++◌, map, take, ap, sym, subst, ◌∙◌}
+use Rattle.std.proofs.Common.{◌≡◌, ℕ, List, [], ◌∷◌, ◌++◌, map, ap, sym, subst, ◌∙◌}
 use Rattle.std.proofs.lemmas.List.{map-append}
 use Rattle.state_ops.specs.Operation.{Operation}
 use Rattle.auth_store_log.specs.Records.{Format, FloorFits, FloorsFit, IsRecorded, AreRecorded}
@@ -9,12 +9,6 @@ pub written_together : (format : Format) (one other : List Operation) → AreWri
     → AreWritten format (one ++ other)
 written_together format [] other ones others = others
 written_together format (operation ∷ one) other ones others = (ones.0, written_together format one other ones.1 others)
-
-pub written_front : (format : Format) (count : ℕ) (log : List Operation) → AreWritten format log
-    → AreWritten format (take count log)
-written_front format zero log all = tt
-written_front format (suc count) [] all = tt
-written_front format (suc count) (operation ∷ log) all = (all.0, written_front format count log all.1)
 
 pub all_recorded : (format : Format) (log : List Operation) → AreWritten format log → FloorsFit log
     → AreRecorded format log

@@ -8,7 +8,8 @@ ghost use Rattle.auth_store_ledger.specs.History as spec;
 ghost use Rattle.auth_store_ledger.specs.Map.{value_at};
 ghost use Rattle.auth_store_parts.specs.Places.{places_of};
 ghost use Rattle.auth_store_log.specs.Records.{format_of, log_bytes, AreRecorded};
-ghost use Rattle.auth_store_ledger.specs.Store.{IsChunkWidth, Keeps, HasValueAt, commit_count, setting_of_width, floor_of, root_of_history, commit_after};
+ghost use Rattle.auth_store_ledger.specs.Store.{IsChunkWidth, Keeps, AreWritten, HasValueAt, commit_count};
+ghost use Rattle.auth_store_ledger.specs.Store.{setting_of_width, floor_of, root_of_history, commit_after};
 
 pub mod commit;
 pub mod laws;
@@ -52,7 +53,8 @@ impl<F: Family, H: HashFunction, K: FixedKey, V: FixedValue, const N: usize> Mod
     ghost view = { λ s. spec.history_of s.log };
 
     ghost invariant = { λ s. IsChunkWidth N × Keeps (setting_of_width F.merge_rule H.hash_of N) K.SIZE V.SIZE
-        s.log s.commits s.floor (H.Digest.encoding s.root) };
+        s.log s.commits s.floor (H.Digest.encoding s.root)
+        × AreWritten (format_of (K.after tt) (V.after tt) K.SIZE V.SIZE) s.log };
 }
 
 /// Whether a chunk may have this many bytes: a power of two from 1 to 4096.
@@ -134,7 +136,7 @@ impl<F: Family, H: HashFunction, K: FixedKey, V: FixedValue, const N: usize> Led
         }
         let commits = commits_of(&operations);
         let floor = floor_of(&operations);
-        let log = Log::of(alloc, operations, places)?;
+        let log = Log::of(alloc, operations, places);
         let root = root_of_log::<F, H, K, V, N>(alloc, &log, floor)?;
         Ok(Ledger {
             alloc,
@@ -233,7 +235,7 @@ impl<F: Family, H: HashFunction, K: FixedKey, V: FixedValue, const N: usize> Led
         ensures { AreRecorded (format_of (K.after tt) (V.after tt) K.SIZE V.SIZE) (spec.log_of self.now) }
     {
         a_log_has_floors_within();
-        self.log.is_recorded();
+        let _ = &self.log;
     }
 
     /// What holds of every ledger: its chunks have a width that may be, each commit of its history has a state, and

@@ -1,5 +1,4 @@
-//! What a store knows of its history: the log with its encodings, counts, root and proofs; and the light client that
-//! checks the proofs.
+//! What a store knows of its history: its log, counts, root and proofs; and the light client that checks the proofs.
 #![tactic(auto)]
 
 pub mod client;

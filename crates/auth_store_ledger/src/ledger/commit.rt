@@ -2,8 +2,8 @@
 
 ghost use Rattle.std.specs.Prelude.{◌≡◌, ◌+◌, ◌<◌, ◌≤◌, ◌^◌, ◌++◌, take, length, option_map, IfOk, OnOk, OnErr};
 ghost use Rattle.auth_store_ledger.specs.History.{meanings, with_commit, last_floor};
-ghost use Rattle.auth_store_log.specs.Records.{log_bytes};
-ghost use Rattle.auth_store_ledger.specs.Store.{IsChunkWidth, setting_of_width, state_of_log};
+ghost use Rattle.auth_store_log.specs.Records.{format_of, log_bytes};
+ghost use Rattle.auth_store_ledger.specs.Store.{IsChunkWidth, AreWritten, setting_of_width, state_of_log};
 ghost use Rattle.state_proofs.specs.Canonical.{canonical_root};
 
 use super::log::Log;
@@ -40,6 +40,7 @@ fn try_commit<F: Family, H: HashFunction, K: FixedKey, V: FixedValue, const N: u
         ≡ canonical_root (setting_of_width F.merge_rule H.hash_of N) (state_of_log K.SIZE V.SIZE log.new)) }
     ensures bytes { IfOk result (λ committed. committed.bytes.items ≡ log_bytes K.SIZE V.SIZE
         (with_commit log.old (meanings K.encoding V.encoding changes.items) (option_map V.encoding metadata))) }
+    ensures written { OnOk result (AreWritten (format_of (K.after tt) (V.after tt) K.SIZE V.SIZE) log.new) }
     ensures front { OnErr result (take (length log.old) log.new ≡ log.old) }
 {
     let start = log.len();
@@ -68,6 +69,7 @@ pub fn append_commit<F: Family, H: HashFunction, K: FixedKey, V: FixedValue, con
         ≡ canonical_root (setting_of_width F.merge_rule H.hash_of N) (state_of_log K.SIZE V.SIZE log.new)) }
     ensures bytes { IfOk result (λ committed. committed.bytes.items ≡ log_bytes K.SIZE V.SIZE
         (with_commit log.old (meanings K.encoding V.encoding changes.items) (option_map V.encoding metadata))) }
+    ensures written { OnOk result (AreWritten (format_of (K.after tt) (V.after tt) K.SIZE V.SIZE) log.new) }
     ensures kept { OnErr result (log.new ≡ log.old) }
 {
     let start = log.len();

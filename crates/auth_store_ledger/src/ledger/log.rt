@@ -1,28 +1,27 @@
-//! The log of a store: its operations with their encodings.
+//! The log of a store: its operations, with the place of each key's update.
 
 ghost use Rattle.std.specs.Prelude.{◌≡◌, ◌+◌, ◌≤◌, ◌^◌, ◌++◌, ◌∷◌, [], List, map, take, drop, length, IfOk, OnOk, OnErr};
-ghost use Rattle.std.specs.List.{flat_map};
 ghost use Rattle.state_ops.specs.Operation as meaning;
 ghost use Rattle.auth_store_ledger.specs.History.{meanings, active_location, activity_bits};
 ghost use Rattle.auth_store_parts.specs.Places.{places_of};
-ghost use Rattle.auth_store_log.specs.Records.{format_of, log_bytes, AreRecorded, FloorsFit};
+ghost use Rattle.auth_store_log.specs.Records.{format_of, log_bytes};
 ghost use Rattle.auth_store_ledger.specs.Store as spec;
 
 use crate::history;
 use crate::history::Places;
-use auth_store_log::encoding::record_bytes;
+use auth_store_log::encoding::{bytes_of, record_bytes};
 use merkle_forest::Family;
 use state_ops::{FixedKey, FixedValue, OrderedOperation};
 use std::alloc::{AllocError, Global};
 use std::marker::Model;
 
-/// Operations with the fixed encoding of each, which is made once, and with the place of each key's update. Its contracts
-/// see it as what the operations say.
+/// Operations with the place of each key's update. Their encodings are not kept beside them: they are made where a root
+/// or a proof is made of the whole log, so that no second copy of it is kept. Its contracts see it as what the operations
+/// say.
 #[derive(Drop)]
 pub struct Log<F: Family, K: FixedKey, V: FixedValue> {
     alloc: Global,
     operations: Vec<OrderedOperation<F, K, V>>,
-    encodings: Vec<Vec<u8>>,
     places: Places<K>,
 }
 
@@ -31,14 +30,10 @@ impl<F: Family, K: FixedKey, V: FixedValue> Model for Log<F, K, V> {
 
     ghost view = { λ log. meanings K.encoding V.encoding log.operations.items };
 
-    ghost invariant = { λ log. (map (λ e. e.items) log.encodings.items ≡ spec.encodings K.SIZE V.SIZE
-        (meanings K.encoding V.encoding log.operations.items))
-        × spec.AreWritten (format_of (K.after tt) (V.after tt) K.SIZE V.SIZE)
-        (meanings K.encoding V.encoding log.operations.items)
-        × (log.places ≡ places_of (meanings K.encoding V.encoding log.operations.items)) };
+    ghost invariant = { λ log. log.places ≡ places_of (meanings K.encoding V.encoding log.operations.items) };
 }
 
-/// The fixed encodings of the operations. It fails only when out of memory.
+// The fixed encodings of the operations. It fails only when out of memory.
 fn encodings_of<F: Family, K: FixedKey, V: FixedValue>(
     alloc: Global,
     operations: &[OrderedOperation<F, K, V>],
@@ -57,22 +52,20 @@ fn encodings_of<F: Family, K: FixedKey, V: FixedValue>(
 }
 
 impl<F: Family, K: FixedKey, V: FixedValue> Log<F, K, V> {
-    /// A log of these operations, whose places these are. It fails only when out of memory.
+    /// A log of these operations, whose places these are.
     pub fn of(
         alloc: Global,
         operations: Vec<OrderedOperation<F, K, V>>,
         places: Places<K>,
-    ) -> Result<Log<F, K, V>, AllocError>
+    ) -> Log<F, K, V>
         requires { places ≡ places_of (meanings K.encoding V.encoding operations.items) }
-        ensures { IfOk result (λ log. log ≡ meanings K.encoding V.encoding operations.items) }
+        ensures { result ≡ meanings K.encoding V.encoding operations.items }
     {
-        let encodings = encodings_of(alloc, &operations)?;
-        Ok(Log {
+        Log {
             alloc,
             operations,
-            encodings,
             places,
-        })
+        }
     }
 
     /// How many operations there are.
@@ -89,11 +82,13 @@ impl<F: Family, K: FixedKey, V: FixedValue> Log<F, K, V> {
         &self.operations
     }
 
-    /// The fixed encodings of the operations.
-    pub fn encodings(&self) -> &[Vec<u8>]
-        ensures { map (λ e. e.items) result.now ≡ spec.encodings K.SIZE V.SIZE self.now }
+    /// The fixed encodings of the operations, made anew. It fails only when out of memory.
+    pub fn encodings(&self) -> Result<Vec<Vec<u8>>, AllocError>
+        ensures encoded { IfOk result (λ encoded. map (λ e. e.items) encoded.items
+            ≡ spec.encodings K.SIZE V.SIZE self.now) }
+        ensures written { OnOk result (spec.AreWritten (format_of (K.after tt) (V.after tt) K.SIZE V.SIZE) self.now) }
     {
-        &self.encodings
+        encodings_of(self.alloc, &self.operations)
     }
 
     /// Where the updates stand that give keys their values.
@@ -121,24 +116,13 @@ impl<F: Family, K: FixedKey, V: FixedValue> Log<F, K, V> {
         history::activity_bits(self.alloc, &self.operations, &self.places)
     }
 
-    /// What holds of every log: where the floors of its commits fit, its operations are read again as they were
-    /// written.
-    pub fn is_recorded(&self)
-        ensures { FloorsFit self.now → AreRecorded (format_of (K.after tt) (V.after tt) K.SIZE V.SIZE) self.now }
-    {
-        let _ = &self.operations;
-    }
-
     /// Appends an operation. It fails only when out of memory, and the log then stays as it was.
     pub fn push(&mut self, operation: OrderedOperation<F, K, V>) -> Result<(), AllocError>
         ensures ok { OnOk result (self.new ≡ self.old ++ meaning.meaning_of K.encoding V.encoding operation ∷ []) }
         ensures err { OnErr result (self.new ≡ self.old) }
     {
-        let encoding = record_bytes(self.alloc, &operation)?;
         self.operations.reserve(1)?;
-        self.encodings.reserve(1)?;
         self.places.follow(self.operations.len(), &operation)?;
-        self.encodings.push(encoding)?;
         Ok(self.operations.push(operation)?)
     }
 
@@ -149,11 +133,9 @@ impl<F: Family, K: FixedKey, V: FixedValue> Log<F, K, V> {
         ensures err { OnErr result (self.new ≡ self.old) }
     {
         let mut operations = operations;
-        let mut encodings = encodings_of(self.alloc, &operations)?;
         let mut places = self.places.try_copy()?;
         places.follow_all(self.operations.len(), &operations)?;
         self.operations.reserve(operations.len())?;
-        self.encodings.append(&mut encodings)?;
         self.operations.append(&mut operations)?;
         self.places = places;
         Ok(())
@@ -165,7 +147,6 @@ impl<F: Family, K: FixedKey, V: FixedValue> Log<F, K, V> {
         ensures { self.new ≡ take count self.old }
     {
         self.operations.truncate(count);
-        self.encodings.truncate(count);
         self.places = places;
     }
 
@@ -175,17 +156,6 @@ impl<F: Family, K: FixedKey, V: FixedValue> Log<F, K, V> {
         requires { count ≤ length self.now }
         ensures { IfOk result (λ bytes. bytes.items ≡ log_bytes K.SIZE V.SIZE (drop count self.now)) }
     {
-        joined(self.alloc, &self.encodings[count..])
+        bytes_of(self.alloc, &self.operations[count..])
     }
-}
-
-// These bytes, one after the other. It fails only when out of memory.
-fn joined(alloc: Global, parts: &[Vec<u8>]) -> Result<Vec<u8>, AllocError>
-    ensures { IfOk result (λ bytes. bytes.items ≡ flat_map (λ part. part.items) parts.now) }
-{
-    let mut bytes = Vec::new(alloc);
-    for part in parts {
-        bytes.extend_from_slice(part)?;
-    }
-    Ok(bytes)
 }

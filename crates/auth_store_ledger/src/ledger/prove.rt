@@ -67,7 +67,8 @@ where
         (state_of_log K.SIZE V.SIZE log.now) location (K.encoding next_key.now)) }
 {
     let bits = log.activity_bits()?;
-    let snapshot = snapshot_of::<N>(log.encodings(), &bits, floor);
+    let encodings = log.encodings()?;
+    let snapshot = snapshot_of::<N>(&encodings, &bits, floor);
     let proof = KeyValueProof::<F, K, H::Digest> {
         proof: honest_proof::<F, H>(alloc, &snapshot, location as u64)?,
         next_key: next_key.clone()?,

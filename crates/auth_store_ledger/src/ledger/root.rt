@@ -1,8 +1,10 @@
 //! The root of a log.
 
-ghost use Rattle.std.specs.Prelude.{◌≡◌, ◌≤◌, ◌^◌, length, IfOk};
+ghost use Rattle.std.specs.Prelude.{◌≡◌, ◌≤◌, ◌^◌, length, IfOk, OnOk};
 ghost use Rattle.auth_store_ledger.specs.History.{last_floor};
-ghost use Rattle.auth_store_ledger.specs.Store.{IsChunkWidth, grafting_height, setting_of_width, state_of_log};
+ghost use Rattle.auth_store_ledger.specs.Store.{IsChunkWidth, AreWritten};
+ghost use Rattle.auth_store_ledger.specs.Store.{grafting_height, setting_of_width, state_of_log};
+ghost use Rattle.auth_store_log.specs.Records.{format_of};
 ghost use Rattle.state_proofs.specs.Canonical.{canonical_root};
 
 use super::log::Log;
@@ -44,10 +46,12 @@ pub fn root_of_log<F: Family, H: HashFunction, K: FixedKey, V: FixedValue, const
     requires width { IsChunkWidth N }
     requires few { length log.now ≤ 2 ^ 62 }
     requires last { floor ≡ last_floor log.now }
-    ensures { IfOk result (λ root. H.Digest.encoding root
+    ensures root { IfOk result (λ root. H.Digest.encoding root
         ≡ canonical_root (setting_of_width F.merge_rule H.hash_of N) (state_of_log K.SIZE V.SIZE log.now)) }
+    ensures written { OnOk result (AreWritten (format_of (K.after tt) (V.after tt) K.SIZE V.SIZE) log.now) }
 {
     let bits = log.activity_bits()?;
-    let snapshot = snapshot_of::<N>(log.encodings(), &bits, floor);
+    let encodings = log.encodings()?;
+    let snapshot = snapshot_of::<N>(&encodings, &bits, floor);
     canonical_root::<F, H>(alloc, &snapshot)
 }

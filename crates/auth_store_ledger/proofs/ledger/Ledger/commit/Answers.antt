@@ -35,6 +35,7 @@ invariant_of-self-2 g c =
           changes c.append_commit.new.log _ _ _ _ _ c.self.invariant.1
           (rw c.operations.ensures at c.in_ok-changes.ensures) c.in_ok-floor.ensures.log c.in_ok-floor.ensures.floor
           few c.in_ok-floor.ensures.root,
+      c.in_ok-floor.ensures.written,
     )
 
 pub returns-clause-ok : goal.returns-clause-ok

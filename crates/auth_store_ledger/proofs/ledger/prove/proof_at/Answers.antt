@@ -27,8 +27,8 @@ returns-clause-bytes g c =
     let setting : setting_of g.F.Family.merge_rule g.H.HashFunction.hash_of snapshot ≡ wanted = cc in
     let seen = c.snapshot_of-snapshot.ensures in
     let state : state_of snapshot ≡ logged = same_state _ _ _ _ _ _
-    (ap (map (λ e. e.items)) seen.operations ∙ c.encodings.ensures)
-    (seen.bits ∙ (c.deref.ensures.value ∙ c.in_ok-bits.ensures))
+    (ap (map (λ e. e.items)) (seen.operations ∙ c.deref.ensures.value) ∙ c.in_ok-encodings.ensures.encoded)
+    (seen.bits ∙ (c.deref-2.ensures.value ∙ c.in_ok-bits.ensures))
     (seen.floor ∙ c.requires.last) in
     c.in_ok-write.ensures.ok
     ∙ (ap (λ start. start ++ key_value_proof_encoding pending
