@@ -61,7 +61,7 @@ changed_open store file_now handle live change order orderly there first offset 
       orderly = record {
         numbered = numbered-changed change store.files store.next ∙ orderly.numbered;
         listed = λ _. orderly.listed there;
-        headed = λ _. subst (λ (l : files.File). HasHeader l.base) is (made-headed (change (log_of store)).base headed);
+        headed = λ _. inl (subst (λ (l : files.File). HasHeader l.base) is (made-headed (change (log_of store)).base headed));
         past = subst (λ (l : files.File). ArePast 8 l.log) is past;
       };
       stands = subst (Stands file_now) is stands;

@@ -12,13 +12,8 @@ use Rattle.fault_storage_parts.specs.declared.header.Layout.TheVariants.{V0}
 use Rattle.fault_storage_parts.specs.Headers.{magic_of, created, layout_number, layout_with, layout_of, header_of, is_among, is_version}
 use Rattle.fault_storage_parts.specs.Headers.{has_region, has_checksum, first_fault, file_checks}
 use Rattle.fault_storage.specs.Directory.{both_layouts, front_of}
-use Rattle.auth_store_device.specs.Devices.{log_versions}
-use Rattle.auth_store_device.specs.Logs.{HasHeader, BeginsAsMade}
+use Rattle.auth_store_device.specs.Logs.{HasHeader, BeginsAsMade, log_versions, fault_of}
 use Rattle.auth_store_device.proofs.Outcomes.{made-headed}
-
--- the first fault of a file's header, where it is opened in version 0
-abbrev pub fault_of : List ℕ → Option HeaderError
-fault_of bytes = first_fault (file_checks both_layouts log_versions (front_of bytes) (length bytes))
 
 -- the first bytes of a file are those of its front
 pub front_first : (count : ℕ) (bytes : List ℕ) → count ≤ 12 → count ≤ length bytes → take count (front_of bytes) ≡ take count bytes

@@ -18,7 +18,7 @@ use Rattle.fault_storage.specs.Directory.{front_of, has_partition, with_partitio
 use Rattle.std.proofs.Common.{filter, not}
 use Rattle.fault_storage.specs.declared.stored.StoredFile.{StoredFile}
 use Rattle.fault_storage_parts.specs.declared.header.Versions.{Versions}
-use Rattle.fault_storage_parts.specs.Files.{ArePast}
+use Rattle.fault_storage_parts.specs.Files.{ArePast, durable_bytes}
 use Rattle.fault_storage.specs.Stores.{number_with, published}
 use Rattle.fault_storage.specs.Directory.{in_order, placed, new_handle, handle_in}
 use Rattle.std.specs.Prelude.{Ok}
@@ -31,14 +31,14 @@ use Rattle.fault_storage.specs.declared.storage.Opened.{Opened}
 use Rattle.fault_storage.specs.Stores.{has_number, file_with}
 use Rattle.fault_storage.specs.Directory.{MemoryOpens}
 use Rattle.fault_storage.specs.Faults.{IsFaultyCall, FaultyOpens, unwrapped}
-use Rattle.auth_store_device.specs.Devices.{log_versions, log_fault, shown_file}
+use Rattle.auth_store_device.specs.Devices.{log_fault, shown_file}
 use Rattle.auth_store_device.specs.Logs.{IsFirst}
 use Rattle.auth_store_device.proofs.Places.{changed-first, file-changed}
 use Rattle.auth_store_device.proofs.Steps.{nothing_behind}
 use Rattle.paged_blob.specs.Images.{IsLive}
 use Rattle.auth_store_device.specs.Logs.{is_log, log_partition, log_name, has_log, log_of, durable_log, behind_header, HasHeader, IsOrderly}
-use Rattle.auth_store_device.specs.Logs.{BeginsAsMade, Stands, IsOpenLog}
-use Rattle.auth_store_device.proofs.Headers.{fault_of, front_magic, fine_made}
+use Rattle.auth_store_device.specs.Logs.{log_versions, fault_of, IsForeign, BeginsAsMade, Stands, IsOpenLog}
+use Rattle.auth_store_device.proofs.Headers.{front_magic, fine_made}
 use Rattle.auth_store_device.proofs.Carried.{published_open, stands_settled}
 use Rattle.auth_store_device.proofs.Opened.{filter-none, file-added, has-added, numbered-added, first-added, first-found}
 use Rattle.auth_store_device.proofs.Outcomes.{left-headed, durable-left, made-headed}
@@ -91,10 +91,34 @@ listed_added partition partitions same = at (has_partition partition partitions)
     at true is = is
     at false is = snoc partitions
 
--- the header of the durable bytes
-pub durable_headed : (store : Store) → IsOrderly store → has_log store ≡ true → HasHeader (durable_log store)
-durable_headed store o there =
-    left-headed (log_of store).base (durable_log store) (log_of store).log [] (durable-left (log_of store).base (log_of store).log) o.past (o.headed there)
+-- of a foreign file the durable bytes are the base
+foreign_durable : (log : files.File) → IsForeign log → durable_bytes log.base log.log ≡ log.base
+foreign_durable log foreign = ap (durable_bytes log.base) foreign.settled
+
+-- the header of the durable bytes, where an opening finds no fault
+pub durable_headed : (store : Store) → IsOrderly store → has_log store ≡ true → fault_of (durable_log store) ≡ None → HasHeader (durable_log store)
+durable_headed store o there fine = at (o.headed there)
+  where
+    at : HasHeader (log_of store).base ⊎ IsForeign (log_of store) → HasHeader (durable_log store)
+    at (inl headed) =
+        left-headed (log_of store).base (durable_log store) (log_of store).log [] (durable-left (log_of store).base (log_of store).log) o.past headed
+    at (inr foreign) =
+        let found : fault_of (durable_log store) ≡ Some foreign.fault =
+        ap fault_of (foreign_durable (log_of store) foreign) ∙ foreign.refused in
+        let clash : None ≡ Some foreign.fault = sym fine ∙ found in
+        cc
+
+-- what is durable of a log was not left half made
+durable_made : (store : Store) → IsOrderly store → has_log store ≡ true → IsUnmade (front_of (durable_log store)) (length (durable_log store)) → ⊥
+durable_made store o there unmade = at (o.headed there)
+  where
+    at : HasHeader (log_of store).base ⊎ IsForeign (log_of store) → ⊥
+    at (inl headed) =
+        made (durable_log store)
+        (left-headed (log_of store).base (durable_log store) (log_of store).log [] (durable-left (log_of store).base (log_of store).log) o.past headed)
+        unmade
+    at (inr foreign) =
+        foreign.made (subst (λ (b : List ℕ). IsUnmade (front_of b) (length b)) (foreign_durable (log_of store) foreign) unmade)
 
 -- the log that was there is open, and admitted
 pub found_open : (store : Store) → IsOrderly store → has_log store ≡ true → fault_of (durable_log store) ≡ None
@@ -102,7 +126,7 @@ pub found_open : (store : Store) → IsOrderly store → has_log store ≡ true 
     (record { base = behind_header (durable_log store); changes = []; failed = false }) (handle_in log_partition log_name store.files)
 found_open store o there fine =
     let durable = durable_log store in
-    let headed : HasHeader durable = durable_headed store o there in
+    let headed : HasHeader durable = durable_headed store o there fine in
     published_open store (handle_in log_partition log_name store.files) o there (first-found store.next store.files o.numbered there)
     (begins durable headed) (fine_made durable headed fine)
 
@@ -126,7 +150,7 @@ made_open store versions zero o none =
       orderly = record {
         numbered = numbered-added store.next new store.files refl o.numbered;
         listed = λ _. listed_added log_partition store.partitions refl;
-        headed = λ _. subst (λ (l : files.File). HasHeader l.base) file (made-headed (created V0 0) created_made);
+        headed = λ _. inl (subst (λ (l : files.File). HasHeader l.base) file (made-headed (created V0 0) created_made));
         past = subst (λ (l : files.File). ArePast 8 l.log) file tt;
       };
       stands = subst (Stands (record { base = []; changes = []; failed = false })) file
@@ -172,7 +196,7 @@ module _ {R : Type 0} (stream : R → Stream) (rate : Probability) (old mid : St
         → (opened.blob.inner ≡ handle_in log_partition log_name old.inner.files) × (mid.inner ≡ old.inner) × (fault_of (durable_log old.inner) ≡ None)
     found_handle (valid, inl (there, fine, is, same)) o has = (ap (λ (x : Opened Handle). x.blob) is, same, fine)
     found_handle (valid, inr (inl none, is, same)) o has = absurd (both_ways _ none has)
-    found_handle (valid, inr (inr (there, unmade), is, same)) o has = absurd (made (durable_log old.inner) (durable_headed old.inner o has) unmade)
+    found_handle (valid, inr (inr (there, unmade), is, same)) o has = absurd (durable_made old.inner o has unmade)
 
     pub made_handle : MemoryOpens old.inner log_partition log_name log_versions (Ok (unwrapped opened)) mid.inner → has_log old.inner ≡ false
         → (opened.blob.inner ≡ new_handle old.inner.next log_versions) × (mid.inner ≡ placed log_partition log_name (created V0 0) old.inner)

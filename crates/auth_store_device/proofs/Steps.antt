@@ -1,11 +1,11 @@
 -- How a device is carried on by each call.
-use Rattle.std.proofs.Common.{◌≡◌, ℕ, ◌<◌, true, false, Option, Some, None, List, [], ◌∷◌, length, sym, ◌∙◌, ap, subst, refl, arith}
+use Rattle.std.proofs.Common.{◌≡◌, ℕ, zero, suc, ◌<◌, Bool, true, false, Option, Some, None, List, [], ◌∷◌, length, drop, sym, ◌∙◌, ap, subst, refl, arith}
 use Rattle.std.specs.Prelude.{IfSome, ◌⊎◌}
 use Rattle.std.proofs.Common.{inl, inr}
 use Rattle.std.proofs.lemmas.Bool.{both_ways, false_from_ne_true}
 use Rattle.rand_core.specs.Stream.{Stream}
 use Rattle.fault_storage_parts.specs.Files as files
-use Rattle.fault_storage_parts.specs.Files.{ArePast, IsLeftOf, durable_bytes}
+use Rattle.fault_storage_parts.specs.Files.{Mutation, ArePast, IsLeftOf, left_by, durable_bytes}
 use Rattle.fault_storage.specs.declared.faulty.Blob.{Blob}
 use Rattle.fault_storage.specs.declared.faulty.Storage.{Storage}
 use Rattle.fault_storage.specs.Stores.{Store, Handle, AreLeftOf, crashed_store}
@@ -21,8 +21,8 @@ use Rattle.paged_blob.specs.declared.error.Error.TheVariants.{NumberEnded, Power
 use Rattle.paged_blob.specs.Images.{IsImage, IsReached}
 use Rattle.paged_blob.proofs.Live.{reached_image}
 use Rattle.auth_store_device.specs.Logs.{IsOrderly, IsHandleOf, are_numbered, log_partition, log_name, has_log, log_of, durable_log, behind_header}
-use Rattle.auth_store_device.specs.Logs.{Stands, IsOpenLog, HasOwnHeader}
-use Rattle.auth_store_device.specs.Devices.{DeviceState, IsDevice, IsStopped, HasEnded, shown_file, log_fault, log_versions, opening_answer}
+use Rattle.auth_store_device.specs.Logs.{log_versions, HasHeader, IsForeign, Stands, IsOpenLog, HasOwnHeader}
+use Rattle.auth_store_device.specs.Devices.{DeviceState, IsDevice, IsStopped, IsLetThrough, HasEnded, shown_file, log_fault, opening_answer}
 use Rattle.auth_store_device.specs.Devices.{opening_refusal, stopped_opening, TellsOpening, IsOpeningCall}
 use Rattle.auth_store_device.specs.declared.error.OpenError.{OpenError}
 use Rattle.auth_store_device.specs.declared.error.OpenError.TheVariants as openings
@@ -33,7 +33,32 @@ use Rattle.fault_storage_parts.specs.declared.error.Call.TheVariants.{Open}
 use Rattle.auth_store_device.proofs.Headers.{made_fine}
 use Rattle.auth_store_device.proofs.Reached.{reached_base}
 use Rattle.auth_store_device.proofs.Places.{file-none, file-left, has-left, numbered-left}
-use Rattle.auth_store_device.proofs.Outcomes.{durable-left, left-left, left-headed, past-drop}
+use Rattle.auth_store_device.proofs.Outcomes.{durable-left, left-left, left-headed, made-headed, past-drop}
+
+-- what choices leave of a file with a header has one, and a foreign one stays as it is
+headed_left : (log left : files.File) → IsLeftOf log.base log.log left.base left.log → ArePast 8 log.log → HasHeader log.base ⊎ IsForeign log
+    → HasHeader left.base ⊎ IsForeign left
+headed_left log left by past (inl headed) = inl (left-headed log.base left.base log.log left.log by past headed)
+headed_left log left by past (inr foreign) = inr (subst IsForeign (sym same) foreign)
+  where
+    drop-none : (n : ℕ) → drop n log.log ≡ []
+    drop-none n = ap (drop n) foreign.settled ∙ none n
+      where
+        none : (n : ℕ) → drop {A = Mutation} n [] ≡ []
+        none zero = refl
+        none (suc n) = refl
+
+    base : left.base ≡ log.base
+    base = by.is ∙ ap (left_by by.choices log.base) foreign.settled ∙ kept by.choices
+      where
+        kept : (choices : List (List Bool)) → left_by choices log.base [] ≡ log.base
+        kept [] = refl
+        kept (choice ∷ choices) = refl
+
+    same : left ≡ log
+    same =
+        ap (λ (b : List ℕ). record { base = b; log = left.log }) base
+        ∙ ap (λ (l : List Mutation). record { base = log.base; log = l }) (by.rest ∙ drop-none (length by.choices) ∙ sym foreign.settled)
 
 -- what choices left of each file is as orderly
 pub orderly_left : (store left : Store) → AreLeftOf store.files left.files → left.next ≡ store.next → left.partitions ≡ store.partitions
@@ -44,7 +69,7 @@ orderly_left store left by numbers listed o =
     record {
       numbered = ap (λ n. are_numbered n left.files) numbers ∙ numbered-left store.next store.files left.files by ∙ o.numbered;
       listed = λ there. ap (has_partition log_partition) listed ∙ o.listed (sym has ∙ there);
-      headed = λ there. left-headed (log_of store).base (log_of left).base (log_of store).log (log_of left).log file o.past (o.headed (sym has ∙ there));
+      headed = λ there. headed_left (log_of store) (log_of left) file o.past (o.headed (sym has ∙ there));
       past = subst (ArePast 8) (sym file.rest) (past-drop 8 (length file.choices) (log_of store).log o.past);
     }
 
@@ -55,7 +80,7 @@ stands_left file log left by s = record { each = λ last is. s.each last (left-l
 pub own_left : (store left : Store) → AreLeftOf store.files left.files → IsOrderly store → HasOwnHeader store → HasOwnHeader left
 own_left store left by o own there =
     let has : has_log store ≡ true = sym (has-left store.files left.files by) ∙ there in
-    left-keeps 8 (log_of store).base (log_of left).base (log_of store).log (log_of left).log (file-left store.files left.files by) (o.headed has).long o.past
+    left-keeps 8 (log_of store).base (log_of left).base (log_of store).log (log_of left).log (file-left store.files left.files by) (made-headed (log_of store).base (own has)).long o.past
     ∙ own has
 
 pub own_crashed : (store left : Store) (words after : Stream) → ◌≡◌ {A = Store × Stream} (left, after) (crashed_store store words)
@@ -68,7 +93,7 @@ pub own_fine : (store : Store) → IsOrderly store → HasOwnHeader store → ha
 own_fine store o own there =
     let file = log_of store in
     let durable = durable_log store in
-    made_fine durable (left-keeps 8 file.base durable file.log [] (durable-left file.base file.log) (o.headed there).long o.past ∙ own there)
+    made_fine durable (left-keeps 8 file.base durable file.log [] (durable-left file.base file.log) (made-headed file.base (own there)).long o.past ∙ own there)
 
 module _ {R : Type 0} where
   -- a crash of a closed device
@@ -167,7 +192,7 @@ own_refused store fault o own (there, found) = let none = own_fine store o own t
 module _ {R : Type 0} (stream : R → Stream) where
   -- an opening that reached the store
   pub draws_opening : (before old new : DeviceState R) (result : Result ℕ OpenError) (answer : Result (Opened (Blob Handle)) Error) (below : Storage Store R)
-      → before ≡ old → (before.left ≡ Some 0 → ⊥)
+      → before ≡ old → IsLetThrough before
       → IsFaultyCall stream Open before.storage.config.«open» (FaultyOpens log_partition log_name log_versions) before.storage answer below
       → TellsOpening answer result → new.storage ≡ record below { inner = new.storage.inner } → IsOpeningCall stream old result new
   draws_opening before old new result answer below same lasts call tells left =

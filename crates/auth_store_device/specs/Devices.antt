@@ -16,7 +16,6 @@ use Rattle.fault_storage_parts.specs.declared.error.Error.TheVariants.{
   Memory,
 }
 use Rattle.fault_storage_parts.specs.declared.error.HeaderError.{HeaderError}
-use Rattle.fault_storage_parts.specs.declared.header.Versions.{Versions}
 use Rattle.fault_storage.specs.declared.storage.Opened.{Opened}
 use Rattle.fault_storage.specs.declared.faulty.Blob.{Blob}
 use Rattle.fault_storage.specs.declared.faulty.Storage.{Storage}
@@ -36,7 +35,7 @@ use Rattle.auth_store_device.specs.declared.error.OpenError.{OpenError}
 use Rattle.auth_store_device.specs.declared.error.OpenError.TheVariants as openings
 use Rattle.auth_store_device.specs.declared.log.Told.{Told}
 use Rattle.auth_store_device.specs.declared.log.Told.TheVariants.{Made, Failed, Ended, Unmade}
-use Rattle.auth_store_device.specs.Logs.{log_partition, log_name, IsOrderly, log_of, Stands, IsHandleOf}
+use Rattle.auth_store_device.specs.Logs.{log_partition, log_name, log_versions, IsOrderly, log_of, Stands, IsHandleOf}
 
 -- A device: the store below, the open log, the calls so far, the newest first, how many more the power lasts for, where a cut was asked
 -- for, and how many were refused since the last crash.
@@ -146,18 +145,19 @@ IsStopped old result new =
     ⊎ ((old.storage.injections < 2 ^ 64 - 1) × (old.refused < 2 ^ 64 - 1) × (old.left ≡ Some 0) × (result ≡ Err refusals.PowerCut)
     × (new ≡ record old { refused = old.refused + 1 }))
 
--- A call of the device: it is stopped, or the log is not open, or it is the store's own.
+-- no count has ended, and no cut of the power stands
+abbrev pub IsLetThrough : {R : Type 0} → DeviceState R → Type 0
+IsLetThrough state =
+    (state.storage.injections < 2 ^ 64 - 1) × (state.refused < 2 ^ 64 - 1) × (state.left ≡ Some 0 → ⊥)
+
+-- A call of the device: it is stopped; or it is let through, and the log is not open, or it is the store's own.
 abbrev pub IsDeviceCall : {R T : Type 0} → CallKind → (Blob Handle → Storage Store R → Result T StorageError → Blob Handle → Storage Store R → Type 0)
     → DeviceState R → Result T Error → DeviceState R → Type 0
 IsDeviceCall kind Answers old result new =
     IsStopped old result new
-    ⊎ ((old.log ≡ None) × (result ≡ Err refusals.BlobMissing) × (new ≡ old))
-    ⊎ ((old.left ≡ Some 0 → ⊥) × (new.left ≡ left_after result old.left) × (new.refused ≡ old.refused)
+    ⊎ (IsLetThrough old × (old.log ≡ None) × (result ≡ Err refusals.BlobMissing) × (new ≡ old))
+    ⊎ (IsLetThrough old × (new.left ≡ left_after result old.left) × (new.refused ≡ old.refused)
     × ((log : Blob Handle) × (now : Blob Handle) × (old.log ≡ Some log) × (new.log ≡ Some now) × Passes kind Answers log old.storage result now new.storage))
-
--- the one version in which the log is opened
-abbrev pub log_versions : Versions
-log_versions = record { least = 0; greatest = 0 }
 
 -- the first fault of the log's header, where it is opened in that version
 abbrev pub log_fault : Store → Option HeaderError
@@ -210,13 +210,13 @@ abbrev pub TellsOpening : Result (Opened (Blob Handle)) StorageError → Result 
 TellsOpening (Ok opened) result = IsOk result
 TellsOpening (Err e) result = result ≡ Err (opening_refusal e)
 
--- An opening of the device: it is stopped; or there is no memory for what it shows, and nothing has changed; or it is the store's own, whose
--- draws and count of faults stay, and of which the files are admitted.
+-- An opening of the device: it is stopped; or it is let through, and there is no memory for what it shows, and nothing has changed; or it is
+-- the store's own, whose draws and count of faults stay, and of which the files are admitted.
 abbrev pub IsOpeningCall : {R : Type 0} → (R → Stream) → DeviceState R → Result ℕ OpenError → DeviceState R → Type 0
 IsOpeningCall {R = R} stream old result new =
     ((e : Error) × IsStopped {T = Unit} old (Err e) new × (result ≡ Err (stopped_opening e)))
-    ⊎ ((result ≡ Err openings.Memory) × (new ≡ old))
-    ⊎ ((old.left ≡ Some 0 → ⊥)
+    ⊎ (IsLetThrough old × (result ≡ Err openings.Memory) × (new ≡ old))
+    ⊎ (IsLetThrough old
     × ((answer : Result (Opened (Blob Handle)) StorageError) × (below : Storage Store R)
     × IsFaultyCall stream Open old.storage.config.«open» (FaultyOpens log_partition log_name log_versions) old.storage answer below
     × TellsOpening answer result × (new.storage ≡ record below { inner = new.storage.inner })))

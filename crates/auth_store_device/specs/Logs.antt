@@ -1,13 +1,15 @@
 -- The device's log: one file of the store, whose bytes behind the header are those of a blob.
-use Rattle.std.specs.Prelude.{◌≡◌, ⊤, ℕ, ◌≤◌, Bool, true, false, not, ◌&&◌, nat_lt, List, [], ◌∷◌, length, take, drop}
+use Rattle.std.specs.Prelude.{◌≡◌, ◌⊎◌, ⊤, ℕ, ◌≤◌, Bool, true, false, not, ◌&&◌, nat_lt, Option, Some, List, [], ◌∷◌, length, take, drop}
 use Rattle.std.specs.List.{list_any}
 use Rattle.fault_storage.specs.declared.stored.StoredFile.{StoredFile}
 use Rattle.fault_storage_parts.specs.declared.header.Layout.TheVariants.{V0}
 use Rattle.fault_storage_parts.specs.Files.{Mutation, ArePast, IsLeftOf, durable_bytes}
 use Rattle.fault_storage_parts.specs.Files as files
-use Rattle.fault_storage_parts.specs.Headers.{magic_of, created}
+use Rattle.fault_storage_parts.specs.Headers.{magic_of, created, IsUnmade, first_fault, file_checks}
+use Rattle.fault_storage_parts.specs.declared.error.HeaderError.{HeaderError}
+use Rattle.fault_storage_parts.specs.declared.header.Versions.{Versions}
 use Rattle.fault_storage.specs.Stores.{Store, Handle, file_with, has_number}
-use Rattle.fault_storage.specs.Directory.{has_name, has_partition}
+use Rattle.fault_storage.specs.Directory.{has_name, has_partition, both_layouts, front_of}
 use Rattle.paged_blob.specs.Calls.{File}
 use Rattle.paged_blob.specs.Images.{IsReached, IsLive}
 
@@ -45,6 +47,21 @@ pub record HasHeader (bytes : List ℕ) : Type 0 where
 abbrev pub BeginsAsMade : List ℕ → Type 0
 BeginsAsMade bytes = take 8 bytes ≡ created V0 0
 
+-- the one version in which the log is opened
+abbrev pub log_versions : Versions
+log_versions = record { least = 0; greatest = 0 }
+
+-- the first fault of a file's header, where it is opened in that version
+abbrev pub fault_of : List ℕ → Option HeaderError
+fault_of bytes = first_fault (file_checks both_layouts log_versions (front_of bytes) (length bytes))
+
+-- Nothing of the file is pending, its making was not interrupted, and an opening refuses its header.
+pub record IsForeign (log : files.File) : Type 0 where
+  pub settled : log.log ≡ []
+  pub made : IsUnmade (front_of log.base) (length log.base) → ⊥
+  pub fault : HeaderError
+  pub refused : fault_of log.base ≡ Some fault
+
 -- the log, where there is one, begins so
 abbrev pub HasOwnHeader : Store → Type 0
 HasOwnHeader store = has_log store ≡ true → BeginsAsMade (log_of store).base
@@ -60,12 +77,12 @@ abbrev pub IsFirst : (StoredFile → Bool) → (StoredFile → Bool) → List St
 IsFirst test other [] = ⊤
 IsFirst test other (stored ∷ later) = (test stored ≡ other stored) × (other stored ≡ false → IsFirst test other later)
 
--- Its numbers are those of one file each, and the log, where it is there, is in its partition and has a header that no mutation
--- reaches.
+-- Its numbers are those of one file each, and the log, where it is there, is in its partition and has a header of eight bytes that no
+-- mutation reaches, or one that each opening refuses.
 pub record IsOrderly (store : Store) : Type 0 where
   pub numbered : are_numbered store.next store.files ≡ true
   pub listed : has_log store ≡ true → has_partition log_partition store.partitions ≡ true
-  pub headed : has_log store ≡ true → HasHeader (log_of store).base
+  pub headed : has_log store ≡ true → HasHeader (log_of store).base ⊎ IsForeign (log_of store)
   pub past : ArePast 8 (log_of store).log
 
 -- each outcome of a crash of the log is, behind the header, an image of the blob that a crash may leave

@@ -37,7 +37,7 @@ use std::alloc::{AllocError, Global};
 use std::marker::Model;
 
 /// A blob over a store that fails, in memory: the blob `log` of its partition `store`, of blob version 0. It is open or
-/// closed, keeps a record of all calls that were made of it, and its power may be cut after so many of them (own).
+/// closed, keeps a record of its openings, syncs and changes, and its power may be cut after so many calls (own).
 #[derive(Debug, Drop)]
 pub struct Device<R: Rng> {
     alloc: Global,
@@ -108,7 +108,7 @@ impl<R: Rng + Drop> Device<R> {
 
     /// A closed device over a store; the durable bytes of its log, where there is one, are what its record begins with.
     /// The caller answers for it that no mutation of the log is pending, and that its header is of the layout with
-    /// eight bytes. F9.
+    /// eight bytes, or one that each opening refuses. F9: out of memory; the store is then gone.
     pub fn new(
         alloc: Global,
         storage: faulty::Storage<memory::Storage, R>,
@@ -279,8 +279,9 @@ impl<R: Rng + Drop> Device<R> {
     ghost use Rattle.auth_store_device.specs.Devices.{injected_after, refused_after};
 
     /// Opens the log, or makes it where there is none, admits what it shows, and answers how many bytes that is. It
-    /// asks for a closed device. F8: a count has ended, or the numbers of files; F10; F9; F6; F5: its header is
-    /// refused.
+    /// asks for a closed device. F8: a count has ended, or the numbers of files; F10: a cut of the power stands; F9: out
+    /// of memory; F6: a fault was injected; F5: its header is refused. After a refusal the device is closed, with files
+    /// and record as they were.
     pub fn open(&mut self) -> Result<u64, OpenError>
         requires { self.old.log ≡ None }
         ensures shows { OnOk result (self.new.calls
@@ -349,8 +350,8 @@ impl<R: Rng + Drop> Blob for Device<R> {
 
     ghost failures = { failures_of };
 
-    /// So many bytes from an offset on. F8: a count has ended; F10; F1: no opening stands; F9; F6; F7: they are not all
-    /// there.
+    /// So many bytes from an offset on. F8: a count has ended; F10: a cut of the power stands; F1: no opening stands; F9:
+    /// out of memory; F6: a fault was injected; F7: they are not all there. After a refusal the log is as it was.
     fn read_at(&mut self, _alloc: Global, offset: u64, len: usize) -> Result<Vec<u8>, Error>
         ensures slice { IfOk result (λ bytes. IsSlice (file_of self.old.calls) offset len bytes.items) }
         ensures cause { IfErr result (IsReadCause (failures_of self.old) (file_of self.old.calls) offset len) }
@@ -369,7 +370,8 @@ impl<R: Rng + Drop> Blob for Device<R> {
         answer
     }
 
-    /// Makes the log durable. F8: a count has ended; F10; F1: no opening stands; F9; F6.
+    /// Makes the log durable. F8: a count has ended; F10: a cut of the power stands; F1: no opening stands; F9: out of
+    /// memory; the log is then as it was. F6: a fault was injected; of what is pending any part may then be durable.
     fn sync(&mut self) -> Result<(), Error>
         ensures calls { RecordsSync result self.old.calls self.new.calls }
         ensures cause { IfErr result (IsCause (failures_of self.old) CallKind.Sync 0) }
@@ -388,7 +390,8 @@ impl<R: Rng + Drop> Blob for Device<R> {
     }
 
     /// Writes bytes at an offset, with zeros in a gap before them. F8: a count has ended, or their end would pass a
-    /// u64; F10; F1: no opening stands; F9; F6.
+    /// u64; F10: a cut of the power stands; F1: no opening stands; F9: out of memory; the log is then as it was. F6: a
+    /// fault was injected; any part of the bytes may then be there.
     fn write_at(&mut self, offset: u64, bytes: &[u8], mode: WriteMode) -> Result<(), Error>
         ensures calls { Records result (wrote offset bytes.now (is_sync mode)) self.old.calls self.new.calls }
         ensures cause { IfErr result (IsCause (failures_of self.old) CallKind.Write (offset + length bytes.now)) }
@@ -413,8 +416,9 @@ impl<R: Rng + Drop> Blob for Device<R> {
         answer
     }
 
-    /// Cuts the log to a length, or grows it to that by zeros. F8: a count has ended, or its end would pass a u64; F10;
-    /// F1: no opening stands; F9; F6.
+    /// Cuts the log to a length, or grows it to that by zeros. F8: a count has ended, or its end would pass a u64; F10: a
+    /// cut of the power stands; F1: no opening stands; F9: out of memory; the log is then as it was. F6: a fault was
+    /// injected; it may then have another length.
     fn resize(&mut self, len: u64) -> Result<(), Error>
         ensures calls { Records result (resized_to len) self.old.calls self.new.calls }
         ensures cause { IfErr result (IsCause (failures_of self.old) CallKind.Resize len) }

@@ -9,7 +9,7 @@ use std::alloc::{AllocError, AllocFailed};
 /// Why an opening of the device is refused, or its making (own).
 #[derive(Clone, Copy, Debug, PartialEq, Eq, thiserror::Error)]
 pub enum OpenError {
-    /// F5: the log has a header that is refused, by H4 or H6.
+    /// F5: the log has a header that is refused, for this reason.
     #[error("F5: {0}")]
     Header(HeaderError),
     /// F6: a fault was injected.

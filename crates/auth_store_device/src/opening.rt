@@ -12,8 +12,8 @@ ghost use Rattle.fault_storage.specs.Stores.{Store, Handle};
 ghost use Rattle.fault_storage.specs.Directory.{has_partition};
 ghost use Rattle.fault_storage.specs.Faults.{IsFaultyCall, FaultyOpens};
 ghost use Rattle.auth_store_device.specs.Logs.{log_partition, log_name, has_log, log_of, behind_header, durable_log};
-ghost use Rattle.auth_store_device.specs.Logs.{IsOrderly, IsOpenLog};
-ghost use Rattle.auth_store_device.specs.Devices.{log_versions, opening_refusal, opening_answer, injected_after};
+ghost use Rattle.auth_store_device.specs.Logs.{log_versions, IsOrderly, IsOpenLog};
+ghost use Rattle.auth_store_device.specs.Devices.{opening_refusal, opening_answer, injected_after};
 ghost use Rattle.auth_store_device.specs.Devices.{shown_file, log_fault};
 
 use crate::device::copy_behind_header;

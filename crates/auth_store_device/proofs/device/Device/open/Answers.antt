@@ -3,7 +3,7 @@ use Rattle.paged_blob.specs.Calls.{opened, file_of}
 use Rattle.paged_blob.specs.Images.{IsImage}
 use Rattle.auth_store_device.specs.Records.{calls_of}
 use Rattle.auth_store_device.specs.Logs.{behind_header, durable_log, log_of, HasOwnHeader}
-use Rattle.auth_store_device.specs.Devices.{DeviceState, stopped_opening}
+use Rattle.auth_store_device.specs.Devices.{DeviceState, IsLetThrough, stopped_opening}
 use Rattle.auth_store_device.proofs.Steps.{draws_opening, durable_image, opened_device, own_refused, stopped_ended, stopped_number, tells_err, tells_ok}
 use Rattle.auth_store_device.proofs.device.Device.open.Goals as goal
 
@@ -41,7 +41,7 @@ returns-clause-draw g c =
       refused = at.refused;
     } in
     let same : before ≡ c.args.self.now = search rules in
-    let lasts : before.left ≡ Some 0 → ⊥ = search rules in
+    let lasts : IsLetThrough before = search rules in
     let opens = c.open_log-answer.ensures.opens in
     draws_opening g.R.Rng.stream before c.args.self.now now (Ok c.len-count.result) opens.0 opens.1 same lasts opens.2
     (tells_ok opens.0 c.in_ok-log.log c.len-count.result (search rules)) opens.4
@@ -59,7 +59,7 @@ returns-in_err-log-clause-draw g c =
       refused = at.refused;
     } in
     let same : before ≡ c.args.self.now = search rules in
-    let lasts : before.left ≡ Some 0 → ⊥ = search rules in
+    let lasts : IsLetThrough before = search rules in
     let opens = c.open_log-answer.ensures.opens in
     draws_opening g.R.Rng.stream before c.args.self.now now c.from_residual-in_err-log.result opens.0 opens.1 same lasts opens.2
     (tells_err opens.0 c.in_err-log.field-0.0 c.from_residual-in_err-log.result (search rules) (search rules)) opens.4
