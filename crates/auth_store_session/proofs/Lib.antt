@@ -3,6 +3,7 @@ pub mod Runs
 pub mod Opens
 pub mod Kept
 pub mod Doubts
+pub mod Stays
 pub mod Refused
 pub mod Powers
 pub mod Causes

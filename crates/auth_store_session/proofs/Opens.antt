@@ -97,3 +97,7 @@ pub opened_grows : (format : Format) (size : ℕ) (old new : List Call) (shown :
     → Grows old new
 opened_grows format size old new shown (inl same) = subst (Grows old) (sym same) (here tt)
 opened_grows format size old new shown (inr through) = behind old (opened shown) new (grown through.1)
+
+pub grows_on : (old mid new : List Call) → Grows old mid → Grows mid new → Grows old new
+grows_on old mid new first (here p) = first
+grows_on old mid new first (then call moments p) = then call (grows_on old mid _ first moments) tt

@@ -17,7 +17,7 @@ use Rattle.auth_store_session.specs.declared.error.StoreError.{StoreError}
 use Rattle.auth_store_session.specs.declared.error.StoreError.TheVariants.{Fault, PowerCut, NumberEnded, Memory, Corrupt, Failed, Header}
 use Rattle.auth_store_session.specs.Machine as machine
 use Rattle.auth_store_session.specs.Machine.{Machine, Power, State, closed, live, failed, doubtful, Request, ask_open, Answer, refused, at_rest, IsShownOf, IsStep, IsStepClosed, IsStepInDoubt, IsAnswerTo, MayRefuseOpening}
-use Rattle.auth_store_session.specs.MachineCode.{request_of}
+use Rattle.auth_store_session.specs.MachineCode.{request_of, config_after, config_after_all, IsLeftBy}
 use Rattle.auth_store_session.specs.declared.session.Step.{Step}
 use Rattle.auth_store_session.specs.declared.session.Step.TheVariants as steps
 use Rattle.auth_store_session.specs.declared.sizes.Sizes.{Sizes}
@@ -380,3 +380,41 @@ pub session_closed : {R : Type 0} (parts : Option (DeviceState R × Cache)) (sto
 session_closed parts None is now at session log cache = (log, cache)
 session_closed None (Some store) is now at session log cache = absurd (cc)
 session_closed (Some parts) (Some store) is now at session log cache = absurd session
+
+-- each step but one with settings keeps them
+pub config_kept : {K V : Type 0} (step : Step K V) → ((config : Config) → step ≡ steps.Config config → ⊥) → (before : Option Config)
+    → config_after step before ≡ before
+config_kept (steps.Config config) other before = absurd (other config refl)
+config_kept (steps.Open sizes) other before = refl
+config_kept (steps.Commit batch metadata) other before = refl
+config_kept (steps.Get k) other before = refl
+config_kept steps.Root other before = refl
+config_kept steps.Commits other before = refl
+config_kept steps.Floor other before = refl
+config_kept steps.Len other before = refl
+config_kept (steps.ProveKey k) other before = refl
+config_kept steps.Close other before = refl
+config_kept steps.Crash other before = refl
+config_kept (steps.CutAfter calls) other before = refl
+
+-- each step but a cut may leave as many calls as before
+pub left_kept : {K V : Type 0} (step : Step K V) → ((calls : ℕ) → step ≡ steps.CutAfter calls → ⊥) → (before : Option ℕ)
+    → IsLeftBy step before before
+left_kept (steps.CutAfter calls) other before = absurd (other calls refl)
+left_kept (steps.Open sizes) other before = tt
+left_kept (steps.Commit batch metadata) other before = tt
+left_kept (steps.Get k) other before = tt
+left_kept steps.Crash other before = tt
+left_kept (steps.Config config) other before = refl
+left_kept steps.Root other before = refl
+left_kept steps.Commits other before = refl
+left_kept steps.Floor other before = refl
+left_kept steps.Len other before = refl
+left_kept (steps.ProveKey k) other before = refl
+left_kept steps.Close other before = refl
+
+-- one step of several is taken
+pub config_taken : {K V : Type 0} (left rest : List (Step K V)) (step : Step K V) (before after last : Option Config)
+    → left ≡ step ∷ rest → after ≡ config_after step before → config_after_all left before ≡ last → config_after_all rest after ≡ last
+config_taken left rest step before after last is now all =
+    ap (config_after_all rest) now ∙ (sym (ap (λ steps. config_after_all steps before) is) ∙ all)

@@ -5,13 +5,13 @@ use Rattle.fault_storage_parts.specs.Crc32.{crc32}
 use Rattle.paged_blob.specs.Caches.{Cache}
 use Rattle.paged_blob.specs.Calls.{Call}
 use Rattle.paged_blob.specs.Chance.{NoneByChance}
-use Rattle.paged_blob.specs.Moments.{Grows}
+use Rattle.paged_blob.specs.Moments.{Grows, here}
 use Rattle.auth_store_device.specs.Devices.{DeviceState}
 use Rattle.auth_store_log.specs.Records.{Format}
 use Rattle.auth_store_session.specs.Machine.{Machine, Power, State, closed, live, failed, doubtful, Request, Answer, IsStep, IsRun, IsRunInDoubt, Passes, at_rest, in_doubt}
 use Rattle.auth_store_session.specs.Standing.{SessionState, StandsFor, IsSure, Steps, Runs, RunsInDoubt, RunsWhole, calls_in, page_size_in, power_in, power_of}
 use Rattle.auth_store_session.specs.Stores.{StoreState}
-use Rattle.auth_store_session.proofs.Opens.{fewer}
+use Rattle.auth_store_session.proofs.Opens.{fewer, grows_on}
 
 pub one_more : (m : Machine) (before : Power) (first : State) (requests : List Request) (answers : List Answer)
     (at : Power) (now : State) (request : Request) (answer : Answer) (after : Power) (next : State)
@@ -119,6 +119,7 @@ pub record Taken {R : Type 0} (m : Machine) (format : Format) (first : SessionSt
   pub ran : Runs m format first before given now
   pub ran_in_doubt : RunsInDoubt m format first before given now
   pub sized : page_size_in now.parts now.store ≡ page_size_in first.parts first.store
+  pub grown : Grows (calls_in first.parts first.store) (calls_in now.parts now.store)
 
 pub taken_none : {R : Type 0} (m : Machine) (format : Format) (first : SessionState R) (whole rest : List Request) (given : List Answer)
     → rest ≡ whole → given ≡ [] → Taken m format first whole rest given first
@@ -128,6 +129,7 @@ taken_none m format first whole rest given is none = record {
   ran = subst (λ answers. Runs m format first [] answers first) (sym none) (runs_none m format first);
   ran_in_doubt = subst (λ answers. RunsInDoubt m format first [] answers first) (sym none) (runs_none_in_doubt m format first);
   sized = refl;
+  grown = here tt;
 }
 
 -- one step more
@@ -150,6 +152,7 @@ taken_next make format first whole left rest given more now next request answer 
       ran_in_doubt = subst (λ answers. RunsInDoubt m format first (taken.before ++ request ∷ []) answers next) (sym gives)
           (runs_go_on_in_doubt m format first now next taken.before given request answer taken.ran_in_doubt step);
       sized = sized ∙ taken.sized;
+      grown = grows_on (calls_in first.parts first.store) (calls_in now.parts now.store) (calls_in next.parts next.store) taken.grown grows;
     }
 
 pub taken_end : {R : Type 0} (m : Machine) (format : Format) (first : SessionState R) (whole left : List Request) (given : List Answer)

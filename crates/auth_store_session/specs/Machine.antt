@@ -66,6 +66,15 @@ kept_history (doubtful history) = history
 abbrev pub Begins : History → History → Type 0
 Begins history later = (more : List Operation) × (log_of later ≡ log_of history ++ more)
 
+-- the state is not in doubt
+abbrev pub IsCertain : State → Type 0
+IsCertain (doubtful history) = ⊥
+IsCertain _ = ⊤
+
+-- the later history is the other with commits after it
+abbrev pub GoesOn : History → History → Type 0
+GoesOn history later = (more : History) × (later ≡ more ++ history)
+
 -- what a session is asked
 pub data Request : Type 0 where
   ask_open : Request

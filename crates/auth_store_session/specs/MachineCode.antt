@@ -1,5 +1,7 @@
 -- The machine's requests and answers, as the code holds them.
-use Rattle.std.specs.Prelude.{ℕ, List, map, option_map, Result, Ok, Err}
+use Rattle.std.specs.Prelude.{◌≡◌, ⊤, ℕ, List, [], ◌∷◌, map, Option, Some, option_map, Result, Ok, Err}
+use Rattle.fault_storage_parts.specs.declared.config.Config as settings
+use Rattle.auth_store_device.specs.Devices.{after_asking}
 use Rattle.auth_store_parts.specs.Batch.{meanings}
 use Rattle.auth_store_ledger.specs.ProvingCode.{parts_of}
 use Rattle.auth_store_session.specs.declared.error.StoreError.{StoreError}
@@ -54,3 +56,21 @@ meanings_of digest value given = map (meaning_of digest value) given
 abbrev pub answer_of : {T : Type 0} → (T → machine.Answer) → Result T StoreError → machine.Answer
 answer_of said (Ok value) = said value
 answer_of said (Err e) = machine.refused e
+
+-- the settings after a step, and after steps
+abbrev pub config_after : {K V : Type 0} → Step K V → Option settings.Config → Option settings.Config
+config_after (Config config) before = Some config
+config_after _ before = before
+
+abbrev pub config_after_all : {K V : Type 0} → List (Step K V) → Option settings.Config → Option settings.Config
+config_after_all [] before = before
+config_after_all (step ∷ steps) before = config_after_all steps (config_after step before)
+
+-- how many calls are let through after a step: as many as it says, and as before where it makes no call of the device
+abbrev pub IsLeftBy : {K V : Type 0} → Step K V → Option ℕ → Option ℕ → Type 0
+IsLeftBy (CutAfter calls) before after = after ≡ after_asking calls before
+IsLeftBy (Open sizes) before after = ⊤
+IsLeftBy (Commit batch metadata) before after = ⊤
+IsLeftBy (Get k) before after = ⊤
+IsLeftBy Crash before after = ⊤
+IsLeftBy _ before after = after ≡ before

@@ -1,6 +1,7 @@
 -- Which states of the machine a session stands for, and when its calls are steps of the machine.
 use Rattle.std.specs.Prelude.{◌≡◌, ◌⊎◌, ◌+◌, ◌≤◌, ◌^◌, ℕ, ⊤, false, IsFalse, List, [], ◌∷◌, length, Option, Some, None, is_some, Result, Ok, Err, MatchResult}
 use Rattle.fault_storage_parts.specs.Crc32.{crc32}
+use Rattle.fault_storage_parts.specs.declared.config.Config.{Config}
 use Rattle.paged_blob.specs.Caches.{Cache}
 use Rattle.paged_blob.specs.Calls.{Call, opened, file_of}
 use Rattle.paged_blob.specs.Images.{IsImage}
@@ -87,6 +88,18 @@ power_in (Some parts) store = power_of parts.0 parts.1
 power_in None (Some store) = power_of store.device store.cache
 power_in None None =
     record { injected = 0; refused = 0; names = 0; size = 0; files = 0; is_asked = false; is_cut = false }
+
+-- the settings by which its device fails
+abbrev pub config_in : {R : Type 0} → Option (DeviceState R × Cache) → Option (StoreState R) → Option Config
+config_in (Some parts) store = Some parts.0.storage.config
+config_in None (Some store) = Some store.device.storage.config
+config_in None None = None
+
+-- how many of its calls are let through until its power is cut, where that was asked for
+abbrev pub left_in : {R : Type 0} → Option (DeviceState R × Cache) → Option (StoreState R) → Option ℕ
+left_in (Some parts) store = parts.0.left
+left_in None (Some store) = store.device.left
+left_in None None = None
 
 -- the calls that were made of its device
 abbrev pub calls_in : {R : Type 0} → Option (DeviceState R × Cache) → Option (StoreState R) → List Call

@@ -13,7 +13,7 @@ ghost use Rattle.auth_store_device.specs.Settings.{IsNew};
 ghost use Rattle.auth_store_log.specs.Records.{Format, begun, history_bytes, recovered_log};
 ghost use Rattle.auth_store_session.specs.Machine.{Machine, Power, State, Request, Answer, IsShownOf, IsStep, IsRun, Passes};
 ghost use Rattle.auth_store_session.specs.Machine.{AskNoCut, TellNoCut, faults_told};
-ghost use Rattle.auth_store_session.specs.Machine.{closed, in_doubt, kept_history, Begins, IsRunInDoubt};
+ghost use Rattle.auth_store_session.specs.Machine.{closed, in_doubt, kept_history, Begins, GoesOn, IsCertain, IsRunInDoubt};
 ghost use Rattle.auth_store_session.specs.Standing.{IsOpenedThrough, StandsFor};
 ghost use Rattle.auth_store_session.specs.Stores.{StoreState, IsWritten, Shows};
 
@@ -72,6 +72,18 @@ pub fn a_run_tells_causes()
     ensures cuts { (m : Machine) (before : Power) (first : State) (requests : List Request) (answers : List Answer)
         (after : Power) (last : State) → IsRun m before first requests answers after last
         → IsFalse before.is_asked → AskNoCut requests → TellNoCut answers }
+{}
+
+/// A batch that was acknowledged, or that an opening has shown, is in for good, and none goes in before it: the history
+/// that has to stay before a step, or a run, is that after it without the commits that came last. A state that is not in
+/// doubt stays so.
+pub fn what_is_kept_stays()
+    ensures step { (m : Machine) (before after : Power) (state : State) (request : Request) (answer : Answer)
+        (next : State) → IsCertain state → IsStep m before after state request answer next
+        → IsCertain next × GoesOn (kept_history state) (kept_history next) }
+    ensures run { (m : Machine) (before : Power) (first : State) (requests : List Request) (answers : List Answer)
+        (after : Power) (last : State) → IsCertain first → IsRun m before first requests answers after last
+        → IsCertain last × GoesOn (kept_history first) (kept_history last) }
 {}
 
 /// Whatever openings show, what has to stay does: the log of the history before a run in doubt begins that of the

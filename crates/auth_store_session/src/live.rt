@@ -60,7 +60,8 @@ impl<F: Family, H: HashFunction, K: FixedKey, V: FixedValue, const N: usize> Liv
 }
 
 /// Recovers the log of a blob that was opened, of so many bytes, and takes the history whose log it is. S5: it is the
-/// log of no history. S1 to S4 where a call of the blob, the cache or memory is wanting.
+/// log of no history. S1 to S4 where a call of the blob, the cache or memory is wanting. After a refusal openings show what
+/// they did.
 pub fn recover_live<B, F, H, K, V, const N: usize>(
     alloc: Global,
     blob: &mut B,
@@ -281,7 +282,8 @@ where
     }
 }
 
-/// The value of the key in the latest state, read from the log through the cache, or `None` where there is none.
+/// The value of the key in the latest state, read from the log through the cache, or `None` where there is none. S1 to S4
+/// where a call of the blob, a count or memory is wanting; the log is then as it was.
 pub fn get_live<B, F, H, K, V, const N: usize>(
     alloc: Global,
     live: &Live<F, H, K, V, N>,

@@ -4,8 +4,9 @@ ghost use Rattle.std.specs.Prelude.{◌≡◌, ◌<◌, ◌≤◌, ◌+◌, [], 
 ghost use Rattle.std.specs.Vec.{vec_len, vec_capacity};
 ghost use Rattle.auth_store_log.specs.Records.{format_of};
 ghost use Rattle.auth_store_session.specs.Machine.{machine};
-ghost use Rattle.auth_store_session.specs.MachineCode.{requests_of, meanings_of};
-ghost use Rattle.auth_store_session.specs.Standing.{Runs, RunsInDoubt, page_size_in};
+ghost use Rattle.paged_blob.specs.Moments.{Grows};
+ghost use Rattle.auth_store_session.specs.MachineCode.{requests_of, meanings_of, config_after_all};
+ghost use Rattle.auth_store_session.specs.Standing.{Runs, RunsInDoubt, calls_in, config_in, page_size_in};
 
 use crate::session::{Answer, Session, Step};
 use merkle_forest::{Graftable, HashFunction, PendingOf};
@@ -53,6 +54,10 @@ where
         (meanings_of H.Digest.encoding V.encoding answers.new.items) session.new }
     ensures page_size { page_size_in session.new.parts session.new.store
         ≡ page_size_in session.old.parts session.old.store }
+    ensures grows { Grows (calls_in session.old.parts session.old.store)
+        (calls_in session.new.parts session.new.store) }
+    ensures settings { config_in session.new.parts session.new.store
+        ≡ config_after_all steps.items (config_in session.old.parts session.old.store) }
 {
     let mut steps = steps.into_iter();
     while let Some(step) = steps.next() {

@@ -10,7 +10,8 @@
 //!     +--- Close ------------+--------------------- Close ----------------------+
 //! ```
 
-ghost use Rattle.std.specs.Prelude.{◌≡◌, ◌+◌, None, Some, is_some, option_map, true, false};
+ghost use Rattle.std.specs.Prelude.{◌≡◌, ◌+◌, ℕ, Option, None, Some, is_some, option_map, true, false};
+ghost use Rattle.fault_storage_parts.specs.declared.config.Config as settings;
 ghost use Rattle.paged_blob.specs.Moments.{Grows};
 ghost use Rattle.auth_store_ledger.specs.Store.{IsChunkWidth};
 ghost use Rattle.auth_store_log.specs.Records.{format_of};
@@ -20,9 +21,10 @@ ghost use Rattle.auth_store_session.specs.Machine.{ask_open, ask_crash, ask_conf
 ghost use Rattle.auth_store_session.specs.Machine.{ask_get, ask_root, ask_commits, ask_floor, ask_len, ask_proof};
 ghost use Rattle.auth_store_session.specs.Machine.{IsSaid, is_root_of_commit, is_value, is_root, is_commits, is_floor};
 ghost use Rattle.auth_store_session.specs.Machine.{is_len, is_proof, is_set};
-ghost use Rattle.auth_store_session.specs.MachineCode.{meaning_of, request_of};
+ghost use Rattle.auth_store_device.specs.Devices.{after_asking};
+ghost use Rattle.auth_store_session.specs.MachineCode.{meaning_of, request_of, config_after, IsLeftBy};
 ghost use Rattle.auth_store_session.specs.Standing.{IsLeftOpen, StandsFor, Steps, StepsOpen};
-ghost use Rattle.auth_store_session.specs.Standing.{calls_in, page_size_in, power_in, power_of};
+ghost use Rattle.auth_store_session.specs.Standing.{calls_in, config_in, left_in, page_size_in, power_in, power_of};
 ghost use Rattle.auth_store_session.specs.Stores.{IsCache};
 
 use crate::error::StoreError;
@@ -121,6 +123,7 @@ where
     ensures kind { IsSaid is_root_of_commit (meaning_of H.Digest.encoding V.encoding result) }
     ensures page_size { store.new.cache.page_size ≡ store.old.cache.page_size }
     ensures grows { Grows store.old.device.calls store.new.device.calls }
+    ensures settings { store.new.device.storage.config ≡ store.old.device.storage.config }
 {
     match store.commit(batch, metadata) {
         Ok(root) => Answer::Committed(root),
@@ -147,6 +150,7 @@ where
     ensures kind { IsSaid is_value (meaning_of H.Digest.encoding V.encoding result) }
     ensures page_size { store.new.cache.page_size ≡ store.old.cache.page_size }
     ensures grows { Grows store.old.device.calls store.new.device.calls }
+    ensures settings { store.new.device.storage.config ≡ store.old.device.storage.config }
 {
     match store.get(key) {
         Ok(found) => Answer::Value(found),
@@ -276,6 +280,8 @@ where
     ensures set { result ≡ Answer.Set }
     ensures page_size { store.new.cache.page_size ≡ store.old.cache.page_size }
     ensures grows { Grows store.old.device.calls store.new.device.calls }
+    ensures settings { store.new.device.storage.config ≡ config }
+    ensures left { store.new.device.left ≡ store.old.device.left }
 {
     store.set_config(config);
     Answer::Set
@@ -299,6 +305,8 @@ where
     ensures set { result ≡ Answer.Set }
     ensures page_size { store.new.cache.page_size ≡ store.old.cache.page_size }
     ensures grows { Grows store.old.device.calls store.new.device.calls }
+    ensures settings { store.new.device.storage.config ≡ store.old.device.storage.config }
+    ensures left { store.new.device.left ≡ after_asking calls store.old.device.left }
 {
     store.cut_after(calls);
     Answer::Set
@@ -308,6 +316,8 @@ where
 fn is_close<K: FixedKey, V: FixedValue>(step: &Step<K, V>) -> bool
     ensures yes { result ≡ true → request_of K.encoding V.encoding step.now ≡ ask_close }
     ensures no { result ≡ false → IsLeftOpen (request_of K.encoding V.encoding step.now) }
+    ensures settings { result ≡ true → (before : Option settings.Config) → config_after step.now before ≡ before }
+    ensures left { result ≡ true → (before after : Option ℕ) → after ≡ before → IsLeftBy step.now before after }
 {
     matches!(step, Step::Close)
 }
@@ -333,6 +343,8 @@ where
         IsLeftOpen request → IsAnswerTo true request (meaning_of H.Digest.encoding V.encoding result) }
     ensures page_size { store.new.cache.page_size ≡ store.old.cache.page_size }
     ensures grows { Grows store.old.device.calls store.new.device.calls }
+    ensures settings { Some store.new.device.storage.config ≡ config_after step (Some store.old.device.storage.config) }
+    ensures left { IsLeftBy step store.old.device.left store.new.device.left }
 {
     match step {
         Step::Open(_) | Step::Crash | Step::Close => Answer::StillOpen,
@@ -402,6 +414,7 @@ where
         ensures page_size { page_size_in self.new.parts self.new.store
             ≡ page_size_in self.old.parts self.old.store }
         ensures grows { Grows (calls_in self.old.parts self.old.store) (calls_in self.new.parts self.new.store) }
+        ensures settings { config_in self.new.parts self.new.store ≡ config_in self.old.parts self.old.store }
     {
         let Some((device, cache)) = self.parts.take() else {
             unreachable!();
@@ -436,6 +449,7 @@ where
         ensures page_size { page_size_in self.new.parts self.new.store
             ≡ page_size_in self.old.parts self.old.store }
         ensures grows { Grows (calls_in self.old.parts self.old.store) (calls_in self.new.parts self.new.store) }
+        ensures settings { config_in self.new.parts self.new.store ≡ config_in self.old.parts self.old.store }
     {
         let Some((mut device, cache)) = self.parts.take() else {
             unreachable!();
@@ -456,6 +470,8 @@ where
         ensures page_size { page_size_in self.new.parts self.new.store
             ≡ page_size_in self.old.parts self.old.store }
         ensures grows { Grows (calls_in self.old.parts self.old.store) (calls_in self.new.parts self.new.store) }
+        ensures settings { config_in self.new.parts self.new.store ≡ Some config }
+        ensures left { left_in self.new.parts self.new.store ≡ left_in self.old.parts self.old.store }
     {
         let Some((mut device, cache)) = self.parts.take() else {
             unreachable!();
@@ -476,6 +492,9 @@ where
         ensures page_size { page_size_in self.new.parts self.new.store
             ≡ page_size_in self.old.parts self.old.store }
         ensures grows { Grows (calls_in self.old.parts self.old.store) (calls_in self.new.parts self.new.store) }
+        ensures settings { config_in self.new.parts self.new.store ≡ config_in self.old.parts self.old.store }
+        ensures left { left_in self.new.parts self.new.store ≡ after_asking calls
+            (left_in self.old.parts self.old.store) }
     {
         let Some((mut device, cache)) = self.parts.take() else {
             unreachable!();
@@ -498,6 +517,10 @@ where
         ensures page_size { page_size_in self.new.parts self.new.store
             ≡ page_size_in self.old.parts self.old.store }
         ensures grows { Grows (calls_in self.old.parts self.old.store) (calls_in self.new.parts self.new.store) }
+        ensures settings { config_in self.new.parts self.new.store
+            ≡ config_after step (config_in self.old.parts self.old.store) }
+        ensures left { IsLeftBy step (left_in self.old.parts self.old.store)
+            (left_in self.new.parts self.new.store) }
     {
         match step {
             Step::Open(sizes) => self.open(sizes),
@@ -519,6 +542,8 @@ where
         ensures page_size { page_size_in self.new.parts self.new.store
             ≡ page_size_in self.old.parts self.old.store }
         ensures grows { Grows (calls_in self.old.parts self.old.store) (calls_in self.new.parts self.new.store) }
+        ensures settings { config_in self.new.parts self.new.store ≡ config_in self.old.parts self.old.store }
+        ensures left { left_in self.new.parts self.new.store ≡ left_in self.old.parts self.old.store }
     {
         let Some(store) = self.store.take() else {
             unreachable!();
@@ -541,6 +566,10 @@ where
         ensures page_size { page_size_in self.new.parts self.new.store
             ≡ page_size_in self.old.parts self.old.store }
         ensures grows { Grows (calls_in self.old.parts self.old.store) (calls_in self.new.parts self.new.store) }
+        ensures settings { config_in self.new.parts self.new.store
+            ≡ config_after step (config_in self.old.parts self.old.store) }
+        ensures left { IsLeftBy step (left_in self.old.parts self.old.store)
+            (left_in self.new.parts self.new.store) }
     {
         let Some(store) = &mut self.store else {
             unreachable!();
@@ -561,6 +590,10 @@ where
         ensures page_size { page_size_in self.new.parts self.new.store
             ≡ page_size_in self.old.parts self.old.store }
         ensures grows { Grows (calls_in self.old.parts self.old.store) (calls_in self.new.parts self.new.store) }
+        ensures settings { config_in self.new.parts self.new.store
+            ≡ config_after step (config_in self.old.parts self.old.store) }
+        ensures left { IsLeftBy step (left_in self.old.parts self.old.store)
+            (left_in self.new.parts self.new.store) }
     {
         if is_close(&step) {
             return self.close();
@@ -580,7 +613,9 @@ where
     }
 
     /// Takes one step and answers it: a step of the machine, from each state that the session stood for, where no
-    /// opening of the device is by chance, or in doubt; and an answer of the step's kind, by chance or not.
+    /// opening of the device is by chance, or in doubt; and an answer of the step's kind, by chance or not. The device
+    /// has the settings of the last step that had some, and lets through as many calls as a step says, also while a
+    /// store is open.
     pub fn step(&mut self, step: Step<K, V>) -> Answer<H::Digest, V>
         ensures steps { let format = format_of (K.after tt) (V.after tt) K.SIZE V.SIZE in
             let m = machine F.merge_rule H.hash_of F.pending_encoding N K.SIZE V.SIZE
@@ -592,6 +627,10 @@ where
         ensures page_size { page_size_in self.new.parts self.new.store
             ≡ page_size_in self.old.parts self.old.store }
         ensures grows { Grows (calls_in self.old.parts self.old.store) (calls_in self.new.parts self.new.store) }
+        ensures settings { config_in self.new.parts self.new.store
+            ≡ config_after step (config_in self.old.parts self.old.store) }
+        ensures left { IsLeftBy step (left_in self.old.parts self.old.store)
+            (left_in self.new.parts self.new.store) }
     {
         if self.is_open() {
             return self.step_opened(step);
@@ -610,6 +649,8 @@ where
         ensures page_size { result.1.page_size + 12 ≡ page_size_in self.parts self.store }
         ensures calls { result.0.calls ≡ calls_in self.parts self.store }
         ensures power { power_of result.0 result.1 ≡ power_in self.parts self.store }
+        ensures settings { Some result.0.storage.config ≡ config_in self.parts self.store }
+        ensures left { result.0.left ≡ left_in self.parts self.store }
     {
         let Session {
             alloc: _,

@@ -5,8 +5,8 @@ ghost use Rattle.paged_blob.specs.Moments.{Grows};
 ghost use Rattle.auth_store_parts.specs.Batch as words;
 ghost use Rattle.auth_store_parts.specs.History.{History, latest_map, log_of};
 ghost use Rattle.auth_store_parts.specs.Map.{value_at};
-ghost use Rattle.auth_store_device.specs.Devices.{after_asking, is_cut};
-ghost use Rattle.auth_store_device.specs.Logs.{HasOwnHeader};
+ghost use Rattle.auth_store_device.specs.Devices.{after_asking, is_cut, log_fault};
+ghost use Rattle.auth_store_device.specs.Logs.{has_log, HasOwnHeader};
 ghost use Rattle.auth_store_ledger.specs.ProvingCode.{parts_of};
 ghost use Rattle.auth_store_ledger.specs.Store.{IsChunkWidth, floor_of, root_of_history};
 ghost use Rattle.auth_store_log.specs.Records.{format_of};
@@ -88,6 +88,8 @@ where
         OnOk result (IsShownThrough format (cache.old.page_size + 12) (shown_of device.old) device.old.calls
         device.new.calls) }
     ensures uncut { OnOk result (IsFalse (is_cut device.old.left)) }
+    ensures fine { OnOk result (has_log device.old.storage.inner ≡ true
+        → log_fault device.old.storage.inner ≡ None) }
     ensures is_open { OnOk result (is_some device.new.log ≡ true) }
     ensures any_moment { let format = format_of (K.after tt) (V.after tt) K.SIZE V.SIZE in
         IsOpenedThrough format (cache.old.page_size + 12) (shown_of device.old) device.old.calls device.new.calls }
@@ -137,6 +139,7 @@ where
             IfOk result (λ store. IsShownThrough format (cache.page_size + 12) (shown_of device) device.calls
             store.device.calls) }
         ensures uncut { OnOk result (IsFalse (is_cut device.left)) }
+        ensures fine { OnOk result (has_log device.storage.inner ≡ true → log_fault device.storage.inner ≡ None) }
         ensures page_size { IfOk result (λ store. store.cache.page_size ≡ cache.page_size) }
         ensures closed { IfErr result (λ refused. refused.device.log ≡ None) }
         ensures kept { let format = format_of (K.after tt) (V.after tt) K.SIZE V.SIZE in
@@ -177,8 +180,8 @@ where
 
     /// Takes a batch with its commit into the history, makes it durable, and answers the new root. S3: a number would
     /// pass its type, or the log 2 to the 62 operations; S4: out of memory; S1: a fault was injected; S2: a cut stands.
-    /// Refused before anything is appended, the store is as it was; refused later, it has failed, and openings show the
-    /// batch wholly or not at all. S6: it had failed.
+    /// After a refusal the store is as it was, or it has failed, and openings show the batch wholly or not at all; where
+    /// the log would pass 2 to the 62 operations, it is as it was. S6: it had failed, and has still.
     pub fn commit(
         &mut self,
         batch: Batch<K, V>,

@@ -1,10 +1,10 @@
-use Rattle.std.proofs.Common.{◌≤◌, ◌+◌}
+use Rattle.std.proofs.Common.{◌≤◌, ◌+◌, ◌≡◌}
 use Rattle.std.specs.Vec.{vec_len, vec_capacity}
 use Rattle.std.specs.Vec.Iter.{into_iter_items, into_iter_len}
 use Rattle.auth_store_log.specs.Records.{format_of}
 use Rattle.auth_store_session.specs.Machine.{machine}
-use Rattle.auth_store_session.specs.MachineCode.{requests_of, meanings_of}
-use Rattle.auth_store_session.specs.Standing.{page_size_in}
+use Rattle.auth_store_session.specs.MachineCode.{requests_of, meanings_of, config_after_all}
+use Rattle.auth_store_session.specs.Standing.{page_size_in, config_in}
 use Rattle.auth_store_session.proofs.Runs.{Taken}
 use Rattle.auth_store_session.proofs.run.run.Given as goal
 
@@ -17,6 +17,8 @@ invariant-loop-step g l =
     (requests_of g.K.Write.encoding g.V.Write.encoding (into_iter_items l.steps))
     (meanings_of g.H.Digest.Write.encoding g.V.Write.encoding l.answers.items) l.session
     × (vec_len l.answers + into_iter_len l.steps ≤ vec_capacity l.answers)
+    × (config_after_all (into_iter_items l.steps) (config_in l.session.parts l.session.store)
+    ≡ config_after_all l.fn.steps.items (config_in l.fn.session.parts l.fn.session.store))
 
 abbrev pub decreases-loop-step : goal.decreases-loop-step
 decreases-loop-step g l = into_iter_len l.steps

@@ -3,7 +3,7 @@ use Rattle.auth_store_device.specs.Devices.{DeviceState}
 use Rattle.paged_blob.specs.Caches.{Cache}
 use Rattle.auth_store_log.specs.Records.{format_of}
 use Rattle.auth_store_session.specs.Machine.{machine, ask_close, has_closed}
-use Rattle.auth_store_session.specs.Standing.{page_size_in, power_of}
+use Rattle.auth_store_session.specs.Standing.{page_size_in, power_of, SessionState, config_in, left_in}
 use Rattle.auth_store_session.proofs.Rests.{closed_at, open_at, was_open, steps_from, grows_from, closes_in, page_from}
 use Rattle.auth_store_session.proofs.Powers.{leaves_same}
 use Rattle.auth_store_session.proofs.session.Session.close.Goals as goal
@@ -40,3 +40,15 @@ returns-clause-grows g c =
     c.self.invariant.1 in
     grows_from (open_at c.in-Some.store) c.args.self.now c.into_parts.result.0.calls is
     (ap (λ (d : DeviceState _). d.calls) c.into_parts.ensures.device)
+
+pub returns-clause-settings : goal.returns-clause-settings
+returns-clause-settings g c =
+    let is = was_open c.self.inside.parts c.self.inside.store c.in-Some.store c.args.self.now c.self.view_is c.in-Some.ensures.value
+    c.self.invariant.1 in
+    ap (λ (d : DeviceState _). Some d.storage.config) c.into_parts.ensures.device ∙ ap (λ (s : SessionState _). config_in s.parts s.store) is
+
+pub returns-clause-left : goal.returns-clause-left
+returns-clause-left g c =
+    let is = was_open c.self.inside.parts c.self.inside.store c.in-Some.store c.args.self.now c.self.view_is c.in-Some.ensures.value
+    c.self.invariant.1 in
+    ap (λ (d : DeviceState _). d.left) c.into_parts.ensures.device ∙ ap (λ (s : SessionState _). left_in s.parts s.store) is

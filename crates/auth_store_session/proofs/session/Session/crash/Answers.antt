@@ -1,9 +1,9 @@
-use Rattle.std.proofs.Common.{Some, refl, subst, sym}
+use Rattle.std.proofs.Common.{Some, refl, subst, sym, ap, ◌∙◌}
 use Rattle.std.specs.Prelude.{IsFalse}
 use Rattle.auth_store_device.specs.Devices.{is_cut}
 use Rattle.auth_store_log.specs.Records.{format_of}
 use Rattle.auth_store_session.specs.Machine.{machine, ask_crash, has_crashed}
-use Rattle.auth_store_session.specs.Standing.{page_size_in}
+use Rattle.auth_store_session.specs.Standing.{page_size_in, SessionState, config_in}
 use Rattle.auth_store_session.proofs.Rests.{closed_at, was_closed, now_closed, steps_from, grows_from, rests_in}
 use Rattle.auth_store_session.proofs.Powers.{passes_crash}
 use Rattle.auth_store_session.proofs.session.Session.crash.Goals as goal
@@ -31,3 +31,9 @@ returns-clause-grows g c =
     let is = was_closed c.self.inside.parts c.self.inside.store c.in-Some.device c.in-Some.cache c.args.self.now c.self.view_is
     c.in-Some.ensures.value c.requires in
     grows_from (closed_at c.in-Some.device c.in-Some.cache) c.args.self.now c.crash.new.self.calls is c.crash.ensures.device.1
+
+pub returns-clause-settings : goal.returns-clause-settings
+returns-clause-settings g c =
+    let is = was_closed c.self.inside.parts c.self.inside.store c.in-Some.device c.in-Some.cache c.args.self.now c.self.view_is
+    c.in-Some.ensures.value c.requires in
+    ap Some c.crash.ensures.rest.1 ∙ ap (λ (s : SessionState _). config_in s.parts s.store) is

@@ -1,8 +1,8 @@
-use Rattle.std.proofs.Common.{Some, refl, ap}
-use Rattle.auth_store_device.specs.Devices.{DeviceState}
+use Rattle.std.proofs.Common.{Some, refl, ap, ◌∙◌}
+use Rattle.auth_store_device.specs.Devices.{DeviceState, after_asking}
 use Rattle.auth_store_log.specs.Records.{format_of}
 use Rattle.auth_store_session.specs.Machine.{machine, ask_cut, is_set}
-use Rattle.auth_store_session.specs.Standing.{page_size_in}
+use Rattle.auth_store_session.specs.Standing.{page_size_in, SessionState, config_in, left_in}
 use Rattle.auth_store_session.proofs.Rests.{closed_at, was_closed, now_closed, steps_from, grows_from, rests_in, header_same}
 use Rattle.auth_store_session.proofs.Powers.{passes_asking}
 use Rattle.auth_store_session.proofs.session.Session.cut_after.Goals as goal
@@ -30,3 +30,16 @@ returns-clause-grows g c =
     let is = was_closed c.self.inside.parts c.self.inside.store c.in-Some.device c.in-Some.cache c.args.self.now c.self.view_is
     c.in-Some.ensures.value c.requires in
     grows_from (closed_at c.in-Some.device c.in-Some.cache) c.args.self.now c.cut_after.new.self.calls is (ap (λ (d : DeviceState _). d.calls) c.cut_after.ensures)
+
+pub returns-clause-settings : goal.returns-clause-settings
+returns-clause-settings g c =
+    let is = was_closed c.self.inside.parts c.self.inside.store c.in-Some.device c.in-Some.cache c.args.self.now c.self.view_is
+    c.in-Some.ensures.value c.requires in
+    ap (λ (d : DeviceState _). Some d.storage.config) c.cut_after.ensures ∙ ap (λ (s : SessionState _). config_in s.parts s.store) is
+
+pub returns-clause-left : goal.returns-clause-left
+returns-clause-left g c =
+    let is = was_closed c.self.inside.parts c.self.inside.store c.in-Some.device c.in-Some.cache c.args.self.now c.self.view_is
+    c.in-Some.ensures.value c.requires in
+    ap (λ (d : DeviceState _). d.left) c.cut_after.ensures
+    ∙ ap (λ (s : SessionState _). after_asking c.args.calls (left_in s.parts s.store)) is

@@ -1,8 +1,8 @@
-use Rattle.std.proofs.Common.{Some, refl, ap}
+use Rattle.std.proofs.Common.{Some, refl, ap, ◌∙◌}
 use Rattle.auth_store_device.specs.Devices.{DeviceState}
 use Rattle.auth_store_log.specs.Records.{format_of}
 use Rattle.auth_store_session.specs.Machine.{machine, ask_config, is_set}
-use Rattle.auth_store_session.specs.Standing.{page_size_in, power_of}
+use Rattle.auth_store_session.specs.Standing.{page_size_in, power_of, SessionState, config_in, left_in}
 use Rattle.auth_store_session.proofs.Rests.{closed_at, was_closed, now_closed, steps_from, grows_from, rests_in, header_same}
 use Rattle.auth_store_session.proofs.Powers.{leaves_same}
 use Rattle.auth_store_session.proofs.session.Session.set_config.Goals as goal
@@ -31,3 +31,12 @@ returns-clause-grows g c =
     let is = was_closed c.self.inside.parts c.self.inside.store c.in-Some.device c.in-Some.cache c.args.self.now c.self.view_is
     c.in-Some.ensures.value c.requires in
     grows_from (closed_at c.in-Some.device c.in-Some.cache) c.args.self.now c.set_config.new.self.calls is (ap (λ (d : DeviceState _). d.calls) c.set_config.ensures)
+
+pub returns-clause-settings : goal.returns-clause-settings
+returns-clause-settings g c = ap (λ (d : DeviceState _). Some d.storage.config) c.set_config.ensures
+
+pub returns-clause-left : goal.returns-clause-left
+returns-clause-left g c =
+    let is = was_closed c.self.inside.parts c.self.inside.store c.in-Some.device c.in-Some.cache c.args.self.now c.self.view_is
+    c.in-Some.ensures.value c.requires in
+    ap (λ (d : DeviceState _). d.left) c.set_config.ensures ∙ ap (λ (s : SessionState _). left_in s.parts s.store) is

@@ -23,3 +23,15 @@ returns-clause-page_size g c = c.step_closed.ensures.page_size
 
 pub returns-clause-grows : goal.returns-clause-grows
 returns-clause-grows g c = c.step_closed.ensures.grows
+
+pub returns-then-is_open-clause-settings : goal.returns-then-is_open-clause-settings
+returns-then-is_open-clause-settings g c = c.step_opened.ensures.settings
+
+pub returns-then-is_open-clause-left : goal.returns-then-is_open-clause-left
+returns-then-is_open-clause-left g c = c.step_opened.ensures.left
+
+pub returns-clause-settings : goal.returns-clause-settings
+returns-clause-settings g c = c.step_closed.ensures.settings
+
+pub returns-clause-left : goal.returns-clause-left
+returns-clause-left g c = c.step_closed.ensures.left

@@ -2,10 +2,10 @@ use Rattle.std.proofs.Common.{refl, sym, subst}
 use Rattle.paged_blob.specs.Moments.{here}
 use Rattle.auth_store_log.specs.Records.{format_of}
 use Rattle.auth_store_session.specs.Machine.{machine, not_open, Leaves}
-use Rattle.auth_store_session.specs.Standing.{page_size_in, power_in}
+use Rattle.auth_store_session.specs.Standing.{page_size_in, power_in, config_in, left_in}
 use Rattle.auth_store_session.specs.MachineCode.{request_of}
 use Rattle.auth_store_session.proofs.Powers.{leaves_within}
-use Rattle.auth_store_session.proofs.Rests.{rest_same, is_refused_closed}
+use Rattle.auth_store_session.proofs.Rests.{rest_same, is_refused_closed, config_kept, left_kept}
 use Rattle.auth_store_session.proofs.session.Session.step_closed.Goals as goal
 use Rattle.auth_store_session.proofs.session.Session.step_closed.Goals.{in-Open, in-Crash, in-Config, in-CutAfter, in_default}
 
@@ -60,4 +60,22 @@ returns-clause-steps g c = elim c.match-step.branch [
         (machine g.F.Family.merge_rule g.H.HashFunction.hash_of g.F.PendingOf.pending_encoding g.row.N g.K.FixedSize.SIZE g.V.FixedSize.SIZE
         (page_size_in c.args.self.now.parts c.args.self.now.store))),
   )
+]
+
+pub returns-clause-settings : goal.returns-clause-settings
+returns-clause-settings g c = elim c.match-step.branch [
+  | in-Open w ↦ rw (w.self-is, w.in-Open.is) w.open.ensures.settings
+  | in-Crash w ↦ rw (w.self-is, w.in-Crash.is) w.crash.ensures.settings
+  | in-Config w ↦ rw (w.self-is, w.in-Config.is) w.set_config.ensures.settings
+  | in-CutAfter w ↦ rw (w.self-is, w.in-CutAfter.is) w.cut_after.ensures.settings
+  | in_default w ↦ rw w.self-is (sym (config_kept c.args.step w.in_default.not-Config (config_in c.args.self.now.parts c.args.self.now.store)))
+]
+
+pub returns-clause-left : goal.returns-clause-left
+returns-clause-left g c = elim c.match-step.branch [
+  | in-Open w ↦ rw (w.self-is, w.in-Open.is) tt
+  | in-Crash w ↦ rw (w.self-is, w.in-Crash.is) tt
+  | in-Config w ↦ rw (w.self-is, w.in-Config.is) w.set_config.ensures.left
+  | in-CutAfter w ↦ rw (w.self-is, w.in-CutAfter.is) w.cut_after.ensures.left
+  | in_default w ↦ rw w.self-is (left_kept c.args.step w.in_default.not-CutAfter (left_in c.args.self.now.parts c.args.self.now.store))
 ]

@@ -1,3 +1,4 @@
+use Rattle.std.proofs.Common.{sym, ◌∙◌}
 use Rattle.auth_store_session.proofs.session.Session.step_opened.Goals as goal
 
 pub returns-then-is_close-clause-steps : goal.returns-then-is_close-clause-steps
@@ -23,3 +24,15 @@ returns-clause-page_size g c = c.step_within.ensures.page_size
 
 pub returns-clause-grows : goal.returns-clause-grows
 returns-clause-grows g c = c.step_within.ensures.grows
+
+pub returns-then-is_close-clause-settings : goal.returns-then-is_close-clause-settings
+returns-then-is_close-clause-settings g c = c.close.ensures.settings ∙ sym (c.is_close.ensures.settings c.if-is_close.true _)
+
+pub returns-then-is_close-clause-left : goal.returns-then-is_close-clause-left
+returns-then-is_close-clause-left g c = c.is_close.ensures.left c.if-is_close.true _ _ c.close.ensures.left
+
+pub returns-clause-settings : goal.returns-clause-settings
+returns-clause-settings g c = c.step_within.ensures.settings
+
+pub returns-clause-left : goal.returns-clause-left
+returns-clause-left g c = c.step_within.ensures.left

@@ -1,8 +1,8 @@
 use Rattle.std.proofs.Common.{◌+◌, Some, sym, ap, subst, ◌∙◌}
 use Rattle.auth_store_log.specs.Records.{format_of}
 use Rattle.auth_store_session.specs.Machine.{machine}
-use Rattle.auth_store_session.specs.MachineCode.{request_of, meaning_of}
-use Rattle.auth_store_session.specs.Standing.{SessionState, StepsOpen, page_size_in, calls_in}
+use Rattle.auth_store_session.specs.MachineCode.{request_of, meaning_of, config_after, IsLeftBy}
+use Rattle.auth_store_session.specs.Standing.{SessionState, StepsOpen, page_size_in, calls_in, config_in, left_in}
 use Rattle.paged_blob.specs.Moments.{Grows}
 use Rattle.auth_store_session.proofs.Rests.{open_at, was_open, now_open, session_within, steps_from, steps_open, grows_more, page_from}
 use Rattle.auth_store_session.proofs.session.Session.step_within.Goals as goal
@@ -45,3 +45,18 @@ returns-clause-grows g c =
     let ends = now_open c.self.inside.parts c.self.inside.store c.in-Some.store c.step_open.new.store c.in-Some.is c.self.invariant.1 in
     subst (λ (s : SessionState _). Grows (calls_in c.args.self.now.parts c.args.self.now.store) (calls_in s.parts s.store)) ends
     (grows_more (open_at c.in-Some.store) c.args.self.now c.step_open.new.store.device.calls is c.step_open.ensures.grows)
+
+pub returns-clause-settings : goal.returns-clause-settings
+returns-clause-settings g c =
+    let is = was_open c.self.inside.parts c.self.inside.store c.in-Some.store c.args.self.now c.self.view_is (sym c.in-Some.is) c.self.invariant.1 in
+    let ends = now_open c.self.inside.parts c.self.inside.store c.in-Some.store c.step_open.new.store c.in-Some.is c.self.invariant.1 in
+    sym (ap (λ (s : SessionState _). config_in s.parts s.store) ends)
+    ∙ (c.step_open.ensures.settings ∙ ap (λ (s : SessionState _). config_after c.args.step (config_in s.parts s.store)) is)
+
+pub returns-clause-left : goal.returns-clause-left
+returns-clause-left g c =
+    let is = was_open c.self.inside.parts c.self.inside.store c.in-Some.store c.args.self.now c.self.view_is (sym c.in-Some.is) c.self.invariant.1 in
+    let ends = now_open c.self.inside.parts c.self.inside.store c.in-Some.store c.step_open.new.store c.in-Some.is c.self.invariant.1 in
+    subst (λ (s : SessionState _). IsLeftBy c.args.step (left_in c.args.self.now.parts c.args.self.now.store) (left_in s.parts s.store)) ends
+    (subst (λ (s : SessionState _). IsLeftBy c.args.step (left_in s.parts s.store) c.step_open.new.store.device.left) is
+    c.step_open.ensures.left)

@@ -1,0 +1,102 @@
+-- What has to stay of a history does, where no opening is by chance.
+use Rattle.std.proofs.Common.{◌≡◌, List, [], ◌∷◌, ◌++◌, Option, Some, None, refl, sym, subst, ◌∙◌, ap, ⊎_elim, append_assoc}
+use Rattle.auth_store_parts.specs.History.{History, Commit}
+use Rattle.auth_store_session.specs.Machine.{Machine, Power, State, closed, live, failed, doubtful, Request, ask_open, ask_commit, ask_get, ask_root, ask_commits, ask_floor, ask_len, ask_proof, ask_close, ask_crash, ask_config, ask_cut, Answer, IsStep, IsStepClosed, IsStepLive, IsStepFailed, IsShownOf, IsRun, IsCertain, GoesOn, kept_history, commit_of}
+
+goes_on_trans : (one other last : History) → GoesOn one other → GoesOn other last → GoesOn one last
+goes_on_trans one other last (more, is) (rest, ends) =
+    (rest ++ more, ends ∙ (ap (λ l. rest ++ l) is ∙ sym (append_assoc rest more one)))
+
+-- the state that follows is certain, and its history goes on from this one
+abbrev Follows : History → State → Type 0
+Follows history next = IsCertain next × GoesOn history (kept_history next)
+
+follows_same : (history : History) (now next : State) → next ≡ now → IsCertain now → kept_history now ≡ history → Follows history next
+follows_same history now next is certain keeps = subst (Follows history) (sym is) (certain, ([], keeps))
+
+follows_next : (history : History) (commit : Commit) (next : State) → next ≡ live (commit ∷ history) → Follows history next
+follows_next history commit next is = subst (Follows history) (sym is) (tt, (commit ∷ [], refl))
+
+follows_shown : (history shown : History) (pending : Option Commit) (next : State) → IsShownOf history pending shown → next ≡ live shown
+    → Follows history next
+follows_shown history shown None next same is = follows_same history (live shown) next is tt same
+follows_shown history shown (Some commit) next same is = ⊎_elim
+    (λ without. follows_same history (live shown) next is tt without)
+    (λ with. follows_next history commit next (is ∙ ap live with))
+    same
+
+follows_closed : (m : Machine) (before after : Power) (history : History) (pending : Option Commit) (request : Request) (answer : Answer)
+    (next : State) → IsStepClosed m before after history pending request answer next → Follows history next
+follows_closed m before after history pending ask_open answer next step = ⊎_elim
+    (λ opens. let (shown, same, is) = opens.2 in follows_shown history shown pending next same is)
+    (λ refuses. follows_same history (closed history pending) next refuses.2 tt refl)
+    step
+follows_closed m before after history pending ask_crash answer next step = follows_same history (closed history pending) next step.1 tt refl
+follows_closed m before after history pending ask_config answer next step = follows_same history (closed history pending) next step.1 tt refl
+follows_closed m before after history pending ask_cut answer next step = follows_same history (closed history pending) next step.1 tt refl
+follows_closed m before after history pending ask_close answer next step = follows_same history (closed history pending) next step.1 tt refl
+follows_closed m before after history pending (ask_commit words metadata) answer next step = follows_same history (closed history pending) next step.1 tt refl
+follows_closed m before after history pending (ask_get key) answer next step = follows_same history (closed history pending) next step.1 tt refl
+follows_closed m before after history pending (ask_proof key) answer next step = follows_same history (closed history pending) next step.1 tt refl
+follows_closed m before after history pending ask_root answer next step = follows_same history (closed history pending) next step.1 tt refl
+follows_closed m before after history pending ask_commits answer next step = follows_same history (closed history pending) next step.1 tt refl
+follows_closed m before after history pending ask_floor answer next step = follows_same history (closed history pending) next step.1 tt refl
+follows_closed m before after history pending ask_len answer next step = follows_same history (closed history pending) next step.1 tt refl
+
+follows_live : (m : Machine) (before after : Power) (history : History) (request : Request) (answer : Answer) (next : State)
+    → IsStepLive m before after history request answer next → Follows history next
+follows_live m before after history (ask_commit words metadata) answer next step = ⊎_elim
+    (λ commits. follows_next history (commit_of words metadata history) next commits.1)
+    (λ refuses. ⊎_elim
+    (λ is. follows_same history (live history) next is tt refl)
+    (λ is. follows_same history (failed history (commit_of words metadata history)) next is.0 tt refl)
+    refuses.3)
+    step
+follows_live m before after history ask_open answer next step = follows_same history (live history) next step.1 tt refl
+follows_live m before after history ask_crash answer next step = follows_same history (live history) next step.1 tt refl
+follows_live m before after history ask_config answer next step = follows_same history (live history) next step.1 tt refl
+follows_live m before after history ask_cut answer next step = follows_same history (live history) next step.1 tt refl
+follows_live m before after history ask_close answer next step = follows_same history (closed history None) next step.1 tt refl
+follows_live m before after history (ask_get key) answer next step = follows_same history (live history) next step.0 tt refl
+follows_live m before after history (ask_proof key) answer next step = follows_same history (live history) next step.0 tt refl
+follows_live m before after history ask_root answer next step = follows_same history (live history) next step.1 tt refl
+follows_live m before after history ask_commits answer next step = follows_same history (live history) next step.1 tt refl
+follows_live m before after history ask_floor answer next step = follows_same history (live history) next step.1 tt refl
+follows_live m before after history ask_len answer next step = follows_same history (live history) next step.1 tt refl
+
+follows_failed : (history : History) (commit : Commit) (request : Request) (answer : Answer) (next : State)
+    → IsStepFailed history commit request answer next → Follows history next
+follows_failed history commit ask_close answer next step = follows_same history (closed history (Some commit)) next step.1 tt refl
+follows_failed history commit ask_open answer next step = follows_same history (failed history commit) next step.1 tt refl
+follows_failed history commit ask_crash answer next step = follows_same history (failed history commit) next step.1 tt refl
+follows_failed history commit ask_config answer next step = follows_same history (failed history commit) next step.1 tt refl
+follows_failed history commit ask_cut answer next step = follows_same history (failed history commit) next step.1 tt refl
+follows_failed history commit (ask_commit words metadata) answer next step = follows_same history (failed history commit) next step.1 tt refl
+follows_failed history commit (ask_get key) answer next step = follows_same history (failed history commit) next step.1 tt refl
+follows_failed history commit (ask_proof key) answer next step = follows_same history (failed history commit) next step.1 tt refl
+follows_failed history commit ask_root answer next step = follows_same history (failed history commit) next step.1 tt refl
+follows_failed history commit ask_commits answer next step = follows_same history (failed history commit) next step.1 tt refl
+follows_failed history commit ask_floor answer next step = follows_same history (failed history commit) next step.1 tt refl
+follows_failed history commit ask_len answer next step = follows_same history (failed history commit) next step.1 tt refl
+
+-- one step
+pub step_goes_on : (m : Machine) (before after : Power) (state : State) (request : Request) (answer : Answer) (next : State)
+    → IsCertain state → IsStep m before after state request answer next → IsCertain next × GoesOn (kept_history state) (kept_history next)
+step_goes_on m before after (closed history pending) request answer next certain step =
+    follows_closed m before after history pending request answer next step
+step_goes_on m before after (live history) request answer next certain step = follows_live m before after history request answer next step
+step_goes_on m before after (failed history commit) request answer next certain step =
+    follows_failed history commit request answer next step
+step_goes_on m before after (doubtful history) request answer next certain step = absurd certain
+
+-- a run
+pub run_goes_on : (m : Machine) (before : Power) (first : State) (requests : List Request) (answers : List Answer) (after : Power)
+    (last : State) → IsCertain first → IsRun m before first requests answers after last
+    → IsCertain last × GoesOn (kept_history first) (kept_history last)
+run_goes_on m before first [] [] after last certain ran = follows_same (kept_history first) first last ran.1 certain refl
+run_goes_on m before first (request ∷ requests) (answer ∷ answers) after last certain ran =
+    let step = step_goes_on m before ran.0 first request answer ran.1 certain ran.2 in
+    let rest = run_goes_on m ran.0 ran.1 requests answers after last step.0 ran.4 in
+    (rest.0, goes_on_trans (kept_history first) (kept_history ran.1) (kept_history last) step.1 rest.1)
+run_goes_on m before first [] (answer ∷ answers) after last certain ran = absurd ran
+run_goes_on m before first (request ∷ requests) [] after last certain ran = absurd ran
