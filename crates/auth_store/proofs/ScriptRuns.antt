@@ -10,14 +10,13 @@ use Rattle.rand_pcg.specs.Lcg.{Lcg}
 use Rattle.auth_store_device.specs.Devices.{DeviceState}
 use Rattle.auth_store_parts.specs.Line.{line_of}
 use Rattle.auth_store_parts.specs.Report.{reported}
-use Rattle.paged_blob.specs.Caches.{Cache}
 use Rattle.auth_store_device.specs.Settings.{IsNew}
 use Rattle.auth_store_parts.specs.declared.script.line.Line.{Line}
 use Rattle.auth_store_parts.specs.declared.script.line.Line.TheVariants.{Empty, New, Open, Put, Commit, Get, Root, Prove, Proof, CheckValue}
 use Rattle.auth_store_session.specs.Standing.{SessionState}
 use Rattle.auth_store_session.proofs.Runs.{runs_none}
 use Rattle.auth_store.specs.ScriptLines.{Exchange, Progress, Does, new_progress, script_format, script_machine}
-use Rattle.auth_store.specs.ScriptRun.{LineDoes, HasTaken, Ends, IsRunOf, Prints, Stops, lines_of, seeded_by}
+use Rattle.auth_store.specs.ScriptRun.{LineDoes, HasTaken, Ends, IsRunOf, Prints, Stops, lines_of, script_cache, seeded_by}
 use Rattle.auth_store.specs.ScriptCode.{DoesLine, DoesText, Handled, HasRun, IsRunning, progress_of}
 use Rattle.auth_store.specs.declared.script.progress.End.{End}
 use Rattle.auth_store.specs.declared.script.progress.End.TheVariants as ends
@@ -139,12 +138,11 @@ line_does : (p new : code.Progress) (line : Line) (printed : Option (List ℕ)) 
     → DoesLine p line new printed exchanges → DoesText (Some p) (Some line) (Some new) printed exchanges
 line_does p new line printed exchanges does = (
   (progress_of new, refl, does.0),
-  λ earlier (device, cache, begun, ran). (
+  λ earlier (device, begun, ran). (
     device,
-    cache,
     subst (λ seed. IsNew (seeded_by seed) device)
         (sym (same_seed (progress_of p) line exchanges printed (progress_of new) does.0)) begun,
-    does.1 (record { parts = Some (device, cache); store = None }) earlier ran,
+    does.1 (record { parts = Some (device, script_cache); store = None }) earlier ran,
   ),
 )
 
@@ -164,13 +162,13 @@ handled_text p new now line spelled a b result begun is handled =
     (subst (λ n. Handled (DoesText n (Some line) (Some new)) a b result) (sym begun) (within p new line a b result handled))
 
 -- the line that begins the run
-pub begins : (p : code.Progress) (now : Option code.Progress) (spelled : Option Line) (seed : ℕ) (device : DeviceState Lcg) (cache : Cache)
+pub begins : (p : code.Progress) (now : Option code.Progress) (spelled : Option Line) (seed : ℕ) (device : DeviceState Lcg)
     → now ≡ None → spelled ≡ Some (New seed) → progress_of p ≡ new_progress seed
-    → p.session ≡ record { parts = Some (device, cache); store = None } → cache.page_size + 12 ≡ 64 → IsNew (seeded_by seed) device
+    → p.session ≡ record { parts = Some (device, script_cache); store = None } → IsNew (seeded_by seed) device
     → DoesText now spelled (Some p) (Some (reported (codes "new"))) []
-begins p now spelled seed device cache none is made session paged new =
-    let first : SessionState Lcg = record { parts = Some (device, cache); store = None } in
-    let none_yet : HasRun first [] first = record { paged = paged; runs = runs_none script_machine script_format first } in
+begins p now spelled seed device none is made session new =
+    let first : SessionState Lcg = record { parts = Some (device, script_cache); store = None } in
+    let none_yet : HasRun first [] first = record { paged = refl; runs = runs_none script_machine script_format first } in
     let ran : HasRun first [] p.session = subst (HasRun first []) (sym session) none_yet in
     let kept : IsNew (seeded_by p.seed) device = subst (λ s. IsNew (seeded_by s) device) (sym (ap (λ (q : Progress). q.seed) made)) new in
     subst (λ l. DoesText now l (Some p) (Some (reported (codes "new"))) []) (sym is)
@@ -178,7 +176,6 @@ begins p now spelled seed device cache none is made session paged new =
       (refl, refl, ap Some made),
       λ earlier nothing. (
         device,
-        cache,
         kept,
         subst (λ e. HasRun first (e ++ []) p.session) (sym nothing) ran,
       ),

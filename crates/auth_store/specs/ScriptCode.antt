@@ -2,14 +2,13 @@
 use Rattle.std.specs.Prelude.{◌≡◌, ⊤, ℕ, ◌++◌, ◌∷◌, List, [], Option, None, Some, Result, Ok, Err, option_map}
 use Rattle.std.specs.Io.KnownBytes.{Appends}
 use Rattle.rand_pcg.specs.Lcg.{Lcg}
-use Rattle.paged_blob.specs.Caches.{Cache}
 use Rattle.auth_store_device.specs.Devices.{DeviceState}
 use Rattle.auth_store_device.specs.Settings.{IsNew}
 use Rattle.auth_store_parts.specs.Batch.{meanings}
 use Rattle.auth_store_parts.specs.declared.script.line.Line.{Line}
 use Rattle.auth_store_session.specs.Standing.{SessionState, Runs, page_size_in}
 use Rattle.auth_store.specs.ScriptLines.{Exchange, Progress, Does, IsQuiet, asked, answered, bytes_of, value_of, script_machine, script_format}
-use Rattle.auth_store.specs.ScriptRun.{LineDoes, seeded_by}
+use Rattle.auth_store.specs.ScriptRun.{LineDoes, script_cache, seeded_by}
 use Rattle.auth_store.specs.declared.script.progress.End.{End}
 use Rattle.auth_store.specs.declared.script.progress.End.TheVariants.{BadLine, Memory, Io}
 use Rattle.auth_store.specs.declared.script.progress.Kept.{Kept}
@@ -51,11 +50,11 @@ abbrev pub DoesLine : code.Progress → Line → code.Progress → Option (List 
 DoesLine old line new printed exchanges =
     Does (progress_of old) line exchanges printed (progress_of new) × Goes old.session exchanges new.session
 
--- a run so far: nothing was asked before it began; then a whole run of the session, over a new device
+-- a run so far: nothing was asked before it began; then a whole run of the session, over a new device and an empty cache
 abbrev pub IsRunning : List Exchange → Option code.Progress → Type 0
 IsRunning exchanges None = IsQuiet exchanges
-IsRunning exchanges (Some p) = (device : DeviceState Lcg) × (cache : Cache)
-    × IsNew (seeded_by p.seed) device × HasRun (record { parts = Some (device, cache); store = None }) exchanges p.session
+IsRunning exchanges (Some p) = (device : DeviceState Lcg)
+    × IsNew (seeded_by p.seed) device × HasRun (record { parts = Some (device, script_cache); store = None }) exchanges p.session
 
 -- so a line of a run
 abbrev pub DoesText : Option code.Progress → Option Line → Option code.Progress → Option (List ℕ) → List Exchange → Type 0

@@ -62,13 +62,17 @@ Prints before later Fits = (printed : List ℕ) × Appends before later printed 
 abbrev pub seeded_by : ℕ → Lcg
 seeded_by seed = pcg32_of_seed (pcg32_seed 16 seed)
 
+-- the cache with which a script begins: no page is kept and no name is given yet
+abbrev pub script_cache : Cache
+script_cache = record { page_size = 52; capacity = 8; next_id = 0; pages = [] }
+
 -- A whole run of the session asked these things, of a device that had no file and was seeded by the number of the script's first
--- line; without that line there is no device, and nothing was asked.
+-- line, and of an empty cache; without that line there is no device, and nothing was asked.
 abbrev pub IsRunOf : Option Progress → Option (DeviceState Lcg) → List Exchange → Type 0
 IsRunOf None None exchanges = IsQuiet exchanges
 IsRunOf (Some progress) (Some device) exchanges =
-    (first : DeviceState Lcg) × (cache now : Cache) × IsNew (seeded_by progress.seed) first
-    × RunsWhole script_machine script_format first cache (asked exchanges) (answered exchanges) device now
+    (first : DeviceState Lcg) × (now : Cache) × IsNew (seeded_by progress.seed) first
+    × RunsWhole script_machine script_format first script_cache (asked exchanges) (answered exchanges) device now
 IsRunOf _ _ exchanges = ⊥
 
 -- the script runs to its end

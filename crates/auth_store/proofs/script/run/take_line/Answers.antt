@@ -31,8 +31,8 @@ pub returns-in_ok-report_new-in-New : goal.returns-in_ok-report_new-in-New
 returns-in_ok-report_new-in-New g c = (
   [],
   reported (codes "new"),
-  begins c.new.result c.args.progress.now (line_of c.args.text.now) c.in-New.seed c.in_ok-device-in-New.device _
+  begins c.new.result c.args.progress.now (line_of c.args.text.now) c.in-New.seed c.in_ok-device-in-New.device
       c.in_default-progress.is (sym c.parse_line.ensures.exact ∙ (c.in-Some.is ∙ ap Some c.in-New.is)) c.new.ensures.progress
-      c.new.ensures.session refl c.in_ok-device-in-New.ensures,
+      c.new.ensures.session c.in_ok-device-in-New.ensures,
   c.in_ok-report_new-in-New.ensures,
 )
