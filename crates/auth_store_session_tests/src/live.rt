@@ -3,7 +3,7 @@
 use auth_store_ledger::Batch;
 use auth_store_log::append_batch;
 use auth_store_session::{Live, StoreError, commit_live, get_live, recover_live};
-use fault_storage::Crc32;
+use fault_storage::{Crc32, HeaderError};
 use merkle_forest::codec::FixedBytes;
 use merkle_forest::digest::Digest;
 use merkle_forest::{ByteHash, mmr};
@@ -129,6 +129,8 @@ fn refusals_have_their_numbers(rt: HostRuntime) -> Result<(), Fail> {
     assert_eq!(rt; StoreError::Memory.number(), "S4");
     assert_eq!(rt; StoreError::Corrupt.number(), "S5");
     assert_eq!(rt; StoreError::Failed.number(), "S6");
+    let header = StoreError::Header(HeaderError::BlobVersion);
+    assert_eq!(rt; header.number(), "S12");
     let said = format!(in alloc; "{}", StoreError::Failed)?;
     assert_eq!(rt; said.as_str(), "S6: the store has failed");
     Ok(())

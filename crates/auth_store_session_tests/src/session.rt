@@ -5,10 +5,11 @@ use auth_store_ledger::Batch;
 use auth_store_session::error::StoreError;
 use auth_store_session::session::{Answer, Session, Step};
 use auth_store_session::sizes::Sizes;
+use fault_storage::{Config, PartialWriteMode, Probability, WriteConfig};
 use merkle_forest::codec::FixedBytes;
 use merkle_forest::digest::Digest;
 use merkle_forest::{ByteHash, mmr};
-use paged_blob::CacheRef;
+use paged_blob::{CacheRef, CallKind};
 use rand_core::SeedableRng;
 use rand_pcg::Pcg32;
 use std::alloc::Global;
@@ -110,6 +111,29 @@ fn what_was_acknowledged_stands_after_a_crash(rt: HostRuntime) -> Result<(), Fai
     assert!(rt; matches!(session.step(Step::Crash), Answer::Crashed));
     assert!(rt; opens(&mut session));
     assert!(rt; matches!(session.step(Step::Get(KEY)), Answer::Value(Some(2))));
+    Ok(())
+}
+
+// Settings by which each write fails: the opening writes nothing, and the commit behind it fails.
+#[test]
+fn settings_stay_through_an_opening(rt: HostRuntime) -> Result<(), Fail> {
+    let alloc = rt.alloc();
+    let mut session = closed(alloc)?;
+    assert!(rt; opens(&mut session));
+    assert!(rt; matches!(session.step(Step::Close), Answer::Closed));
+    let settings = Config::default().write(WriteConfig {
+        rate: Probability::ONE,
+        retention: Probability::ZERO,
+        mode: PartialWriteMode::Subset,
+    });
+    assert!(rt; matches!(session.step(Step::Config(settings)), Answer::Set));
+    assert!(rt; opens(&mut session));
+    assert!(rt;
+        matches!(
+            session.step(Step::Commit(Batch::new(alloc), None)),
+            Answer::Refused(StoreError::Fault(Some(CallKind::Write)))
+        )
+    );
     Ok(())
 }
 

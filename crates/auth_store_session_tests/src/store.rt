@@ -344,14 +344,30 @@ fn has_one_opening(device: &Device<Pcg32>) -> bool {
     openings.next().is_some() && openings.next().is_none()
 }
 
+// The lengths of the two slots of a page of 64 bytes, the lesser first.
+fn slots(page: &[u8]) -> Option<(u16, u16)> {
+    let (Some(a), Some(b), Some(c), Some(d)) = (
+        page.get(52),
+        page.get(53),
+        page.get(58),
+        page.get(59),
+    ) else {
+        return None;
+    };
+    let one = u16::from_be_bytes([*a, *b]);
+    let other = u16::from_be_bytes([*c, *d]);
+    Some((one.min(other), one.max(other)))
+}
+
 // A device lends an opening for each time that its store was opened: the first over nothing, the second over the pages
-// of a batch that was committed, with no mutation since its sync.
+// of a batch that was committed, with no mutation since its sync. Of the 75 bytes of the log, 52 stand in the first page,
+// whose other slot is of the 25 bytes that the first opening made durable, and 23 in the second.
 #[test]
 fn each_opening_of_a_store_is_lent(rt: HostRuntime) -> Result<(), Fail> {
     let alloc = rt.alloc();
     let mut store = empty::<mmr::Family>(alloc)?;
     let mut batch = Batch::new(alloc);
-    batch.put(ONE_00, 2)?;
+    batch.put(FixedBytes::new([0, 0, 0, 0, 0, 0, 0, 0x61]), 1)?;
     let _root = store.commit(batch, None)?;
     let (device, _cache) = store.into_parts();
     assert!(rt; has_one_opening(&device));
@@ -367,5 +383,11 @@ fn each_opening_of_a_store_is_lent(rt: HostRuntime) -> Result<(), Fail> {
     assert!(rt; second.mutations().next().is_none());
     assert_eq!(rt; second.base(), second.shown());
     assert_eq!(rt; second.shown().len(), 128);
+    let page = second.shown().get(..64).unwrap_or(&[]);
+    assert_eq!(rt; slots(page), Some((25, 52)));
+    assert_eq!(rt; page.get(..52), FIRST.get(..52));
+    let page = second.shown().get(64..).unwrap_or(&[]);
+    assert_eq!(rt; slots(page), Some((0, 23)));
+    assert_eq!(rt; page.get(..23), FIRST.get(52..));
     Ok(())
 }
