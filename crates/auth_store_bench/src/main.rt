@@ -8,6 +8,7 @@ mod calls;
 mod plain_hash;
 mod stores;
 
+use crate::calls::{Calls, Kind};
 use crate::stores::{Filling, Use};
 use measurement::{measure, read_count, report_ratio};
 use std::alloc::Global;
@@ -20,6 +21,39 @@ const DEFAULT_THOUSANDS: u64 = 1;
 // How often a store is opened in a measure.
 const OPENINGS: u64 = 20;
 
+// How many bytes the log has whose calls are measured.
+const SHORT_LOG: u64 = 4_096;
+
+// How many a log has that is 64 times as long.
+const LONG_LOG: u64 = 262_144;
+
+// What it costs to open the device of a store that is filled so, to read its log, and to make this of it, so many times.
+// How the store is made is not measured.
+fn measure_use<R: Print + Eprint + CpuClock>(
+    rt: &R,
+    alloc: Global,
+    name: &str,
+    filling: Filling,
+    used: Use,
+) -> io::Result<u64> {
+    let mut device = stores::device_of(alloc, filling);
+    measure(rt, name, 1, |_round| {
+        stores::used(alloc, &mut device, OPENINGS, used)
+    })
+}
+
+// What it costs to open a store that is filled so, as many times.
+fn measure_opened<R: Print + Eprint + CpuClock>(
+    rt: &R,
+    alloc: Global,
+    filling: Filling,
+) -> io::Result<u64> {
+    let mut device = stores::device_of(alloc, filling);
+    measure(rt, "it is opened 20 times", 1, |_round| {
+        stores::opened(alloc, &mut device, OPENINGS)
+    })
+}
+
 // What openings of a store with so many keys, which came in batches of so many, cost beside reading its log.
 fn measure_openings<R: Print + Eprint + CpuClock>(
     rt: &R,
@@ -30,36 +64,38 @@ fn measure_openings<R: Print + Eprint + CpuClock>(
     println!(rt; "{keys} keys in batches of {batch}")?;
     eprintln!(rt; "{keys} keys in batches of {batch}")?;
     let filling = Filling::once(keys, batch);
-    let made = measure(rt, "the store alone", 1, |_round| {
-        stores::opened(alloc, filling, 0)
-    })?;
-    let read = measure(rt, "its log, read and decoded 20 times", 1, |_round| {
-        stores::used(alloc, filling, OPENINGS, Use::Decoded)
-    })?;
-    let indexed = measure(
+    let read = measure_use(
         rt,
+        alloc,
+        "its log, read and decoded 20 times",
+        filling,
+        Use::Decoded,
+    )?;
+    let indexed = measure_use(
+        rt,
+        alloc,
         "its log, read, decoded and indexed 20 times",
-        1,
-        |_round| { stores::used(alloc, filling, OPENINGS, Use::Indexed) },
+        filling,
+        Use::Indexed,
     )?;
-    let checked = measure(rt, "its log, checked and indexed 20 times", 1, |_round| {
-        stores::used(alloc, filling, OPENINGS, Use::Checked)
-    })?;
-    let opened = measure(rt, "it is opened 20 times", 1, |_round| {
-        stores::opened(alloc, filling, OPENINGS)
-    })?;
-    let read = read.saturating_sub(made);
-    let indexed = indexed.saturating_sub(made);
-    let checked = checked.saturating_sub(made);
-    let opened = opened.saturating_sub(made);
-    report_ratio(rt, "indexing over decoding", indexed, read)?;
-    report_ratio(rt, "opening without the root over decoding", checked, read)?;
-    report_ratio(
+    let checked = measure_use(
         rt,
-        "opening without the root over indexing",
-        checked,
-        indexed,
+        alloc,
+        "its log, checked and indexed 20 times",
+        filling,
+        Use::Checked,
     )?;
+    let taken = measure_use(
+        rt,
+        alloc,
+        "its log, all done but the root 20 times",
+        filling,
+        Use::Taken,
+    )?;
+    let opened = measure_opened(rt, alloc, filling)?;
+    report_ratio(rt, "indexing over decoding", indexed, read)?;
+    report_ratio(rt, "checking over decoding", checked, read)?;
+    report_ratio(rt, "opening without the root over decoding", taken, read)?;
     report_ratio(rt, "opening over decoding", opened, read)
 }
 
@@ -122,29 +158,63 @@ fn measure_all_reads<R: Print + Eprint + CpuClock>(
     report_ratio(rt, "reads over lookups, many keys", of_large, in_large)
 }
 
-// What so many writes cost on the device, and on the store under it.
+// What calls cost on the device, and on the store under it.
 fn measure_calls<R: Print + Eprint + CpuClock>(
     rt: &R,
     alloc: Global,
-    writes: u64,
+    calls: Calls,
 ) -> io::Result<()> {
-    println!(rt; "{writes} writes of 64 bytes")?;
-    eprintln!(rt; "{writes} writes of 64 bytes")?;
-    let below = measure(rt, "to the faulty store", 1, |_round| {
-        calls::written_below(alloc, writes)
+    let Calls { kind, size, count } = calls;
+    let name = kind.name();
+    println!(rt; "{count} {name}, of a log of {size} bytes")?;
+    eprintln!(rt; "{count} {name}, of a log of {size} bytes")?;
+    let Ok(mut store) = calls::below_of(alloc, size) else {
+        return Ok(());
+    };
+    let Some(mut device) = calls::device_of(alloc, size) else {
+        return Ok(());
+    };
+    let below = measure(rt, "by the faulty store", 1, |_round| {
+        calls::made_below(&mut store, calls)
     })?;
-    let device = measure(
-        rt,
-        "to the device",
-        1,
-        |_round| calls::written(alloc, writes),
-    )?;
-    report_ratio(
-        rt,
-        "write of the device over that of its store",
-        device,
-        below,
-    )
+    let above = measure(rt, "by the device", 1, |_round| {
+        calls::made(alloc, &mut device, calls)
+    })?;
+    report_ratio(rt, "the device over its store", above, below)
+}
+
+// What each kind of calls costs: some whose cost is in few bytes, and some that copy the log, of a short one and of one
+// 64 times as long. The latter are fewer, since the device keeps what each of them showed or made durable.
+fn measure_all_calls<R: Print + Eprint + CpuClock>(
+    rt: &R,
+    alloc: Global,
+    thousands: u64,
+) -> io::Result<()> {
+    for kind in [
+        Kind::Read,
+        Kind::PlainWrite,
+        Kind::SyncedWrite,
+        Kind::Resize,
+    ] {
+        let count = thousands.saturating_mul(1_000);
+        let size = SHORT_LOG;
+        measure_calls(rt, alloc, Calls { kind, size, count })?;
+    }
+    for kind in [Kind::Sync, Kind::Opening, Kind::AdmittedOpening] {
+        let short = Calls {
+            kind,
+            size: SHORT_LOG,
+            count: thousands.saturating_mul(64),
+        };
+        let long = Calls {
+            kind,
+            size: LONG_LOG,
+            count: thousands,
+        };
+        measure_calls(rt, alloc, short)?;
+        measure_calls(rt, alloc, long)?;
+    }
+    Ok(())
 }
 
 fn main(rt: HostRuntime) -> io::Result<()> {
@@ -153,5 +223,5 @@ fn main(rt: HostRuntime) -> io::Result<()> {
     measure_openings(&rt, rt.alloc(), keys, keys)?;
     measure_openings(&rt, rt.alloc(), keys / 20, thousands)?;
     measure_all_reads(&rt, rt.alloc(), keys, thousands.saturating_mul(5_000))?;
-    measure_calls(&rt, rt.alloc(), keys)
+    measure_all_calls(&rt, rt.alloc(), thousands)
 }

@@ -7,8 +7,9 @@ ghost use Rattle.auth_store_session.specs.Stores.{IsCache};
 use crate::plain_hash::PlainHash;
 use auth_store_device::Device;
 use auth_store_ledger::Batch;
+use auth_store_ledger::ledger::log::Log;
 use auth_store_log::operations::next_operation;
-use auth_store_log::{operations_of, recover};
+use auth_store_log::{PlacedLog, operations_of, recover};
 use auth_store_parts::history::Places;
 use auth_store_session::{Sizes, Store, StoreError};
 use fault_storage::Crc32;
@@ -17,7 +18,7 @@ use merkle_forest::mmr;
 use paged_blob::CacheRef;
 use rand_core::SeedableRng;
 use rand_pcg::Pcg32;
-use state_ops::OrderedOperation;
+use state_ops::{Operation, OrderedOperation};
 use std::alloc::Global;
 
 /// Keys of eight bytes.
@@ -106,12 +107,20 @@ fn open_often(alloc: Global, device: Device<Pcg32>, cache: CacheRef, count: u64)
     operations
 }
 
-/// A store that is filled so, opened so many times.
-pub fn opened(alloc: Global, filling: Filling, count: u64) -> u64 {
-    match filled(alloc, filling) {
-        Ok((device, cache)) => open_often(alloc, device, cache, count),
-        Err(_) => 0,
-    }
+/// The device of a store that is filled so.
+pub fn device_of(alloc: Global, filling: Filling) -> Option<Device<Pcg32>> {
+    let (device, _cache) = filled(alloc, filling).ok()?;
+    Some(device)
+}
+
+/// The store of a device, which is taken, opened so many times, with a cache that holds nothing at first.
+pub fn opened(alloc: Global, device: &mut Option<Device<Pcg32>>, count: u64) -> u64 {
+    let Some(mut device) = device.take() else {
+        return 0;
+    };
+    device.close();
+    let cache = CacheRef::new(alloc, 4084, 1024);
+    open_often(alloc, device, cache, count)
 }
 
 // How many operations some bytes have.
@@ -164,6 +173,44 @@ fn index_checked(alloc: Global, bytes: &[u8]) -> u64 {
     }
 }
 
+// How many commits operations have behind the first one.
+fn commits_in(operations: &[OrderedOperation<mmr::Family, Key, u64>]) -> u64 {
+    let [_, later @ ..] = operations else {
+        return 0;
+    };
+    let mut commits = 0u64;
+    for operation in later {
+        if matches!(operation, Operation::CommitFloor(_, _)) {
+            commits = commits.wrapping_add(1);
+        }
+    }
+    commits
+}
+
+// The floor that the last commit of operations records.
+fn floor_in(operations: &[OrderedOperation<mmr::Family, Key, u64>]) -> u64 {
+    let mut floor = 0u64;
+    for operation in operations {
+        if let Operation::CommitFloor(_, recorded) = operation {
+            floor = recorded.as_u64();
+        }
+    }
+    floor
+}
+
+// The sum of the operations, the commits and the floor of the history that some bytes are the log of. All is made that
+// a ledger has but the root. Its own counts of commits and floor are private, so what stands here does the same work.
+fn take_all(alloc: Global, bytes: &[u8]) -> u64 {
+    let Ok(placed) = operations_of::<mmr::Family, Key, u64>(alloc, bytes) else {
+        return 0;
+    };
+    let PlacedLog { operations, places } = placed;
+    let commits = commits_in(&operations);
+    let floor = floor_in(&operations);
+    let log = Log::of(alloc, operations, places);
+    (log.len() as u64).wrapping_add(commits).wrapping_add(floor)
+}
+
 /// What is made of a log that is read.
 #[derive(Clone, Copy, Debug)]
 pub enum Use {
@@ -171,8 +218,10 @@ pub enum Use {
     Decoded,
     /// They are kept, and a place is found for each key.
     Indexed,
-    /// So, and it is checked that they are those of a history: all that an opening does but for the root.
+    /// So, and it is checked that they are those of a history.
     Checked,
+    /// So, with the commits and the floor: all that an opening does but for the root.
+    Taken,
 }
 
 // How many operations the log of a device has that is read so many times, with what is made of it each time.
@@ -200,6 +249,7 @@ fn read_often(alloc: Global, device: Device<Pcg32>, cache: CacheRef, count: u64,
             Use::Decoded => decode_all(alloc, &bytes),
             Use::Indexed => index_all(alloc, &bytes),
             Use::Checked => index_checked(alloc, &bytes),
+            Use::Taken => take_all(alloc, &bytes),
         };
         operations = operations.wrapping_add(made);
         device.close();
@@ -207,12 +257,15 @@ fn read_often(alloc: Global, device: Device<Pcg32>, cache: CacheRef, count: u64,
     operations
 }
 
-/// The log of such a store, read so many times, with what is made of it each time.
-pub fn used(alloc: Global, filling: Filling, count: u64, used: Use) -> u64 {
-    match filled(alloc, filling) {
-        Ok((device, cache)) => read_often(alloc, device, cache, count, used),
-        Err(_) => 0,
-    }
+/// The log of a device, which is taken, read so many times, with a cache that holds nothing at first, and with what is
+/// made of the log each time.
+pub fn used(alloc: Global, device: &mut Option<Device<Pcg32>>, count: u64, used: Use) -> u64 {
+    let Some(mut device) = device.take() else {
+        return 0;
+    };
+    device.close();
+    let cache = CacheRef::new(alloc, 4084, 1024);
+    read_often(alloc, device, cache, count, used)
 }
 
 /// A store that is filled so, closed and opened again.
