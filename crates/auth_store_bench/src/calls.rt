@@ -12,8 +12,10 @@ const VERSIONS: Versions = Versions {
     greatest: 0,
 };
 
-// What is written.
-const BYTES: [u8; 64] = [5; 64];
+// What a call of this number writes: other bytes than the one before.
+fn written(number: u64) -> [u8; 64] {
+    [(number % 251) as u8; 64]
+}
 
 /// A kind of calls of a log.
 #[derive(Clone, Copy, Debug)]
@@ -26,12 +28,16 @@ pub enum Kind {
     SyncedWrite,
     /// Resizes that take off the last 64 bytes, and put them back as zeros.
     Resize,
-    /// Syncs of all bytes.
+    /// Syncs of all bytes, between which nothing is written.
     Sync,
+    /// Plain writes of 64 bytes at the beginning, each with a sync.
+    WriteAndSync,
     /// Openings, each of which ends the one before. The device admits what it shows, and the store does not.
     Opening,
     /// Openings of which the store too admits what it shows.
     AdmittedOpening,
+    /// Such openings, before each of which 64 bytes are written durably.
+    WriteAndOpening,
 }
 
 impl Kind {
@@ -43,8 +49,11 @@ impl Kind {
             Kind::SyncedWrite => "synced writes of 64 bytes",
             Kind::Resize => "resizes by 64 bytes",
             Kind::Sync => "syncs",
+            Kind::WriteAndSync => "plain writes of 64 bytes, each with a sync",
             Kind::Opening => "openings",
             Kind::AdmittedOpening => "openings that are admitted",
+            Kind::WriteAndOpening =>
+                "synced writes of 64 bytes, each with an opening that is admitted",
         }
     }
 }
@@ -82,27 +91,49 @@ pub fn below_of(alloc: Global, size: u64) -> Result<Below, Error> {
     Ok(Below { storage, log })
 }
 
-// One of the calls of the store.
-fn call_below(below: &mut Below, kind: Kind, size: u64) -> Result<(), Error> {
-    let storage = &mut below.storage;
-    let log = &mut below.log;
+// Opens the log of the store anew.
+fn open_below(below: &mut Below) -> Result<(), Error> {
+    below.log = below
+        .storage
+        .open_versioned("store", b"log", VERSIONS)?
+        .blob;
+    Ok(())
+}
+
+// Opens it, and admits what it shows.
+fn admit_below(below: &mut Below) -> Result<(), Error> {
+    open_below(below)?;
+    below.storage.admit("store", b"log")
+}
+
+// Writes 64 bytes at its beginning.
+fn write_below(below: &mut Below, number: u64, mode: WriteMode) -> Result<(), Error> {
+    let Below { storage, log } = below;
+    log.write_at(storage, 0, &written(number), mode)
+}
+
+// The call of this number of the store.
+fn call_below(below: &mut Below, kind: Kind, size: u64, number: u64) -> Result<(), Error> {
     match kind {
         Kind::Read => {
-            log.read_at(storage, 0, BYTES.len())?;
+            below.log.read_at(&mut below.storage, 0, 64)?;
+            Ok(())
         }
-        Kind::PlainWrite => log.write_at(storage, 0, &BYTES, WriteMode::Plain)?,
-        Kind::SyncedWrite => log.write_at(storage, 0, &BYTES, WriteMode::Sync)?,
-        Kind::Resize => log.resize(storage, size)?,
-        Kind::Sync => log.sync(storage)?,
-        Kind::Opening => {
-            below.log = storage.open_versioned("store", b"log", VERSIONS)?.blob;
+        Kind::PlainWrite => write_below(below, number, WriteMode::Plain),
+        Kind::SyncedWrite => write_below(below, number, WriteMode::Sync),
+        Kind::Resize => below.log.resize(&mut below.storage, size),
+        Kind::Sync => below.log.sync(&mut below.storage),
+        Kind::WriteAndSync => {
+            write_below(below, number, WriteMode::Plain)?;
+            below.log.sync(&mut below.storage)
         }
-        Kind::AdmittedOpening => {
-            below.log = storage.open_versioned("store", b"log", VERSIONS)?.blob;
-            below.storage.admit("store", b"log")?;
+        Kind::Opening => open_below(below),
+        Kind::AdmittedOpening => admit_below(below),
+        Kind::WriteAndOpening => {
+            write_below(below, number, WriteMode::Sync)?;
+            admit_below(below)
         }
     }
-    Ok(())
 }
 
 /// The calls of the store.
@@ -110,7 +141,7 @@ pub fn made_below(below: &mut Below, calls: Calls) -> u64 {
     let mut made = 0u64;
     for number in 0..calls.count {
         let size = resized(calls.size, number);
-        if call_below(below, calls.kind, size).is_ok() {
+        if call_below(below, calls.kind, size, number).is_ok() {
             made = made.wrapping_add(1);
         }
     }
@@ -130,21 +161,32 @@ pub fn device_of(alloc: Global, size: u64) -> Option<Device<Pcg32>> {
     Some(device)
 }
 
-// One of the calls of the device: whether it was made.
-fn is_made(alloc: Global, device: &mut Device<Pcg32>, kind: Kind, size: u64) -> bool {
+// Opens the log of the device anew: whether that succeeds.
+fn is_opened(device: &mut Device<Pcg32>) -> bool {
+    device.close();
+    device.open().is_ok()
+}
+
+// Writes 64 bytes at its beginning: whether that succeeds.
+fn is_written(device: &mut Device<Pcg32>, number: u64, mode: paged_blob::WriteMode) -> bool {
+    paged_blob::Blob::write_at(device, 0, &written(number), mode).is_ok()
+}
+
+// The call of this number of the device: whether it was made.
+fn is_made(alloc: Global, device: &mut Device<Pcg32>, kind: Kind, size: u64, number: u64) -> bool {
     match kind {
-        Kind::Read => paged_blob::Blob::read_at(device, alloc, 0, BYTES.len()).is_ok(),
-        Kind::PlainWrite => {
-            paged_blob::Blob::write_at(device, 0, &BYTES, paged_blob::WriteMode::Plain).is_ok()
-        }
-        Kind::SyncedWrite => {
-            paged_blob::Blob::write_at(device, 0, &BYTES, paged_blob::WriteMode::Sync).is_ok()
-        }
+        Kind::Read => paged_blob::Blob::read_at(device, alloc, 0, 64).is_ok(),
+        Kind::PlainWrite => is_written(device, number, paged_blob::WriteMode::Plain),
+        Kind::SyncedWrite => is_written(device, number, paged_blob::WriteMode::Sync),
         Kind::Resize => paged_blob::Blob::resize(device, size).is_ok(),
         Kind::Sync => paged_blob::Blob::sync(device).is_ok(),
-        Kind::Opening | Kind::AdmittedOpening => {
-            device.close();
-            device.open().is_ok()
+        Kind::WriteAndSync => {
+            is_written(device, number, paged_blob::WriteMode::Plain)
+                && paged_blob::Blob::sync(device).is_ok()
+        }
+        Kind::Opening | Kind::AdmittedOpening => is_opened(device),
+        Kind::WriteAndOpening => {
+            is_written(device, number, paged_blob::WriteMode::Sync) && is_opened(device)
         }
     }
 }
@@ -154,7 +196,7 @@ pub fn made(alloc: Global, device: &mut Device<Pcg32>, calls: Calls) -> u64 {
     let mut made = 0u64;
     for number in 0..calls.count {
         let size = resized(calls.size, number);
-        if is_made(alloc, device, calls.kind, size) {
+        if is_made(alloc, device, calls.kind, size, number) {
             made = made.wrapping_add(1);
         }
     }

@@ -200,7 +200,13 @@ fn measure_all_calls<R: Print + Eprint + CpuClock>(
         let size = SHORT_LOG;
         measure_calls(rt, alloc, Calls { kind, size, count })?;
     }
-    for kind in [Kind::Sync, Kind::Opening, Kind::AdmittedOpening] {
+    for kind in [
+        Kind::Sync,
+        Kind::WriteAndSync,
+        Kind::Opening,
+        Kind::AdmittedOpening,
+        Kind::WriteAndOpening,
+    ] {
         let short = Calls {
             kind,
             size: SHORT_LOG,

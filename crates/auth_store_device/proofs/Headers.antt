@@ -10,7 +10,7 @@ use Rattle.fault_storage_parts.specs.declared.error.HeaderError.TheVariants.{Mag
 use Rattle.fault_storage_parts.specs.declared.header.Header.{Header}
 use Rattle.fault_storage_parts.specs.declared.header.Layout.TheVariants.{V0}
 use Rattle.fault_storage_parts.specs.Headers.{magic_of, created, layout_number, layout_with, layout_of, header_of, is_among, is_version}
-use Rattle.fault_storage_parts.specs.Headers.{has_region, has_checksum, first_fault, file_checks}
+use Rattle.fault_storage_parts.specs.Headers.{has_region, has_checksum, first_fault}
 use Rattle.fault_storage.specs.Directory.{both_layouts, front_of}
 use Rattle.auth_store_device.specs.Logs.{HasHeader, BeginsAsMade, log_versions, fault_of}
 use Rattle.auth_store_device.proofs.Outcomes.{made-headed}

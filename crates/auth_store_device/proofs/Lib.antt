@@ -1,3 +1,4 @@
+pub mod Bases
 pub mod Blocks
 pub mod Bytes
 pub mod Carried
@@ -10,4 +11,5 @@ pub mod Outcomes
 pub mod Places
 pub mod Replays
 pub mod Reached
+pub mod Recorded
 pub mod Steps

@@ -1,13 +1,13 @@
 -- What one change makes of an image.
 use Rattle.std.proofs.Common.{◌≡◌, ◌⊎◌, ℕ, ◌+◌, ◌-◌, ◌<◌, ◌≤◌, max, min, Bool, true, false, not, List, [], ◌∷◌, length, get_or, drop}
-use Rattle.std.proofs.Common.{sym, ◌∙◌, ap, inl, inr, ⊎_elim, refl, arith}
-use Rattle.std.proofs.lemmas.List.{get_or_past, length-drop}
-use Rattle.std.proofs.lemmas.Bool.{cases_lt, and_from, and_left, and_right, or_left, or_right, eq-eqb, le-leb, lt-leb, lt-ltb, le-ltb, not_from_false}
+use Rattle.std.proofs.Common.{sym, ◌∙◌, ap, inl, inr, ⊎_elim, refl, subst, arith}
+use Rattle.std.proofs.lemmas.List.{ext_get_or, get_or_past, length-drop}
+use Rattle.std.proofs.lemmas.Bool.{cases_lt, and_from, and_left, and_right, or_left, or_right, eq-eqb, eqb-true, le-leb, lt-leb, lt-ltb, le-ltb, not_from_false}
 use Rattle.std.proofs.lemmas.Nat.{mod_below}
 use Rattle.fault_storage_parts.specs.Draws.{length_between}
 use Rattle.fault_storage_parts.specs.Files.{with_kept}
 use Rattle.paged_blob.specs.Calls.{Change, write, resize, resized, changed, whole, File, after_change}
-use Rattle.paged_blob.specs.Images.{may_give, may_leave, may_hold, least_length, greatest_length, IsReached, IsLive}
+use Rattle.paged_blob.specs.Images.{may_give, may_leave, may_hold, least_length, greatest_length, IsImage, IsReached, IsLive}
 use Rattle.paged_blob.proofs.Bytes.{length-resized, resized_in, resized_out, length-with_bytes}
 use Rattle.paged_blob.proofs.Live.{one_live}
 use Rattle.auth_store_device.proofs.Bytes.{behind-at, torn_byte, torn_long}
@@ -129,3 +129,11 @@ between_is old asked word far =
     (λ lt. inr (omega (arith, lt, below), omega (arith, lt, below)))
     (λ le. inl (omega (arith, le, below), omega (arith, le, below)))
     (cases_lt old asked)
+
+-- what a crash may leave of a file that has not changed is its base
+pub image_settled : (file : File) (image : List ℕ) → file.changes ≡ [] → IsImage file image → image ≡ file.base
+image_settled file image none is =
+    let low : length file.base ≤ length image = subst (λ c. least_length file.base c ≤ length image) none is.no_shorter in
+    let high : length image ≤ length file.base = subst (λ c. length image ≤ greatest_length file.base c) none is.no_longer in
+    ext_get_or 0 image file.base (omega (arith, low, high))
+    (λ i below. eqb-true _ _ (subst (λ c. may_hold file.base c i (get_or image i 0) ≡ true) none (is.each i below)))

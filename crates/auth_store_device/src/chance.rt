@@ -2,17 +2,18 @@
 
 ghost use Rattle.std.specs.Prelude.{◌≡◌, ◌+◌, ◌*◌, ◌/◌, ◌<◌, ◌≤◌, ◌^◌, ◌++◌, false, length, take, drop, IfOk, OnOk};
 ghost use Rattle.std.specs.List.{list_any};
-ghost use Rattle.paged_blob.specs.Calls.{whole, resized, with_bytes};
+ghost use Rattle.paged_blob.specs.Calls.{whole};
 ghost use Rattle.paged_blob.specs.Chance.{page_at, has_slot, was_written, is_chance_slot, has_chance_slot};
 ghost use Rattle.paged_format.specs.Footers.{IsPageSize, slot_start, slot_len, slot_crc};
 ghost use Rattle.paged_format.specs.Pages.{verifies};
 ghost use Rattle.paged_format.specs.declared.footer.Slot.TheVariants.{First, Second};
 ghost use Rattle.auth_store_device.specs.Devices.{shown_file};
-ghost use Rattle.auth_store_device.specs.OpeningsCode.{is_base, change_in, file_from};
-ghost use Rattle.auth_store_device.specs.RecordsCode.{call_of};
+ghost use Rattle.auth_store_device.specs.OpeningsCode.{is_base, file_from};
+ghost use Rattle.auth_store_device.specs.RecordsCode.{changes_of};
 
+use crate::file::{put_bytes, set_length};
+use crate::kept::Entry;
 use crate::openings::Since;
-use crate::record::Entry;
 use fault_storage::Checksum;
 use paged_format::Slot;
 use std::alloc::{AllocError, Global};
@@ -91,41 +92,9 @@ fn page_at(size: usize, page: usize, file: &[u8]) -> &[u8]
     part(file, page * size, size)
 }
 
-// Cuts the file to a length, or grows it by zeros. It fails only when out of memory.
-fn set_length(file: &mut Vec<u8>, len: usize) -> Result<(), AllocError>
-    ensures { OnOk result (file.new.items ≡ resized len file.old.items) }
-{
-    file.resize(len, 0)
-}
-
-// Lays the bytes over others, which reach as far.
-fn overwrite(file: &mut [u8], offset: usize, bytes: &[u8])
-    requires { offset + length bytes.now ≤ length file.old }
-    ensures { file.new ≡ take offset file.old ++ (bytes.now ++ drop (offset + length bytes.now) file.old) }
-{
-    file[offset..offset + bytes.len()].copy_from_slice(bytes);
-}
-
-// Lays the bytes over the file, with zeros in a gap before them. It fails only when out of memory: no memory has room
-// for a file that ends past a u64.
-fn put_bytes(file: &mut Vec<u8>, offset: usize, bytes: &[u8]) -> Result<(), AllocError>
-    ensures { OnOk result (file.new.items ≡ with_bytes offset bytes.now file.old.items) }
-{
-    let Some(end) = offset.checked_add(bytes.len()) else {
-        return Err(AllocError);
-    };
-    if file.len() >= end {
-        overwrite(file, offset, bytes);
-        return Ok(());
-    }
-    set_length(file, end)?;
-    overwrite(file, offset, bytes);
-    Ok(())
-}
-
 // Makes the mutation that a call is, where it is one, on the file, whole. It fails only when out of memory.
 fn make_whole(file: &mut Vec<u8>, call: Entry<'_>) -> Result<(), AllocError>
-    ensures { OnOk result (file.new.items ≡ whole file.old.items (change_in (call_of call.entry))) }
+    ensures { OnOk result (file.new.items ≡ whole file.old.items (changes_of call.entry)) }
 {
     match call {
         Entry::Wrote(offset, bytes, _, _) => put_bytes(file, offset as usize, bytes),

@@ -1,6 +1,6 @@
 //! The device.
 
-ghost use Rattle.std.specs.Prelude.{◌≡◌, ◌⊎◌, ◌+◌, ◌-◌, ◌<◌, ◌^◌, ◌∷◌, [], ℕ, List, length, drop};
+ghost use Rattle.std.specs.Prelude.{◌≡◌, ◌⊎◌, ◌+◌, ◌-◌, ◌<◌, ◌^◌, ◌∷◌, [], ℕ, List, length};
 ghost use Rattle.std.specs.Prelude.{true, is_some, is_none};
 ghost use Rattle.std.specs.Prelude.{Err, None, Some, IfOk, IfErr, OnOk, OnErr};
 ghost use Rattle.rand_core.specs.Stream.{Stream};
@@ -25,7 +25,7 @@ ghost use Rattle.auth_store_device.specs.Records.{calls_of};
 
 use crate::error::OpenError;
 use crate::log::{read_log, resize_log, sync_log, write_log};
-use crate::opening::{Durable, copy_log, open_log};
+use crate::opening::{behind_header, copy_durable, copy_log, len_of, open_log};
 use crate::openings::Openings;
 use crate::record::Record;
 use fault_storage::{
@@ -40,7 +40,6 @@ use std::marker::Model;
 /// closed, keeps a record of its openings, syncs and changes, and its power may be cut after so many calls (own).
 #[derive(Debug, Drop)]
 pub struct Device<R: Rng> {
-    alloc: Global,
     storage: faulty::Storage<memory::Storage, R>,
     log: Option<faulty::Blob<memory::Blob>>,
     record_kept: Record,
@@ -69,16 +68,6 @@ impl<R: Rng> Model for Device<R> {
       left = it.left;
       refused = it.refused;
     }) };
-}
-
-// A copy of the bytes behind a header of eight. It fails only when out of memory.
-pub(crate) fn copy_behind_header(alloc: Global, bytes: &[u8]) -> Result<Vec<u8>, AllocError>
-    ensures { IfOk result (λ copy. copy.items ≡ drop 8 bytes.now) }
-{
-    if bytes.len() < 8 {
-        return Ok(Vec::new(alloc));
-    }
-    bytes[8..].to_vec(alloc)
 }
 
 // The settings of a device that is made of no file.
@@ -123,11 +112,8 @@ impl<R: Rng + Drop> Device<R> {
         }) }
     {
         let durable = copy_log(alloc, storage.inner())?;
-        let mut record_kept = Record::new(alloc);
-        record_kept.make_room(0)?;
-        record_kept.note_sync(durable.shown, true);
+        let record_kept = Record::of(alloc, durable)?;
         Ok(Device {
-            alloc,
             storage,
             log: None,
             record_kept,
@@ -157,7 +143,7 @@ impl<R: Rng + Drop> Device<R> {
     pub fn openings(&self) -> Openings<'_>
         ensures { result ≡ openings_of self.now.calls }
     {
-        Openings::of(self.record_kept.all())
+        Openings::of(&self.record_kept)
     }
 
     /// Whether a cut of the power stands, under which each call is refused.
@@ -312,12 +298,13 @@ impl<R: Rng + Drop> Device<R> {
         if let Err(error) = self.stop() {
             return Err(stopped_opening(error));
         }
-        let Durable { whole, shown } = copy_log(self.alloc, self.storage.inner())?;
-        self.record_kept.make_room(0)?;
-        let count = shown.len() as u64;
-        let answer = open_log(&mut self.storage, whole);
+        let durable = copy_durable(self.storage.inner())?;
+        self.record_kept.make_room_to_open(len_of(&durable))?;
+        let answer = open_log(&mut self.storage, durable);
         self.left = left_after_opening(&answer, self.left);
         let log = answer?;
+        let shown = behind_header(log.inner().live());
+        let count = shown.len() as u64;
         self.record_kept.note_opening(shown);
         self.log = Some(log);
         Ok(count)
@@ -371,7 +358,7 @@ impl<R: Rng + Drop> Blob for Device<R> {
     }
 
     /// Makes the log durable. F8: a count has ended; F10: a cut of the power stands; F1: no opening stands; F9: out of
-    /// memory; the log is then as it was. F6: a fault was injected; of what is pending any part may then be durable.
+    /// memory; the log is then as it was. F6: a fault was injected; all that was pending is so still.
     fn sync(&mut self) -> Result<(), Error>
         ensures calls { RecordsSync result self.old.calls self.new.calls }
         ensures cause { IfErr result (IsCause (failures_of self.old) CallKind.Sync 0) }
@@ -384,7 +371,7 @@ impl<R: Rng + Drop> Blob for Device<R> {
         let Some(log) = &self.log else {
             return Err(Error::BlobMissing);
         };
-        let answer = sync_log(self.alloc, &mut self.storage, log, &mut self.record_kept);
+        let answer = sync_log(&mut self.storage, log, &mut self.record_kept);
         self.left = left_after(&answer, self.left);
         answer
     }

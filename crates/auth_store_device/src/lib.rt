@@ -2,9 +2,12 @@
 //! and which may be cut off from its power after so many of them.
 #![tactic(auto)]
 
+pub(crate) mod base;
 pub(crate) mod chance;
 pub mod device;
 pub mod error;
+pub(crate) mod file;
+pub(crate) mod kept;
 pub mod laws;
 pub(crate) mod log;
 pub(crate) mod opening;

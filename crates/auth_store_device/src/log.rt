@@ -14,13 +14,12 @@ ghost use Rattle.auth_store_device.specs.Devices.{Passes, failures_in, mode_belo
 ghost use Rattle.auth_store_device.specs.Logs.{IsOpenLog};
 ghost use Rattle.auth_store_device.specs.Records.{calls_of};
 
-use crate::device::copy_behind_header;
+use crate::opening::behind_header;
 use crate::record::Record;
 use fault_storage::storage::Blob as _;
 use fault_storage::{Error as StorageError, WriteMode as StorageMode, faulty, memory};
 use paged_blob::{CallKind, Error, WriteMode};
 use rand_core::Rng;
-use std::alloc::Global;
 
 /// What the store answered a change of the log, or a sync of it.
 #[derive(Clone, Copy, Debug, PartialEq, Eq)]
@@ -174,7 +173,6 @@ pub(crate) fn read_log<R: Rng>(
 
 /// Makes the log durable. There is room for the record before the store is asked.
 pub(crate) fn sync_log<R: Rng + Drop>(
-    alloc: Global,
     storage: &mut faulty::Storage<memory::Storage, R>,
     log: &faulty::Blob<memory::Blob>,
     record_kept: &mut Record,
@@ -190,15 +188,14 @@ pub(crate) fn sync_log<R: Rng + Drop>(
         ≡ failures_after result (failures_in storage.old refused is_open is_asked) }
     ensures stands { IsOpenLog storage.new.inner (file_of (calls_of record_kept.new)) log.now.inner }
 {
-    let synced = copy_behind_header(alloc, log.inner().live())?;
-    record_kept.make_room(0)?;
+    record_kept.make_room_to_sync(behind_header(log.inner().live()).len())?;
     match Told::of(log.sync(storage)) {
         Told::Made => {
-            record_kept.note_sync(synced, true);
+            record_kept.note_sync(behind_header(log.inner().live()));
             Ok(())
         }
         Told::Failed => {
-            record_kept.note_sync(Vec::new(alloc), false);
+            record_kept.note_failed_sync();
             Err(Error::Injected(CallKind::Sync))
         }
         Told::Ended => Err(Error::NumberEnded),

@@ -1,6 +1,6 @@
 //! The opening of the log, which admits what it shows.
 
-ghost use Rattle.std.specs.Prelude.{◌≡◌, ◌-◌, ◌<◌, ◌^◌, [], true, false, None, Some, Result, Err};
+ghost use Rattle.std.specs.Prelude.{◌≡◌, ◌-◌, ◌<◌, ◌^◌, [], true, false, length, None, Some, Result, Err};
 ghost use Rattle.std.specs.Prelude.{IfOk, IfErr, IfNone, IfSome, OnOk, OnErr};
 ghost use Rattle.fault_storage_parts.specs.declared.error.Call.{Call};
 ghost use Rattle.fault_storage_parts.specs.declared.error.Error.{Error};
@@ -16,7 +16,6 @@ ghost use Rattle.auth_store_device.specs.Logs.{log_versions, IsOrderly, IsOpenLo
 ghost use Rattle.auth_store_device.specs.Devices.{opening_refusal, opening_answer, injected_after};
 ghost use Rattle.auth_store_device.specs.Devices.{shown_file, log_fault};
 
-use crate::device::copy_behind_header;
 use crate::error::OpenError;
 use fault_storage::storage::Storage as _;
 use fault_storage::{Error as StorageError, Versions, faulty, memory};
@@ -29,8 +28,15 @@ const PARTITION: &str = "store";
 // The name of the log.
 const NAME: &[u8] = b"log";
 
-// What is durable of the log, its header first. None: there is none. It fails only when out of memory.
-fn copy_durable(storage: &memory::Storage) -> Result<Option<Vec<u8>>, AllocError>
+/// Those of the bytes that stand behind a header of eight.
+pub(crate) fn behind_header(bytes: &[u8]) -> &[u8]
+    ensures { result.now ≡ behind_header bytes.now }
+{
+    &bytes[bytes.len().min(8)..]
+}
+
+/// What is durable of the log, its header first. None: there is none. It fails only when out of memory.
+pub(crate) fn copy_durable(storage: &memory::Storage) -> Result<Option<Vec<u8>>, AllocError>
     requires { has_log storage.now ≡ true → has_partition log_partition storage.now.partitions ≡ true }
     ensures none { IfOk result (λ found. IfNone found (has_log storage.now ≡ false)) }
     ensures some { IfOk result (λ found. IfSome found (λ bytes. (has_log storage.now ≡ true)
@@ -43,36 +49,26 @@ fn copy_durable(storage: &memory::Storage) -> Result<Option<Vec<u8>>, AllocError
     }
 }
 
-/// A log, as it is durable: its bytes with the header first, or None where there is none, and a copy of those behind
-/// the header.
-#[derive(Drop)]
-pub(crate) struct Durable {
-    /// All bytes.
-    pub(crate) whole: Option<Vec<u8>>,
-    /// Those behind the header.
-    pub(crate) shown: Vec<u8>,
+/// How many bytes are durable of the log, those of its header among them.
+pub(crate) fn len_of(durable: &Option<Vec<u8>>) -> usize
+    ensures none { IfNone durable.now (result ≡ 0) }
+    ensures some { IfSome durable.now (λ bytes. result ≡ length bytes.items) }
+{
+    match durable {
+        Some(bytes) => bytes.len(),
+        None => 0,
+    }
 }
 
-/// The log of a store, as it is durable. It fails only when out of memory.
-pub(crate) fn copy_log(alloc: Global, storage: &memory::Storage) -> Result<Durable, AllocError>
+/// A copy of what is durable of the log behind its header; nothing where there is no log. It fails only when out of
+/// memory.
+pub(crate) fn copy_log(alloc: Global, storage: &memory::Storage) -> Result<Vec<u8>, AllocError>
     requires { has_log storage.now ≡ true → has_partition log_partition storage.now.partitions ≡ true }
-    ensures none { IfOk result (λ log. IfNone log.whole (has_log storage.now ≡ false)) }
-    ensures some { IfOk result (λ log. IfSome log.whole (λ bytes. (has_log storage.now ≡ true)
-        × (bytes.items ≡ durable_log storage.now))) }
-    ensures shown { IfOk result (λ log. log.shown.items ≡ behind_header (durable_log storage.now)) }
+    ensures { IfOk result (λ bytes. bytes.items ≡ behind_header (durable_log storage.now)) }
 {
     match copy_durable(storage)? {
-        Some(bytes) => {
-            let shown = copy_behind_header(alloc, &bytes)?;
-            Ok(Durable {
-                whole: Some(bytes),
-                shown,
-            })
-        }
-        None => Ok(Durable {
-            whole: None,
-            shown: Vec::new(alloc),
-        }),
+        Some(bytes) => behind_header(&bytes).to_vec(alloc),
+        None => Ok(Vec::new(alloc)),
     }
 }
 

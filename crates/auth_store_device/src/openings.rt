@@ -1,19 +1,21 @@
 //! The openings of a device, lent from its record.
 
-ghost use Rattle.std.specs.Prelude.{◌≡◌, ◌≤◌, [], false, length, take, drop, map, reverse, IfOk, IfSome, IfNone};
+ghost use Rattle.std.specs.Prelude.{◌≡◌, ◌≤◌, [], false, length, take, drop, map, reverse, IfOk};
 ghost use Rattle.std.specs.Iterator.{YieldsFirst, YieldsFirstBy, item_count};
 ghost use Rattle.std.specs.List.{list_any};
 ghost use Rattle.fault_storage_parts.specs.Crc32.{crc32};
 ghost use Rattle.paged_format.specs.Footers.{IsPageSize};
-ghost use Rattle.paged_blob.specs.Calls.{File, file_of};
+ghost use Rattle.paged_blob.specs.Calls.{file_of};
 ghost use Rattle.paged_blob.specs.Chance.{is_by_chance};
 ghost use Rattle.auth_store_device.specs.Openings.{openings_of, mutations_of, plain};
-ghost use Rattle.auth_store_device.specs.OpeningsCode.{is_base, file_after, file_from};
-ghost use Rattle.auth_store_device.specs.RecordsCode.{call_of};
+ghost use Rattle.auth_store_device.specs.OpeningsCode.{is_base, file_from};
+ghost use Rattle.auth_store_device.specs.Records.{calls_of};
+ghost use Rattle.auth_store_device.specs.RecordsCode.{begins};
 ghost use Rattle.auth_store_device.specs.Devices.{shown_file};
 
 use crate::chance::has_chance_slot;
-use crate::record::{Calls, Entry};
+use crate::kept::Entry;
+use crate::record::{Calls, Record};
 use fault_storage::Crc32;
 use std::alloc::{AllocError, Global};
 use std::marker::Model;
@@ -21,7 +23,7 @@ use std::marker::Model;
 /// The openings that are left of a record, the oldest first (own).
 #[derive(Debug, Drop)]
 pub struct Openings<'a> {
-    record_kept: Calls<'a>,
+    record_kept: &'a Record,
     place: usize,
 }
 
@@ -32,15 +34,16 @@ impl<'a> Model for Openings<'a> {
 
     ghost Value = { List Showing };
 
-    ghost view = { λ it. openings_from (take it.place it.record_kept) (drop it.place it.record_kept) };
+    ghost view = { λ it. openings_from (take it.place it.record_kept.now.in_order)
+        (drop it.place it.record_kept.now.in_order) };
 
-    ghost invariant = { λ it. it.place ≤ length it.record_kept };
+    ghost invariant = { λ it. it.place ≤ length it.record_kept.now.in_order };
 }
 
 impl<'a> Openings<'a> {
-    /// Those of a record that has the oldest call first.
-    pub(crate) fn of(record_kept: Calls<'a>) -> Openings<'a>
-        ensures { result ≡ openings_of (reverse record_kept.entry) }
+    /// All those of a record.
+    pub(crate) fn of(record_kept: &'a Record) -> Openings<'a>
+        ensures { result ≡ openings_of (calls_of record_kept.now) }
     {
         Openings {
             record_kept,
@@ -60,9 +63,10 @@ impl<'a> Iterator for Openings<'a> {
         while self.place < self.record_kept.len() {
             let place = self.place;
             self.place += 1;
-            if let Entry::Opened(shown) = self.record_kept.entry(place) {
+            if let Entry::Opened(base, shown) = self.record_kept.entry(place) {
                 return Some(Opening {
                     earlier: self.record_kept.first(place),
+                    base,
                     shown,
                 });
             }
@@ -71,20 +75,25 @@ impl<'a> Iterator for Openings<'a> {
     }
 }
 
-/// An opening of the device: what it showed, and the calls before it (own).
+/// An opening of the device: what it showed, what was durable at the sync or opening before it, and the calls before it
+/// (own).
 #[derive(Debug, Drop)]
 pub struct Opening<'a> {
     earlier: Calls<'a>,
+    base: &'a [u8],
     shown: &'a [u8],
 }
 
 impl<'a> Model for Opening<'a> {
-    ghost use Rattle.std.specs.Prelude.{reverse};
+    ghost use Rattle.std.specs.Prelude.{◌≡◌, reverse};
+    ghost use Rattle.paged_blob.specs.Calls.{file_of};
     ghost use Rattle.auth_store_device.specs.Openings.{Showing};
 
     ghost Value = { Showing };
 
     ghost view = { λ it. record { before = reverse it.earlier; shown = it.shown.now } };
+
+    ghost invariant = { λ it. it.base.now ≡ (file_of (reverse it.earlier)).base };
 }
 
 impl<'a> Opening<'a> {
@@ -92,7 +101,7 @@ impl<'a> Opening<'a> {
     pub fn base(&self) -> &'a [u8]
         ensures { result.now ≡ (file_of self.now.before).base }
     {
-        since_base(&self.earlier).base
+        self.base
     }
 
     /// The bytes that the opening showed, behind the header.
@@ -108,7 +117,7 @@ impl<'a> Opening<'a> {
         ensures { result ≡ mutations_of self.now }
     {
         Mutations {
-            calls: since_base(&self.earlier).calls,
+            calls: calls_since(&self.earlier),
         }
     }
 
@@ -121,7 +130,10 @@ impl<'a> Opening<'a> {
         ensures { IfOk result (λ is. is
             ≡ is_by_chance crc32 physical_page_size (file_of self.now.before) self.now.shown) }
     {
-        let since = since_base(&self.earlier);
+        let since = Since {
+            base: self.base,
+            calls: calls_since(&self.earlier),
+        };
         has_chance_slot::<Crc32>(alloc, &since, self.shown, physical_page_size as usize)
     }
 }
@@ -196,35 +208,28 @@ pub(crate) struct Since<'a> {
     pub(crate) calls: Calls<'a>,
 }
 
-// The bytes with which the file begins anew, where it does with this call.
-fn base_in(call: Entry<'_>) -> Option<&[u8]>
-    ensures none { IfNone result (is_base (call_of call.entry) ≡ false) }
-    ensures some { IfSome result (λ base. (file : File) → file_after (call_of call.entry) file ≡ shown_file base.now) }
+// Whether the file begins anew with the call.
+fn begins(call: Entry<'_>) -> bool
+    ensures { result ≡ begins call.entry }
 {
     match call {
-        Entry::Opened(shown) => Some(shown),
-        Entry::Synced(bytes, true) => Some(bytes),
-        _ => None,
+        Entry::Opened(_, _) => true,
+        Entry::Synced(is_made) => is_made,
+        _ => false,
     }
 }
 
-/// The last base of a record, and the calls since; nothing and all of them where there is none.
-pub(crate) fn since_base<'a>(earlier: &Calls<'a>) -> Since<'a>
-    ensures file { file_of (reverse earlier.now) ≡ file_from (shown_file result.base.now) result.calls }
-    ensures calls { list_any is_base result.calls ≡ false }
+/// The calls since the last with which the file begins anew; all of them where there is none.
+pub(crate) fn calls_since<'a>(earlier: &Calls<'a>) -> Calls<'a>
+    ensures file { file_of (reverse earlier.now) ≡ file_from (shown_file (file_of (reverse earlier.now)).base) result }
+    ensures calls { list_any is_base result ≡ false }
 {
     let mut count = earlier.len();
     while count > 0 {
-        if let Some(base) = base_in(earlier.entry(count - 1)) {
-            return Since {
-                base,
-                calls: earlier.behind(count),
-            };
+        if begins(earlier.entry(count - 1)) {
+            return earlier.behind(count);
         }
         count -= 1;
     }
-    Since {
-        base: &[],
-        calls: earlier.behind(0),
-    }
+    earlier.behind(0)
 }

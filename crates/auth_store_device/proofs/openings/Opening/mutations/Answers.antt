@@ -6,6 +6,5 @@ use Rattle.auth_store_device.proofs.openings.Opening.mutations.Goals as goal
 
 pub returns : goal.returns
 returns c =
-    let since = c.since_base.result in
-    mutations-since (file_of (reverse c.self.inside.earlier)) since.base.now since.calls c.since_base.ensures.file c.since_base.ensures.calls
+    mutations-since (file_of (reverse c.self.inside.earlier)) c.calls_since.result c.calls_since.ensures.file c.calls_since.ensures.calls
     ∙ ap mutations_of c.self.view_is

@@ -1,6 +1,6 @@
 use Rattle.std.proofs.Common.{rules}
 use Rattle.paged_blob.specs.Calls.{resized}
-use Rattle.auth_store_device.proofs.chance.set_length.Goals as goal
+use Rattle.auth_store_device.proofs.file.set_length.Goals as goal
 
 pub returns : goal.returns
 unfolding resized

@@ -2,7 +2,7 @@ use Rattle.std.proofs.Common.{rules, arith, ◌≡◌, ◌≤◌, ◌+◌, ◌++
 use Rattle.std.proofs.lemmas.List.{take_at}
 use Rattle.paged_blob.specs.Calls.{resized, with_bytes}
 use Rattle.paged_blob.proofs.Bytes.{length-resized, with_bytes-long, with_bytes-resized}
-use Rattle.auth_store_device.proofs.chance.put_bytes.Goals as goal
+use Rattle.auth_store_device.proofs.file.put_bytes.Goals as goal
 
 -- bytes that are written over a slice of the file
 over : (offset : ℕ) (bytes file slice : List ℕ) → slice ≡ file → offset ≤ length file
@@ -10,8 +10,8 @@ over : (offset : ℕ) (bytes file slice : List ℕ) → slice ≡ file → offse
 over offset bytes file slice is long =
     ap (λ d. take offset d ++ (bytes ++ drop (offset + length bytes) d)) is ∙ sym (with_bytes-long offset bytes file long)
 
-pub returns-then-len-end : goal.returns-then-len-end
-returns-then-len-end c =
+pub returns-then-len-end-clause-ok : goal.returns-then-len-end-clause-ok
+returns-then-len-end-clause-ok c =
     let file = c.args.file.now.items in
     let long : c.args.offset ≤ length file = search rules in
     take_at c.overwrite.new.file (drop (length c.overwrite.new.file) file) c.args.file.now.len (search rules) ∙ c.overwrite.ensures
@@ -25,8 +25,8 @@ overwrite-requires-2 c =
     let same : length c.deref_mut-2.result.now ≡ length c.set_length.new.file.items = ap length c.deref_mut-2.ensures.value in
     omega (arith, size, same)
 
-pub returns : goal.returns
-returns c =
+pub returns-clause-ok : goal.returns-clause-ok
+returns-clause-ok c =
     let file = c.args.file.now.items in
     let end = c.args.offset + length c.args.bytes.now in
     let next = c.set_length.new.file.items in
