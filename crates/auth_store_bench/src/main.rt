@@ -184,7 +184,7 @@ fn measure_calls<R: Print + Eprint + CpuClock>(
 }
 
 // What each kind of calls costs: some whose cost is in few bytes, and some that copy the log, of a short one and of one
-// 64 times as long. The latter are fewer, since the device keeps what each of them showed or made durable.
+// 64 times as long. The latter are fewer, so that as many bytes are copied.
 fn measure_all_calls<R: Print + Eprint + CpuClock>(
     rt: &R,
     alloc: Global,
