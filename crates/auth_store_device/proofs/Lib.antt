@@ -1,10 +1,12 @@
 pub mod Bases
-pub mod Blocks
 pub mod Bytes
 pub mod Carried
 pub mod Chances
 pub mod Changes
 pub mod Headers
+pub mod Helds
+pub mod KeptCalls
+pub mod Listed
 pub mod Opened
 pub mod Shown
 pub mod Outcomes

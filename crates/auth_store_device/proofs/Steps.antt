@@ -1,6 +1,8 @@
 -- How a device is carried on by each call.
 use Rattle.std.proofs.Common.{◌≡◌, ℕ, zero, suc, ◌<◌, Bool, true, false, Option, Some, None, List, [], ◌∷◌, length, drop, sym, ◌∙◌, ap, subst, refl, arith}
-use Rattle.std.specs.Prelude.{IfSome, ◌⊎◌}
+use Rattle.std.specs.Prelude.{IfNone, IfSome, ◌⊎◌}
+use Rattle.std.specs.declared.alloc.Global.{Global}
+use Rattle.std.specs.declared.vec.Vec.{Vec}
 use Rattle.std.proofs.Common.{inl, inr}
 use Rattle.std.proofs.lemmas.Bool.{both_ways, false_from_ne_true}
 use Rattle.rand_core.specs.Stream.{Stream}
@@ -126,6 +128,13 @@ stands_base log none =
 -- where there is no log, nothing is behind its header
 pub nothing_behind : (store : Store) → has_log store ≡ false → [] ≡ behind_header (durable_log store)
 nothing_behind store none = ap (λ (log : files.File). behind_header (durable_bytes log.base log.log)) (sym (file-none store.files none))
+
+-- what a copy of the durable bytes has behind its header, or nothing where there is no log
+pub shown_is : (store : Store) (copied : Option (Vec ℕ Global)) (shown : List ℕ) → IfNone copied (has_log store ≡ false)
+    → IfSome copied (λ bytes. (has_log store ≡ true) × (bytes.items ≡ durable_log store)) → IfNone copied (shown ≡ [])
+    → IfSome copied (λ bytes. shown ≡ behind_header bytes.items) → shown ≡ behind_header (durable_log store)
+shown_is store None shown none some empty behind = empty ∙ nothing_behind store none
+shown_is store (Some bytes) shown none some empty behind = behind ∙ ap behind_header some.1
 
 -- where the store refuses the log as one that is not there, it is not there
 pub lacks_partition : (store : Store) (e : Error) → (has_log store ≡ true → has_partition log_partition store.partitions ≡ true)

@@ -1,3 +1,5 @@
+pub mod BlocksCode
+pub mod Listings
 pub mod Logs
 pub mod Mutations
 pub mod Devices

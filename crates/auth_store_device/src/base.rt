@@ -4,26 +4,27 @@
 //! file, so that it is enough to know after how many calls the file began:
 //!
 //! ```text
-//!   calls    0 ......... part_at ......... file_at ......... base_at ......... all
-//!                        the last of them  a file to which   here the file
-//!                        that lie in a     calls are made,   began last
-//!                        block             up to here
+//!   calls    0 ........ image_at ......... file_at ......... base_at ......... all
+//!                       the last of them   a file to which   here the file
+//!                       that is an image   calls are made,   began last
+//!                                          up to here
 //! ```
 
 ghost use Rattle.std.specs.Prelude.{◌≡◌, [], false, OnOk};
-ghost use Rattle.auth_store_device.specs.RecordsCode.{blocks_with, calls_in, AreWithin, IsBase};
+ghost use Rattle.auth_store_device.specs.RecordsCode.{calls_in, AreWithin, IsBase};
 
-use crate::file::set_bytes;
-use crate::kept::{Kept, Part, bytes_in, make_call};
+use crate::blocks::Blocks;
+use crate::kept::make_call;
+use crate::list::CallList;
 use std::alloc::AllocError;
 
 /// What is known of the base of a record's calls.
 #[derive(Debug, Drop)]
 pub(crate) struct Base {
-    /// The last base that lies in a block.
-    pub(crate) part: Part,
+    /// The last base that is an image.
+    pub(crate) image: usize,
     /// Of how many calls it is the base.
-    pub(crate) part_at: usize,
+    pub(crate) image_at: usize,
     /// Of how many calls the base of all is the base.
     pub(crate) base_at: usize,
     /// What some of the first calls make of the file, whole.
@@ -35,36 +36,31 @@ pub(crate) struct Base {
 }
 
 impl Base {
-    /// The base of so many calls, the last of which began the file with these bytes.
-    pub(crate) fn begin(&mut self, part: Part, count: usize)
-        ensures { self.new ≡ record self.old { part = part; part_at = count; base_at = count; has_failed = false } }
+    /// The base of so many calls, the last of which began the file with this image.
+    pub(crate) fn begin(&mut self, image: usize, count: usize)
+        ensures { self.new ≡ record self.old { image = image; image_at = count; base_at = count; has_failed = false } }
     {
-        self.part = part;
-        self.part_at = count;
+        self.image = image;
+        self.image_at = count;
         self.base_at = count;
         self.has_failed = false;
     }
 
-    /// Makes the base of its file, by the calls of the record in these blocks. It fails only when out of memory; the file
-    /// is then that of fewer calls.
-    pub(crate) fn bring_file(
-        &mut self,
-        calls: &[Kept],
-        full: &[Vec<u8>],
-        last: &[u8],
-    ) -> Result<(), AllocError>
-        requires within { AreWithin (blocks_with full.now last.now) [] calls.now }
-        requires base { IsBase (blocks_with full.now last.now) (calls_in (blocks_with full.now last.now) [] calls.now) self.old }
-        ensures base { IsBase (blocks_with full.now last.now) (calls_in (blocks_with full.now last.now) [] calls.now) self.new }
+    /// Makes the base of its file, by these calls. It fails only when out of memory; the file is then that of fewer
+    /// calls.
+    pub(crate) fn bring_file(&mut self, calls: &CallList, blocks: &Blocks) -> Result<(), AllocError>
+        requires within { AreWithin blocks.now [] calls.now.items }
+        requires base { IsBase blocks.now (calls_in blocks.now [] calls.now.items) self.old }
+        ensures base { IsBase blocks.now (calls_in blocks.now [] calls.now.items) self.new }
         ensures brought { OnOk result (self.new.file_at ≡ self.new.base_at) }
         ensures same { self.new ≡ record self.old { file = self.new.file; file_at = self.new.file_at } }
     {
-        if self.file_at < self.part_at {
-            set_bytes(&mut self.file, bytes_in(full, last, self.part))?;
-            self.file_at = self.part_at;
+        if self.file_at < self.image_at {
+            self.file = blocks.copy(self.image)?;
+            self.file_at = self.image_at;
         }
         while self.file_at < self.base_at {
-            make_call(&mut self.file, full, last, calls[self.file_at])?;
+            make_call(&mut self.file, blocks, calls.get(self.file_at))?;
             self.file_at += 1;
         }
         Ok(())

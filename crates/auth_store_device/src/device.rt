@@ -25,7 +25,7 @@ ghost use Rattle.auth_store_device.specs.Records.{calls_of};
 
 use crate::error::OpenError;
 use crate::log::{read_log, resize_log, sync_log, write_log};
-use crate::opening::{behind_header, copy_durable, copy_log, len_of, open_log};
+use crate::opening::{behind_header, copy_log, make_ready, open_log};
 use crate::openings::Openings;
 use crate::record::Record;
 use fault_storage::{
@@ -298,14 +298,12 @@ impl<R: Rng + Drop> Device<R> {
         if let Err(error) = self.stop() {
             return Err(stopped_opening(error));
         }
-        let durable = copy_durable(self.storage.inner())?;
-        self.record_kept.make_room_to_open(len_of(&durable))?;
+        let durable = make_ready(self.storage.inner(), &mut self.record_kept)?;
         let answer = open_log(&mut self.storage, durable);
         self.left = left_after_opening(&answer, self.left);
         let log = answer?;
-        let shown = behind_header(log.inner().live());
-        let count = shown.len() as u64;
-        self.record_kept.note_opening(shown);
+        let count = behind_header(log.inner().live()).len() as u64;
+        self.record_kept.note_opening();
         self.log = Some(log);
         Ok(count)
     }

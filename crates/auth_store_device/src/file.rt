@@ -5,16 +5,6 @@ ghost use Rattle.paged_blob.specs.Calls.{resized, with_bytes};
 
 use std::alloc::AllocError;
 
-/// Puts these bytes in place of the file's. It fails only when out of memory, and then the file is as it was.
-pub(crate) fn set_bytes(file: &mut Vec<u8>, bytes: &[u8]) -> Result<(), AllocError>
-    ensures ok { OnOk result (file.new.items ≡ bytes.now) }
-    ensures err { OnErr result (file.new.items ≡ file.old.items) }
-{
-    file.reserve(bytes.len().saturating_sub(file.len()))?;
-    file.clear();
-    file.extend_from_slice(bytes)
-}
-
 /// Cuts the file to a length, or grows it by zeros. It fails only when out of memory, and then the file is as it was.
 pub(crate) fn set_length(file: &mut Vec<u8>, len: usize) -> Result<(), AllocError>
     ensures ok { OnOk result (file.new.items ≡ resized len file.old.items) }

@@ -3,17 +3,20 @@
 #![tactic(auto)]
 
 pub(crate) mod base;
+pub mod blocks;
 pub(crate) mod chance;
 pub mod device;
 pub mod error;
 pub(crate) mod file;
 pub(crate) mod kept;
 pub mod laws;
+pub(crate) mod list;
 pub(crate) mod log;
 pub(crate) mod opening;
 pub mod openings;
 pub(crate) mod record;
 
+pub use blocks::{Image, Pieces};
 pub use device::Device;
 pub use error::OpenError;
 pub use openings::{Mutation, Mutations, Opening, Openings};

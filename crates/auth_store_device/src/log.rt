@@ -171,7 +171,7 @@ pub(crate) fn read_log<R: Rng>(
     }
 }
 
-/// Makes the log durable. There is room for the record before the store is asked.
+/// Makes the log durable. The record is ready before the store is asked.
 pub(crate) fn sync_log<R: Rng + Drop>(
     storage: &mut faulty::Storage<memory::Storage, R>,
     log: &faulty::Blob<memory::Blob>,
@@ -188,10 +188,10 @@ pub(crate) fn sync_log<R: Rng + Drop>(
         ≡ failures_after result (failures_in storage.old refused is_open is_asked) }
     ensures stands { IsOpenLog storage.new.inner (file_of (calls_of record_kept.new)) log.now.inner }
 {
-    record_kept.make_room_to_sync(behind_header(log.inner().live()).len())?;
+    record_kept.make_ready_to_sync(behind_header(log.inner().live()))?;
     match Told::of(log.sync(storage)) {
         Told::Made => {
-            record_kept.note_sync(behind_header(log.inner().live()));
+            record_kept.note_sync();
             Ok(())
         }
         Told::Failed => {

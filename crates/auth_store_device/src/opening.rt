@@ -15,8 +15,11 @@ ghost use Rattle.auth_store_device.specs.Logs.{log_partition, log_name, has_log,
 ghost use Rattle.auth_store_device.specs.Logs.{log_versions, IsOrderly, IsOpenLog};
 ghost use Rattle.auth_store_device.specs.Devices.{opening_refusal, opening_answer, injected_after};
 ghost use Rattle.auth_store_device.specs.Devices.{shown_file, log_fault};
+ghost use Rattle.auth_store_device.specs.Records.{calls_of};
+ghost use Rattle.paged_blob.specs.Calls.{file_of};
 
 use crate::error::OpenError;
+use crate::record::Record;
 use fault_storage::storage::Storage as _;
 use fault_storage::{Error as StorageError, Versions, faulty, memory};
 use rand_core::Rng;
@@ -35,8 +38,8 @@ pub(crate) fn behind_header(bytes: &[u8]) -> &[u8]
     &bytes[bytes.len().min(8)..]
 }
 
-/// What is durable of the log, its header first. None: there is none. It fails only when out of memory.
-pub(crate) fn copy_durable(storage: &memory::Storage) -> Result<Option<Vec<u8>>, AllocError>
+// What is durable of the log, its header first. None: there is none. It fails only when out of memory.
+fn copy_durable(storage: &memory::Storage) -> Result<Option<Vec<u8>>, AllocError>
     requires { has_log storage.now ≡ true → has_partition log_partition storage.now.partitions ≡ true }
     ensures none { IfOk result (λ found. IfNone found (has_log storage.now ≡ false)) }
     ensures some { IfOk result (λ found. IfSome found (λ bytes. (has_log storage.now ≡ true)
@@ -49,15 +52,37 @@ pub(crate) fn copy_durable(storage: &memory::Storage) -> Result<Option<Vec<u8>>,
     }
 }
 
-/// How many bytes are durable of the log, those of its header among them.
-pub(crate) fn len_of(durable: &Option<Vec<u8>>) -> usize
-    ensures none { IfNone durable.now (result ≡ 0) }
-    ensures some { IfSome durable.now (λ bytes. result ≡ length bytes.items) }
+// Those of the copied bytes that stand behind the header; nothing where there is no log.
+fn shown_of(copied: &Option<Vec<u8>>) -> &[u8]
+    ensures none { IfNone copied.now (result.now ≡ []) }
+    ensures some { IfSome copied.now (λ bytes. result.now ≡ behind_header bytes.items) }
 {
-    match durable {
-        Some(bytes) => bytes.len(),
-        None => 0,
+    match copied {
+        Some(bytes) => behind_header(bytes),
+        None => &[],
     }
+}
+
+/// Copies what is durable of the log, its header first, and makes the record ready for an opening that shows it. None:
+/// there is no log, and an opening shows nothing. It fails only when out of memory.
+pub(crate) fn make_ready(
+    storage: &memory::Storage,
+    record_kept: &mut Record,
+) -> Result<Option<Vec<u8>>, AllocError>
+    requires listed { has_log storage.now ≡ true → has_partition log_partition storage.now.partitions ≡ true }
+    requires same { (file_of (calls_of record_kept.old)).changes ≡ []
+        → behind_header (durable_log storage.now) ≡ (file_of (calls_of record_kept.old)).base }
+    ensures none { IfOk result (λ found. IfNone found (has_log storage.now ≡ false)) }
+    ensures some { IfOk result (λ found. IfSome found (λ bytes. (has_log storage.now ≡ true)
+        × (bytes.items ≡ durable_log storage.now))) }
+    ensures calls { calls_of record_kept.new ≡ calls_of record_kept.old }
+    ensures place { OnOk result (record_kept.new.has_place ≡ true) }
+    ensures base { OnOk result (record_kept.new.has_base ≡ true) }
+    ensures ready { OnOk result (record_kept.new.ready ≡ behind_header (durable_log storage.now)) }
+{
+    let copied = copy_durable(storage)?;
+    record_kept.make_ready_to_open(shown_of(&copied))?;
+    Ok(copied)
 }
 
 /// A copy of what is durable of the log behind its header; nothing where there is no log. It fails only when out of

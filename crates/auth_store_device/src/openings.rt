@@ -13,6 +13,7 @@ ghost use Rattle.auth_store_device.specs.Records.{calls_of};
 ghost use Rattle.auth_store_device.specs.RecordsCode.{begins};
 ghost use Rattle.auth_store_device.specs.Devices.{shown_file};
 
+use crate::blocks::Image;
 use crate::chance::has_chance_slot;
 use crate::kept::Entry;
 use crate::record::{Calls, Record};
@@ -80,8 +81,8 @@ impl<'a> Iterator for Openings<'a> {
 #[derive(Debug, Drop)]
 pub struct Opening<'a> {
     earlier: Calls<'a>,
-    base: &'a [u8],
-    shown: &'a [u8],
+    base: Image<'a>,
+    shown: Image<'a>,
 }
 
 impl<'a> Model for Opening<'a> {
@@ -91,24 +92,24 @@ impl<'a> Model for Opening<'a> {
 
     ghost Value = { Showing };
 
-    ghost view = { λ it. record { before = reverse it.earlier; shown = it.shown.now } };
+    ghost view = { λ it. record { before = reverse it.earlier; shown = it.shown } };
 
-    ghost invariant = { λ it. it.base.now ≡ (file_of (reverse it.earlier)).base };
+    ghost invariant = { λ it. it.base ≡ (file_of (reverse it.earlier)).base };
 }
 
 impl<'a> Opening<'a> {
     /// The bytes that were durable at the sync or opening before, behind the header.
-    pub fn base(&self) -> &'a [u8]
-        ensures { result.now ≡ (file_of self.now.before).base }
+    pub fn base(&self) -> Image<'a>
+        ensures { result ≡ (file_of self.now.before).base }
     {
-        self.base
+        self.base.lend()
     }
 
     /// The bytes that the opening showed, behind the header.
-    pub fn shown(&self) -> &'a [u8]
-        ensures { result.now ≡ self.now.shown }
+    pub fn shown(&self) -> Image<'a>
+        ensures { result ≡ self.now.shown }
     {
-        self.shown
+        self.shown.lend()
     }
 
     /// The writes and resizes between the base and the opening, whole, the oldest first; those that failed are among
@@ -130,11 +131,13 @@ impl<'a> Opening<'a> {
         ensures { IfOk result (λ is. is
             ≡ is_by_chance crc32 physical_page_size (file_of self.now.before) self.now.shown) }
     {
+        let base = self.base.to_vec(alloc)?;
+        let shown = self.shown.to_vec(alloc)?;
         let since = Since {
-            base: self.base,
+            base: &base,
             calls: calls_since(&self.earlier),
         };
-        has_chance_slot::<Crc32>(alloc, &since, self.shown, physical_page_size as usize)
+        has_chance_slot::<Crc32>(alloc, &since, &shown, physical_page_size as usize)
     }
 }
 

@@ -57,15 +57,50 @@ fn opened_again(alloc: Global) -> Result<Device<Pcg32>, Fail> {
 
 #[test]
 fn an_opening_lends_what_was_before_it(rt: HostRuntime) -> Result<(), Fail> {
-    let device = opened_again(rt.alloc())?;
+    let alloc = rt.alloc();
+    let device = opened_again(alloc)?;
     let mut openings = device.openings();
     let first = openings.next().ok_or("no opening")?;
-    assert_eq!(rt; first.shown().len(), 0);
+    assert_eq!(rt; first.shown().to_vec(alloc)?.len(), 0);
     assert!(rt; first.mutations().next().is_none());
     let second = openings.next().ok_or("no second opening")?;
     assert!(rt; openings.next().is_none());
-    assert_eq!(rt; second.base(), [7, 8].as_slice());
-    assert_eq!(rt; second.shown(), [7, 1, 2, 3].as_slice());
+    assert_eq!(rt; second.base().to_vec(alloc)?.as_slice(), [7, 8].as_slice());
+    assert_eq!(rt;
+        second.shown().to_vec(alloc)?.as_slice(),
+        [7, 1, 2, 3].as_slice()
+    );
+    Ok(())
+}
+
+// An image of many bytes is lent in pieces, here of 1,024 bytes and one of fewer; between the openings one byte of the
+// second piece was written, so that the others are kept once.
+#[test]
+fn an_image_is_lent_in_pieces(rt: HostRuntime) -> Result<(), Fail> {
+    let alloc = rt.alloc();
+    let mut device = opened(alloc)?;
+    device.write_at(0, &[5; 2_500], WriteMode::Sync)?;
+    device.close();
+    device.open()?;
+    device.write_at(1_030, &[6], WriteMode::Sync)?;
+    device.close();
+    device.open()?;
+    let mut openings = device.openings();
+    let _first = openings.next();
+    let _second = openings.next();
+    let third = openings.next().ok_or("no third opening")?;
+    let image = third.shown();
+    let mut pieces = image.pieces();
+    assert_eq!(rt; pieces.next().ok_or("no piece")?, [5; 1_024].as_slice());
+    let piece = pieces.next().ok_or("no second piece")?;
+    assert_eq!(rt; piece.get(..7), [5, 5, 5, 5, 5, 5, 6].as_slice().get(..7));
+    assert_eq!(rt; piece.get(7..), [5; 1_017].as_slice().get(..1_017));
+    assert_eq!(rt; pieces.next().ok_or("no third piece")?, [5; 452].as_slice());
+    assert!(rt; pieces.next().is_none());
+    assert_eq!(rt;
+        third.base().to_vec(alloc)?.as_slice(),
+        [5; 2_500].as_slice()
+    );
     Ok(())
 }
 

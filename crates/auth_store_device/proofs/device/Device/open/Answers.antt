@@ -1,4 +1,4 @@
-use Rattle.std.proofs.Common.{rules, ◌≡◌, ◌∷◌, ◌<◌, ◌∙◌, [], length, Some, Ok, Err, inl, ap, subst, sym}
+use Rattle.std.proofs.Common.{rules, ◌≡◌, ◌∷◌, ◌<◌, ◌∙◌, length, Some, Ok, Err, inl, ap, subst, sym}
 use Rattle.paged_blob.specs.Calls.{opened, file_of}
 use Rattle.paged_blob.specs.Images.{IsImage}
 use Rattle.auth_store_device.specs.Records.{calls_of}
@@ -16,21 +16,18 @@ returns-in-Err-clause-ended g c = λ has.
 pub invariant_of-self-2 : goal.invariant_of-self-2
 invariant_of-self-2 g c =
     let at = c.self.inside in
-    let recorded : calls_of c.note_opening.new.self ≡ opened (behind_header
-    (durable_log at.storage.inner)) ∷ calls_of at.record_kept = search rules in
+    let recorded : calls_of c.note_opening.new.self ≡ opened (behind_header (durable_log at.storage.inner)) ∷ calls_of at.record_kept =
+    search rules in
     let cut : 0 < at.refused → c.left_after_opening-self-inside.result ≡ Some 0 = search rules in
     opened_device c.open_log-answer.new.storage c.in_ok-log.log (calls_of c.note_opening.new.self) (calls_of at.record_kept)
     (behind_header (durable_log at.storage.inner)) c.left_after_opening-self-inside.result at.refused (search rules) recorded cut
 
-pub note_opening-requires-clause-same : goal.note_opening-requires-clause-same
-note_opening-requires-clause-same g c = λ none.
+pub make_ready-requires-clause-same : goal.make_ready-requires-clause-same
+make_ready-requires-clause-same g c = λ none.
     let at = c.self.inside in
-    let same : calls_of c.make_room_to_open.new.self ≡ calls_of at.record_kept = search rules in
-    let settled : (file_of (calls_of at.record_kept)).changes ≡ [] = ap (λ l. (file_of l).changes) (sym same) ∙ none in
-    let is : c.behind_header-shown.result.now ≡ behind_header (durable_log at.storage.inner) = search rules in
-    is ∙ image_settled (file_of (calls_of at.record_kept)) (behind_header (durable_log at.storage.inner)) settled
+    ap (λ store. behind_header (durable_log store)) c.inner.ensures
+    ∙ image_settled (file_of (calls_of at.record_kept)) (behind_header (durable_log at.storage.inner)) none
     (durable_image (file_of (calls_of at.record_kept)) (log_of at.storage.inner) c.self.invariant.stands)
-    ∙ ap (λ l. (file_of l).base) (sym same)
 
 pub returns-clause-records : goal.returns-clause-records
 returns-clause-records g c =
@@ -54,8 +51,8 @@ returns-clause-draw g c =
     let same : before ≡ c.args.self.now = search rules in
     let lasts : IsLetThrough before = search rules in
     let opens = c.open_log-answer.ensures.opens in
-    draws_opening g.R.Rng.stream before c.args.self.now now (Ok (length c.behind_header-shown.result.now)) opens.0 opens.1 same lasts opens.2
-    (tells_ok opens.0 c.in_ok-log.log (length c.behind_header-shown.result.now) (search rules)) opens.4
+    draws_opening g.R.Rng.stream before c.args.self.now now (Ok (length c.behind_header.result.now)) opens.0 opens.1 same lasts opens.2
+    (tells_ok opens.0 c.in_ok-log.log (length c.behind_header.result.now) (search rules)) opens.4
 
 pub returns-in_err-log-clause-draw : goal.returns-in_err-log-clause-draw
 returns-in_err-log-clause-draw g c =
@@ -65,7 +62,7 @@ returns-in_err-log-clause-draw g c =
     let now : DeviceState g.row.R.Denot = record {
       storage = c.open_log-answer.new.storage;
       log = at.log;
-      calls = calls_of c.make_room_to_open.new.self;
+      calls = calls_of c.make_ready.new.record_kept;
       left = c.left_after_opening-self-inside.result;
       refused = at.refused;
     } in

@@ -12,7 +12,7 @@ returns-in-Opened-clause-steps c =
     let d = opened [] in
     let at = c.entry.ensures.call d in
     sym c.self.view_is ∙ sym c.loop-self.invariant.1
-    ∙ opening-next all c.first.result place c.in-Opened.shown.now d (search rules) (ap (call_of at.0) (sym c.in-Opened.is) ∙ at.1) c.first.ensures
+    ∙ opening-next all c.first.result place c.in-Opened.shown d (search rules) (ap (call_of at.0) (sym c.in-Opened.is) ∙ at.1) c.first.ensures
 
 pub returns-in-Opened-clause-goes : goal.returns-in-Opened-clause-goes
 returns-in-Opened-clause-goes c = let steps = returns-in-Opened-clause-steps c in search (rules, steps)

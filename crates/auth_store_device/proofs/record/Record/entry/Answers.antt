@@ -1,62 +1,52 @@
-use Rattle.std.proofs.Common.{rules, arith, ◌≡◌, ℕ, List, ◌<◌, [], length, get_or, reverse, take, ap, sym, ◌∙◌, subst}
+use Rattle.std.proofs.Common.{arith, ◌≡◌, ℕ, ◌<◌, List, [], length, get_or, reverse, take, ap, sym, ◌∙◌, subst}
 use Rattle.std.proofs.lemmas.List.{append-nil}
 use Rattle.auth_store_device.specs.declared.kept.Kept.{Kept}
+use Rattle.auth_store_device.specs.BlocksCode.{Held}
 use Rattle.auth_store_device.specs.Records.{Recording}
-use Rattle.auth_store_device.specs.RecordsCode.{blocks_with, blocks_of, calls_in, call_in, HasItsParts, KnowsBase, HasBase}
-use Rattle.auth_store_device.proofs.Blocks.{length-in, call-at, within-at}
+use Rattle.auth_store_device.specs.RecordsCode.{calls_in, call_in, HasItsBytes, KnowsBase, HasBase}
+use Rattle.auth_store_device.proofs.KeptCalls.{call-at, length-in, within-at}
 use Rattle.auth_store_device.proofs.record.Record.entry.Goals as goal
 
 -- the place is one of those that are kept
-place-below : (blocks : List (List ℕ)) (calls : List Kept) (now : Recording) (place : ℕ) → calls_in blocks [] calls ≡ now.in_order
+place-below : (held : Held) (calls : List Kept) (now : Recording) (place : ℕ) → calls_in held [] calls ≡ now.in_order
     → place < length now.in_order → place < length calls
-place-below blocks calls now place is below =
-    let many : length (calls_in blocks [] calls) ≡ length calls = length-in blocks [] calls in
+place-below held calls now place is below =
+    let many : length (calls_in held [] calls) ≡ length calls = length-in held [] calls in
     omega (arith, below, many, ap length is)
 
-pub index-requires : goal.index-requires
-index-requires c =
+pub get-requires : goal.get-requires
+get-requires c =
     let at = c.self.inside in
-    let below = place-below (blocks_of at.full.items at.last) at.calls.items c.args.self.now c.args.place (ap (λ (r : Recording). r.in_order) c.self.view_is) c.requires in
-    search (rules, below)
+    place-below at.blocks at.calls.items c.args.self.now c.args.place (ap (λ (r : Recording). r.in_order) c.self.view_is) c.requires
 
 pub entry_of-requires : goal.entry_of-requires
 entry_of-requires c =
     let at = c.self.inside in
-    let below = place-below (blocks_of at.full.items at.last) at.calls.items c.args.self.now c.args.place (ap (λ (r : Recording). r.in_order) c.self.view_is) c.requires in
-    let here = within-at (blocks_of at.full.items at.last) [] at.calls.items c.args.place c.index.result.now below c.self.invariant.0 in
-    let is : get_or at.calls.items c.args.place c.index.result.now ≡ c.index.result.now = search rules in
-    let parts : HasItsParts (blocks_of at.full.items at.last) c.index.result.now = subst (HasItsParts (blocks_of at.full.items at.last)) is here.0 in
-    search (rules, parts)
+    let below = place-below at.blocks at.calls.items c.args.self.now c.args.place (ap (λ (r : Recording). r.in_order) c.self.view_is) c.requires in
+    let here = within-at at.blocks [] at.calls.items c.args.place c.get.result below c.self.invariant.0 in
+    subst (HasItsBytes at.blocks) (sym (c.get.ensures c.get.result)) here.0
 
 pub returns-clause-call : goal.returns-clause-call
 returns-clause-call c = λ d.
     let at = c.self.inside in
-    let blocks = blocks_of at.full.items at.last in
-    let all = calls_in blocks [] at.calls.items in
-    let below = place-below (blocks_of at.full.items at.last) at.calls.items c.args.self.now c.args.place (ap (λ (r : Recording). r.in_order) c.self.view_is) c.requires in
-    let is : get_or at.calls.items c.args.place c.index.result.now ≡ c.index.result.now = search rules in
+    let all = calls_in at.blocks [] at.calls.items in
+    let below = place-below at.blocks at.calls.items c.args.self.now c.args.place (ap (λ (r : Recording). r.in_order) c.self.view_is) c.requires in
     let past = reverse (take c.args.place all) in
-    let same : blocks_with c.deref.result.now c.deref-2.result.now ≡ blocks = search rules in
     let read = c.entry_of.ensures.call past in (
       read.0,
-      read.1 ∙ ap (λ b. call_in b past c.index.result.now) same ∙ sym (
-          ap (λ (r : Recording). get_or r.in_order c.args.place d) (sym c.self.view_is)
-          ∙ call-at blocks [] at.calls.items c.args.place c.index.result.now d below
-          ∙ ap (λ p. call_in blocks p (get_or at.calls.items c.args.place c.index.result.now)) (append-nil (reverse (take c.args.place all)))
-          ∙ ap (call_in blocks (reverse (take c.args.place all))) is
-          ),
+      read.1 ∙ ap (call_in at.blocks past) (c.get.ensures c.get.result)
+          ∙ ap (λ p. call_in at.blocks p (get_or at.calls.items c.args.place c.get.result)) (sym (append-nil past))
+          ∙ sym (call-at at.blocks [] at.calls.items c.args.place c.get.result d below)
+          ∙ ap (λ (r : Recording). get_or r.in_order c.args.place d) c.self.view_is,
     )
 
 pub returns-clause-base : goal.returns-clause-base
 returns-clause-base c =
     let at = c.self.inside in
-    let blocks = blocks_of at.full.items at.last in
-    let past = reverse (take c.args.place (calls_in blocks [] at.calls.items)) in
-    let below = place-below (blocks_of at.full.items at.last) at.calls.items c.args.self.now c.args.place (ap (λ (r : Recording). r.in_order) c.self.view_is) c.requires in
-    let is : get_or at.calls.items c.args.place c.index.result.now ≡ c.index.result.now = search rules in
-    let here = within-at blocks [] at.calls.items c.args.place c.index.result.now below c.self.invariant.0 in
-    let knows : KnowsBase blocks past c.index.result.now =
-    subst (KnowsBase blocks past) is (subst (λ p. KnowsBase blocks p (get_or at.calls.items c.args.place c.index.result.now)) (append-nil past) here.1) in
-    let same : blocks_with c.deref.result.now c.deref-2.result.now ≡ blocks = search rules in
+    let past = reverse (take c.args.place (calls_in at.blocks [] at.calls.items)) in
+    let below = place-below at.blocks at.calls.items c.args.self.now c.args.place (ap (λ (r : Recording). r.in_order) c.self.view_is) c.requires in
+    let here = within-at at.blocks [] at.calls.items c.args.place c.get.result below c.self.invariant.0 in
+    let knows : KnowsBase at.blocks past (get_or at.calls.items c.args.place c.get.result) =
+    subst (λ p. KnowsBase at.blocks p (get_or at.calls.items c.args.place c.get.result)) (append-nil past) here.1 in
     subst (λ (r : Recording). HasBase (reverse (take c.args.place r.in_order)) c.entry_of.result) c.self.view_is
-    (c.entry_of.ensures.base past (subst (λ b. KnowsBase b past c.index.result.now) (sym same) knows))
+    (c.entry_of.ensures.base past (subst (KnowsBase at.blocks past) (sym (c.get.ensures c.get.result)) knows))
