@@ -21,6 +21,9 @@ const DEFAULT_THOUSANDS: u64 = 1;
 // How often a store is opened in a measure.
 const OPENINGS: u64 = 20;
 
+// In how many rounds calls are measured.
+const ROUNDS: u64 = 6;
+
 // How many bytes the log has whose calls are measured.
 const SHORT_LOG: u64 = 4_096;
 
@@ -158,7 +161,36 @@ fn measure_all_reads<R: Print + Eprint + CpuClock>(
     report_ratio(rt, "reads over lookups, many keys", of_large, in_large)
 }
 
-// What calls cost on the device, and on the store under it.
+// What calls cost on a store that is made for them.
+fn measure_below<R: Print + Eprint + CpuClock>(
+    rt: &R,
+    alloc: Global,
+    calls: Calls,
+) -> io::Result<u64> {
+    let Ok(mut store) = calls::below_of(alloc, calls.size) else {
+        return Ok(0);
+    };
+    measure(rt, "by the faulty store", 1, |_round| {
+        calls::made_below(&mut store, calls)
+    })
+}
+
+// What they cost on a device that is made for them.
+fn measure_above<R: Print + Eprint + CpuClock>(
+    rt: &R,
+    alloc: Global,
+    calls: Calls,
+) -> io::Result<u64> {
+    let Some(mut device) = calls::device_of(alloc, calls.size) else {
+        return Ok(0);
+    };
+    measure(rt, "by the device", 1, |_round| {
+        calls::made(alloc, &mut device, calls)
+    })
+}
+
+// What calls cost on the device, and on the store under it. They are made in rounds, in which now the one comes first and
+// now the other, since memory that the first gave back may serve the second.
 fn measure_calls<R: Print + Eprint + CpuClock>(
     rt: &R,
     alloc: Global,
@@ -168,18 +200,17 @@ fn measure_calls<R: Print + Eprint + CpuClock>(
     let name = kind.name();
     println!(rt; "{count} {name}, of a log of {size} bytes")?;
     eprintln!(rt; "{count} {name}, of a log of {size} bytes")?;
-    let Ok(mut store) = calls::below_of(alloc, size) else {
-        return Ok(());
-    };
-    let Some(mut device) = calls::device_of(alloc, size) else {
-        return Ok(());
-    };
-    let below = measure(rt, "by the faulty store", 1, |_round| {
-        calls::made_below(&mut store, calls)
-    })?;
-    let above = measure(rt, "by the device", 1, |_round| {
-        calls::made(alloc, &mut device, calls)
-    })?;
+    let mut below = 0u64;
+    let mut above = 0u64;
+    for round in 0..ROUNDS {
+        if round % 2 == 0 {
+            below = below.saturating_add(measure_below(rt, alloc, calls)?);
+            above = above.saturating_add(measure_above(rt, alloc, calls)?);
+        } else {
+            above = above.saturating_add(measure_above(rt, alloc, calls)?);
+            below = below.saturating_add(measure_below(rt, alloc, calls)?);
+        }
+    }
     report_ratio(rt, "the device over its store", above, below)
 }
 

@@ -1,13 +1,13 @@
 -- Blocks that only gain bytes, and images that stay as they are.
-use Rattle.std.proofs.Common.{◌≡◌, ℕ, zero, suc, ◌<◌, ◌≤◌, List, [], ◌∷◌, ◌++◌, length, take, drop, get_or, map}
+use Rattle.std.proofs.Common.{◌≡◌, ℕ, zero, suc, ◌+◌, ◌*◌, ◌<◌, ◌≤◌, List, [], ◌∷◌, ◌++◌, length, take, drop, get_or, map}
 use Rattle.std.proofs.Common.{sym, ◌∙◌, ap, refl, subst, arith, append_assoc, length-append, length-drop}
 use Rattle.std.specs.List.{All}
-use Rattle.std.proofs.lemmas.List.{append-nil, drop-append-le, get_or_append_left, map-append, map_push, take-append-le}
+use Rattle.std.proofs.lemmas.List.{append-nil, drop-append-le, ext_get_or, get_or_append_left, get_or-append_right, length-take-le, map-append, map_push, take-append-le}
 use Rattle.std.proofs.lemmas.List.Elements.{All-head, All-tail, All-cons, All-nil}
 use Rattle.std.specs.declared.alloc.Global.{Global}
 use Rattle.std.specs.declared.vec.Vec.{Vec}
 use Rattle.auth_store_device.specs.declared.blocks.Part.{Part}
-use Rattle.auth_store_device.specs.BlocksCode.{blocks_with, blocks_of, bytes_in, image_in, IsPartWithin, Held, Gains}
+use Rattle.auth_store_device.specs.BlocksCode.{blocks_with, blocks_of, bytes_in, image_in, piece_bytes, AreCut, IsPartWithin, Held, Gains}
 
 -- each block is there later, with bytes behind it or none
 pub record GainsBytes (blocks later : List (List ℕ)) : Type 0 where
@@ -168,3 +168,46 @@ image-there held later image gaining below = (
   ap (λ l. get_or l image []) gaining.images.1 ∙ get_or_append_left held.images gaining.images.0 [] image below,
   omega (arith, below, ap length gaining.images.1, length-append held.images gaining.images.0),
 )
+
+-- the bytes of a part are as many as it says
+pub length-part : (blocks : List (List ℕ)) (part : Part) → IsPartWithin blocks part → length (bytes_in blocks part) ≡ part.count
+length-part blocks part within =
+    let block = get_or blocks part.block [] in
+    length-take-le part.count (drop part.start block) (omega (arith, within.1, length-drop part.start block))
+
+-- a byte of a part of an image that is cut
+pub piece-at : (blocks : List (List ℕ)) (parts : List Part) (k i : ℕ) (d : Part) → AreWithin blocks parts → AreCut parts → k < length parts
+    → i < (get_or parts k d).count → get_or (bytes_in blocks (get_or parts k d)) i 0 ≡ get_or (image_in blocks parts) (k * piece_bytes + i) 0
+piece-at blocks [] k i d within cut there below = absurd (omega (arith, there))
+piece-at blocks (part ∷ others) zero i d within cut there below =
+    let long = length-part blocks part (All-head (IsPartWithin blocks) part others within) in
+    sym (get_or_append_left (bytes_in blocks part) (image_in blocks others) 0 i (omega (arith, below, long)))
+    ∙ ap (λ n. get_or (image_in blocks (part ∷ others)) n 0) (omega arith)
+piece-at blocks (part ∷ others) (suc k) i d within cut there below =
+    let long = length-part blocks part (All-head (IsPartWithin blocks) part others within) in
+    let full : part.count ≡ piece_bytes = cut 0 d (omega (arith, there)) in
+    let place = suc k * piece_bytes + i in
+    piece-at blocks others k i d (All-tail (IsPartWithin blocks) part others within) (λ j e more. cut (suc j) e (omega (arith, more)))
+    (omega (arith, there)) below
+    ∙ ap (λ n. get_or (image_in blocks others) n 0) (omega arith)
+    ∙ sym (get_or-append_right (bytes_in blocks part) (image_in blocks others) piece_bytes place 0 (long ∙ full) (omega arith))
+
+-- so the part has bytes that the image has there
+pub piece-is : (blocks : List (List ℕ)) (parts : List Part) (bytes : List ℕ) (k : ℕ) (d : Part) → AreWithin blocks parts → AreCut parts
+    → k < length parts → (get_or parts k d).count ≡ length bytes
+    → ((i : ℕ) → i < length bytes → get_or bytes i 0 ≡ get_or (image_in blocks parts) (k * piece_bytes + i) 0)
+    → bytes_in blocks (get_or parts k d) ≡ bytes
+piece-is blocks parts bytes k d within cut there many same =
+    let part = get_or parts k d in
+    let long = length-part blocks part (within k d there) in
+    ext_get_or 0 (bytes_in blocks part) bytes (long ∙ many)
+    (λ i below. piece-at blocks parts k i d within cut there (omega (arith, below, long)) ∙ sym (same i (omega (arith, below, long, many))))
+
+-- a part more leaves the parts cut, where each before it has all bytes of a piece
+abbrev pub AreWhole : List Part → Type 0
+AreWhole parts = All (λ part. part.count ≡ piece_bytes) parts
+
+pub cut-push : (parts : List Part) (part : Part) → AreWhole parts → AreCut (parts ++ part ∷ [])
+cut-push parts part whole = λ k d more.
+    let below : k < length parts = omega (arith, more, length-append parts (part ∷ [])) in
+    ap (λ (p : Part). p.count) (get_or_append_left parts (part ∷ []) d k below) ∙ whole k d below

@@ -15,3 +15,4 @@ pub mod Replays
 pub mod Reached
 pub mod Recorded
 pub mod Steps
+pub mod Untouched

@@ -1,18 +1,20 @@
 -- What is true of a record stays true as it gets more room, and as calls are noted.
-use Rattle.std.proofs.Common.{◌≡◌, ℕ, ◌+◌, ◌<◌, Bool, false, List, [], ◌∷◌, ◌++◌, length, take, get_or, reverse}
+use Rattle.std.proofs.Common.{◌≡◌, ◌⊎◌, ℕ, ◌+◌, ◌-◌, ◌^◌, ◌<◌, ◌≤◌, min, inl, inr, ⊎_elim, Bool, false, List, [], ◌∷◌, ◌++◌, length, take, get_or, reverse}
 use Rattle.std.proofs.Common.{sym, ◌∙◌, ap, refl, subst, arith, length-append}
 use Rattle.std.specs.declared.alloc.Global.{Global}
 use Rattle.std.specs.declared.vec.Vec.{Vec}
 use Rattle.std.proofs.lemmas.List.{append-nil, take_more}
-use Rattle.paged_blob.specs.Calls.{Call, opened, content, file_of}
+use Rattle.paged_blob.specs.Calls.{Call, File, opened, wrote, resized_to, content, file_of}
+use Rattle.auth_store_device.specs.Touches.{IsOutside}
 use Rattle.auth_store_device.specs.declared.base.Base.{Base}
 use Rattle.auth_store_device.specs.declared.kept.Kept.{Kept}
 use Rattle.auth_store_device.specs.declared.kept.Kept.TheVariants.{SyncedWhole}
+use Rattle.auth_store_device.specs.declared.touched.Touched.{Touched}
 use Rattle.auth_store_device.specs.Devices.{shown_file}
 use Rattle.auth_store_device.specs.OpeningsCode.{is_base, file_after}
 use Rattle.auth_store_device.specs.BlocksCode.{Held, Gains}
 use Rattle.auth_store_device.specs.RecordsCode.{call_in, calls_in, HasItsBytes, KnowsBase, AreWithin, IsBase}
-use Rattle.auth_store_device.proofs.Bases.{base-anew, base-changed, base-gains, base-put, base-whole}
+use Rattle.auth_store_device.proofs.Bases.{MayTouch, base-anew, base-changed, base-gains, base-put, base-whole}
 use Rattle.auth_store_device.proofs.Replays.{calls-push}
 use Rattle.auth_store_device.proofs.Helds.{gains-none, image-there}
 use Rattle.auth_store_device.proofs.KeptCalls.{call-at, calls-stay, length-in, noted}
@@ -69,10 +71,12 @@ module _ (held later : Held) (calls now : List Kept) (kept : Kept) (base : Base)
         )
 
     -- with which the file does not begin anew
-    pub change-noted : (failed : Bool) → HasItsBytes later kept → KnowsBase later (reverse all-of) kept → is_base call-of ≡ false
-        → failed ≡ (file_after call-of (file_of (reverse all-of))).failed → Noted (record base { has_failed = failed })
-    change-noted failed has knows none said =
-        noted-with (record base { has_failed = failed }) has knows (base-changed held later all-of call-of base failed gaining well.1 none said)
+    pub change-noted : (failed : Bool) (touched : Touched) → HasItsBytes later kept → KnowsBase later (reverse all-of) kept → is_base call-of ≡ false
+        → failed ≡ (file_after call-of (file_of (reverse all-of))).failed → MayTouch call-of (file_of (reverse all-of)) base.touched touched
+        → Noted (record base { has_failed = failed; touched = touched })
+    change-noted failed touched has knows none said may =
+        noted-with (record base { has_failed = failed; touched = touched }) has knows
+        (base-changed held later all-of call-of base failed touched gaining well.1 none said may)
 
     -- how many there are then
     counted : length now ≡ length (all-of ++ call-of ∷ [])
@@ -81,12 +85,30 @@ module _ (held later : Held) (calls now : List Kept) (kept : Kept) (base : Base)
         omega (arith, ap length is, length-append calls (kept ∷ []), length-append all-of (call-of ∷ []), many)
 
     -- with which it begins with an image
-    pub begin-noted : (count image : ℕ) (bytes : List ℕ) → HasItsBytes later kept → KnowsBase later (reverse all-of) kept → count ≡ length now
+    pub begin-noted : (count image : ℕ) (bytes : List ℕ) (touched : Touched) → HasItsBytes later kept → KnowsBase later (reverse all-of) kept → count ≡ length now
         → file_of (call-of ∷ reverse all-of) ≡ shown_file bytes → image < length later.images → get_or later.images image [] ≡ bytes
-        → Noted (record base { image = image; image_at = count; base_at = count; has_failed = false })
-    begin-noted count image bytes has knows many anew within these =
-        noted-with (record base { image = image; image_at = count; base_at = count; has_failed = false }) has knows
-        (base-anew all-of call-of bytes count (many ∙ counted) anew held later base image well.1 within these)
+        → Noted (record base { image = image; image_at = count; base_at = count; has_failed = false; touched = touched })
+    begin-noted count image bytes touched has knows many anew within these =
+        noted-with (record base { image = image; image_at = count; base_at = count; has_failed = false; touched = touched }) has knows
+        (base-anew all-of call-of bytes count (many ∙ counted) anew held later base image touched well.1 within these)
+
+-- a write leaves alone what it does not reach, and a resize what is before its end
+pub write-may : (offset end : ℕ) (bytes laid : List ℕ) (is_sync ok : Bool) (file : File) (touched now : Touched) → laid ≡ bytes
+    → end ≡ min (offset + length bytes) (2 ^ 64 - 1)
+    → ((i : ℕ) → IsOutside now i → IsOutside touched i × ((i < offset) ⊎ ((end ≤ i) × (end < 2 ^ 64 - 1))))
+    → MayTouch (wrote offset laid is_sync ok) file touched now
+write-may offset end bytes laid is_sync ok file touched now same is widened = λ i out.
+    let both = widened i out in (
+      both.0,
+      λ left. (⊎_elim (λ before. inl before) (λ behind. inr (omega (arith, behind.0, behind.1, is, ap length same))) both.1, left),
+    )
+
+pub resize-may : (size : ℕ) (ok : Bool) (file : File) (touched now : Touched)
+    → ((i : ℕ) → IsOutside now i → IsOutside touched i × ((i < size) ⊎ ((2 ^ 64 - 1 ≤ i) × (2 ^ 64 - 1 < 2 ^ 64 - 1))))
+    → MayTouch (resized_to size ok) file touched now
+resize-may size ok file touched now widened = λ i out.
+    let both = widened i out in
+    (both.0, λ left. (⊎_elim (λ before. before) (λ behind. absurd (omega (arith, behind.1))) both.1, left))
 
 -- a sync is noted that makes durable what the calls make of the file
 pub whole-noted : (held : Held) (calls now : List Kept) (base : Base) (ready count : ℕ) (is : now ≡ calls ++ SyncedWhole ∷ [])
@@ -97,7 +119,23 @@ whole-noted held calls now base ready count is well many none =
     let call = call_in held (reverse all) SyncedWhole in
     noted-with held held calls now SyncedWhole base ready (gains-none held) is well (record base { base_at = count }) tt tt
     (base-whole all call (content (reverse all)) count (many ∙ counted held held calls now SyncedWhole base ready (gains-none held) is well) refl held
-    base well.1 none)
+    base well.1 none refl)
+
+-- the file is a copy of the image
+pub file-copied : (held : Held) (calls : List Call) (base : Base) (file : Vec ℕ Global) → file.items ≡ get_or held.images base.image []
+    → IsBase held calls base → IsBase held calls (record base { file = file; file_at = base.image_at })
+file-copied held calls base file is b = record {
+  within = b.within;
+  image_there = b.image_there;
+  file_there = b.image_there;
+  base_there = b.base_there;
+  image_is = b.image_is;
+  file_is = is ∙ b.image_is;
+  begun = b.begun;
+  base_is = b.base_is;
+  failed = b.failed;
+  touched = b.touched;
+}
 
 -- the file is that of one call more
 pub file-below : (held : Held) (calls : List Kept) (base : Base) → IsBase held (calls_in held [] calls) base
@@ -130,4 +168,5 @@ file-brought held calls base k file b below made =
       begun = b.begun;
       base_is = b.base_is;
       failed = b.failed;
+      touched = b.touched;
     }

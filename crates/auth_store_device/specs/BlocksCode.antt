@@ -33,6 +33,14 @@ pieces_in blocks parts = map (bytes_in blocks) parts
 abbrev pub image_in : List (List ℕ) → List Part → List ℕ
 image_in blocks parts = concat (pieces_in blocks parts)
 
+-- how many bytes a piece has
+abbrev pub piece_bytes : ℕ
+piece_bytes = 1024
+
+-- and so many has each part of an image but the last
+abbrev pub AreCut : List Part → Type 0
+AreCut parts = (k : ℕ) (d : Part) → k + 1 < length parts → (get_or parts k d).count ≡ piece_bytes
+
 -- later each block is there, with bytes behind it or none, and so is each image, with others behind them or none
 pub record Gains (held later : Held) : Type 0 where
   pub longer : length held.blocks ≤ length later.blocks

@@ -8,4 +8,5 @@ pub mod OpeningsCode
 pub mod Records
 pub mod RecordsCode
 pub mod Settings
+pub mod Touches
 pub mod Laws

@@ -6,6 +6,7 @@ use Rattle.auth_store_device.specs.declared.kept.Kept.{Kept}
 use Rattle.auth_store_device.specs.declared.kept.Kept.TheVariants.{Opened, Wrote, ResizedTo, SyncedWhole, SyncedAs, SyncFailed}
 use Rattle.auth_store_device.specs.declared.kept.Entry.{Entry}
 use Rattle.auth_store_device.specs.declared.kept.Entry.TheVariants as entries
+use Rattle.auth_store_device.specs.Touches.{IsOutside, AllLeave}
 use Rattle.auth_store_device.specs.BlocksCode.{bytes_in, IsPartWithin, Held}
 
 -- the bytes of a call lie in a block, and its images are there
@@ -60,6 +61,8 @@ pub record IsBase (held : Held) (calls : List Call) (base : Base) : Type 0 where
   pub begun : (file_of (reverse (take base.base_at calls))).changes ≡ []
   pub base_is : content_after base.base_at calls ≡ (file_of (reverse calls)).base
   pub failed : base.has_failed ≡ (file_of (reverse calls)).failed
+  pub touched : (i : ℕ) → IsOutside base.touched i → AllLeave i (file_of (reverse calls)).changes
+      × (get_or (file_of (reverse calls)).base i 0 ≡ get_or (get_or held.images base.image []) i 0)
 
 -- the call that is read, where a sync made these bytes durable
 abbrev pub call_of : List ℕ → Entry → Call

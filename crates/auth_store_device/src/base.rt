@@ -10,12 +10,14 @@
 //!                                          up to here
 //! ```
 
-ghost use Rattle.std.specs.Prelude.{◌≡◌, [], false, OnOk};
+ghost use Rattle.std.specs.Prelude.{◌≡◌, ◌⊎◌, ◌-◌, ◌<◌, ◌≤◌, ◌^◌, ◌||◌, not, [], false, ℕ, OnOk};
+ghost use Rattle.auth_store_device.specs.Touches.{IsOutside};
 ghost use Rattle.auth_store_device.specs.RecordsCode.{calls_in, AreWithin, IsBase};
 
 use crate::blocks::Blocks;
 use crate::kept::make_call;
 use crate::list::CallList;
+use crate::touched::Touched;
 use std::alloc::AllocError;
 
 /// What is known of the base of a record's calls.
@@ -33,17 +35,40 @@ pub(crate) struct Base {
     pub(crate) file_at: usize,
     /// Whether a write or a resize has failed since the base.
     pub(crate) has_failed: bool,
+    /// Where bytes may be others than those of the image.
+    pub(crate) touched: Touched,
 }
 
 impl Base {
     /// The base of so many calls, the last of which began the file with this image.
     pub(crate) fn begin(&mut self, image: usize, count: usize)
-        ensures { self.new ≡ record self.old { image = image; image_at = count; base_at = count; has_failed = false } }
+        ensures base { self.new ≡ record self.old {
+          image = image;
+          image_at = count;
+          base_at = count;
+          has_failed = false;
+          touched = self.new.touched;
+        } }
+        ensures touched { (i : ℕ) → IsOutside self.new.touched i }
     {
         self.image = image;
         self.image_at = count;
         self.base_at = count;
         self.has_failed = false;
+        self.touched = Touched::none();
+    }
+
+    /// The base where a call comes behind the others that may change the bytes from a place on, up to another.
+    pub(crate) fn change(&mut self, from: u64, to: u64, is_made: bool)
+        ensures base { self.new ≡ record self.old {
+          has_failed = self.old.has_failed || not is_made;
+          touched = self.new.touched;
+        } }
+        ensures touched { (i : ℕ) → IsOutside self.new.touched i → IsOutside self.old.touched i
+            × ((i < from) ⊎ ((to ≤ i) × (to < 2 ^ 64 - 1))) }
+    {
+        self.has_failed |= !is_made;
+        self.touched.widen(from, to);
     }
 
     /// Makes the base of its file, by these calls. It fails only when out of memory; the file is then that of fewer

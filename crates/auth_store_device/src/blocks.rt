@@ -1,21 +1,23 @@
 //! Bytes that a record keeps, and images that are made of them.
 //!
 //! Bytes lie in blocks, one behind the other, so that few calls ask for memory; a block keeps the room that it was made
-//! with, so that no byte is moved. An image is cut into pieces, and of a piece that an image like it has at the same
-//! place no bytes are kept again:
+//! with, so that no byte is moved. An image is cut into pieces of one size. Those that an image before it has at the
+//! same place are not kept again, so that an image costs what has changed in it:
 //!
 //! ```text
 //!   image 0    block 0, 0..1024    block 0, 1024..2048    block 0, 2048..2100
 //!   image 1    block 0, 0..1024    block 0, 2164..3188    block 0, 2048..2100
 //! ```
 
-ghost use Rattle.std.specs.Prelude.{◌≡◌, ◌<◌, ◌≤◌, ◌++◌, ◌∷◌, [], true, length, get_or};
+ghost use Rattle.std.specs.Prelude.{◌≡◌, ◌+◌, ◌*◌, ◌<◌, ◌≤◌, ◌++◌, ◌∷◌, [], true, ℕ, length, get_or};
 ghost use Rattle.std.specs.Prelude.{IfOk, IfSome, OnOk, OnErr};
 ghost use Rattle.std.specs.Iterator.{YieldsFirstRef, item_count};
 ghost use Rattle.std.specs.List.{All};
 ghost use Rattle.std.specs.Vec.{vec_capacity};
-ghost use Rattle.auth_store_device.specs.BlocksCode.{bytes_in, image_in, IsPartWithin, Gains};
+ghost use Rattle.auth_store_device.specs.Touches.{IsOutside};
+ghost use Rattle.auth_store_device.specs.BlocksCode.{bytes_in, image_in, piece_bytes, AreCut, IsPartWithin, Gains};
 
+use crate::touched::Touched;
 use std::alloc::{AllocError, Global};
 use std::marker::Model;
 use std::mem;
@@ -50,7 +52,7 @@ impl Model for Blocks {
     ghost use Rattle.std.specs.Prelude.{◌-◌, map};
     ghost use Rattle.std.specs.List.{All};
     ghost use Rattle.std.specs.Vec.{vec_len, vec_capacity};
-    ghost use Rattle.auth_store_device.specs.BlocksCode.{Held, blocks_of, image_in, IsPartWithin};
+    ghost use Rattle.auth_store_device.specs.BlocksCode.{Held, blocks_of, image_in, AreCut, IsPartWithin};
 
     ghost Value = { Held };
 
@@ -61,7 +63,7 @@ impl Model for Blocks {
     } };
 
     ghost invariant = { λ it. All (λ image. All (IsPartWithin (blocks_of it.full.items it.last)) image.items)
-        it.images.items };
+        it.images.items × All (λ image. AreCut image.items) it.images.items };
 }
 
 // Puts the last block behind the full ones, and begins one that has room for so many bytes. It fails only when out of
@@ -148,6 +150,7 @@ impl Blocks {
     pub(crate) fn parts(&self, image: usize) -> &[Part]
         requires { image < length self.now.images }
         ensures within { All (IsPartWithin self.now.blocks) result.now }
+        ensures cut { AreCut result.now }
         ensures bytes { image_in self.now.blocks result.now ≡ get_or self.now.images image [] }
     {
         self.images[image].as_slice()
@@ -169,14 +172,48 @@ impl Blocks {
         None
     }
 
-    // The part at that place, or one of these bytes that is put. It fails only when out of memory.
-    fn put_like(&mut self, image: usize, place: usize, bytes: &[u8]) -> Result<Part, AllocError>
-        requires { image < length self.old.images }
+    // The part at a place of an image, which has these bytes there, where it has as many.
+    fn known_part(&self, image: usize, place: usize, bytes: &[u8]) -> Option<Part>
+        requires image { image < length self.now.images }
+        requires known { (i : ℕ) → i < length bytes.now
+            → get_or bytes.now i 0 ≡ get_or (get_or self.now.images image []) (place * piece_bytes + i) 0 }
+        ensures within { IfSome result (λ part. IsPartWithin self.now.blocks part) }
+        ensures bytes { IfSome result (λ part. bytes_in self.now.blocks part ≡ bytes.now) }
+    {
+        let parts = self.parts(image);
+        if place < parts.len() {
+            let part = parts[place];
+            if part.count == bytes.len() {
+                return Some(part);
+            }
+        }
+        None
+    }
+
+    // A part of these bytes: that of the base at this place, where that is known to have them; that of the image like it,
+    // where it is seen to have them; else one that is put. It fails only when out of memory.
+    fn put_piece(
+        &mut self,
+        bytes: &[u8],
+        like: usize,
+        base: usize,
+        place: usize,
+        is_known: bool,
+    ) -> Result<Part, AllocError>
+        requires like { like < length self.old.images }
+        requires base { base < length self.old.images }
+        requires known { is_known ≡ true → (i : ℕ) → i < length bytes.now
+            → get_or bytes.now i 0 ≡ get_or (get_or self.old.images base []) (place * piece_bytes + i) 0 }
         ensures gains { Gains self.old self.new }
         ensures within { IfOk result (λ part. IsPartWithin self.new.blocks part) }
         ensures bytes { IfOk result (λ part. bytes_in self.new.blocks part ≡ bytes.now) }
     {
-        if let Some(part) = self.part_like(image, place, bytes) {
+        if is_known {
+            if let Some(part) = self.known_part(base, place, bytes) {
+                return Ok(part);
+            }
+        }
+        if let Some(part) = self.part_like(like, place, bytes) {
             return Ok(part);
         }
         self.make_room(bytes.len())?;
@@ -185,7 +222,8 @@ impl Blocks {
 
     // Puts an image of these parts. It fails only when out of memory.
     fn note_image(&mut self, parts: Vec<Part>) -> Result<usize, AllocError>
-        requires { All (IsPartWithin self.old.blocks) parts.items }
+        requires within { All (IsPartWithin self.old.blocks) parts.items }
+        requires cut { AreCut parts.items }
         ensures gains { Gains self.old self.new }
         ensures there { IfOk result (λ image. image < length self.new.images) }
         ensures bytes { IfOk result (λ image. get_or self.new.images image [] ≡ image_in self.old.blocks parts.items) }
@@ -203,10 +241,21 @@ impl Blocks {
         self.parts(image) == parts
     }
 
-    /// Puts an image of these bytes, and answers its number: that of the image like it, where that one has the same
-    /// parts. Of a piece that is the same at the same place no bytes are put. It fails only when out of memory.
-    pub(crate) fn put_image(&mut self, bytes: &[u8], like: usize) -> Result<usize, AllocError>
-        requires { like < length self.old.images }
+    /// Puts an image of these bytes, and answers its number. Bytes that are not touched are those of the base, and are not
+    /// compared; a piece with others is that of the image like it, where this has the same bytes at its place, and else
+    /// it is put. Where all parts are those of the image like it, that one's number is answered. It fails only when out of
+    /// memory.
+    pub(crate) fn put_image(
+        &mut self,
+        bytes: &[u8],
+        like: usize,
+        base: usize,
+        touched: Touched,
+    ) -> Result<usize, AllocError>
+        requires like { like < length self.old.images }
+        requires base { base < length self.old.images }
+        requires untouched { (i : ℕ) → i < length bytes.now → IsOutside touched i
+            → get_or bytes.now i 0 ≡ get_or (get_or self.old.images base []) i 0 }
         ensures gains { Gains self.old self.new }
         ensures there { IfOk result (λ image. image < length self.new.images) }
         ensures bytes { IfOk result (λ image. get_or self.new.images image [] ≡ bytes.now) }
@@ -215,7 +264,8 @@ impl Blocks {
         let mut rest = bytes;
         while !rest.is_empty() {
             let (piece, behind) = rest.split_at(rest.len().min(PIECE));
-            let part = self.put_like(like, parts.len(), piece)?;
+            let is_known = touched.is_outside(bytes.len() - rest.len(), piece.len());
+            let part = self.put_piece(piece, like, base, parts.len(), is_known)?;
             parts.push(part)?;
             rest = behind;
         }

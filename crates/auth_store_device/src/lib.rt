@@ -15,6 +15,7 @@ pub(crate) mod log;
 pub(crate) mod opening;
 pub mod openings;
 pub(crate) mod record;
+pub(crate) mod touched;
 
 pub use blocks::{Image, Pieces};
 pub use device::Device;

@@ -17,6 +17,7 @@ ghost use Rattle.auth_store_device.specs.Devices.{opening_refusal, opening_answe
 ghost use Rattle.auth_store_device.specs.Devices.{shown_file, log_fault};
 ghost use Rattle.auth_store_device.specs.Records.{calls_of};
 ghost use Rattle.paged_blob.specs.Calls.{file_of};
+ghost use Rattle.paged_blob.specs.Images.{IsImage};
 
 use crate::error::OpenError;
 use crate::record::Record;
@@ -70,8 +71,7 @@ pub(crate) fn make_ready(
     record_kept: &mut Record,
 ) -> Result<Option<Vec<u8>>, AllocError>
     requires listed { has_log storage.now ≡ true → has_partition log_partition storage.now.partitions ≡ true }
-    requires same { (file_of (calls_of record_kept.old)).changes ≡ []
-        → behind_header (durable_log storage.now) ≡ (file_of (calls_of record_kept.old)).base }
+    requires image { IsImage (file_of (calls_of record_kept.old)) (behind_header (durable_log storage.now)) }
     ensures none { IfOk result (λ found. IfNone found (has_log storage.now ≡ false)) }
     ensures some { IfOk result (λ found. IfSome found (λ bytes. (has_log storage.now ≡ true)
         × (bytes.items ≡ durable_log storage.now))) }

@@ -5,19 +5,21 @@
 //! what the calls before it make of the file:
 //!
 //! ```text
-//!   calls     a sync     a write    an opening        a sync     a write    an opening
-//!   bytes                block 0                                 block 0
-//!   images    image 0               image 0, image 1                        image 2, image 3
+//!   calls     a sync     a write    an opening          a write    a sync    an opening
+//!   bytes                block 0                        block 0
+//!   images    image 0               image 0, image 1                         image 2, twice
 //! ```
 
 ghost use Rattle.std.specs.Prelude.{◌≡◌, ◌+◌, ◌-◌, ◌<◌, ◌≤◌, ◌∷◌, [], true, false, reverse};
 ghost use Rattle.std.specs.Prelude.{ℕ, List, length, take, drop, get_or, IfOk, OnOk};
 ghost use Rattle.paged_blob.specs.Calls.{Call, opened, wrote, resized_to, synced, content, file_of};
+ghost use Rattle.paged_blob.specs.Images.{IsImage};
 
 use crate::base::Base;
 use crate::blocks::Blocks;
 use crate::kept::{Entry, Kept, entry_of};
 use crate::list::CallList;
+use crate::touched::Touched;
 use std::alloc::{AllocError, Global};
 use std::marker::Model;
 
@@ -73,6 +75,7 @@ impl Record {
                 file: Vec::new(alloc),
                 file_at: 0,
                 has_failed: false,
+                touched: Touched::none(),
             },
             ready: 0,
         })
@@ -97,7 +100,9 @@ impl Record {
         self.calls.make_place()?;
         self.base.bring_file(&self.calls, &self.blocks)?;
         if self.base.has_failed {
-            self.ready = self.blocks.put_image(bytes, self.ready)?;
+            self.ready = self
+                .blocks
+                .put_image(bytes, self.ready, self.base.image, Touched::all())?;
         }
         Ok(())
     }
@@ -112,15 +117,20 @@ impl Record {
             return Ok(());
         }
         self.base.bring_file(&self.calls, &self.blocks)?;
-        self.base.image = self.blocks.put_image(&self.base.file, self.base.image)?;
+        self.base.image = self.blocks.put_image(
+            &self.base.file,
+            self.base.image,
+            self.base.image,
+            self.base.touched,
+        )?;
         self.base.image_at = self.base.base_at;
         Ok(())
     }
 
-    /// Makes ready for an opening that shows these bytes, those of the base where nothing has changed since: there is
-    /// then a place for it, and both are images. It fails only when out of memory.
+    /// Makes ready for an opening that shows these bytes, which a crash may leave: there is then a place for it, and they
+    /// and the base are images. It fails only when out of memory.
     pub(crate) fn make_ready_to_open(&mut self, shown: &[u8]) -> Result<(), AllocError>
-        requires { (file_of (calls_of self.old)).changes ≡ [] → shown.now ≡ (file_of (calls_of self.old)).base }
+        requires { IsImage (file_of (calls_of self.old)) shown.now }
         ensures calls { self.new.in_order ≡ self.old.in_order }
         ensures place { OnOk result (self.new.has_place ≡ true) }
         ensures base { OnOk result (self.new.has_base ≡ true) }
@@ -132,7 +142,9 @@ impl Record {
             self.ready = self.base.image;
             return Ok(());
         }
-        self.ready = self.blocks.put_image(shown, self.ready)?;
+        self.ready = self
+            .blocks
+            .put_image(shown, self.ready, self.base.image, self.base.touched)?;
         Ok(())
     }
 
@@ -153,7 +165,8 @@ impl Record {
     {
         let part = self.blocks.put(bytes);
         self.calls.push(Kept::Wrote(offset, part, is_sync, is_made));
-        self.base.has_failed |= !is_made;
+        let end = offset.saturating_add(bytes.len() as u64);
+        self.base.change(offset, end, is_made);
     }
 
     /// Notes a resize. There is a place for it.
@@ -162,7 +175,7 @@ impl Record {
         ensures { calls_of self.new ≡ resized_to len is_made ∷ calls_of self.old }
     {
         self.calls.push(Kept::ResizedTo(len, is_made));
-        self.base.has_failed |= !is_made;
+        self.base.change(len, u64::MAX, is_made);
     }
 
     /// Notes a sync, which made durable what the calls make of the file, or where one failed since the base the image that

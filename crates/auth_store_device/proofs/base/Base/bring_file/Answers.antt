@@ -1,10 +1,23 @@
-use Rattle.std.proofs.Common.{rules, ◌≡◌, ◌<◌, [], ◌∷◌, List, length, get_or}
+use Rattle.std.proofs.Common.{rules, ◌≡◌, ◌<◌, [], ◌∷◌, List, length, get_or, sym, subst}
 use Rattle.paged_blob.specs.Calls.{Call, content}
 use Rattle.auth_store_device.specs.declared.kept.Kept.TheVariants.{SyncFailed}
-use Rattle.auth_store_device.specs.RecordsCode.{call_in}
+use Rattle.auth_store_device.specs.RecordsCode.{call_in, calls_in, IsBase}
 use Rattle.auth_store_device.proofs.KeptCalls.{within-at}
-use Rattle.auth_store_device.proofs.Recorded.{file-below, file-brought}
+use Rattle.auth_store_device.proofs.Recorded.{file-below, file-brought, file-copied}
 use Rattle.auth_store_device.proofs.base.Base.bring_file.Goals as goal
+use Rattle.auth_store_device.proofs.base.Base.bring_file.Goals.{then-self+in_ok-self, else-self}
+
+pub loop-self-init : goal.loop-self-init
+loop-self-init c =
+    let held = c.args.blocks.now in
+    let calls = calls_in held [] c.args.calls.now.items in
+    elim c.if-self.branch [
+      | then-self+in_ok-self w ↦ (
+        subst (IsBase held calls) (sym w.self-is) (file-copied held calls c.args.self.now w.in_ok-self.field-0 (search rules) c.requires.base),
+        search rules,
+      )
+      | else-self w ↦ (subst (IsBase held calls) (sym w.self-is) c.requires.base, search rules)
+    ]
 
 pub get-requires : goal.get-requires
 get-requires c = file-below c.args.blocks.now c.args.calls.now.items c.loop-self.self c.loop-self.invariant.0 (search rules)

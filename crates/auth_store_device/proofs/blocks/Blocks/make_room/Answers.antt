@@ -11,4 +11,4 @@ returns-in_ok-begin_block-clause-gains c =
     let room = vec_capacity at.last - vec_len at.last in
     let left = vec_capacity now.last - vec_len now.last in
     subst (λ (h : Held). Gains h (held-of now.full.items now.last at.images.items left)) c.self.view_is
-    (gains-begun at.full.items at.last now.last at.images.items room left c.self.invariant now.full.items (search rules) (search rules))
+    (gains-begun at.full.items at.last now.last at.images.items room left c.self.invariant.0 now.full.items (search rules) (search rules))

@@ -9,4 +9,4 @@ returns-clause-gains c =
     let at = c.self.inside in
     let room = vec_capacity at.last - vec_len at.last in
     subst (λ (h : Held). Gains h (held-of at.full.items at.last c.push.new.self.items room)) c.self.view_is
-    (gains-image at.full.items at.last at.last at.images.items room room c.self.invariant c.push.new.self.items c.args.parts (search rules))
+    (gains-image at.full.items at.last at.last at.images.items room room c.self.invariant.0 c.push.new.self.items c.args.parts (search rules))

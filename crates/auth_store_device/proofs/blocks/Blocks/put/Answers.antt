@@ -11,4 +11,4 @@ returns-clause-gains c =
     let room = vec_capacity at.last - vec_len at.last in
     let left = vec_capacity next - vec_len next in
     subst (λ (h : Held). Gains h (held-of at.full.items next at.images.items left)) c.self.view_is
-    (gains-put at.full.items at.last next at.images.items room left c.self.invariant c.args.bytes.now (search rules))
+    (gains-put at.full.items at.last next at.images.items room left c.self.invariant.0 c.args.bytes.now (search rules))

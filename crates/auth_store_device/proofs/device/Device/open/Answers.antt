@@ -4,7 +4,6 @@ use Rattle.paged_blob.specs.Images.{IsImage}
 use Rattle.auth_store_device.specs.Records.{calls_of}
 use Rattle.auth_store_device.specs.Logs.{behind_header, durable_log, log_of, HasOwnHeader}
 use Rattle.auth_store_device.specs.Devices.{DeviceState, IsLetThrough, stopped_opening}
-use Rattle.auth_store_device.proofs.Reached.{image_settled}
 use Rattle.auth_store_device.proofs.Steps.{draws_opening, durable_image, opened_device, own_refused, stopped_ended, stopped_number, tells_err, tells_ok}
 use Rattle.auth_store_device.proofs.device.Device.open.Goals as goal
 
@@ -22,11 +21,10 @@ invariant_of-self-2 g c =
     opened_device c.open_log-answer.new.storage c.in_ok-log.log (calls_of c.note_opening.new.self) (calls_of at.record_kept)
     (behind_header (durable_log at.storage.inner)) c.left_after_opening-self-inside.result at.refused (search rules) recorded cut
 
-pub make_ready-requires-clause-same : goal.make_ready-requires-clause-same
-make_ready-requires-clause-same g c = λ none.
+pub make_ready-requires-clause-image : goal.make_ready-requires-clause-image
+make_ready-requires-clause-image g c =
     let at = c.self.inside in
-    ap (λ store. behind_header (durable_log store)) c.inner.ensures
-    ∙ image_settled (file_of (calls_of at.record_kept)) (behind_header (durable_log at.storage.inner)) none
+    subst (λ store. IsImage (file_of (calls_of at.record_kept)) (behind_header (durable_log store))) (sym c.inner.ensures)
     (durable_image (file_of (calls_of at.record_kept)) (log_of at.storage.inner) c.self.invariant.stands)
 
 pub returns-clause-records : goal.returns-clause-records

@@ -3,6 +3,9 @@ use Rattle.auth_store_device.specs.Records.{Recording}
 use Rattle.auth_store_device.proofs.Recorded.{IsWell, well-gains, well-ready}
 use Rattle.auth_store_device.proofs.record.Record.make_ready_to_sync.Goals as goal
 
+pub put_image-requires-clause-untouched : goal.put_image-requires-clause-untouched
+put_image-requires-clause-untouched c = λ i below out. absurd (c.all.ensures i out)
+
 pub invariant_of-self-in_err-self-inside : goal.invariant_of-self-in_err-self-inside
 invariant_of-self-in_err-self-inside c =
     let at = c.self.inside in

@@ -10,11 +10,11 @@ pub invariant_of-self : goal.invariant_of-self
 invariant_of-self c =
     let at = c.self.inside in
     (change-noted at.blocks at.blocks at.calls.items c.push.new.self.items SyncFailed at.base at.ready (gains-none at.blocks) c.push.ensures c.self.invariant
-    at.base.has_failed tt tt refl c.self.invariant.1.failed).1
+    at.base.has_failed at.base.touched tt tt refl c.self.invariant.1.failed (λ i out. (out, λ left. left))).1
 
 pub returns : goal.returns
 returns c =
     let at = c.self.inside in
     (change-noted at.blocks at.blocks at.calls.items c.push.new.self.items SyncFailed at.base at.ready (gains-none at.blocks) c.push.ensures c.self.invariant
-    at.base.has_failed tt tt refl c.self.invariant.1.failed).0
+    at.base.has_failed at.base.touched tt tt refl c.self.invariant.1.failed (λ i out. (out, λ left. left))).0
     ∙ ap (λ (r : Recording). synced [] false ∷ calls_of r) c.self.view_is
