@@ -248,3 +248,14 @@ module _ {A : Type 0} (meaning : A → Operation) where
       sym (take-map meaning end all)
       ∙ ap (take end) (whole ∙ ap (λ l. front ++ l) next ∙ sym (append_assoc front (map meaning batch) later))
       ∙ take_at (front ++ map meaning batch) later end at
+
+  -- all operations up to what is left
+  pub so_far : (all rest : List A) (front : List Operation) → map meaning all ≡ front ++ map meaning rest
+      → map meaning (take (length all - length rest) all) ≡ front
+  so_far all rest front whole =
+      let total = ap length whole ∙ length-append front (map meaning rest) in
+      let at : length front ≡ length all - length rest =
+      omega (arith, total, length-map all meaning, length-map rest meaning) in
+      sym (take-map meaning (length all - length rest) all)
+      ∙ ap (take (length all - length rest)) whole
+      ∙ take_at front (map meaning rest) (length all - length rest) at

@@ -1,8 +1,13 @@
 pub mod Entries
 pub mod Neighbours
-pub mod Previous
 pub mod Batches
-pub mod FirstBatches
+pub mod Firsts
+pub mod Pointers
+pub mod ChainCode
+pub mod ChainLeads
+pub mod LedChains
+pub mod ChainFirsts
+pub mod Chained
 pub mod Many
 pub mod Mapped
 pub mod Runs

@@ -4,5 +4,4 @@ pub mod Logs
 pub mod Actives
 pub mod Places
 pub mod Floors
-pub mod NextKeys
-pub mod Touched
+pub mod Below

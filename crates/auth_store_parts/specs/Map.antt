@@ -39,19 +39,6 @@ first_key (e ∷ es) = e.0
 abbrev pub next_key : Map → List ℕ → List ℕ
 next_key state key = first_key (above state key ++ state)
 
--- the part of the state below the key
-abbrev pub below : Map → List ℕ → Map
-below state key = filter (λ e. is_lt (key_order e.0 key)) state
-
--- the last key of some entries, or this one where there are none
-abbrev pub last_key : List ℕ → Map → List ℕ
-last_key key [] = key
-last_key key (e ∷ es) = last_key e.0 es
-
--- the greatest key below the key, or the greatest of all where none is below, or the key itself in the empty state
-abbrev pub previous_key : Map → List ℕ → List ℕ
-previous_key state key = last_key (last_key key state) (below state key)
-
 -- the value of a key in a state and its next key, where the key is there
 abbrev pub entry_of : Map → List ℕ → Option (List ℕ × List ℕ)
 entry_of state key = option_map (λ value. (value, next_key state key)) (value_at state key)

@@ -1,7 +1,7 @@
 //! States: maps from keys to values.
 
 ghost use Rattle.std.specs.Prelude.{◌≡◌, [], IfOk, OnOk, OnErr, option_map, MatchOption};
-ghost use Rattle.auth_store_parts.specs.Map.{state_of, with_entry, without_key, value_at, next_key, previous_key};
+ghost use Rattle.auth_store_parts.specs.Map.{state_of, with_entry, without_key, value_at, next_key};
 
 use state_ops::{FixedKey, FixedValue};
 use std::alloc::AllocError;
@@ -61,24 +61,6 @@ pub fn next_key<'a, K: FixedKey, V: FixedValue>(state: &'a BTreeMap<K, V>, key: 
         None => match state.first_key_value() {
             Some((least, _)) => Some(least),
             None => None,
-        },
-    }
-}
-
-/// The greatest key below the key, or the greatest of all where none is below, or the key itself in the empty state.
-pub(crate) fn previous_key<'a, K: FixedKey, V: FixedValue>(
-    state: &'a BTreeMap<K, V>,
-    key: &'a K,
-) -> &'a K
-    ensures { K.encoding result.now
-        ≡ previous_key (state_of K.encoding V.encoding state.now.entries) (K.encoding key.now) }
-{
-    let mut below = state.range((Bound::Unbounded, Bound::Excluded(key)));
-    match below.next_back() {
-        Some((previous, _)) => previous,
-        None => match state.last_key_value() {
-            Some((greatest, _)) => greatest,
-            None => key,
         },
     }
 }

@@ -2,10 +2,8 @@
 use Rattle.std.proofs.Common.{◌≡◌, ℕ, List, [], ◌∷◌, ◌++◌, length, take, drop, append_assoc, Ok, refl, sym, ◌∙◌, ap, arith}
 use Rattle.std.proofs.lemmas.List.{append-nil, take-append-drop, length-append}
 use Rattle.state_ops_parts.specs.Grammar.{Found}
-use Rattle.state_ops.specs.Operation.{Operation, delete, update, ordered, commit_floor}
-use Rattle.auth_store_parts.specs.Map.{Map, with_entry, without_key}
-use Rattle.auth_store_parts.specs.History.{History, log_of, history_from, history_of, IsState, AreStates}
-use Rattle.auth_store_parts.specs.Laws.Lookups.{IsState-with_entry, IsState-without_key}
+use Rattle.state_ops.specs.Operation.{Operation}
+use Rattle.auth_store_parts.specs.History.{History, log_of, history_of, AreStates}
 use Rattle.auth_store_parts.specs.Laws.Logs.{history_of-log_of}
 use Rattle.auth_store_log.specs.Records.{Format, record_of, operation_in, log_bytes, history_bytes, IsRecorded, AreRecorded}
 use Rattle.auth_store_log.specs.Laws.Recorded.{record_front}
@@ -83,16 +81,3 @@ module _ (format : Format) where
       let behind = goes_on one other (drop (length bytes) all) ones others
       (sym (take-append-drop (length bytes) all) ∙ ap (λ l. l ++ drop (length bytes) all) begins) in
       (behind.more, behind.whole)
-
--- what operations stand for has states
-states_from : (state : Map) (history : History) (log : List Operation) → IsState state → AreStates history → AreStates (history_from state history log)
-states_from state history [] is are = are
-states_from state history (delete key ∷ log) is are = states_from (without_key state key) history log (IsState-without_key state key is) are
-states_from state history (update (ordered key value next) ∷ log) is are =
-    states_from (with_entry state key value) history log (IsState-with_entry state key value is) are
-states_from state history (commit_floor metadata floor ∷ log) is are =
-    states_from state (record { map = state; metadata = metadata } ∷ history) log is (is, are)
-
-pub states_of_log : (log : List Operation) → AreStates (history_of log)
-states_of_log [] = tt
-states_of_log (operation ∷ log) = states_from [] [] log tt tt

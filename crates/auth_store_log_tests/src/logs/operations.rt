@@ -33,6 +33,11 @@ fn first_entries() -> [Entry; 3] {
     [commit(0), put(b'a', 1, b'a'), commit(1)]
 }
 
+// The operations of the second batch.
+fn second_entries() -> [Entry; 3] {
+    [put(b'a', 1, b'c'), put(b'c', 3, b'a'), commit(3)]
+}
+
 fn read(alloc: Global, bytes: &[u8]) -> Result<Vec<Entry>, LogError> {
     Ok(operations_of(alloc, bytes)?.operations)
 }
@@ -102,6 +107,64 @@ fn a_commit_has_the_floor_of_its_log(rt: HostRuntime) -> Result<(), Fail> {
     assert_eq!(rt;
         read(alloc, &first_and(alloc, &wrong)?).err(),
         Some(LogError::Corrupt)
+    );
+    Ok(())
+}
+
+// Whether these operations go on behind the first log as a log does.
+fn goes_on(alloc: Global, more: &[Entry]) -> Result<bool, Fail> {
+    match read(alloc, &first_and(alloc, &bytes_of(alloc, more)?)?) {
+        Ok(_) => Ok(true),
+        Err(LogError::Corrupt) => Ok(false),
+        Err(error) => Err(Fail::from(error)),
+    }
+}
+
+fn delete(key: u8) -> Entry {
+    Operation::Delete(letter(key))
+}
+
+#[test]
+fn a_batch_is_what_leads_on_from_the_state(rt: HostRuntime) -> Result<(), Fail> {
+    let alloc = rt.alloc();
+    assert!(rt; goes_on(alloc, &second_entries())?);
+    assert!(rt; goes_on(alloc, &[put(b'a', 2, b'c'), put(b'c', 3, b'a'), commit(3)])?);
+    assert!(rt; goes_on(alloc, &[delete(b'a'), commit(4)])?);
+    // out of order
+    assert!(rt; !goes_on(alloc, &[put(b'c', 3, b'a'), put(b'a', 1, b'c'), commit(3)])?);
+    // another next key
+    assert!(rt; !goes_on(alloc, &[put(b'a', 1, b'c'), put(b'c', 3, b'c'), commit(3)])?);
+    // without the key before it
+    assert!(rt; !goes_on(alloc, &[put(b'c', 3, b'a'), commit(1)])?);
+    // as it was
+    assert!(rt; !goes_on(alloc, &[put(b'a', 1, b'a'), commit(3)])?);
+    // a key that is not there
+    assert!(rt; !goes_on(alloc, &[delete(b'c'), commit(1)])?);
+    Ok(())
+}
+
+#[test]
+fn a_batch_with_deletes_is_what_leads_on_from_the_state(rt: HostRuntime) -> Result<(), Fail> {
+    let alloc = rt.alloc();
+    let [a, c, end] = second_entries();
+    assert!(rt;
+        goes_on(
+            alloc,
+            &[a, c, end, delete(b'a'), put(b'c', 3, b'c'), commit(7)]
+        )?
+    );
+    let [a, c, end] = second_entries();
+    assert!(rt; goes_on(alloc, &[a, c, end, delete(b'a'), delete(b'c'), commit(8)])?);
+    // the key before it keeps its next key
+    let [a, c, end] = second_entries();
+    assert!(rt; !goes_on(alloc, &[a, c, end, delete(b'a'), commit(4)])?);
+    // out of order
+    let [a, c, end] = second_entries();
+    assert!(rt;
+        !goes_on(
+            alloc,
+            &[a, c, end, put(b'c', 3, b'c'), delete(b'a'), commit(6)]
+        )?
     );
     Ok(())
 }

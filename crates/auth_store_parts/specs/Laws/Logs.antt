@@ -228,6 +228,30 @@ history_of-log_of h s = ap history_of (log_of-tail h) ∙ (tail_stands h s).0
 pub replayed-log_of : (h : History) → AreStates h → replayed [] (log_of h) ≡ latest_map h
 replayed-log_of h s = ap (replayed []) (log_of-tail h) ∙ (tail_stands h s).1
 
+-- operations lead from a state to a state
+pub IsState-replayed : (s : Map) (operations : List Operation) → IsState s → IsState (replayed s operations)
+IsState-replayed s [] h = h
+IsState-replayed s (delete key ∷ operations) h =
+    IsState-replayed (without_key s key) operations (IsState-without_key s key h)
+IsState-replayed s (update (ordered key value next) ∷ operations) h =
+    IsState-replayed (with_entry s key value) operations (IsState-with_entry s key value h)
+IsState-replayed s (commit_floor metadata floor ∷ operations) h = IsState-replayed s operations h
+
+-- what operations stand for has states
+states_from : (state : Map) (history : History) (log : List Operation) → IsState state → AreStates history
+    → AreStates (history_from state history log)
+states_from state history [] is are = are
+states_from state history (delete key ∷ log) is are =
+    states_from (without_key state key) history log (IsState-without_key state key is) are
+states_from state history (update (ordered key value next) ∷ log) is are =
+    states_from (with_entry state key value) history log (IsState-with_entry state key value is) are
+states_from state history (commit_floor metadata floor ∷ log) is are =
+    states_from state (record { map = state; metadata = metadata } ∷ history) log is (is, are)
+
+pub AreStates-history_of : (log : List Operation) → AreStates (history_of log)
+AreStates-history_of [] = tt
+AreStates-history_of (operation ∷ log) = states_from [] [] log tt tt
+
 pub IsState-map_after : (words : List Word) (s : Map) → IsState s → IsState (map_after words s)
 IsState-map_after [] s h = h
 IsState-map_after (batch.put k v ∷ words) s h = IsState-map_after words (with_entry s k v) (IsState-with_entry s k v h)

@@ -18,7 +18,11 @@ use std::alloc::{AllocError, Global};
 use std::collections::BTreeMap;
 
 /// Whether two values have one encoding. It fails only when out of memory.
-fn is_same_value<V: FixedValue>(alloc: Global, value: &V, other: &V) -> Result<bool, AllocError>
+pub(super) fn is_same_value<V: FixedValue>(
+    alloc: Global,
+    value: &V,
+    other: &V,
+) -> Result<bool, AllocError>
     ensures { IfOk result (λ same. same ≡ bytes_eq (V.encoding value.now) (V.encoding other.now)) }
 {
     let left = value.encode(alloc)?;
@@ -27,7 +31,7 @@ fn is_same_value<V: FixedValue>(alloc: Global, value: &V, other: &V) -> Result<b
 }
 
 /// The least key above the key, or the least of all where none is above.
-pub(super) fn next_of<'a, K: FixedKey, V: FixedValue>(state: &'a BTreeMap<K, V>, key: &K) -> &'a K
+fn next_of<'a, K: FixedKey, V: FixedValue>(state: &'a BTreeMap<K, V>, key: &K) -> &'a K
     requires { 0 < length state.now.entries }
     ensures { K.encoding result.now ≡ next_key (state_of K.encoding V.encoding state.now.entries) (K.encoding key.now) }
 {
@@ -61,7 +65,7 @@ fn has_fields<K: FixedKey, V: FixedValue>(
 }
 
 /// Appends a delete where the new state lacks the key. It fails only when out of memory.
-pub(super) fn push_delete<F: Family, K: FixedKey, V: FixedValue>(
+fn push_delete<F: Family, K: FixedKey, V: FixedValue>(
     new: &BTreeMap<K, V>,
     key: &K,
     out: &mut Vec<OrderedOperation<F, K, V>>,
@@ -78,7 +82,7 @@ pub(super) fn push_delete<F: Family, K: FixedKey, V: FixedValue>(
 
 /// Appends an update of the key to this value and this next key, where the old state does not have it so. It fails only
 /// when out of memory.
-pub(super) fn push_update<F: Family, K: FixedKey, V: FixedValue>(
+fn push_update<F: Family, K: FixedKey, V: FixedValue>(
     alloc: Global,
     old: &BTreeMap<K, V>,
     key: &K,

@@ -13,6 +13,7 @@ ghost use Rattle.std.specs.BTreeMap.{IsFromIterResult};
 ghost use Rattle.state_ops.specs.Operation.{meaning_of};
 ghost use Rattle.auth_store_parts.specs.History as spec;
 ghost use Rattle.auth_store_parts.specs.Map.{state_of, value_at};
+ghost use Rattle.auth_store_parts.specs.Chains.{first_of};
 ghost use Rattle.auth_store_parts.specs.Places.{after_place, placed, places_of, updates_in_front, located_key, located_keys};
 
 use merkle_forest::Family;
@@ -229,6 +230,16 @@ impl<K: FixedKey> Places<K> {
         let mut places = Places::new(alloc);
         places.follow_all(0, log)?;
         Ok(places)
+    }
+
+    /// The least key that has a place. None: no key has one.
+    pub fn first(&self) -> Option<&K>
+        ensures { option_map (λ key. K.encoding key.now) result ≡ first_of self.now }
+    {
+        match self.locations.first_key_value() {
+            Some((key, _)) => Some(key),
+            None => None,
+        }
     }
 
     /// Where the update stands that gives the key its value. None: the key isn't there.

@@ -33,7 +33,7 @@ pub fn apply_operation<F: Family, K: FixedKey, V: FixedValue>(
 
 /// Applies operations to the state, one after the other. It fails only when out of memory; the state is then that after
 /// some of them.
-pub fn apply_operations<F: Family, K: FixedKey, V: FixedValue>(
+fn apply_operations<F: Family, K: FixedKey, V: FixedValue>(
     state: &mut BTreeMap<K, V>,
     operations: &[OrderedOperation<F, K, V>],
 ) -> Result<(), AllocError>

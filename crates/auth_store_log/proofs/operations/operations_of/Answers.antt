@@ -5,7 +5,8 @@ use Rattle.auth_store_parts.specs.History.{meanings, log_of, history_of}
 use Rattle.auth_store_parts.specs.Map.{Map}
 use Rattle.auth_store_parts.specs.Places.{places_of}
 use Rattle.auth_store_log.specs.Records.{format_of}
-use Rattle.auth_store_log.specs.Laws.Once.{only_log, states_of_log}
+use Rattle.auth_store_parts.specs.Laws.Logs.{AreStates-history_of}
+use Rattle.auth_store_log.specs.Laws.Once.{only_log}
 use Rattle.auth_store_log.proofs.operations.operations_of.Goals as goal
 
 none_stands : {A : Type 0} (o : Option A) (P : Type 0) (Q : A → Type 0) → MatchOption o P Q
@@ -29,4 +30,4 @@ returns-in_default-clause-corrupt g c = λ _ past states are same.
     c.in_default.not-Some there
 
 pub returns-clause-states : goal.returns-clause-states
-returns-clause-states g c = states_of_log (meanings g.K.Write.encoding g.V.Write.encoding c.in_ok-operations.operations.items)
+returns-clause-states g c = AreStates-history_of (meanings g.K.Write.encoding g.V.Write.encoding c.in_ok-operations.operations.items)

@@ -3,25 +3,19 @@ use Rattle.std.specs.Bool.{◌==◌}
 use Rattle.std.proofs.lemmas.Bool.{eqb-true}
 use Rattle.std.proofs.lemmas.List.{take_rest, length-map}
 use Rattle.state_ops.specs.Operation.{Operation, meaning_of, commit_floor}
-use Rattle.auth_store_parts.specs.Map.{Map, state_of}
+use Rattle.auth_store_parts.specs.Map.{Map}
 use Rattle.auth_store_parts.specs.History as spec
 use Rattle.auth_store_parts.specs.Places.{placed, places_of}
 use Rattle.auth_store_parts.specs.Laws.Floors.{floor_rises}
+use Rattle.auth_store_parts.specs.Laws.Logs.{history_of-log_of, IsState-latest_map, IsState-replayed}
 use Rattle.auth_store_parts.specs.Laws.Places.{places_of-append}
 use Rattle.auth_store_log.specs.Batches.{IsNextBatch}
-use Rattle.auth_store_log.proofs.Batches.{IsReached, FollowsRule, cut_at, reached_first, reached_next, reached_end, first_of_log, goes_on_from, rule_followed, rule_goes_on, nothing_left, lengths, up_to, shorter, with_batch}
+use Rattle.auth_store_log.proofs.Batches.{IsReached, FollowsRule, cut_at, reached_first, reached_next, reached_end, first_of_log, goes_on_from, so_far, rule_followed, rule_goes_on, nothing_left, lengths, up_to, shorter, with_batch}
 use Rattle.auth_store_log.proofs.replay.places_of_log.Goals as goal
-use Rattle.auth_store_log.proofs.replay.places_of_log.Goals.{then-not-is_empty+in_ok-apply_operations, else-not-is_empty}
 
 module _ {A : Type 0} (meaning : A → Operation) (all rest batch : List A) (floor : ℕ) (later : List Operation)
     (history : spec.History) (reached : IsReached history (map meaning all) (map meaning rest))
     (next : IsNextBatch (map meaning batch) floor later (map meaning rest)) where
-  -- something is left
-  some : map meaning rest ≡ [] → ⊥
-  some none =
-      let front = length-append (map meaning batch) (commit_floor next.metadata floor ∷ later) in
-      absurd (omega (arith, ap length (sym none ∙ next.whole), front))
-
   long : (length all ≡ length (spec.log_of history) + length rest) × (length batch ≤ length rest)
   long = lengths meaning all rest batch (spec.log_of history) (commit_floor next.metadata floor ∷ later) reached.whole next.whole
 
@@ -41,12 +35,6 @@ module _ {A : Type 0} (meaning : A → Operation) (all rest batch : List A) (flo
 none_left : {A : Type 0} (xs : List A) → true ≡ (length xs == 0) → xs ≡ []
 none_left [] e = refl
 none_left (x ∷ xs) e = absurd (omega (arith, eqb-true (length (x ∷ xs)) 0 (sym e)))
-
-more_left : {A : Type 0} (meaning : A → Operation) (xs : List A) → (map meaning xs ≡ [] → ⊥) → (b : Bool)
-    → b ≡ (length xs == 0) → b ≡ false
-more_left meaning [] some b is = absurd (some refl)
-more_left meaning (x ∷ xs) some true is = absurd (omega (arith, eqb-true (length (x ∷ xs)) 0 (sym is)))
-more_left meaning (x ∷ xs) some false is = refl
 
 -- the first operation and those behind it
 front : {A : Type 0} (meaning : A → Operation) (all : List A) (first : A) → 1 ≤ length all → first ≡ get_or all 0 first
@@ -75,7 +63,7 @@ loop-batch-init g c =
           (split ∙ ap (λ o. o ∷ left) (c.is_beginning.ensures.0 c.if-not-is_beginning.false)),
       c.new-places.ensures,
       omega arith,
-      λ some. (search rules, search rules),
+      tt,
     )
 
 pub overflow_sub-start : goal.overflow_sub-start
@@ -146,20 +134,44 @@ returns-then-floor-recorded g c = λ is.
     (goes_on_from here.0 (spec.meanings key value c.args.operations.now) left here.1 is) in
     absurd (c.if-floor-recorded.true (c.inactivity_floor_by-floor.ensures ∙ ap spec.inactivity_floor all ∙ sym follows.recorded))
 
+-- what was passed so far is the log of the history that is reached
+module _ {A : Type 0} (meaning : A → Operation) (all rest : List A) (history : spec.History)
+    (reached : IsReached history (map meaning all) (map meaning rest)) (states : spec.AreStates history) where
+  front_is : map meaning (take (length all - length rest) all) ≡ spec.log_of history
+  front_is = so_far meaning all rest (spec.log_of history) reached.whole
+
+  history_is : spec.history_of (map meaning (take (length all - length rest) all)) ≡ history
+  history_is = ap spec.history_of front_is ∙ history_of-log_of history states
+
+pub slice_bounds-is_batch_behind-end : goal.slice_bounds-is_batch_behind-end
+slice_bounds-is_batch_behind-end g c =
+    omega (arith, length-take (length c.args.operations.now - length c.loop-batch.rest.now) c.args.operations.now)
+
+pub is_batch_behind-requires-clause-whole : goal.is_batch_behind-requires-clause-whole
+is_batch_behind-requires-clause-whole g c =
+    let meaning = meaning_of g.K.Write.encoding g.V.Write.encoding in
+    let here = c.loop-batch.invariant in
+    front_is meaning c.args.operations.now c.loop-batch.rest.now here.0 here.1 here.4
+    ∙ ap spec.log_of (sym (history_is meaning c.args.operations.now c.loop-batch.rest.now here.0 here.1 here.4))
+
+pub is_batch_behind-requires-clause-places : goal.is_batch_behind-requires-clause-places
+is_batch_behind-requires-clause-places g c =
+    let meaning = meaning_of g.K.Write.encoding g.V.Write.encoding in
+    let here = c.loop-batch.invariant in
+    here.2 ∙ ap places_of (sym (front_is meaning c.args.operations.now c.loop-batch.rest.now here.0 here.1 here.4))
+
 pub returns-then-not-branch : goal.returns-then-not-branch
 returns-then-not-branch g c = λ is.
-    let key = g.K.Write.encoding in
-    let value = g.V.Write.encoding in
+    let meaning = meaning_of g.K.Write.encoding g.V.Write.encoding in
     let here = c.loop-batch.invariant in
-    let batch : List Operation = spec.meanings key value c.in-Some.batch.now in
-    let later : List Operation = spec.meanings key value c.in-Some.later.now in
-    let left : List Operation = spec.meanings key value c.loop-batch.rest.now in
+    let batch : List Operation = map meaning c.in-Some.batch.now in
+    let later : List Operation = map meaning c.in-Some.later.now in
+    let left : List Operation = map meaning c.loop-batch.rest.now in
     let follows = rule_followed c.one_commit_a_batch.ensures.operations here.0 batch c.in-Some.recorded later left c.in-Some.ensures
-    (goes_on_from here.0 (spec.meanings key value c.args.operations.now) left here.1 is) in
-    let states = here.4 (some (meaning_of key value) c.args.operations.now c.loop-batch.rest.now c.in-Some.batch.now
-    c.in-Some.recorded later here.0 here.1 c.in-Some.ensures) in
-    let leads = subst (λ s. batch ≡ spec.batch_operations s (spec.replayed s batch)) (sym states.0) follows.changes in
-    let yes : true ≡ false = sym (c.in_ok-is_batch.ensures.is.1 leads) ∙ c.if-not-branch.true in
+    (goes_on_from here.0 (map meaning c.args.operations.now) left here.1 is) in
+    let leads = subst (λ h. batch ≡ spec.batch_operations (spec.latest_map h) (spec.replayed (spec.latest_map h) batch))
+    (sym (history_is meaning c.args.operations.now c.loop-batch.rest.now here.0 here.1 here.4)) follows.changes in
+    let yes : true ≡ false = sym (c.in_ok-is_batch_behind.ensures.1 leads) ∙ c.if-not-branch.true in
     absurd (cc)
 
 pub loop-batch-smaller : goal.loop-batch-smaller
@@ -180,22 +192,19 @@ loop-batch-preserved g c =
     let metadata = c.in-Some.ensures.metadata in
     let commit : Operation = commit_floor metadata c.in-Some.recorded in
     let next : spec.History = with_batch here.0 batch metadata in
-    let states = here.4 (some (meaning_of key value) c.args.operations.now c.loop-batch.rest.now c.in-Some.batch.now
-    c.in-Some.recorded later here.0 here.1 c.in-Some.ensures) in
     let all = passed (meaning_of key value) c.args.operations.now c.loop-batch.rest.now c.in-Some.batch.now
     c.in-Some.recorded later here.0 here.1 c.in-Some.ensures in
     let floor : c.inactivity_floor_by-floor.result ≡ spec.inactivity_floor (log ++ batch) =
     c.inactivity_floor_by-floor.ensures ∙ ap spec.inactivity_floor all in
     let same : c.inactivity_floor_by-floor.result ≡ c.in-Some.recorded = c.if-floor-recorded.false in
     let follows : FollowsRule log (spec.latest_map here.0) batch c.in-Some.recorded = record {
-      changes = subst (λ s. batch ≡ spec.batch_operations s (spec.replayed s batch)) states.0
-          (c.in_ok-is_batch.ensures.is.0 c.if-not-branch.false);
+      changes = subst (λ h. batch ≡ spec.batch_operations (spec.latest_map h) (spec.replayed (spec.latest_map h) batch))
+          (history_is (meaning_of key value) c.args.operations.now c.loop-batch.rest.now here.0 here.1 here.4)
+          (c.in_ok-is_batch_behind.ensures.0 c.if-not-branch.false);
       recorded = sym same ∙ floor;
     } in
     let grown = rule_goes_on here.0 batch metadata c.in-Some.recorded follows in
-    let longer : (log ++ batch) ++ commit ∷ [] ≡ spec.log_of next = append_assoc log batch (commit ∷ []) ∙ grown in
-    let led : spec.replayed (state_of key value c.loop-batch.before.entries) batch ≡ spec.replayed (spec.latest_map here.0) batch =
-    ap (λ s. spec.replayed s batch) states.0 in (
+    let longer : (log ++ batch) ++ commit ∷ [] ≡ spec.log_of next = append_assoc log batch (commit ∷ []) ∙ grown in (
       next,
       reached_next here.0 said left batch c.in-Some.recorded later here.1 c.in-Some.ensures follows,
       followed (meaning_of key value) c.args.operations.now c.loop-batch.rest.now c.in-Some.batch.now
@@ -204,19 +213,7 @@ loop-batch-preserved g c =
           c.in_ok-follow_all.ensures
           ∙ sym (places_of-append (log ++ batch) (commit ∷ [])) ∙ ap places_of longer,
       omega (arith, floor, floor_rises (log ++ batch) (commit ∷ []), ap spec.inactivity_floor longer),
-      λ some. (
-        elim c.if-not-is_empty.branch [
-          | then-not-is_empty+in_ok-apply_operations w ↦
-              ap (λ (m : BTreeMap g.row.K.Denot g.row.V.Denot). state_of key value m.entries) w.before-is
-              ∙ w.in_ok-apply_operations.ensures ∙ led
-          | else-not-is_empty w ↦
-              let no = more_left (meaning_of key value) c.in-Some.later.now some c.is_empty-in-Some.result
-              c.is_empty-in-Some.ensures in
-              absurd (cc (no, w.if-not-is_empty.false))
-        ],
-        c.in_ok-is_batch.ensures.led (more_left (meaning_of key value) c.in-Some.later.now some c.is_empty.result
-            c.is_empty.ensures) ∙ led,
-      ),
+      (IsState-replayed (spec.latest_map here.0) batch (IsState-latest_map here.0 here.4), here.4),
     )
 
 pub returns-then-is_empty : goal.returns-then-is_empty
@@ -225,7 +222,7 @@ returns-then-is_empty g c =
     let value = g.V.Write.encoding in
     let here = c.loop-batch.invariant in
     let none : spec.meanings key value c.loop-batch.rest.now ≡ [] =
-    ap (spec.meanings key value) (none_left c.loop-batch.rest.now (sym c.if-is_empty.true ∙ c.is_empty-2.ensures)) in
+    ap (spec.meanings key value) (none_left c.loop-batch.rest.now (sym c.if-is_empty.true ∙ c.is_empty.ensures)) in
     let end = reached_end here.0 (spec.meanings key value c.args.operations.now) (spec.meanings key value c.loop-batch.rest.now)
     here.1 none in
     (end.1, here.2 ∙ ap places_of (sym end.0))
@@ -238,5 +235,5 @@ returns g c = λ is.
     let none = nothing_left here.0 (map meaning rest) c.in_default-next_batch.ensures
     (goes_on_from here.0 (map meaning c.args.operations.now) (map meaning rest) here.1 is) in
     let short : length rest ≡ 0 = omega (arith, ap length none, length-map rest meaning) in
-    let yes : true ≡ false = sym (eq-eqb (length rest) 0 short) ∙ sym c.is_empty-2.ensures ∙ c.if-is_empty.false in
+    let yes : true ≡ false = sym (eq-eqb (length rest) 0 short) ∙ sym c.is_empty.ensures ∙ c.if-is_empty.false in
     absurd (cc)

@@ -1,12 +1,11 @@
-use Rattle.std.proofs.Common.{◌≡◌, ◌≤◌, List, [], length}
+use Rattle.std.proofs.Common.{◌≡◌, ◌≤◌, List, length}
 use Rattle.state_ops.specs.Operation.{Operation}
 use Rattle.auth_store_parts.specs.History as spec
-use Rattle.auth_store_parts.specs.Map.{state_of}
 use Rattle.auth_store_parts.specs.Places.{places_of}
 use Rattle.auth_store_log.proofs.Batches.{IsReached}
 use Rattle.auth_store_log.proofs.replay.places_of_log.Given as goal
 
--- what was passed is the log of a history, whose state is there twice where something is left
+-- what was passed is the log of a history, which has states, with its places
 abbrev pub invariant-loop-batch : goal.invariant-loop-batch
 invariant-loop-batch g l =
     let key = g.K.Write.encoding in
@@ -16,8 +15,7 @@ invariant-loop-batch g l =
     (history : spec.History) × IsReached history said left
     × (l.places ≡ places_of (spec.log_of history))
     × (l.floor ≤ spec.inactivity_floor (spec.log_of history))
-    × ((left ≡ [] → ⊥) → (state_of key value l.before.entries ≡ spec.latest_map history)
-    × (state_of key value l.state.entries ≡ spec.latest_map history))
+    × spec.AreStates history
 
 abbrev pub decreases-loop-batch : goal.decreases-loop-batch
 decreases-loop-batch g l = length l.rest

@@ -1,4 +1,4 @@
-use Rattle.std.proofs.Common.{◌≡◌, ◌∙◌, ◌≤◌, ◌+◌, ◌-◌, ap, sym, subst, length, map, drop, take, List, ℕ, arith}
+use Rattle.std.proofs.Common.{◌≡◌, ◌∙◌, ◌≤◌, ◌-◌, ap, sym, length, map, drop, take, List, ℕ, arith}
 use Rattle.std.proofs.lemmas.List.{length-map, length-drop, drop-map, take_rest}
 use Rattle.state_ops.specs.Operation.{Operation, meaning_of}
 use Rattle.auth_store_parts.specs.History as spec

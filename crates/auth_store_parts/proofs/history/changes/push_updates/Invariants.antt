@@ -1,4 +1,4 @@
-use Rattle.std.proofs.Common.{◌≡◌, ◌++◌, ◌∷◌, List, ℕ}
+use Rattle.std.proofs.Common.{◌≡◌, ◌++◌, ◌∷◌}
 use Rattle.auth_store_parts.specs.Map.{Map, state_of, first_key}
 use Rattle.auth_store_parts.specs.History as spec
 use Rattle.auth_store_parts.proofs.history.changes.push_updates.Given as goal

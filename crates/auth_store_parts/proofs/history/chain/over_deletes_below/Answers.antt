@@ -1,0 +1,115 @@
+use Rattle.std.proofs.Common.{◌≡◌, ◌∙◌, ◌∷◌, ◌+◌, true, false, ap, sym, drop, map, option_map, length, arith, List, ℕ}
+use Rattle.std.specs.Ordering.{is_lt}
+use Rattle.std.proofs.lemmas.List.{drop_all, take_rest}
+use Rattle.state_ops.specs.Operation.{Operation, meaning_of}
+use Rattle.auth_store_parts.specs.Map.{Map, key_order, entry_of}
+use Rattle.auth_store_parts.specs.Chains as chains
+use Rattle.auth_store_parts.specs.Chains.{Pointer}
+use Rattle.auth_store_parts.specs.History as spec
+use Rattle.auth_store_parts.proofs.ChainCode.{left_at, below_no_delete, below_delete}
+use Rattle.auth_store_parts.proofs.Firsts.{entry_counts}
+use Rattle.auth_store_parts.proofs.history.chain.over_deletes_below.Goals as goal
+
+pub returns-in_default : goal.returns-in_default
+returns-in_default g c = λ first_new v n go.
+    let key = g.K.Write.encoding in
+    let meaning = meaning_of key g.V.Write.encoding in
+    let all = c.args.all.now in
+    let i = c.loop-at.at in
+    let old : Map = spec.latest_map (spec.history_of (spec.meanings key g.V.Write.encoding c.args.log.now)) in
+    let p : Pointer = option_map (λ k. key k.now) c.loop-at.pointers.0 in
+    let q : Pointer = option_map (λ k. key k.now) c.loop-at.pointers.1 in
+    sym (c.loop-at.invariant first_new v n go)
+    ∙ ap (λ l. chains.up_to_update old first_new (key c.args.key.now) v n go l p q)
+    (left_at meaning all i c.index-all-at.result c.loop-at-test.true c.index-all-at.is)
+    ∙ below_no_delete key g.V.Write.encoding old first_new first_new p q (map meaning (drop (i + 1) all))
+    (key c.args.key.now) v n go c.index-all-at.result c.in_default.not-Delete
+
+pub returns-then-not-is_lt : goal.returns-then-not-is_lt
+returns-then-not-is_lt g c = λ first_new v n go.
+    let key = g.K.Write.encoding in
+    let meaning = meaning_of key g.V.Write.encoding in
+    let all = c.args.all.now in
+    let i = c.loop-at.at in
+    let old : Map = spec.latest_map (spec.history_of (spec.meanings key g.V.Write.encoding c.args.log.now)) in
+    let p : Pointer = option_map (λ k. key k.now) c.loop-at.pointers.0 in
+    let q : Pointer = option_map (λ k. key k.now) c.loop-at.pointers.1 in
+    let k : List ℕ = key c.args.key.now in
+    let l : List ℕ = key c.in-Delete.gone in
+    let left : List Operation = map meaning (drop (i + 1) all) in
+    let split = left_at meaning all i c.index-all-at.result c.loop-at-test.true c.index-all-at.is
+    ∙ ap (λ o. meaning o ∷ left) c.in-Delete.is in
+    let order : is_lt (key_order l k) ≡ false =
+    ap is_lt (sym (g.met.K.FixedKey.in_order c.in-Delete.gone c.args.key.now)) ∙ ap is_lt (sym c.cmp.ensures)
+    ∙ sym c.is_lt.ensures ∙ c.if-not-is_lt.true in
+    sym (c.loop-at.invariant first_new v n go)
+    ∙ ap (λ l. chains.up_to_update old first_new k v n go l p q) split
+    ∙ below_delete old first_new k v n go l left p q false order
+    ∙ ap (λ l. chains.over_update first_new (entry_of old k) k v n (go l) p q)
+    (sym split ∙ ap (map meaning) (sym (take_rest all i)))
+
+pub returns-in_default-over_delete : goal.returns-in_default-over_delete
+returns-in_default-over_delete g c = λ first_new v n go.
+    let key = g.K.Write.encoding in
+    let meaning = meaning_of key g.V.Write.encoding in
+    let all = c.args.all.now in
+    let i = c.loop-at.at in
+    let log : List Operation = spec.meanings key g.V.Write.encoding c.args.log.now in
+    let old : Map = spec.latest_map (spec.history_of log) in
+    let p : Pointer = option_map (λ k. key k.now) c.loop-at.pointers.0 in
+    let q : Pointer = option_map (λ k. key k.now) c.loop-at.pointers.1 in
+    let k : List ℕ = key c.args.key.now in
+    let l : List ℕ = key c.in-Delete.gone in
+    let left : List Operation = map meaning (drop (i + 1) all) in
+    let split = left_at meaning all i c.index-all-at.result c.loop-at-test.true c.index-all-at.is
+    ∙ ap (λ o. meaning o ∷ left) c.in-Delete.is in
+    let order : is_lt (key_order l k) ≡ true =
+    ap is_lt (sym (g.met.K.FixedKey.in_order c.in-Delete.gone c.args.key.now)) ∙ ap is_lt (sym c.cmp.ensures)
+    ∙ sym c.is_lt.ensures ∙ c.if-not-is_lt.false in
+    let further = chains.up_to_update old first_new k v n go left in
+    sym (c.loop-at.invariant first_new v n go)
+    ∙ ap (λ l. chains.up_to_update old first_new k v n go l p q) split
+    ∙ below_delete old first_new k v n go l left p q true order
+    ∙ ap (λ e. chains.over_delete e l further p q) (sym (c.update_of.ensures ∙ entry_counts log c.requires.whole l))
+    ∙ c.in_default-over_delete.ensures further
+
+pub loop-at-preserved : goal.loop-at-preserved
+loop-at-preserved g c = λ first_new v n go.
+    let key = g.K.Write.encoding in
+    let meaning = meaning_of key g.V.Write.encoding in
+    let all = c.args.all.now in
+    let i = c.loop-at.at in
+    let log : List Operation = spec.meanings key g.V.Write.encoding c.args.log.now in
+    let old : Map = spec.latest_map (spec.history_of log) in
+    let p : Pointer = option_map (λ k. key k.now) c.loop-at.pointers.0 in
+    let q : Pointer = option_map (λ k. key k.now) c.loop-at.pointers.1 in
+    let k : List ℕ = key c.args.key.now in
+    let l : List ℕ = key c.in-Delete.gone in
+    let left : List Operation = map meaning (drop (i + 1) all) in
+    let split = left_at meaning all i c.index-all-at.result c.loop-at-test.true c.index-all-at.is
+    ∙ ap (λ o. meaning o ∷ left) c.in-Delete.is in
+    let order : is_lt (key_order l k) ≡ true =
+    ap is_lt (sym (g.met.K.FixedKey.in_order c.in-Delete.gone c.args.key.now)) ∙ ap is_lt (sym c.cmp.ensures)
+    ∙ sym c.is_lt.ensures ∙ c.if-not-is_lt.false in
+    let further = chains.up_to_update old first_new k v n go left in
+    sym (ap (λ l. chains.up_to_update old first_new k v n go l p q) split
+    ∙ below_delete old first_new k v n go l left p q true order
+    ∙ ap (λ e. chains.over_delete e l further p q) (sym (c.update_of.ensures ∙ entry_counts log c.requires.whole l))
+    ∙ c.in-Some.ensures further)
+    ∙ c.loop-at.invariant first_new v n go
+
+pub returns : goal.returns
+returns g c = λ first_new v n go.
+    let key = g.K.Write.encoding in
+    let meaning = meaning_of key g.V.Write.encoding in
+    let all = c.args.all.now in
+    let i = c.loop-at.at in
+    let old : Map = spec.latest_map (spec.history_of (spec.meanings key g.V.Write.encoding c.args.log.now)) in
+    let p : Pointer = option_map (λ k. key k.now) c.loop-at.pointers.0 in
+    let q : Pointer = option_map (λ k. key k.now) c.loop-at.pointers.1 in
+    let k : List ℕ = key c.args.key.now in
+    let none = drop_all i all c.loop-at-test.false in
+    let left = take_rest all (length all) ∙ drop_all (length all) all (omega arith) in
+    sym (c.loop-at.invariant first_new v n go)
+    ∙ ap (λ l. chains.up_to_update old first_new k v n go (map meaning l) p q) none
+    ∙ ap (λ l. chains.over_update first_new (entry_of old k) k v n (go (map meaning l)) p q) (sym left)
