@@ -37,7 +37,7 @@ opening_why m before after (Header fault) cause = tt
 
 commit_why : (m : Machine) (before after : Power) (next : History) (e : StoreError) → MayRefuseCommit m before after next e
     → Why before after e
-commit_why m before after next (Fault kind) cause = cause
+commit_why m before after next (Fault kind) cause = cause.0
 commit_why m before after next PowerCut cause = cause
 commit_why m before after next NumberEnded cause = tt
 commit_why m before after next Memory cause = tt

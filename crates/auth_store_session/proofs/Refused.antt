@@ -1,5 +1,5 @@
 -- Why a call over the blob refuses, from the causes of its parts.
-use Rattle.std.proofs.Common.{◌≡◌, refl, ◌⊎◌, ◌+◌, ◌<◌, ◌≤◌, ◌^◌, ℕ, true, false, inl, inr, rules, ⊎_elim, arith, max}
+use Rattle.std.proofs.Common.{◌≡◌, refl, ap, Some, ◌⊎◌, ◌+◌, ◌<◌, ◌≤◌, ◌^◌, ℕ, true, false, inl, inr, rules, ⊎_elim, arith, max}
 use Rattle.std.proofs.lemmas.Bool.{cases_lt}
 use Rattle.std.specs.Prelude.{Result, Ok, Err, IsFalse}
 use Rattle.paged_blob.specs.Answers.{Failures, failures_after, IsPastNumbers, IsCause}
@@ -56,7 +56,8 @@ refused_by T failures kind reach Ends NumberEnded is ends (inr ended) = inl ende
 pub append_refused : (T : Type 0) (failures : Failures) (reach : ℕ) (e : Error) → failures.is_open ≡ true
     → IsCause failures Write reach e ⊎ IsCause failures Sync 0 e
     → IsCommitRefusal false failures (failures_after {T = T} (Err e) failures) (2 ^ 64 ≤ reach + 4096) (of_blob e)
-append_refused T failures reach (Injected injected) is cause = omega arith
+append_refused T failures reach (Injected injected) is (inl cause) = (omega arith, inl (ap (λ k. Some k) cause))
+append_refused T failures reach (Injected injected) is (inr cause) = (omega arith, inr (ap (λ k. Some k) cause))
 append_refused T failures reach PowerCut is cause = inr (omega arith)
 append_refused T failures reach BlobMissing is (inl cause) = absurd (is_missing failures is cause)
 append_refused T failures reach BlobMissing is (inr cause) = absurd (is_missing failures is cause)

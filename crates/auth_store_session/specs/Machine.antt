@@ -13,6 +13,7 @@ use Rattle.auth_store_log.specs.Records.{log_bytes}
 use Rattle.auth_store_ledger.specs.Proving.{honest_proof}
 use Rattle.auth_store_session.specs.declared.error.StoreError.{StoreError}
 use Rattle.auth_store_session.specs.declared.error.StoreError.TheVariants as refusals
+use Rattle.auth_store_session.specs.Refusals.{IsOfChange}
 
 -- what stays the same in a run: trees, hashes and chunks, how the family encodes a pending digest, the sizes of keys and of
 -- values, and how many bytes a page of the disk has
@@ -169,8 +170,9 @@ abbrev pub MayRefuseOpening : Machine → Power → Power → StoreError → Typ
 MayRefuseOpening m before after refusals.NumberEnded = IsEndingOpening before ⊎ PassesFirst m
 MayRefuseOpening m before after error = MayRefuse before after error
 
--- why a commit that leads to this history may be refused
+-- why a commit that leads to this history may be refused: it reads nothing, so that a fault came into a write or a sync
 abbrev pub MayRefuseCommit : Machine → Power → Power → History → StoreError → Type 0
+MayRefuseCommit m before after next (refusals.Fault kind) = (before.injected < after.injected) × IsOfChange kind
 MayRefuseCommit m before after next refusals.NumberEnded =
     IsEnding before ⊎ PassesLimit next ⊎ PassesDisk m next
 MayRefuseCommit m before after next error = MayRefuse before after error

@@ -16,6 +16,7 @@ use Rattle.auth_store_log.specs.Causes.{AreNamed}
 use Rattle.auth_store_log.specs.Shown.{MayShow, KeepsLog}
 use Rattle.auth_store_session.specs.declared.error.StoreError.{StoreError}
 use Rattle.auth_store_session.specs.declared.error.StoreError.TheVariants.{Fault, PowerCut, NumberEnded, Memory, Corrupt}
+use Rattle.auth_store_session.specs.Refusals.{IsOfChange}
 use Rattle.auth_store_session.specs.Machine.{IsRaised}
 
 -- an open store that has not failed: its history, and the writer of its log
@@ -102,8 +103,9 @@ abbrev pub IsOpenRefusal : Failures → Failures → Type 0 → Type 0 → Store
 IsOpenRefusal before after Ends IsNone Corrupt = IsNone
 IsOpenRefusal before after Ends IsNone error = IsRefusal before after Ends error
 
--- why a commit may: so, or where a cut stands
+-- why a commit may: so, where a fault came into a write or a sync, or where a cut stands
 abbrev pub IsCommitRefusal : Bool → Failures → Failures → Type 0 → StoreError → Type 0
+IsCommitRefusal is_cut before after Ends (Fault kind) = (before.injected < after.injected) × IsOfChange kind
 IsCommitRefusal is_cut before after Ends PowerCut = (is_cut ≡ true) ⊎ (before.refused < after.refused)
 IsCommitRefusal is_cut before after Ends error = IsRefusal before after Ends error
 
