@@ -5,7 +5,7 @@ use Rattle.auth_store_parts.specs.History.{History}
 use Rattle.auth_store_ledger.specs.Store.{commit_after}
 use Rattle.auth_store_session.specs.declared.error.StoreError.{StoreError}
 use Rattle.auth_store_session.specs.declared.error.StoreError.TheVariants.{Fault, PowerCut, NumberEnded, Memory, Corrupt, Failed, Header}
-use Rattle.auth_store_session.specs.Machine.{Machine, Power, State, closed, live, failed, doubtful, Request, ask_open, ask_commit, ask_get, ask_root, ask_commits, ask_floor, ask_len, ask_proof, ask_close, ask_crash, ask_config, ask_cut, Answer, opened, committed, value, root_is, commits_are, floor_is, len_is, proof, has_closed, has_crashed, is_set, refused, not_open, still_open, MayRefuse, MayRefuseOpening, MayRefuseCommit, IsStep, IsRun, Passes, turned, faults_told, AskNoCut, TellNoCut}
+use Rattle.auth_store_session.specs.Machine.{Machine, Power, State, closed, live, failed, doubtful, Request, ask_open, ask_commit, ask_get, ask_root, ask_commits, ask_floor, ask_len, ask_proof, ask_close, ask_crash, ask_config, ask_cut, Answer, opened, committed, value, root_is, commits_are, floor_is, len_is, proof, has_closed, has_crashed, is_set, refused, not_open, still_open, MayRefuseRead, MayRefuseOpening, MayRefuseCommit, IsStep, IsRun, Passes, turned, faults_told, AskNoCut, TellNoCut}
 
 -- what a refusal tells of the power
 abbrev Why : Power → Power → StoreError → Type 0
@@ -17,14 +17,14 @@ Why before after Corrupt = ⊤
 Why before after Failed = ⊤
 Why before after (Header fault) = ⊤
 
-may_why : (before after : Power) (e : StoreError) → MayRefuse before after e → Why before after e
-may_why before after (Fault kind) cause = cause
-may_why before after PowerCut cause = cause
-may_why before after NumberEnded cause = tt
-may_why before after Memory cause = tt
-may_why before after Corrupt cause = tt
-may_why before after Failed cause = tt
-may_why before after (Header fault) cause = tt
+read_why : (before after : Power) (e : StoreError) → MayRefuseRead before after e → Why before after e
+read_why before after (Fault kind) cause = cause.0
+read_why before after PowerCut cause = cause
+read_why before after NumberEnded cause = tt
+read_why before after Memory cause = tt
+read_why before after Corrupt cause = tt
+read_why before after Failed cause = tt
+read_why before after (Header fault) cause = tt
 
 opening_why : (m : Machine) (before after : Power) (e : StoreError) → MayRefuseOpening m before after e → Why before after e
 opening_why m before after (Fault kind) cause = cause
@@ -116,7 +116,7 @@ step_why m before after (live history) (ask_commit words metadata) e next step =
     step
 step_why m before after (live history) (ask_get key) e next step = ⊎_elim
     (λ said. plain e (value _) said refl)
-    (λ refuses. let (error, is, cause) = refuses in why_of before after e error is (may_why before after error cause))
+    (λ refuses. let (error, is, cause) = refuses in why_of before after e error is (read_why before after error cause))
     step.1
 step_why m before after (live history) ask_root e next step = plain e (root_is _) step.0 refl
 step_why m before after (live history) ask_commits e next step = plain e (commits_are _) step.0 refl
@@ -124,7 +124,7 @@ step_why m before after (live history) ask_floor e next step = plain e (floor_is
 step_why m before after (live history) ask_len e next step = plain e (len_is _) step.0 refl
 step_why m before after (live history) (ask_proof key) e next step = ⊎_elim
     (λ said. plain e (proof _) said refl)
-    (λ refuses. let (error, is, cause) = refuses in why_of before after e error is (may_why before after error cause))
+    (λ refuses. let (error, is, cause) = refuses in why_of before after e error is (subst (Why before after) (sym cause) tt))
     step.1
 step_why m before after (live history) ask_close e next step = plain e has_closed step.0 refl
 step_why m before after (live history) ask_crash e next step = plain e still_open step.0 refl

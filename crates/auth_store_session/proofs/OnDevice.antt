@@ -25,8 +25,8 @@ use Rattle.auth_store_log.specs.Shown.{MayShow, IsKeptThrough}
 use Rattle.auth_store_session.specs.declared.error.StoreError.{StoreError}
 use Rattle.auth_store_session.specs.declared.error.StoreError.TheVariants.{Fault, PowerCut, NumberEnded, Memory, Corrupt, Failed, Header}
 use Rattle.auth_store_session.specs.Refusals.{of_opening}
-use Rattle.auth_store_session.specs.Machine.{Machine, IsEndingOpening, MayRefuse, MayRefuseCommit, PassesLimit, commit_of}
-use Rattle.auth_store_session.specs.Stores.{StoreState, LiveState, IsStore, IsLive, IsLiveAt, IsNoHistory, Shows, IsRefusal, IsOpenRefusal, IsCommitRefusal, EndsDisk, EndsOpening}
+use Rattle.auth_store_session.specs.Machine.{Machine, IsEndingOpening, MayRefuseRead, MayRefuseCommit, PassesLimit, commit_of}
+use Rattle.auth_store_session.specs.Stores.{StoreState, LiveState, IsStore, IsLive, IsLiveAt, IsNoHistory, Shows, IsReadRefusal, IsOpenRefusal, IsCommitRefusal, EndsDisk, EndsOpening}
 use Rattle.auth_store_session.proofs.Kept.{keeps_history}
 use Rattle.auth_store_session.specs.Standing.{power_of, shown_of, result_of, Commits, IsOpenError, IsShownThrough}
 use Rattle.auth_store_session.proofs.Grown.{keeps_live}
@@ -103,8 +103,8 @@ module _ {R : Type 0} (m : Machine) (format : Format) (old mid new : DeviceState
 -- a read that is refused
 module _ {R : Type 0} (old new : DeviceState R) (cache now : Cache)
   where
-    pub read_on_device : (e : StoreError) → (0 < new.refused → new.left ≡ Some 0) → IsRefusal (failures_of old) (failures_of new) ⊥ e
-        → MayRefuse (power_of old cache) (power_of new now) e
+    pub read_on_device : (e : StoreError) → (0 < new.refused → new.left ≡ Some 0) → IsReadRefusal (failures_of old) (failures_of new) e
+        → MayRefuseRead (power_of old cache) (power_of new now) e
     read_on_device (Fault kind) law cause = cause
     read_on_device PowerCut law cause = cut_stands new.left (law (omega (arith, cause)))
     read_on_device NumberEnded law (inl (inl full)) = inl full

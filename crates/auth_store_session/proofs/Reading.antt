@@ -21,7 +21,7 @@ use Rattle.auth_store_log.specs.declared.error.LogError.{LogError}
 use Rattle.auth_store_log.specs.declared.error.LogError.TheVariants.{Corrupt, Refused}
 use Rattle.auth_store_ledger.specs.Store.{HasValueAt}
 use Rattle.auth_store_session.specs.Refusals.{of_log}
-use Rattle.auth_store_session.specs.Stores.{IsRefusal, IsLive, LiveState}
+use Rattle.auth_store_session.specs.Stores.{IsReadRefusal, IsLive, LiveState}
 use Rattle.auth_store_session.proofs.Refused.{refused_by}
 
 -- a log has so many bytes for each operation
@@ -45,7 +45,7 @@ pub read_refused : (T : Type 0) (format : Format) (failures : Failures) (calls :
     → 12 < now.writer.page_size
     → IsRecordCause format failures now.writer.page_size now.writer.tip.offset (written crc32 calls now.writer)
     ((index + 1) * record_size format) e
-    → IsRefusal failures (failures_after_reading {T = T} (Err e) failures) ⊥ (of_log e)
+    → IsReadRefusal failures (failures_after_reading {T = T} (Err e) failures) (of_log e)
 read_refused T format failures calls cache now index key e is at stands some cause = by_cases e cause
   where
     list : List ℕ
@@ -59,9 +59,12 @@ read_refused T format failures calls cache now index key e is at stands some cau
 
     by_cases : (e : LogError)
         → IsRecordCause format failures now.writer.page_size now.writer.tip.offset list ((index + 1) * record_size format) e
-        → IsRefusal failures (failures_after_reading {T = T} (Err e) failures) ⊥ (of_log e)
+        → IsReadRefusal failures (failures_after_reading {T = T} (Err e) failures) (of_log e)
     by_cases Corrupt cause = absurd (cause (log_of now.history) is.recorded (sym is.content))
-    by_cases (Refused (Injected kind)) cause = refused_by (Unit {0}) failures Read reach ⊥ (Injected kind) stands past cause
+    by_cases (Refused (Injected kind)) cause = (
+      refused_by (Unit {0}) failures Read reach ⊥ (Injected kind) stands past cause,
+      ap (λ k. Some k) cause,
+    )
     by_cases (Refused PowerCut) cause = refused_by (Unit {0}) failures Read reach ⊥ PowerCut stands past cause
     by_cases (Refused NumberEnded) cause = refused_by (Unit {0}) failures Read reach ⊥ NumberEnded stands past cause
     by_cases (Refused Memory) cause = tt

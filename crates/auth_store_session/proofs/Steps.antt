@@ -10,7 +10,7 @@ use Rattle.auth_store_log.specs.Records.{Format}
 use Rattle.auth_store_ledger.specs.Store.{commit_after}
 use Rattle.auth_store_session.specs.declared.error.StoreError.{StoreError}
 use Rattle.auth_store_session.specs.declared.error.StoreError.TheVariants.{Failed, Memory}
-use Rattle.auth_store_session.specs.Machine.{Machine, Power, State, closed, live, failed, doubtful, Request, ask_open, ask_crash, ask_commit, ask_get, ask_proof, Answer, still_open, committed, value, proof, refused, IsStep, IsStepLive, IsStepFailed, MayRefuse, commit_of, proof_of}
+use Rattle.auth_store_session.specs.Machine.{Machine, Power, State, closed, live, failed, doubtful, Request, ask_open, ask_crash, ask_commit, ask_get, ask_proof, Answer, still_open, committed, value, proof, refused, IsStep, IsStepLive, IsStepFailed, MayRefuseRead, commit_of, proof_of}
 use Rattle.auth_store_session.specs.MachineCode.{answer_of, request_of}
 use Rattle.auth_store_session.specs.declared.session.Step.{Step}
 use Rattle.auth_store_session.specs.declared.session.Step.TheVariants as steps
@@ -68,7 +68,7 @@ pub gets_in : {R V : Type 0} (m : Machine) (format : Format) (encoding : V → L
     → ((history : History) → IsLiveAt old history
     → IfOk result (λ found. option_map encoding found ≡ value_at (latest_map history) key))
     → ((history : History) → IsLiveAt old history
-    → IfErr result (MayRefuse (power_of old.device old.cache) (power_of new.device new.cache)))
+    → IfErr result (MayRefuseRead (power_of old.device old.cache) (power_of new.device new.cache)))
     → ((history : History) → IsLiveAt old history → IsLiveAt new history)
     → (old.live ≡ None → (result ≡ Err Failed) × (new ≡ old))
     → MovesOpen m format old (ask_get key) (answer_of (λ found. value (option_map encoding found)) result) new
@@ -93,7 +93,7 @@ proves_in m format parts key store (Ok found) is refuses lost (live history) sta
     (live history, (refl, inl (ap proof (is history stands))), stands)
 proves_in m format parts key store (Err e) is refuses lost (live history) stands = (
   live history,
-  (refl, inr (e, refl, subst (MayRefuse (power_of store.device store.cache) (power_of store.device store.cache)) (sym (refuses history stands)) tt)),
+  (refl, inr (e, refl, refuses history stands)),
   stands,
 )
 proves_in m format parts key store result is refuses lost (failed history commit) stands =

@@ -13,7 +13,7 @@ use Rattle.auth_store_log.specs.Records.{log_bytes}
 use Rattle.auth_store_ledger.specs.Proving.{honest_proof}
 use Rattle.auth_store_session.specs.declared.error.StoreError.{StoreError}
 use Rattle.auth_store_session.specs.declared.error.StoreError.TheVariants as refusals
-use Rattle.auth_store_session.specs.Refusals.{IsOfChange}
+use Rattle.auth_store_session.specs.Refusals.{IsOfChange, IsOfRead}
 
 -- what stays the same in a run: trees, hashes and chunks, how the family encodes a pending digest, the sizes of keys and of
 -- values, and how many bytes a page of the disk has
@@ -165,6 +165,11 @@ PassesDisk m history =
 abbrev pub PassesFirst : Machine → Type 0
 PassesFirst m = 2 ^ 64 ≤ physical_size m.page_size (fixed_size m.key_size m.value_size) + 4096
 
+-- why a read of a value may be refused
+abbrev pub MayRefuseRead : Power → Power → StoreError → Type 0
+MayRefuseRead before after (refusals.Fault kind) = (before.injected < after.injected) × IsOfRead kind
+MayRefuseRead before after error = MayRefuse before after error
+
 -- why an opening may be refused
 abbrev pub MayRefuseOpening : Machine → Power → Power → StoreError → Type 0
 MayRefuseOpening m before after refusals.NumberEnded = IsEndingOpening before ⊎ PassesFirst m
@@ -223,11 +228,11 @@ IsCommitting m before after history words metadata answer next =
     ⊎ ((error : StoreError) × (answer ≡ refused error) × MayRefuseCommit m before after later error
     × ((next ≡ live history) ⊎ ((next ≡ failed history (commit_of words metadata history)) × (length (log_of later) ≤ 2 ^ 62))))
 
--- an answer, or a refusal that changes nothing
-abbrev pub IsAnswered : Power → Power → History → Answer → Answer → State → Type 0
-IsAnswered before after history said answer next =
+-- an answer, or a refusal for such a cause, which changes nothing
+abbrev pub IsAnswered : (StoreError → Type 0) → History → Answer → Answer → State → Type 0
+IsAnswered MayBe history said answer next =
     (next ≡ live history)
-    × ((answer ≡ said) ⊎ ((error : StoreError) × (answer ≡ refused error) × MayRefuse before after error))
+    × ((answer ≡ said) ⊎ ((error : StoreError) × (answer ≡ refused error) × MayBe error))
 
 -- a step of an open store that has not failed
 abbrev pub IsStepLive : Machine → Power → Power → History → Request → Answer → State → Type 0
@@ -239,9 +244,9 @@ IsStepLive m before after history ask_close answer next = (answer ≡ has_closed
 IsStepLive m before after history (ask_commit words metadata) answer next =
     IsCommitting m before after history words metadata answer next
 IsStepLive m before after history (ask_get key) answer next =
-    IsAnswered before after history (value (value_at (latest_map history) key)) answer next
+    IsAnswered (MayRefuseRead before after) history (value (value_at (latest_map history) key)) answer next
 IsStepLive m before after history (ask_proof key) answer next =
-    IsAnswered before after history (proof (proof_of m history key)) answer next
+    IsAnswered (λ error. error ≡ refusals.Memory) history (proof (proof_of m history key)) answer next
 IsStepLive m before after history ask_root answer next =
     (answer ≡ root_is (root_of_history m.setting m.key_size m.value_size history)) × (next ≡ live history)
 IsStepLive m before after history ask_commits answer next = (answer ≡ commits_are (length history)) × (next ≡ live history)

@@ -1,7 +1,7 @@
 -- The refusals of a store by their numbers, and from those of what it stands on.
 use Rattle.std.specs.Prelude.{◌≡◌, ◌⊎◌, ℕ, List, codes, Option, Some, None}
 use Rattle.paged_blob.specs.declared.error.CallKind.{CallKind}
-use Rattle.paged_blob.specs.declared.error.CallKind.TheVariants.{Write, Sync}
+use Rattle.paged_blob.specs.declared.error.CallKind.TheVariants.{Read, Write, Sync}
 use Rattle.paged_blob.specs.declared.error.Error.{Error}
 use Rattle.paged_blob.specs.declared.error.Error.TheVariants as blobs
 use Rattle.auth_store_device.specs.declared.error.OpenError.{OpenError}
@@ -53,3 +53,7 @@ of_opening openings.PowerCut = PowerCut
 -- a fault came into a write or a sync: a commit makes no other call
 abbrev pub IsOfChange : Option CallKind → Type 0
 IsOfChange kind = (kind ≡ Some Write) ⊎ (kind ≡ Some Sync)
+
+-- a fault came into a read: where a value is read, no other call is made
+abbrev pub IsOfRead : Option CallKind → Type 0
+IsOfRead kind = kind ≡ Some Read

@@ -16,7 +16,7 @@ use Rattle.auth_store_log.specs.Causes.{AreNamed}
 use Rattle.auth_store_log.specs.Shown.{MayShow, KeepsLog}
 use Rattle.auth_store_session.specs.declared.error.StoreError.{StoreError}
 use Rattle.auth_store_session.specs.declared.error.StoreError.TheVariants.{Fault, PowerCut, NumberEnded, Memory, Corrupt}
-use Rattle.auth_store_session.specs.Refusals.{IsOfChange}
+use Rattle.auth_store_session.specs.Refusals.{IsOfChange, IsOfRead}
 use Rattle.auth_store_session.specs.Machine.{IsRaised}
 
 -- an open store that has not failed: its history, and the writer of its log
@@ -102,6 +102,11 @@ pub record Shows (format : Format) (size : ℕ) (history : History) (pending : O
 abbrev pub IsOpenRefusal : Failures → Failures → Type 0 → Type 0 → StoreError → Type 0
 IsOpenRefusal before after Ends IsNone Corrupt = IsNone
 IsOpenRefusal before after Ends IsNone error = IsRefusal before after Ends error
+
+-- why a read of a value may: so, where a fault came into a read
+abbrev pub IsReadRefusal : Failures → Failures → StoreError → Type 0
+IsReadRefusal before after (Fault kind) = (before.injected < after.injected) × IsOfRead kind
+IsReadRefusal before after error = IsRefusal before after ⊥ error
 
 -- why a commit may: so, where a fault came into a write or a sync, or where a cut stands
 abbrev pub IsCommitRefusal : Bool → Failures → Failures → Type 0 → StoreError → Type 0

@@ -15,7 +15,7 @@ ghost use Rattle.auth_store_ledger.specs.Store.{IsChunkWidth, commit_after, root
 ghost use Rattle.auth_store_log.specs.Records.{format_of, begun, history_bytes, recovered_log, AreRecorded};
 ghost use Rattle.auth_store_log.specs.Shown.{IsKeptThrough};
 ghost use Rattle.auth_store_session.specs.Machine.{commit_of, PassesLimit};
-ghost use Rattle.auth_store_session.specs.Stores.{IsCache, IsLive, IsNoHistory, IsRefusal, IsOpenRefusal, IsCommitRefusal, Raises, EndsDisk, EndsOpening, Shows};
+ghost use Rattle.auth_store_session.specs.Stores.{IsCache, IsLive, IsNoHistory, IsReadRefusal, IsOpenRefusal, IsCommitRefusal, Raises, EndsDisk, EndsOpening, Shows};
 
 use crate::error::StoreError;
 use auth_store_ledger::{Batch, Ledger};
@@ -310,7 +310,7 @@ where
     ensures settings { (B.failures blob.new).settings ≡ (B.failures blob.old).settings }
     ensures raised { Raises (B.failures blob.old) (B.failures blob.new) }
     ensures names { cache.old.next_id ≤ cache.new.next_id }
-    ensures refused { IfErr result (IsRefusal (B.failures blob.old) (B.failures blob.new) ⊥) }
+    ensures refused { IfErr result (IsReadRefusal (B.failures blob.old) (B.failures blob.new)) }
 {
     let Some(index) = live.ledger.location(key) else {
         return Ok(None);

@@ -10,7 +10,7 @@ ghost use Rattle.auth_store_device.specs.Logs.{has_log, HasOwnHeader};
 ghost use Rattle.auth_store_ledger.specs.ProvingCode.{parts_of};
 ghost use Rattle.auth_store_ledger.specs.Store.{IsChunkWidth, floor_of, root_of_history};
 ghost use Rattle.auth_store_log.specs.Records.{format_of};
-ghost use Rattle.auth_store_session.specs.Machine.{machine, proof_of, Leaves, MayRefuse};
+ghost use Rattle.auth_store_session.specs.Machine.{machine, proof_of, Leaves, MayRefuseRead};
 ghost use Rattle.auth_store_session.specs.Standing.{Commits, IsOpenError, IsOpenedThrough, IsRecovered, IsShownThrough};
 ghost use Rattle.auth_store_session.specs.Standing.{power_of, result_of, shown_of};
 ghost use Rattle.auth_store_session.specs.Stores.{IsCache, IsLive, IsLiveAt, Shows};
@@ -220,7 +220,7 @@ where
     pub fn get(&mut self, key: &K) -> Result<Option<V>, StoreError>
         ensures found { (history : History) → IsLiveAt self.old history → IfOk result (λ found.
             option_map V.encoding found ≡ value_at (latest_map history) (K.encoding key.now)) }
-        ensures refused { (history : History) → IsLiveAt self.old history → IfErr result (MayRefuse
+        ensures refused { (history : History) → IsLiveAt self.old history → IfErr result (MayRefuseRead
             (power_of self.old.device self.old.cache) (power_of self.new.device self.new.cache)) }
         ensures stays { (history : History) → IsLiveAt self.old history → IsLiveAt self.new history }
         ensures failed { self.old.live ≡ None → (result ≡ Err StoreError.Failed) × (self.new ≡ self.old) }

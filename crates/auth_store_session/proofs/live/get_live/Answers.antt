@@ -6,7 +6,7 @@ use Rattle.auth_store_parts.specs.History.{latest_map, log_of}
 use Rattle.auth_store_parts.specs.Map.{value_at}
 use Rattle.auth_store_log.specs.Records.{Format, format_of}
 use Rattle.auth_store_session.specs.declared.error.StoreError.{StoreError}
-use Rattle.auth_store_session.specs.Stores.{LiveState, IsLive, IsRefusal}
+use Rattle.auth_store_session.specs.Stores.{LiveState, IsLive, IsReadRefusal}
 use Rattle.auth_store_session.proofs.Reading.{read_refused, same_value, not_deleted, not_committed}
 use Rattle.auth_store_session.proofs.Powers.{raises_none, raises_reading}
 use Rattle.auth_store_session.proofs.live.get_live.Goals as goal
@@ -18,7 +18,7 @@ returns-in_err-operation-clause-refused g c =
     let now : LiveState = record { history = c.live.inside.ledger; writer = c.live.inside.writer } in
     let is : IsLive format (g.B.Blob.calls c.args.blob.now) c.args.cache.now now =
     subst (IsLive format (g.B.Blob.calls c.args.blob.now) c.args.cache.now) (sym c.live.view_is) c.requires.live in
-    let Why : StoreError → Type 0 = IsRefusal failures (g.B.Blob.failures c.read_operation.new.blob) ⊥ in
+    let Why : StoreError → Type 0 = IsReadRefusal failures (g.B.Blob.failures c.read_operation.new.blob) in
     let p = err_from_is_err_and c.from_residual.result c.from_residual.ensures.1 in
     subst (λ r. IfErr r Why) (sym p.1) (subst Why (sym p.2)
     (rw c.in_err-operation.ensures.failures

@@ -3,7 +3,7 @@ use Rattle.std.specs.Prelude.{IfOk, IfErr}
 use Rattle.std.proofs.lemmas.Result.{IfErr-weaker}
 use Rattle.auth_store_parts.specs.History.{History, latest_map}
 use Rattle.auth_store_parts.specs.Map.{value_at}
-use Rattle.auth_store_session.specs.Machine.{MayRefuse}
+use Rattle.auth_store_session.specs.Machine.{MayRefuseRead}
 use Rattle.auth_store_session.specs.Standing.{power_of}
 use Rattle.auth_store_session.specs.Stores.{StoreState}
 use Rattle.auth_store_session.proofs.OnDevice.{one_history, read_on_device, live_stays}
@@ -30,7 +30,7 @@ returns-clause-found g c = λ history live.
 
 pub returns-clause-refused : goal.returns-clause-refused
 returns-clause-refused g c = λ history live.
-    subst (λ (s : StoreState g.row.R.Denot). IfErr c.get_live-answer.result (MayRefuse (power_of s.device s.cache)
+    subst (λ (s : StoreState g.row.R.Denot). IfErr c.get_live-answer.result (MayRefuseRead (power_of s.device s.cache)
     (power_of c.get_live-answer.new.blob c.get_live-answer.new.cache))) c.self.view_is
     (IfErr-weaker c.get_live-answer.result _ _
     (λ e cause. read_on_device c.self.inside.device c.get_live-answer.new.blob c.self.inside.cache c.get_live-answer.new.cache e
