@@ -4,3 +4,4 @@ pub mod Causes
 pub mod Reading
 pub mod Places
 pub mod Openings
+pub mod NamedBatches

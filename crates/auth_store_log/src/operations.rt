@@ -14,7 +14,7 @@ ghost use Rattle.auth_store_log.specs.Records.{format_of, record_size, record_of
 ghost use Rattle.auth_store_log.specs.Records.{IsRecorded, AreRecorded, IsNoLog};
 
 use crate::error::LogError;
-use crate::records::record_len;
+use crate::records::{record_len, records_in};
 use crate::replay::places_of_log;
 use auth_store_parts::history::Places;
 use fault_storage::Checksum;
@@ -74,7 +74,7 @@ fn read_all<F: Family, K: FixedKey, V: FixedValue>(
         → IsNoLog (format_of (K.after tt) (V.after tt) K.SIZE V.SIZE) bytes.now) }
     ensures memory { IfErr result (λ e. (e ≡ LogError.Refused Error.Memory) ⊎ (e ≡ LogError.Corrupt)) }
 {
-    let mut log = Vec::new(alloc);
+    let mut log = Vec::with_capacity(alloc, records_in::<K, V>(bytes.len()))?;
     let mut cursor = Cursor::new(bytes);
     while !cursor.is_empty() {
         let operation = next_operation(alloc, &mut cursor)?;

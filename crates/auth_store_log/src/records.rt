@@ -1,6 +1,6 @@
 //! The records of a log: operations of one size.
 
-ghost use Rattle.std.specs.Prelude.{◌≡◌, ◌+◌, ◌*◌, ◌≤◌, false, length, take, drop, IfOk, IfErr};
+ghost use Rattle.std.specs.Prelude.{◌≡◌, ◌+◌, ◌*◌, ◌<◌, ◌≤◌, false, length, take, drop, IfOk, IfErr};
 ghost use Rattle.state_ops.specs.Operation.{meaning_of};
 ghost use Rattle.auth_store_parts.specs.History.{is_commit};
 ghost use Rattle.auth_store_log.specs.Records as spec;
@@ -19,6 +19,18 @@ pub fn record_len<K: FixedKey, V: FixedValue>() -> u128
     ensures { result ≡ record_size (format_of (K.after tt) (V.after tt) K.SIZE V.SIZE) }
 {
     fixed_size::<K, V, OrderedUpdate<K, V>>()
+}
+
+/// How many records so many bytes have room for.
+pub fn records_in<K: FixedKey, V: FixedValue>(len: usize) -> usize
+    ensures within { result * record_size (format_of (K.after tt) (V.after tt) K.SIZE V.SIZE) ≤ len }
+    ensures most { len < (result + 1) * record_size (format_of (K.after tt) (V.after tt) K.SIZE V.SIZE) }
+{
+    let size = record_len::<K, V>();
+    if (len as u128) < size {
+        return 0;
+    }
+    len / size as usize
 }
 
 // Whether the operation is a commit.

@@ -2,7 +2,8 @@
 //!
 //! The log is gone over from commit to commit. The operations of a batch tell the state that they lead to; they are those
 //! of a history only where they are what leads there from the state before, and where the commit records the floor of the
-//! log with them. Both are told by the places of the keys that a batch names, so that no state is made.
+//! log with them. Both are told by the places of the keys that a batch names and by the first key, so that no state is made.
+//! All keys of the log are ranked before, so that none is searched for.
 //!
 //!     commit ┊ update a  update c  commit ┊ delete a  update c  commit
 //!            ┊  from [] to {a, c}  floor  ┊  from {a, c} to {c}  floor
@@ -15,8 +16,10 @@ ghost use Rattle.auth_store_parts.specs.History as spec;
 ghost use Rattle.auth_store_parts.specs.Places.{places_of};
 ghost use Rattle.auth_store_log.specs.Batches.{IsNextBatch};
 
-use auth_store_parts::history::laws::one_commit_a_batch;
-use auth_store_parts::history::{Places, inactivity_floor_by, is_batch_behind};
+use auth_store_parts::history::laws::{first_after_a_batch, one_commit_a_batch};
+use auth_store_parts::history::{
+    Places, RankedPlaces, first_after, inactivity_floor_by, is_batch_behind,
+};
 use merkle_forest::Family;
 use state_ops::{FixedKey, FixedValue, Operation, OrderedOperation};
 use std::alloc::{AllocError, Global};
@@ -68,29 +71,32 @@ pub fn places_of_log<F: Family, K: FixedKey, V: FixedValue>(
         (λ places. (said ≡ spec.log_of (spec.history_of said)) × (places ≡ places_of said))) }
 {
     one_commit_a_batch();
-    let [first, behind @ ..] = operations else {
+    first_after_a_batch();
+    let [beginning, behind @ ..] = operations else {
         return Ok(None);
     };
-    if !is_beginning(first) {
+    if !is_beginning(beginning) {
         return Ok(None);
     }
-    let mut places = Places::new(alloc);
+    let mut ranked = RankedPlaces::of(alloc, operations)?;
+    let mut first: Option<&K> = None;
     let mut floor = 0u64;
     let mut rest = behind;
     while let Some((batch, recorded, later)) = next_batch(rest) {
         let start = operations.len() - rest.len();
-        if !is_batch_behind(alloc, &operations[..start], &places, batch)? {
+        if !is_batch_behind(alloc, &operations[..start], first, &ranked, batch)? {
             return Ok(None);
         }
-        places.follow_all(start, batch)?;
-        floor = inactivity_floor_by(&operations[..start + batch.len()], &places, floor);
+        first = first_after(first, batch);
+        ranked.follow_all(start, batch);
+        floor = inactivity_floor_by(&operations[..start + batch.len()], &ranked, floor);
         if floor != recorded {
             return Ok(None);
         }
         rest = later;
     }
     if rest.is_empty() {
-        return Ok(Some(places));
+        return Ok(Some(ranked.into_places()?));
     }
     Ok(None)
 }

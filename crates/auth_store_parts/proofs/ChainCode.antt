@@ -18,20 +18,6 @@ pub some_case : {X : Type 0} (A : Type 0) (B : X → Type 0) (o : Option X) (x :
 some_case A B None x match is = absurd (cc)
 some_case A B (Some y) x match is = subst B (ap (λ (o : Option _). unwrap_or o x) is) match
 
-pub never : false ≡ true → ⊥
-never e = absurd (cc)
-
--- the first key of the entries of a map of the code
-pub first_of-entries : {K V : Type 0} (key : K → List ℕ) (value : V → List ℕ) (es : List (K × V)) (e : K × V)
-    → slice_get es 0 ≡ Some e → Some (key e.0) ≡ first_of (state_of key value es)
-first_of-entries key value [] e is = absurd (cc)
-first_of-entries key value (f ∷ es) e is = ap (λ (o : Option _). Some (key (unwrap_or o f).0)) (sym is)
-
-pub first_of-none : {K V : Type 0} (key : K → List ℕ) (value : V → List ℕ) (es : List (K × V)) → (0 < length es → ⊥)
-    → None ≡ first_of (state_of key value es)
-first_of-none key value [] none = refl
-first_of-none key value (e ∷ es) none = absurd (none (omega arith))
-
 -- the last operation of a batch
 pub first_after-last : {A : Type 0} (meaning : A → Operation) (first : Pointer) (xs : List A) (x : A)
     → slice_get xs (length xs - 1) ≡ Some x → first_after first (map meaning xs) ≡ first_by first (meaning x)
@@ -66,7 +52,7 @@ none_placed q log places are none =
     none_there None is = refl
     none_there (Some op) is = absurd (cc)
 
-get-map : {A : Type 0} (meaning : A → Operation) (xs : List A) (n : ℕ)
+pub get-map : {A : Type 0} (meaning : A → Operation) (xs : List A) (n : ℕ)
     → slice_get (map meaning xs) n ≡ option_map meaning (slice_get xs n)
 get-map meaning [] n = refl
 get-map meaning (x ∷ xs) zero = refl

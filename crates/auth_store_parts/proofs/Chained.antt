@@ -9,8 +9,8 @@ use Rattle.auth_store_parts.specs.Map.{Map, value_at, next_key}
 use Rattle.auth_store_parts.specs.History.{IsState, is_kept, deletes, updates, batch_operations, replayed, log_of, history_of, latest_map}
 use Rattle.auth_store_parts.specs.Places.{places_of}
 use Rattle.auth_store_parts.specs.Chains.{Pointer, first_of, first_after, deletes_in_front, walk, is_walk}
-use Rattle.auth_store_parts.specs.Laws.Logs.{IsState-latest_map, IsState-replayed, AreStates-history_of}
-use Rattle.auth_store_parts.proofs.Firsts.{first_placed}
+use Rattle.auth_store_parts.specs.Laws.Logs.{IsState-latest_map, IsState-replayed, AreStates-history_of, replayed-append, replayed-log_of}
+use Rattle.auth_store_parts.proofs.Firsts.{first_placed, first_alike, placed_alike, IsState-placed}
 use Rattle.auth_store_parts.proofs.ChainLeads.{walk_leads}
 use Rattle.auth_store_parts.proofs.LedChains.{led_walk}
 use Rattle.auth_store_parts.proofs.ChainFirsts.{walk_first}
@@ -35,6 +35,29 @@ no_delete (e ∷ entries) old new =
       | false ↦ refl
     ]
 
+-- the first key that a batch leads to is told by its last operation
+pub first_led : (old : Map) (said : List Operation) → IsState old → said ≡ batch_operations old (replayed old said)
+    → first_of (replayed old said) ≡ first_after (first_of old) said
+first_led old said h leads =
+    let new : Map = replayed old said in
+    let walked = led_walk old new h (IsState-replayed old said h) in
+    walk_first old (first_of new) (updates new old new) (deletes old new) walked ∙ ap (first_after (first_of old)) (sym leads)
+
+-- and so it is behind a log
+pub first_behind : (log said : List Operation) → log ≡ log_of (history_of log)
+    → said ≡ batch_operations (latest_map (history_of log)) (replayed (latest_map (history_of log)) said)
+    → first_of (places_of (log ++ said)) ≡ first_after (first_of (places_of log)) said
+first_behind log said whole leads =
+    let old : Map = latest_map (history_of log) in
+    let is : replayed [] log ≡ old =
+    ap (replayed []) whole ∙ replayed-log_of (history_of log) (AreStates-history_of log) in
+    let state : IsState old = IsState-latest_map (history_of log) (AreStates-history_of log) in
+    first_alike (places_of (log ++ said)) (replayed [] (log ++ said)) (IsState-placed 0 [] (log ++ said) tt)
+    (IsState-replayed [] (log ++ said) tt) (placed_alike 0 [] [] (log ++ said) tt tt (λ q. refl))
+    ∙ ap first_of (replayed-append [] log said ∙ ap (λ s. replayed s said) is)
+    ∙ first_led old said state leads
+    ∙ ap (λ f. first_after f said) (sym (first_placed log whole))
+
 -- a batch passes the walk over its deletes and its updates, with the first key that its last operation tells, exactly
 -- where it is what leads on from the state
 pub decides_chain : (old : Map) (said : List Operation) → IsState old → (n : ℕ) → n ≡ deletes_in_front said → (passes : Bool)
@@ -53,8 +76,7 @@ decides_chain old said h n at passes is = (
       let gone : take n said ≡ D = ap (λ m. take m said) long ∙ ap (take (length D)) leads ∙ take-append_seam D U in
       let came : drop n said ≡ U = ap (λ m. drop m said) long ∙ ap (drop (length D)) leads ∙ drop-append_seam D U in
       let walked = led_walk old new h (IsState-replayed old said h) in
-      let first : first_of new ≡ first_after (first_of old) said =
-      walk_first old (first_of new) U D walked ∙ ap (first_after (first_of old)) (sym leads) in
+      let first : first_of new ≡ first_after (first_of old) said = first_led old said h leads in
       is ∙ ap (λ f. is_walk old f (drop n said) (take n said)) (sym first)
       ∙ ap (λ l. is_walk old (first_of new) l (take n said)) came
       ∙ ap (is_walk old (first_of new) U) gone ∙ walked,

@@ -69,7 +69,7 @@ placed_alike start places state (update (ordered k v n) ∷ later) h_p h_s alike
 placed_alike start places state (commit_floor m f ∷ later) h_p h_s alike =
     placed_alike (start + 1) places state later h_p h_s alike
 
-IsState-placed : (start : ℕ) (places : Map) (operations : List Operation) → IsState places
+pub IsState-placed : (start : ℕ) (places : Map) (operations : List Operation) → IsState places
     → IsState (placed start places operations)
 IsState-placed start places [] h = h
 IsState-placed start places (delete k ∷ later) h =

@@ -4,6 +4,7 @@ pub mod Batches
 pub mod Firsts
 pub mod Pointers
 pub mod ChainCode
+pub mod NamedParts
 pub mod ChainLeads
 pub mod LedChains
 pub mod ChainFirsts
@@ -11,6 +12,8 @@ pub mod Chained
 pub mod Many
 pub mod Mapped
 pub mod Runs
+pub mod Ranks
+pub mod Named
 pub mod Numbers
 pub mod Lines
 pub mod Spellings

@@ -4,19 +4,19 @@ use Rattle.std.specs.declared.cmp.Ordering.{Ordering}
 use Rattle.std.specs.Option.{option_or}
 use Rattle.std.specs.Cmp.{IsTotalOrder, eq_by_cmp_equiv}
 use Rattle.std.specs.Ordering.{eq_by_cmp}
-use Rattle.std.specs.Map.{lookup, update, update_all}
+use Rattle.std.specs.Map.{lookup, update, update_all, keys_of}
 use Rattle.std.specs.BTreeMap.{BTreeMap, insert_entry, is_at, get, keys, IsOrdered, InsertsAll, IsFromIterResult}
 use Rattle.std.specs.FinMap.Entries.{same_entries}
 use Rattle.std.proofs.lemmas.Bool.{cases_Bool}
 use Rattle.std.proofs.lemmas.Cmp.{nat_list_cmp_total}
 use Rattle.std.proofs.lemmas.Map.Keys.{IsDistinct-from_sorted}
 use Rattle.std.proofs.lemmas.Map.Lookups.{exact_bytes}
-use Rattle.std.proofs.lemmas.Map.Made.{update_all_distinct}
+use Rattle.std.proofs.lemmas.Map.Made.{update_all_distinct, update_all_none}
 use Rattle.auth_store_parts.specs.Map.{Map, state_of, with_entry, value_at, key_order}
 use Rattle.auth_store_parts.specs.History.{IsState}
 use Rattle.auth_store_parts.specs.Laws.Lookups.{same, exact, value_at-find, IsState-with_entry, lookup-insert_entry}
 use Rattle.auth_store_parts.proofs.Entries.{state_of-insert_entry, value_at-state_of}
-use Rattle.auth_store_parts.proofs.Neighbours.{state_sorted}
+use Rattle.auth_store_parts.proofs.Neighbours.{state_sorted, sorted_state}
 
 -- the state after all entries, put in one after the other
 abbrev pub with_all : Map → List (List ℕ × List ℕ) → Map
@@ -110,3 +110,12 @@ module _ {K V : Type 0} (key : K → List ℕ) (value : V → List ℕ) (cmp : K
       ∙ (ap (λ o. option_or o (get cmp m q)) (from.0 q)
       ∙ sym (updates_alike (λ x f g. f ≡ option_or g (get cmp m x)) (λ _ _. refl) same (get cmp m) (λ _. None)
       (λ _. refl) pairs q))))
+
+  -- a map that is made of ascending pairs stands for them
+  pub state_of-made : (pairs : List (K × V)) (made : BTreeMap K V) → IsState (state_of key value pairs)
+      → IsFromIterResult cmp pairs made → state_of key value made.entries ≡ state_of key value pairs
+  state_of-made pairs made is from =
+      one_state made.entries pairs (state_sorted key value cmp ordered made.entries from.1) is
+      (λ q. from.0 q
+      ∙ update_all_none (eq_by_cmp_equiv total) (eq_by_cmp cmp) (λ _ _. refl) pairs q
+      (IsDistinct-from_sorted cmp (keys_of pairs) (sorted_state key value cmp ordered pairs is)))

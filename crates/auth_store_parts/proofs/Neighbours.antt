@@ -45,6 +45,33 @@ state_sorted key value cmp ordered [] sorted = tt
 state_sorted key value cmp ordered (e ∷ es) sorted =
     both _ _ (all_below key value cmp ordered e.0 es sorted.0) (state_sorted key value cmp ordered es sorted.1)
 
+less : (o : Ordering) → T (is_lt o) → o ≡ Less
+less Less t = refl
+less Equal t = absurd t
+less Greater t = absurd t
+
+each_above : {K V : Type 0} (key : K → List ℕ) (value : V → List ℕ) (cmp : K → K → Ordering)
+    → ((a b : K) → cmp a b ≡ key_order (key a) (key b))
+    → (k : K) (es : List (K × V)) → T (below_all key_order (key k) (state_of key value es))
+    → AllByRecursion (λ y. cmp k y ≡ Less) (keys_of es)
+each_above key value cmp ordered k [] below = tt
+each_above key value cmp ordered k (e ∷ es) below = (
+  ordered k e.0 ∙ less _ (first _ _ below),
+  each_above key value cmp ordered k es (second (is_lt (key_order (key k) (key e.0))) _ below),
+)
+
+-- entries that are a state ascend in the code
+pub sorted_state : {K V : Type 0} (key : K → List ℕ) (value : V → List ℕ) (cmp : K → K → Ordering)
+    → ((a b : K) → cmp a b ≡ key_order (key a) (key b))
+    → (es : List (K × V)) → IsState (state_of key value es) → IsStrictlySortedBy cmp (keys_of es)
+unfolding IsStrictlySortedBy
+sorted_state key value cmp ordered [] is = tt
+sorted_state key value cmp ordered (e ∷ es) is = (
+  each_above key value cmp ordered e.0 es (first _ _ is),
+  sorted_state key value cmp ordered es
+      (second (below_all key_order (key e.0) (state_of key value es)) _ is),
+)
+
 above_all : (k : List ℕ) (s : Map) → T (below_all key_order k s) → above s k ≡ s
 above_all k [] below = refl
 above_all k (e ∷ s) below =

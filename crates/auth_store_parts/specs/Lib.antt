@@ -2,6 +2,7 @@ pub mod Map
 pub mod Batch
 pub mod History
 pub mod Places
+pub mod Ranked
 pub mod Chains
 pub mod Script
 pub mod Line

@@ -25,13 +25,13 @@ updates_in_front (delete key ∷ later) = 0
 updates_in_front (update (ordered key value next) ∷ later) = updates_in_front later + 1
 updates_in_front (commit_floor metadata floor ∷ later) = 0
 
--- the key of an update with its place; of another operation nothing
+-- the key that an operation names with its location; of a commit nothing
 abbrev pub located_key : ℕ → Operation → List (List ℕ × List ℕ)
-located_key location (delete key) = []
+located_key location (delete key) = (key, location ∷ []) ∷ []
 located_key location (update (ordered key value next)) = (key, location ∷ []) ∷ []
 located_key location (commit_floor metadata floor) = []
 
--- the key of each update with its place, in the order of the operations, the first of which stands at `start`
+-- the key that each operation names with its location, in the order of the operations, the first of which stands at `start`
 abbrev pub located_keys : ℕ → List Operation → List (List ℕ × List ℕ)
 located_keys start [] = []
 located_keys start (operation ∷ later) = located_key start operation ++ located_keys (start + 1) later

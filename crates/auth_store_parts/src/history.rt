@@ -5,10 +5,12 @@ pub mod chain;
 pub mod changes;
 pub mod laws;
 pub mod places;
+pub mod ranked;
 pub mod replay;
 
 pub use activity::{activity_bits, inactivity_floor, inactivity_floor_by, inactivity_floor_from};
-pub use chain::is_batch_behind;
+pub use chain::{first_after, is_batch_behind};
 pub use changes::{batch_operations, changes_of};
 pub use places::Places;
+pub use ranked::RankedPlaces;
 pub use replay::latest_map_of;

@@ -14,7 +14,7 @@ use Rattle.auth_store_parts.specs.Batch as batch
 use Rattle.auth_store_parts.specs.Batch.{Word, map_after}
 use Rattle.auth_store_parts.specs.Laws.Lookups.{same, exact, value_at-find, none_later, IsState-tail, IsState-with_entry, IsState-without_key, value_at-with_entry, value_at-without_key}
 
-replayed-append : (s : Map) (xs ys : List Operation) → replayed s (xs ++ ys) ≡ replayed (replayed s xs) ys
+pub replayed-append : (s : Map) (xs ys : List Operation) → replayed s (xs ++ ys) ≡ replayed (replayed s xs) ys
 replayed-append s [] ys = refl
 replayed-append s (delete k ∷ xs) ys = replayed-append (without_key s k) xs ys
 replayed-append s (update (ordered k v n) ∷ xs) ys = replayed-append (with_entry s k v) xs ys

@@ -6,8 +6,10 @@ ghost use Rattle.state_ops.specs.Operation as meaning;
 ghost use Rattle.state_ops.specs.Operation.{meaning_of};
 ghost use Rattle.auth_store_parts.specs.History as spec;
 ghost use Rattle.auth_store_parts.specs.Places.{places_of};
+ghost use Rattle.auth_store_parts.specs.Ranked.{AreNamed};
 
 use super::places::Places;
+use super::ranked::RankedPlaces;
 use merkle_forest::Family;
 use state_ops::{FixedKey, FixedValue, Operation, OrderedOperation};
 use std::alloc::{AllocError, Global};
@@ -120,17 +122,21 @@ pub fn activity_bits<F: Family, K: FixedKey, V: FixedValue>(
 fn is_active_update_at<F: Family, K: FixedKey, V: FixedValue>(
     log: &[OrderedOperation<F, K, V>],
     location: usize,
-    places: &Places<K>,
+    ranked: &RankedPlaces<K>,
 ) -> bool
     requires within { location < length log.now }
-    requires places { places.now ≡ places_of (spec.meanings K.encoding V.encoding log.now) }
+    requires places { ranked.now.places ≡ places_of (spec.meanings K.encoding V.encoding log.now) }
+    requires named { AreNamed ranked.now.names 0 (spec.meanings K.encoding V.encoding log.now) }
     ensures { let said = spec.meanings K.encoding V.encoding log.now in
         (operation : meaning.Operation) → slice_get said location ≡ Some operation
         → result ≡ spec.is_active_update operation (drop (location + 1) said) }
 {
     match &log[location] {
         Operation::Delete(_) => false,
-        Operation::Update(_) => counts_at(log, location, places),
+        Operation::Update(_) => match ranked.get(location) {
+            Some(at) => at == location,
+            None => false,
+        },
         Operation::CommitFloor(_, _) => false,
     }
 }
@@ -140,15 +146,16 @@ fn is_active_update_at<F: Family, K: FixedKey, V: FixedValue>(
 /// before `start` and at none behind the floor.
 pub fn inactivity_floor_by<F: Family, K: FixedKey, V: FixedValue>(
     log: &[OrderedOperation<F, K, V>],
-    places: &Places<K>,
+    ranked: &RankedPlaces<K>,
     start: u64,
 ) -> u64
     requires start { start ≤ spec.inactivity_floor (spec.meanings K.encoding V.encoding log.now) }
-    requires places { places.now ≡ places_of (spec.meanings K.encoding V.encoding log.now) }
+    requires places { ranked.now.places ≡ places_of (spec.meanings K.encoding V.encoding log.now) }
+    requires named { AreNamed ranked.now.names 0 (spec.meanings K.encoding V.encoding log.now) }
     ensures { result ≡ spec.inactivity_floor (spec.meanings K.encoding V.encoding log.now) }
 {
     let mut location = start as usize;
-    while location < log.len() && !is_active_update_at(log, location, places) {
+    while location < log.len() && !is_active_update_at(log, location, ranked) {
         location += 1;
     }
     location as u64

@@ -1,4 +1,4 @@
-//! Whether operations are the batch that goes on behind a log, told by the places of its keys alone.
+//! Whether operations are the batch that goes on behind a log, told by the places of its keys and by its first key.
 //!
 //! Each update names its next key, so that the updates that count are a chain. A batch takes links out of it and puts
 //! others in. Its keys are walked over in ascending order, with a pointer on the old chain and one on the new: where a
@@ -14,16 +14,18 @@
 //!
 //! So no key is looked at that the batch does not name, and no map is made.
 
-ghost use Rattle.std.specs.Prelude.{◌≡◌, ◌&&◌, false, option_map, IfOk, MatchOption};
+ghost use Rattle.std.specs.Prelude.{◌≡◌, ◌+◌, ◌-◌, ◌<◌, ◌≤◌, ◌^◌, ◌&&◌, ℕ, List, Some, false, length, option_map, slice_get};
+ghost use Rattle.std.specs.Prelude.{IfOk, IfSome, MatchOption};
 ghost use Rattle.std.specs.Bool.{Decides};
 ghost use Rattle.std.specs.Str.{bytes_eq};
 ghost use Rattle.auth_store_parts.specs.Chains as chains;
-ghost use Rattle.auth_store_parts.specs.Chains.{Pointer};
+ghost use Rattle.auth_store_parts.specs.Chains.{Pointer, first_of};
 ghost use Rattle.auth_store_parts.specs.History as spec;
 ghost use Rattle.auth_store_parts.specs.Places.{places_of};
+ghost use Rattle.auth_store_parts.specs.Ranked.{AreNamed};
 
 use super::changes::is_same_value;
-use super::places::Places;
+use super::ranked::RankedPlaces;
 use merkle_forest::Family;
 use state_ops::{FixedKey, FixedValue, Operation, OrderedOperation, OrderedUpdate};
 use std::alloc::{AllocError, Global};
@@ -95,7 +97,7 @@ fn is_end<K: FixedKey>(
 
 /// Whether an update has this value and this next key. It fails only when out of memory.
 fn says_the_same<K: FixedKey, V: FixedValue>(
-    alloc: Global,
+    room: &mut Vec<u8>,
     update: &OrderedUpdate<K, V>,
     other: &OrderedUpdate<K, V>,
 ) -> Result<bool, AllocError>
@@ -105,7 +107,7 @@ fn says_the_same<K: FixedKey, V: FixedValue>(
     if !is_same_key(&update.next_key, &other.next_key) {
         return Ok(false);
     }
-    is_same_value(alloc, &update.value, &other.value)
+    is_same_value(room, &update.value, &other.value)
 }
 
 /// The pointers behind a key that goes, of which this was the update. `None`: it may not go.
@@ -129,7 +131,7 @@ fn over_delete<'a, K: FixedKey, V: FixedValue>(
 /// The pointers behind an update whose key had this one before, where it had any. `None`: it may not be so. It fails only
 /// when out of memory.
 fn over_update<'a, K: FixedKey, V: FixedValue>(
-    alloc: Global,
+    room: &mut Vec<u8>,
     first_new: Option<&K>,
     pointers: Pointers<'a, K>,
     before: Option<&'a OrderedUpdate<K, V>>,
@@ -152,32 +154,33 @@ fn over_update<'a, K: FixedKey, V: FixedValue>(
         }
         return Ok(Some((old, next)));
     };
-    if !is_one(old, new) || is_past(old, &update.key) || says_the_same(alloc, before, update)? {
+    if !is_one(old, new) || is_past(old, &update.key) || says_the_same(room, before, update)? {
         return Ok(None);
     }
     Ok(Some((behind(&update.key, &before.next_key), next)))
 }
 
-/// The update of a key that counts in a log, whose places these are.
+/// The update that counts in a log of the key that an operation at this location names. None: the key isn't there.
 fn update_of<'a, F: Family, K: FixedKey, V: FixedValue>(
     log: &'a [OrderedOperation<F, K, V>],
-    places: &Places<K>,
-    key: &K,
+    ranked: &RankedPlaces<K>,
+    location: usize,
 ) -> Option<&'a OrderedUpdate<K, V>>
-    requires { places.now ≡ places_of (spec.meanings K.encoding V.encoding log.now) }
-    ensures { option_map (λ u. (V.encoding u.now.value, K.encoding u.now.next_key)) result
-        ≡ spec.active_update (K.encoding key.now) (spec.meanings K.encoding V.encoding log.now) }
+    requires { ranked.now.places ≡ places_of (spec.meanings K.encoding V.encoding log.now) }
+    ensures { (key : List ℕ) → slice_get ranked.now.names location ≡ Some (Some key)
+        → option_map (λ u. (V.encoding u.now.value, K.encoding u.now.next_key)) result
+        ≡ spec.active_update key (spec.meanings K.encoding V.encoding log.now) }
 {
-    let location = places.get(key)?;
-    match log.get(location)? {
+    let place = ranked.get(location)?;
+    match log.get(place)? {
         Operation::Delete(_) => None,
         Operation::Update(update) => Some(update),
         Operation::CommitFloor(_, _) => None,
     }
 }
 
-/// The first key after a batch, told by its last operation where the batch is one.
-fn first_after<'a, F: Family, K: FixedKey, V: FixedValue>(
+/// The first key after a batch, told by the first key before it and by its last operation where the batch is one.
+pub fn first_after<'a, F: Family, K: FixedKey, V: FixedValue>(
     first: Option<&'a K>,
     batch: &'a [OrderedOperation<F, K, V>],
 ) -> Option<&'a K>
@@ -213,21 +216,28 @@ fn deletes_in_front<F: Family, K: FixedKey, V: FixedValue>(
     count
 }
 
-/// The pointers behind the deletes of keys below this one, and the deletes that are left. `None`: one may not be so.
+/// The pointers behind the deletes of keys below this one, and the deletes that are left; the first of all stands at
+/// `start`. `None`: one may not be so.
 fn over_deletes_below<'a, F: Family, K: FixedKey, V: FixedValue>(
     log: &'a [OrderedOperation<F, K, V>],
-    places: &Places<K>,
+    ranked: &RankedPlaces<K>,
+    start: usize,
     from: Pointers<'a, K>,
     all: &'a [OrderedOperation<F, K, V>],
     key: &K,
 ) -> Option<(Pointers<'a, K>, &'a [OrderedOperation<F, K, V>])>
     requires whole { let said = spec.meanings K.encoding V.encoding log.now in
         said ≡ spec.log_of (spec.history_of said) }
-    requires places { places.now ≡ places_of (spec.meanings K.encoding V.encoding log.now) }
-    ensures { let old = spec.latest_map (spec.history_of (spec.meanings K.encoding V.encoding log.now)) in
+    requires places { ranked.now.places ≡ places_of (spec.meanings K.encoding V.encoding log.now) }
+    requires room { start + length all.now < 2 ^ 64 }
+    requires named { AreNamed ranked.now.names start (spec.meanings K.encoding V.encoding all.now) }
+    ensures up { let old = spec.latest_map (spec.history_of (spec.meanings K.encoding V.encoding log.now)) in
         chains.LeadsUp K.encoding (spec.meanings K.encoding V.encoding) old (K.encoding key.now)
         (spec.meanings K.encoding V.encoding all.now) (chains.pointer K.encoding from.entry.0)
         (chains.pointer K.encoding from.entry.1) result }
+    ensures left { IfSome result (λ passed. (length passed.1.now ≤ length all.now)
+        × AreNamed ranked.now.names (start + length all.now - length passed.1.now)
+        (spec.meanings K.encoding V.encoding passed.1.now)) }
 {
     let mut pointers = from;
     for (at, operation) in all.iter().enumerate() {
@@ -237,7 +247,7 @@ fn over_deletes_below<'a, F: Family, K: FixedKey, V: FixedValue>(
         if !gone.cmp(key).is_lt() {
             return Some((pointers, &all[at..]));
         }
-        let Some(passed) = over_delete(pointers, update_of(log, places, gone), gone) else {
+        let Some(passed) = over_delete(pointers, update_of(log, ranked, start + at), gone) else {
             return None;
         };
         pointers = passed;
@@ -245,16 +255,19 @@ fn over_deletes_below<'a, F: Family, K: FixedKey, V: FixedValue>(
     Some((pointers, &all[all.len()..]))
 }
 
-/// The pointers behind deletes of keys. `None`: one may not be so.
+/// The pointers behind deletes of keys, the first of which stands at `start`. `None`: one may not be so.
 fn over_deletes<'a, F: Family, K: FixedKey, V: FixedValue>(
     log: &'a [OrderedOperation<F, K, V>],
-    places: &Places<K>,
+    ranked: &RankedPlaces<K>,
+    start: usize,
     from: Pointers<'a, K>,
     deletes: &'a [OrderedOperation<F, K, V>],
 ) -> Option<Pointers<'a, K>>
     requires whole { let said = spec.meanings K.encoding V.encoding log.now in
         said ≡ spec.log_of (spec.history_of said) }
-    requires places { places.now ≡ places_of (spec.meanings K.encoding V.encoding log.now) }
+    requires places { ranked.now.places ≡ places_of (spec.meanings K.encoding V.encoding log.now) }
+    requires room { start + length deletes.now < 2 ^ 64 }
+    requires named { AreNamed ranked.now.names start (spec.meanings K.encoding V.encoding deletes.now) }
     ensures { let old = spec.latest_map (spec.history_of (spec.meanings K.encoding V.encoding log.now)) in
         let said = spec.meanings K.encoding V.encoding deletes.now in
         let p = chains.pointer K.encoding from.entry.0 in
@@ -264,11 +277,11 @@ fn over_deletes<'a, F: Family, K: FixedKey, V: FixedValue>(
         ≡ chains.ends first_old first_new (chains.pointer K.encoding passed.0) (chains.pointer K.encoding passed.1)) }
 {
     let mut pointers = from;
-    for operation in deletes {
+    for (at, operation) in deletes.iter().enumerate() {
         let Operation::Delete(gone) = operation else {
             return None;
         };
-        let Some(passed) = over_delete(pointers, update_of(log, places, gone), gone) else {
+        let Some(passed) = over_delete(pointers, update_of(log, ranked, start + at), gone) else {
             return None;
         };
         pointers = passed;
@@ -276,43 +289,79 @@ fn over_deletes<'a, F: Family, K: FixedKey, V: FixedValue>(
     Some(pointers)
 }
 
-/// Whether operations are the batch that leads from the state of a log, whose places these are, to the state that they
-/// lead to: deletes and updates in ascending order, of each key that changes or whose next key does, and of no other. It
-/// fails only when out of memory.
-pub fn is_batch_behind<F: Family, K: FixedKey, V: FixedValue>(
-    alloc: Global,
+/// Whether operations are the batch behind a log, as `is_batch_behind` says it. Values are compared in this room.
+fn is_behind<F: Family, K: FixedKey, V: FixedValue>(
+    room: &mut Vec<u8>,
     log: &[OrderedOperation<F, K, V>],
-    places: &Places<K>,
+    first: Option<&K>,
+    ranked: &RankedPlaces<K>,
     batch: &[OrderedOperation<F, K, V>],
 ) -> Result<bool, AllocError>
     requires whole { let said = spec.meanings K.encoding V.encoding log.now in
         said ≡ spec.log_of (spec.history_of said) }
-    requires places { places.now ≡ places_of (spec.meanings K.encoding V.encoding log.now) }
+    requires first { chains.pointer K.encoding first
+        ≡ first_of (places_of (spec.meanings K.encoding V.encoding log.now)) }
+    requires places { ranked.now.places ≡ places_of (spec.meanings K.encoding V.encoding log.now) }
+    requires room { length log.now + length batch.now < 2 ^ 64 }
+    requires named { AreNamed ranked.now.names (length log.now) (spec.meanings K.encoding V.encoding batch.now) }
     ensures { let old = spec.latest_map (spec.history_of (spec.meanings K.encoding V.encoding log.now)) in
         let said = spec.meanings K.encoding V.encoding batch.now in
         IfOk result (λ is. Decides is (said ≡ spec.batch_operations old (spec.replayed old said))) }
 {
-    let first_old = places.first();
-    let first_new = first_after(first_old, batch);
+    let first_new = first_after(first, batch);
     let (mut deletes, updates) = batch.split_at(deletes_in_front(batch));
-    let mut pointers = (first_old, first_new);
-    for operation in updates {
+    let behind_deletes = log.len() + deletes.len();
+    let mut pointers = (first, first_new);
+    for (at, operation) in updates.iter().enumerate() {
         let Operation::Update(update) = operation else {
             return Ok(false);
         };
-        let Some((below, left)) = over_deletes_below(log, places, pointers, deletes, &update.key)
-        else {
+        let start = behind_deletes - deletes.len();
+        let Some((below, left)) = over_deletes_below(
+            log,
+            ranked,
+            start,
+            pointers,
+            deletes,
+            &update.key,
+        ) else {
             return Ok(false);
         };
-        let before = update_of(log, places, &update.key);
-        let Some(passed) = over_update(alloc, first_new, below, before, update)? else {
+        let before = update_of(log, ranked, behind_deletes + at);
+        let Some(passed) = over_update(room, first_new, below, before, update)? else {
             return Ok(false);
         };
         pointers = passed;
         deletes = left;
     }
-    match over_deletes(log, places, pointers, deletes) {
+    let start = behind_deletes - deletes.len();
+    match over_deletes(log, ranked, start, pointers, deletes) {
         None => Ok(false),
-        Some(passed) => Ok(is_end(first_old, first_new, passed)),
+        Some(passed) => Ok(is_end(first, first_new, passed)),
     }
+}
+
+/// Whether operations are the batch that leads from the state of a log, with these places and this first key, to the state
+/// that they lead to: deletes and updates in ascending order, of each key that changes or whose next key does, and of no
+/// other. They stand right behind the log. It fails only when out of memory.
+pub fn is_batch_behind<F: Family, K: FixedKey, V: FixedValue>(
+    alloc: Global,
+    log: &[OrderedOperation<F, K, V>],
+    first: Option<&K>,
+    ranked: &RankedPlaces<K>,
+    batch: &[OrderedOperation<F, K, V>],
+) -> Result<bool, AllocError>
+    requires whole { let said = spec.meanings K.encoding V.encoding log.now in
+        said ≡ spec.log_of (spec.history_of said) }
+    requires first { chains.pointer K.encoding first
+        ≡ first_of (places_of (spec.meanings K.encoding V.encoding log.now)) }
+    requires places { ranked.now.places ≡ places_of (spec.meanings K.encoding V.encoding log.now) }
+    requires room { length log.now + length batch.now < 2 ^ 64 }
+    requires named { AreNamed ranked.now.names (length log.now) (spec.meanings K.encoding V.encoding batch.now) }
+    ensures { let old = spec.latest_map (spec.history_of (spec.meanings K.encoding V.encoding log.now)) in
+        let said = spec.meanings K.encoding V.encoding batch.now in
+        IfOk result (λ is. Decides is (said ≡ spec.batch_operations old (spec.replayed old said))) }
+{
+    let mut room = Vec::new(alloc);
+    is_behind(&mut room, log, first, ranked, batch)
 }

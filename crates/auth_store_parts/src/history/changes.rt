@@ -11,23 +11,27 @@ use super::replay::latest_map_of;
 use crate::batch::{Batch, apply_batch};
 use crate::state;
 use merkle_forest::Family;
-use merkle_forest::codec::Encode;
+use merkle_forest::codec::Write;
 use state_ops::update::Ordered;
 use state_ops::{FixedKey, FixedValue, Operation, OrderedOperation};
 use std::alloc::{AllocError, Global};
 use std::collections::BTreeMap;
 
-/// Whether two values have one encoding. It fails only when out of memory.
+/// Whether two values have one encoding. They are written into `room`, whose bytes are of no use before or after. It fails
+/// only when out of memory.
 pub(super) fn is_same_value<V: FixedValue>(
-    alloc: Global,
+    room: &mut Vec<u8>,
     value: &V,
     other: &V,
 ) -> Result<bool, AllocError>
     ensures { IfOk result (λ same. same ≡ bytes_eq (V.encoding value.now) (V.encoding other.now)) }
 {
-    let left = value.encode(alloc)?;
-    let right = other.encode(alloc)?;
-    Ok(left.as_slice() == right.as_slice())
+    room.clear();
+    value.write(room)?;
+    let middle = room.len();
+    other.write(room)?;
+    let (left, right) = room.split_at(middle);
+    Ok(left == right)
 }
 
 /// The least key above the key, or the least of all where none is above.
@@ -49,7 +53,7 @@ fn is_next<K: FixedKey, V: FixedValue>(state: &BTreeMap<K, V>, key: &K, next: &K
 
 /// Whether the state has the key with this value and this next key. It fails only when out of memory.
 fn has_fields<K: FixedKey, V: FixedValue>(
-    alloc: Global,
+    room: &mut Vec<u8>,
     state: &BTreeMap<K, V>,
     key: &K,
     value: &V,
@@ -60,7 +64,7 @@ fn has_fields<K: FixedKey, V: FixedValue>(
 {
     match state::get(state, key) {
         None => Ok(false),
-        Some(before) => Ok(is_same_value(alloc, before, value)? && is_next(state, key, next)),
+        Some(before) => Ok(is_same_value(room, before, value)? && is_next(state, key, next)),
     }
 }
 
@@ -83,7 +87,7 @@ fn push_delete<F: Family, K: FixedKey, V: FixedValue>(
 /// Appends an update of the key to this value and this next key, where the old state does not have it so. It fails only
 /// when out of memory.
 fn push_update<F: Family, K: FixedKey, V: FixedValue>(
-    alloc: Global,
+    room: &mut Vec<u8>,
     old: &BTreeMap<K, V>,
     key: &K,
     value: &V,
@@ -95,7 +99,7 @@ fn push_update<F: Family, K: FixedKey, V: FixedValue>(
         ++ spec.update_to (state_of K.encoding V.encoding old.now.entries)
         (K.encoding key.now) (V.encoding value.now) (K.encoding next.now)) }
 {
-    if has_fields(alloc, old, key, value, next)? {
+    if has_fields(room, old, key, value, next)? {
         return Ok(());
     }
     let update = Ordered {
@@ -141,12 +145,13 @@ fn push_updates<F: Family, K: FixedKey, V: FixedValue>(
         return Ok(());
     };
     let mut key = first;
+    let mut room = Vec::new(alloc);
     for (next, later) in entries {
-        push_update(alloc, old, key, value, next, out)?;
+        push_update(&mut room, old, key, value, next, out)?;
         key = next;
         value = later;
     }
-    push_update(alloc, old, key, value, first, out)
+    push_update(&mut room, old, key, value, first, out)
 }
 
 /// The operations that lead from the old state to the new one, without the commit. It fails only when out of memory.

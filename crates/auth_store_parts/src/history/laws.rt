@@ -1,9 +1,12 @@
 //! What holds of all histories and their logs.
 
-ghost use Rattle.std.specs.Prelude.{◌≡◌, ◌+◌, ℕ, List, [], length, Some, None, true, false};
+ghost use Rattle.std.specs.Prelude.{◌≡◌, ◌+◌, ◌++◌, ℕ, List, [], length, Some, None, true, false};
 ghost use Rattle.std.specs.List.{filter, list_any};
+ghost use Rattle.state_ops.specs.Operation.{Operation};
 ghost use Rattle.auth_store_parts.specs.Map.{Map, value_at};
 ghost use Rattle.auth_store_parts.specs.Batch.{Word, map_after};
+ghost use Rattle.auth_store_parts.specs.Chains.{first_of, first_after};
+ghost use Rattle.auth_store_parts.specs.Places.{places_of};
 ghost use Rattle.auth_store_parts.specs.History.{History, IsState, AreStates, history_of, latest_map, log_of, batch_operations, replayed, has_key, is_commit, is_kept};
 
 /// A batch leads from a state to a state.
@@ -35,4 +38,11 @@ pub fn kept_keys_get_no_operation()
         → list_any (has_key key) (batch_operations old new) ≡ false }
     ensures absent { (old new : Map) (key : List ℕ) → value_at old key ≡ None → value_at new key ≡ None
         → list_any (has_key key) (batch_operations old new) ≡ false }
+{}
+
+/// Behind a log the first key after a batch is told by the first key before it and by the batch.
+pub fn first_after_a_batch()
+    ensures { (log said : List Operation) → log ≡ log_of (history_of log)
+        → said ≡ batch_operations (latest_map (history_of log)) (replayed (latest_map (history_of log)) said)
+        → first_of (places_of (log ++ said)) ≡ first_after (first_of (places_of log)) said }
 {}

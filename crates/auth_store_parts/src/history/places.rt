@@ -13,7 +13,6 @@ ghost use Rattle.std.specs.BTreeMap.{IsFromIterResult};
 ghost use Rattle.state_ops.specs.Operation.{meaning_of};
 ghost use Rattle.auth_store_parts.specs.History as spec;
 ghost use Rattle.auth_store_parts.specs.Map.{state_of, value_at};
-ghost use Rattle.auth_store_parts.specs.Chains.{first_of};
 ghost use Rattle.auth_store_parts.specs.Places.{after_place, placed, places_of, updates_in_front, located_key, located_keys};
 
 use merkle_forest::Family;
@@ -45,8 +44,8 @@ fn updates_in_front<F: Family, K: FixedKey, V: FixedValue>(
     count
 }
 
-/// Appends the key of an update that stands at this location, with the location; for another operation nothing. It
-/// fails only when out of memory.
+/// Appends the key that an operation at this location names, with the location; for a commit nothing. It fails only when
+/// out of memory.
 fn push_located_key<F: Family, K: FixedKey, V: FixedValue>(
     location: usize,
     operation: &OrderedOperation<F, K, V>,
@@ -57,15 +56,15 @@ fn push_located_key<F: Family, K: FixedKey, V: FixedValue>(
         ++ located_key location (meaning_of K.encoding V.encoding operation.now)) }
 {
     match operation {
-        Operation::Delete(_) => Ok(()),
+        Operation::Delete(key) => Ok(keys.push((key.clone()?, location))?),
         Operation::Update(update) => Ok(keys.push((update.key.clone()?, location))?),
         Operation::CommitFloor(_, _) => Ok(()),
     }
 }
 
-/// The key of each update among operations with its location, where the first operation stands at `start`. It fails
+/// The key that each of these operations names with its location, where the first operation stands at `start`. It fails
 /// only when out of memory.
-fn located_keys<F: Family, K: FixedKey, V: FixedValue>(
+pub(super) fn located_keys<F: Family, K: FixedKey, V: FixedValue>(
     alloc: Global,
     start: usize,
     operations: &[OrderedOperation<F, K, V>],
@@ -116,6 +115,19 @@ impl<K: FixedKey> Places<K> {
             alloc,
             locations: BTreeMap::new(alloc),
         }
+    }
+
+    /// The places that are listed, in ascending order of keys. It fails only when out of memory.
+    pub(super) fn of_located(
+        alloc: Global,
+        located: Vec<(K, usize)>,
+    ) -> Result<Places<K>, AllocError>
+        requires { spec.IsState (state_of K.encoding (λ location. location ∷ []) located.items) }
+        ensures { IfOk result (λ places. places
+            ≡ state_of K.encoding (λ location. location ∷ []) located.items) }
+    {
+        let locations = map_of(alloc, located)?;
+        Ok(Places { alloc, locations })
     }
 
     /// The same places. It fails only when out of memory.
@@ -230,16 +242,6 @@ impl<K: FixedKey> Places<K> {
         let mut places = Places::new(alloc);
         places.follow_all(0, log)?;
         Ok(places)
-    }
-
-    /// The least key that has a place. None: no key has one.
-    pub fn first(&self) -> Option<&K>
-        ensures { option_map (λ key. K.encoding key.now) result ≡ first_of self.now }
-    {
-        match self.locations.first_key_value() {
-            Some((key, _)) => Some(key),
-            None => None,
-        }
     }
 
     /// Where the update stands that gives the key its value. None: the key isn't there.

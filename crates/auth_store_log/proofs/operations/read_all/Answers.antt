@@ -13,7 +13,7 @@ returns-in_err-operation-clause-corrupt g c =
     let key = g.K.Write.encoding in
     let value = g.V.Write.encoding in
     let format = format_of (g.K.Read.after tt) (g.V.Read.after tt) g.K.FixedSize.SIZE g.V.FixedSize.SIZE in
-    let p = err_from_is_err_and c.from_residual.result c.from_residual.ensures.1 in
+    let p = err_from_is_err_and c.from_residual-in_err-operation.result c.from_residual-in_err-operation.ensures.1 in
     subst (λ r. IfErr r (λ e. e ≡ Corrupt → IsNoLog format c.args.bytes.now)) (sym p.1) (λ is log are same.
     refuted format (meanings key value c.loop-cursor.log.items) log c.loop-cursor.cursor c.loop-cursor.invariant.recorded are
     (same ∙ c.loop-cursor.invariant.bytes) (λ none. let yes : false ≡ true = c.loop-cursor-test.ensures.1 none in absurd (cc))

@@ -6,11 +6,14 @@ use Rattle.state_ops.specs.Operation.{Operation, meaning_of, commit_floor}
 use Rattle.auth_store_parts.specs.Map.{Map}
 use Rattle.auth_store_parts.specs.History as spec
 use Rattle.auth_store_parts.specs.Places.{placed, places_of}
+use Rattle.auth_store_parts.specs.Chains.{first_of, first_after}
+use Rattle.auth_store_parts.specs.Ranked.{AreNamed}
 use Rattle.auth_store_parts.specs.Laws.Floors.{floor_rises}
 use Rattle.auth_store_parts.specs.Laws.Logs.{history_of-log_of, IsState-latest_map, IsState-replayed}
 use Rattle.auth_store_parts.specs.Laws.Places.{places_of-append}
 use Rattle.auth_store_log.specs.Batches.{IsNextBatch}
 use Rattle.auth_store_log.proofs.Batches.{IsReached, FollowsRule, cut_at, reached_first, reached_next, reached_end, first_of_log, goes_on_from, so_far, rule_followed, rule_goes_on, nothing_left, lengths, up_to, shorter, with_batch}
+use Rattle.auth_store_log.proofs.NamedBatches.{named_front, named_batch}
 use Rattle.auth_store_log.proofs.replay.places_of_log.Goals as goal
 
 module _ {A : Type 0} (meaning : A → Operation) (all rest batch : List A) (floor : ℕ) (later : List Operation)
@@ -46,8 +49,8 @@ pub returns-then-not-is_beginning : goal.returns-then-not-is_beginning
 returns-then-not-is_beginning g c = λ is.
     let meaning = meaning_of g.K.Write.encoding g.V.Write.encoding in
     let all = c.args.operations.now in
-    let split = front meaning all c.first-item.result c.in-len1-up.len_at_least c.first-item.is in
-    let begun = first_of_log (meaning c.first-item.result) (map meaning (take (length all - 1) (drop 1 all)))
+    let split = front meaning all c.beginning-item.result c.in-len1-up.len_at_least c.beginning-item.is in
+    let begun = first_of_log (meaning c.beginning-item.result) (map meaning (take (length all - 1) (drop 1 all)))
     (sym split ∙ is ∙ ap (λ s. spec.log_of (spec.history_of s)) split) in
     let yes : true ≡ false = sym (c.is_beginning.ensures.1 begun) ∙ c.if-not-is_beginning.true in
     absurd (cc)
@@ -57,13 +60,15 @@ loop-batch-init g c =
     let meaning = meaning_of g.K.Write.encoding g.V.Write.encoding in
     let all = c.args.operations.now in
     let left : List Operation = map meaning (take (length all - 1) (drop 1 all)) in
-    let split = front meaning all c.first-item.result c.in-len1-up.len_at_least c.first-item.is in (
+    let split = front meaning all c.beginning-item.result c.in-len1-up.len_at_least c.beginning-item.is in (
       [],
       reached_first (map meaning all) left
           (split ∙ ap (λ o. o ∷ left) (c.is_beginning.ensures.0 c.if-not-is_beginning.false)),
-      c.new-places.ensures,
+      c.in_ok-ranked.ensures.none,
       omega arith,
       tt,
+      c.in_ok-ranked.ensures.named,
+      refl,
     )
 
 pub overflow_sub-start : goal.overflow_sub-start
@@ -74,8 +79,8 @@ overflow_sub-start g c =
     here.1 c.in-Some.ensures in
     omega (arith, both)
 
-pub follow_all-requires : goal.follow_all-requires
-follow_all-requires g c =
+pub follow_all-requires-clause-room : goal.follow_all-requires-clause-room
+follow_all-requires-clause-room g c =
     let here = c.loop-batch.invariant in
     let both = long (meaning_of g.K.Write.encoding g.V.Write.encoding) c.args.operations.now c.loop-batch.rest.now
     c.in-Some.batch.now c.in-Some.recorded (spec.meanings g.K.Write.encoding g.V.Write.encoding c.in-Some.later.now) here.0
@@ -116,8 +121,8 @@ inactivity_floor_by-floor-requires-clause-places g c =
     c.in-Some.recorded (spec.meanings key value c.in-Some.later.now) here.0 here.1 c.in-Some.ensures in
     followed (meaning_of key value) c.args.operations.now c.loop-batch.rest.now c.in-Some.batch.now
     c.in-Some.recorded (spec.meanings key value c.in-Some.later.now) here.0 here.1 c.in-Some.ensures
-    (length c.args.operations.now - length c.loop-batch.rest.now) c.loop-batch.places c.follow_all.new.self refl here.2
-    c.in_ok-follow_all.ensures
+    (length c.args.operations.now - length c.loop-batch.rest.now) c.loop-batch.ranked.places c.follow_all.new.self.places refl
+    here.2 (ap (λ r. r.places) c.follow_all.ensures)
     ∙ ap places_of (sym all)
 
 pub returns-then-floor-recorded : goal.returns-then-floor-recorded
@@ -146,6 +151,55 @@ module _ {A : Type 0} (meaning : A → Operation) (all rest : List A) (history :
 pub slice_bounds-is_batch_behind-end : goal.slice_bounds-is_batch_behind-end
 slice_bounds-is_batch_behind-end g c =
     omega (arith, length-take (length c.args.operations.now - length c.loop-batch.rest.now) c.args.operations.now)
+
+pub is_batch_behind-requires-clause-first : goal.is_batch_behind-requires-clause-first
+is_batch_behind-requires-clause-first g c =
+    let meaning = meaning_of g.K.Write.encoding g.V.Write.encoding in
+    let here = c.loop-batch.invariant in
+    here.6 ∙ ap (λ log. first_of (places_of log))
+    (sym (front_is meaning c.args.operations.now c.loop-batch.rest.now here.0 here.1 here.4))
+
+pub is_batch_behind-requires-clause-room : goal.is_batch_behind-requires-clause-room
+is_batch_behind-requires-clause-room g c =
+    let here = c.loop-batch.invariant in
+    let both = long (meaning_of g.K.Write.encoding g.V.Write.encoding) c.args.operations.now c.loop-batch.rest.now
+    c.in-Some.batch.now c.in-Some.recorded (spec.meanings g.K.Write.encoding g.V.Write.encoding c.in-Some.later.now) here.0
+    here.1 c.in-Some.ensures in
+    omega (arith, both, length-take (length c.args.operations.now - length c.loop-batch.rest.now) c.args.operations.now)
+
+pub is_batch_behind-requires-clause-named : goal.is_batch_behind-requires-clause-named
+is_batch_behind-requires-clause-named g c =
+    let key = g.K.Write.encoding in
+    let value = g.V.Write.encoding in
+    let here = c.loop-batch.invariant in
+    let both = long (meaning_of key value) c.args.operations.now c.loop-batch.rest.now c.in-Some.batch.now c.in-Some.recorded
+    (spec.meanings key value c.in-Some.later.now) here.0 here.1 c.in-Some.ensures in
+    named_batch c.loop-batch.ranked.names (spec.meanings key value c.args.operations.now) (spec.log_of here.0)
+    (spec.meanings key value c.in-Some.batch.now)
+    (commit_floor c.in-Some.ensures.metadata c.in-Some.recorded ∷ spec.meanings key value c.in-Some.later.now) _ here.5
+    (here.1.whole ∙ ap (λ l. spec.log_of here.0 ++ l) c.in-Some.ensures.whole)
+    (omega (arith, both, length-take (length c.args.operations.now - length c.loop-batch.rest.now) c.args.operations.now))
+
+pub follow_all-requires-clause-named : goal.follow_all-requires-clause-named
+follow_all-requires-clause-named g c =
+    let key = g.K.Write.encoding in
+    let value = g.V.Write.encoding in
+    let here = c.loop-batch.invariant in
+    let both = long (meaning_of key value) c.args.operations.now c.loop-batch.rest.now c.in-Some.batch.now c.in-Some.recorded
+    (spec.meanings key value c.in-Some.later.now) here.0 here.1 c.in-Some.ensures in
+    named_batch c.loop-batch.ranked.names (spec.meanings key value c.args.operations.now) (spec.log_of here.0)
+    (spec.meanings key value c.in-Some.batch.now)
+    (commit_floor c.in-Some.ensures.metadata c.in-Some.recorded ∷ spec.meanings key value c.in-Some.later.now) _ here.5
+    (here.1.whole ∙ ap (λ l. spec.log_of here.0 ++ l) c.in-Some.ensures.whole)
+    (omega (arith, both))
+
+pub inactivity_floor_by-floor-requires-clause-named : goal.inactivity_floor_by-floor-requires-clause-named
+inactivity_floor_by-floor-requires-clause-named g c =
+    let meaning = meaning_of g.K.Write.encoding g.V.Write.encoding in
+    let here = c.loop-batch.invariant in
+    named_front meaning c.follow_all.new.self.names
+    (length c.args.operations.now - length c.loop-batch.rest.now + length c.in-Some.batch.now) c.args.operations.now
+    (subst (λ n. AreNamed n 0 (map meaning c.args.operations.now)) (sym (ap (λ r. r.names) c.follow_all.ensures)) here.5)
 
 pub is_batch_behind-requires-clause-whole : goal.is_batch_behind-requires-clause-whole
 is_batch_behind-requires-clause-whole g c =
@@ -209,11 +263,18 @@ loop-batch-preserved g c =
       reached_next here.0 said left batch c.in-Some.recorded later here.1 c.in-Some.ensures follows,
       followed (meaning_of key value) c.args.operations.now c.loop-batch.rest.now c.in-Some.batch.now
           c.in-Some.recorded later here.0 here.1 c.in-Some.ensures
-          (length c.args.operations.now - length c.loop-batch.rest.now) c.loop-batch.places c.follow_all.new.self refl here.2
-          c.in_ok-follow_all.ensures
+          (length c.args.operations.now - length c.loop-batch.rest.now) c.loop-batch.ranked.places
+          c.follow_all.new.self.places refl here.2 (ap (λ r. r.places) c.follow_all.ensures)
           ∙ sym (places_of-append (log ++ batch) (commit ∷ [])) ∙ ap places_of longer,
       omega (arith, floor, floor_rises (log ++ batch) (commit ∷ []), ap spec.inactivity_floor longer),
       (IsState-replayed (spec.latest_map here.0) batch (IsState-latest_map here.0 here.4), here.4),
+      subst (λ n. AreNamed n 0 said) (sym (ap (λ r. r.names) c.follow_all.ensures)) here.5,
+      c.first_after-first.ensures ∙ ap (λ f. first_after f batch) here.6
+          ∙ sym (c.first_after_a_batch.ensures log batch
+          (ap spec.log_of (sym (history_of-log_of here.0 here.4)))
+          (subst (λ h. batch ≡ spec.batch_operations (spec.latest_map h) (spec.replayed (spec.latest_map h) batch))
+          (sym (history_of-log_of here.0 here.4)) follows.changes))
+          ∙ ap first_of (sym (places_of-append (log ++ batch) (commit ∷ [])) ∙ ap places_of longer),
     )
 
 pub returns-then-is_empty : goal.returns-then-is_empty
@@ -225,7 +286,7 @@ returns-then-is_empty g c =
     ap (spec.meanings key value) (none_left c.loop-batch.rest.now (sym c.if-is_empty.true ∙ c.is_empty.ensures)) in
     let end = reached_end here.0 (spec.meanings key value c.args.operations.now) (spec.meanings key value c.loop-batch.rest.now)
     here.1 none in
-    (end.1, here.2 ∙ ap places_of (sym end.0))
+    (end.1, c.in_ok-into_places.ensures ∙ here.2 ∙ ap places_of (sym end.0))
 
 pub returns : goal.returns
 returns g c = λ is.

@@ -7,6 +7,8 @@ use Rattle.auth_store_parts.specs.Chains.{Pointer}
 use Rattle.auth_store_parts.specs.History as spec
 use Rattle.auth_store_parts.proofs.ChainCode.{left_at, over_no_delete}
 use Rattle.auth_store_parts.proofs.Firsts.{entry_counts}
+use Rattle.auth_store_parts.specs.Ranked.{named}
+use Rattle.auth_store_parts.proofs.NamedParts.{named_here}
 use Rattle.auth_store_parts.proofs.history.chain.over_deletes.Goals as goal
 
 pub returns-in_default : goal.returns-in_default
@@ -14,63 +16,67 @@ returns-in_default g c = λ first_old first_new.
     let key = g.K.Write.encoding in
     let meaning = meaning_of key g.V.Write.encoding in
     let all = c.args.deletes.now in
-    let i = c.loop-operation.operation-index in
+    let i = c.loop-at.at in
     let old : Map = spec.latest_map (spec.history_of (spec.meanings key g.V.Write.encoding c.args.log.now)) in
-    let p : Pointer = option_map (λ k. key k.now) c.loop-operation.pointers.0 in
-    let q : Pointer = option_map (λ k. key k.now) c.loop-operation.pointers.1 in
-    sym (c.loop-operation.invariant first_old first_new)
+    let p : Pointer = option_map (λ k. key k.now) c.loop-at.pointers.0 in
+    let q : Pointer = option_map (λ k. key k.now) c.loop-at.pointers.1 in
+    sym (c.loop-at.invariant first_old first_new)
     ∙ ap (λ l. chains.over_deletes old first_old first_new l p q)
-    (left_at meaning all i c.operation-item.result c.loop-operation-test.true c.operation-item.is)
+    (left_at meaning all i c.index-deletes-at.result c.loop-at-test.true c.index-deletes-at.is)
     ∙ over_no_delete key g.V.Write.encoding old first_old first_new p q (map meaning (drop (i + 1) all))
-    c.operation-item.result c.in_default.not-Delete
+    c.index-deletes-at.result c.in_default.not-Delete
 
 pub returns-in_default-over_delete : goal.returns-in_default-over_delete
 returns-in_default-over_delete g c = λ first_old first_new.
     let key = g.K.Write.encoding in
     let meaning = meaning_of key g.V.Write.encoding in
     let all = c.args.deletes.now in
-    let i = c.loop-operation.operation-index in
+    let i = c.loop-at.at in
     let log : List Operation = spec.meanings key g.V.Write.encoding c.args.log.now in
     let old : Map = spec.latest_map (spec.history_of log) in
-    let p : Pointer = option_map (λ k. key k.now) c.loop-operation.pointers.0 in
-    let q : Pointer = option_map (λ k. key k.now) c.loop-operation.pointers.1 in
+    let p : Pointer = option_map (λ k. key k.now) c.loop-at.pointers.0 in
+    let q : Pointer = option_map (λ k. key k.now) c.loop-at.pointers.1 in
     let gone : List ℕ = key c.in-Delete.gone in
     let left : List Operation = map meaning (drop (i + 1) all) in
     let go = chains.over_deletes old first_old first_new left in
-    sym (c.loop-operation.invariant first_old first_new)
+    let here = named_here meaning c.args.ranked.now.names c.args.start i all c.index-deletes-at.result gone c.requires.named
+    c.loop-at-test.true c.index-deletes-at.is (ap (λ o. named (meaning o)) c.in-Delete.is) in
+    sym (c.loop-at.invariant first_old first_new)
     ∙ ap (λ l. chains.over_deletes old first_old first_new l p q)
-    (left_at meaning all i c.operation-item.result c.loop-operation-test.true c.operation-item.is
+    (left_at meaning all i c.index-deletes-at.result c.loop-at-test.true c.index-deletes-at.is
     ∙ ap (λ o. meaning o ∷ left) c.in-Delete.is)
-    ∙ ap (λ e. chains.over_delete e gone go p q) (sym (c.update_of.ensures ∙ entry_counts log c.requires.whole gone))
+    ∙ ap (λ e. chains.over_delete e gone go p q) (sym (c.update_of.ensures gone here ∙ entry_counts log c.requires.whole gone))
     ∙ c.in_default-over_delete.ensures go
 
-pub loop-operation-preserved : goal.loop-operation-preserved
-loop-operation-preserved g c = λ first_old first_new.
+pub loop-at-preserved : goal.loop-at-preserved
+loop-at-preserved g c = λ first_old first_new.
     let key = g.K.Write.encoding in
     let meaning = meaning_of key g.V.Write.encoding in
     let all = c.args.deletes.now in
-    let i = c.loop-operation.operation-index in
+    let i = c.loop-at.at in
     let log : List Operation = spec.meanings key g.V.Write.encoding c.args.log.now in
     let old : Map = spec.latest_map (spec.history_of log) in
-    let p : Pointer = option_map (λ k. key k.now) c.loop-operation.pointers.0 in
-    let q : Pointer = option_map (λ k. key k.now) c.loop-operation.pointers.1 in
+    let p : Pointer = option_map (λ k. key k.now) c.loop-at.pointers.0 in
+    let q : Pointer = option_map (λ k. key k.now) c.loop-at.pointers.1 in
     let gone : List ℕ = key c.in-Delete.gone in
     let left : List Operation = map meaning (drop (i + 1) all) in
     let go = chains.over_deletes old first_old first_new left in
+    let here = named_here meaning c.args.ranked.now.names c.args.start i all c.index-deletes-at.result gone c.requires.named
+    c.loop-at-test.true c.index-deletes-at.is (ap (λ o. named (meaning o)) c.in-Delete.is) in
     sym (ap (λ l. chains.over_deletes old first_old first_new l p q)
-    (left_at meaning all i c.operation-item.result c.loop-operation-test.true c.operation-item.is
+    (left_at meaning all i c.index-deletes-at.result c.loop-at-test.true c.index-deletes-at.is
     ∙ ap (λ o. meaning o ∷ left) c.in-Delete.is)
-    ∙ ap (λ e. chains.over_delete e gone go p q) (sym (c.update_of.ensures ∙ entry_counts log c.requires.whole gone))
+    ∙ ap (λ e. chains.over_delete e gone go p q) (sym (c.update_of.ensures gone here ∙ entry_counts log c.requires.whole gone))
     ∙ c.in-Some.ensures go)
-    ∙ c.loop-operation.invariant first_old first_new
+    ∙ c.loop-at.invariant first_old first_new
 
 pub returns : goal.returns
 returns g c = λ first_old first_new.
     let key = g.K.Write.encoding in
     let meaning = meaning_of key g.V.Write.encoding in
     let old : Map = spec.latest_map (spec.history_of (spec.meanings key g.V.Write.encoding c.args.log.now)) in
-    let p : Pointer = option_map (λ k. key k.now) c.loop-operation.pointers.0 in
-    let q : Pointer = option_map (λ k. key k.now) c.loop-operation.pointers.1 in
-    sym (c.loop-operation.invariant first_old first_new)
+    let p : Pointer = option_map (λ k. key k.now) c.loop-at.pointers.0 in
+    let q : Pointer = option_map (λ k. key k.now) c.loop-at.pointers.1 in
+    sym (c.loop-at.invariant first_old first_new)
     ∙ ap (λ l. chains.over_deletes old first_old first_new (map meaning l) p q)
-    (drop_all c.loop-operation.operation-index c.args.deletes.now c.loop-operation-test.false)
+    (drop_all c.loop-at.at c.args.deletes.now c.loop-at-test.false)
