@@ -57,16 +57,15 @@ fn measure_opened<R: Print + Eprint + CpuClock>(
     })
 }
 
-// What openings of a store with so many keys, which came in batches of so many, cost beside reading its log.
+// What openings of a store that is filled so cost beside reading its log.
 fn measure_openings<R: Print + Eprint + CpuClock>(
     rt: &R,
     alloc: Global,
-    keys: u64,
-    batch: u64,
+    filling: Filling,
 ) -> io::Result<()> {
-    println!(rt; "{keys} keys in batches of {batch}")?;
-    eprintln!(rt; "{keys} keys in batches of {batch}")?;
-    let filling = Filling::once(keys, batch);
+    let Filling { keys, batch, times } = filling;
+    println!(rt; "{keys} keys in batches of {batch}, each put {times} times")?;
+    eprintln!(rt; "{keys} keys in batches of {batch}, each put {times} times")?;
     let read = measure_use(
         rt,
         alloc,
@@ -100,6 +99,24 @@ fn measure_openings<R: Print + Eprint + CpuClock>(
     report_ratio(rt, "checking over decoding", checked, read)?;
     report_ratio(rt, "opening without the root over decoding", taken, read)?;
     report_ratio(rt, "opening over decoding", opened, read)
+}
+
+// What openings cost of logs that came in one batch, in fifty, in fifty of a tenth as many keys, and in a hundred that put the
+// same keys anew.
+fn measure_all_openings<R: Print + Eprint + CpuClock>(
+    rt: &R,
+    alloc: Global,
+    keys: u64,
+) -> io::Result<()> {
+    let few = keys / 100;
+    measure_openings(rt, alloc, Filling::once(keys, keys))?;
+    measure_openings(rt, alloc, Filling::once(keys / 2, few))?;
+    measure_openings(rt, alloc, Filling::once(keys / 20, keys / 1_000))?;
+    let again = Filling {
+        times: 100,
+        ..Filling::once(few, few)
+    };
+    measure_openings(rt, alloc, again)
 }
 
 // What so many reads of values cost in a store that is filled so.
@@ -257,8 +274,7 @@ fn measure_all_calls<R: Print + Eprint + CpuClock>(
 fn main(rt: HostRuntime) -> io::Result<()> {
     let thousands = read_count(&rt, rt.alloc(), DEFAULT_THOUSANDS)?;
     let keys = thousands.saturating_mul(1_000);
-    measure_openings(&rt, rt.alloc(), keys, keys)?;
-    measure_openings(&rt, rt.alloc(), keys / 20, thousands)?;
+    measure_all_openings(&rt, rt.alloc(), keys)?;
     measure_all_reads(&rt, rt.alloc(), keys, thousands.saturating_mul(5_000))?;
     measure_all_calls(&rt, rt.alloc(), thousands)
 }
