@@ -4,15 +4,17 @@
 
 pub mod script;
 
-pub use auth_store_device::Device;
+pub use auth_store_device::{Device, Image, Mutation, Mutations, OpenError, Opening, Openings};
 pub use auth_store_ledger::{
     Batch, Claim, KeyProof, Word, batch, check, history, is_chunk_width, state,
 };
 pub use auth_store_session::run::run;
 pub use auth_store_session::{Answer, NotOpened, Session, Sizes, Step, Store, StoreError};
-pub use fault_storage::Config;
+pub use fault_storage::{
+    Config, HeaderError, PartialWriteMode, Probability, ResizeConfig, WriteConfig,
+};
 pub use merkle_forest::codec::FixedBytes;
 pub use merkle_forest::{ByteHash, mmb, mmr};
-pub use paged_blob::CacheRef;
+pub use paged_blob::{Blob, CacheRef, CallKind, WriteMode};
 pub use rand_pcg::Pcg32;
 pub use script::new_device;
