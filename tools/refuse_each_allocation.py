@@ -1,22 +1,33 @@
 #!/usr/bin/env python3
-"""Runs a script of the store's program once for each allocation that it makes, with that one allocation refused.
+"""Runs a program of the store once for each allocation that it makes, with that one allocation refused.
 
     tools/refuse_each_allocation.py PROGRAM SCRIPT..
+    tools/refuse_each_allocation.py PROGRAM
 
-PROGRAM is what `rt run` left in crates/auth_store_script/out. The allocation that is refused is the one that the C
-library's `malloc` or `realloc` is asked for at that place, by a small library that is loaded before it (gcc makes it).
+PROGRAM is what `rt run` left in crates/auth_store_script/out; with no script, in crates/auth_store_recovery/out. The
+allocation that is refused is the one that the C library's `malloc` or `realloc` is asked for at that place, by a small
+library that is loaded before it (gcc makes it). The gate does not run this.
 
-What has to hold, and is compared: the run ends with status 3 where the script itself found no memory, having printed the
-first lines of the allowed run; else the line that met the refusal prints `error S4`, and every other line prints what it
-prints in an allowed run of the script without that line (a refused commit leaves out its puts too), or, where it is a
-commit whose bytes were on their way to the disk, each later line that asks the store prints `error S6` and every other
-one what it prints without those. With ample memory no line prints `error S4`. The gate does not run this.
+What has to hold of a script, and is compared: the run ends with status 3 where the script itself found no memory,
+having printed the first lines of the allowed run; else the line that met the refusal prints `error S4`, and every other
+line prints what it prints in an allowed run of the script without that line (a refused commit leaves out its puts too),
+or, where it is a commit whose bytes were on their way to the disk, each later line that asks the store prints
+`error S6` and every other one what it prints without those. With ample memory no line prints `error S4`.
+
+What has to hold of the recovery: it ends with status 0, and its lines are answers of one store, one after the other, of
+which one call at most found no memory (`outcomes` says which there are). A commit that was refused may be in or out,
+until a later line tells; what was acknowledged stands. What is answered is that of tools/store_model.py. With ample
+memory nothing is refused.
 """
 import os
 import re
 import subprocess
 import sys
 import tempfile
+from functools import lru_cache
+from typing import NamedTuple
+
+import store_model as model
 
 SHIM = r"""
 #define _GNU_SOURCE
@@ -117,6 +128,119 @@ def check(program, shim, path):
     print(f"{path}: {calls} allocations refused in turn: {counts}")
 
 
+A, B, C = (model.number(ord(letter)) for letter in "abc")
+REOPEN = [("close",), ("crash",), ("open",)]
+
+# the steps of the recovery, one a line
+STEPS = [("open",)]
+STEPS += [("commit", (("put", A, model.number(1)), ("put", B, model.number(2))))]
+STEPS += [("commit", (("put", C, model.number(3)),))]
+STEPS += [*REOPEN, ("commit", (("delete", A),)), ("get", B), ("get", A), ("prove", C), ("root",)]
+STEPS += [*REOPEN, ("get", C), ("commits",), ("floor",), ("len",), ("close",), ("openings",), ("by chance",)]
+
+
+class State(NamedTuple):
+    """What may stand after some lines: batches are lists of words, and `pending` is one that an opening may show."""
+
+    mode: str = "closed"
+    batches: tuple = ()
+    pending: tuple = ()
+    root: str = None  # the last that was answered
+    openings: int = 0
+    is_refused: bool = False  # whether an allocation was refused
+
+
+@lru_cache(maxsize=None)
+def told(batches):
+    """What a store answers whose history has these batches: map, root, floor and number of operations."""
+    history = []
+    for words in batches:
+        history.append((model.after(history[-1][0] if history else {}, words), None))
+    state = history[-1][0] if history else {}
+    return state, model.root(history, 1).hex(), model.floor(history), len(model.log_of(history))
+
+
+def outcomes(old, step):
+    """The lines that a step may print, each with what may stand after it."""
+    kind, *of = step
+    refusals = [] if old.is_refused else [old._replace(is_refused=True)]
+    if kind in ("openings", "by chance"):
+        yield (f"openings {old.openings}" if kind == "openings" else "by chance 0"), old
+        if kind == "by chance":
+            yield from (("out of memory", new) for new in refusals)
+        return
+    if kind == "commit":  # its batch was not made
+        yield from (("out of memory", new) for new in refusals)
+    if old.mode == "closed":
+        if kind == "open":
+            for shown in {old.batches, old.batches + old.pending}:
+                new = old._replace(mode="live", batches=shown, pending=(), openings=old.openings + 1)
+                yield "opened", new
+            for new in refusals:  # before the device was opened, or after it
+                yield "error S4", new
+                yield "error S4", new._replace(openings=old.openings + 1)
+        else:
+            yield ("crashed" if kind == "crash" else "not open"), old
+        return
+    if kind in ("open", "crash"):
+        yield "still open", old
+        return
+    if kind == "close":
+        yield "closed", old._replace(mode="closed")
+        return
+    if old.mode == "failed":
+        yield "error S6", old
+        return
+    if kind == "commit":
+        batches = old.batches + (of[0],)
+        yield f"committed {told(batches)[1]}", old._replace(batches=batches, root=told(batches)[1])
+        for new in refusals:
+            yield "error S4", new
+            yield "error S4", new._replace(mode="failed", pending=(of[0],))
+        return
+    state, root, floor, length = told(old.batches)
+    if kind in ("get", "prove"):
+        yield from (("error S4", new) for new in refusals)
+        value = int.from_bytes(state[of[0]], "big") if of[0] in state else None
+        if value is None:
+            yield ("none" if kind == "get" else "absent"), old
+        elif kind == "get":
+            yield f"value {value}", old
+        else:
+            yield f"present {value} {'yes' if old.root == root else 'no' if old.root else 'no root'}", old
+            yield from ((f"present {value} out of memory", new) for new in refusals)
+    elif kind == "root":
+        yield f"root {root}", old._replace(root=root)
+    else:
+        yield f"{kind} {({'commits': len(old.batches), 'floor': floor, 'len': length})[kind]}", old
+
+
+def not_explained(printed, is_refused):
+    """The index of the first line that one refused allocation, or none, does not explain; or None."""
+    if printed == ["out of memory"] and not is_refused:  # there was no device
+        return None
+    states = {State(is_refused=is_refused)}
+    for i, (line, step) in enumerate(zip(printed, STEPS)):
+        states = {new for old in states for text, new in outcomes(old, step) if text == line}
+        if not states:
+            return i
+    return None if len(printed) == len(STEPS) else min(len(printed), len(STEPS))
+
+
+def check_recovery(program, shim):
+    allowed, status, calls = run(program, shim, b"", 0)
+    assert (status, not_explained(allowed, True)) == (0, None), ("with ample memory", status, allowed)
+    counts = {}
+    for refused in range(1, calls + 1):
+        printed, ended, _ = run(program, shim, b"", refused)
+        wrong = not_explained(printed, False)
+        assert (ended, wrong) == (0, None), (refused, ended, wrong, printed)
+        met = [f"line {i}: {line}" for i, (line, other) in enumerate(zip(printed, allowed), 1) if line != other]
+        what = met[0] if met else "no difference"
+        counts[what] = counts.get(what, 0) + 1
+    print(f"{program}: {calls} allocations refused in turn: {counts}")
+
+
 def main():
     program, *scripts = sys.argv[1:]
     with tempfile.TemporaryDirectory() as folder:
@@ -125,6 +249,9 @@ def main():
         subprocess.run(["gcc", "-shared", "-fPIC", "-O1", "-o", shim, source], check=True)
         for path in scripts:
             check(program, shim, path)
+        if not scripts:
+            check_recovery(program, shim)
 
 
-main()
+if __name__ == "__main__":
+    main()
