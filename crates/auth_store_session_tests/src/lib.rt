@@ -8,8 +8,6 @@ mod lists;
 #[cfg(test)]
 mod live;
 #[cfg(test)]
-mod rows;
-#[cfg(test)]
 mod run;
 #[cfg(test)]
 mod session;
