@@ -1,7 +1,8 @@
 //! A store on a device: opened, grown, read, opened again, cut and failing.
 
-ghost use Rattle.std.specs.Prelude.{◌≡◌, ◌≤◌, None};
+ghost use Rattle.std.specs.Prelude.{◌≡◌, ◌≤◌, None, IfErr};
 
+use crate::rows::{EMPTY_ROOT, FIRST_ROOT, PUT_ROOT, are_pages, keeping};
 use auth_store_device::Device;
 use auth_store_ledger::{Batch, KeyProof};
 use auth_store_log::append_batch;
@@ -58,6 +59,7 @@ fn over<F: Graftable + PendingOf<FixedBytes<32>>>(
 ) -> Result<Over<F>, NotOpened<Pcg32>>
     requires closed { device.log ≡ None }
     requires room { 1 ≤ pages }
+    ensures closed { IfErr result (λ refused. refused.device.log ≡ None) }
 {
     Store::open(alloc, device, CacheRef::new(alloc, 52, pages), SIZES)
 }
@@ -194,32 +196,65 @@ fn a_cut_refuses_a_read(rt: HostRuntime) -> Result<(), Fail> {
     Ok(())
 }
 
+// A cut at the device's own opening, and one behind it, at the first append: after a crash, whatever share it keeps of
+// what is not durable, the store opens with the empty history.
 #[test]
 fn a_cut_refuses_an_opening(rt: HostRuntime) -> Result<(), Fail> {
     let alloc = rt.alloc();
-    let mut device = Device::empty(alloc, Pcg32::seed_from_u64(0))?;
-    device.cut_after(0);
-    let refused = over::<mmr::Family>(alloc, device, 8);
-    let Err(NotOpened { error, device, .. }) = refused else {
-        return Err(Fail::from(StoreError::Corrupt));
-    };
-    assert_eq!(rt; error, StoreError::PowerCut);
-    assert_eq!(rt; device.is_closed(), true);
+    for halves in 0..3u64 {
+        let settings = keeping(Probability::new(halves, 2).ok_or("no such share")?);
+        for calls in 0..2 {
+            let mut device = Device::empty(alloc, Pcg32::seed_from_u64(calls))?;
+            device.set_config(settings);
+            device.cut_after(calls);
+            let Err(refused) = over::<mmr::Family>(alloc, device, 8) else {
+                return Err(Fail::from("opened under a cut"));
+            };
+            assert_eq!(rt; refused.error, StoreError::PowerCut);
+            let mut device = refused.device;
+            assert_eq!(rt; device.is_closed(), true);
+            device.crash();
+            let Ok(store) = over::<mmr::Family>(alloc, device, 8) else {
+                return Err(Fail::from("not opened after the crash"));
+            };
+            assert!(rt; matches!(counts(&store), Ok((1, 0, 0))));
+            assert_eq!(rt;
+                hex::encode(alloc, store.root()?.as_bytes())?.as_str(),
+                EMPTY_ROOT
+            );
+        }
+    }
     Ok(())
 }
 
-// A cut behind the device's own opening refuses the first append.
+// A read of a page that the cache has no room for, and an opening, of which each fails: once they fail no more, all is
+// as it was.
 #[test]
-fn a_cut_refuses_the_beginning_of_a_log(rt: HostRuntime) -> Result<(), Fail> {
+fn a_fault_refuses_a_read_and_an_opening(rt: HostRuntime) -> Result<(), Fail> {
     let alloc = rt.alloc();
-    let mut device = Device::empty(alloc, Pcg32::seed_from_u64(0))?;
-    device.cut_after(1);
-    let refused = over::<mmr::Family>(alloc, device, 8);
-    let Err(NotOpened { error, device, .. }) = refused else {
-        return Err(Fail::from(StoreError::Corrupt));
+    let mut store = again::<mmr::Family>(alloc, 1)?;
+    let root = store.root()?;
+    store.set_config(store.config().read(Probability::ONE));
+    let fault = store.get(&ONE_00).err();
+    assert_eq!(rt; fault, Some(StoreError::Fault(Some(CallKind::Read))));
+    store.set_config(store.config().read(Probability::ZERO));
+    assert_eq!(rt; store.commits()?, 3);
+    assert!(rt; store.root()? == root);
+    assert_eq!(rt; store.get(&ONE_00)?, Some(2));
+    let (mut device, _cache) = store.into_parts();
+    device.set_config(device.config().open(Probability::ONE));
+    let Err(refused) = over::<mmr::Family>(alloc, device, 1) else {
+        return Err(Fail::from("opened though each opening fails"));
     };
-    assert_eq!(rt; error, StoreError::PowerCut);
-    assert_eq!(rt; device.is_closed(), true);
+    assert_eq!(rt; refused.error, StoreError::Fault(None));
+    let mut device = refused.device;
+    device.set_config(device.config().open(Probability::ZERO));
+    let Ok(mut store) = over::<mmr::Family>(alloc, device, 1) else {
+        return Err(Fail::from("not opened again"));
+    };
+    assert_eq!(rt; store.commits()?, 3);
+    assert!(rt; store.root()? == root);
+    assert_eq!(rt; store.get(&ONE_00)?, Some(2));
     Ok(())
 }
 
@@ -335,6 +370,8 @@ fn a_batch_of_which_a_part_is_durable_is_not_there(rt: HostRuntime) -> Result<()
     assert!(rt; second == before);
     let whole = reopened(alloc, SECOND)?;
     assert_eq!(rt; (whole.0, whole.1), (2, 6));
+    let roots = [first.2, second.2, whole.2];
+    assert!(rt; have_digits(alloc, &roots, &[FIRST_ROOT, FIRST_ROOT, PUT_ROOT])?);
     Ok(())
 }
 
@@ -344,24 +381,9 @@ fn has_one_opening(device: &Device<Pcg32>) -> bool {
     openings.next().is_some() && openings.next().is_none()
 }
 
-// The lengths of the two slots of a page of 64 bytes, the lesser first.
-fn slots(page: &[u8]) -> Option<(u16, u16)> {
-    let (Some(a), Some(b), Some(c), Some(d)) = (
-        page.get(52),
-        page.get(53),
-        page.get(58),
-        page.get(59),
-    ) else {
-        return None;
-    };
-    let one = u16::from_be_bytes([*a, *b]);
-    let other = u16::from_be_bytes([*c, *d]);
-    Some((one.min(other), one.max(other)))
-}
-
 // A device lends an opening for each time that its store was opened: the first over nothing, the second over the pages
-// of a batch that was committed, with no mutation since its sync. Of the 75 bytes of the log, 52 stand in the first page,
-// whose other slot is of the 25 bytes that the first opening made durable, and 23 in the second.
+// of a batch that was committed, with no mutation since its sync. Of the 75 bytes of the log, 52 stand in the first
+// page, whose other slot is of the 25 bytes that the first opening made durable, and 23 in the second.
 #[test]
 fn each_opening_of_a_store_is_lent(rt: HostRuntime) -> Result<(), Fail> {
     let alloc = rt.alloc();
@@ -383,12 +405,6 @@ fn each_opening_of_a_store_is_lent(rt: HostRuntime) -> Result<(), Fail> {
     assert!(rt; second.mutations().next().is_none());
     let shown = second.shown().to_vec(alloc)?;
     assert_eq!(rt; second.base().to_vec(alloc)?.as_slice(), shown.as_slice());
-    assert_eq!(rt; shown.len(), 128);
-    let page = shown.get(..64).unwrap_or(&[]);
-    assert_eq!(rt; slots(page), Some((25, 52)));
-    assert_eq!(rt; page.get(..52), FIRST.get(..52));
-    let page = shown.get(64..).unwrap_or(&[]);
-    assert_eq!(rt; slots(page), Some((0, 23)));
-    assert_eq!(rt; page.get(..23), FIRST.get(52..));
+    assert!(rt; are_pages(alloc, &shown, &[(25, 52), (0, 23)], &[0, 1, 2])?);
     Ok(())
 }
