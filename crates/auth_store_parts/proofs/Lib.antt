@@ -17,3 +17,4 @@ pub mod Named
 pub mod Numbers
 pub mod Lines
 pub mod Spellings
+pub mod Fronts

@@ -3,6 +3,7 @@ pub mod Batch
 pub mod History
 pub mod Places
 pub mod Ranked
+pub mod Fronts
 pub mod Chains
 pub mod Script
 pub mod Line

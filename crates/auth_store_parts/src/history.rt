@@ -3,6 +3,7 @@
 pub mod activity;
 pub mod chain;
 pub mod changes;
+mod fronts;
 pub mod laws;
 pub mod places;
 pub mod ranked;

@@ -18,6 +18,7 @@ ghost use Rattle.auth_store_parts.specs.Map.{key_order, state_of, value_at};
 ghost use Rattle.auth_store_parts.specs.Places.{after_place, placed};
 ghost use Rattle.auth_store_parts.specs.Ranked.{AreAscending, AreNamed, last_key, names_at, place_at, places_at, with_place};
 
+use super::fronts::compare;
 use super::places::{Places, located_keys};
 use merkle_forest::Family;
 use state_ops::{FixedKey, FixedValue, Operation, OrderedOperation};
@@ -32,7 +33,7 @@ fn in_order<K: FixedKey>(keys: Vec<(K, usize)>) -> Result<Vec<(K, usize)>, Alloc
         (K.encoding other.0))) sorted.items) }
 {
     let mut sorted = keys;
-    sorted.sort_by(|one, other| one.0.cmp(&other.0))?;
+    sorted.sort_by(|one, other| compare(&one.0, &other.0))?;
     Ok(sorted)
 }
 
