@@ -1,7 +1,7 @@
 //! Plans and proofs that are built out of the nodes of a tree.
 //!
 //! The expected positions, digests and roots were made apart, by a Python program that grows a forest leaf by leaf,
-//! hashes with hashlib and reads a proof off its definition. Three rows of positions are worked by hand elsewhere: the
+//! hashes with hashlib and reads a proof off its definition. Three rows of positions were worked by hand too: the
 //! belt of 8 leaves and its range 4..6, the range of 8 leaves and its range 3..4.
 
 use merkle_core::batch::MerkleizedBatch;
