@@ -1,5 +1,5 @@
 -- What a run tells of causes: they were there.
-use Rattle.std.proofs.Common.{◌≡◌, ◌+◌, ◌<◌, ◌≤◌, ℕ, Bool, true, false, List, [], ◌∷◌, refl, sym, ◌∙◌, ap, subst, ⊎_elim, arith}
+use Rattle.std.proofs.Common.{◌≡◌, ◌+◌, ◌<◌, ◌≤◌, ℕ, zero, suc, Bool, true, false, List, [], ◌∷◌, refl, sym, ◌∙◌, ap, subst, ⊎_elim, arith}
 use Rattle.std.specs.Prelude.{⊤, IsTrue, IsFalse}
 use Rattle.auth_store_parts.specs.History.{History}
 use Rattle.auth_store_ledger.specs.Store.{commit_after}
@@ -90,7 +90,7 @@ step_why m before after (closed history pending) (ask_proof key) e next step = p
 step_why m before after (closed history pending) ask_close e next step = plain e not_open step.0 refl
 step_why m before after (closed history pending) ask_crash e next step = plain e has_crashed step.0 refl
 step_why m before after (closed history pending) ask_config e next step = plain e is_set step.0 refl
-step_why m before after (closed history pending) ask_cut e next step = plain e is_set step.0 refl
+step_why m before after (closed history pending) (ask_cut calls) e next step = plain e is_set step.0 refl
 step_why m before after (doubtful history) ask_open e next step = ⊎_elim
     (λ opens. plain e opened opens.0 refl)
     (λ refuses. let (error, is, same, cause) = refuses in why_of before after e error is (⊎_elim
@@ -108,7 +108,7 @@ step_why m before after (doubtful history) (ask_proof key) e next step = plain e
 step_why m before after (doubtful history) ask_close e next step = plain e not_open step.0 refl
 step_why m before after (doubtful history) ask_crash e next step = plain e has_crashed step.0 refl
 step_why m before after (doubtful history) ask_config e next step = plain e is_set step.0 refl
-step_why m before after (doubtful history) ask_cut e next step = plain e is_set step.0 refl
+step_why m before after (doubtful history) (ask_cut calls) e next step = plain e is_set step.0 refl
 step_why m before after (live history) ask_open e next step = plain e still_open step.0 refl
 step_why m before after (live history) (ask_commit words metadata) e next step = ⊎_elim
     (λ commits. plain e (committed _) commits.0 refl)
@@ -129,7 +129,7 @@ step_why m before after (live history) (ask_proof key) e next step = ⊎_elim
 step_why m before after (live history) ask_close e next step = plain e has_closed step.0 refl
 step_why m before after (live history) ask_crash e next step = plain e still_open step.0 refl
 step_why m before after (live history) ask_config e next step = plain e is_set step.0 refl
-step_why m before after (live history) ask_cut e next step = plain e is_set step.0 refl
+step_why m before after (live history) (ask_cut calls) e next step = plain e is_set step.0 refl
 step_why m before after (failed history commit) ask_open e next step = plain e still_open step.0 refl
 step_why m before after (failed history commit) (ask_commit words metadata) e next step = why_of before after e Failed step.0 tt
 step_why m before after (failed history commit) (ask_get key) e next step = why_of before after e Failed step.0 tt
@@ -141,7 +141,7 @@ step_why m before after (failed history commit) (ask_proof key) e next step = wh
 step_why m before after (failed history commit) ask_close e next step = plain e has_closed step.0 refl
 step_why m before after (failed history commit) ask_crash e next step = plain e still_open step.0 refl
 step_why m before after (failed history commit) ask_config e next step = plain e is_set step.0 refl
-step_why m before after (failed history commit) ask_cut e next step = plain e is_set step.0 refl
+step_why m before after (failed history commit) (ask_cut calls) e next step = plain e is_set step.0 refl
 
 -- what a request makes of the power without its calls injects nothing
 turned_injected : (request : Request) (answer : Answer) (power : Power) → (turned request answer power).injected ≡ power.injected
@@ -155,7 +155,8 @@ turned_injected ask_len answer power = refl
 turned_injected (ask_proof key) answer power = refl
 turned_injected ask_close answer power = refl
 turned_injected ask_config answer power = refl
-turned_injected ask_cut answer power = refl
+turned_injected (ask_cut zero) answer power = refl
+turned_injected (ask_cut (suc calls)) answer power = refl
 turned_injected ask_crash opened power = refl
 turned_injected ask_crash (committed root) power = refl
 turned_injected ask_crash (value found) power = refl
@@ -184,7 +185,7 @@ turned_asked ask_len answer power requests none is = is
 turned_asked (ask_proof key) answer power requests none is = is
 turned_asked ask_close answer power requests none is = is
 turned_asked ask_config answer power requests none is = is
-turned_asked ask_cut answer power requests none is = absurd none
+turned_asked (ask_cut calls) answer power requests none is = absurd none
 turned_asked ask_crash opened power requests none is = is
 turned_asked ask_crash (committed root) power requests none is = is
 turned_asked ask_crash (value found) power requests none is = is
@@ -212,7 +213,7 @@ fewer_asked (ask_proof key) requests none = none
 fewer_asked ask_close requests none = none
 fewer_asked ask_crash requests none = none
 fewer_asked ask_config requests none = none
-fewer_asked ask_cut requests none = absurd none
+fewer_asked (ask_cut calls) requests none = absurd none
 
 -- no step takes faults back
 stays_injected : (before after : Power) (request : Request) (answer : Answer) → Passes request answer before after → (n : ℕ)

@@ -7,6 +7,7 @@ pub mod Stays
 pub mod Refused
 pub mod Powers
 pub mod Causes
+pub mod Cuts
 pub mod Long
 pub mod Reading
 pub mod Grown

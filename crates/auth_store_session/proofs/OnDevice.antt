@@ -1,5 +1,5 @@
 -- Why a store on a device refuses, from the causes of its parts; and what its calls leave.
-use Rattle.std.proofs.Common.{◌≡◌, ◌⊎◌, ◌+◌, ◌-◌, ◌<◌, ◌≤◌, ◌^◌, ◌==◌, ℕ, Bool, true, List, ◌∷◌, Option, Some, None, Result, Ok, Err}
+use Rattle.std.proofs.Common.{◌≡◌, ◌⊎◌, ◌+◌, ◌-◌, ◌<◌, ◌≤◌, ◌^◌, ◌==◌, if◌then◌else◌, ℕ, Bool, true, List, ◌∷◌, Option, Some, None, Result, Ok, Err}
 use Rattle.std.proofs.Common.{inl, inr, refl, sym, subst, ap, ◌∙◌, ⊎_elim, length, arith}
 use Rattle.std.specs.Prelude.{IsTrue, IsFalse, OnOk, IfSome, IsSomeAnd, MatchResult}
 use Rattle.std.proofs.lemmas.Bool.{false_from_ne_true, eqb-true}
@@ -132,6 +132,18 @@ module _ {R : Type 0} (old new : DeviceState R) (cache now : Cache)
     commit_on_device m next Corrupt law untouched cause = absurd cause
     commit_on_device m next Failed law untouched cause = absurd cause
     commit_on_device m next (Header fault) law untouched cause = absurd cause
+
+-- a cut that is asked for behind a read leaves the read's cause
+pub refusal_kept : {R : Type 0} (old mid : DeviceState R) (stood : Bool) (e : StoreError)
+    → IsReadRefusal (failures_of old) (failures_of mid) e
+    → IsReadRefusal (failures_of old) (failures_of (record mid { left = if stood then Some 0 else mid.left })) e
+refusal_kept old mid stood (Fault kind) cause = cause
+refusal_kept old mid stood PowerCut cause = cause
+refusal_kept old mid stood NumberEnded cause = cause
+refusal_kept old mid stood Memory cause = cause
+refusal_kept old mid stood Corrupt cause = cause
+refusal_kept old mid stood Failed cause = cause
+refusal_kept old mid stood (Header fault) cause = cause
 
 -- a store of which this is true has not failed
 pub is_live : (live : Option LiveState) (history : History) → IsSomeAnd live (λ now. now.history ≡ history)

@@ -1,13 +1,14 @@
 -- What the calls of a request leave of the power of a device and its cache.
-use Rattle.std.proofs.Common.{◌≡◌, ◌+◌, ◌≤◌, ℕ, ◌==◌, Bool, true, false, if◌then◌else◌, Option, Some, None, Result, Ok, Err, is_some, refl, sym, ◌∙◌, ap, subst, arith}
-use Rattle.std.specs.Prelude.{IsTrue}
+use Rattle.std.proofs.Common.{◌≡◌, ◌+◌, ◌≤◌, ℕ, zero, suc, ◌==◌, Bool, true, false, if◌then◌else◌, Option, Some, None, Result, Ok, Err, is_some, refl, sym, ◌∙◌, ap, subst, arith}
+use Rattle.std.specs.Prelude.{IsTrue, IsFalse}
+use Rattle.std.proofs.lemmas.Bool.{eqb-true}
 use Rattle.paged_blob.specs.Answers.{Failures, failures_after}
 use Rattle.paged_blob.specs.Caches.{Cache}
 use Rattle.paged_blob.specs.declared.error.Error.{Error}
 use Rattle.paged_blob.specs.declared.error.Error.TheVariants.{Injected, BlobMissing, BlobInsufficientLength, NumberEnded, Memory, PowerCut, ChecksumMismatch}
 use Rattle.auth_store_device.specs.declared.error.OpenError.{OpenError}
 use Rattle.auth_store_device.specs.declared.error.OpenError.TheVariants as openings
-use Rattle.auth_store_device.specs.Devices.{DeviceState, after_asking, is_cut, failures_of, injected_after, refused_after}
+use Rattle.auth_store_device.specs.Devices.{DeviceState, after_asking, is_cut, failures_of, injected_after, refused_after, left_after_opening}
 use Rattle.auth_store_log.specs.Causes.{failures_after_reading}
 use Rattle.auth_store_log.specs.declared.error.LogError.{LogError}
 use Rattle.auth_store_log.specs.declared.error.LogError.TheVariants.{Corrupt, Refused}
@@ -58,16 +59,74 @@ cut_is_asked : (left : Option ℕ) → IsTrue (is_cut left) → IsTrue (is_some 
 cut_is_asked (Some left) is = refl
 cut_is_asked None is = cc
 
--- calls of a device
+-- calls of a device, by which a cut that stands stays
 pub leaves_of : {R : Type 0} (old new : DeviceState R) (cache now : Cache) → Raises (failures_of old) (failures_of new)
-    → cache.next_id ≤ now.next_id → Leaves (power_of old cache) (power_of new now)
-leaves_of old new cache now raises names = record {
+    → cache.next_id ≤ now.next_id → (IsTrue (is_cut old.left) → IsTrue (is_cut new.left))
+    → Leaves (power_of old cache) (power_of new now)
+leaves_of old new cache now raises names stands = record {
   injected = raises.injected;
   refused = raises.refused;
   names = names;
   asked = raises.asked;
   cut = cut_is_asked new.left;
+  stands = stands;
 }
+
+-- no call is left where a cut stands
+none_left : (left : Option ℕ) → IsTrue (is_cut left) → left ≡ Some 0
+none_left (Some left) is = ap Some (eqb-true left 0 is)
+none_left None is = cc
+
+-- so it is behind an opening that is refused, and none succeeds
+pub stands_refused : {T : Type 0} (result : Result T OpenError) (old new : Option ℕ) → new ≡ left_after_opening result old
+    → IsTrue (is_cut old) → IsTrue (is_cut new)
+stands_refused result old new left is =
+    subst (λ l. IsTrue (is_cut l)) (sym (left ∙ ap (left_after_opening result) (none_left old is))) (by result)
+  where
+    by : {T : Type 0} (result : Result T OpenError) → IsTrue (is_cut (left_after_opening result (Some 0)))
+    by (Ok value) = refl
+    by (Err openings.Injected) = refl
+    by (Err (openings.Header fault)) = refl
+    by (Err openings.NumberEnded) = refl
+    by (Err openings.Memory) = refl
+    by (Err openings.PowerCut) = refl
+
+pub none_stood : (old new : Option ℕ) → IsFalse (is_cut old) → IsTrue (is_cut old) → IsTrue (is_cut new)
+none_stood old new uncut is = let bad : false ≡ true = sym uncut ∙ is in cc
+
+-- behind a commit, which leaves the device as it was
+pub stands_untouched : {R : Type 0} (old new : DeviceState R) (cut : Bool) → cut ≡ is_cut old.left → (cut ≡ true → new ≡ old)
+    → IsTrue (is_cut old.left) → IsTrue (is_cut new.left)
+stands_untouched {R = R} old new cut same untouched is =
+    subst (λ (d : DeviceState R). IsTrue (is_cut d.left)) (sym (untouched (same ∙ is))) is
+
+-- and behind a read, where it is asked for once more
+pub stands_kept : (stood : Bool) (old mid : Option ℕ) → stood ≡ is_cut old → IsTrue (is_cut old)
+    → IsTrue (is_cut (if stood then Some 0 else mid))
+stands_kept true old mid same is = refl
+stands_kept false old mid same is = let bad : false ≡ true = same ∙ is in cc
+
+pub raises_kept : {R : Type 0} (stood : Bool) (old mid : DeviceState R) → stood ≡ is_cut old.left
+    → Raises (failures_of old) (failures_of mid)
+    → Raises (failures_of old) (failures_of (record mid { left = if stood then Some 0 else mid.left }))
+raises_kept true old mid same raises = record {
+  injected = raises.injected;
+  refused = raises.refused;
+  asked = sym (cut_is_asked old.left (sym same));
+}
+raises_kept false old mid same raises = record { injected = raises.injected; refused = raises.refused; asked = raises.asked }
+
+-- a cut after no call stands at once
+pub asked_at_once : (left : Option ℕ) → after_asking 0 left ≡ Some 0
+asked_at_once None = refl
+asked_at_once (Some left) = either (left == 0)
+  where
+    first : Option ℕ
+    first = Some 0
+
+    either : (b : Bool) → (if b then first else first) ≡ first
+    either true = refl
+    either false = refl
 
 stays : (power : Power) → (IsTrue power.is_cut → IsTrue power.is_asked) → Leaves power power
 stays power cut = record {
@@ -76,6 +135,7 @@ stays power cut = record {
   names = omega arith;
   asked = refl;
   cut = cut;
+  stands = λ is. is;
 }
 
 pub leaves_none : {R : Type 0} (device : DeviceState R) (cache : Cache) → Leaves (power_of device cache) (power_of device cache)
@@ -143,18 +203,36 @@ asks calls (Some left) = either (left == 0)
     either true = refl
     either false = refl
 
+asked_stands : (calls : ℕ) (left : Option ℕ) → IsTrue (is_cut left) → IsTrue (is_cut (after_asking calls left))
+asked_stands calls (Some left) is = subst (λ n. IsTrue (is_cut (after_asking calls (Some n)))) (sym (eqb-true left 0 is)) refl
+asked_stands calls None is = cc
+
+passes_with : {R : Type 0} (device : DeviceState R) (cache : Cache) (calls : ℕ) → Passes (ask_cut calls) is_set
+    (power_of device cache) (power_of (record device { left = after_asking calls device.left }) cache)
+passes_with device cache zero = record {
+  injected = raised_none device.storage.injections;
+  refused = raised_none device.refused;
+  names = omega arith;
+  asked = asks 0 device.left;
+  cut = λ cut. asks 0 device.left;
+  stands = λ is. ap is_cut (asked_at_once device.left);
+}
+passes_with device cache (suc calls) = record {
+  injected = raised_none device.storage.injections;
+  refused = raised_none device.refused;
+  names = omega arith;
+  asked = asks (suc calls) device.left;
+  cut = λ cut. asks (suc calls) device.left;
+  stands = asked_stands (suc calls) device.left;
+}
+
 pub passes_asking : {R : Type 0} (device new : DeviceState R) (cache now : Cache) (calls : ℕ)
     → new ≡ record device { left = after_asking calls device.left } → now ≡ cache
-    → Passes ask_cut is_set (power_of device cache) (power_of new now)
-passes_asking device new cache now calls is same = subst (λ d. Passes ask_cut is_set (power_of device cache) (power_of d now)) (sym is)
-    (subst (λ k. Passes ask_cut is_set (power_of device cache) (power_of (record device { left = after_asking calls device.left }) k)) (sym same)
-    (record {
-      injected = raised_none device.storage.injections;
-      refused = raised_none device.refused;
-      names = omega arith;
-      asked = asks calls device.left;
-      cut = λ cut. asks calls device.left;
-    }))
+    → Passes (ask_cut calls) is_set (power_of device cache) (power_of new now)
+passes_asking device new cache now calls is same =
+    subst (λ d. Passes (ask_cut calls) is_set (power_of device cache) (power_of d now)) (sym is)
+    (subst (λ k. Passes (ask_cut calls) is_set (power_of device cache) (power_of (record device { left = after_asking calls device.left }) k))
+    (sym same) (passes_with device cache calls))
 
 -- a crash
 pub passes_crash : {R : Type 0} (device new : DeviceState R) (cache : Cache) → new.storage.injections ≡ device.storage.injections
@@ -165,4 +243,5 @@ passes_crash device new cache injected refused left = record {
   names = omega arith;
   asked = ap is_some left;
   cut = cut_is_asked new.left;
+  stands = λ is. cc;
 }

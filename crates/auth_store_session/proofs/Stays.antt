@@ -33,7 +33,7 @@ follows_closed m before after history pending ask_open answer next step = ⊎_el
     step
 follows_closed m before after history pending ask_crash answer next step = follows_same history (closed history pending) next step.1 tt refl
 follows_closed m before after history pending ask_config answer next step = follows_same history (closed history pending) next step.1 tt refl
-follows_closed m before after history pending ask_cut answer next step = follows_same history (closed history pending) next step.1 tt refl
+follows_closed m before after history pending (ask_cut calls) answer next step = follows_same history (closed history pending) next step.1 tt refl
 follows_closed m before after history pending ask_close answer next step = follows_same history (closed history pending) next step.1 tt refl
 follows_closed m before after history pending (ask_commit words metadata) answer next step = follows_same history (closed history pending) next step.1 tt refl
 follows_closed m before after history pending (ask_get key) answer next step = follows_same history (closed history pending) next step.1 tt refl
@@ -55,7 +55,7 @@ follows_live m before after history (ask_commit words metadata) answer next step
 follows_live m before after history ask_open answer next step = follows_same history (live history) next step.1 tt refl
 follows_live m before after history ask_crash answer next step = follows_same history (live history) next step.1 tt refl
 follows_live m before after history ask_config answer next step = follows_same history (live history) next step.1 tt refl
-follows_live m before after history ask_cut answer next step = follows_same history (live history) next step.1 tt refl
+follows_live m before after history (ask_cut calls) answer next step = follows_same history (live history) next step.1 tt refl
 follows_live m before after history ask_close answer next step = follows_same history (closed history None) next step.1 tt refl
 follows_live m before after history (ask_get key) answer next step = follows_same history (live history) next step.0 tt refl
 follows_live m before after history (ask_proof key) answer next step = follows_same history (live history) next step.0 tt refl
@@ -70,7 +70,7 @@ follows_failed history commit ask_close answer next step = follows_same history 
 follows_failed history commit ask_open answer next step = follows_same history (failed history commit) next step.1 tt refl
 follows_failed history commit ask_crash answer next step = follows_same history (failed history commit) next step.1 tt refl
 follows_failed history commit ask_config answer next step = follows_same history (failed history commit) next step.1 tt refl
-follows_failed history commit ask_cut answer next step = follows_same history (failed history commit) next step.1 tt refl
+follows_failed history commit (ask_cut calls) answer next step = follows_same history (failed history commit) next step.1 tt refl
 follows_failed history commit (ask_commit words metadata) answer next step = follows_same history (failed history commit) next step.1 tt refl
 follows_failed history commit (ask_get key) answer next step = follows_same history (failed history commit) next step.1 tt refl
 follows_failed history commit (ask_proof key) answer next step = follows_same history (failed history commit) next step.1 tt refl

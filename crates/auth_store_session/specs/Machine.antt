@@ -1,5 +1,5 @@
 -- The machine of a session: what each request answers, and what it leaves.
-use Rattle.std.specs.Prelude.{◌≡◌, ◌<◌, ◌≤◌, ◌+◌, ◌++◌, ◌^◌, ◌⊎◌, ℕ, ⊤, Bool, true, false, IsTrue, IsFalse, List, [], ◌∷◌, length, Option, None, Some, option_map}
+use Rattle.std.specs.Prelude.{◌≡◌, ◌<◌, ◌≤◌, ◌+◌, ◌++◌, ◌^◌, ◌⊎◌, ℕ, zero, suc, ⊤, Bool, true, false, IsTrue, IsFalse, List, [], ◌∷◌, length, Option, None, Some, option_map}
 use Rattle.merkle_forest.specs.Forest.{Rule}
 use Rattle.merkle_forest.specs.Hashing.{Hash}
 use Rattle.state_proofs.specs.Canonical.{Setting}
@@ -89,7 +89,7 @@ pub data Request : Type 0 where
   ask_close : Request
   ask_crash : Request
   ask_config : Request
-  ask_cut : Request
+  ask_cut : ℕ → Request
 
 -- what it answers
 pub data Answer : Type 0 where
@@ -197,7 +197,7 @@ IsStepClosed m before after history pending ask_open answer next = IsOpening m b
 IsStepClosed m before after history pending ask_crash answer next =
     (answer ≡ has_crashed) × (next ≡ closed history pending) × IsFalse after.is_cut
 IsStepClosed m before after history pending ask_config answer next = (answer ≡ is_set) × (next ≡ closed history pending)
-IsStepClosed m before after history pending ask_cut answer next = (answer ≡ is_set) × (next ≡ closed history pending)
+IsStepClosed m before after history pending (ask_cut calls) answer next = (answer ≡ is_set) × (next ≡ closed history pending)
 IsStepClosed m before after history pending _ answer next = (answer ≡ not_open) × (next ≡ closed history pending)
 
 -- In doubt an opening shows a history that goes on behind the log of this one, and no cut stood before; or it is refused, also
@@ -215,7 +215,7 @@ IsStepInDoubt m before after history ask_open answer next = IsOpeningInDoubt m b
 IsStepInDoubt m before after history ask_crash answer next =
     (answer ≡ has_crashed) × (next ≡ doubtful history) × IsFalse after.is_cut
 IsStepInDoubt m before after history ask_config answer next = (answer ≡ is_set) × (next ≡ doubtful history)
-IsStepInDoubt m before after history ask_cut answer next = (answer ≡ is_set) × (next ≡ doubtful history)
+IsStepInDoubt m before after history (ask_cut calls) answer next = (answer ≡ is_set) × (next ≡ doubtful history)
 IsStepInDoubt m before after history _ answer next = (answer ≡ not_open) × (next ≡ doubtful history)
 
 -- A commit is in, with the root of the history with it, and no cut stood before; or it is refused, and the store is as it was or has
@@ -239,7 +239,7 @@ abbrev pub IsStepLive : Machine → Power → Power → History → Request → 
 IsStepLive m before after history ask_open answer next = (answer ≡ still_open) × (next ≡ live history)
 IsStepLive m before after history ask_crash answer next = (answer ≡ still_open) × (next ≡ live history)
 IsStepLive m before after history ask_config answer next = (answer ≡ is_set) × (next ≡ live history)
-IsStepLive m before after history ask_cut answer next = (answer ≡ is_set) × (next ≡ live history)
+IsStepLive m before after history (ask_cut calls) answer next = (answer ≡ is_set) × (next ≡ live history)
 IsStepLive m before after history ask_close answer next = (answer ≡ has_closed) × (next ≡ closed history None)
 IsStepLive m before after history (ask_commit words metadata) answer next =
     IsCommitting m before after history words metadata answer next
@@ -259,7 +259,7 @@ abbrev pub IsStepFailed : History → Commit → Request → Answer → State �
 IsStepFailed history commit ask_open answer next = (answer ≡ still_open) × (next ≡ failed history commit)
 IsStepFailed history commit ask_crash answer next = (answer ≡ still_open) × (next ≡ failed history commit)
 IsStepFailed history commit ask_config answer next = (answer ≡ is_set) × (next ≡ failed history commit)
-IsStepFailed history commit ask_cut answer next = (answer ≡ is_set) × (next ≡ failed history commit)
+IsStepFailed history commit (ask_cut calls) answer next = (answer ≡ is_set) × (next ≡ failed history commit)
 IsStepFailed history commit ask_close answer next = (answer ≡ has_closed) × (next ≡ closed history (Some commit))
 IsStepFailed history commit _ answer next = (answer ≡ refused refusals.Failed) × (next ≡ failed history commit)
 
@@ -276,22 +276,25 @@ abbrev pub IsRaised : ℕ → ℕ → Type 0
 IsRaised before after = (before ≤ after) × (after ≤ before + 1)
 
 -- What the calls of a request leave of the power: one fault is injected at most, and a cut refuses one call at most, as each of them
--- ends the request; names are only given; no call asks for a cut, and none stands that was not asked for.
+-- ends the request; names are only given; no call asks for a cut, none stands that was not asked for, and one that stands stays.
 pub record Leaves (before after : Power) : Type 0 where
   pub injected : IsRaised before.injected after.injected
   pub refused : IsRaised before.refused after.refused
   pub names : before.names ≤ after.names
   pub asked : after.is_asked ≡ before.is_asked
   pub cut : IsTrue after.is_cut → IsTrue after.is_asked
+  pub stands : IsTrue before.is_cut → IsTrue after.is_cut
 
--- What a request makes of the power without its calls: a cut is asked for, or a crash ends what was asked.
+-- What a request makes of the power without its calls: a cut is asked for, which stands at once where no call is let through, or a crash
+-- ends it.
 abbrev pub turned : Request → Answer → Power → Power
-turned ask_cut answer power = record power { is_asked = true }
-turned ask_crash has_crashed power = record power { is_asked = false; refused = 0 }
+turned (ask_cut zero) answer power = record power { is_asked = true; is_cut = true }
+turned (ask_cut (suc calls)) answer power = record power { is_asked = true }
+turned ask_crash has_crashed power = record power { is_asked = false; is_cut = false; refused = 0 }
 turned request answer power = power
 
 -- The power before a step and after it. So in a run there are at most as many answers that tell of an injected fault as faults were
--- injected, and one that tells of a cut comes only where a cut was asked for since the last crash.
+-- injected, one that tells of a cut comes only where a cut was asked for since the last crash, and a cut that stands does so until then.
 abbrev pub Passes : Request → Answer → Power → Power → Type 0
 Passes request answer before after = Leaves (turned request answer before) after
 
@@ -322,7 +325,7 @@ faults_told (answer ∷ answers) = faults_told answers
 -- no request asks for a cut of the power
 abbrev pub AskNoCut : List Request → Type 0
 AskNoCut [] = ⊤
-AskNoCut (ask_cut ∷ requests) = ⊥
+AskNoCut (ask_cut calls ∷ requests) = ⊥
 AskNoCut (request ∷ requests) = AskNoCut requests
 
 -- no answer tells of one
@@ -330,6 +333,23 @@ abbrev pub TellNoCut : List Answer → Type 0
 TellNoCut [] = ⊤
 TellNoCut (refused refusals.PowerCut ∷ answers) = ⊥
 TellNoCut (answer ∷ answers) = TellNoCut answers
+
+-- no request asks for a crash
+abbrev pub AskNoCrash : List Request → Type 0
+AskNoCrash [] = ⊤
+AskNoCrash (ask_crash ∷ requests) = ⊥
+AskNoCrash (request ∷ requests) = AskNoCrash requests
+
+-- an opening or a commit has succeeded
+abbrev pub acknowledges : Answer → Bool
+acknowledges opened = true
+acknowledges (committed root) = true
+acknowledges _ = false
+
+-- none of them has
+abbrev pub AcknowledgeNone : List Answer → Type 0
+AcknowledgeNone [] = ⊤
+AcknowledgeNone (answer ∷ answers) = IsFalse (acknowledges answer) × AcknowledgeNone answers
 
 -- an answer of this kind, or a refusal
 abbrev pub IsSaid : (Answer → Bool) → Answer → Type 0
@@ -371,7 +391,7 @@ is_proof _ = false
 -- What kind of answer a request has, of a session with an open store or without one, whatever its openings show.
 abbrev pub IsAnswerTo : Bool → Request → Answer → Type 0
 IsAnswerTo is_open ask_config answer = answer ≡ is_set
-IsAnswerTo is_open ask_cut answer = answer ≡ is_set
+IsAnswerTo is_open (ask_cut calls) answer = answer ≡ is_set
 IsAnswerTo false ask_open answer = IsSaid is_opened answer
 IsAnswerTo false ask_crash answer = answer ≡ has_crashed
 IsAnswerTo false _ answer = answer ≡ not_open

@@ -25,7 +25,7 @@ request_of key value (ProveKey k) = ask_proof (key k)
 request_of key value Close = ask_close
 request_of key value Crash = ask_crash
 request_of key value (Config config) = ask_config
-request_of key value (CutAfter calls) = ask_cut
+request_of key value (CutAfter calls) = ask_cut calls
 
 -- what an answer says, given how digests and values are encoded
 abbrev pub meaning_of : {D V : Type 0} → (D → List ℕ) → (V → List ℕ) → Answer D V → machine.Answer

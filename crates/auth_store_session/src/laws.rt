@@ -1,6 +1,6 @@
 //! What holds of all openings and of all runs.
 
-ghost use Rattle.std.specs.Prelude.{◌≡◌, ◌+◌, ◌≤◌, ◌++◌, ℕ, IsFalse, List, [], ◌∷◌, Option, Some, None};
+ghost use Rattle.std.specs.Prelude.{◌≡◌, ◌+◌, ◌≤◌, ◌++◌, ℕ, IsFalse, IsTrue, List, [], ◌∷◌, Option, Some, None};
 ghost use Rattle.fault_storage_parts.specs.Crc32.{crc32};
 ghost use Rattle.paged_blob.specs.Caches.{Cache};
 ghost use Rattle.paged_blob.specs.Calls.{Call, opened, file_of};
@@ -12,7 +12,7 @@ ghost use Rattle.auth_store_device.specs.Devices.{DeviceState};
 ghost use Rattle.auth_store_device.specs.Settings.{IsNew};
 ghost use Rattle.auth_store_log.specs.Records.{Format, begun, history_bytes, recovered_log};
 ghost use Rattle.auth_store_session.specs.Machine.{Machine, Power, State, Request, Answer, IsShownOf, IsStep, IsRun, Passes};
-ghost use Rattle.auth_store_session.specs.Machine.{AskNoCut, TellNoCut, faults_told};
+ghost use Rattle.auth_store_session.specs.Machine.{AskNoCut, TellNoCut, faults_told, AskNoCrash, AcknowledgeNone};
 ghost use Rattle.auth_store_session.specs.Machine.{closed, in_doubt, kept_history, Begins, GoesOn, IsCertain, IsRunInDoubt};
 ghost use Rattle.auth_store_session.specs.Standing.{IsOpenedThrough, StandsFor};
 ghost use Rattle.auth_store_session.specs.Stores.{StoreState, IsWritten, Shows};
@@ -72,6 +72,13 @@ pub fn a_run_tells_causes()
     ensures cuts { (m : Machine) (before : Power) (first : State) (requests : List Request) (answers : List Answer)
         (after : Power) (last : State) → IsRun m before first requests answers after last
         → IsFalse before.is_asked → AskNoCut requests → TellNoCut answers }
+{}
+
+/// A cut of the power that stands does so until a crash is asked for, and till then no opening and no commit succeeds.
+pub fn a_cut_stands_until_a_crash()
+    ensures { (m : Machine) (before : Power) (first : State) (requests : List Request) (answers : List Answer)
+        (after : Power) (last : State) → IsRun m before first requests answers after last → IsTrue before.is_cut
+        → AskNoCrash requests → AcknowledgeNone answers × IsTrue after.is_cut }
 {}
 
 /// A batch that was acknowledged, or that an opening has shown, is in for good, and none goes in before it: the history

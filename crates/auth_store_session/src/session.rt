@@ -301,7 +301,7 @@ where
     ensures steps { let format = format_of (K.after tt) (V.after tt) K.SIZE V.SIZE in
         let size = store.old.cache.page_size + 12 in
         let m = machine F.merge_rule H.hash_of F.pending_encoding N K.SIZE V.SIZE size in
-        StepsOpen m format store.old ask_cut is_set store.new }
+        StepsOpen m format store.old (ask_cut calls) is_set store.new }
     ensures set { result ≡ Answer.Set }
     ensures page_size { store.new.cache.page_size ≡ store.old.cache.page_size }
     ensures grows { Grows store.old.device.calls store.new.device.calls }
@@ -487,8 +487,8 @@ where
         ensures steps { let format = format_of (K.after tt) (V.after tt) K.SIZE V.SIZE in
             let m = machine F.merge_rule H.hash_of F.pending_encoding N K.SIZE V.SIZE
             (page_size_in self.old.parts self.old.store) in
-            Steps m format self.old ask_cut (meaning_of H.Digest.encoding V.encoding result) self.new }
-        ensures kind { IsAnswerTo false ask_cut (meaning_of H.Digest.encoding V.encoding result) }
+            Steps m format self.old (ask_cut calls) (meaning_of H.Digest.encoding V.encoding result) self.new }
+        ensures kind { IsAnswerTo false (ask_cut calls) (meaning_of H.Digest.encoding V.encoding result) }
         ensures page_size { page_size_in self.new.parts self.new.store
             ≡ page_size_in self.old.parts self.old.store }
         ensures grows { Grows (calls_in self.old.parts self.old.store) (calls_in self.new.parts self.new.store) }

@@ -1,6 +1,6 @@
 //! A store on a disk that fails.
 
-ghost use Rattle.std.specs.Prelude.{◌≡◌, ◌+◌, length, option_map, Ok, Err, None, true, is_some, IfOk, IfErr, OnOk, IsFalse, MatchResult};
+ghost use Rattle.std.specs.Prelude.{◌≡◌, ◌+◌, length, option_map, if◌then◌else◌, Ok, Err, None, Some, true, is_some, IfOk, IfErr, OnOk, IsFalse, MatchResult};
 ghost use Rattle.paged_blob.specs.Moments.{Grows};
 ghost use Rattle.auth_store_parts.specs.Batch as words;
 ghost use Rattle.auth_store_parts.specs.History.{History, latest_map, log_of};
@@ -110,6 +110,16 @@ where
     live.ledger.holds_a_history();
     live.ledger.is_recorded();
     Ok(live)
+}
+
+// Has a cut that stood before a read stand behind it. No read ends one, which is not said of the reads of any blob: this
+// changes nothing.
+fn keep_cut<R: Rng + Drop>(device: &mut Device<R>, stood: bool)
+    ensures { device.new ≡ record device.old { left = if stood then Some 0 else device.old.left } }
+{
+    if stood {
+        device.cut_after(0);
+    }
 }
 
 impl<R, F, H, K, V, const N: usize> Store<R, F, H, K, V, N>
@@ -233,7 +243,9 @@ where
         let Some(live) = &self.live else {
             return Err(StoreError::Failed);
         };
+        let is_cut = self.device.is_cut();
         let answer = get_live(self.alloc, live, &mut self.device, &mut self.cache, key);
+        keep_cut(&mut self.device, is_cut);
         self.device.refuses_only_under_a_cut();
         answer
     }

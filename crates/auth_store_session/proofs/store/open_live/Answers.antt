@@ -7,7 +7,7 @@ use Rattle.auth_store_session.specs.declared.error.StoreError.{StoreError}
 use Rattle.auth_store_session.specs.Machine.{Machine, machine}
 use Rattle.auth_store_session.specs.Standing.{IsOpenError, shown_of}
 use Rattle.auth_store_session.proofs.OnDevice.{device_refused, recovery_on_device, opened_uncut, shown_through}
-use Rattle.auth_store_session.proofs.Powers.{leaves_of, raises_opening, raises_behind}
+use Rattle.auth_store_session.proofs.Powers.{leaves_of, none_stood, raises_opening, raises_behind, stands_refused}
 use Rattle.auth_store_session.proofs.store.open_live.Goals as goal
 
 pub returns-in_err-count-clause-refused : goal.returns-in_err-count-clause-refused
@@ -45,7 +45,7 @@ returns-clause-uncut g c = opened_uncut c.args.device.now (Ok c.in_ok-count.coun
 pub returns-in_err-count-clause-leaves : goal.returns-in_err-count-clause-leaves
 returns-in_err-count-clause-leaves g c = leaves_of c.args.device.now c.open.new.self c.args.cache.now c.args.cache.now
     (raises_opening c.args.device.now c.open.new.self c.open.result c.open.ensures.count c.open.ensures.refusals c.open.ensures.asked)
-    (omega arith)
+    (omega arith) (stands_refused c.open.result c.args.device.now.left c.open.new.self.left c.open.ensures.left)
 
 pub returns-in_err-live-clause-leaves : goal.returns-in_err-live-clause-leaves
 returns-in_err-live-clause-leaves g c =
@@ -54,6 +54,7 @@ returns-in_err-live-clause-leaves g c =
     leaves_of old new c.args.cache.now c.recover_live-recovered.new.cache
     (raises_behind old c.open.new.self new c.in_ok-count.ensures.count c.in_ok-count.ensures.refusals c.in_ok-count.ensures.asked
     c.recover_live-recovered.ensures.raised) c.recover_live-recovered.ensures.names
+    (none_stood old.left new.left (opened_uncut old (Ok c.in_ok-count.count) c.in_ok-count.ensures.cut c.in_ok-count.ensures.ended))
 
 pub returns-clause-leaves : goal.returns-clause-leaves
 returns-clause-leaves g c =
@@ -62,3 +63,4 @@ returns-clause-leaves g c =
     leaves_of old new c.args.cache.now c.recover_live-recovered.new.cache
     (raises_behind old c.open.new.self new c.in_ok-count.ensures.count c.in_ok-count.ensures.refusals c.in_ok-count.ensures.asked
     c.recover_live-recovered.ensures.raised) c.recover_live-recovered.ensures.names
+    (none_stood old.left new.left (opened_uncut old (Ok c.in_ok-count.count) c.in_ok-count.ensures.cut c.in_ok-count.ensures.ended))

@@ -17,9 +17,9 @@ returns-clause-steps g c =
     let is = was_closed c.self.inside.parts c.self.inside.store c.in-Some.device c.in-Some.cache c.args.self.now c.self.view_is
     c.in-Some.ensures.value c.requires in
     let ends = now_closed c.self.inside.parts c.self.inside.store c.cut_after.new.self c.in-Some.cache c.args.self.now c.self.view_is c.requires in
-    steps_from m format was c.args.self.now now (record { parts = Some (c.cut_after.new.self, c.in-Some.cache); store = c.self.inside.store }) ask_cut is_set is ends (
+    steps_from m format was c.args.self.now now (record { parts = Some (c.cut_after.new.self, c.in-Some.cache); store = c.self.inside.store }) (ask_cut c.args.calls) is_set is ends (
       passes_asking c.in-Some.device c.cut_after.new.self c.in-Some.cache c.in-Some.cache c.args.calls c.cut_after.ensures refl,
-      rests_in m format c.in-Some.device c.cut_after.new.self c.in-Some.cache ask_cut is_set
+      rests_in m format c.in-Some.device c.cut_after.new.self c.in-Some.cache (ask_cut c.args.calls) is_set
           (ap (λ (d : DeviceState _). d.calls) c.cut_after.ensures)
           (header_same _ _ (ap (λ (d : DeviceState _). d.storage.inner) c.cut_after.ensures)) (λ history pending. (refl, refl))
           (λ history. (refl, refl)),

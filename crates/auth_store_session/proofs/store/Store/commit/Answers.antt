@@ -10,7 +10,7 @@ use Rattle.auth_store_session.specs.Stores.{StoreState, IsLiveAt}
 use Rattle.auth_store_session.proofs.OnDevice.{commits_on_device, same_store, store_of}
 use Rattle.auth_store_session.specs.Machine.{Leaves}
 use Rattle.auth_store_session.specs.Standing.{power_of}
-use Rattle.auth_store_session.proofs.Powers.{leaves_of}
+use Rattle.auth_store_session.proofs.Powers.{leaves_of, stands_untouched}
 use Rattle.auth_store_session.proofs.store.Store.commit.Goals as goal
 
 pub invariant_of-self : goal.invariant_of-self
@@ -53,4 +53,5 @@ returns-clause-leaves g c =
     let new = c.commit_live-answer.new.blob in
     let now = c.commit_live-answer.new.cache in
     subst (λ (s : StoreState g.row.R.Denot). Leaves (power_of s.device s.cache) (power_of new now)) c.self.view_is
-    (leaves_of c.self.inside.device new c.self.inside.cache now c.commit_live-answer.ensures.raised c.commit_live-answer.ensures.names)
+    (leaves_of c.self.inside.device new c.self.inside.cache now c.commit_live-answer.ensures.raised c.commit_live-answer.ensures.names
+    (stands_untouched c.self.inside.device new c.is_cut-is_cut.result c.is_cut-is_cut.ensures c.commit_live-answer.ensures.untouched))
