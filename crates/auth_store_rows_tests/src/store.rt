@@ -1,6 +1,6 @@
 //! A store on a device: opened, grown, read, opened again, cut and failing.
 
-ghost use Rattle.std.specs.Prelude.{◌≡◌, ◌≤◌, None, IfErr};
+ghost use Rattle.std.specs.Prelude.{◌≡◌, ◌≤◌, None, IfErr, IfOk};
 
 use crate::rows::{EMPTY_ROOT, FIRST_ROOT, PUT_ROOT, are_pages, keeping};
 use auth_store_device::Device;
@@ -227,34 +227,55 @@ fn a_cut_refuses_an_opening(rt: HostRuntime) -> Result<(), Fail> {
     Ok(())
 }
 
-// A read of a page that the cache has no room for, and an opening, of which each fails: once they fail no more, all is
-// as it was.
+// Whether a store that was opened again has this root, its commits, and 2 at the key.
+fn stands(store: &mut Over<mmr::Family>, root: &FixedBytes<32>) -> Result<bool, Fail> {
+    let is_whole = store.commits()? == 3 && store.root()? == *root;
+    Ok(store.get(&ONE_00)? == Some(2) && is_whole)
+}
+
+// A read of a page that the cache has no room for, and that fails: once reads fail no more, all is as it was.
 #[test]
-fn a_fault_refuses_a_read_and_an_opening(rt: HostRuntime) -> Result<(), Fail> {
-    let alloc = rt.alloc();
-    let mut store = again::<mmr::Family>(alloc, 1)?;
+fn a_fault_refuses_a_read(rt: HostRuntime) -> Result<(), Fail> {
+    let mut store = again::<mmr::Family>(rt.alloc(), 1)?;
     let root = store.root()?;
     store.set_config(store.config().read(Probability::ONE));
     let fault = store.get(&ONE_00).err();
     assert_eq!(rt; fault, Some(StoreError::Fault(Some(CallKind::Read))));
     store.set_config(store.config().read(Probability::ZERO));
-    assert_eq!(rt; store.commits()?, 3);
-    assert!(rt; store.root()? == root);
-    assert_eq!(rt; store.get(&ONE_00)?, Some(2));
-    let (mut device, _cache) = store.into_parts();
-    device.set_config(device.config().open(Probability::ONE));
-    let Err(refused) = over::<mmr::Family>(alloc, device, 1) else {
+    assert!(rt; stands(&mut store, &root)?);
+    Ok(())
+}
+
+// The device behind an opening that failed, and fails no more.
+fn refused_by_a_fault(alloc: Global, device: Device<Pcg32>) -> Result<Device<Pcg32>, Fail>
+    requires closed { device.log ≡ None }
+    ensures closed { IfOk result (λ device. device.log ≡ None) }
+{
+    let mut failing = device;
+    failing.set_config(failing.config().open(Probability::ONE));
+    let Err(refused) = over::<mmr::Family>(alloc, failing, 1) else {
         return Err(Fail::from("opened though each opening fails"));
     };
-    assert_eq!(rt; refused.error, StoreError::Fault(None));
+    if refused.error != StoreError::Fault(None) {
+        return Err(Fail::from(refused.error));
+    }
     let mut device = refused.device;
     device.set_config(device.config().open(Probability::ZERO));
+    Ok(device)
+}
+
+// An opening that fails: once openings fail no more, all is as it was.
+#[test]
+fn a_fault_refuses_an_opening(rt: HostRuntime) -> Result<(), Fail> {
+    let alloc = rt.alloc();
+    let store = again::<mmr::Family>(alloc, 1)?;
+    let root = store.root()?;
+    let (device, _cache) = store.into_parts();
+    let device = refused_by_a_fault(alloc, device)?;
     let Ok(mut store) = over::<mmr::Family>(alloc, device, 1) else {
         return Err(Fail::from("not opened again"));
     };
-    assert_eq!(rt; store.commits()?, 3);
-    assert!(rt; store.root()? == root);
-    assert_eq!(rt; store.get(&ONE_00)?, Some(2));
+    assert!(rt; stands(&mut store, &root)?);
     Ok(())
 }
 
