@@ -7,7 +7,7 @@ use Rattle.std.specs.List.{AllByRecursion}
 use Rattle.std.specs.Ordering.{nat_cmp, ordering_then, MatchOrdering}
 use Rattle.std.specs.declared.cmp.Ordering.{Ordering}
 use Rattle.std.specs.declared.cmp.Ordering.TheVariants.{Less, Equal, Greater}
-use Rattle.std.proofs.lemmas.List.{length-take-le, take-append-drop}
+use Rattle.std.proofs.lemmas.List.{length-take-le, take-append-drop, take_all}
 use Rattle.std.proofs.lemmas.Nat.{mul-add-lt}
 use Rattle.auth_store_parts.specs.Map.{key_order}
 use Rattle.auth_store_parts.specs.Fronts.{IsFront}
@@ -130,3 +130,17 @@ fronts_decide key other number other_number is is_other apart =
     sym compared
     ∙ (ap (λ k. key_order k (other_front ++ drop 8 other)) (take-append-drop 8 key)
     ∙ ap (key_order key) (take-append-drop 8 other))
+
+-- keys that are no more than their fronts, which spell one number, are alike
+pub fronts_alike : (key other : List ℕ) (number other_number : ℕ) → IsFront key number → IsFront other other_number
+    → number ≡ other_number → length key ≡ 8 → length other ≡ 8 → Equal ≡ key_order key other
+fronts_alike key other number other_number is is_other same long long_other =
+    let whole : take 8 key ≡ key = take_all 8 key (omega (arith, long)) in
+    let whole_other : take 8 other ≡ other = take_all 8 other (omega (arith, long_other)) in
+    let spelled : worth key ≡ number =
+    ap worth (sym whole) ∙ sym (is.spelled ∙ eight (take 8 key) (ap length whole ∙ long)) in
+    let spelled_other : worth other ≡ other_number =
+    ap worth (sym whole_other) ∙ sym (is_other.spelled ∙ eight (take 8 other) (ap length whole_other ∙ long_other)) in
+    nat_cmp_is (worth key) (worth other) Equal (spelled ∙ (same ∙ sym spelled_other))
+    ∙ sym (worth_order key other (long ∙ sym long_other)
+    (each_byte key (subst AreSmall whole is.small)) (each_byte other (subst AreSmall whole_other is_other.small)))

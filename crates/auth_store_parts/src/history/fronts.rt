@@ -3,9 +3,11 @@
 //!     00 00 00 00 00 00 00 61   as a number 97
 //!     00 00 00 00 00 00 00 63   as a number 99: the key behind it
 //!
-//! Most keys that are sorted differ there, and one step compares two numbers where byte by byte it takes up to eight.
+//! Most keys that are sorted differ there, and one step compares two numbers where byte by byte it takes up to eight. Keys of eight
+//! bytes, which are those of the program, need no other step.
 
 ghost use Rattle.std.specs.Prelude.{◌≡◌, ◌<◌, ℕ, length, get_or, MatchOption};
+ghost use Rattle.std.specs.Bool.{Decides};
 ghost use Rattle.std.specs.Int.{w64, from_be_bytes};
 ghost use Rattle.auth_store_parts.specs.Map.{key_order};
 ghost use Rattle.auth_store_parts.specs.Fronts.{IsFront};
@@ -30,12 +32,25 @@ fn front_of<K: FixedKey>(key: &K) -> Option<u64>
     Some(number_of(*front))
 }
 
-/// How two keys compare, which their first eight bytes tell where these differ.
+/// Whether the first eight bytes of a key are all that it has.
+fn is_front<K: FixedKey>(key: &K) -> bool
+    ensures { Decides result (length (K.encoding key.now) ≡ 8) }
+{
+    key.as_bytes().len() == 8
+}
+
+/// How two keys compare, which their first eight bytes tell where these differ, and where the keys have no more.
 pub(super) fn compare<K: FixedKey>(key: &K, other: &K) -> Ordering
     ensures { result ≡ key_order (K.encoding key.now) (K.encoding other.now) }
 {
-    match (front_of(key), front_of(other)) {
-        (Some(front), Some(other_front)) if front != other_front => front.cmp(&other_front),
-        _ => key.cmp(other),
+    let (Some(front), Some(other_front)) = (front_of(key), front_of(other)) else {
+        return key.cmp(other);
+    };
+    if front != other_front {
+        return front.cmp(&other_front);
     }
+    if is_front(key) && is_front(other) {
+        return Ordering::Equal;
+    }
+    key.cmp(other)
 }

@@ -1,8 +1,8 @@
 //! Whole runs: deletes, keys put back, cuts at each call, and what stands after a crash.
 
-use crate::rows::{EMPTY_ROOT, FIRST_ROOT, PUT_ROOT, are_pages, keeping};
 use auth_store_device::Device;
 use auth_store_ledger::{Batch, KeyProof};
+use auth_store_rows::{EMPTY_ROOT, FIRST_ROOT, PUT_ROOT, are_pages, keeping};
 use auth_store_session::error::StoreError;
 use auth_store_session::run::run;
 use auth_store_session::session::{Answer, Session, Step};

@@ -2,10 +2,10 @@
 
 ghost use Rattle.std.specs.Prelude.{◌≡◌, ◌≤◌, None, IfErr, IfOk};
 
-use crate::rows::{EMPTY_ROOT, FIRST_ROOT, PUT_ROOT, are_pages, keeping};
 use auth_store_device::Device;
 use auth_store_ledger::{Batch, KeyProof};
 use auth_store_log::append_batch;
+use auth_store_rows::{EMPTY_ROOT, FIRST_ROOT, PUT_ROOT, are_pages, keeping};
 use auth_store_session::error::StoreError;
 use auth_store_session::sizes::Sizes;
 use auth_store_session::store::{NotOpened, Store};

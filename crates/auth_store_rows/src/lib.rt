@@ -1,5 +1,7 @@
-//! What the rows of runs and of stores leave: roots, records, and the pages of the log's file. A program that was made
-//! apart from this code computed the roots and the lengths; the records are written out of their operations.
+//! What the rows of runs and of stores leave, for their tests: roots, records, and the pages of the log's file. A program
+//! that was made apart from this code computed the roots and the lengths; the records are written out of their
+//! operations.
+#![tactic(auto)]
 
 use fault_storage::{Config, PartialWriteMode, Probability, ResizeConfig, WriteConfig};
 use std::alloc::Global;
