@@ -25,6 +25,7 @@ ghost use Rattle.auth_store_parts.specs.Places.{places_of};
 ghost use Rattle.auth_store_parts.specs.Ranked.{AreNamed};
 
 use super::changes::is_same_value;
+use super::fronts::compare;
 use super::ranked::RankedPlaces;
 use merkle_forest::Family;
 use state_ops::{FixedKey, FixedValue, Operation, OrderedOperation, OrderedUpdate};
@@ -37,7 +38,7 @@ type Pointers<'a, K> = (Option<&'a K>, Option<&'a K>);
 fn behind<'a, K: FixedKey>(key: &K, next: &'a K) -> Option<&'a K>
     ensures { chains.pointer K.encoding result ≡ chains.behind (K.encoding key.now) (K.encoding next.now) }
 {
-    if key.cmp(next).is_lt() {
+    if compare(key, next).is_lt() {
         return Some(next);
     }
     None
@@ -47,7 +48,7 @@ fn behind<'a, K: FixedKey>(key: &K, next: &'a K) -> Option<&'a K>
 fn is_same_key<K: FixedKey>(key: &K, other: &K) -> bool
     ensures { result ≡ bytes_eq (K.encoding key.now) (K.encoding other.now) }
 {
-    key.cmp(other).is_eq()
+    compare(key, other).is_eq()
 }
 
 /// Whether the pointer stands at the key.
@@ -66,7 +67,7 @@ fn is_past<K: FixedKey>(pointer: Option<&K>, key: &K) -> bool
 {
     match pointer {
         None => true,
-        Some(at) => key.cmp(at).is_lt(),
+        Some(at) => compare(key, at).is_lt(),
     }
 }
 
@@ -244,7 +245,7 @@ fn over_deletes_below<'a, F: Family, K: FixedKey, V: FixedValue>(
         let Operation::Delete(gone) = operation else {
             return None;
         };
-        if !gone.cmp(key).is_lt() {
+        if !compare(gone, key).is_lt() {
             return Some((pointers, &all[at..]));
         }
         let Some(passed) = over_delete(pointers, update_of(log, ranked, start + at), gone) else {

@@ -49,7 +49,7 @@ fn push_new_key<K: FixedKey>(keys: &mut Vec<K>, key: K) -> Result<(), AllocError
         → slice_get (map K.encoding keys.new.items) rank ≡ Some other) }
 {
     match keys.last() {
-        Some(last) if !last.cmp(&key).is_lt() => Ok(()),
+        Some(last) if !compare(last, &key).is_lt() => Ok(()),
         _ => Ok(keys.push(key)?),
     }
 }

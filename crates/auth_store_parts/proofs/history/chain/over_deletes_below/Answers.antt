@@ -42,7 +42,7 @@ returns-then-not-is_lt-clause-up g c = λ first_new v n go.
     let split = left_at meaning all i c.index-all-at.result c.loop-at-test.true c.index-all-at.is
     ∙ ap (λ o. meaning o ∷ left) c.in-Delete.is in
     let order : is_lt (key_order l k) ≡ false =
-    ap is_lt (sym (g.met.K.FixedKey.in_order c.in-Delete.gone c.args.key.now)) ∙ ap is_lt (sym c.cmp.ensures)
+    ap is_lt (sym c.compare.ensures)
     ∙ sym c.is_lt.ensures ∙ c.if-not-is_lt.true in
     sym (c.loop-at.invariant first_new v n go)
     ∙ ap (λ l. chains.up_to_update old first_new k v n go l p q) split
@@ -81,7 +81,7 @@ returns-in_default-over_delete-clause-up g c = λ first_new v n go.
     let split = left_at meaning all i c.index-all-at.result c.loop-at-test.true c.index-all-at.is
     ∙ ap (λ o. meaning o ∷ left) c.in-Delete.is in
     let order : is_lt (key_order l k) ≡ true =
-    ap is_lt (sym (g.met.K.FixedKey.in_order c.in-Delete.gone c.args.key.now)) ∙ ap is_lt (sym c.cmp.ensures)
+    ap is_lt (sym c.compare.ensures)
     ∙ sym c.is_lt.ensures ∙ c.if-not-is_lt.false in
     let further = chains.up_to_update old first_new k v n go left in
     let here = named_here meaning c.args.ranked.now.names c.args.start i all c.index-all-at.result l c.requires.named
@@ -108,7 +108,7 @@ loop-at-preserved g c = λ first_new v n go.
     let split = left_at meaning all i c.index-all-at.result c.loop-at-test.true c.index-all-at.is
     ∙ ap (λ o. meaning o ∷ left) c.in-Delete.is in
     let order : is_lt (key_order l k) ≡ true =
-    ap is_lt (sym (g.met.K.FixedKey.in_order c.in-Delete.gone c.args.key.now)) ∙ ap is_lt (sym c.cmp.ensures)
+    ap is_lt (sym c.compare.ensures)
     ∙ sym c.is_lt.ensures ∙ c.if-not-is_lt.false in
     let further = chains.up_to_update old first_new k v n go left in
     let here = named_here meaning c.args.ranked.now.names c.args.start i all c.index-all-at.result l c.requires.named

@@ -14,7 +14,7 @@ returns-in-Some-clause-last g c =
     let at : last_key (map key c.args.keys.now.items) ≡ Some (key last) =
     last_read key c.args.keys.now.items c.deref.result.now last c.deref.ensures.value c.in-Some.ensures.value in
     let above : is_lt (key_order (key last) (key c.args.key)) ≡ false =
-    ap is_lt (sym (c.cmp.ensures ∙ g.met.K.FixedKey.in_order last c.args.key))
+    ap is_lt (sym c.compare.ensures)
     ∙ (sym c.is_lt.ensures ∙ c.if-not-is_lt.true) in
     at ∙ ap (λ k. Some k) (one_key (key last) (key c.args.key) above (c.requires.order (key last) at))
 
@@ -26,7 +26,7 @@ returns-in_ok-push-in_default-clause-ascending g c =
       | in_default-via-in-Some+else-not-is_lt w ↦ ascending_above key keys c.push.new.self.items c.args.key
           c.in_ok-push-in_default.ensures.items w.in-Some.last.now c.requires.ascending
           (last_read key keys c.deref.result.now w.in-Some.last.now c.deref.ensures.value w.in-Some.ensures.value)
-          (ap is_lt (sym (w.cmp.ensures ∙ g.met.K.FixedKey.in_order w.in-Some.last.now c.args.key))
+          (ap is_lt (sym w.compare.ensures)
           ∙ (sym w.is_lt.ensures ∙ w.if-not-is_lt.false))
       | in_default-via-in_default w ↦ ascending_first key keys c.push.new.self.items c.args.key
           c.in_ok-push-in_default.ensures.items c.requires.ascending
