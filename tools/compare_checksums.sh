@@ -2,7 +2,7 @@
 # Compares the checksum of a page of 4,096 bytes with that of Debian's zlib (package zlib1g-dev): builds a small C program in a
 # folder of its own, runs it and the bench in turn, and prints the nanoseconds of one page of each. COUNT pages (20000).
 #
-#     (cd crates/fault_storage_bench && rt run < stdin) && tools/compare_checksums.sh [COUNT]
+#     (cd crates/disk_bench && rt run < stdin) && tools/compare_checksums.sh [COUNT]
 set -e
 count=${1:-20000}
 top=$(cd "$(dirname "$0")/.." && pwd)
@@ -35,5 +35,5 @@ C
 cc -O2 -o "$room/page" "$room/page.c" -lz
 for round in 1 2 3; do
     "$room/page" "$count"
-    echo "$count" | "$top/crates/fault_storage_bench/out/fault_storage_bench" 2>&1 >/dev/null | grep -E 'checksum|ratio'
+    echo "storage $count" | "$top/crates/disk_bench/out/disk_bench" 2>&1 >/dev/null | grep -E 'checksum|ratio'
 done

@@ -6,28 +6,52 @@ use auth_store::{
     Batch, ByteHash, CacheRef, Claim, FixedBytes, KeyProof, Pcg32, Sizes, Store, check, mmr,
     new_device,
 };
+use std::alloc::Global;
 
 type Name = FixedBytes<8>;
 
-fn main(rt: HostRuntime) -> Result<()> {
-    let alloc = rt.alloc();
+type Root = FixedBytes<32>;
+
+type Small = Store<Pcg32, mmr::Family, ByteHash, Name, u64, 1>;
+
+// A store on a new device, in pages of 4,096 bytes, eight of which are kept in memory.
+fn open(alloc: Global) -> Result<Small> {
     let device = new_device(alloc, 0)?;
     let cache = CacheRef::new(alloc, 4084, 8);
-    let mut store: Store<Pcg32, mmr::Family, ByteHash, Name, u64, 1> = Store::open(
-        alloc,
-        device,
-        cache,
-        Sizes::default(),
-    ).map_err(|refused| refused.error)?;
-    let key = FixedBytes::new([0, 0, 0, 0, 0, 0, 0, 0x61]);
+    match Store::open(alloc, device, cache, Sizes::default()) {
+        Ok(store) => Ok(store),
+        Err(refused) => Err(refused.error.into()),
+    }
+}
+
+// The root once a batch has put the value at the key.
+fn put(alloc: Global, store: &mut Small, key: Name, value: u64) -> Result<Root> {
     let mut batch = Batch::new(alloc);
-    batch.put(key, 1)?;
-    let root = store.commit(batch, None)?;
-    let KeyProof::Value(_, proof) = store.prove_key(&key)?.context("the key is there")?;
+    batch.put(key, value)?;
+    Ok(store.commit(batch, None)?)
+}
+
+// The proof of the value at the key.
+fn prove(store: &mut Small, key: &Name) -> Result<Vec<u8>> {
+    let KeyProof::Value(_, proof) = store.prove_key(key)?.context("the key is there")?;
+    Ok(proof)
+}
+
+// Whether the proof shows, under the root, that the key has the value. It needs no store.
+fn shows(alloc: Global, root: &Root, proof: &[u8], key: Name, value: u64) -> Result<bool> {
+    let claim = Claim::Value { key, value };
+    Ok(check::<mmr::Family, ByteHash, Name, u64, 1>(alloc, root, &claim, proof)?)
+}
+
+fn main(rt: HostRuntime) -> Result<()> {
+    let alloc = rt.alloc();
+    let key = FixedBytes::new([0, 0, 0, 0, 0, 0, 0, 0x61]);
+    let mut store = open(alloc)?;
+    let root = put(alloc, &mut store, key, 1)?;
+    let proof = prove(&mut store, &key)?;
     for value in [1, 2] {
-        let claim = Claim::Value { key, value };
-        let holds = check::<mmr::Family, ByteHash, Name, u64, 1>(alloc, &root, &claim, &proof)?;
-        println!(rt; "value {value}: {}", if holds { "yes" } else { "no" })?;
+        let is_shown = shows(alloc, &root, &proof, key, value)?;
+        println!(rt; "value {value}: {}", if is_shown { "yes" } else { "no" })?;
     }
     Ok(())
 }

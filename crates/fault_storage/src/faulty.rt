@@ -24,9 +24,6 @@ use crate::probability::Probability;
 use crate::storage::{Blob as _, Opened, Storage as _, WriteMode};
 use rand_core::Rng;
 
-#[cfg(test)]
-mod tests;
-
 /// A store that fails. In the Rust: `commonware_runtime::storage::faulty::Storage`.
 #[derive(Debug, Drop)]
 pub struct Storage<S, R> {

@@ -23,6 +23,3 @@ pub use fault_storage_parts::{
 };
 pub use opens::{BlobName, OpenBlob, Opens};
 pub use storage::{Blob, Opened, Storage, WriteMode};
-
-#[cfg(test)]
-mod tests;

@@ -1,7 +1,6 @@
 //! What the programs that measure share: how often each work is done, timing it, and reporting.
 #![tactic(auto)]
 
-use std::alloc::Global;
 use std::io;
 use std::time::CpuClock;
 
@@ -12,26 +11,73 @@ fn nanoseconds(clock: &impl CpuClock) -> io::Result<u64> {
     Ok(whole.saturating_add(u64::from(time.subsec_nanos())))
 }
 
-/// The nanoseconds that the work takes, done so many times. Prints the count with a sum of the answers, and the time of
-/// one.
-pub fn measure<R: Print + Eprint + CpuClock, W: FnMut(u64) -> u64>(
-    rt: &R,
-    name: &str,
-    count: u64,
-    mut work: W,
-) -> io::Result<u64>
+/// Work that was done so many times: a sum of its answers, and the nanoseconds that all of it took.
+#[derive(Clone, Copy, Debug)]
+pub struct Done {
+    pub times: u64,
+    pub sum: u64,
+    pub nanoseconds: u64,
+}
+
+impl Done {
+    /// Nothing yet.
+    pub const NONE: Done = Done {
+        times: 0,
+        sum: 0,
+        nanoseconds: 0,
+    };
+
+    /// This work and more.
+    pub fn and(self, more: Done) -> Done {
+        Done {
+            times: self.times.saturating_add(more.times),
+            sum: self.sum.rotate_left(1) ^ more.sum,
+            nanoseconds: self.nanoseconds.saturating_add(more.nanoseconds),
+        }
+    }
+}
+
+/// Does the work so many times. `Err` where the clock cannot be read.
+pub fn time<R: CpuClock, W: FnMut(u64) -> u64>(rt: &R, times: u64, mut work: W) -> io::Result<Done>
     requires { W.IsAlwaysCallable work }
 {
     let mut sum = 0u64;
     let start = nanoseconds(rt)?;
-    for round in 0..count {
+    for round in 0..times {
         sum = sum.rotate_left(1) ^ work(round);
     }
-    let used = nanoseconds(rt)?.saturating_sub(start);
-    let tenths = used.saturating_mul(10) / count.max(1);
-    println!(rt; "{name}: {count} times, sum {sum}")?;
-    eprintln!(rt; "{name}: {}.{} ns", tenths / 10, tenths % 10)?;
-    Ok(used)
+    let nanoseconds = nanoseconds(rt)?.saturating_sub(start);
+    Ok(Done {
+        times,
+        sum,
+        nanoseconds,
+    })
+}
+
+/// Prints how often the work was done with the sum of its answers, and to standard error the time of one.
+pub fn report<R: Print + Eprint>(rt: &R, name: &str, done: Done) -> io::Result<()> {
+    let Done {
+        times,
+        sum,
+        nanoseconds,
+    } = done;
+    let tenths = nanoseconds.saturating_mul(10) / times.max(1);
+    println!(rt; "{name}: {times} times, sum {sum}")?;
+    eprintln!(rt; "{name}: {}.{} ns", tenths / 10, tenths % 10)
+}
+
+/// The nanoseconds that the work takes, done so many times. Prints them as `report` does.
+pub fn measure<R: Print + Eprint + CpuClock, W: FnMut(u64) -> u64>(
+    rt: &R,
+    name: &str,
+    times: u64,
+    work: W,
+) -> io::Result<u64>
+    requires { W.IsAlwaysCallable work }
+{
+    let done = time(rt, times, work)?;
+    report(rt, name, done)?;
+    Ok(done.nanoseconds)
 }
 
 /// Prints how many times as long the one took as the other.
@@ -42,12 +88,4 @@ pub fn report_ratio<R: Eprint>(rt: &R, name: &str, one: u64, other: u64) -> io::
         hundredths / 100,
         hundredths % 100
     )
-}
-
-/// The number on the first line of standard input, or this one where it gives none.
-pub fn read_count(rt: &impl Input, alloc: Global, otherwise: u64) -> io::Result<u64> {
-    match rt.lines(alloc).next() {
-        Some(line) => Ok(line?.as_str().trim().parse().unwrap_or(otherwise)),
-        None => Ok(otherwise),
-    }
 }

@@ -177,8 +177,3 @@ pub fn run_script<R: Read, W: Write>(alloc: Global, reader: &mut R, writer: &mut
         },
     }
 }
-
-#[cfg(test)]
-mod tests;
-#[cfg(test)]
-mod vectors;

@@ -1,0 +1,241 @@
+//! Nodes of the forest of a family: positions, peaks, heights, children, chunks and ways down.
+
+ghost use Rattle.std.specs.Prelude.{◌≤◌, ◌<◌, ◌^◌};
+
+use crate::told::{Words, or_none};
+use case_lines::Unanswered;
+use merkle_forest::chunk_peaks::has_node;
+use merkle_forest::forest::{Tree, grow};
+use merkle_forest::trees::{inactive_count_of, locate};
+use merkle_forest::{Family, Graftable, Location, MAX_LEAVES, Position, path};
+use std::alloc::Global;
+
+// The most leaves that are grown one by one.
+const MOST_GROWN: u64 = 1 << 12;
+
+// A node, by its position: its height, its first leaf, the leaf count at which it is born, and its position again.
+fn node<F: Graftable>(alloc: Global, position: u64) -> Result<String, Unanswered> {
+    let end = F::location_to_position(Location::new(MAX_LEAVES)).as_u64();
+    if position >= end {
+        return Err(Unanswered::BadLine);
+    }
+    let at = Position::new(position);
+    let height = F::pos_to_height(at);
+    let first = F::leftmost_leaf(at, height);
+    let birth = F::peak_birth_size(at, height);
+    let again = F::subtree_root_position(first, height);
+    Ok(format!(in alloc; "{height} {first} {birth} {again}")?)
+}
+
+// The children of a branch; `none` of a leaf.
+fn children<F: Graftable>(alloc: Global, position: u64) -> Result<String, Unanswered> {
+    let end = F::location_to_position(Location::new(MAX_LEAVES)).as_u64();
+    if position >= end {
+        return Err(Unanswered::BadLine);
+    }
+    let at = Position::new(position);
+    let height = F::pos_to_height(at);
+    if height == 0 {
+        return Ok("none".to_string(alloc)?);
+    }
+    let (left, right) = F::children(at, height);
+    Ok(format!(in alloc; "{left} {right}")?)
+}
+
+// The peaks of so many leaves, each with its height.
+fn peaks<F: Graftable>(alloc: Global, leaves: u64) -> Result<String, Unanswered> {
+    if leaves > MAX_LEAVES {
+        return Err(Unanswered::BadLine);
+    }
+    let mut words = Words::new(alloc);
+    for (position, height) in F::peaks(F::location_to_position(Location::new(leaves))) {
+        words.push_node(alloc, position.as_u64(), height)?;
+    }
+    words.finish(alloc)
+}
+
+// The peaks that are pinned where so many leaves are pruned.
+fn pins<F: Graftable>(alloc: Global, leaves: u64) -> Result<String, Unanswered> {
+    if leaves > MAX_LEAVES {
+        return Err(Unanswered::BadLine);
+    }
+    let mut words = Words::new(alloc);
+    for position in F::nodes_to_pin(Location::new(leaves)) {
+        words.push_number(alloc, position.as_u64())?;
+    }
+    words.finish(alloc)
+}
+
+// The heights of the parents that come with the leaf after so many.
+fn parents<F: Graftable>(alloc: Global, leaves: u64) -> Result<String, Unanswered> {
+    if leaves >= MAX_LEAVES {
+        return Err(Unanswered::BadLine);
+    }
+    let mut words = Words::new(alloc);
+    for height in F::parent_heights(Location::new(leaves)) {
+        words.push_number(alloc, u64::from(height))?;
+    }
+    words.finish(alloc)
+}
+
+// How many peaks are inactive at a floor.
+fn inactive<F: Graftable>(alloc: Global, leaves: u64, floor: u64) -> Result<String, Unanswered> {
+    if leaves > MAX_LEAVES {
+        return Err(Unanswered::BadLine);
+    }
+    let size = F::location_to_position(Location::new(leaves));
+    Ok(F::inactive_peaks(size, Location::new(floor)).to_string(alloc)?)
+}
+
+// The maximal nodes over a chunk of 2^height leaves.
+fn chunk<F: Graftable>(
+    alloc: Global,
+    leaves: u64,
+    chunk: u64,
+    height: u32,
+) -> Result<String, Unanswered> {
+    if leaves > MAX_LEAVES || height > 62 {
+        return Err(Unanswered::BadLine);
+    }
+    let size = F::location_to_position(Location::new(leaves));
+    let mut words = Words::new(alloc);
+    for (position, height) in F::chunk_peaks(size, chunk, height) {
+        words.push_node(alloc, position.as_u64(), height)?;
+    }
+    words.finish(alloc)
+}
+
+// Whether the node over the 2^height leaves from a location on stands in the forest of so many.
+fn has<F: Graftable>(
+    alloc: Global,
+    leaves: u64,
+    first: u64,
+    height: u32,
+) -> Result<String, Unanswered> {
+    if leaves > MAX_LEAVES || first > MAX_LEAVES || height > 62 {
+        return Err(Unanswered::BadLine);
+    }
+    Ok(has_node::<F>(leaves, first, height).to_string(alloc)?)
+}
+
+// The way from the node over the first 2^height of so many leaves down to a leaf.
+fn way<F: Graftable>(
+    alloc: Global,
+    leaves: u64,
+    height: u32,
+    target: u64,
+) -> Result<String, Unanswered> {
+    if leaves > MAX_LEAVES || height > 62 || target >= 1 << height {
+        return Err(Unanswered::BadLine);
+    }
+    if !has_node::<F>(leaves, 0, height) {
+        return Err(Unanswered::BadLine);
+    }
+    let peak = Position::new(F::subtree_root(0, height));
+    let first = Location::new(0);
+    let target = Location::new(target);
+    let mut words = Words::new(alloc);
+    for (branch, beside, high) in path::Iterator::<F>::new(peak, height, first, target) {
+        let word = format!(in alloc; "{branch}:{beside}:{high}")?;
+        words.push(word.as_str())?;
+    }
+    words.finish(alloc)
+}
+
+// Adds the positions of a tree's nodes, those of the children before that of the branch.
+fn push_positions(alloc: Global, words: &mut Words, tree: &Tree) -> Result<(), Unanswered> {
+    match tree {
+        Tree::Leaf(position) => words.push_number(alloc, *position),
+        Tree::Branch(position, left, right) => {
+            push_positions(alloc, words, left)?;
+            push_positions(alloc, words, right)?;
+            words.push_number(alloc, *position)
+        }
+    }
+}
+
+// The positions of the forest that is grown of so many leaves, tree by tree from the left.
+fn grown<F: Graftable>(alloc: Global, leaves: u64) -> Result<String, Unanswered> {
+    if leaves > MOST_GROWN {
+        return Err(Unanswered::BadLine);
+    }
+    let mut words = Words::new(alloc);
+    for peak in grow::<F>(alloc, leaves)?.iter().rev() {
+        push_positions(alloc, &mut words, peak)?;
+    }
+    words.finish(alloc)
+}
+
+// The first leaf of each peak of the grown forest, from the left.
+fn located<F: Graftable>(alloc: Global, leaves: u64) -> Result<String, Unanswered> {
+    if leaves > MOST_GROWN {
+        return Err(Unanswered::BadLine);
+    }
+    let mut words = Words::new(alloc);
+    for (start, _) in &locate(alloc, &grow::<F>(alloc, leaves)?)? {
+        words.push_number(alloc, *start as u64)?;
+    }
+    words.finish(alloc)
+}
+
+// How many peaks of so many single leaves side by side, at most three, end at the floor or before it.
+fn counted(alloc: Global, leaves: usize, floor: u64) -> Result<String, Unanswered> {
+    let leaf = Tree::Leaf(0);
+    let peaks = [(0, &leaf), (1, &leaf), (2, &leaf)];
+    let count = match leaves {
+        0 => inactive_count_of(floor, &[]),
+        3 => inactive_count_of(floor, &peaks),
+        _ => return Err(Unanswered::BadLine),
+    };
+    Ok(count.to_string(alloc)?)
+}
+
+// Which peaks merge next, of these heights from the right.
+fn merge<F: Family>(alloc: Global, merges: usize, words: &[&str]) -> Result<String, Unanswered> {
+    let mut heights = Vec::new(alloc);
+    for word in words {
+        heights.push(word.parse::<u64>()?)?;
+    }
+    or_none(alloc, F::merge_index(merges, &heights))
+}
+
+// The position of the leaf at a location.
+fn position<F: Family>(alloc: Global, location: u64) -> Result<String, Unanswered> {
+    if location > MAX_LEAVES {
+        return Err(Unanswered::BadLine);
+    }
+    Ok(F::location_to_position(Location::new(location)).to_string(alloc)?)
+}
+
+/// The answer to a question about the nodes of a family's forests.
+pub fn answer<F: Graftable>(alloc: Global, words: &[&str]) -> Result<String, Unanswered> {
+    match words {
+        ["position-of", location] => position::<F>(alloc, location.parse()?),
+        ["location-of", at] => {
+            or_none(alloc, F::position_to_location(Position::new(at.parse()?)))
+        }
+        ["nearest-size", at] => {
+            Ok(F::to_nearest_size(Position::new(at.parse()?)).to_string(alloc)?)
+        }
+        ["peaks", leaves] => peaks::<F>(alloc, leaves.parse()?),
+        ["pins", leaves] => pins::<F>(alloc, leaves.parse()?),
+        ["parents", leaves] => parents::<F>(alloc, leaves.parse()?),
+        ["inactive", leaves, floor] => inactive::<F>(alloc, leaves.parse()?, floor.parse()?),
+        ["node", at] => node::<F>(alloc, at.parse()?),
+        ["children", at] => children::<F>(alloc, at.parse()?),
+        ["chunk", leaves, number, height] => {
+            chunk::<F>(alloc, leaves.parse()?, number.parse()?, height.parse()?)
+        }
+        ["has", leaves, first, height] => {
+            has::<F>(alloc, leaves.parse()?, first.parse()?, height.parse()?)
+        }
+        ["way", leaves, height, target] => {
+            way::<F>(alloc, leaves.parse()?, height.parse()?, target.parse()?)
+        }
+        ["grown", leaves] => grown::<F>(alloc, leaves.parse()?),
+        ["located", leaves] => located::<F>(alloc, leaves.parse()?),
+        ["counted", leaves, floor] => counted(alloc, leaves.parse()?, floor.parse()?),
+        ["merge", merges, heights @ ..] => merge::<F>(alloc, merges.parse()?, heights),
+        _ => Err(Unanswered::BadLine),
+    }
+}

@@ -1,0 +1,93 @@
+//! The texts of the script's lines, and those of refusals.
+//!
+//! A text is one word. In it `~` stands for a space, `!` for a carriage return and `^` for a tab; `-` alone is the
+//! empty text.
+
+use auth_store_ledger::is_chunk_width;
+use auth_store_parts::script::{InputError, Line, parse_key, parse_line, parse_number};
+use auth_store_session::StoreError;
+use case_lines::Unanswered;
+use merkle_forest::codec::FixedBytes;
+use merkle_forest::digest::Digest;
+use std::alloc::{AllocError, Global};
+
+/// The bytes of a text.
+pub fn text_bytes(alloc: Global, text: &str) -> Result<Vec<u8>, AllocError> {
+    let mut bytes = Vec::new(alloc);
+    if text == "-" {
+        return Ok(bytes);
+    }
+    for byte in text.as_bytes() {
+        bytes.push(match *byte {
+            b'~' => b' ',
+            b'!' => b'\r',
+            b'^' => b'\t',
+            other => other,
+        })?;
+    }
+    Ok(bytes)
+}
+
+// A line about a key: its word, the key's digits and what stands behind them.
+fn of_key(
+    alloc: Global,
+    word: &str,
+    key: FixedBytes<8>,
+    behind: Option<u64>,
+) -> Result<String, AllocError> {
+    let digits = hex::encode(alloc, key.as_bytes())?;
+    match behind {
+        Some(number) => format!(in alloc; "{word} {digits} {number}"),
+        None => format!(in alloc; "{word} {digits}"),
+    }
+}
+
+// What a line asks for.
+fn of_line(alloc: Global, line: Line) -> Result<String, AllocError> {
+    match line {
+        Line::Empty => "empty".to_string(alloc),
+        Line::New { seed } => format!(in alloc; "new {seed}"),
+        Line::Open => "open".to_string(alloc),
+        Line::Put { key, value } => of_key(alloc, "put", key, Some(value)),
+        Line::Commit { metadata: None } => "commit".to_string(alloc),
+        Line::Commit {
+            metadata: Some(metadata),
+        } => format!(in alloc; "commit {metadata}"),
+        Line::Get { key } => of_key(alloc, "get", key, None),
+        Line::Root => "root".to_string(alloc),
+        Line::Prove { key } => of_key(alloc, "prove", key, None),
+        Line::Proof => "proof".to_string(alloc),
+        Line::CheckValue { key, value } => of_key(alloc, "check", key, Some(value)),
+    }
+}
+
+// The text of a refusal of this name.
+fn of_refusal(alloc: Global, name: &str) -> Result<String, Unanswered> {
+    match name {
+        "S6" => Ok(format!(in alloc; "{}", StoreError::Failed)?),
+        "memory" => Ok(format!(in alloc; "{}", InputError::Memory)?),
+        "read" => Ok(format!(in alloc; "{}", InputError::Read)?),
+        _ => Err(Unanswered::BadLine),
+    }
+}
+
+/// What is answered of texts.
+pub fn answer(alloc: Global, words: &[&str]) -> Result<String, Unanswered> {
+    match words {
+        ["key", text] => match parse_key(&text_bytes(alloc, text)?) {
+            Some(key) => Ok(hex::encode(alloc, key.as_bytes())?),
+            None => Ok("none".to_string(alloc)?),
+        },
+        ["number", text] => match parse_number(&text_bytes(alloc, text)?) {
+            Some(number) => Ok(format!(in alloc; "{number}")?),
+            None => Ok("none".to_string(alloc)?),
+        },
+        ["line", text] => match parse_line(&text_bytes(alloc, text)?) {
+            Some(line) => Ok(of_line(alloc, line)?),
+            None => Ok("none".to_string(alloc)?),
+        },
+        ["of", name] => of_refusal(alloc, name),
+        ["width", width] => Ok(format!(in alloc; "{}", is_chunk_width(width.parse()?))?),
+        _ => Err(Unanswered::BadLine),
+    }
+}

@@ -1,0 +1,148 @@
+//! Plays cases of bits, of their maps and of the proofs of a state: a call a line, its answer a line.
+#![tactic(auto)]
+
+mod arguments;
+mod bits;
+mod building;
+mod canonical;
+mod counts;
+mod grafted;
+mod kept_bits;
+mod log_proofs;
+mod map_proofs;
+mod map_told;
+mod maps;
+mod reading;
+mod refusals;
+mod state;
+mod state_lines;
+
+use arguments::{Answer, Hash, digest, done, numbers_told};
+use bits::Bits;
+use case_lines::{Player, Unanswered, bytes};
+use maps::Map;
+use merkle_forest::codec::FixedBytes;
+use merkle_forest::{mmb, mmr};
+use reading::Shown;
+use state::State;
+use state_proofs::ChunkSize;
+use std::alloc::Global;
+
+/// A state in a tree of either family.
+#[derive(Drop)]
+enum Family {
+    Range(State<mmr::Family>),
+    Belt(State<mmb::Family>),
+}
+
+/// What a case has made so far.
+#[derive(Drop)]
+struct ProofsPlayer {
+    bits: Bits,
+    map: Map,
+    state: Option<Family>,
+    root: Hash,
+    proof: Vec<u8>,
+}
+
+impl ProofsPlayer {
+    // Begins a state without operations: `family NAME WIDTH`.
+    fn begun(&mut self, alloc: Global, name: &str, width: &str) -> Answer {
+        let Some(chunk_size) = ChunkSize::new(width.parse()?) else {
+            return Err(Unanswered::BadLine);
+        };
+        self.state = match name {
+            "mmr" => Some(Family::Range(State::empty(alloc, chunk_size))),
+            "mmb" => Some(Family::Belt(State::empty(alloc, chunk_size))),
+            _ => return Err(Unanswered::BadLine),
+        };
+        done(alloc)
+    }
+
+    // The answer to a line about a state or a proof.
+    fn of_state(&mut self, alloc: Global, words: &[&str]) -> Answer {
+        let shown = Shown {
+            bytes: &self.proof,
+            root: &self.root,
+        };
+        match &mut self.state {
+            Some(Family::Range(state)) => state.answer(alloc, shown, words),
+            Some(Family::Belt(state)) => state.answer(alloc, shown, words),
+            None => Err(Unanswered::BadLine),
+        }
+    }
+
+    // The bits of the kept bytes that, changed singly, leave the answer to a line at `true`.
+    fn spoilt(&mut self, alloc: Global, words: &[&str]) -> Answer {
+        let mut found = Vec::new(alloc);
+        for index in 0..self.proof.len() {
+            for bit in 0..8u8 {
+                self.turn(index, bit);
+                let told = self.of_state(alloc, words);
+                self.turn(index, bit);
+                if told?.as_str() == "true" {
+                    arguments::keep(&mut found, index as u64)?;
+                }
+            }
+        }
+        numbers_told(alloc, &found)
+    }
+
+    // Turns a bit of the kept bytes.
+    fn turn(&mut self, index: usize, bit: u8) {
+        if let Some(byte) = self.proof.get_mut(index) {
+            *byte ^= 1u8.wrapping_shl(u32::from(bit));
+        }
+    }
+
+    // The lengths to which the kept bytes, cut, leave the answer to a line at `true`.
+    fn shortened(&mut self, alloc: Global, words: &[&str]) -> Answer {
+        let mut found = Vec::new(alloc);
+        let all = self.proof.clone()?;
+        for length in 0..all.len() {
+            self.proof.truncate(all.len() - 1 - length);
+            if self.of_state(alloc, words)?.as_str() == "true" {
+                arguments::keep(&mut found, self.proof.len() as u64)?;
+            }
+        }
+        self.proof = all;
+        numbers_told(alloc, &found)
+    }
+}
+
+impl Player for ProofsPlayer {
+    fn begin(alloc: Global) -> Result<ProofsPlayer, Unanswered> {
+        Ok(ProofsPlayer {
+            bits: Bits::none(alloc),
+            map: Map::none(),
+            state: None,
+            root: FixedBytes::new([0; 32]),
+            proof: Vec::new(alloc),
+        })
+    }
+
+    fn answer(&mut self, alloc: Global, words: &[&str]) -> Answer {
+        match words {
+            ["bits", words @ ..] => self.bits.answer(alloc, words),
+            ["map", words @ ..] => self.map.answer(alloc, words),
+            ["chunk_size", words @ ..] => counts::of_sizes(alloc, words),
+            ["chunk", words @ ..] => counts::of_chunks(alloc, words),
+            ["family", name, width] => self.begun(alloc, name, width),
+            ["root", word] => {
+                self.root = digest(word)?;
+                done(alloc)
+            }
+            ["proof", digits] => {
+                self.proof = bytes(alloc, digits)?;
+                done(alloc)
+            }
+            ["spoilt", words @ ..] => self.spoilt(alloc, words),
+            ["shortened", words @ ..] => self.shortened(alloc, words),
+            words => self.of_state(alloc, words),
+        }
+    }
+}
+
+fn main(rt: HostRuntime) -> anyhow::Result<()> {
+    case_lines::play::<ProofsPlayer>(&rt)
+}

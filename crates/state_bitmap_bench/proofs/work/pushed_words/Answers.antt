@@ -1,5 +1,0 @@
-use Rattle.std.proofs.Common.{arith, refl}
-use Rattle.state_bitmap_bench.proofs.work.pushed_words.Goals as goal
-
-pub pushed-requires : goal.pushed-requires
-pushed-requires c = (8, refl, omega arith)

@@ -1,5 +1,0 @@
-use Rattle.std.proofs.Common.{arith, refl}
-use Rattle.state_bitmap_bench.proofs.work.set_often.Goals as goal
-
-pub filled-requires : goal.filled-requires
-filled-requires c = (omega arith, (3, refl, omega arith))

@@ -1,5 +1,0 @@
-use Rattle.std.proofs.Common.{arith, refl}
-use Rattle.state_bitmap_tests.proofs.bits.sweeps.tails_after_chunks_of_one_byte_folded_backward.Goals as goal
-
-pub are_tails_shown-requires : goal.are_tails_shown-requires
-are_tails_shown-requires g c = (3, refl, omega arith)

@@ -1,5 +1,0 @@
-use Rattle.std.proofs.Common.{refl, arith}
-use Rattle.state_proofs_bench.proofs.work.prove_range.Goals as goal
-
-pub new-requires-4 : goal.new-requires-4
-new-requires-4 c = (11, refl, omega arith)

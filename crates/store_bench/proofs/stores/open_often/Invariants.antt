@@ -1,0 +1,6 @@
+use Rattle.std.proofs.Common.{◌≡◌, None}
+use Rattle.auth_store_session.specs.Stores.{IsCache}
+use Rattle.store_bench.proofs.stores.open_often.Given as goal
+
+abbrev pub invariant-loop : goal.invariant-loop
+invariant-loop l = (l.device.log ≡ None) × IsCache l.cache

@@ -1,0 +1,38 @@
+//! Measures openings of a store beside reading its log (`openings`), reads of values beside lookups of their keys (`reads`),
+//! and calls of the device beside those of the faulty store under it (`device`), each for so many thousands of operations.
+//! It reads from standard input what is measured, a line each: a subject, and a number that says how much of it. Standard
+//! output gets what was done and a sum of the answers, standard error the processor time of one.
+#![tactic(auto)]
+
+mod calls;
+mod device;
+mod openings;
+mod plain_hash;
+mod reads;
+mod stores;
+
+use std::alloc::Global;
+use std::io;
+use std::time::CpuClock;
+
+// Measures the subject that a line names; of others it says so.
+fn measure_subject<R: Print + Eprint + CpuClock>(
+    rt: &R,
+    alloc: Global,
+    line: &str,
+) -> io::Result<()> {
+    let words: Vec<&str> = line.split_whitespace().collect(alloc)?;
+    match words.as_slice() {
+        ["openings", count] => openings::measure_all(rt, alloc, count.parse().unwrap_or(1)),
+        ["reads", count] => reads::measure_all(rt, alloc, count.parse().unwrap_or(1)),
+        ["device", count] => device::measure_all(rt, alloc, count.parse().unwrap_or(1)),
+        _ => println!(rt; "bad line"),
+    }
+}
+
+fn main(rt: HostRuntime) -> io::Result<()> {
+    for line in rt.lines(rt.alloc()) {
+        measure_subject(&rt, rt.alloc(), line?.as_str())?;
+    }
+    Ok(())
+}

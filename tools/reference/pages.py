@@ -1,0 +1,410 @@
+#!/usr/bin/env python3
+"""The answers to cases of pages and of writers over them, from the format alone.
+
+    tools/reference/pages.py < crates/pages_player/stdin > crates/pages_player/stdout
+
+Files are bytes as long as they are given; once a writer has written, what is known of a page is its content and the lengths that
+its two slots say, since the format leaves open which slot comes first. Choices of ours that no promise fixes are marked "ours".
+"""
+
+import struct
+import sys
+import zlib
+
+from operations import Bad, hexed, number, unhex
+
+TEXTS = {
+    "F1": "F1: blob missing",
+    "F6": "F6: injected fault",
+    "F7": "F7: blob too short",
+    "F8": "F8: number ended",
+    "F9": "F9: out of memory",
+    "F10": "F10: power cut",
+    "F12": "F12: checksum mismatch",
+}
+
+
+class Refused(Exception):
+    """A call that is refused, by its number."""
+
+
+def spelled(words):
+    out = b""
+    for word in words:
+        digits, _, times = word.partition("*")
+        out += unhex(digits) * (number(times) if times else 1)
+    return out
+
+
+def is_page_size(size):
+    return 16 <= size <= 65536 and size & (size - 1) == 0
+
+
+def footer(page):
+    return struct.unpack(">HIHI", page[-12:])
+
+
+def counted_slot(page):
+    """The slot that counts, and its length; None where none verifies."""
+    len1, crc1, len2, crc2 = footer(page)
+    verified = []
+    for name, length, crc in (("first", len1, crc1), ("second", len2, crc2)):
+        if 1 <= length <= len(page) - 12 and zlib.crc32(page[:length]) == crc:
+            verified.append((name, length))
+    return max(verified, key=lambda it: it[1]) if verified else None
+
+
+def recovered(file, size):
+    """The content that is recovered of a file."""
+    content = b""
+    for start in range(0, len(file) - len(file) % size, size):
+        page = file[start : start + size]
+        found = counted_slot(page)
+        if found is None:
+            break
+        content += page[: found[1]]
+        if found[1] < size - 12:
+            break
+    return content
+
+
+def page_of(first, second):
+    content = bytes(range(52))
+    sums = [zlib.crc32(content[:it]) if it else 0 for it in (first, second)]
+    return content + struct.pack(">HIHI", first, sums[0], second, sums[1])
+
+
+class Pages:
+    """What a writer left: content, and of each page the lengths that its slots say, that of the durable one first."""
+
+    def __init__(self, content, slots):
+        self.content, self.slots = content, slots
+
+
+class Writer:
+    def __init__(self, pages, size, capacity):
+        self.room, self.capacity = size - 12, max(capacity, size)
+        self.content, self.slots = pages.content, list(pages.slots)
+        self.synced = len(self.content)
+        self.flushed = len(self.content) - len(self.content) % self.room
+
+    def append(self, piece):
+        if len(self.content) - self.flushed + len(piece) > self.capacity:
+            self.content += piece
+            self.flush(len(self.content) - len(self.content) % self.room)
+        else:
+            self.content += piece
+
+    def flush(self, end):
+        """Puts the content up to an end on its pages: a page that has a durable slot gets the other one."""
+        for page in range(self.flushed // self.room, -(-end // self.room)):
+            length = min(self.room, end - page * self.room)
+            if page == len(self.slots):
+                self.slots.append((length, 0))
+            elif self.slots[page][0] != length:
+                self.slots[page] = (length, self.slots[page][0])
+        self.flushed = end - end % self.room
+
+    def sync(self):
+        self.flush(len(self.content))
+        self.synced = len(self.content)
+
+    def read(self, offset, count):
+        if offset + count > len(self.content):
+            return "F7"
+        return hexed(self.content[offset : offset + count])
+
+
+class Case:
+    def __init__(self):
+        self.file, self.pages = b"", None
+        self.size, self.capacity, self.room, self.calls = 64, 128, 8, 0
+        self.tip = (0, 64, b"")
+        self.cache = (4, 2, 0, [])
+        self.disk, self.record = b"", 0
+
+    def pages_now(self):
+        """The pages of what is recovered of the file."""
+        if self.pages:
+            return self.pages
+        content, room = recovered(self.file, self.size), self.size - 12
+        slots = []
+        for start in range(0, len(content), room):
+            length = min(room, len(content) - start)
+            # a writer clears the slot that does not count of a page that is not full
+            page = self.file[start // room * self.size :][: self.size]
+            other = [it for it in (footer(page)[0], footer(page)[2]) if it != length][:1] if length == room else []
+            slots.append((length, *(other or [0])))
+        return Pages(content, slots)
+
+    def cut_pages(self, size):
+        pages, room = self.pages_now(), self.size - 12
+        content = pages.content[:size]
+        count = -(-len(content) // room)
+        slots = pages.slots[:count]
+        if len(content) % room:
+            slots[-1] = (len(content) % room, 0)
+        return Pages(content, slots)
+
+    def check_sizes(self):
+        if not is_page_size(self.size) or self.room == 0:
+            raise Bad
+
+    def play(self, pages, words, told):
+        writer = Writer(pages, self.size, self.capacity)
+        while words:
+            words = self.step(writer, words, told)
+        # bytes that are in the writer's buffer are gone with it
+        self.pages = Pages(writer.content[: sum(it[0] for it in writer.slots)], writer.slots)
+        return ", ".join(told) or "ok"
+
+    def try_write(self, words):
+        writer, told = Writer(self.cut_pages(1 << 64), self.size, self.capacity), []
+        for at in range(0, len(words), 2):
+            match words[at : at + 2]:
+                case ["bytes", value]:
+                    piece = unhex(value)
+                case ["value", value]:
+                    piece = number(value).to_bytes(8, "big")
+                case _:
+                    raise Bad
+            if len(writer.content) - writer.flushed + len(piece) > writer.capacity:
+                told.append("none")
+            else:
+                told.append(str(len(writer.content)))
+                writer.content += piece
+        self.pages = Pages(writer.content[: sum(it[0] for it in writer.slots)], writer.slots)
+        return ", ".join([*told, str(len(writer.content))])
+
+    def step(self, writer, words, told):
+        match words:
+            case ["append" | "append-owned", text, *rest]:
+                told.append(str(len(writer.content)))
+                writer.append(unhex(text))
+            case ["sync", *rest]:
+                writer.sync()
+                told.append("ok")
+            case ["size", *rest]:
+                told.append(str(len(writer.content)))
+            case ["needs-sync", *rest]:
+                told.append("true" if writer.synced < len(writer.content) else "false")
+            case ["kept", page, *rest]:
+                # ours: a page that is flushed whole is kept, under the writer's second name
+                start = number(page) * writer.room
+                there = start + writer.room <= writer.flushed
+                told.append(writer.content[start : start + writer.room].hex() if there else "none")
+            case ["read", "at" | "into", offset, count, *rest]:
+                told.append(writer.read(number(offset), number(count)))
+            case ["read", "up-to", offset, count, *rest]:
+                count = min(number(count), len(writer.content) - number(offset))
+                told.append(writer.read(number(offset), count))
+            case _:
+                raise Bad
+        return rest
+
+    def answer(self, words):
+        match words:
+            case ["format", *words]:
+                return of_formats(words)
+            case ["tip", *words]:
+                return self.of_tip(words)
+            case ["cache", *words]:
+                return self.of_cache(words)
+            case ["disk", *words]:
+                return self.of_disk(words)
+            case ["write", *words]:
+                self.check_sizes()
+                return self.play(self.cut_pages(1 << 64), words, [])
+            case ["try-write", *words]:
+                self.check_sizes()
+                return self.try_write(words)
+            case ["recover", cut, *words]:
+                self.check_sizes()
+                found = len(self.pages_now().content)
+                return self.play(self.cut_pages(number(cut)), words, [str(found)])
+            case ["cut", size]:
+                if not is_page_size(self.size):
+                    raise Bad
+                found = len(self.pages_now().content)
+                self.pages = self.cut_pages(number(size))
+                left = len(self.pages.content)
+                # the file is opened and resized; a slot is written in three steps where its page gets shorter; a sync
+                is_shorter = left < found and left % (self.size - 12)
+                self.calls = 1 + 1 + (3 if is_shorter else 0) + 1
+                return str(left % (self.size - 12)) if left % (self.size - 12) else "none"
+            case ["text", name] if name in TEXTS:
+                return TEXTS[name]
+        return self.of_file(words)
+
+    def of_file(self, words):
+        match words:
+            case ["pages", size, capacity, room]:
+                self.size, self.capacity, self.room = number(size), number(capacity), number(room)
+            case ["file", *words]:
+                self.file, self.pages = spelled(words), None
+            case ["page", first, second]:
+                self.file, self.pages = self.file + page_of(number(first), number(second)), None
+            case ["length"]:
+                return str(len(self.pages.slots) * self.size if self.pages else len(self.file))
+            case ["calls"]:
+                return str(self.calls)
+            case ["show"] if not self.pages:
+                return hexed(self.file)
+            case ["slots"] if self.pages:
+                return ", ".join(f"{min(it)}:{max(it)}" for it in self.pages.slots) or "ok"
+            case ["slots"] if len(self.file) % self.size == 0:
+                lengths = [footer(self.file[at : at + self.size])[0::2] for at in range(0, len(self.file), self.size)]
+                return ", ".join(f"{min(it)}:{max(it)}" for it in lengths) or "ok"
+            case ["prefix"] if is_page_size(self.size):
+                return str(len(self.pages.content if self.pages else recovered(self.file, self.size)))
+            case ["found", _, most]:
+                self.check_sizes()
+                length = len(self.pages_now().content)
+                return f"{length}, {length}, {min(length, number(most))}"
+            case ["scan", _, most] if is_page_size(self.size):
+                length = len(self.pages_now().content)
+                return f"{length}, {min(length, number(most))}"
+            case _:
+                raise Bad
+        return "ok"
+
+    def of_tip(self, words):
+        offset, capacity, kept = self.tip
+        match words:
+            case ["new", offset, capacity]:
+                self.tip = (number(offset), number(capacity), b"")
+            case ["append", piece]:
+                piece = unhex(piece)
+                if offset + len(kept) + len(piece) >= 1 << 64:
+                    raise Bad
+                taken = piece[: max(capacity - len(kept), 0)]
+                self.tip = (offset, capacity, kept + taken)
+                return str(len(taken))
+            case ["drain", count] if number(count) <= len(kept):
+                self.tip = (offset + number(count), capacity, kept[number(count) :])
+            case ["truncate", count]:
+                self.tip = (offset, capacity, kept[: number(count)])
+            case ["restart", offset]:
+                self.tip = (number(offset), capacity, b"")
+            case ["show"]:
+                is_empty = "false" if kept else "true"
+                return f"{offset} {offset + len(kept)} {max(capacity - len(kept), 0)} {is_empty} {hexed(kept)}"
+            case _:
+                raise Bad
+        return "ok"
+
+    def of_cache(self, words):
+        size, room, names, kept = self.cache
+        match words:
+            case ["new", size, room] if number(size) and number(room) and number(size) < 65536:
+                self.cache = (number(size), number(room), 0, [])
+                return "ok"
+            case ["next-id"]:
+                self.cache = (size, room, names + 1, kept)
+                return str(names)
+            case ["page-size"]:
+                return str(size)
+            case ["place", offset]:
+                return f"{number(offset) // size} {number(offset) % size}"
+            case ["put", blob, piece, offset]:
+                piece, offset = unhex(piece), number(offset)
+                if offset % size or offset + len(piece) >= 1 << 64:
+                    raise Bad
+                for at in range(0, len(piece) - len(piece) % size, size):
+                    place = (number(blob), (offset + at) // size)
+                    # ours: a full cache gives up the page that was put longest ago
+                    kept = [it for it in kept if it[0] != place][-(room - 1) if room > 1 else len(kept) :]
+                    kept.append((place, piece[at : at + size]))
+                self.cache = (size, room, names, kept)
+                return str(len(piece) % size)
+            case ["page", blob, page]:
+                found = dict(kept).get((number(blob), number(page)))
+                return "none" if found is None else found.hex()
+        raise Bad
+
+    def of_disk(self, words):
+        try:
+            return self.disk_call(words)
+        except Refused as refusal:
+            return str(refusal)
+
+    def read(self, offset, count):
+        if offset + count >= 1 << 64:
+            raise Refused("F8")
+        if offset + count > len(self.disk):
+            raise Refused("F7")
+        return hexed(self.disk[offset : offset + count])
+
+    def disk_call(self, words):
+        match words:
+            case ["showing", text]:
+                self.disk, self.record = unhex(text), 1
+                return "ok"
+            case ["read", offset, count]:
+                return self.read(number(offset), number(count))
+            case ["read-many", *ranges] if len(ranges) % 2 == 0:
+                pairs = zip(ranges[::2], ranges[1::2])
+                return ", ".join(self.read(number(offset), number(count)) for offset, count in pairs) or "ok"
+            case ["write", offset, text, "plain" | "sync"]:
+                offset, piece = number(offset), unhex(text)
+                if offset + len(piece) >= 1 << 64:
+                    raise Refused("F8")
+                grown = self.disk.ljust(offset, b"\0")
+                self.disk = grown[:offset] + piece + grown[offset + len(piece) :]
+            case ["resize", size]:
+                self.disk = self.disk[: number(size)].ljust(number(size), b"\0")
+            case ["sync"]:
+                pass
+            case ["show"]:
+                return hexed(self.disk)
+            case ["calls"]:
+                return str(self.record)
+            case _:
+                raise Bad
+        self.record += 1
+        return "ok"
+
+
+def of_formats(words):
+    match words:
+        case ["footer", len1, crc1, len2, crc2]:
+            fields = [number(it) for it in (len1, crc1, len2, crc2)]
+            if max(fields[0::2]) > 65535 or max(fields[1::2]) >= 1 << 32:
+                raise Bad
+            return struct.pack(">HIHI", *fields).hex() + " 12"
+        case ["footer-of", text]:
+            text = unhex(text)
+            if len(text) != 12:
+                return "C1" if len(text) < 12 else "C2"
+            return " ".join(map(str, footer(text)))
+        case ["slot", *words]:
+            page = spelled(words)
+            if not is_page_size(len(page)):
+                raise Bad
+            found = counted_slot(page)
+            return f"{found[0]} {found[1]}" if found else "none"
+        case ["prefix", size, *words] if is_page_size(number(size)):
+            return str(len(recovered(spelled(words), number(size))))
+        case ["is-page-size", size]:
+            return "true" if is_page_size(number(size)) else "false"
+        case ["content-size", size] if is_page_size(number(size)):
+            return str(number(size) - 12)
+    raise Bad
+
+
+def main():
+    case = Case()
+    for line in sys.stdin:
+        words = line.split()
+        if words[:1] == ["case"]:
+            case = Case()
+            print(line.rstrip("\n"))
+        elif words and not words[0].startswith("#"):
+            try:
+                print(case.answer(words))
+            except Bad:
+                print("bad line")
+
+
+if __name__ == "__main__":
+    main()
