@@ -5,7 +5,7 @@ Refusals are raised as `Refused("F6", "sync")`: the number, and what it carries.
 """
 from zlib import crc32
 
-PIECE = 1024  # how images are lent: see settled.json
+PIECE = 1024  # images are lent in pieces of so many bytes, a choice of ours
 
 
 class Refused(Exception):
