@@ -43,15 +43,20 @@ fn shows(alloc: Global, root: &Root, proof: &[u8], key: Name, value: u64) -> Res
     Ok(check::<mmr::Family, ByteHash, Name, u64, 1>(alloc, root, &claim, proof)?)
 }
 
-fn main(rt: HostRuntime) -> Result<()> {
+// Puts 1 at a key, and prints which of two values the proof shows.
+fn put_and_prove(rt: &HostRuntime, store: &mut Small) -> Result<()> {
     let alloc = rt.alloc();
     let key = FixedBytes::new([0, 0, 0, 0, 0, 0, 0, 0x61]);
-    let mut store = open(alloc)?;
-    let root = put(alloc, &mut store, key, 1)?;
-    let proof = prove(&mut store, &key)?;
+    let root = put(alloc, store, key, 1)?;
+    let proof = prove(store, &key)?;
     for value in [1, 2] {
         let is_shown = shows(alloc, &root, &proof, key, value)?;
         println!(rt; "value {value}: {}", if is_shown { "yes" } else { "no" })?;
     }
     Ok(())
+}
+
+fn main(rt: HostRuntime) -> Result<()> {
+    let mut store = open(rt.alloc())?;
+    put_and_prove(&rt, &mut store)
 }

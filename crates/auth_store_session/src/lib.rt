@@ -5,7 +5,6 @@
 pub mod error;
 pub mod laws;
 pub mod live;
-pub mod run;
 pub mod session;
 pub mod sizes;
 pub mod store;

@@ -1,0 +1,166 @@
+//! Sessions and stores of both families, in narrow chunks and in wide ones.
+
+ghost use Rattle.std.specs.Prelude.{◌≡◌, None};
+
+use crate::asked::{Asking, sizes, small_sizes};
+use crate::standing::Standing;
+use crate::told::{all_told, told};
+use auth_store_device::Device;
+use auth_store_session::{Sizes, StoreError};
+use case_lines::Unanswered;
+use fault_storage::Config;
+use merkle_forest::{mmb, mmr};
+use rand_pcg::Pcg32;
+use std::alloc::Global;
+
+/// A family with a width of chunks.
+#[derive(Clone, Copy)]
+pub enum Kind {
+    /// A Merkle Mountain Range, with chunks of one byte.
+    Range,
+    /// A Range, with chunks of 32 bytes.
+    WideRange,
+    /// A Merkle Mountain Belt, with chunks of one byte.
+    Belt,
+    /// A Belt, with chunks of 32 bytes.
+    WideBelt,
+}
+
+/// A place for a session or a store of each family and width, of which one at most is taken.
+#[derive(Drop)]
+pub struct Any {
+    taken: Option<Kind>,
+    is_session: bool,
+    range: Standing<mmr::Family, 1>,
+    wide_range: Standing<mmr::Family, 32>,
+    belt: Standing<mmb::Family, 1>,
+    wide_belt: Standing<mmb::Family, 32>,
+}
+
+/// The kind of a family and a width; the sizes of its buffers where a store is asked for.
+pub fn asked_for(words: &[&str]) -> Result<(Kind, Option<Sizes>), Unanswered> {
+    match words {
+        ["session", family, width] => Ok((kind_of(family, width)?, None)),
+        ["store", family, width] => Ok((kind_of(family, width)?, Some(small_sizes()))),
+        ["store", family, width, write, replay] => {
+            Ok((kind_of(family, width)?, Some(sizes(write, replay)?)))
+        }
+        _ => Err(Unanswered::BadLine),
+    }
+}
+
+/// The kind of a family and a width.
+pub fn kind_of(family: &str, width: &str) -> Result<Kind, Unanswered> {
+    match (family, width) {
+        ("mmr", "1") => Ok(Kind::Range),
+        ("mmr", "32") => Ok(Kind::WideRange),
+        ("mmb", "1") => Ok(Kind::Belt),
+        ("mmb", "32") => Ok(Kind::WideBelt),
+        _ => Err(Unanswered::BadLine),
+    }
+}
+
+impl Any {
+    /// Nothing stands.
+    pub fn nothing() -> Any {
+        Any {
+            taken: None,
+            is_session: false,
+            range: Standing::Nothing,
+            wide_range: Standing::Nothing,
+            belt: Standing::Nothing,
+            wide_belt: Standing::Nothing,
+        }
+    }
+
+    /// Whether nothing stands.
+    pub fn is_nothing(&self) -> bool {
+        self.taken.is_none()
+    }
+
+    /// Whether a session stands.
+    pub fn is_session(&self) -> bool {
+        self.taken.is_some() && self.is_session
+    }
+
+    /// Begins a session of a kind over a closed device.
+    pub fn begin_session(&mut self, alloc: Global, device: Device<Pcg32>, kept: usize, kind: Kind)
+        requires { device.log ≡ None }
+    {
+        self.taken = Some(kind);
+        self.is_session = true;
+        match kind {
+            Kind::Range => self.range.begin_session(alloc, device, kept),
+            Kind::WideRange => self.wide_range.begin_session(alloc, device, kept),
+            Kind::Belt => self.belt.begin_session(alloc, device, kept),
+            Kind::WideBelt => self.wide_belt.begin_session(alloc, device, kept),
+        }
+    }
+
+    /// Opens a store of a kind over a closed device; a refusal gives the device back, closed.
+    pub fn open_store(
+        &mut self,
+        alloc: Global,
+        device: Device<Pcg32>,
+        kept: usize,
+        kind: Kind,
+        sizes: Sizes,
+    ) -> Result<(), (StoreError, Device<Pcg32>)>
+        requires { device.log ≡ None }
+    {
+        match kind {
+            Kind::Range => self.range.open_store(alloc, device, kept, sizes)?,
+            Kind::WideRange => self.wide_range.open_store(alloc, device, kept, sizes)?,
+            Kind::Belt => self.belt.open_store(alloc, device, kept, sizes)?,
+            Kind::WideBelt => self.wide_belt.open_store(alloc, device, kept, sizes)?,
+        }
+        self.taken = Some(kind);
+        self.is_session = false;
+        Ok(())
+    }
+
+    /// Takes the device away, closed, if something has it.
+    pub fn taken_apart(&mut self) -> Option<Device<Pcg32>> {
+        match self.taken.take()? {
+            Kind::Range => self.range.taken_apart(),
+            Kind::WideRange => self.wide_range.taken_apart(),
+            Kind::Belt => self.belt.taken_apart(),
+            Kind::WideBelt => self.wide_belt.taken_apart(),
+        }
+    }
+
+    /// The settings of a store by itself.
+    pub fn settings(&self) -> Result<Config, Unanswered> {
+        match self.taken {
+            Some(Kind::Range) => self.range.settings(),
+            Some(Kind::WideRange) => self.wide_range.settings(),
+            Some(Kind::Belt) => self.belt.settings(),
+            Some(Kind::WideBelt) => self.wide_belt.settings(),
+            None => Err(Unanswered::BadLine),
+        }
+    }
+
+    /// What is answered to a step.
+    pub fn step(&mut self, alloc: Global, step: Asking) -> Result<String, Unanswered> {
+        let answer = match self.taken {
+            Some(Kind::Range) => self.range.step(step)?,
+            Some(Kind::WideRange) => self.wide_range.step(step)?,
+            Some(Kind::Belt) => self.belt.step(step)?,
+            Some(Kind::WideBelt) => self.wide_belt.step(step)?,
+            None => return Err(Unanswered::BadLine),
+        };
+        told(alloc, &answer)
+    }
+
+    /// What is answered to steps that are taken as one run.
+    pub fn run(&mut self, alloc: Global, steps: Vec<Asking>) -> Result<String, Unanswered> {
+        let answers = match self.taken {
+            Some(Kind::Range) => self.range.run(alloc, steps)?,
+            Some(Kind::WideRange) => self.wide_range.run(alloc, steps)?,
+            Some(Kind::Belt) => self.belt.run(alloc, steps)?,
+            Some(Kind::WideBelt) => self.wide_belt.run(alloc, steps)?,
+            None => return Err(Unanswered::BadLine),
+        };
+        all_told(alloc, &answers)
+    }
+}

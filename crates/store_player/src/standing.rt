@@ -1,0 +1,149 @@
+//! A session, or a store by itself, of one family and one width of chunks.
+
+ghost use Rattle.std.specs.Prelude.{◌≡◌, None};
+ghost use Rattle.auth_store_ledger.specs.Store.{IsChunkWidth};
+ghost use Rattle.auth_store_session.specs.Stores.{IsCache};
+
+use crate::asked::{Asking, Name, Root};
+use auth_store_device::Device;
+use auth_store_run::run;
+use auth_store_session::{Answer, Session, Sizes, Step, Store, StoreError};
+use case_lines::Unanswered;
+use fault_storage::Config;
+use merkle_forest::{ByteHash, Graftable, PendingOf};
+use paged_blob::CacheRef;
+use rand_pcg::Pcg32;
+use std::alloc::{AllocError, Global};
+use std::mem;
+
+/// What a session, or a store, answers.
+pub type Told = Answer<Root, u64>;
+
+type Alone<F, const N: usize> = Store<Pcg32, F, ByteHash, Name, u64, N>;
+
+/// A session or a store that has the device, if one has.
+#[derive(Drop)]
+pub enum Standing<F: Graftable + PendingOf<Root>, const N: usize> {
+    /// None has it.
+    Nothing,
+    /// A session.
+    Session(Session<Pcg32, F, ByteHash, Name, u64, N>),
+    /// A store by itself.
+    Store(Store<Pcg32, F, ByteHash, Name, u64, N>),
+}
+
+// A new cache that keeps so many pages of 52 bytes, and one at least.
+fn cache(alloc: Global, kept: usize) -> CacheRef
+    ensures { IsCache result }
+{
+    CacheRef::new(alloc, 52, if kept == 0 { 1 } else { kept })
+}
+
+// Whether a store by itself can be asked for this step.
+fn is_of_store(step: &Asking) -> bool {
+    !matches!(step, Step::Open(_) | Step::Close | Step::Crash)
+}
+
+// What a store by itself answers.
+fn asked_of<F: Graftable + PendingOf<Root>, const N: usize>(
+    store: &mut Alone<F, N>,
+    step: Asking,
+) -> Result<Told, StoreError> {
+    match step {
+        Step::Commit(batch, metadata) => Ok(Answer::Committed(store.commit(batch, metadata)?)),
+        Step::Get(key) => Ok(Answer::Value(store.get(&key)?)),
+        Step::Root => Ok(Answer::Root(store.root()?)),
+        Step::Commits => Ok(Answer::Commits(store.commits()?)),
+        Step::Floor => Ok(Answer::Floor(store.floor()?)),
+        Step::Len => Ok(Answer::Len(store.len()?)),
+        Step::ProveKey(key) => Ok(Answer::Proof(store.prove_key(&key)?)),
+        Step::Config(settings) => {
+            store.set_config(settings);
+            Ok(Answer::Set)
+        }
+        Step::CutAfter(calls) => {
+            store.cut_after(calls);
+            Ok(Answer::Set)
+        }
+        Step::Open(_) | Step::Close | Step::Crash => Ok(Answer::NotOpen),
+    }
+}
+
+// Takes the steps as one run.
+fn answers_of<F: Graftable + PendingOf<Root>, const N: usize>(
+    alloc: Global,
+    session: &mut Session<Pcg32, F, ByteHash, Name, u64, N>,
+    steps: Vec<Asking>,
+) -> Result<Vec<Told>, AllocError> {
+    let mut answers = Vec::with_capacity(alloc, steps.len())?;
+    run(session, steps, &mut answers);
+    Ok(answers)
+}
+
+impl<F: Graftable + PendingOf<Root>, const N: usize> Standing<F, N> {
+    /// Begins a session over a closed device.
+    pub fn begin_session(&mut self, alloc: Global, device: Device<Pcg32>, kept: usize)
+        requires width { IsChunkWidth N }
+        requires closed { device.log ≡ None }
+    {
+        let session = Session::new(alloc, device, cache(alloc, kept));
+        let _before = mem::replace(self, Standing::Session(session));
+    }
+
+    /// Opens a store over a closed device; a refusal gives the device back, closed.
+    pub fn open_store(
+        &mut self,
+        alloc: Global,
+        device: Device<Pcg32>,
+        kept: usize,
+        sizes: Sizes,
+    ) -> Result<(), (StoreError, Device<Pcg32>)>
+        requires width { IsChunkWidth N }
+        requires closed { device.log ≡ None }
+    {
+        match Store::open(alloc, device, cache(alloc, kept), sizes) {
+            Ok(store) => {
+                let _before = mem::replace(self, Standing::Store(store));
+                Ok(())
+            }
+            Err(refused) => Err((refused.error, refused.device)),
+        }
+    }
+
+    /// Takes the device away, closed.
+    pub fn taken_apart(&mut self) -> Option<Device<Pcg32>> {
+        match mem::replace(self, Standing::Nothing) {
+            Standing::Session(session) => Some(session.into_parts().0),
+            Standing::Store(store) => Some(store.into_parts().0),
+            Standing::Nothing => None,
+        }
+    }
+
+    /// The settings of a store by itself.
+    pub fn settings(&self) -> Result<Config, Unanswered> {
+        match self {
+            Standing::Store(store) => Ok(store.config()),
+            _ => Err(Unanswered::BadLine),
+        }
+    }
+
+    /// What is answered to a step.
+    pub fn step(&mut self, step: Asking) -> Result<Told, Unanswered> {
+        match self {
+            Standing::Session(session) => Ok(session.step(step)),
+            Standing::Store(store) if is_of_store(&step) => match asked_of(store, step) {
+                Ok(answer) => Ok(answer),
+                Err(error) => Ok(Answer::Refused(error)),
+            },
+            _ => Err(Unanswered::BadLine),
+        }
+    }
+
+    /// What is answered to steps that are taken as one run.
+    pub fn run(&mut self, alloc: Global, steps: Vec<Asking>) -> Result<Vec<Told>, Unanswered> {
+        match self {
+            Standing::Session(session) => Ok(answers_of(alloc, session, steps)?),
+            _ => Err(Unanswered::BadLine),
+        }
+    }
+}
