@@ -39,6 +39,23 @@ fn cache(alloc: Global, kept: usize) -> CacheRef
     CacheRef::new(alloc, 52, if kept == 0 { 1 } else { kept })
 }
 
+// Opens a store over a closed device; a refusal gives the device back, closed.
+fn opened<F: Graftable + PendingOf<Root>, const N: usize>(
+    alloc: Global,
+    device: Device<Pcg32>,
+    cache: CacheRef,
+    sizes: Sizes,
+) -> Result<Alone<F, N>, (StoreError, Device<Pcg32>)>
+    requires width { IsChunkWidth N }
+    requires closed { device.log ≡ None }
+    requires cache { IsCache cache }
+{
+    match Store::open(alloc, device, cache, sizes) {
+        Ok(store) => Ok(store),
+        Err(refused) => Err((refused.error, refused.device)),
+    }
+}
+
 // Whether a store by itself can be asked for this step.
 fn is_of_store(step: &Asking) -> bool {
     !matches!(step, Step::Open(_) | Step::Close | Step::Crash)
@@ -101,13 +118,9 @@ impl<F: Graftable + PendingOf<Root>, const N: usize> Standing<F, N> {
         requires width { IsChunkWidth N }
         requires closed { device.log ≡ None }
     {
-        match Store::open(alloc, device, cache(alloc, kept), sizes) {
-            Ok(store) => {
-                let _before = mem::replace(self, Standing::Store(store));
-                Ok(())
-            }
-            Err(refused) => Err((refused.error, refused.device)),
-        }
+        let store = opened(alloc, device, cache(alloc, kept), sizes)?;
+        let _before = mem::replace(self, Standing::Store(store));
+        Ok(())
     }
 
     /// Takes the device away, closed.
