@@ -3,9 +3,9 @@
 
     python3 tools/reference/store.py < crates/store_player/stdin > crates/store_player/stdout
 
-A store is a log, of which all is computed anew, and the writer of it, which calls the device of devices.py: the calls
-that an opening, a commit and a read make, and their order, are modelled here. crates/store_player/README.md has the
-words of a line.
+A store is a log, of which all is computed anew, and the writer of it, which calls the device of devices.py. No
+definition tells which calls an opening, a commit and a read make, nor their order: these were read off the crates and
+are modelled here. crates/store_player/README.md has the words of a line.
 """
 import sys
 from copy import deepcopy
