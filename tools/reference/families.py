@@ -257,6 +257,9 @@ def of_nodes(family, words):
             return or_none(leaves if node_count(family, leaves) == number(position) else None)
         case ["nearest-size", position]:
             return str(node_count(family, greatest_leaves(family, number(position))))
+        case ["peaks-within", size]:
+            leaves = greatest_leaves(family, number(size))
+            return f"{node_count(family, leaves)} {leaves} {leaves}"
         case ["peaks", leaves]:
             return listed(f"{it.position}:{it.height}" for it in grow(family, number(leaves)).peaks)
         case ["pins", leaves]:

@@ -409,6 +409,9 @@ class Player:
             return joined(one for peak in nodes.forest().peaks for one in (peak.position, peak.height))
         if call == "kept":
             return joined(sorted(nodes.nodes))
+        if call in ("pinned", "listed"):
+            start = len(trees.grow(self.family, nodes.boundary).nodes)
+            return joined(it for it in sorted(nodes.nodes) if (it < start) == (call == "pinned"))
         if call == "base-size":
             return str(len(trees.grow(self.family, nodes.base_leaves).nodes))
         if call == "node":
@@ -426,6 +429,10 @@ class Player:
                 self.batches[name] = Batch(self.family, tree.leaves, tree.peaks(), tree.boundary)
             else:
                 self.batches[name] = self.made[words[1]].over()
+            return "ok"
+        if call == "new":
+            (parent,) = words
+            self.batches[name] = self.made[parent].over()
             return "ok"
         if call == "leaves":
             return str(self.batches[name].leaves())
@@ -553,11 +560,6 @@ class Player:
             return shown(found == digest(words[0]))
         if call == "rebuild-many":
             return shown(proofs.rebuild_multi(*setting, pairs(words, element)))
-        if call == "rebuild-one":
-            try:
-                return proofs.rebuild_range(*setting, count(words[0]), [element(words[1])]).hex()
-            except Refusal:
-                return "none"
         if call in ("rebuild", "rebuild-range"):
             return proofs.rebuild_range(*setting, count(words[0]), [element(one) for one in words[1:]]).hex()
         wanted, start = digest(words[0]), count(words[1])
@@ -602,15 +604,6 @@ class Player:
         digests = trees.node_digests(forest, trees.element_digests(forest, elements))
         found = proofs.honest_range(forest, digests, self.bagging, 0, count(start), count(stop))
         return joined(one.hex() for one in found)
-
-    def on_peak_over(self, leaves, location):
-        leaves, location = count(leaves), count(location)
-        if location >= leaves:
-            raise BadLine
-        peaks = trees.grow(self.family, leaves).peaks
-        for at, peak in enumerate(peaks):
-            if location in peak.leaves():
-                return joined([at, peak.first, peak.position, peak.height, len(peaks) - at - 1])
 
     def on_width(self, width, call, *words):
         if width not in ("1", "2", "32"):

@@ -4,7 +4,7 @@ use Rattle.std.specs.Prelude.{is_some, slice_get, slice_index_or, ◌-◌}
 use Rattle.std.specs.List.{AllByRecursion}
 use Rattle.merkle_forest.specs.Laws.Matching.{append_parts}
 use Rattle.state_ops.specs.Operation.{Operation, delete, update, ordered, commit_floor, fixed_size, unpadded, fixed_encoding}
-use Rattle.state_proofs.specs.MadeStates.{HasActive}
+use Rattle.state_proofs.specs.MadeRanges.{HasActive}
 use Rattle.auth_store_ledger.specs.Map.{Map, value_at, next_key}
 use Rattle.auth_store_ledger.specs.History.{History, AreStates, latest_map, is_kept, deletes, updates, batch_operations, inactivity_floor, log_of}
 use Rattle.auth_store_ledger.specs.Soundness.{HasSizes}

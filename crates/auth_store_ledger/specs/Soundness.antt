@@ -5,6 +5,7 @@ use Rattle.std.specs.List.{AllByRecursion}
 use Rattle.merkle_forest.specs.Made.{Strings}
 use Rattle.state_proofs.specs.Canonical.{Setting}
 use Rattle.state_proofs.specs.Encoded.{Format, ShowsUpdate}
+use Rattle.state_proofs.specs.MadeRanges as ranges
 use Rattle.state_proofs.specs.MadeStates as states
 use Rattle.auth_store_ledger.specs.Claims.{Claim, has_value}
 use Rattle.auth_store_ledger.specs.History.{History, Commit}
@@ -26,4 +27,4 @@ hashed_strings setting key value history = states.hashed_strings setting (state_
 -- the strings that are hashed when the canonical root is rebuilt from the proof that the bytes encode and from the claimed
 -- update, which the next key in the bytes makes whole
 abbrev pub rebuilt_strings : {format : Format} {root bytes : List ℕ} → Setting → (update : List ℕ → List ℕ) → ShowsUpdate format root update bytes → Strings
-rebuilt_strings setting update shown = states.rebuilt_strings setting shown.proof (update shown.next_key)
+rebuilt_strings setting update shown = ranges.rebuilt_strings setting shown.proof (update shown.next_key)

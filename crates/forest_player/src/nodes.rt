@@ -6,6 +6,7 @@ use crate::told::{Words, or_none};
 use case_lines::Unanswered;
 use merkle_forest::chunk_peaks::has_node;
 use merkle_forest::forest::{Tree, grow};
+use merkle_forest::peaks::Peaks;
 use merkle_forest::trees::{inactive_count_of, locate};
 use merkle_forest::{Family, Graftable, Location, MAX_LEAVES, Position, path};
 use std::alloc::Global;
@@ -52,6 +53,17 @@ fn peaks<F: Graftable>(alloc: Global, leaves: u64) -> Result<String, Unanswered>
         words.push_node(alloc, position.as_u64(), height)?;
     }
     words.finish(alloc)
+}
+
+// The greatest size up to this one that a forest has, and the leaves of that forest, as the way over its peaks tells them
+// at its beginning and behind the first peak.
+fn peaks_within<F: Graftable>(alloc: Global, size: u64) -> Result<String, Unanswered> {
+    let nearest = Peaks::<F>::to_nearest_size(Position::new(size));
+    let mut peaks = Peaks::<F>::new(nearest);
+    let leaves = peaks.leaves();
+    let _first = peaks.next();
+    let again = peaks.leaves();
+    Ok(format!(in alloc; "{nearest} {leaves} {again}")?)
 }
 
 // The peaks that are pinned where so many leaves are pruned.
@@ -218,6 +230,7 @@ pub fn answer<F: Graftable>(alloc: Global, words: &[&str]) -> Result<String, Una
             Ok(F::to_nearest_size(Position::new(at.parse()?)).to_string(alloc)?)
         }
         ["peaks", leaves] => peaks::<F>(alloc, leaves.parse()?),
+        ["peaks-within", size] => peaks_within::<F>(alloc, size.parse()?),
         ["pins", leaves] => pins::<F>(alloc, leaves.parse()?),
         ["parents", leaves] => parents::<F>(alloc, leaves.parse()?),
         ["inactive", leaves, floor] => inactive::<F>(alloc, leaves.parse()?, floor.parse()?),

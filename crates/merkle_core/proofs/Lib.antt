@@ -7,14 +7,7 @@ pub mod Places
 pub mod RangePeaks
 pub mod RangeRoots
 pub mod RangeTrees
-pub mod Rebuilds
 pub mod Walks
-pub mod Folds
-pub mod Reconstructs
-pub mod Siblings
-pub mod Splits
-pub mod Bags
-pub mod Accepted
 pub mod Short
 pub mod HonestRanges
 pub mod HonestRoots
@@ -26,9 +19,6 @@ pub mod Stores
 pub mod DigestCounts
 pub mod Extractions
 pub mod Pins
-pub mod OneRead
-pub mod OneBag
-pub mod OneRoot
 pub mod OneEach
 pub mod OneEachBag
 pub mod OneEachRoot

@@ -6,7 +6,7 @@ use Rattle.std.proofs.lemmas.List.{append_assoc, append-nil, map-append, length-
 use Rattle.std.proofs.lemmas.List.Elements.{filter-append}
 use Rattle.merkle_forest.specs.declared.bagging.Bagging.{Bagging}
 use Rattle.merkle_forest.specs.declared.bagging.Bagging.TheVariants.{ForwardFold, BackwardFold}
-use Rattle.merkle_forest.specs.Hashing.{Hash, fold_string, folded_forward, folded_backward}
+use Rattle.merkle_forest.specs.Hashing.{Hash, fold_string, folded_onto, folded_forward, folded_backward}
 use Rattle.merkle_forest.specs.Laws.Peaks.{leaf_count-pos}
 use Rattle.merkle_forest.specs.Trees.{Located, end_of}
 use Rattle.merkle_core.specs.Assembled.{assembled}
@@ -14,11 +14,15 @@ use Rattle.merkle_core.specs.MadeRoots.{from_left}
 use Rattle.merkle_core.specs.Plans.{inner_nodes}
 use Rattle.merkle_core.specs.RangeCounts.{passing}
 use Rattle.merkle_core.specs.Ranges.{Digests, is_before, is_after, as_one, singly, range_digests}
-use Rattle.merkle_core.proofs.Folds.{onto-append}
 use Rattle.merkle_core.proofs.HonestRanges.{Ascend}
 use Rattle.merkle_core.proofs.HonestRoots.{all_dropped}
 use Rattle.merkle_core.proofs.PlanFolds.{side_parts, inner_parts}
 use Rattle.merkle_core.proofs.RangePeaks.{all_taken}
+
+onto-append : (hash : Hash) (d : List ℕ) (xs ys : List (List ℕ))
+    → folded_onto hash d (xs ++ ys) ≡ folded_onto hash (folded_onto hash d xs) ys
+onto-append hash d [] ys = refl
+onto-append hash d (x ∷ xs) ys = onto-append hash (hash (fold_string d x)) xs ys
 
 -- what is folded from the left goes on
 fold_on : (hash : Hash) (xs ys : List (List ℕ))

@@ -1,14 +1,13 @@
 -- The children of a branch and the peaks of a forest, as positions.
-use Rattle.std.proofs.Common.{◌≡◌, ℕ, suc, ◌+◌, ◌*◌, ◌%◌, ◌-◌, ◌^◌, ◌<◌, ◌≤◌, true, false, inl, inr, List, [], ◌∷◌, refl, sym, ◌∙◌, ap, subst, arith}
+use Rattle.std.proofs.Common.{◌≡◌, ℕ, suc, ◌+◌, ◌*◌, ◌%◌, ◌-◌, ◌^◌, ◌<◌, ◌≤◌, inl, inr, List, [], ◌∷◌, sym, ◌∙◌, ap, subst, arith}
 use Rattle.std.proofs.Math.Nat.{pow-le-pow_right}
 use Rattle.merkle_forest.specs.Forest.{Tree, leaf, branch, position, height, leaf_count, leaves, Rule, forest_of}
 use Rattle.merkle_forest.specs.Perfect.{IsPairing}
 use Rattle.merkle_forest.specs.Laws.ForestGrowth.{forest_of-perfect, leaves-forest_of, height_fits}
-use Rattle.merkle_forest.specs.Nodes.{IsWithin, IsNodeAt, IsPeakAt, IsBranchOf, AreChildren, HasPeak}
+use Rattle.merkle_forest.specs.Nodes.{IsWithin, IsNodeAt, IsPeakAt, IsBranchOf, HasPeak}
 use Rattle.merkle_forest.specs.Laws.Nodes.{within-self, node-perfect, node-leaves, branch-height, peak-node, first_peak, next_peak}
 use Rattle.std.proofs.lemmas.Nat.{pow_pos, one_shl}
-use Rattle.std.proofs.lemmas.Bool.{lt-ltb, le-ltb}
-use Rattle.merkle_core.specs.Rebuilt.{IsTreeAt, IsChildOver}
+use Rattle.merkle_core.specs.Subtrees.{IsTreeAt}
 
 pub pow_le : (a b : ℕ) → a ≤ b → 2 ^ a ≤ 2 ^ b
 pow_le a b le = pow-le-pow_right {n = 2} (omega arith) le
@@ -177,66 +176,3 @@ pub shift : (leaf_total first h : ℕ) (node : Tree) → leaf_total ≤ 2 ^ 62 �
 shift leaf_total first h node few fits level =
     let low : h < 64 = omega (arith, level, height_fits 62 (height node) (omega arith)) in
     record { low = low; whole = one_shl h 64 low ∙ ap (λ n. 2 ^ n) level }
-
--- the child of a branch that holds the location, from the positions of both children
-pub child_left : (rule : Rule) → IsPairing rule → (location first p h at low : ℕ) (both : ℕ) (node : Tree)
-    → IsTreeAt rule first p h node → 0 < h → AreChildren rule p h at both → low ≡ h - 1
-    → location < first + 2 ^ low → IsChildOver rule location first node true first at low
-child_left rule pairs location first p h at low both (leaf q) tree some answers level lt =
-    absurd (let high : h ≡ 0 = tree.level in omega arith)
-child_left rule pairs location first p h at low both (branch q left right) tree some answers level lt =
-    let Stands : ℕ → Type 0 = λ n. IsNodeAt first (branch n left right) (forest_of rule tree.leaf_total) in
-    let it : Parts rule first p h = record {
-      left = left;
-      right = right;
-      leaf_total = tree.leaf_total;
-      few =
-          tree.few;
-      stands = subst Stands (sym tree.subtree) tree.stands;
-      high = tree.level;
-    } in
-    let at_both = answers left right (branch_of rule first p h it) in
-    let fit = parts-fit rule pairs first p h it in
-    let power : 2 ^ low ≡ 2 ^ height it.left = ap (λ n. 2 ^ n) (omega (arith, level, it.high)) in
-    record {
-      p = q;
-      left = left;
-      right = right;
-      is = refl;
-      side = sym (lt-ltb location (first + leaf_count left) (omega (arith, lt, power, fit.2)));
-      at_left = λ _. (refl, left_position rule pairs first p h at low it at_both.0 (omega (arith, level, it.high)));
-      at_right = λ no. absurd cc;
-    }
-
-pub child_right : (rule : Rule) → IsPairing rule → (location first middle p h at low : ℕ) (both : ℕ) (node : Tree)
-    → IsTreeAt rule first p h node → 0 < h → AreChildren rule p h both at → low ≡ h - 1
-    → middle ≡ first + 2 ^ low → middle ≤ location → IsChildOver rule location first node false middle at low
-child_right rule pairs location first middle p h at low both (leaf q) tree some answers level half le =
-    absurd (let high : h ≡ 0 = tree.level in omega arith)
-child_right rule pairs location first middle p h at low both (branch q left right) tree some answers level half le =
-    let Stands : ℕ → Type 0 = λ n. IsNodeAt first (branch n left right) (forest_of rule tree.leaf_total) in
-    let it : Parts rule first p h = record {
-      left = left;
-      right = right;
-      leaf_total = tree.leaf_total;
-      few =
-          tree.few;
-      stands = subst Stands (sym tree.subtree) tree.stands;
-      high = tree.level;
-    } in
-    let at_both = answers left right (branch_of rule first p h it) in
-    let fit = parts-fit rule pairs first p h it in
-    let power : 2 ^ low ≡ 2 ^ height it.left = ap (λ n. 2 ^ n) (omega (arith, level, it.high)) in
-    record {
-      p = q;
-      left = left;
-      right = right;
-      is = refl;
-      side = sym (le-ltb location (first + leaf_count left) (omega (arith, half, le, power, fit.2)));
-      at_left = λ no. absurd cc;
-      at_right = λ _. (
-        omega (arith, half, power, fit.2),
-        right_position rule pairs first middle p h at low it half
-            at_both.1 (omega (arith, level, it.high)),
-      );
-    }

@@ -9,7 +9,7 @@ use Rattle.merkle_forest.specs.Perfect.{IsPairing}
 use Rattle.merkle_forest.specs.Hashing.{Hash}
 use Rattle.merkle_forest.specs.Made.{Made, value}
 use Rattle.merkle_core.specs.Ranges.{meets, is_before, is_after}
-use Rattle.merkle_core.specs.Rebuilt.{IsTreeAt, HasTree}
+use Rattle.merkle_core.specs.Subtrees.{IsTreeAt, HasTree}
 use Rattle.merkle_core.specs.MadeTrees.{Over, Elements, Reading, from, given, read_tree}
 use Rattle.merkle_core.specs.Reads.{HashesAs, valued}
 use Rattle.merkle_core.proofs.Places.{shift}

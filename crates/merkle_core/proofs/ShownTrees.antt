@@ -8,7 +8,7 @@ use Rattle.merkle_core.specs.Multi.{is_named}
 use Rattle.merkle_core.specs.MultiReads.{both_there, read_shown}
 use Rattle.merkle_core.specs.Plans.{Lookup}
 use Rattle.merkle_core.specs.Reads.{HashesAs}
-use Rattle.merkle_core.specs.Rebuilt.{IsTreeAt}
+use Rattle.merkle_core.specs.Subtrees.{IsTreeAt}
 
 -- what is given as bytes has these for its digest
 pub value_bytes : (hash : Hash) (known : Option (List ℕ)) → option_map (value hash) (option_map bytes known) ≡ known

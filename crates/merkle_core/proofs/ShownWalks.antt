@@ -9,7 +9,7 @@ use Rattle.merkle_core.specs.MadeTrees.{Over, branch_made}
 use Rattle.merkle_core.specs.MultiReads.{Shown, locations_of, shown_at, shown_in, shown_from, both_there, read_shown}
 use Rattle.merkle_core.specs.Plans.{Lookup}
 use Rattle.merkle_core.specs.Reads.{HashesAs}
-use Rattle.merkle_core.specs.Rebuilt.{IsTreeAt}
+use Rattle.merkle_core.specs.Subtrees.{IsTreeAt}
 use Rattle.merkle_core.proofs.ShownLists.{map_filter, shown_left, shown_right, shown_own, shown_others, has_some}
 use Rattle.merkle_core.proofs.ShownLists.{named_shown, shown_leaf}
 use Rattle.merkle_core.proofs.ShownTrees.{value_bytes, read_unnamed, read_leaf, read_branch, none_left, none_right}

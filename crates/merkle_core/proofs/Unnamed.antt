@@ -9,7 +9,7 @@ use Rattle.merkle_forest.specs.Trees.{Located, end_of}
 use Rattle.merkle_core.specs.Multi.{is_named, unnamed_nodes, multi_nodes, AscendFrom, AllBelow, is_next, AreFound, first_bad}
 use Rattle.merkle_core.specs.Plans.{positions_of}
 use Rattle.merkle_core.specs.Reads.{AreChildTrees}
-use Rattle.merkle_core.specs.Rebuilt.{IsTreeAt}
+use Rattle.merkle_core.specs.Subtrees.{IsTreeAt}
 use Rattle.merkle_core.proofs.Walks.{AllFrom}
 use Rattle.merkle_core.proofs.PlanNodes.{after_both, after_none}
 

@@ -1,6 +1,5 @@
 pub mod Assembled
 pub mod Extracted
-pub mod Followed
 pub mod Laws
 pub mod ListDigests
 pub mod MadeRoots
@@ -18,8 +17,6 @@ pub mod RangeCounts
 pub mod Ranges
 pub mod RangesCode
 pub mod Reads
-pub mod Rebuilt
-pub mod Reconstructed
 pub mod Reconstruction
 pub mod Soundness
-pub mod Walked
+pub mod Subtrees

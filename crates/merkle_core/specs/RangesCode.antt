@@ -1,7 +1,7 @@
 -- The sides of a range, as the code names them.
 use Rattle.std.specs.Prelude.{Bool}
-use Rattle.merkle_core.specs.declared.ranges.Side.{Side}
-use Rattle.merkle_core.specs.declared.ranges.Side.TheVariants.{Before, After}
+use Rattle.merkle_core.specs.declared.building.plain.Side.{Side}
+use Rattle.merkle_core.specs.declared.building.plain.Side.TheVariants.{Before, After}
 use Rattle.merkle_forest.specs.Trees.{Located}
 use Rattle.merkle_core.specs.Ranges.{is_before, is_after}
 

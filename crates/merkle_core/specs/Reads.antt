@@ -8,7 +8,7 @@ use Rattle.merkle_core.specs.MadeTrees.{Over, Elements, from, leaf_made, branch_
 use Rattle.merkle_core.specs.MadeRoots.{Naming, peaks_of, read_root}
 use Rattle.merkle_core.specs.RangeCounts.{range_outer}
 use Rattle.merkle_core.specs.Ranges.{Digests}
-use Rattle.merkle_core.specs.Rebuilt.{IsTreeAt, HasTree}
+use Rattle.merkle_core.specs.Subtrees.{IsTreeAt, HasTree}
 use Rattle.merkle_core.specs.Soundness.{RangeClaim}
 
 -- a hasher's digests of leaves and branches are the values of what is made this way

@@ -2,10 +2,10 @@
 use Rattle.std.specs.Prelude.{◌≡◌, ℕ, ◌+◌, ◌<◌, ◌≤◌, ◌^◌, List, length, codes}
 use Rattle.merkle_forest.specs.declared.bagging.Bagging.{Bagging}
 use Rattle.merkle_forest.specs.Forest.{Rule}
-use Rattle.merkle_core.specs.declared.reconstruction.ReconstructionError.{ReconstructionError}
-use Rattle.merkle_core.specs.declared.reconstruction.ReconstructionError.TheVariants.{InvalidProof, MissingDigests, ExtraDigests}
-use Rattle.merkle_core.specs.declared.reconstruction.ReconstructionError.TheVariants.{InvalidStartLoc, InvalidEndLoc}
-use Rattle.merkle_core.specs.declared.reconstruction.ReconstructionError.TheVariants.{MissingElements, InvalidSize, Memory}
+use Rattle.merkle_core.specs.declared.verifying.error.ReconstructionError.{ReconstructionError}
+use Rattle.merkle_core.specs.declared.verifying.error.ReconstructionError.TheVariants.{InvalidProof, MissingDigests, ExtraDigests}
+use Rattle.merkle_core.specs.declared.verifying.error.ReconstructionError.TheVariants.{InvalidStartLoc, InvalidEndLoc}
+use Rattle.merkle_core.specs.declared.verifying.error.ReconstructionError.TheVariants.{MissingElements, InvalidSize, Memory}
 use Rattle.merkle_core.specs.MadeRoots.{peaks_of}
 use Rattle.merkle_core.specs.Plans.{IsWithinTree, inner_nodes}
 use Rattle.merkle_core.specs.RangeCounts.{range_outer}

@@ -1,14 +1,11 @@
 -- A plain tree: the list, what a proof claims, and what follows where the proof leads to the list's root.
 use Rattle.std.specs.Prelude.{◌≡◌, ◌⊎◌, ℕ, ◌+◌, ◌<◌, ◌≤◌, List, [], length, Option, slice_index_or}
 use Rattle.merkle_forest.specs.declared.bagging.Bagging.{Bagging}
-use Rattle.merkle_forest.specs.Forest.{Rule, forest_of}
+use Rattle.merkle_forest.specs.Forest.{Rule}
 use Rattle.merkle_forest.specs.Hashing.{Hash}
 use Rattle.merkle_forest.specs.Made.{at_tree_root, at_fold, Made, value, Strings, strings, Collision}
-use Rattle.merkle_forest.specs.Trees.{located}
-use Rattle.merkle_core.specs.MadeTrees.{Over, Elements, from, whole, plain_over, leaf_made, branch_made}
+use Rattle.merkle_core.specs.MadeTrees.{from, whole, plain_over}
 use Rattle.merkle_core.specs.MadeRoots.{Naming, made_root, read_root}
-use Rattle.merkle_core.specs.Rebuilt.{Hashing}
-use Rattle.merkle_core.specs.Reconstructed.{peaks_before, peaks_after, digests_before, digests_after}
 
 -- the sites of a tree alone
 abbrev pub plain_names : Naming
@@ -49,26 +46,3 @@ abbrev pub IsSound : Hash → Bagging → Rule → List (List ℕ) → ℕ → R
 IsSound hash bagging rule elements inactive claim made =
     value hash made ≡ value hash (list_root bagging rule elements inactive)
     → IsTrueOf elements inactive claim ⊎ Collision hash (hashed_strings hash bagging rule elements inactive) (strings hash made)
-
--- the digests of what is made are those of the hashing
-pub record Makes (hashing : Hashing) (hash : Hash) (over : Over) : Type 0 where
-  pub leaf : (p : ℕ) (element : List ℕ) → value hash (leaf_made p element) ≡ hashing.leaf_of p element
-  pub branch : (at high p : ℕ) (left right : Made)
-      → value hash (branch_made over at high p left right) ≡ hashing.over high (hashing.node_of p (value hash left) (value hash right))
-
--- the one element of a range of one
-abbrev pub only : List ℕ → Elements
-only element location = element
-
--- how many of the digests of a proof of one element stand for the peaks beside the one over it
-abbrev pub outer_count : Bagging → Rule → ℕ → ℕ → ℕ → ℕ
-outer_count bagging rule leaves inactive location =
-    let peaks = located (forest_of rule leaves) in
-    let before = length (peaks_before location peaks) in
-    digests_before bagging inactive before + digests_after bagging inactive before (length (peaks_after location peaks))
-
--- the root that a proof of one element leads to
-abbrev pub one_root : Naming → Over → Bagging → Rule → ℕ → ℕ → ℕ → List ℕ → List (List ℕ) → Option Made
-one_root names over bagging rule leaves inactive location element digests =
-    read_root names over bagging rule leaves inactive location (location + 1) (only element)
-    (outer_count bagging rule leaves inactive location) digests

@@ -11,7 +11,6 @@ ghost use Rattle.merkle_core_parts.specs.Layers.{AreLed};
 ghost use Rattle.merkle_core_parts.specs.Mem.{Nodes, Growth, node_at, own_layer, NodeHash, AreNodesOf, tree_digest, plain_node, plain_leaf_digests, pinned_positions};
 ghost use Rattle.merkle_core_parts.specs.declared.error.Error.{Error};
 ghost use Rattle.merkle_core_parts.specs.declared.error.Error.TheVariants.{Memory};
-ghost use Rattle.merkle_core.specs.Followed.{FollowsIn};
 ghost use Rattle.merkle_core.specs.Extracted.{AreMadeOf, AreGiven, AreExtracted, extracted_nodes};
 ghost use Rattle.merkle_core.specs.ListDigests.{GivesDigestsOrCollides};
 ghost use Rattle.merkle_core.specs.MadeRoots.{Naming, from_left, peaks_of};
@@ -25,29 +24,12 @@ ghost use Rattle.merkle_core.specs.Plans.{Lookup, IsLookupOf, made_by, honest_di
 ghost use Rattle.merkle_core.specs.ProofStores.{Kept, AreFoldsOf, IsPart, IsRefusalToBuildPart, digest_among, known_with, IsKnownOf, front_peaks, back_peaks, more_before, more_after, part_nodes, kept_nodes};
 ghost use Rattle.merkle_core.specs.Ranges.{Digests, range_digests};
 ghost use Rattle.merkle_core.specs.Reads.{Agrees, HashesAs, range_root, claim_of};
-ghost use Rattle.merkle_core.specs.Rebuilt.{Hashing};
-ghost use Rattle.merkle_core.specs.Reconstructed.{reconstructed};
-ghost use Rattle.merkle_core.specs.Soundness.{RangeClaim, claimed_root, hashed_strings, IsSound, Makes, list_root, one_root, plain_names};
+ghost use Rattle.merkle_core.specs.Soundness.{RangeClaim, claimed_root, hashed_strings, IsSound, list_root, plain_names};
 
-use crate::proof::MAX_PINNED_NODES;
 use merkle_forest::Digest;
-use merkle_forest::family::{Family, MAX_LEAVES};
+use merkle_forest::family::{Family, MAX_LEAVES, MAX_PINNED_NODES};
 use merkle_forest::graftable::Graftable;
 use merkle_forest::hasher::HashFunction;
-
-/// The digests of the honest proof of one element lead to the root of the tree, for all digests of trees that the
-/// hashing follows down to the element.
-pub fn honest_digests_lead_to_the_root<F: Family>()
-    ensures { (hashing : Hashing) (hash : Hash) (bagging : Bagging) (digest : Digests) (leaves inactive location : ℕ)
-        (element : List ℕ)
-        → leaves ≤ 2 ^ 62 → location < leaves → inactive ≤ length (forest_of F.merge_rule leaves)
-        → FollowsIn hashing digest F.merge_rule leaves location element
-        → reconstructed hashing hash bagging F.merge_rule leaves inactive location element
-        (range_digests hash digest bagging location (location + 1)
-        (take inactive (located (forest_of F.merge_rule leaves)))
-        (drop inactive (located (forest_of F.merge_rule leaves))))
-        ≡ Some (root_of hash bagging leaves inactive (peak_digests digest (forest_of F.merge_rule leaves))) }
-{}
 
 /// The honest proof of one element has at most 122 digests.
 pub fn honest_digests_are_few<F: Graftable>()
@@ -75,17 +57,6 @@ pub fn claims_are_true_or_strings_collide<F: Family>()
         → length elements ≤ 2 ^ 62 → inactive < 2 ^ 64
         → IfSome (claimed_root bagging F.merge_rule claim)
         (IsSound hash bagging F.merge_rule elements inactive claim) }
-{}
-
-/// Where a root is reconstructed from one element, it is the value of the term that is read of the proof: so is what
-/// `reconstruct_one` gives.
-pub fn reconstructed_is_read<F: Family>()
-    ensures { (hashing : Hashing) (hash : Hash) (names : Naming) (over : Over) (bagging : Bagging)
-        (leaves inactive location : ℕ) (element : List ℕ) (digests : List (List ℕ)) (root : List ℕ)
-        → Makes hashing hash over
-        → reconstructed hashing hash bagging F.merge_rule leaves inactive location element digests ≡ Some root
-        → IsSomeAnd (one_root names over bagging F.merge_rule leaves inactive location element digests)
-        (λ made. value hash made ≡ root) }
 {}
 
 /// At each site one string is hashed for a list, and one when a root is rebuilt from a proof of a range or of several
@@ -301,13 +272,11 @@ pub fn proofs_of_elements_are_short<F: Graftable>()
         → length (needed_positions F.merge_rule leaves locations) ≤ 122 * length locations }
 {}
 
-/// At most `MAX_PINNED_NODES` nodes stay pinned where a tree is pruned, be it a Merkle Mountain Range or a Merkle
-/// Mountain Belt; so many do where the boundary is one less than `MAX_LEAVES`.
-pub fn pinned_nodes_are_few()
-    ensures ranges { (boundary : ℕ) → boundary ≤ MAX_LEAVES
-        → length (pinned_positions mmr_rule boundary) ≤ MAX_PINNED_NODES }
-    ensures belts { (boundary : ℕ) → boundary ≤ MAX_LEAVES
-        → length (pinned_positions mmb_rule boundary) ≤ MAX_PINNED_NODES }
+/// At most `MAX_PINNED_NODES` nodes stay pinned where a tree is pruned; so many do in a Merkle Mountain Range and in a
+/// Merkle Mountain Belt where the boundary is one less than `MAX_LEAVES`.
+pub fn pinned_nodes_are_few<F: Family>()
+    ensures few { (boundary : ℕ) → boundary ≤ MAX_LEAVES
+        → length (pinned_positions F.merge_rule boundary) ≤ MAX_PINNED_NODES }
     ensures reached_by_ranges { length (pinned_positions mmr_rule (MAX_LEAVES - 1)) ≡ MAX_PINNED_NODES }
     ensures reached_by_belts { length (pinned_positions mmb_rule (MAX_LEAVES - 1)) ≡ MAX_PINNED_NODES }
 {}

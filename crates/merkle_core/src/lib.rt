@@ -2,6 +2,7 @@
 //! what an item is there.
 #![tactic(auto)]
 
+pub mod building;
 pub mod extraction;
 pub mod laws;
 pub mod mmb;
@@ -12,20 +13,16 @@ pub mod plan;
 pub mod proof;
 pub mod proof_store;
 pub mod provable;
-pub mod range;
-pub mod ranges;
 pub mod readable;
-pub mod rebuild;
-pub mod reconstruct;
-pub mod reconstruction;
-pub mod verification;
-pub mod walk;
+pub mod subtree;
+pub mod verifying;
 
 pub use extraction::ExtractionError;
 pub use merkle_core_parts::{Mem, batch, error, mem};
+pub use merkle_forest::MAX_PINNED_NODES;
 pub use plan::{ElementPlan, RangePlan};
-pub use proof::{MAX_PINNED_NODES, MAX_PROOF_DIGESTS_PER_ELEMENT, Proof};
+pub use proof::{MAX_PROOF_DIGESTS_PER_ELEMENT, Proof};
 pub use proof_store::{ProofStore, StoreError};
 pub use provable::Provable;
 pub use readable::Readable;
-pub use reconstruction::ReconstructionError;
+pub use verifying::error::ReconstructionError;

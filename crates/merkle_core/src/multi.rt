@@ -7,14 +7,13 @@ ghost use Rattle.merkle_forest.specs.Peaks.{located_from};
 ghost use Rattle.merkle_core.specs.Multi.{multi_nodes, AreMultiPositions, AscendFrom, is_next, AreFound};
 ghost use Rattle.merkle_core.specs.Multi.{first_bad, IsRefusalOfLocations};
 ghost use Rattle.merkle_core.specs.Plans.{positions_of};
-ghost use Rattle.merkle_core.specs.Rebuilt.{IsTreeAt, HasTree};
+ghost use Rattle.merkle_core.specs.Subtrees.{IsTreeAt, HasTree};
 
 pub mod root;
 pub(crate) mod tree;
 
-use crate::range::tree::children_of;
-use crate::rebuild::Subtree;
-use crate::walk::peak_at;
+use crate::subtree::{Subtree, peak_at};
+use crate::verifying::tree::children_of;
 use merkle_core_parts::Error;
 use merkle_forest::family::{Family, MAX_LEAVES};
 use merkle_forest::{Location, Position};

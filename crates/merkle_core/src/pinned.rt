@@ -9,14 +9,13 @@ ghost use Rattle.merkle_core.specs.Pinned.{at_peak, pinned_digest, inner_before,
 ghost use Rattle.merkle_core.specs.Plans.{sibling_nodes};
 ghost use Rattle.merkle_core.specs.RangeCounts.{range_outer};
 ghost use Rattle.merkle_core.specs.Ranges.{is_before, singly};
-ghost use Rattle.merkle_core.specs.Rebuilt.{IsTreeAt, HasTree};
+ghost use Rattle.merkle_core.specs.Subtrees.{IsTreeAt, HasTree};
 
-use crate::range::counts::{count_outer, sides_of};
-use crate::range::tree::{children_of, meets_range};
-use crate::range::{folded_singly, split_digests};
-use crate::ranges::append_folded_forward;
-use crate::rebuild::Subtree;
-use crate::walk::{peak_at, peaks_from};
+use crate::building::plain::append_folded_forward;
+use crate::subtree::{Subtree, peak_at, peaks_from};
+use crate::verifying::counts::{count_outer, sides_of};
+use crate::verifying::tree::{children_of, meets_range};
+use crate::verifying::{folded_singly, split_digests};
 use merkle_forest::Digest;
 use merkle_forest::family::{Family, MAX_LEAVES};
 use merkle_forest::hasher::Hasher;

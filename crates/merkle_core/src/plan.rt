@@ -8,12 +8,12 @@ ghost use Rattle.merkle_core.specs.Plans.{Lookup, AnswersAs, looked_up, first_mi
 pub(crate) mod digests;
 pub(crate) mod positions;
 
+use crate::building::plain::Side;
 use crate::plan::digests::{assemble, look_up};
 use crate::plan::positions::{append_inner, append_side};
 use crate::proof::Proof;
-use crate::range::counts::sides_of;
-use crate::ranges::Side;
-use crate::walk::peaks_from;
+use crate::subtree::peaks_from;
+use crate::verifying::counts::sides_of;
 use merkle_core_parts::Error;
 use merkle_forest::family::{Family, MAX_LEAVES};
 use merkle_forest::hasher::Hasher;

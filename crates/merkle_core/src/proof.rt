@@ -22,9 +22,9 @@ ghost use Rattle.merkle_core.specs.Proofs.{proof_encoding, greatest_length, afte
 use crate::extraction::{ExtractionError, extract};
 use crate::multi::root::reconstruct_shown;
 use crate::pinned::{Pins, are_pinned};
-use crate::range::peaks::Reader;
-use crate::range::reconstruct_range;
-use crate::reconstruction::ReconstructionError;
+use crate::verifying::error::ReconstructionError;
+use crate::verifying::peaks::Reader;
+use crate::verifying::reconstruct_range;
 use merkle_forest::Digest;
 use merkle_forest::codec::{
     Cursor, EncodeSize, Error, RangeCfg, Read, Write, number_size, or_undo, read_number,
@@ -40,9 +40,6 @@ use std::marker::PhantomData;
 
 /// The greatest count of digests in the proof of one element. In the Rust: `merkle::MAX_PROOF_DIGESTS_PER_ELEMENT`.
 pub const MAX_PROOF_DIGESTS_PER_ELEMENT: usize = 122;
-
-/// The greatest count of nodes that stay pinned where a tree is pruned. In the Rust: `merkle::MAX_PINNED_NODES`.
-pub const MAX_PINNED_NODES: usize = 62;
 
 /// A proof against a root: the leaf count, the count of inactive peaks, and digests of nodes. Its encoding is these in
 /// order. Reading takes the greatest count of digests; more are C6, and a leaf count past 2^62 is C7.

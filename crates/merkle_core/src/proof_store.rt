@@ -14,15 +14,15 @@ ghost use Rattle.merkle_core.specs.Reads.{HashesAs, range_root};
 
 mod part;
 
+use crate::building::multi_proof;
+use crate::building::plain::Side;
 use crate::extraction::ExtractionError;
 use crate::plan::positions::append_side;
 use crate::proof::Proof;
-use crate::range::counts::sides_of;
-use crate::range::{folded_singly, split_digests};
-use crate::ranges::Side;
 use crate::readable::Readable;
-use crate::verification::multi_proof;
-use crate::walk::peaks_from;
+use crate::subtree::peaks_from;
+use crate::verifying::counts::sides_of;
+use crate::verifying::{folded_singly, split_digests};
 use merkle_core_parts::Error;
 use merkle_forest::family::{Family, MAX_LEAVES};
 use merkle_forest::hasher::Hasher;

@@ -5,9 +5,9 @@ ghost use Rattle.merkle_core_parts.specs.Mem.{NodeHash, tree_digest};
 ghost use Rattle.merkle_core.specs.Plans.{looked_up, honest_digests, IsLookupOf, IsProvable};
 ghost use Rattle.merkle_core.specs.Plans.{IsRefusalToProveNow, IsRefusalToProveElement};
 
+use crate::building::{element_proof, range_proof};
 use crate::proof::Proof;
 use crate::readable::Readable;
-use crate::verification::{element_proof, range_proof};
 use merkle_core_parts::batch::MerkleizedBatch;
 use merkle_core_parts::{Error, Mem};
 use merkle_forest::family::Family;
@@ -19,7 +19,7 @@ use std::ops::Range;
 /// What proofs are built out of (own). In the Rust its methods are those of `merkle::mem::Mem` and of
 /// `merkle::batch::MerkleizedBatch`.
 pub trait Provable<F: Family>: Readable<F> {
-    /// The proof of the element at a location, as `verification::element_proof` builds it, with its refusals. In the
+    /// The proof of the element at a location, as `building::element_proof` builds it, with its refusals. In the
     /// Rust: `proof`.
     final fn proof<H: Hasher<F, Digest = Self::Digest>>(
         &self,
@@ -50,7 +50,7 @@ pub trait Provable<F: Family>: Readable<F> {
         element_proof(alloc, hasher, self, location, inactive_peaks)
     }
 
-    /// The proof of a range, as `verification::range_proof` builds it, with its refusals. In the Rust: `range_proof`.
+    /// The proof of a range, as `building::range_proof` builds it, with its refusals. In the Rust: `range_proof`.
     final fn range_proof<H: Hasher<F, Digest = Self::Digest>>(
         &self,
         alloc: Global,

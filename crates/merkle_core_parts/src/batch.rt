@@ -103,6 +103,22 @@ impl<F: Family, D: Digest> UnmerkleizedBatch<F, D> {
         }
     }
 
+    /// A batch over this one that adds nothing yet. It fails only when out of memory: M23.
+    /// In the Rust: `merkle::batch::UnmerkleizedBatch::new`, over a shared batch.
+    pub fn new(parent: &MerkleizedBatch<F, D>) -> Result<UnmerkleizedBatch<F, D>, Error<F>>
+        ensures batch { IfOk result (λ batch. batch ≡ record {
+          base = record { leaves = parent.now.leaves; peaks = parent.now.peaks };
+          boundary = parent.now.boundary;
+          added = [];
+          updates = [];
+          below = own_layer parent.now ∷ parent.now.below;
+          dropped = parent.now.dropped;
+        }) }
+        ensures refused { IfErr result (λ e. e ≡ Error.Memory) }
+    {
+        parent.new_batch()
+    }
+
     /// How many leaves the tree has with those that are added. In the Rust: `merkle::batch::UnmerkleizedBatch::leaves`.
     pub fn leaves(&self) -> Location<F>
         ensures leaves { result ≡ self.now.base.leaves + length self.now.added }

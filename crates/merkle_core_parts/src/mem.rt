@@ -4,7 +4,7 @@ ghost use Rattle.std.specs.Prelude.{◌≡◌, ◌<◌, ◌≤◌, ◌+◌, ◌�
 ghost use Rattle.std.specs.Prelude.{false, take, IsTrue, IsSome, IsNone, IfSome, IsOk, IfOk, IfErr, OnOk, OnErr};
 ghost use Rattle.merkle_forest.specs.Forest.{size, forest_of};
 ghost use Rattle.merkle_forest.specs.Hashing.{root_of};
-ghost use Rattle.merkle_forest.specs.Peaks.{peak_positions};
+ghost use Rattle.merkle_forest.specs.Peaks.{all_peaks};
 ghost use Rattle.merkle_core_parts.specs.Errors.{IsRefusalOnto, IsRefusalToPrune, IsRefusalOfParts};
 ghost use Rattle.merkle_core_parts.specs.Mem.{node_count, node_at, peak_digests, AreNodesOf, list_root};
 ghost use Rattle.merkle_core_parts.specs.Mem.{AreKeptNodes, pinned_positions, placed};
@@ -17,7 +17,7 @@ use crate::error::Error;
 use crate::growth::known_digest;
 use crate::layer::{Layer, put_layers};
 use crate::peaks::{count_peaks, have_all_peaks, peaks_of, pinned_of, root_of_tree};
-use merkle_forest::family::MAX_LEAVES;
+use merkle_forest::family::{MAX_LEAVES, MAX_PINNED_NODES};
 use merkle_forest::hasher::Hasher;
 use merkle_forest::peaks::Peaks;
 use merkle_forest::{Digest, Family, Location, Position};
@@ -43,7 +43,7 @@ pub struct Mem<F: Family, D: Digest> {
 }
 
 impl<F: Family, D: Digest> Model for Mem<F, D> {
-    ghost use Rattle.std.specs.Prelude.{◌≡◌, ◌≤◌, ◌^◌, map};
+    ghost use Rattle.std.specs.Prelude.{◌≡◌, ◌≤◌, ◌^◌, map, length};
     ghost use Rattle.merkle_core_parts.specs.Mem.{Nodes, AreKeptNodes, node_count, encoded};
 
     ghost Value = { Nodes };
@@ -61,7 +61,8 @@ impl<F: Family, D: Digest> Model for Mem<F, D> {
           boundary = m.boundary;
           pinned = encoded D.encoding m.pinned.items;
           digests = map D.encoding m.digests.items;
-        }) };
+        })
+        × (length m.pinned.items ≤ 62) };
 }
 
 /// What a tree is made from that does not begin with no leaves: the nodes from a boundary on, in order of position, the
@@ -180,6 +181,7 @@ impl<F: Family, D: Digest> Mem<F, D> {
         ensures boundary { result ≡ self.now.boundary }
         ensures within { result ≤ self.now.leaves }
         ensures shape { AreKeptNodes F.merge_rule self.now }
+        ensures few_pinned { length self.now.pinned ≤ MAX_PINNED_NODES }
     {
         Location::new(self.boundary)
     }
@@ -195,7 +197,7 @@ impl<F: Family, D: Digest> Mem<F, D> {
     /// The peaks from left to right: the position and the height of each.
     /// In the Rust: `merkle::mem::Mem::peak_iterator`.
     pub fn peak_iterator(&self) -> Peaks<F>
-        ensures { result ≡ peak_positions (forest_of F.merge_rule self.now.leaves) }
+        ensures { result ≡ all_peaks F.merge_rule self.now.leaves }
     {
         Peaks::of_leaves(self.leaves())
     }

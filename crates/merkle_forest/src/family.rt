@@ -1,6 +1,6 @@
 //! Families of Merkle forests.
 
-ghost use Rattle.std.specs.Prelude.{◌≡◌, ◌≤◌, ◌<◌, ◌+◌, ◌↔◌, ℕ, List, Option, IfSome, IsSome, IsTrue, map};
+ghost use Rattle.std.specs.Prelude.{◌≡◌, ◌≤◌, ◌<◌, ◌+◌, ◌↔◌, ◌^◌, ℕ, List, Option, IfSome, IsSome, IsTrue, map, length};
 ghost use Rattle.std.specs.List.{range_with_len};
 ghost use Rattle.merkle_forest.specs.Forest.{IsPairOfEquals, size, forest_of};
 ghost use Rattle.merkle_forest.specs.Nodes.{HasPeak, IsPositionOfPeak, HasBranch, AreChildren, IsSize, StandsAt, IsHeightAt, AreParents};
@@ -18,6 +18,10 @@ pub const MAX_LEAVES: u64 = 0x4000_0000_0000_0000;
 
 /// The greatest node count, 2^63 - 1. In the Rust: `merkle::Family::MAX_NODES`, a constant of each family.
 pub const MAX_NODES: u64 = 0x7fff_ffff_ffff_ffff;
+
+/// The greatest count of peaks, which are the nodes that stay pinned where a tree is pruned: 62.
+/// In the Rust: `merkle::MAX_PINNED_NODES`.
+pub const MAX_PINNED_NODES: usize = 62;
 
 /// A family of forests, told by the rule by which appended leaves merge into trees. In the Rust: `merkle::Family`.
 pub trait Family: Copy + Debug + Drop {
@@ -55,6 +59,9 @@ pub trait Family: Copy + Debug + Drop {
 
     ghost merges_equals: { (merges : ℕ) (heights : List ℕ)
         → IfSome (merge_rule merges heights) (IsPairOfEquals heights) };
+
+    /// A forest of up to `MAX_LEAVES` leaves has at most `MAX_PINNED_NODES` peaks.
+    ghost peaks_bounded: { (leaves : ℕ) → leaves ≤ 2 ^ 62 → length (forest_of merge_rule leaves) ≤ 62 };
 
     /// The position of the leaf at a location, which is how many nodes the forest of the leaves before it has.
     /// In the Rust: `merkle::Family::location_to_position`.

@@ -26,7 +26,7 @@ pub mod trees;
 
 pub use bagging::Bagging;
 pub use error::Error;
-pub use family::{Family, MAX_LEAVES, MAX_NODES};
+pub use family::{Family, MAX_LEAVES, MAX_NODES, MAX_PINNED_NODES};
 pub use graftable::Graftable;
 pub use hasher::{ByteHash, HashFunction};
 pub use location::Location;

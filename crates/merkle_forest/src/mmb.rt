@@ -31,7 +31,7 @@ ghost use Rattle.merkle_forest.specs.Nodes.{IsSize, StandsAt, IsFirstLeaf};
 ghost use Rattle.merkle_forest.specs.Laws.Rules.{mmb_merges_equals};
 ghost use Rattle.merkle_forest.specs.Mmb.{birth, leaf_position, root_position};
 ghost use Rattle.merkle_forest.specs.Laws.MmbNodes.{aligned-mmb, apart-mmb, birth-mmb, node_position-mmb};
-ghost use Rattle.merkle_forest.specs.Laws.MmbCounts.{counted-mmb, soon-mmb, few-mmb};
+ghost use Rattle.merkle_forest.specs.Laws.MmbCounts.{counted-mmb, soon-mmb, few-mmb, peaks-mmb};
 
 use crate::family::MAX_LEAVES;
 use crate::graftable::Graftable;
@@ -134,6 +134,8 @@ impl family::Family for Family {
     }
 
     ghost merges_equals = { mmb_merges_equals };
+
+    ghost peaks_bounded = { peaks-mmb };
 }
 
 impl Graftable for Family {

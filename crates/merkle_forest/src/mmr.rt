@@ -26,7 +26,7 @@ ghost use Rattle.merkle_forest.specs.Laws.Rules.{mmr_merges_equals};
 ghost use Rattle.merkle_forest.specs.Mmr.{root_position};
 ghost use Rattle.merkle_forest.specs.Laws.MmrNodes.{node_position-mmr};
 ghost use Rattle.merkle_forest.specs.Laws.MmrBirths.{aligned-mmr, birth-chunk_mmr, apart-mmr};
-ghost use Rattle.merkle_forest.specs.Laws.MmrCounts.{counted-mmr, soon-mmr, few-mmr};
+ghost use Rattle.merkle_forest.specs.Laws.MmrCounts.{counted-mmr, soon-mmr, few-mmr, peaks-mmr};
 
 use crate::family::{MAX_LEAVES, MAX_NODES};
 use crate::graftable::Graftable;
@@ -78,6 +78,8 @@ impl family::Family for Family {
     }
 
     ghost merges_equals = { mmr_merges_equals };
+
+    ghost peaks_bounded = { peaks-mmr };
 }
 
 impl Graftable for Family {

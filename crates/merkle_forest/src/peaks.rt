@@ -5,7 +5,7 @@ ghost use Rattle.std.specs.Iterator.{YieldsFirst, item_count};
 ghost use Rattle.merkle_forest.specs.Forest.{forest_of};
 ghost use Rattle.merkle_forest.specs.Nodes.{IsSize};
 ghost use Rattle.merkle_forest.specs.Trees.{located, inactive_peaks};
-ghost use Rattle.merkle_forest.specs.Peaks.{peak_positions, ArePeaksOf};
+ghost use Rattle.merkle_forest.specs.Peaks.{ArePeaksOf, GivesFirstPeak, all_peaks};
 
 use crate::family::{Family, MAX_LEAVES};
 use crate::location::Location;
@@ -13,7 +13,8 @@ use crate::position::Position;
 use crate::sizes::greatest_leaf_count;
 use std::marker::{Model, PhantomData};
 
-/// The peaks of a forest from left to right: the position and the height of each. Contracts see those that are left.
+/// The peaks of a forest from left to right: the position and the height of each. Contracts see how many leaves the
+/// forest has, and the peaks that are left.
 /// In the Rust: the unnamed iterator of `merkle::Family::peaks`.
 #[derive(Drop)]
 pub struct Peaks<F: Family> {
@@ -23,13 +24,16 @@ pub struct Peaks<F: Family> {
 }
 
 impl<F: Family> Model for Peaks<F> {
-    ghost use Rattle.std.specs.Prelude.{◌≡◌, ◌≤◌, ◌^◌, ℕ, List, true};
+    ghost use Rattle.std.specs.Prelude.{◌≡◌, ◌≤◌, ◌^◌, true};
     ghost use Rattle.merkle_forest.specs.Forest.{forest_of};
-    ghost use Rattle.merkle_forest.specs.Peaks.{positions_from, is_cut};
+    ghost use Rattle.merkle_forest.specs.Peaks.{PeaksLeft, positions_from, is_cut};
 
-    ghost Value = { List (ℕ × ℕ) };
+    ghost Value = { PeaksLeft };
 
-    ghost view = { λ a. positions_from a.next (forest_of F.merge_rule a.leaves) };
+    ghost view = { λ a. record {
+      leaves = a.leaves;
+      left = positions_from a.next (forest_of F.merge_rule a.leaves);
+    } };
 
     ghost invariant = { λ a. (a.leaves ≤ 2 ^ 62) × (is_cut a.next (forest_of F.merge_rule a.leaves) ≡ true) };
 }
@@ -47,7 +51,7 @@ impl<F: Family> Peaks<F> {
     /// The peaks of the forest of this many leaves (own).
     pub fn of_leaves(leaves: Location<F>) -> Peaks<F>
         requires { leaves ≤ MAX_LEAVES }
-        ensures { result ≡ peak_positions (forest_of F.merge_rule leaves) }
+        ensures { result ≡ all_peaks F.merge_rule leaves }
     {
         Peaks {
             leaves: leaves.as_u64(),
@@ -55,14 +59,33 @@ impl<F: Family> Peaks<F> {
             family: PhantomData,
         }
     }
+
+    /// How many leaves the forest has, those of peaks that were taken among them.
+    /// In the Rust: `merkle::mmr::iterator::PeakIterator::leaves`; here it is for every family.
+    pub fn leaves(&self) -> Location<F>
+        ensures leaves { result ≡ self.now.leaves }
+        ensures few { result ≤ MAX_LEAVES }
+    {
+        Location::new(self.leaves)
+    }
+
+    /// The greatest node count up to this one that a forest of up to `MAX_LEAVES` leaves has.
+    /// In the Rust: `merkle::mmr::iterator::PeakIterator::to_nearest_size`, which takes no size past `MAX_NODES`.
+    pub fn to_nearest_size(size: Position<F>) -> Position<F>
+        ensures valid { IsSize F.merge_rule result }
+        ensures within { result ≤ size }
+        ensures nearest { (s : ℕ) → IsSize F.merge_rule s → s ≤ size → s ≤ result }
+    {
+        F::to_nearest_size(size)
+    }
 }
 
 impl<F: Family> Iterator for Peaks<F> {
     type Item = (Position<F>, u32);
 
-    ghost next_gives = { YieldsFirst (λ s. s) };
+    ghost next_gives = { GivesFirstPeak };
 
-    ghost remaining = { item_count (λ s. s) };
+    ghost remaining = { item_count (λ s. s.left) };
 
     fn next(&mut self) -> Option<(Position<F>, u32)> {
         if self.next >= self.leaves {
@@ -86,13 +109,13 @@ impl<F: Family> Model for PeakPositions<F> {
 
     ghost Value = { List ℕ };
 
-    ghost view = { λ a. map (λ peak. peak.0) a.peaks };
+    ghost view = { λ a. map (λ peak. peak.0) a.peaks.left };
 }
 
 impl<F: Family> PeakPositions<F> {
     /// The positions of these peaks (own).
     pub fn new(peaks: Peaks<F>) -> PeakPositions<F>
-        ensures { result ≡ map (λ peak. peak.0) peaks }
+        ensures { result ≡ map (λ peak. peak.0) peaks.left }
     {
         PeakPositions { peaks }
     }

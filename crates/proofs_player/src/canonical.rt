@@ -13,7 +13,7 @@ use state_proofs::canonical::{
     root_of_operations,
 };
 use state_proofs::grafting::{aligned_count_of, graftable_count};
-use state_proofs::honest::honest_proof;
+use state_proofs::snapshot::building::honest_proof;
 use std::alloc::{AllocError, Global};
 
 /// The roots and digests that the canonical root is made of.

@@ -9,12 +9,11 @@ use merkle_forest::{ByteHash, Graftable, Location, MAX_LEAVES, Position};
 use state_proofs::ChunkSize;
 use state_proofs::bits::{chunk_from, chunks_from, is_zero_chunk};
 use state_proofs::grafting::{
-    chunk_aligned_inactive_peaks, graft, graftable_chunks, grafted_to_ops_pos, height,
-    ops_to_grafted_pos,
+    chunk_aligned_inactive_peaks, graft, graftable_chunks, graftable_chunks_of, grafted_to_ops_pos,
+    height, ops_to_grafted_pos,
 };
 use state_proofs::required::required_chunks_of;
 use state_proofs::seal::seal;
-use state_proofs::verify::graftable_chunks_of;
 use std::alloc::Global;
 
 // The size of a chunk of so many bytes.

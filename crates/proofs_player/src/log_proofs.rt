@@ -4,7 +4,7 @@ use crate::arguments::{Answer, Hash, append, digest, digests, keep, numbers, ref
 use crate::reading::Shown;
 use crate::refusals::{of_bytes, of_extraction, of_store, of_tree};
 use case_lines::{Unanswered, digits};
-use merkle_core::verification::range_proof;
+use merkle_core::building::range_proof;
 use merkle_core::{Mem, Proof};
 use merkle_forest::codec::{Decode, Encode};
 use merkle_forest::hasher::Standard;

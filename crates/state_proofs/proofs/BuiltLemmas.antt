@@ -24,7 +24,7 @@ use Rattle.state_proofs.specs.Grafting.{chunk_aligned_inactive_peaks}
 use Rattle.state_proofs.specs.Canonical.{Setting, State, chunk_bits, full_chunks, next_bit, chunks, chunk, forest, peaks, grafted_digests, grafted_inactive, pending_digest, partial_digest}
 use Rattle.state_proofs.specs.Honest.{grafted_range}
 use Rattle.state_proofs.specs.Verified.{Parts, RangeParts}
-use Rattle.state_proofs.proofs.Accepted.{aligned-few}
+use Rattle.state_proofs.proofs.ChunkCounts.{aligned-few}
 use Rattle.state_proofs.proofs.ActiveLemmas.{chunk_at}
 use Rattle.state_proofs.proofs.HeightLemmas.{same_power}
 use Rattle.state_proofs.proofs.KnownNodes.{known_digests}

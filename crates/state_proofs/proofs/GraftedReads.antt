@@ -14,7 +14,8 @@ use Rattle.merkle_forest.specs.Nodes.{IsNodeAt, StandsAt, IsHeightAt, IsBranchOf
 use Rattle.merkle_forest.specs.Perfect.{IsPairing}
 use Rattle.merkle_core_parts.specs.Mem.{NodeHash}
 use Rattle.merkle_core.specs.Plans.{Lookup}
-use Rattle.merkle_core.specs.Rebuilt.{IsTreeAt, option_map2}
+use Rattle.merkle_core.specs.MultiReads.{both_there}
+use Rattle.merkle_core.specs.Subtrees.{IsTreeAt}
 use Rattle.state_proofs.specs.GraftedNodes.{TwoTrees, chunks_node, digest_of_found, grafted_lookup, known_or_made, node_over}
 use Rattle.state_proofs.specs.SameNodes.{IsSameNode}
 use Rattle.state_proofs.specs.Verifier.{node_at}
@@ -103,7 +104,7 @@ pub known : (node : NodeHash) (lookup : Lookup) (p : ℕ) (d : List ℕ) (t : Tr
     → Some d ≡ known_or_made node lookup t
 known node lookup p d (leaf q) at is = is ∙ ap lookup at
 known node lookup p d (branch q left right) at is =
-    ap (λ o. option_or o (option_map2 (node q) (known_or_made node lookup left) (known_or_made node lookup right))) (is ∙ ap lookup at)
+    ap (λ o. option_or o (both_there (node q) (known_or_made node lookup left) (known_or_made node lookup right))) (is ∙ ap lookup at)
 
 pub no_leaf : (node : NodeHash) (lookup : Lookup) (p h : ℕ) (t : Tree) → p ≡ position t → h ≡ height t → h ≡ 0 → None ≡ lookup p
     → None ≡ known_or_made node lookup t
@@ -112,12 +113,12 @@ no_leaf node lookup p h (branch q left right) at level low is = absurd (omega (a
 
 pub made : (node : NodeHash) (lookup : Lookup) (p q : ℕ) (left right : Tree) (one other : Option (List ℕ)) → p ≡ q → None ≡ lookup p
     → one ≡ known_or_made node lookup left → other ≡ known_or_made node lookup right
-    → option_map2 (node p) one other ≡ known_or_made node lookup (branch q left right)
+    → both_there (node p) one other ≡ known_or_made node lookup (branch q left right)
 made node lookup p q left right one other at is first second =
-    ap (λ (k : ℕ). option_map2 (node k) one other) at
-    ∙ ap (λ o. option_map2 (node q) o other) first
-    ∙ ap (option_map2 (node q) (known_or_made node lookup left)) second
-    ∙ ap (λ o. option_or o (option_map2 (node q) (known_or_made node lookup left) (known_or_made node lookup right)))
+    ap (λ (k : ℕ). both_there (node k) one other) at
+    ∙ ap (λ o. both_there (node q) o other) first
+    ∙ ap (both_there (node q) (known_or_made node lookup left)) second
+    ∙ ap (λ o. option_or o (both_there (node q) (known_or_made node lookup left) (known_or_made node lookup right)))
     (is ∙ ap lookup at)
 
 pub left_missing : (node : NodeHash) (lookup : Lookup) (p q : ℕ) (left right : Tree) → p ≡ q → None ≡ lookup p

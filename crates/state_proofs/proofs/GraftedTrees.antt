@@ -20,7 +20,8 @@ use Rattle.merkle_core_parts.specs.Laws.Mem.{get_some}
 use Rattle.merkle_core_parts.specs.Laws.Plain.{digest-plain, leaf-place, length-plain}
 use Rattle.merkle_core_parts.specs.Mem.{AreKeptNodes, AreNodesOf, Nodes, digest_at, node_at as kept_at, node_count, plain_leaf_digests, tree_digest}
 use Rattle.merkle_core.specs.Plans.{Lookup}
-use Rattle.merkle_core.specs.Rebuilt.{HasTree, option_map2}
+use Rattle.merkle_core.specs.MultiReads.{both_there}
+use Rattle.merkle_core.specs.Subtrees.{HasTree}
 use Rattle.state_proofs.specs.Built.{IsSourceOf, Source}
 use Rattle.state_proofs.specs.Canonical.{Setting, State, chunk, chunk_bits, chunks, forest, grafted_digests}
 use Rattle.state_proofs.specs.GraftedNodes.{AreGraftedLeaves, IsLookupOfChunks, IsLookupOfOperations, TwoTrees, chunks_node, grafted_lookup, known_or_made, node_over, operations_position, position_or}
@@ -118,7 +119,7 @@ some_or : (one other : Option (List ℕ)) → IsSome other → IsSome (option_or
 some_or None other some = some
 some_or (Some x) other some = refl
 
-both_some : (join : List ℕ → List ℕ → List ℕ) (one other : Option (List ℕ)) → IsSome one → IsSome other → IsSome (option_map2 join one other)
+both_some : (join : List ℕ → List ℕ → List ℕ) (one other : Option (List ℕ)) → IsSome one → IsSome other → IsSome (both_there join one other)
 both_some join (Some x) (Some y) one two = refl
 both_some join None other one two = absurd (let e : false ≡ true = one in cc)
 both_some join (Some x) None one two = absurd (let e : false ≡ true = two in cc)
@@ -205,7 +206,7 @@ module _ (rule : Rule) (root : ℕ → ℕ → ℕ) (pairs : IsPairing rule) (ro
 
     both_is : (p : ℕ) (one other : Option (List ℕ)) (d : List ℕ) (result : List ℕ)
         → ((x y : List ℕ) → one ≡ Some x → other ≡ Some y → chunks_node hash rule level p x y ≡ result)
-        → option_map2 (chunks_node hash rule level p) one other ≡ Some d → d ≡ result
+        → both_there (chunks_node hash rule level p) one other ≡ Some d → d ≡ result
     both_is p (Some x) (Some y) d result each is =
         let same : chunks_node hash rule level p x y ≡ d = cc in
         sym same ∙ each x y refl refl
@@ -224,7 +225,7 @@ module _ (rule : Rule) (root : ℕ → ℕ → ℕ) (pairs : IsPairing rule) (ro
     answer_is first chunk (leaf q) (branch p l r) d over is =
         absurd (let high : 0 ≡ suc (height l) + level = over.high in omega (arith, high))
     answer_is first chunk (branch q a b) (branch p l r) d over is =
-        known_is p (lookup p) (option_map2 (chunks_node hash rule level p) (answer l) (answer r)) d (joined_digest first (branch q a b)) refl
+        known_is p (lookup p) (both_there (chunks_node hash rule level p) (answer l) (answer r)) d (joined_digest first (branch q a b)) refl
         (λ known. of first p (branch q a b) d over.operations (same_of first chunk (branch q a b) (branch p l r) over) known)
         (λ made. both_is p (answer l) (answer r) d (joined_digest first (branch q a b))
         (λ x y one other. branch_is first chunk q p a b l r over x y

@@ -1,14 +1,8 @@
 -- The grafting height of a chunk.
-use Rattle.std.proofs.Common.{◌≡◌, ℕ, zero, suc, ◌+◌, ◌-◌, ◌*◌, ◌^◌, ◌<◌, ◌≤◌, inl, inr, List, Some, sym, ◌∙◌, ap, subst, arith}
+use Rattle.std.proofs.Common.{◌≡◌, ℕ, zero, suc, ◌+◌, ◌-◌, ◌*◌, ◌^◌, ◌<◌, ◌≤◌, inl, inr, ◌∙◌, ap, arith}
 use Rattle.std.proofs.Math.Nat.{pow-le-pow_right}
 use Rattle.std.proofs.lemmas.Nat.{pow_below, pow_pos, pow-add}
 use Rattle.std.proofs.lemmas.Bool.{cases_lt}
-use Rattle.merkle_forest.specs.declared.bagging.Bagging.TheVariants.{BackwardFold}
-use Rattle.merkle_forest.specs.Forest.{Rule, forest_of}
-use Rattle.merkle_forest.specs.Hashing.{Hash}
-use Rattle.merkle_forest.specs.Nodes.{nodes_of_height}
-use Rattle.merkle_core.specs.Reconstructed.{reconstructed}
-use Rattle.state_proofs.specs.Verified.{Parts, bits_of, FitsChunks, Verifies, grafted_hashing}
 
 pub pow_le : (a b : ℕ) → a ≤ b → 2 ^ a ≤ 2 ^ b
 pow_le a b le = pow-le-pow_right {n = 2} (omega arith) le
@@ -47,20 +41,6 @@ height_of_log log width height low high whole =
       ])
     ] in
     (omega (arith, above, same), omega (arith, whole, power, ap (λ n. 2 ^ n) same))
-
--- what verifies does so at the one grafting height that the chunk has
-pub at_height : (rule : Rule) (hash : Hash) (root : List ℕ) (proof : Parts) (operation : List ℕ) (grafting_height : ℕ)
-    → bits_of proof ≡ 2 ^ grafting_height → (it : Verifies rule hash root proof operation)
-    → FitsChunks hash (nodes_of_height grafting_height (forest_of rule proof.range.leaves)) proof
-    × (reconstructed (grafted_hashing hash grafting_height proof.chunk) hash BackwardFold rule proof.range.leaves
-    proof.range.inactive proof.location operation proof.range.digests ≡ Some it.grafted_root)
-at_height rule hash root proof operation grafting_height whole it =
-    let same : it.grafting_height ≡ grafting_height =
-    same_power it.grafting_height grafting_height (sym it.whole ∙ whole) in (
-      subst (λ (h : ℕ). FitsChunks hash (nodes_of_height h (forest_of rule proof.range.leaves)) proof) same it.fits,
-      ap (λ h. reconstructed (grafted_hashing hash h proof.chunk) hash BackwardFold rule proof.range.leaves
-          proof.range.inactive proof.location operation proof.range.digests) (sym same) ∙ it.leads,
-    )
 
 pub some_height : (width height : ℕ) → 8 * width ≡ 2 ^ height → 0 < height
 some_height width zero whole = absurd (omega (arith, whole))

@@ -18,7 +18,7 @@ use Rattle.state_proofs.specs.Canonical.{Setting, State, chunk_bits, full_chunks
 use Rattle.state_proofs.specs.Grafting.{grafted, grafted_digest}
 use Rattle.state_proofs.specs.Honest.{grafted_range, honest_parts}
 use Rattle.state_proofs.specs.Encoded.{Fits}
-use Rattle.state_proofs.proofs.Accepted.{inactive-few}
+use Rattle.state_proofs.proofs.ChunkCounts.{inactive-few}
 use Rattle.state_proofs.proofs.ActiveLemmas.{length-chunk}
 use Rattle.state_proofs.proofs.HeightLemmas.{some_height}
 

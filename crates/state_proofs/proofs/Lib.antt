@@ -4,14 +4,14 @@ pub mod RootLemmas
 pub mod HonestLemmas
 pub mod HeightLemmas
 pub mod ActiveLemmas
-pub mod FollowLemmas
-pub mod Accepted
+pub mod ChunkCounts
 pub mod HonestSizes
 pub mod Extending
-pub mod YesIsTrue
+pub mod StateParts
 pub mod SameNodeLemmas
 pub mod VerifierLemmas
 pub mod RangeIsTrue
+pub mod Alone
 pub mod LogLemmas
 pub mod RequestLemmas
 pub mod SameReading

@@ -1,10 +1,9 @@
--- One string a site, in a canonical root that is rebuilt from a proof of one operation, from one over a range, or from a witness.
-use Rattle.std.proofs.Common.{◌≡◌, ⊎_elim, ℕ, ◌+◌, ◌%◌, ◌≤◌, ◌&&◌, ltb, leb, Bool, true, false, List, length, Option, None, Some}
+-- One string a site, in a canonical root that is rebuilt from a proof over a range or from a witness.
+use Rattle.std.proofs.Common.{◌≡◌, ⊎_elim, ℕ, ◌%◌, ◌≤◌, ltb, Bool, true, false, List, length, Option, None, Some}
 use Rattle.std.proofs.Common.{option_map, IfSome, refl, arith}
-use Rattle.merkle_forest.specs.Forest.{Tree, Rule, forest_of}
+use Rattle.merkle_forest.specs.Forest.{Tree, Rule}
 use Rattle.merkle_forest.specs.Hashing.{Hash}
 use Rattle.merkle_forest.specs.Made.{Site, at_pending, at_partial, Made, bytes, strings}
-use Rattle.merkle_forest.specs.Nodes.{nodes_of_height}
 use Rattle.merkle_forest.specs.Perfect.{IsPairing}
 use Rattle.merkle_forest.specs.declared.bagging.Bagging.TheVariants.{BackwardFold}
 use Rattle.merkle_core.specs.Laws.MadeTrees.{choose}
@@ -12,14 +11,11 @@ use Rattle.merkle_core.specs.MadeRoots.{peaks_of, read_root}
 use Rattle.merkle_core.specs.MadeTrees.{Elements, from}
 use Rattle.merkle_core.specs.OneEach.{OneEach}
 use Rattle.merkle_core.specs.RangeCounts.{range_outer}
-use Rattle.merkle_core.specs.Soundness.{only, outer_count}
 use Rattle.state_proofs.specs.Canonical.{Setting}
 use Rattle.state_proofs.specs.MadeCanonical.{if_made, next_made, canonical_made, chunk_made}
 use Rattle.state_proofs.specs.MadeGrafted.{grafted_over, grafted_names}
-use Rattle.state_proofs.specs.MadeRanges.{is_covered, range_pending, range_partial, range_over, range_strings}
-use Rattle.state_proofs.specs.MadeStates.{held_or_made, rebuilt_pending, rebuilt_partial, rebuilt_grafted, rebuilt_over, rebuilt_strings}
-use Rattle.state_proofs.specs.RangeVerified.{Shown, shown_bits, stop_of, covering, full_shown, graftable_shown, given_by, shown_grafted}
-use Rattle.state_proofs.specs.Verified.{Parts, bits_of, full_of, index_of, RangeParts}
+use Rattle.state_proofs.specs.MadeRanges.{held_or_made, is_covered, range_pending, range_partial, range_over, range_strings}
+use Rattle.state_proofs.specs.Verified.{Shown, shown_bits, stop_of, covering, full_shown, graftable_shown, given_by, shown_grafted, RangeParts}
 use Rattle.state_proofs.specs.Verifier.{claimed_chunk}
 use Rattle.state_proofs.specs.Witness.{WitnessParts, witnessed_made}
 use Rattle.state_proofs.proofs.OneEachLists.{IsOne, none_one}
@@ -81,23 +77,7 @@ if_root : (hash : Hash) (P : Made → Type 0) (over : Made → Made) → ((root 
 if_root hash P over each None is = (none_one (λ s u. ⊥)).one
 if_root hash P over each (Some root) is = each root is
 
--- the strings rebuilt from a proof of one operation
-pub rebuilt_one : (setting : Setting) (proof : Parts) (operation : List ℕ) → IsPairing setting.rule
-    → OneEach (rebuilt_strings setting proof operation)
-rebuilt_one setting proof operation pairs =
-    let hash : Hash = setting.hash in
-    let n : ℕ = proof.range.leaves in
-    let graftable : ℕ = nodes_of_height setting.grafting_height (forest_of setting.rule n) in
-    if_root hash (IsGraftedRoot hash setting.rule n) (rebuilt_over setting proof)
-    (λ root one. over_one hash setting.rule n proof.range.operations_root root (rebuilt_pending graftable proof) (n % bits_of proof)
-    (rebuilt_partial proof) one
-    (held_one hash 1 at_pending proof.chunk refl (leb graftable (index_of proof) && ltb (index_of proof) (full_of proof)) proof.range.pending)
-    (held_one hash 2 at_partial proof.chunk refl (leb (full_of proof) (index_of proof)) proof.range.partial))
-    (rebuilt_grafted setting proof operation)
-    (grafted_read hash setting.rule pairs setting.grafting_height (λ at. proof.chunk) n proof.range.inactive proof.location (proof.location + 1)
-    (outer_count BackwardFold setting.rule n proof.range.inactive proof.location) (only operation) proof.range.digests)
-
--- and those rebuilt from a proof over a range
+-- the strings rebuilt from a proof over a range
 pub shown_one : (setting : Setting) (proof : RangeParts) (shown : Shown) → IsPairing setting.rule → OneEach (range_strings setting proof shown)
 shown_one setting proof shown pairs =
     let hash : Hash = setting.hash in

@@ -26,15 +26,14 @@ use Rattle.state_proofs.specs.Laws.MadeStates.{no_chunk, value_case}
 use Rattle.state_proofs.specs.MadeGrafted.{joined_in, grafted_case, grafted_over, grafted_names}
 use Rattle.state_proofs.specs.MadeRanges.{HasRange}
 use Rattle.state_proofs.specs.MadeStates.{made_chunk}
-use Rattle.state_proofs.specs.RangeVerified.{Shown, shown_bits, stop_of, first_index, last_index, Covers, covering, given_by, shown_grafted, IsShaped, FitsShown, VerifiesRange}
-use Rattle.state_proofs.specs.Verified.{FitsChunk}
+use Rattle.state_proofs.specs.Verified.{Shown, shown_bits, stop_of, first_index, last_index, Covers, covering, given_by, shown_grafted, IsShaped, FitsShown, VerifiesRange, FitsChunk}
 use Rattle.state_proofs.specs.Verifier.{Given, given_chunk, claimed_chunk}
-use Rattle.state_proofs.proofs.Accepted.{Aligned, fits_none, fits_some, inactive-few}
+use Rattle.state_proofs.proofs.ChunkCounts.{Aligned, inactive-few}
 use Rattle.state_proofs.proofs.ActiveLemmas.{any_default, location_chunks}
 use Rattle.state_proofs.proofs.HeightLemmas.{some_height}
 use Rattle.state_proofs.proofs.RangeIsTrue.{both_on}
 use Rattle.state_proofs.proofs.SameReading.{Alike, AllAlike, range_same}
-use Rattle.state_proofs.proofs.YesIsTrue.{Counted}
+use Rattle.state_proofs.proofs.StateParts.{Counted}
 
 -- the law that the honest digests of a range lead to the root
 abbrev pub RangeLeads : Rule → Type 0
@@ -58,6 +57,19 @@ index_get : (xs : List (List ℕ)) (i : ℕ) (none : List ℕ) → slice_index_o
 index_get [] i none = refl
 index_get (x ∷ xs) zero none = refl
 index_get (x ∷ xs) (suc i) none = index_get xs i none
+
+-- the digest of a chunk that may be there fits
+fits_some : (hash : Hash) (one held : List ℕ) (There Covered : Type 0) (test : Bool) → (test ≡ true → There)
+    → (There → test ≡ true) → (Covered → held ≡ one)
+    → FitsChunk hash one There Covered (cond test (Some (hash held)) None)
+fits_some hash one held There Covered true there test same = (there refl, λ covered. ap hash (same covered))
+fits_some hash one held There Covered false there test same = λ is. absurd (let e : false ≡ true = test is in cc)
+
+fits_none : (hash : Hash) (one held : List ℕ) (There Covered : Type 0) (test : Bool) → (test ≡ false → There)
+    → (There → test ≡ false) → (Covered → held ≡ one)
+    → FitsChunk hash one There Covered (cond test None (Some (hash held)))
+fits_none hash one held There Covered true there test same = λ is. absurd (let e : true ≡ false = test is in cc)
+fits_none hash one held There Covered false there test same = (there refl, λ covered. ap hash (same covered))
 
 -- hashed alike where at the grafting height the chunks are the same
 case_same : (p : ℕ) (string : Made) (one other : List ℕ) (same below : Bool) → (same ≡ true → one ≡ other)

@@ -5,8 +5,7 @@ use Rattle.merkle_forest.specs.Hashing.{Hash}
 use Rattle.merkle_forest.specs.Made.{value}
 use Rattle.state_proofs.specs.Canonical.{canonical_string}
 use Rattle.state_proofs.specs.RangeExtracted.{LeadsNowhere, by_size, by_leaves, by_shape, by_chunks, by_digests}
-use Rattle.state_proofs.specs.RangeVerified.{Shown, shown_bits, VerifiesRange}
-use Rattle.state_proofs.specs.Verified.{RangeParts}
+use Rattle.state_proofs.specs.Verified.{Shown, shown_bits, VerifiesRange, RangeParts}
 use Rattle.state_proofs.proofs.RangeIsTrue.{at_level}
 
 same_some : (one other : List ℕ) → ◌≡◌ {A = Option (List ℕ)} (Some one) (Some other) → one ≡ other

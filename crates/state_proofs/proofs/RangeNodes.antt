@@ -21,14 +21,13 @@ use Rattle.state_proofs.specs.MadeGrafted.{grafted_names}
 use Rattle.state_proofs.specs.MadeRanges.{HasRange}
 use Rattle.state_proofs.specs.MadeStates.{made_chunk}
 use Rattle.state_proofs.specs.RangeExtracted.{AreMadeOfShown, ShowsDigests}
-use Rattle.state_proofs.specs.RangeVerified.{Shown, shown_bits, stop_of, given_by, graftable_shown, shown_over, shown_grafted, IsShaped, VerifiesRange}
-use Rattle.state_proofs.specs.Verified.{RangeParts}
+use Rattle.state_proofs.specs.Verified.{Shown, shown_bits, stop_of, given_by, graftable_shown, shown_over, shown_grafted, IsShaped, VerifiesRange, RangeParts}
 use Rattle.state_proofs.specs.Verifier.{Given, claimed_chunk, grafted_node, joined_chunk}
-use Rattle.state_proofs.proofs.Accepted.{Aligned}
+use Rattle.state_proofs.proofs.ChunkCounts.{Aligned}
 use Rattle.state_proofs.proofs.RangeAccepted.{met_in, same_at, agrees}
 use Rattle.state_proofs.proofs.RangeIsTrue.{at_level}
 use Rattle.state_proofs.proofs.VerifierLemmas.{joined_is, node_at-is}
-use Rattle.state_proofs.proofs.YesIsTrue.{Counted}
+use Rattle.state_proofs.proofs.StateParts.{Counted}
 
 -- the law that an honest proof gives the digests of the nodes that it tells
 abbrev pub GivesHonest : Rule → Type 0

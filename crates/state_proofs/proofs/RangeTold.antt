@@ -12,8 +12,7 @@ use Rattle.merkle_core.specs.MadeTrees.{from}
 use Rattle.merkle_core.specs.Ranges.{Digests, is_before, is_after, meets, singly, siblings, inner_digests}
 use Rattle.state_proofs.specs.Grafting.{grafted}
 use Rattle.state_proofs.specs.RangeExtracted.{AreMadeOfShown, told_by}
-use Rattle.state_proofs.specs.RangeVerified.{Shown, stop_of, given_by, graftable_shown}
-use Rattle.state_proofs.specs.Verified.{RangeParts}
+use Rattle.state_proofs.specs.Verified.{Shown, stop_of, given_by, graftable_shown, RangeParts}
 use Rattle.state_proofs.specs.Verifier.{Given, grafted_node, joined_chunk}
 use Rattle.state_proofs.proofs.VerifierLemmas.{node_at-is}
 

@@ -10,7 +10,7 @@ use Rattle.merkle_forest.specs.Made.{bytes, both, value}
 use Rattle.merkle_forest.specs.Nodes.{IsWithin, IsNodeAt}
 use Rattle.merkle_forest.specs.Perfect.{IsPairing}
 use Rattle.merkle_core.specs.Reads.{HashesAs}
-use Rattle.merkle_core.specs.Rebuilt.{HasTree}
+use Rattle.merkle_core.specs.Subtrees.{HasTree}
 use Rattle.state_proofs.specs.Grafting.{grafted}
 use Rattle.state_proofs.specs.Laws.MadeStates.{value_case, no_chunk}
 use Rattle.state_proofs.specs.MadeGrafted.{grafted_over}

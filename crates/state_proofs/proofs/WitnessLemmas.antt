@@ -9,7 +9,7 @@ use Rattle.state_proofs.specs.Laws.MadeCanonical.{SizedIf, SizedNext, MatchIf, M
 use Rattle.state_proofs.specs.MadeCanonical.{CanonicalParts}
 use Rattle.state_proofs.specs.MadeStates.{made_operations, made_grafted, made_pending, made_partial, made_state, hashed_strings}
 use Rattle.state_proofs.specs.Witness.{WitnessParts, HasWitnessOf, next_of, witnessed_string, witnessed_made, honest_witness}
-use Rattle.state_proofs.proofs.YesIsTrue.{value_state, value_operations, next_sized, some_sized, none_sized}
+use Rattle.state_proofs.proofs.StateParts.{value_state, value_operations, next_sized, some_sized, none_sized}
 
 honest_string : (operations grafted : List ℕ) (pending : Option (List ℕ)) (next : ℕ) (partial : Option (List ℕ))
     → witnessed_string (record { grafted_root = grafted; pending = pending; partial = option_map (λ digest. (next, digest)) partial }) operations

@@ -8,7 +8,7 @@ use Rattle.merkle_forest.specs.Nodes.{IsNodeAt, nodes_of_height}
 use Rattle.merkle_forest.specs.Trees.{plain_digest}
 use Rattle.merkle_core_parts.specs.Mem.{NodeHash, plain_leaf_digests, plain_node}
 use Rattle.merkle_core.specs.Plans.{IsLookupOf, Lookup}
-use Rattle.merkle_core.specs.Rebuilt.{option_map2}
+use Rattle.merkle_core.specs.MultiReads.{both_there}
 use Rattle.state_proofs.specs.Canonical.{Setting, State, chunk, forest, grafted_digests}
 use Rattle.state_proofs.specs.Grafting.{grafted}
 use Rattle.state_proofs.specs.SameNodes.{IsSameNode}
@@ -49,7 +49,7 @@ chunks_node hash rule grafting_height p left right = hash (node_string (operatio
 abbrev pub known_or_made : NodeHash → Lookup → Tree → Option (List ℕ)
 known_or_made node known (leaf p) = known p
 known_or_made node known (branch p left right) =
-    option_or (known p) (option_map2 (node p) (known_or_made node known left) (known_or_made node known right))
+    option_or (known p) (both_there (node p) (known_or_made node known left) (known_or_made node known right))
 
 -- the grafting height, and the digests that are known of the nodes of both trees
 pub record TwoTrees : Type 0 where

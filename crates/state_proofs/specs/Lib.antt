@@ -19,8 +19,7 @@ pub mod MadeStates
 pub mod PeakEnds
 pub mod ProofsCode
 pub mod RangeExtracted
-pub mod RangeVerified
-pub mod RangeVerifiedCode
+pub mod ShownCode
 pub mod Requests
 pub mod Required
 pub mod RequiredCode

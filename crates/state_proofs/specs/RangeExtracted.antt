@@ -22,8 +22,7 @@ use Rattle.merkle_core.specs.Ranges.{Digests, meets}
 use Rattle.merkle_core.specs.declared.extraction.ExtractionError.{ExtractionError}
 use Rattle.merkle_core.specs.declared.extraction.ExtractionError.TheVariants.{InvalidProof, RootMismatch, Memory}
 use Rattle.state_proofs.specs.Grafting.{grafted}
-use Rattle.state_proofs.specs.RangeVerified.{Shown, shown_bits, stop_of, IsShaped, FitsShown, VerifiesRange, given_by, graftable_shown, shown_grafted}
-use Rattle.state_proofs.specs.Verified.{RangeParts}
+use Rattle.state_proofs.specs.Verified.{Shown, shown_bits, stop_of, IsShaped, FitsShown, VerifiesRange, given_by, graftable_shown, shown_grafted, RangeParts}
 use Rattle.state_proofs.specs.Verifier.{joined_chunk}
 
 -- operations from a location on, and chunks over them, of so many bytes each

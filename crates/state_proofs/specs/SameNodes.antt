@@ -1,7 +1,7 @@
 -- One node in two trees: in that of the operations, and in that whose leaves are chunks of 2^grafting_height operations.
 use Rattle.std.specs.Prelude.{ℕ, ◌+◌, ◌*◌, ◌^◌}
 use Rattle.merkle_forest.specs.Forest.{Rule}
-use Rattle.merkle_core.specs.Rebuilt.{HasTree}
+use Rattle.merkle_core.specs.Subtrees.{HasTree}
 
 -- the node at the position `ops` is over whole chunks of operations, and the one at the position `grafted` over as many
 -- leaves, one for each of these chunks

@@ -1,14 +1,24 @@
--- What a proof of one operation must hold so that it shows the operation.
-use Rattle.std.specs.Prelude.{◌≡◌, ℕ, ◌+◌, ◌*◌, ◌/◌, ◌%◌, ◌^◌, ◌==◌, ◌<◌, ◌≤◌, if◌then◌else◌, true, List, length, slice_get, Option, None, Some}
+-- What a proof over a range must hold so that it shows the operations of the range and the chunks over them, and what a proof of one
+-- operation must.
+--
+-- With chunks of eight bits, a state of 21 operations, and operations 5 to 17 shown:
+--
+--      chunk 0            chunk 1            chunk 2
+--      . . . . . 5 6 7    8 9 10 .. 15       16 17 . . .       of the 21: three chunks are covered, the last is partial
+--                |-------- shown ----------------|
+use Rattle.std.specs.Prelude.{◌≡◌, ℕ, ◌+◌, ◌-◌, ◌*◌, ◌/◌, ◌%◌, ◌^◌, ◌<◌, ◌≤◌, true, List, [], ◌∷◌, length, Option, None, Some, option_map, slice_get, slice_index_or}
+use Rattle.std.specs.List.{AllByRecursion}
 use Rattle.merkle_forest.specs.declared.bagging.Bagging.TheVariants.{BackwardFold}
 use Rattle.merkle_forest.specs.Forest.{Rule, forest_of}
-use Rattle.merkle_forest.specs.Hashing.{Hash, leaf_string, node_string}
+use Rattle.merkle_forest.specs.Hashing.{Hash}
+use Rattle.merkle_forest.specs.Made.{Made, value}
 use Rattle.merkle_forest.specs.Nodes.{nodes_of_height}
-use Rattle.merkle_core.specs.Rebuilt.{Hashing}
-use Rattle.merkle_core.specs.Reconstructed.{reconstructed}
+use Rattle.merkle_core.specs.MadeTrees.{Over}
+use Rattle.merkle_core.specs.Reads.{range_root}
 use Rattle.state_proofs.specs.Bits.{is_set}
 use Rattle.state_proofs.specs.Canonical.{canonical_string}
-use Rattle.state_proofs.specs.Grafting.{grafted}
+use Rattle.state_proofs.specs.MadeGrafted.{grafted_over, grafted_names}
+use Rattle.state_proofs.specs.Verifier.{Given, claimed_chunk}
 
 -- what a proof over a range of operations holds: the Merkle proof in the grafted tree, and the other parts of the
 -- canonical string
@@ -20,58 +30,115 @@ pub record RangeParts : Type 0 where
   pub partial : Option (List ℕ)
   pub operations_root : List ℕ
 
--- what a proof of one operation holds: the operation's location, the chunk with its bit, and the proof over the
--- operation
-pub record Parts : Type 0 where
-  pub location : ℕ
-  pub chunk : List ℕ
-  pub range : RangeParts
+-- what is shown with a proof: operations from a location on, and the chunks over them, of so many bytes each
+pub record Shown : Type 0 where
+  pub start : ℕ
+  pub operations : List (List ℕ)
+  pub chunks : List (List ℕ)
+  pub width : ℕ
 
--- how the grafted tree is hashed over the operation: at the grafting height the chunk is joined in
-abbrev pub grafted_hashing : Hash → ℕ → List ℕ → Hashing
-grafted_hashing hash grafting_height chunk = record {
-  leaf_of = λ position element. hash (leaf_string position element);
-  node_of = λ position left right. hash (node_string position left right);
-  over = λ height digest. if height == grafting_height then grafted hash chunk digest else digest;
-}
+abbrev pub shown_bits : Shown → ℕ
+shown_bits shown = 8 * shown.width
+
+abbrev pub stop_of : Shown → ℕ
+stop_of shown = shown.start + length shown.operations
+
+-- the indices of the chunks with the first and with the last operation
+abbrev pub first_index : Shown → ℕ
+first_index shown = shown.start / shown_bits shown
+
+abbrev pub last_index : Shown → ℕ
+last_index shown = (stop_of shown - 1) / shown_bits shown
+
+-- the chunk at an index is among those over the operations, and it
+abbrev pub Covers : Shown → ℕ → Type 0
+Covers shown index = (first_index shown ≤ index) × (index < first_index shown + length shown.chunks)
+
+abbrev pub covering : Shown → ℕ → List ℕ
+covering shown index = slice_index_or shown.chunks (index - first_index shown) []
+
+-- an operation is shown, all are within the tree, and the chunks are those over them, each of the width
+pub record IsShaped (leaf_total : ℕ) (shown : Shown) : Type 0 where
+  pub some : 0 < length shown.operations
+  pub within : stop_of shown ≤ leaf_total
+  pub counted : first_index shown + length shown.chunks ≡ last_index shown + 1
+  pub wide : AllByRecursion (λ chunk. length chunk ≡ shown.width) shown.chunks
 
 -- a digest is held exactly where there is such a chunk, and it is that of this chunk where this is the one
 abbrev pub FitsChunk : Hash → List ℕ → Type 0 → Type 0 → Option (List ℕ) → Type 0
 FitsChunk hash chunk IsThere IsCovered None = IsThere → ⊥
 FitsChunk hash chunk IsThere IsCovered (Some digest) = IsThere × (IsCovered → digest ≡ hash chunk)
 
--- how many bits a chunk has, how many chunks are full, in which the operation's bit stands, and at which bit
-abbrev pub bits_of : Parts → ℕ
-bits_of proof = 8 * length proof.chunk
+-- how many chunks are full, and how many have their node
+abbrev pub full_shown : RangeParts → Shown → ℕ
+full_shown proof shown = proof.leaves / shown_bits shown
 
-abbrev pub full_of : Parts → ℕ
-full_of proof = proof.range.leaves / bits_of proof
+abbrev pub graftable_shown : Rule → ℕ → RangeParts → ℕ
+graftable_shown rule grafting_height proof = nodes_of_height grafting_height (forest_of rule proof.leaves)
 
-abbrev pub index_of : Parts → ℕ
-index_of proof = proof.location / bits_of proof
+-- The digests of the pending chunk, which is the first that has no node, and of the partial one, which follows the full ones: each
+-- is held exactly where there is such a chunk, and is that of the chunk that is shown where this is covered.
+pub record FitsShown (hash : Hash) (graftable : ℕ) (proof : RangeParts) (shown : Shown) : Type 0 where
+  pub one_pending : full_shown proof shown ≤ graftable + 1
+  pub pending : FitsChunk hash (covering shown graftable) (graftable < full_shown proof shown) (Covers shown graftable)
+      proof.pending
+  pub partial : FitsChunk hash (covering shown (full_shown proof shown)) (0 < proof.leaves % shown_bits shown)
+      (Covers shown (full_shown proof shown)) proof.partial
 
+-- the chunks that are joined in
+abbrev pub given_by : ℕ → ℕ → Shown → Given
+given_by grafting_height graftable shown = record {
+  grafting_height = grafting_height;
+  first = first_index shown;
+  chunks = shown.chunks;
+  graftable = graftable;
+}
+
+-- how a branch's string is hashed
+abbrev pub shown_over : Rule → ℕ → RangeParts → Shown → Over
+shown_over rule grafting_height proof shown =
+    grafted_over grafting_height (claimed_chunk (given_by grafting_height (graftable_shown rule grafting_height proof) shown) shown.width)
+
+-- the root of the grafted tree that the proof leads to, if it leads to one
+abbrev pub shown_grafted : Rule → ℕ → RangeParts → Shown → Option Made
+shown_grafted rule grafting_height proof shown =
+    range_root grafted_names (shown_over rule grafting_height proof shown) BackwardFold rule proof.leaves proof.inactive shown.start
+    shown.operations proof.digests
+
+-- the proof shows, under this canonical root, that the encoded operations stand from the location on, and that the chunks over them
+-- are these
+pub record VerifiesRange (rule : Rule) (hash : Hash) (root : List ℕ) (proof : RangeParts) (shown : Shown) : Type 0 where
+  pub grafting_height : ℕ
+  pub whole : shown_bits shown ≡ 2 ^ grafting_height
+  pub low : grafting_height ≤ 62
+  pub few : proof.leaves ≤ 2 ^ 62
+  pub shaped : IsShaped proof.leaves shown
+  pub fits : FitsShown hash (graftable_shown rule grafting_height proof) proof shown
+  pub grafted_root : List ℕ
+  pub leads : option_map (value hash) (shown_grafted rule grafting_height proof shown) ≡ Some grafted_root
+  pub seals : hash (canonical_string proof.operations_root grafted_root proof.pending (proof.leaves % shown_bits shown) proof.partial)
+      ≡ root
+
+-- what a proof of one operation holds: the operation's location, the chunk with its bit, and the proof over the operation
+pub record Parts : Type 0 where
+  pub location : ℕ
+  pub chunk : List ℕ
+  pub range : RangeParts
+
+-- what is shown with it: the operation alone, and the chunk
+abbrev pub shown_alone : Parts → List ℕ → Shown
+shown_alone proof operation = record {
+  start = proof.location;
+  operations = operation ∷ [];
+  chunks = proof.chunk ∷ [];
+  width = length proof.chunk;
+}
+
+-- at which bit of the chunk the operation's bit stands
 abbrev pub bit_of : Parts → ℕ
-bit_of proof = proof.location % bits_of proof
-
--- the digests of the pending and of the partial chunk fit, where so many chunks are graftable
-pub record FitsChunks (hash : Hash) (graftable : ℕ) (proof : Parts) : Type 0 where
-  pub one_pending : full_of proof ≤ graftable + 1
-  pub pending : FitsChunk hash proof.chunk (graftable < full_of proof) ((graftable ≤ index_of proof)
-      × (index_of proof < full_of proof)) proof.range.pending
-  pub partial : FitsChunk hash proof.chunk (0 < proof.range.leaves % bits_of proof)
-      (full_of proof ≤ index_of proof) proof.range.partial
+bit_of proof = proof.location % (8 * length proof.chunk)
 
 -- the proof shows that the encoded operation stands at its location and is active there, under this canonical root
 pub record Verifies (rule : Rule) (hash : Hash) (root : List ℕ) (proof : Parts) (operation : List ℕ) : Type 0 where
-  pub grafting_height : ℕ
-  pub whole : bits_of proof ≡ 2 ^ grafting_height
-  pub low : grafting_height ≤ 62
-  pub few : proof.range.leaves ≤ 2 ^ 62
-  pub within : proof.location < proof.range.leaves
   pub active : is_set (slice_get proof.chunk (bit_of proof / 8)) (bit_of proof) ≡ true
-  pub fits : FitsChunks hash (nodes_of_height grafting_height (forest_of rule proof.range.leaves)) proof
-  pub grafted_root : List ℕ
-  pub leads : reconstructed (grafted_hashing hash grafting_height proof.chunk) hash BackwardFold rule
-      proof.range.leaves proof.range.inactive proof.location operation proof.range.digests ≡ Some grafted_root
-  pub seals : hash (canonical_string proof.range.operations_root grafted_root proof.range.pending
-      (proof.range.leaves % bits_of proof) proof.range.partial) ≡ root
+  pub shows : VerifiesRange rule hash root proof.range (shown_alone proof operation)

@@ -41,7 +41,7 @@ pub mod verifier;
 
 use crate::bits::is_zero_chunk;
 use crate::chunk_size::ChunkSize;
-pub use counts::{chunk_aligned_inactive_peaks, graftable_chunks, height};
+pub use counts::{chunk_aligned_inactive_peaks, graftable_chunks, graftable_chunks_of, height};
 use merkle_forest::Digest;
 use merkle_forest::forest::{Tree, height_of, leaf_count_of};
 use merkle_forest::hasher::{HashFunction, hash_leaf, hash_node};

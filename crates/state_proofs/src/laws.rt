@@ -1,4 +1,4 @@
-//! What holds of all proofs of one operation.
+//! What holds of all proofs.
 
 ghost use Rattle.std.specs.Prelude.{◌≡◌, ◌<◌, ◌≤◌, ◌*◌, ◌^◌, ◌⊎◌, ℕ, List, [], length, slice_get, slice_index_or, Ok, Some, true};
 ghost use Rattle.merkle_forest.specs.Forest.{Rule};
@@ -12,18 +12,16 @@ ghost use Rattle.state_proofs.specs.Canonical.{Setting, State, canonical_root, g
 ghost use Rattle.state_proofs.specs.Encoded.{format_of, ShowsOperation, ShowsUpdate};
 ghost use Rattle.state_proofs.specs.Exclusion.{ExclusionParts, proof_of, operation_of, LeavesOut, Excludes};
 ghost use Rattle.state_proofs.specs.Honest.{honest_parts, honest_range, operation_proof, key_value_proof};
-ghost use Rattle.state_proofs.specs.MadeRanges.{HasRange, range_strings};
-ghost use Rattle.state_proofs.specs.MadeStates.{HasActive, HasDigestsOf, hashed_strings, rebuilt_strings};
+ghost use Rattle.state_proofs.specs.MadeRanges.{HasActive, HasDigestsOf, HasRange, range_strings, rebuilt_strings};
+ghost use Rattle.state_proofs.specs.MadeStates.{hashed_strings};
 ghost use Rattle.state_proofs.specs.RangeExtracted.{IsRefusalToTell, LeadsNowhere, ShowsDigests};
-ghost use Rattle.state_proofs.specs.RangeVerified.{Shown, IsShaped, VerifiesRange, shown_bits, stop_of};
+ghost use Rattle.state_proofs.specs.Verified.{Shown, IsShaped, VerifiesRange, shown_bits, stop_of, RangeParts, Parts, Verifies};
 ghost use Rattle.state_proofs.specs.SameNodes.{IsSameNode};
-ghost use Rattle.state_proofs.specs.Verified.{RangeParts, Parts, Verifies};
 ghost use Rattle.state_proofs.specs.Witness.{WitnessParts, HasWitnessOf, witnessed_string, witnessed_made, honest_witness};
 
 use merkle_core::laws::{
-    honest_digests_are_few, honest_digests_lead_to_the_root,
-    honest_proofs_tell_the_nodes_of_the_list, honest_ranges_lead_to_the_root,
-    proofs_that_lead_to_a_root_give_digests, reconstructed_is_read,
+    honest_digests_are_few, honest_proofs_tell_the_nodes_of_the_list,
+    honest_ranges_lead_to_the_root, proofs_that_lead_to_a_root_give_digests,
 };
 use merkle_forest::{Graftable, HashFunction, PendingOf};
 use state_ops::FixedKey;
@@ -43,7 +41,7 @@ pub fn honest_proofs_verify<F: Graftable>()
         Verifies F.merge_rule hash (canonical_root setting state) (honest_parts setting state location)
         (slice_index_or state.operations location [])) }
 {
-    honest_digests_lead_to_the_root::<F>();
+    honest_ranges_verify::<F>();
 }
 
 /// The honest bytes of an active operation are those of a proof within the limits, which shows it under the canonical
@@ -116,7 +114,7 @@ pub fn verified_operations_are_active_or_strings_collide<F: Graftable>()
         → HasActive state proof.location operation
         ⊎ Collision hash (hashed_strings setting state) (rebuilt_strings setting proof operation)) }
 {
-    reconstructed_is_read::<F>();
+    verified_ranges_are_the_states_or_strings_collide::<F>();
 }
 
 /// Where a proof over a range verifies under the canonical root of a state, the operations that are shown stand in the

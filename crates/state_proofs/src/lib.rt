@@ -12,7 +12,6 @@ pub mod dynamic;
 pub mod error;
 pub mod exclusion;
 pub mod grafting;
-pub mod honest;
 pub mod laws;
 pub mod log_proofs;
 pub mod log_read;
@@ -22,7 +21,6 @@ pub mod proof;
 pub mod required;
 pub mod seal;
 pub mod snapshot;
-pub mod verify;
 pub mod witness;
 
 pub use bitmap::{BitList, BitmapReadable};

@@ -5,16 +5,14 @@ ghost use Rattle.merkle_forest.specs.Codec.{Extends, Reads};
 ghost use Rattle.state_proofs.specs.Encoded.{operation_proof_encoding};
 ghost use Rattle.state_proofs.specs.Forms.{after_form, FormLacks};
 ghost use Rattle.state_proofs.specs.ProofsCode.{form_parts_of};
-ghost use Rattle.state_proofs.specs.Verified.{Verifies};
 
 pub mod building;
+pub mod verifying;
 
 use crate::chunk_form::ChunkForm;
 use crate::proof::RangeProof;
-use crate::verify::verify_operation;
 use merkle_forest::codec::{Cursor, EncodeSize, Error, Read, Write, or_undo};
-use merkle_forest::hasher::HashFunction;
-use merkle_forest::{Digest, Graftable, Location, PendingOf};
+use merkle_forest::{Digest, Location, PendingOf};
 use std::alloc::{AllocError, Global};
 use std::convert::AsSlice;
 
@@ -109,16 +107,4 @@ impl<F: PendingOf<D>, D: Digest, C: ChunkForm> Read for Proof<F, D, C> {
         F.is_pending F.pending_value (D.after tt) F.pending_after F.pending_encoding
         (record { any = D.any_bytes; again = F.pending_again; once = F.pending_once }) C.items (C.told cfg) p rest
         value within };
-}
-
-impl<F: Graftable + PendingOf<D>, D: Digest, C: AsSlice<u8>> Proof<F, D, C> {
-    /// Whether the proof shows that the encoded operation stands at its location in the state of this root and is
-    /// active there. It takes no memory.
-    /// In the Rust: `qmdb::current::proof::operation::Proof::verify`, which encodes the operation itself.
-    pub fn verify<H: HashFunction<Digest = D>>(&self, root: &D, operation: &[u8]) -> bool
-        ensures { IsTrue result ↔ Verifies F.merge_rule H.hash_of (D.encoding root.now)
-            (form_parts_of C.items D.encoding F.held self.now) operation.now }
-    {
-        verify_operation::<F, H, C>(root, self, operation)
-    }
 }

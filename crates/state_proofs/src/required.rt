@@ -12,7 +12,7 @@ ghost use Rattle.state_proofs.specs.RequiredCode.{measures_of, asked_of, option_
 
 use crate::chunk_size::ChunkSize;
 use crate::error::Error;
-use crate::verify::graftable_chunks_of;
+use crate::grafting::graftable_chunks_of;
 use merkle_core::error;
 use merkle_forest::{Graftable, Location, MAX_LEAVES};
 use std::marker::Model;

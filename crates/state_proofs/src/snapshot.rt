@@ -2,6 +2,8 @@
 
 ghost use Rattle.std.specs.Prelude.{◌≤◌, ◌^◌, length};
 
+pub mod building;
+
 use crate::chunk_size::ChunkSize;
 
 /// Encoded operations, a bit for each, and the last floor; and how many bits a chunk has (own).

@@ -17,6 +17,7 @@ impl<F: Family> Shelves<F> {
         let batch = match call {
             ["over", "tree", tree] => named(&self.trees, tree)?.new_batch()?,
             ["over", "made", made] => named(&self.made, made)?.new_batch()?,
+            ["new", made] => UnmerkleizedBatch::new(named(&self.made, made)?)?,
             ["leaves"] => {
                 let leaves = named(&self.batches, name)?.leaves();
                 return told::numbers(alloc, &[leaves.as_u64()]);

@@ -6,9 +6,7 @@ use crate::told::{self, Line};
 use crate::words::{self, Hash};
 use merkle_core::Proof;
 use merkle_core::multi::root::reconstruct_shown;
-use merkle_core::range::reconstruct_range;
-use merkle_core::rebuild::Unchanged;
-use merkle_core::reconstruct::reconstruct_one;
+use merkle_core::verifying::reconstruct_range;
 use merkle_forest::hasher::Standard;
 use merkle_forest::{ByteHash, Family, Location, Position};
 use std::alloc::{AllocError, Global};
@@ -144,12 +142,6 @@ fn rebuilt<F: Family>(
         ["rebuild", start, elements @ ..] => rebuilt_own(alloc, hasher, proof, start, elements),
         ["rebuild-range", start, elements @ ..] => {
             rebuilt_range(alloc, hasher, proof, start, elements)
-        }
-        ["rebuild-one", location, element] => {
-            let location = words::location(location)?;
-            let element = case_lines::bytes(alloc, element)?;
-            let root = reconstruct_one(hasher, &Unchanged, proof, location, &element);
-            told::some_digest(alloc, root)
         }
         ["rebuild-many", elements @ ..] => rebuilt_many(alloc, hasher, proof, elements),
         _ => bad_line(),

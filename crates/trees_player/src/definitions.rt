@@ -3,8 +3,7 @@
 use crate::stop::{Stop, bad_line};
 use crate::told::{self, Line};
 use crate::words;
-use merkle_core::ranges::range_digests_of;
-use merkle_core::walk::peak_over;
+use merkle_core::building::plain::range_digests_of;
 use merkle_core::{MAX_PINNED_NODES, MAX_PROOF_DIGESTS_PER_ELEMENT};
 use merkle_forest::family::MAX_LEAVES;
 use merkle_forest::forest::grow;
@@ -39,31 +38,6 @@ pub fn honest<F: Family>(
         line.digest(digest)?;
     }
     line.text()
-}
-
-/// The peak over a leaf: how many peaks stand before it, its first leaf, its position, its height, and how many peaks
-/// stand after it.
-pub fn over<F: Family>(alloc: Global, leaves: &str, rest: &[&str]) -> Result<String, Stop> {
-    let [location] = rest else {
-        return bad_line();
-    };
-    let leaves: u64 = leaves.parse()?;
-    let location: u64 = location.parse()?;
-    if leaves > MAX_LEAVES || location >= leaves {
-        return bad_line();
-    }
-    let peak = peak_over::<F>(leaves, location);
-    let subtree = peak.subtree;
-    told::numbers(
-        alloc,
-        &[
-            peak.before,
-            subtree.first,
-            subtree.position,
-            subtree.height as u64,
-            peak.after,
-        ],
-    )
 }
 
 /// The greatest count of the digests of the proof of an element, or of the nodes that are pinned before a range.

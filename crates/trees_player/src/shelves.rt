@@ -92,7 +92,6 @@ fn answer_apart<F: Family>(
         "width" => call_width::<F>(alloc, name, call),
         "text" => text::<F>(alloc, name, call),
         "digests" => definitions::honest::<F>(alloc, hasher, name, call),
-        "peak-over" => definitions::over::<F>(alloc, name, call),
         "limit" => definitions::limit(alloc, name),
         _ => bad_line(),
     }

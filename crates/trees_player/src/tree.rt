@@ -103,7 +103,9 @@ fn asked<F: Family>(
             told::numbers(alloc, &[bounds.start.as_u64(), bounds.end.as_u64()])
         }
         ["peaks"] => peaks(alloc, tree),
-        ["kept"] => kept(alloc, tree),
+        ["kept"] => there(alloc, tree, 0, tree.size().as_u64()),
+        ["pinned"] => there(alloc, tree, 0, list_start(tree)),
+        ["listed"] => there(alloc, tree, list_start(tree), tree.size().as_u64()),
         ["node", position] => told::some_digest(alloc, tree.get_node(words::position(position)?)),
         ["read", position] => read(alloc, tree, position),
         ["root", inactive] => told::digest(alloc, &tree.root(hasher, inactive.parse()?)?),
@@ -121,10 +123,21 @@ fn peaks<F: Family>(alloc: Global, tree: &Mem<F, Hash>) -> Result<String, Stop> 
     line.text()
 }
 
-// The positions of the nodes that are there.
-fn kept<F: Family>(alloc: Global, tree: &Mem<F, Hash>) -> Result<String, Stop> {
+// The position of the first leaf that is not pruned, from which on no node is missing: those before it are pinned.
+fn list_start<F: Family>(tree: &Mem<F, Hash>) -> u64 {
+    let _leaves = tree.leaves();
+    F::location_to_position(tree.pruning_boundary()).as_u64()
+}
+
+// The positions of the nodes that are there, of those from one position on and before another.
+fn there<F: Family>(
+    alloc: Global,
+    tree: &Mem<F, Hash>,
+    from: u64,
+    to: u64,
+) -> Result<String, Stop> {
     let mut line = Line::new(alloc);
-    for position in 0..tree.size().as_u64() {
+    for position in from..to {
         if tree.get_node(Position::new(position)).is_some() {
             line.number(position)?;
         }

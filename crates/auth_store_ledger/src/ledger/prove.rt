@@ -18,8 +18,8 @@ use crate::error::LedgerError;
 use merkle_forest::codec::Write;
 use merkle_forest::{Family, Graftable, HashFunction, PendingOf};
 use state_ops::{FixedKey, FixedValue, Operation, OrderedOperation, OrderedUpdate};
-use state_proofs::honest::honest_proof;
 use state_proofs::ordered::KeyValueProof;
+use state_proofs::snapshot::building::honest_proof;
 use std::alloc::{AllocError, Global};
 
 /// What a store answers to a key that is there: its value, and the bytes that prove it under the root of that moment.

@@ -9,7 +9,7 @@ use merkle_forest::hasher::Standard;
 use merkle_forest::{Bagging, ByteHash, Location, mmr};
 use sha2::{Digest, Sha256};
 use state_proofs::canonical::canonical_root;
-use state_proofs::honest::honest_proof;
+use state_proofs::snapshot::building::honest_proof;
 use state_proofs::{BitList, ChunkSize, Error, RangeProof, Snapshot, operation};
 use std::alloc::{AllocError, Global};
 

@@ -2,8 +2,8 @@
 
 ghost use Rattle.std.specs.Prelude.{◌≤◌};
 
+use merkle_core::building::element_proof;
 use merkle_core::error::Error;
-use merkle_core::verification::element_proof;
 use merkle_core::{Mem, Proof};
 use merkle_forest::codec::FixedBytes;
 use merkle_forest::hasher::Standard;

@@ -14,9 +14,9 @@ ghost use Rattle.merkle_core.specs.MultiReads.{can_be_shown, multi_root, ArePeak
 ghost use Rattle.merkle_core.specs.Reads.{HashesAs};
 
 use crate::multi::multi_proof_positions;
-use crate::multi::tree::{Known, rebuild_shown, split_before};
+use crate::multi::tree::{Known, shown_digest, split_before};
 use crate::proof::Proof;
-use crate::walk::peak_at;
+use crate::subtree::peak_at;
 use merkle_core_parts::Error;
 use merkle_forest::family::{Family, MAX_LEAVES};
 use merkle_forest::hasher::Hasher;
@@ -50,7 +50,7 @@ fn append_peaks<F: Family, H: Hasher<F>>(
     }
     let (peak, next) = peak_at::<F>(leaves, first);
     let (own, others) = split_before(elements, next);
-    let Some(digest) = rebuild_shown(hasher, known, peak, own) else {
+    let Some(digest) = shown_digest(hasher, known, peak, own) else {
         return Ok(false);
     };
     found.push(digest)?;

@@ -7,10 +7,10 @@ ghost use Rattle.merkle_forest.specs.Made.{value};
 ghost use Rattle.merkle_core.specs.MadeTrees.{Over};
 ghost use Rattle.merkle_core.specs.MultiReads.{Shown, shown_at, locations_of, shown_in, ranked, read_shown};
 ghost use Rattle.merkle_core.specs.Reads.{HashesAs};
-ghost use Rattle.merkle_core.specs.Rebuilt.{IsTreeAt, HasTree};
+ghost use Rattle.merkle_core.specs.Subtrees.{IsTreeAt, HasTree};
 
-use crate::range::tree::children_of;
-use crate::rebuild::Subtree;
+use crate::subtree::Subtree;
+use crate::verifying::tree::children_of;
 use merkle_forest::family::Family;
 use merkle_forest::hasher::Hasher;
 use merkle_forest::{Digest, Location, Position};
@@ -53,7 +53,7 @@ pub(crate) fn split_before<'s, 'e, F: Family>(
 
 // The digest of the tree at the subtree, from the elements that are shown in it and the known digests of the maximal
 // nodes that hold none of them. None: a digest is missing.
-pub(crate) fn rebuild_shown<F: Family, H: Hasher<F>>(
+pub(crate) fn shown_digest<F: Family, H: Hasher<F>>(
     hasher: &H,
     known: &Known<'_, F, H::Digest>,
     subtree: Subtree,
@@ -78,7 +78,7 @@ pub(crate) fn rebuild_shown<F: Family, H: Hasher<F>>(
     }
     let (left, right) = children_of::<F>(subtree);
     let (before, after) = split_before(elements, right.first);
-    let left_digest = rebuild_shown(hasher, known, left, before)?;
-    let right_digest = rebuild_shown(hasher, known, right, after)?;
+    let left_digest = shown_digest(hasher, known, left, before)?;
+    let right_digest = shown_digest(hasher, known, right, after)?;
     Some(hasher.digest_of_branch(subtree.position, &left_digest, &right_digest))
 }

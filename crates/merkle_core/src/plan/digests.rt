@@ -4,7 +4,7 @@ ghost use Rattle.std.specs.Prelude.{◌≡◌, ◌<◌, ◌≤◌, ◌^◌, ◌+
 ghost use Rattle.merkle_core.specs.Plans.{Lookup, AnswersAs, IsRefusalToLookUp};
 ghost use Rattle.merkle_core.specs.Assembled.{assembled};
 
-use crate::ranges::{append_folded_backward, append_folded_forward};
+use crate::building::plain::{append_folded_backward, append_folded_forward};
 use merkle_core_parts::Error;
 use merkle_forest::bagging::Bagging;
 use merkle_forest::family::Family;

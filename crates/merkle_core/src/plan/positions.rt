@@ -6,12 +6,11 @@ ghost use Rattle.merkle_forest.specs.Nodes.{HasPeak};
 ghost use Rattle.merkle_forest.specs.Peaks.{located_from};
 ghost use Rattle.merkle_core.specs.Plans.{sibling_nodes, inner_nodes, positions_of};
 ghost use Rattle.merkle_core.specs.RangesCode.{stands};
-ghost use Rattle.merkle_core.specs.Rebuilt.{IsTreeAt, HasTree};
+ghost use Rattle.merkle_core.specs.Subtrees.{IsTreeAt, HasTree};
 
-use crate::range::tree::{children_of, meets_range};
-use crate::ranges::Side;
-use crate::rebuild::Subtree;
-use crate::walk::peak_at;
+use crate::building::plain::Side;
+use crate::subtree::{Subtree, peak_at};
+use crate::verifying::tree::{children_of, meets_range};
 use merkle_forest::Position;
 use merkle_forest::family::{Family, MAX_LEAVES};
 use std::alloc::AllocError;

@@ -9,13 +9,13 @@ ghost use Rattle.merkle_core.specs.RangeCounts.{passing};
 ghost use Rattle.merkle_core.specs.Ranges.{Digests, is_before, is_after};
 
 use super::{ProofStore, digest_at};
+use crate::building::plain::Side;
 use crate::plan::digests::{assemble, look_up};
 use crate::plan::positions::{append_inner, append_side};
 use crate::proof::Proof;
-use crate::range::counts::sides_of;
-use crate::range::split_digests;
-use crate::ranges::Side;
-use crate::walk::peaks_from;
+use crate::subtree::peaks_from;
+use crate::verifying::counts::sides_of;
+use crate::verifying::split_digests;
 use merkle_core_parts::Error;
 use merkle_forest::family::Family;
 use merkle_forest::hasher::Hasher;

@@ -1,5 +1,5 @@
 -- Digests that are handed in for the pinned nodes.
-use Rattle.std.proofs.Common.{◌≡◌, ℕ, zero, suc, ◌+◌, ◌<◌, ◌≤◌, inl, inr, List, [], ◌∷◌, length, map, drop, get_or, Option}
+use Rattle.std.proofs.Common.{◌≡◌, ℕ, zero, suc, ◌+◌, ◌^◌, ◌<◌, ◌≤◌, inl, inr, List, [], ◌∷◌, length, map, drop, get_or, Option}
 use Rattle.std.proofs.Common.{refl, sym, ◌∙◌, ap, ap₂, arith}
 use Rattle.std.proofs.lemmas.Bool.{cases_lt}
 use Rattle.std.proofs.lemmas.List.{length-map}
@@ -9,8 +9,14 @@ use Rattle.merkle_forest.specs.Peaks.{peak_positions, position_and_height}
 use Rattle.merkle_forest.specs.Perfect.{IsPairing}
 use Rattle.merkle_forest.specs.Laws.Peaks.{located_from-zero}
 use Rattle.merkle_forest.specs.Laws.ForestGrowth.{size-mono}
-use Rattle.merkle_core_parts.specs.Mem.{Nodes, Replacement, AreKeptNodes, node_count, pinned_positions, placed, digests_from}
+use Rattle.merkle_forest.specs.Laws.Trees.{length-located}
+use Rattle.merkle_forest.specs.Trees.{located}
+use Rattle.merkle_core_parts.specs.Mem.{Nodes, Replacement, AreKeptNodes, node_count, pinned_positions, placed, encoded, digests_from}
 use Rattle.merkle_core_parts.specs.Laws.Growth.{grown}
+
+-- the forests of a rule have at most 62 peaks
+abbrev pub HasFewPeaks : Rule → Type 0
+HasFewPeaks rule = (leaves : ℕ) → leaves ≤ 2 ^ 62 → length (forest_of rule leaves) ≤ 62
 
 positions_placed : (ps : List ℕ) (ds : List (List ℕ)) → length ds ≡ length ps
     → map (λ (one : Replacement). one.0) (placed ps ds) ≡ ps
@@ -33,6 +39,33 @@ count-pinned rule n digests =
     (located_from-zero (forest_of rule n))
     ∙ length-map peaks (λ (peak : ℕ × ℕ). unwrap_or (digests peak.0) [])
     ∙ sym (length-map peaks (λ (peak : ℕ × ℕ). peak.0))
+
+-- a node stays pinned for each peak
+pub length-pinned : (rule : Rule) (b : ℕ) → length (pinned_positions rule b) ≡ length (forest_of rule b)
+length-pinned rule b =
+    let peaks = forest_of rule b in
+    length-map (peak_positions peaks) (λ peak. peak.0) ∙ length-map (located peaks) position_and_height
+    ∙ length-located peaks
+
+pub length-encoded : {D : Type 0} (encoding : D → List ℕ) (ones : List (ℕ × D))
+    → length (encoded encoding ones) ≡ length ones
+length-encoded encoding [] = refl
+length-encoded encoding (one ∷ ones) = ap (λ n. suc n) (length-encoded encoding ones)
+
+-- so where forests of a rule have few peaks, few nodes stay pinned
+pub few-pinned : {D : Type 0} (encoding : D → List ℕ) (rule : Rule) → HasFewPeaks rule
+    → (n b : ℕ) (pinned : List (ℕ × D)) (digests : List (List ℕ)) → n ≤ 2 ^ 62
+    → AreKeptNodes rule (record { leaves = n; boundary = b; pinned = encoded encoding pinned; digests = digests })
+    → length pinned ≤ 62
+few-pinned encoding rule few n b pinned digests within shape =
+    omega (
+      arith,
+      length-encoded encoding pinned,
+      length-map (encoded encoding pinned) (λ (one : Replacement). one.0),
+      ap length shape.pinned,
+      length-pinned rule b,
+      few b (omega (arith, shape.within, within)),
+    )
 
 -- fewer nodes are those of fewer leaves
 pub leaves-within : (rule : Rule) → IsPairing rule → (b n k : ℕ) → node_count rule n ≡ node_count rule b + k → b ≤ n

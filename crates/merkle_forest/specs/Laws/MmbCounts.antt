@@ -211,15 +211,15 @@ pub low-birth : (first h n : ℕ) → n ≤ 2 ^ 62 → birth first h ≤ n → h
 low-birth first zero n few born = omega arith
 low-birth first (suc j) n few born = omega (arith, pow_order j 60 (omega (arith, few, born)))
 
+-- a belt has at most 62 peaks
+pub peaks-mmb : (n : ℕ) → n ≤ 2 ^ 62 → length (forest_of mmb_rule n) ≤ 62
+peaks-mmb n few =
+    let long = length-belt 0 (suc n) (forest_of mmb_rule n) (forest_of-belt n) in
+    pow_order (length (forest_of mmb_rule n)) 62 (omega (arith, long.0, few))
+
 -- a peak's height and the other peaks are at most 122
 pub few-mmb : (n first : ℕ) (node : Tree) → n ≤ 2 ^ 62 → IsPeakAt first node (forest_of mmb_rule n)
     → length (forest_of mmb_rule n) + height node ≤ 123
 few-mmb n first node few peak =
     let it = peak_node-mmb n first node peak in
-    let long = length-belt 0 (suc n) (forest_of mmb_rule n) (forest_of-belt n) in
-    omega (
-      arith,
-      height-node n first node it,
-      low-birth first it.high n few it.born,
-      pow_order (length (forest_of mmb_rule n)) 62 (omega (arith, long.0, few)),
-    )
+    omega (arith, height-node n first node it, low-birth first it.high n few it.born, peaks-mmb n few)

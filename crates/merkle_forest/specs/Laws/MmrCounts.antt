@@ -146,10 +146,9 @@ low-peak n first node few peak =
           absurd (omega (arith, few, whole.1, pow_le 62 (height node) high))
     ]
 
-few-trees : (n first : ℕ) (node : Tree) (trees : List Tree) → IsRange 0 trees → leaves trees < 2 ^ 62
-    → IsPeakAt first node trees → length trees ≤ 62
-few-trees n first node [] range few peak = omega arith
-few-trees n first node (t ∷ ts) range few peak = omega (arith, few-range 0 t ts range few)
+few-trees : (trees : List Tree) → IsRange 0 trees → leaves trees < 2 ^ 62 → length trees ≤ 62
+few-trees [] range few = omega arith
+few-trees (t ∷ ts) range few = omega (arith, few-range 0 t ts range few)
 
 length-few : (trees : List Tree) → length trees ≤ leaves trees
 length-few [] = omega arith
@@ -185,6 +184,16 @@ one-tree n many few =
       few,
     )
 
+-- a range has at most 62 peaks
+pub peaks-mmr : (n : ℕ) → n ≤ 2 ^ 62 → length (forest_of mmr_rule n) ≤ 62
+peaks-mmr n few =
+    elim (cases_lt n (2 ^ 62)) [
+      | inl less ↦
+          few-trees (forest_of mmr_rule n) (forest_of-range n)
+          (omega (arith, less, leaves-forest_of mmr_rule mmr_merges_equals n))
+      | inr all ↦ omega (arith, one-tree n all few)
+    ]
+
 -- a peak's height and the other peaks are at most 122
 pub few-mmr : (n first : ℕ) (node : Tree) → n ≤ 2 ^ 62 → IsPeakAt first node (forest_of mmr_rule n)
     → length (forest_of mmr_rule n) + height node ≤ 123
@@ -192,8 +201,7 @@ few-mmr n first node few peak =
     elim (cases_lt n (2 ^ 62)) [
       | inl less ↦ omega (
         arith,
-        few-trees n first node (forest_of mmr_rule n) (forest_of-range n)
-            (omega (arith, less, leaves-forest_of mmr_rule mmr_merges_equals n)) peak,
+        peaks-mmr n few,
         low-peak n first node less peak,
       )
       | inr all ↦ (let low =

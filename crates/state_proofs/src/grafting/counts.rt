@@ -42,6 +42,14 @@ pub fn graftable_chunks<F: Graftable>(leaves: Location<F>, grafting_height: u32)
     ((leaves - birth) >> grafting_height) + 1
 }
 
+/// How many chunks of so many operations are graftable (own).
+pub fn graftable_chunks_of<F: Graftable>(leaves: u64, chunk_size: ChunkSize) -> u64
+    requires { leaves ≤ 2 ^ 62 }
+    ensures { result ≡ nodes_of_height chunk_size.grafting_height (forest_of F.merge_rule leaves) }
+{
+    graftable_chunks::<F>(Location::new(leaves), chunk_size.grafting_height)
+}
+
 // The location after the last leaf of the peak that begins at `first`.
 fn peak_end<F: Family>(leaves: u64, first: u64) -> u64
     requires few { leaves ≤ MAX_LEAVES }

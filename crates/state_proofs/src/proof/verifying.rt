@@ -3,18 +3,19 @@
 ghost use Rattle.std.specs.Prelude.{◌≡◌, ◌↔◌, ◌<◌, ◌≤◌, ◌+◌, ◌-◌, ◌*◌, ◌/◌, ◌^◌, ℕ, List, [], IsTrue, MatchOption, map, length, option_map, slice_index_or};
 ghost use Rattle.std.specs.List.{AllByRecursion};
 ghost use Rattle.merkle_forest.specs.Made.{value};
+ghost use Rattle.state_proofs.specs.Canonical.{canonical_string};
 ghost use Rattle.state_proofs.specs.ProofsCode.{range_parts_of};
 ghost use Rattle.state_proofs.specs.RangeExtracted.{LeadsNowhere};
-ghost use Rattle.state_proofs.specs.RangeVerified.{Covers, covering, FitsShown, IsShaped, VerifiesRange, given_by, graftable_shown, shown_grafted};
-ghost use Rattle.state_proofs.specs.RangeVerifiedCode.{form_shown_of};
-ghost use Rattle.state_proofs.specs.Verified.{FitsChunk};
+ghost use Rattle.state_proofs.specs.Verified.{Covers, covering, FitsShown, IsShaped, VerifiesRange, given_by, graftable_shown, shown_grafted, FitsChunk};
+ghost use Rattle.state_proofs.specs.ShownCode.{form_shown_of};
 ghost use Rattle.state_proofs.specs.VerifierCode.{form_given_of};
 
 use crate::chunk_size::ChunkSize;
+use crate::grafting::graftable_chunks_of;
 use crate::grafting::verifier::{Verifier, covering_chunk};
 use crate::proof::RangeProof;
-use crate::verify::{fits_chunk, graftable_chunks_of, sealed_root};
-use merkle_core::range::reconstruct_range;
+use crate::seal::seal;
+use merkle_core::verifying::reconstruct_range;
 use merkle_forest::{Digest, Graftable, HashFunction, Location, MAX_LEAVES, PendingOf};
 use std::convert::AsSlice;
 
@@ -37,6 +38,22 @@ fn is_covered(first: u64, count: usize, index: u64) -> bool
     ensures { IsTrue result ↔ ((first ≤ index) × (index < first + count)) }
 {
     first <= index && index - first < count as u64
+}
+
+// Whether a digest is held exactly if the chunk is there, and it is that of this chunk if this is the covered one.
+fn fits_chunk<H: HashFunction>(
+    digest: &Option<H::Digest>,
+    is_there: bool,
+    is_covered: bool,
+    chunk: &[u8],
+) -> bool
+    ensures { IsTrue result ↔ FitsChunk H.hash_of chunk.now (IsTrue is_there) (IsTrue is_covered)
+        (option_map H.Digest.encoding digest.now) }
+{
+    match digest {
+        None => !is_there,
+        Some(digest) => is_there && (!is_covered || *digest == H::hash(&[chunk])),
+    }
 }
 
 // Whether the digest of the chunk with this index is held exactly if the chunk is there, and is that of the chunk that is
@@ -140,6 +157,27 @@ fn shown_root<F: Graftable + PendingOf<H::Digest>, H: HashFunction, C: AsSlice<u
         shown.operations,
     )
     .ok()
+}
+
+// The digest of the canonical string of the proof's parts, over this root of the grafted tree.
+fn sealed_root<F: PendingOf<H::Digest>, H: HashFunction>(
+    proof: &RangeProof<F, H::Digest>,
+    grafted: &H::Digest,
+    next: u64,
+) -> H::Digest
+    ensures { let parts = range_parts_of H.Digest.encoding F.held proof.now in
+        H.Digest.encoding result
+        ≡ H.hash_of (canonical_string parts.operations_root
+        (H.Digest.encoding grafted.now) parts.pending next parts.partial) }
+{
+    let pending = F::digest_of(&proof.pending_chunk_digest);
+    seal::<H>(
+        &proof.ops_root,
+        grafted,
+        &pending,
+        next,
+        &proof.partial_chunk_digest,
+    )
 }
 
 // The canonical root that the proof leads to from what is shown. None: it leads to none.

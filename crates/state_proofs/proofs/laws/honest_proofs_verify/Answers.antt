@@ -1,7 +1,10 @@
-use Rattle.std.proofs.Common.{length}
+use Rattle.std.proofs.Common.{◌<◌, List, [], arith}
+use Rattle.std.proofs.lemmas.Nat.{pow_pos}
+use Rattle.std.specs.Prelude.{slice_index_or}
 use Rattle.state_proofs.specs.Canonical.{Setting}
-use Rattle.state_proofs.proofs.HeightLemmas.{some_height}
-use Rattle.state_proofs.proofs.Accepted.{honest_verifies, one_pending}
+use Rattle.state_proofs.specs.Honest.{honest_parts}
+use Rattle.state_proofs.specs.Verified.{shown_alone}
+use Rattle.state_proofs.proofs.Alone.{honest_wide, honest_shaped, honest_range_there, honest_active}
 use Rattle.state_proofs.proofs.laws.honest_proofs_verify.Goals as goal
 
 pub returns : goal.returns
@@ -13,9 +16,11 @@ returns g c hash width grafting_height state location whole low few within is_ac
       grafting_height =
           grafting_height;
     } in
-    honest_verifies setting state location g.met.F.Family.merges_equals c.honest_digests_lead_to_the_root.ensures
-    g.met.F.Graftable.aligned
-    (one_pending g.F.Family.merge_rule g.F.Graftable.birth_of (length state.operations) grafting_height
-    (g.met.F.Graftable.births_counted (length state.operations) grafting_height few
-    (some_height width grafting_height whole) low) (g.met.F.Graftable.births_soon grafting_height))
-    whole low few within is_active
+    let some : 0 < width = omega (arith, whole, pow_pos grafting_height) in
+    record {
+      active = honest_active setting state location some within is_active;
+      shows = c.honest_ranges_verify.ensures hash width grafting_height state
+          (shown_alone (honest_parts setting state location) (slice_index_or state.operations location [])) whole low few
+          (honest_wide setting state location some within) (honest_shaped setting state location some within)
+          (honest_range_there setting state location some within);
+    }

@@ -5,8 +5,7 @@ use Rattle.merkle_core.specs.declared.extraction.ExtractionError.{ExtractionErro
 use Rattle.merkle_core.specs.declared.extraction.ExtractionError.TheVariants.{InvalidProof, RootMismatch, Memory}
 use Rattle.state_proofs.specs.Canonical.{Setting}
 use Rattle.state_proofs.specs.RangeExtracted.{IsRefusalToTell}
-use Rattle.state_proofs.specs.RangeVerified.{Shown, VerifiesRange}
-use Rattle.state_proofs.specs.Verified.{RangeParts}
+use Rattle.state_proofs.specs.Verified.{Shown, VerifiesRange, RangeParts}
 use Rattle.state_proofs.proofs.RangeLed.{one_led, none_led}
 use Rattle.state_proofs.proofs.RangeNodes.{honest_shows}
 use Rattle.state_proofs.proofs.laws.honest_ranges_tell_the_nodes_of_the_state.Goals as goal

@@ -1,5 +1,8 @@
+use Rattle.std.proofs.Common.{◌<◌, inl, inr, ⊎_elim, arith}
+use Rattle.std.proofs.lemmas.Nat.{pow_pos}
 use Rattle.state_proofs.specs.Canonical.{Setting}
-use Rattle.state_proofs.proofs.YesIsTrue.{yes_is_true}
+use Rattle.state_proofs.specs.Verified.{shown_alone}
+use Rattle.state_proofs.proofs.Alone.{active_alone}
 use Rattle.state_proofs.proofs.laws.verified_operations_are_active_or_strings_collide.Goals as goal
 
 pub returns : goal.returns
@@ -10,5 +13,7 @@ returns g c hash width grafting_height state proof operation hash_sized whole lo
       width = width;
       grafting_height = grafting_height;
     } in
-    yes_is_true setting hash_sized state proof operation g.met.F.Family.merges_equals c.reconstructed_is_read.ensures
-    g.met.F.Graftable.chunks_counted whole low few wide sized verifies
+    let some : 0 < width = omega (arith, whole, pow_pos grafting_height) in
+    ⊎_elim (λ has. inl (active_alone setting state proof operation some wide verifies.active has)) inr
+    (c.verified_ranges_are_the_states_or_strings_collide.ensures hash width grafting_height state proof.range (shown_alone proof operation)
+    hash_sized whole low few wide sized verifies.shows)

@@ -1,7 +1,7 @@
 use Rattle.std.proofs.Common.{ℕ, List, sym, ◌∙◌, ap, arith}
 use Rattle.state_ops.specs.Operation.{fixed_encoding}
 use Rattle.state_proofs.specs.Laws.Once.{key_value_once}
-use Rattle.state_proofs.specs.MadeStates.{rebuilt_strings}
+use Rattle.state_proofs.specs.MadeRanges.{rebuilt_strings}
 use Rattle.state_proofs.specs.Verified.{Parts}
 use Rattle.auth_store_ledger.specs.ClaimsCode.{claimed_update}
 use Rattle.auth_store_ledger.specs.Store.{setting_of_width}

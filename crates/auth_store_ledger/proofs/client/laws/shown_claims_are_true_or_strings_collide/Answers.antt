@@ -1,7 +1,7 @@
 use Rattle.std.proofs.Common.{ℕ, List, inl, ⊎_elim, inr, ◌∙◌, subst, arith}
 use Rattle.std.proofs.lemmas.List.{length-map}
 use Rattle.state_ops.specs.Operation.{fixed_encoding, update, ordered}
-use Rattle.state_proofs.specs.MadeStates.{HasDigestsOf}
+use Rattle.state_proofs.specs.MadeRanges.{HasDigestsOf}
 use Rattle.auth_store_ledger.specs.declared.client.Claim.TheVariants.{Value}
 use Rattle.auth_store_ledger.specs.History.{log_of}
 use Rattle.auth_store_ledger.specs.Store.{grafting_height, state_of_history}

@@ -37,7 +37,7 @@ returns-in_default g t c over shown needed all by is =
     let own = own_of (λ e. (e.0.now, e.1)) c.args.elements.now c.split_before.result.0.now at.1 at.0.first it.node
     shown c.split_before.ensures.before end from in
     let one = read_shown over (shown_at shown) (locations_of shown) known at.0.first it.node in
-    let none = sym (c.rebuild_shown.ensures it.node over shown needed all it.tree by own)
+    let none = sym (c.shown_digest.ensures it.node over shown needed all it.tree by own)
     ∙ ap (option_map g.H.Digest.Write.encoding) c.in_default.is in
     subst (λ ps. option_map (map (value hash)) (read_peaks over (shown_at shown) (locations_of shown) known ps)
     ≡ None) (sym step)
@@ -65,7 +65,7 @@ returns g t c over shown needed all by is =
     let mid = map enc c.push.new.self.items in
     let new = map enc c.append_peaks.new.found.items in
     let d = enc c.in-Some.digest in
-    let there = sym (c.rebuild_shown.ensures it.node over shown needed all it.tree by own)
+    let there = sym (c.shown_digest.ensures it.node over shown needed all it.tree by own)
     ∙ ap (option_map enc) c.in-Some.is in
     let more : mid ≡ old ++ d ∷ [] =
     ap (map enc) c.in_ok-push.ensures.items ∙ map-append enc c.args.found.now.items (c.in-Some.digest ∷ []) in

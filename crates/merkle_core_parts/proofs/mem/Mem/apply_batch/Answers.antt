@@ -1,9 +1,10 @@
-use Rattle.std.proofs.Common.{◌≡◌, ◌+◌, List, length, map, take, refl, sym, ◌∙◌, ap, subst, arith}
+use Rattle.std.proofs.Common.{◌≡◌, ◌+◌, ◌^◌, ◌≤◌, List, length, map, take, refl, sym, ◌∙◌, ap, subst, arith}
 use Rattle.std.proofs.lemmas.List.{length-map, take-map}
 use Rattle.merkle_core_parts.specs.Layers.{AreStacked, IsFirstAt, bases, oldest_leaves, with_layers}
 use Rattle.merkle_core_parts.specs.Mem.{Nodes, Layer, Base, AreKeptNodes, encoded, node_count, base_of, own_layer, with_layer}
 use Rattle.merkle_core_parts.specs.Laws.Batches.{shape-with}
 use Rattle.merkle_core_parts.specs.Laws.Layers.{stacked-take, leaves-at, shape-layers, put-over}
+use Rattle.merkle_core_parts.specs.Laws.Placed.{few-pinned}
 use Rattle.merkle_core_parts.proofs.mem.Mem.apply_batch.Goals as goal
 
 pub put_layers-requires-clause-stacked : goal.put_layers-requires-clause-stacked
@@ -56,14 +57,25 @@ invariant_of-self-2 g c =
     let grown = shape-layers rule nodes own.base.leaves layers c.self.invariant.2 stacked oldest in
     let put = c.in_ok-put_layers.ensures.applied nodes c.self.invariant.1 refl refl in
     let leaves : c.as_u64-self-inside.result ≡ own.leaves =
-    c.as_u64-self-inside.ensures ∙ c.leaves.ensures.leaves ∙ sym (ap (λ (l : Layer). l.leaves) c.layer-own.ensures.layer) in (
-      omega (arith, c.as_u64-self-inside.ensures, c.leaves.ensures.few),
+    c.as_u64-self-inside.ensures ∙ c.leaves.ensures.leaves ∙ sym (ap (λ (l : Layer). l.leaves) c.layer-own.ensures.layer) in
+    let few : c.as_u64-self-inside.result ≤ 2 ^ 62 = omega (arith, c.as_u64-self-inside.ensures, c.leaves.ensures.few) in
+    let after : Nodes = record {
+      leaves = c.as_u64-self-inside.result;
+      boundary = c.self.inside.boundary;
+      pinned = encoded encoding c.put_layers.new.pinned.items;
+      digests = map encoding c.put_layers.new.digests.items;
+    } in
+    let shape : AreKeptNodes rule after =
+    subst (AreKeptNodes rule) (sym (put-over rule nodes layers own c.as_u64-self-inside.result
+    (encoded encoding c.put_layers.new.pinned.items) (map encoding c.put_layers.new.digests.items) leaves put.0 put.1))
+    (shape-with rule (with_layers rule nodes layers) own grown.shape
+    (omega (arith, grown.leaves, c.layer-own.ensures.whole.grown))
+    (ap (λ n. node_count rule n + length own.digests) grown.leaves ∙ c.layer-own.ensures.whole.counted)) in (
+      few,
       c.self.invariant.1,
-      subst (AreKeptNodes rule) (sym (put-over rule nodes layers own c.as_u64-self-inside.result
-          (encoded encoding c.put_layers.new.pinned.items) (map encoding c.put_layers.new.digests.items) leaves put.0 put.1))
-          (shape-with rule (with_layers rule nodes layers) own grown.shape
-          (omega (arith, grown.leaves, c.layer-own.ensures.whole.grown))
-          (ap (λ n. node_count rule n + length own.digests) grown.leaves ∙ c.layer-own.ensures.whole.counted)),
+      shape,
+      few-pinned encoding rule g.met.F.Family.peaks_bounded c.as_u64-self-inside.result c.self.inside.boundary
+          c.put_layers.new.pinned.items (map encoding c.put_layers.new.digests.items) few shape,
     )
 
 pub returns-clause-applied : goal.returns-clause-applied

@@ -1,7 +1,7 @@
 use Rattle.std.proofs.Common.{◌≡◌, ◌+◌, None, length, map, sym, ◌∙◌, ap, arith}
 use Rattle.std.proofs.lemmas.List.{length-map}
 use Rattle.merkle_core_parts.specs.Mem.{AreKeptNodes, encoded, node_count, pinned_positions}
-use Rattle.merkle_core_parts.specs.Laws.Placed.{shape-placed, count-pinned}
+use Rattle.merkle_core_parts.specs.Laws.Placed.{shape-placed, count-pinned, few-pinned}
 use Rattle.merkle_core_parts.proofs.mem.Mem.from_components.Given.{Over}
 use Rattle.merkle_core_parts.proofs.mem.Mem.from_components.Goals as goal
 
@@ -62,6 +62,9 @@ invariant_of-result g c = (
   c.as_u64-start.ensures ∙ c.location_to_position.ensures
       ∙ ap (node_count g.F.Family.merge_rule) (sym c.as_u64-boundary.ensures),
   shape g c,
+  few-pinned g.D.Write.encoding g.F.Family.merge_rule g.met.F.Family.peaks_bounded c.as_u64-2.result
+      c.as_u64-boundary.result c.in_ok-pinned.pinned.items (map g.D.Write.encoding c.args.nodes.items)
+      (omega (arith, c.as_u64-2.ensures, c.in-Some.ensures.some.0)) (shape g c),
 )
 
 pub returns-clause-shape : goal.returns-clause-shape

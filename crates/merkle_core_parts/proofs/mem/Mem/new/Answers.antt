@@ -1,4 +1,4 @@
-use Rattle.std.proofs.Common.{[], map, sym, ap, subst, arith}
+use Rattle.std.proofs.Common.{[], length, map, sym, ap, subst, arith}
 use Rattle.merkle_core_parts.specs.Mem.{AreKeptNodes, encoded}
 use Rattle.merkle_core_parts.specs.Laws.Mem.{nodes-none, kept-empty}
 use Rattle.merkle_core_parts.proofs.mem.Mem.new.Goals as goal
@@ -18,4 +18,5 @@ invariant_of-result g c =
           (ap (encoded encoding) (sym c.new.ensures.items))
           (subst (λ ds. AreKeptNodes rule (record { leaves = 0; boundary = 0; pinned = []; digests = ds }))
           (ap (map encoding) (sym c.new-2.ensures.items)) (kept-empty rule)),
+      omega (arith, ap length c.new.ensures.items),
     )

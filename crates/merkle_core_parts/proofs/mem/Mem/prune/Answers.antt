@@ -4,6 +4,7 @@ use Rattle.merkle_forest.specs.Laws.ForestGrowth.{size-mono}
 use Rattle.merkle_core_parts.specs.Mem.{Nodes, Replacement, AreKeptNodes, encoded, node_count, node_at, base_of, cut_before}
 use Rattle.merkle_core_parts.specs.Mem.{pinned_digests, AreNodesOf, IsKept}
 use Rattle.merkle_core_parts.specs.Laws.Held.{there-kept}
+use Rattle.merkle_core_parts.specs.Laws.Placed.{few-pinned}
 use Rattle.merkle_core_parts.specs.Laws.Pruned.{shape-cut, node-cut, base-cut, list-cut, pruned-further, map-drop}
 use Rattle.merkle_core_parts.proofs.mem.Mem.prune.Given.{Over}
 use Rattle.merkle_core_parts.proofs.mem.Mem.prune.Goals as goal
@@ -144,14 +145,21 @@ made g c =
       digests = ds;
     }) pinned digests
 
+new_shape : (g : Over) (c : goal.After-drop-self-inside-2 g) → AreKeptNodes g.F.Family.merge_rule (new_nodes g c)
+new_shape g c =
+    subst (AreKeptNodes g.F.Family.merge_rule) (sym (made g c))
+    (shape-cut g.F.Family.merge_rule g.met.F.Family.merges_equals c.args.self.now c.args.location (old_shape g c)
+    (omega (arith, from g c)) (within g c))
+
 pub invariant_of-self : goal.invariant_of-self
 invariant_of-self g c = (
   c.self.invariant.0,
   c.as_u64-start.ensures ∙ c.location_to_position.ensures
       ∙ ap (node_count g.F.Family.merge_rule) (sym c.as_u64-boundary.ensures),
-  subst (AreKeptNodes g.F.Family.merge_rule) (sym (made g c))
-      (shape-cut g.F.Family.merge_rule g.met.F.Family.merges_equals c.args.self.now c.args.location (old_shape g c)
-      (omega (arith, from g c)) (within g c)),
+  new_shape g c,
+  few-pinned g.D.Write.encoding g.F.Family.merge_rule g.met.F.Family.peaks_bounded c.self.inside.leaves
+      c.as_u64-boundary.result c.in_ok-pinned.pinned.items (map g.D.Write.encoding c.in_ok-digests.digests.items)
+      c.self.invariant.0 (new_shape g c),
 )
 
 pub returns-clause-pruned : goal.returns-clause-pruned
@@ -172,12 +180,7 @@ returns-clause-kept g c p keeps =
     (subst (λ b. IsKept g.F.Family.merge_rule b p) c.as_u64-boundary.ensures keeps)
 
 pub returns-clause-dropped : goal.returns-clause-dropped
-returns-clause-dropped g c p some =
-    there-kept g.F.Family.merge_rule (new_nodes g c) p
-    (subst (AreKeptNodes g.F.Family.merge_rule) (sym (made g c))
-    (shape-cut g.F.Family.merge_rule g.met.F.Family.merges_equals c.args.self.now c.args.location (old_shape g c)
-    (omega (arith, from g c)) (within g c)))
-    some
+returns-clause-dropped g c p some = there-kept g.F.Family.merge_rule (new_nodes g c) p (new_shape g c) some
 
 pub returns-clause-of_list : goal.returns-clause-of_list
 returns-clause-of_list g c node list are =

@@ -1,7 +1,6 @@
 use Rattle.std.proofs.Common.{◌≡◌, ◌≤◌, ◌∙◌, ap, arith}
-use Rattle.merkle_forest.specs.Forest.{forest_of}
 use Rattle.merkle_forest.specs.Laws.ForestGrowth.{size-le}
-use Rattle.merkle_forest.specs.Peaks.{peak_positions}
+use Rattle.merkle_forest.specs.Peaks.{all_peaks}
 use Rattle.merkle_forest.proofs.peaks.Peaks.new.Goals as goal
 
 pub returns : goal.returns
@@ -13,4 +12,4 @@ returns g c n few is =
     size-le rule g.met.F.Family.merges_equals c.greatest_leaf_count.result n
     (omega (arith, is, c.as_u64.ensures, c.greatest_leaf_count.ensures.within)) in
     let found : c.greatest_leaf_count.result ≡ n = omega arith in
-    c.of_leaves.ensures ∙ ap (λ k. peak_positions (forest_of rule k)) (c.new.ensures ∙ found)
+    c.of_leaves.ensures ∙ ap (all_peaks rule) (c.new.ensures ∙ found)

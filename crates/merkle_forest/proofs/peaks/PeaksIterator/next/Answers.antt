@@ -1,7 +1,7 @@
-use Rattle.std.proofs.Common.{◌≡◌, ◌+◌, ◌*◌, ◌^◌, ◌%◌, [], ◌∷◌, length, map, sym, ◌∙◌, ap, arith}
+use Rattle.std.proofs.Common.{◌≡◌, ◌+◌, ◌*◌, ◌^◌, ◌%◌, [], ◌∷◌, length, map, refl, sym, ◌∙◌, ap, arith}
 use Rattle.merkle_forest.specs.Forest.{forest_of}
 use Rattle.merkle_forest.specs.Laws.ForestGrowth.{leaves-forest_of}
-use Rattle.merkle_forest.specs.Peaks.{position_and_height, positions_from}
+use Rattle.merkle_forest.specs.Peaks.{PeaksLeft, position_and_height, positions_from}
 use Rattle.merkle_forest.specs.Laws.Peaks.{step, cut-begins, located_from-end}
 use Rattle.merkle_forest.proofs.peaks.PeaksIterator.next.Goals as goal
 
@@ -11,7 +11,8 @@ returns-then-self-clause-steps g c =
     ap (map position_and_height) (located_from-end
     (forest_of g.F.Family.merge_rule c.self.inside.leaves) c.self.inside.next
     (omega (arith, leaves-forest_of g.F.Family.merge_rule g.met.F.Family.merges_equals c.self.inside.leaves))) in
-    (sym c.self.view_is ∙ none, sym c.self.view_is ∙ none)
+    let left : c.args.self.now.left ≡ [] = sym (ap (λ (way : PeaksLeft). way.left) c.self.view_is) ∙ none in
+    ((left, left), refl)
 
 pub peak_from-position-requires-clause-begins : goal.peak_from-position-requires-clause-begins
 peak_from-position-requires-clause-begins g c =
@@ -47,12 +48,14 @@ pub returns-clause-steps : goal.returns-clause-steps
 returns-clause-steps g c =
     let it = step g.F.Family.merge_rule g.met.F.Family.merges_equals c.self.inside.leaves c.self.inside.next
     c.peak_from-position.result.0 c.peak_from-position.result.1 c.self.invariant.0 c.self.invariant.1
-    c.if-self.false c.peak_from-position.ensures in
-    sym c.self.view_is ∙ it.positions
-    ∙ ap (λ p. (p, c.peak_from-position.result.1) ∷ positions_from
-    (c.self.inside.next + 1 * 2 ^ c.peak_from-position.result.1 % 2 ^ 64)
-    (forest_of g.F.Family.merge_rule c.self.inside.leaves)) (sym c.new.ensures)
+    c.if-self.false c.peak_from-position.ensures in (
+      sym (ap (λ (way : PeaksLeft). way.left) c.self.view_is) ∙ it.positions
+          ∙ ap (λ p. (p, c.peak_from-position.result.1) ∷ positions_from
+          (c.self.inside.next + 1 * 2 ^ c.peak_from-position.result.1 % 2 ^ 64)
+          (forest_of g.F.Family.merge_rule c.self.inside.leaves)) (sym c.new.ensures),
+      ap (λ (way : PeaksLeft). way.leaves) c.self.view_is,
+    )
 
 pub returns-clause-goes : goal.returns-clause-goes
-returns-clause-goes g c = let shorter = ap length (returns-clause-steps g c) in
+returns-clause-goes g c = let shorter = ap length (returns-clause-steps g c).0 in
     record { on = λ _. (tt, tt, omega (arith, shorter)); keeps = tt; rests = λ _. tt }

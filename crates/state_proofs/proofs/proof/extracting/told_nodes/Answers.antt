@@ -10,9 +10,8 @@ use Rattle.merkle_core.specs.MadeTrees.{from}
 use Rattle.merkle_core.specs.Ranges.{Digests}
 use Rattle.state_proofs.specs.ProofsCode.{range_parts_of}
 use Rattle.state_proofs.specs.RangeExtracted.{told_by}
-use Rattle.state_proofs.specs.RangeVerified.{Shown, given_by, graftable_shown}
-use Rattle.state_proofs.specs.RangeVerifiedCode.{shown_of}
-use Rattle.state_proofs.specs.Verified.{RangeParts}
+use Rattle.state_proofs.specs.Verified.{Shown, given_by, graftable_shown, RangeParts}
+use Rattle.state_proofs.specs.ShownCode.{shown_of}
 use Rattle.state_proofs.specs.Verifier.{Given, grafted_node}
 use Rattle.state_proofs.specs.VerifierCode.{given_of}
 use Rattle.state_proofs.proofs.RangeTold.{remade, remade_made, remade_given, told_as_shown}

@@ -4,8 +4,7 @@ use Rattle.merkle_forest.specs.Hashing.{Hash}
 use Rattle.merkle_core.specs.Extracted.{AreExtracted}
 use Rattle.state_proofs.specs.ProofsCode.{range_parts_of}
 use Rattle.state_proofs.specs.RangeExtracted.{ShowsDigests, shown_with, told_by}
-use Rattle.state_proofs.specs.RangeVerified.{Shown}
-use Rattle.state_proofs.specs.Verified.{RangeParts}
+use Rattle.state_proofs.specs.Verified.{Shown, RangeParts}
 use Rattle.state_proofs.proofs.HeightLemmas.{same_power}
 use Rattle.state_proofs.proofs.proof.extracting.verify_proof_and_extract_digests.Goals as goal
 

@@ -5,9 +5,8 @@ use Rattle.merkle_forest.specs.Forest.{forest_of}
 use Rattle.merkle_forest.specs.Nodes.{nodes_of_height}
 use Rattle.state_proofs.specs.ProofsCode.{range_parts_of}
 use Rattle.state_proofs.specs.RangeExtracted.{by_chunks, by_digests}
-use Rattle.state_proofs.specs.RangeVerified.{FitsShown, graftable_shown}
-use Rattle.state_proofs.specs.RangeVerifiedCode.{form_shown_of}
-use Rattle.state_proofs.specs.Verified.{RangeParts}
+use Rattle.state_proofs.specs.Verified.{FitsShown, graftable_shown, RangeParts}
+use Rattle.state_proofs.specs.ShownCode.{form_shown_of}
 use Rattle.state_proofs.proofs.proof.verifying.led_root.Goals as goal
 
 pub returns-then-not-fits_shown : goal.returns-then-not-fits_shown

@@ -7,9 +7,8 @@ use Rattle.merkle_core.specs.MadeTrees.{Over}
 use Rattle.merkle_core.specs.Reads.{HashesAs, range_root}
 use Rattle.state_proofs.specs.MadeGrafted.{grafted_names}
 use Rattle.state_proofs.specs.ProofsCode.{range_parts_of}
-use Rattle.state_proofs.specs.RangeVerified.{Shown, given_by, shown_over, graftable_shown}
-use Rattle.state_proofs.specs.RangeVerifiedCode.{form_shown_of}
-use Rattle.state_proofs.specs.Verified.{RangeParts}
+use Rattle.state_proofs.specs.Verified.{Shown, given_by, shown_over, graftable_shown, RangeParts}
+use Rattle.state_proofs.specs.ShownCode.{form_shown_of}
 use Rattle.state_proofs.specs.Verifier.{Given, grafted_node}
 use Rattle.state_proofs.specs.VerifierCode.{form_given_of}
 use Rattle.state_proofs.proofs.VerifierLemmas.{hashes_grafted}
