@@ -159,6 +159,7 @@ class Device:
         self.base, self.log = b"", []
         self.live = None
         self.left = None
+        self.injections = 0
         self.openings = []
         # What the record begins with since the last sync or opening.
         self.said_base, self.said = b"", []
@@ -168,6 +169,12 @@ class Device:
         if n == 0 or n == d:
             return n == d
         return self.random.word() % d < n
+
+    def draws(self, kind):
+        """Whether a fault is injected, which is counted."""
+        is_failed = self.sample(self.settings.rates[kind])
+        self.injections += is_failed
+        return is_failed
 
     def let_through(self):
         if self.left == 0:
@@ -186,7 +193,7 @@ class Device:
     def open(self):
         self.let_through()
         self.count()
-        if self.sample(self.settings.rates["open"]):
+        if self.draws("open"):
             raise Refused("F6", "open")
         if self.version not in (None, 0):
             raise Refused("F5", "H6")
@@ -211,7 +218,7 @@ class Device:
         if self.live is None:
             raise Refused("F1")
         self.count()
-        return self.sample(self.settings.rates[kind])
+        return self.draws(kind)
 
     def read(self, at, count):
         if self.begin("read"):
@@ -222,8 +229,8 @@ class Device:
 
     def write(self, at, data, is_durable):
         is_failed = self.begin("write")
-        # A write of no bytes makes nothing durable: the device's is a plain one, as its contract says.
-        is_durable = is_durable and bool(data)
+        # A durable write of no bytes stands at the beginning, so that it grows nothing.
+        at = at if data or not is_durable else 0
         write = Write(at, data, self.settings.mode, self.settings.keep_writes, is_durable and not is_failed)
         self.said.append(("write", at, data))
         self.log.append(write)

@@ -271,7 +271,7 @@ def of_live(words):
         case ["commit", data, *words]:
             log = log_in(recovery(file_of(digits(data)))[0])
             match words:
-                case [] | ["cut"]:
+                case []:
                     batch = []
                 case [name, value]:
                     batch = [("put", key(name), encoded_number(number(value)))]
@@ -279,8 +279,6 @@ def of_live(words):
                     raise BadLine
             if log is None:
                 return "S5"
-            if words == ["cut"]:
-                return "S2 failed"
             history = histories.history_of(log)
             old = history[-1][0] if history else {}
             history.append((histories.after(old, batch), None))

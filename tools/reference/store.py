@@ -626,6 +626,8 @@ class Stores:
                 return of_client(words)
             case ["has", "settings"]:
                 return self.has_settings()
+            case ["injections"]:
+                return str(self.disk.injections)
             case ["put", name, value]:
                 self.batch.append(("put", key(name), encoded_number(number(value))))
                 return "ok"

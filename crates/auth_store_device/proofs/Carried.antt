@@ -142,17 +142,32 @@ plain_carried store file handle offset bytes mode rate o =
     (subst (IsLive (after_change (write offset bytes false) true file)) (sym (with_bytes-behind offset bytes handle.live))
     (live_whole file (behind_header handle.live) (write offset bytes false) o.opened.live))
 
--- an empty write, of which nothing is kept
-pub empty_carried : (store : Store) (file : File) (handle : Handle) (offset : ℕ) (kept : Bool) (mode : Mode) (rate : Rate)
-    → IsOpenLog store file handle
-    → IsOpenLog (issued handle.number (written (8 + offset) [] mode rate) store) (after_change (write offset [] kept) true file)
-    (showing (files.with_bytes (8 + offset) [] handle.live) handle)
-empty_carried store file handle offset kept mode rate o =
-    carried_issued store file (after_change (write offset [] kept) true file) handle (files.with_bytes (8 + offset) [] handle.live)
-    (written (8 + offset) [] mode rate) o (omega arith) (λ choice left r. reached_empty file (behind_header left) offset kept true r)
-    (laid_headed offset [] handle.live o.opened.headed)
-    (subst (IsLive (after_change (write offset [] kept) true file)) (sym (with_bytes-behind offset [] handle.live))
-    (live_whole file (behind_header handle.live) (write offset [] kept) o.opened.live))
+-- a write of no bytes that is to be durable at once, which leaves the live bytes
+empty_issued : (store : Store) (file : File) (handle : Handle) (offset : ℕ) (kept : List Bool) (durable ok : Bool)
+    → IsLive (after_change (write 0 [] durable) ok file) (behind_header handle.live) → IsOpenLog store file handle
+    → IsOpenLog (issued handle.number (fixed (8 + offset) [] kept) store) (after_change (write 0 [] durable) ok file) (showing handle.live handle)
+empty_issued store file handle offset kept durable ok live o =
+    carried_issued store file (after_change (write 0 [] durable) ok file) handle handle.live (fixed (8 + offset) [] kept) o (omega arith)
+    (λ choice left r. reached_empty file (behind_header left) 0 durable ok r) o.opened.headed live
+
+none_laid : (bytes : List ℕ) → with_bytes 0 [] bytes ≡ bytes
+unfolding with_bytes resized
+none_laid bytes =
+    let none : 0 - length bytes ≡ 0 = omega arith in ap (λ n. (take 0 bytes ++ replicate n 0) ++ ([] ++ drop 0 bytes)) none
+
+pub empty_carried : (store : Store) (file : File) (handle : Handle) (offset : ℕ) → IsOpenLog store file handle
+    → IsOpenLog (issued handle.number (fixed (8 + offset) [] []) store) (after_change (write 0 [] true) true file) (showing handle.live handle)
+empty_carried store file handle offset o =
+    empty_issued store file handle offset [] true true
+    (subst (IsLive (after_change (write 0 [] true) true file)) (none_laid (behind_header handle.live))
+    (live_whole file (behind_header handle.live) (write 0 [] true) o.opened.live)) o
+
+pub empty_failed : (store : Store) (file : File) (handle : Handle) (offset : ℕ) (kept : List Bool) → IsOpenLog store file handle
+    → IsOpenLog (issued handle.number (fixed (8 + offset) [] kept) store) (after_change (write 0 [] false) false file) (showing handle.live handle)
+empty_failed store file handle offset kept o =
+    empty_issued store file handle offset kept false false
+    (live_failed file (behind_header handle.live) (write 0 [] false)
+    (reached_empty file (behind_header handle.live) 0 false false o.opened.live.reached)) o
 
 -- a write that is durable at once
 pub synced_carried : (store : Store) (file : File) (handle : Handle) (offset byte : ℕ) (bytes : List ℕ) → IsOpenLog store file handle

@@ -25,14 +25,14 @@ use Rattle.std.proofs.lemmas.List.{length-drop, drop-drop}
 use Rattle.fault_storage.specs.Stores.{Store, Handle, resizing, fixed_write}
 use Rattle.paged_blob.specs.declared.blob.WriteMode.{WriteMode}
 use Rattle.paged_blob.specs.declared.blob.WriteMode.TheVariants as modes
-use Rattle.paged_blob.specs.WriteModes.{is_sync}
+use Rattle.paged_blob.specs.WriteModes.{is_sync, place_of}
 use Rattle.paged_blob.specs.Calls.{Call, wrote, synced, resized_to as resized_call, File, file_of}
 use Rattle.auth_store_device.specs.declared.log.Told.TheVariants.{Made, Failed}
 use Rattle.auth_store_device.specs.Devices.{told_of, mode_below, refusal_of}
 use Rattle.auth_store_device.specs.Logs.{behind_header, IsOpenLog}
 use Rattle.auth_store_device.proofs.Outcomes.{made-headed}
 use Rattle.auth_store_device.proofs.Reached.{between_is}
-use Rattle.auth_store_device.proofs.Carried.{plain_carried, empty_carried, synced_carried, torn_carried, resized_carried, part_carried}
+use Rattle.auth_store_device.proofs.Carried.{plain_carried, empty_carried, empty_failed, synced_carried, torn_carried, resized_carried, part_carried}
 use Rattle.auth_store_device.proofs.Carried.{nowhere_carried, carried_published}
 
 module _ {R : Type 0} (stream : R → Stream) where
@@ -74,22 +74,23 @@ from_eight store file file_now handle change step o =
 
 made_at : (config : WriteConfig) (mode : WriteMode) (offset : ℕ) (bytes : List ℕ) (store : Store) (calls : List Call) (number : ℕ) (live : List ℕ)
     → IsOpenLog store (file_of calls) (at_eight number live)
-    → IsOpenLog (made_write config (mode_below bytes mode) offset bytes (at_eight number live) store).1 (file_of (wrote offset bytes
+    → IsOpenLog (made_write config (mode_below mode) offset bytes (at_eight number live) store).1 (file_of (wrote (place_of mode offset bytes) bytes
     (is_sync mode) true ∷ calls))
-    (made_write config (mode_below bytes mode) offset bytes (at_eight number live) store).0
+    (made_write config (mode_below mode) offset bytes (at_eight number live) store).0
 made_at config modes.Plain offset bytes store calls number live o =
     plain_carried store (file_of calls) (at_eight number live) offset bytes (mode_of config.mode) (rate_of config.retention) o
-made_at config modes.Sync offset [] store calls number live o =
-    empty_carried store (file_of calls) (at_eight number live) offset true (mode_of config.mode) (rate_of config.retention) o
+made_at config modes.Sync offset [] store calls number live o = empty_carried store (file_of calls) (at_eight number live) offset o
 made_at config modes.Sync offset (byte ∷ bytes) store calls number live o =
     synced_carried store (file_of calls) (at_eight number live) offset byte bytes o
 
 torn_at : (offset : ℕ) (bytes : List ℕ) (kept : List Bool) (mode : WriteMode) (store : Store) (calls : List Call) (number : ℕ) (live : List ℕ)
     → IsOpenLog store (file_of calls) (at_eight number live)
-    → IsOpenLog (fixed_write offset bytes kept (at_eight number live) store).1 (file_of (wrote offset bytes (is_sync mode) false ∷ calls))
+    → IsOpenLog (fixed_write offset bytes kept (at_eight number live) store).1 (file_of (wrote (place_of mode offset bytes) bytes (is_sync mode) false ∷ calls))
     (fixed_write offset bytes kept (at_eight number live) store).0
 torn_at offset bytes kept modes.Plain store calls number live o = torn_carried store (file_of calls) (at_eight number live) offset bytes kept o
-torn_at offset bytes kept modes.Sync store calls number live o = torn_carried store (file_of calls) (at_eight number live) offset bytes kept o
+torn_at offset [] kept modes.Sync store calls number live o = empty_failed store (file_of calls) (at_eight number live) offset kept o
+torn_at offset (byte ∷ bytes) kept modes.Sync store calls number live o =
+    torn_carried store (file_of calls) (at_eight number live) offset (byte ∷ bytes) kept o
 
 -- how far a resize goes that failed lies between the lengths
 part_at : (config : ResizeConfig) (size : ℕ) (store : Store) (calls : List Call) (words : Stream) (number : ℕ) (live : List ℕ)
@@ -121,31 +122,31 @@ part_at config size store calls words number live o = at (drawn.0 && nat_lt (low
 
 module _ {R : Type 0} (stream : R → Stream) where
   pub write_made : (blob changed : Blob Handle) (offset : ℕ) (bytes : List ℕ) (mode : WriteMode) (old new : Storage Store R) (answer : Result Unit StorageError)
-      (calls now : List Call) → FaultyWrites stream blob offset bytes (mode_below bytes mode) old answer changed new → told_of answer ≡ Made
-      → now ≡ wrote offset bytes (is_sync mode) true ∷ calls → IsOpenLog old.inner (file_of calls) blob.inner
+      (calls now : List Call) → FaultyWrites stream blob offset bytes (mode_below mode) old answer changed new → told_of answer ≡ Made
+      → now ≡ wrote (place_of mode offset bytes) bytes (is_sync mode) true ∷ calls → IsOpenLog old.inner (file_of calls) blob.inner
       → IsOpenLog new.inner (file_of now) changed.inner
   write_made blob changed offset bytes mode old new answer calls now writes told recorded o =
       let is = change_made stream Write old.config.write.rate (blob.inner.offset + offset + length bytes) (failed_write old.config.write offset bytes)
-      (made_write old.config.write (mode_below bytes mode) offset bytes) blob changed old new answer writes told in
+      (made_write old.config.write (mode_below mode) offset bytes) blob changed old new answer writes told in
       subst (λ c. IsOpenLog new.inner (file_of c) changed.inner) (sym recorded)
-      (subst (λ (p : Handle × Store). IsOpenLog p.1 (file_of (wrote offset bytes (is_sync mode) true ∷ calls)) p.0) (sym is)
-      (from_eight old.inner (file_of calls) (file_of (wrote offset bytes (is_sync mode) true ∷ calls)) blob.inner
-      (made_write old.config.write (mode_below bytes mode) offset bytes)
+      (subst (λ (p : Handle × Store). IsOpenLog p.1 (file_of (wrote (place_of mode offset bytes) bytes (is_sync mode) true ∷ calls)) p.0) (sym is)
+      (from_eight old.inner (file_of calls) (file_of (wrote (place_of mode offset bytes) bytes (is_sync mode) true ∷ calls)) blob.inner
+      (made_write old.config.write (mode_below mode) offset bytes)
       (made_at old.config.write mode offset bytes old.inner calls) o))
 
   pub write_failed : (blob changed : Blob Handle) (offset : ℕ) (bytes : List ℕ) (mode : WriteMode) (old new : Storage Store R)
       (answer : Result Unit StorageError)
-      (calls now : List Call) → FaultyWrites stream blob offset bytes (mode_below bytes mode) old answer changed new → told_of answer ≡ Failed
-      → now ≡ wrote offset bytes (is_sync mode) false ∷ calls → IsOpenLog old.inner (file_of calls) blob.inner
+      (calls now : List Call) → FaultyWrites stream blob offset bytes (mode_below mode) old answer changed new → told_of answer ≡ Failed
+      → now ≡ wrote (place_of mode offset bytes) bytes (is_sync mode) false ∷ calls → IsOpenLog old.inner (file_of calls) blob.inner
       → IsOpenLog new.inner (file_of now) changed.inner
   write_failed blob changed offset bytes mode old new answer calls now writes told recorded o =
       let is = change_failed stream Write old.config.write.rate (blob.inner.offset + offset + length bytes) (failed_write old.config.write offset bytes)
-      (made_write old.config.write (mode_below bytes mode) offset bytes) blob changed old new answer writes told in
+      (made_write old.config.write (mode_below mode) offset bytes) blob changed old new answer writes told in
       let words = (sample (rate_of old.config.write.rate) (stream old.rng)).1 in
       let kept = (kept_bytes (mode_of old.config.write.mode) (rate_of old.config.write.retention) (length bytes) words).0 in
       subst (λ c. IsOpenLog new.inner (file_of c) changed.inner) (sym recorded)
-      (subst (λ (p : Handle × Store). IsOpenLog p.1 (file_of (wrote offset bytes (is_sync mode) false ∷ calls)) p.0) (sym is)
-      (from_eight old.inner (file_of calls) (file_of (wrote offset bytes (is_sync mode) false ∷ calls)) blob.inner
+      (subst (λ (p : Handle × Store). IsOpenLog p.1 (file_of (wrote (place_of mode offset bytes) bytes (is_sync mode) false ∷ calls)) p.0) (sym is)
+      (from_eight old.inner (file_of calls) (file_of (wrote (place_of mode offset bytes) bytes (is_sync mode) false ∷ calls)) blob.inner
       (fixed_write offset bytes kept) (torn_at offset bytes kept mode old.inner calls) o))
 
   pub resize_made : (blob changed : Blob Handle) (size : ℕ) (old new : Storage Store R) (answer : Result Unit StorageError)

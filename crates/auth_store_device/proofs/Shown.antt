@@ -19,8 +19,8 @@ use Rattle.std.proofs.Common.{filter, not}
 use Rattle.fault_storage.specs.declared.stored.StoredFile.{StoredFile}
 use Rattle.fault_storage_parts.specs.declared.header.Versions.{Versions}
 use Rattle.fault_storage_parts.specs.Files.{ArePast, durable_bytes}
-use Rattle.fault_storage.specs.Stores.{number_with, published}
-use Rattle.fault_storage.specs.Directory.{in_order, placed, new_handle, handle_in}
+use Rattle.fault_storage.specs.Stores.{number_with, published, without}
+use Rattle.fault_storage.specs.Directory.{in_order, placed, admitted, new_handle, handle_in}
 use Rattle.std.specs.Prelude.{Ok}
 use Rattle.rand_core.specs.Stream.{Stream}
 use Rattle.fault_storage_parts.specs.declared.error.Call.TheVariants.{Open}
@@ -31,7 +31,7 @@ use Rattle.fault_storage.specs.declared.storage.Opened.{Opened}
 use Rattle.fault_storage.specs.Stores.{has_number, file_with}
 use Rattle.fault_storage.specs.Directory.{MemoryOpens}
 use Rattle.fault_storage.specs.Faults.{IsFaultyCall, FaultyOpens, unwrapped}
-use Rattle.auth_store_device.specs.Devices.{log_fault, shown_file}
+use Rattle.auth_store_device.specs.Devices.{log_fault, shown_file, after_admission, HasNoNumber}
 use Rattle.auth_store_device.specs.Logs.{IsFirst}
 use Rattle.auth_store_device.proofs.Places.{changed-first, file-changed}
 use Rattle.auth_store_device.proofs.Steps.{nothing_behind}
@@ -200,7 +200,7 @@ module _ {R : Type 0} (stream : R → Stream) (rate : Probability) (old mid : St
 
     pub made_handle : MemoryOpens old.inner log_partition log_name log_versions (Ok (unwrapped opened)) mid.inner → has_log old.inner ≡ false
         → (opened.blob.inner ≡ new_handle old.inner.next log_versions) × (mid.inner ≡ placed log_partition log_name (created V0 0) old.inner)
-    made_handle (valid, inl (there, fine, is, same)) none = absurd (both_ways _ none there)
+    made_handle (valid, inl (there, fine, is, same)) none = absurd (both_ways _ none there.0)
     made_handle (valid, inr (missing, is, same)) none = (ap (λ (x : Opened Handle). x.blob) is, same)
 
     pub found_shows : (new : Store) (bytes : List ℕ) → IsFaultyCall stream Open rate (FaultyOpens log_partition log_name log_versions) old (Ok opened) mid
@@ -219,6 +219,21 @@ module _ {R : Type 0} (stream : R → Stream) (rate : Probability) (old mid : St
           ap (λ (s : Store). (log_of s).log) now
               ∙ ap (λ (f : files.File). f.log) (published_log number (durable_log store) store (first-found store.next store.files o.numbered has) has),
         )
+
+    -- which admits the log that was there, and nothing else
+    pub found_admitted : (new : Store) (bytes : List ℕ) → IsFaultyCall stream Open rate (FaultyOpens log_partition log_name log_versions) old (Ok opened) mid
+        → IsOrderly old.inner → has_log old.inner ≡ true → bytes ≡ durable_log old.inner → new ≡ published opened.blob.inner.number bytes mid.inner
+        → new ≡ after_admission old.inner (Ok opened) mid.inner
+    found_admitted new bytes call o has copied is =
+        let r = found_handle (answered call) o has in
+        let store = old.inner in
+        let number = number_with is_log store.files in
+        is ∙ ap (λ (h : Handle). published h.number bytes mid.inner) r.0 ∙ ap (λ b. published number b mid.inner) copied
+        ∙ ap (published number (durable_log store)) r.1
+        ∙ ap (λ l. record store { files = l; order = without number store.order })
+        (changed-first (has_number number) is_log (λ _. settled_at (durable_log store)) store.files (first-found store.next store.files o.numbered has))
+        ∙ ap (admitted log_partition log_name) (sym r.1)
+        ∙ sym (ap (λ b. cond b (admitted log_partition log_name mid.inner) mid.inner) has)
 
     pub made_shows : IsFaultyCall stream Open rate (FaultyOpens log_partition log_name log_versions) old (Ok opened) mid
         → IsOrderly old.inner → has_log old.inner ≡ false
@@ -247,20 +262,20 @@ module _ {R : Type 0} (stream : R → Stream) (rate : Probability) (old mid : St
     refused_header (inr (inl (room, inr is, answers, same))) why = cc
     refused_header (inr (inr (inl (room, drawn, is, same, words)))) why = cc
     refused_header (inr (inr (inr (room, drawn, made, (kept, inl (is, valid)), same, words)))) why = cc
-    refused_header (inr (inr (inr (room, drawn, made, (kept, inr (inl (other, there, is, found))), same, words)))) why =
-        let one : other ≡ fault = cc in (there, found ∙ ap Some one)
-    refused_header (inr (inr (inr (room, drawn, made, (kept, inr (inr (inl (is, ended)))), same, words)))) why = cc
-    refused_header (inr (inr (inr (room, drawn, made, (kept, inr (inr (inr is))), same, words)))) why = cc
+    refused_header (inr (inr (inr (room, drawn, made, (kept, inr (name, inl (other, there, is, found))), same, words)))) why =
+        let one : other ≡ fault = cc in (there.0, found ∙ ap Some one)
+    refused_header (inr (inr (inr (room, drawn, made, (kept, inr (name, inr (inl (is, missing, ended)))), same, words)))) why = cc
+    refused_header (inr (inr (inr (room, drawn, made, (kept, inr (name, inr (inr is))), same, words)))) why = cc
 
 -- why an opening was refused for a number that has ended, while faults can be counted
 module _ {R : Type 0} (stream : R → Stream) (rate : Probability) (old mid : Storage Store R) (e : StorageError)
   where
     pub refused_number : IsFaultyCall stream Open rate (FaultyOpens log_partition log_name log_versions) old (Err e) mid → e ≡ errors.NumberEnded
-        → old.injections < 2 ^ 64 - 1 → old.inner.next ≡ 2 ^ 64 - 1
+        → old.injections < 2 ^ 64 - 1 → HasNoNumber old.inner
     refused_number (inl (full, is, same)) why fine = absurd (omega (arith, full, fine))
     refused_number (inr (inl (room, made, (kept, inl (is, valid)), same))) why fine = cc
-    refused_number (inr (inl (room, made, (kept, inr (inl (other, there, is, found))), same))) why fine = cc
-    refused_number (inr (inl (room, made, (kept, inr (inr (inl (is, ended)))), same))) why fine = ended
-    refused_number (inr (inl (room, made, (kept, inr (inr (inr is))), same))) why fine = cc
+    refused_number (inr (inl (room, made, (kept, inr (name, inl (other, there, is, found))), same))) why fine = cc
+    refused_number (inr (inl (room, made, (kept, inr (name, inr (inl (is, missing, ended)))), same))) why fine = (missing, ended)
+    refused_number (inr (inl (room, made, (kept, inr (name, inr (inr is))), same))) why fine = cc
     refused_number (inr (inr (inl (room, drawn, is, same, words)))) why fine = cc
     refused_number (inr (inr (inr (room, drawn, made, answers, same, words)))) why fine = absurd (made (inl (ap Err why)))

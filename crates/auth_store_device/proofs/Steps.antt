@@ -11,7 +11,7 @@ use Rattle.fault_storage_parts.specs.Files.{Mutation, ArePast, IsLeftOf, left_by
 use Rattle.fault_storage.specs.declared.faulty.Blob.{Blob}
 use Rattle.fault_storage.specs.declared.faulty.Storage.{Storage}
 use Rattle.fault_storage.specs.Stores.{Store, Handle, AreLeftOf, crashed_store}
-use Rattle.fault_storage.specs.Directory.{has_partition, LacksName}
+use Rattle.fault_storage.specs.Directory.{has_partition, HasFile, LacksName}
 use Rattle.fault_storage_parts.specs.declared.error.Error.{Error}
 use Rattle.fault_storage_parts.specs.declared.error.Error.TheVariants.{PartitionMissing, BlobMissing, Memory}
 use Rattle.fault_storage.proofs.Leaving.{crash-leaves}
@@ -25,7 +25,7 @@ use Rattle.paged_blob.proofs.Live.{reached_image}
 use Rattle.auth_store_device.specs.Logs.{IsOrderly, IsHandleOf, are_numbered, log_partition, log_name, has_log, log_of, durable_log, behind_header}
 use Rattle.auth_store_device.specs.Logs.{log_versions, HasHeader, IsForeign, Stands, IsOpenLog, HasOwnHeader}
 use Rattle.auth_store_device.specs.Devices.{DeviceState, IsDevice, IsStopped, IsLetThrough, HasEnded, shown_file, log_fault, opening_answer}
-use Rattle.auth_store_device.specs.Devices.{opening_refusal, stopped_opening, TellsOpening, IsOpeningCall}
+use Rattle.auth_store_device.specs.Devices.{opening_refusal, stopped_opening, TellsOpening, after_admission, IsOpeningCall}
 use Rattle.auth_store_device.specs.declared.error.OpenError.{OpenError}
 use Rattle.auth_store_device.specs.declared.error.OpenError.TheVariants as openings
 use Rattle.fault_storage_parts.specs.declared.error.HeaderError.{HeaderError}
@@ -138,18 +138,20 @@ shown_is store (Some bytes) shown none some empty behind = behind ∙ ap behind_
 
 -- where the store refuses the log as one that is not there, it is not there
 pub lacks_partition : (store : Store) (e : Error) → (has_log store ≡ true → has_partition log_partition store.partitions ≡ true)
-    → LacksName log_partition log_name store e ⊎ (e ≡ Memory) → e ≡ PartitionMissing → has_log store ≡ false
+    → LacksName log_partition log_name store e ⊎ ((e ≡ Memory) × HasFile log_partition log_name store) → e ≡ PartitionMissing
+    → has_log store ≡ false
 lacks_partition store e listed (inl (inl (inl (is, valid)))) missing = cc
 lacks_partition store e listed (inl (inl (inr (is, valid, none)))) missing =
     false_from_ne_true _ (λ there. both_ways _ none (listed there))
-lacks_partition store e listed (inl (inr (is, valid, some, none))) missing = none
-lacks_partition store e listed (inr is) missing = cc
+lacks_partition store e listed (inl (inr (is, some, none))) missing = none
+lacks_partition store e listed (inr (is, there)) missing = cc
 
-pub lacks_blob : (store : Store) (e : Error) → LacksName log_partition log_name store e ⊎ (e ≡ Memory) → e ≡ BlobMissing → has_log store ≡ false
+pub lacks_blob : (store : Store) (e : Error) → LacksName log_partition log_name store e ⊎ ((e ≡ Memory) × HasFile log_partition log_name store)
+    → e ≡ BlobMissing → has_log store ≡ false
 lacks_blob store e (inl (inl (inl (is, valid)))) missing = cc
 lacks_blob store e (inl (inl (inr (is, valid, none)))) missing = cc
-lacks_blob store e (inl (inr (is, valid, some, none))) missing = none
-lacks_blob store e (inr is) missing = cc
+lacks_blob store e (inl (inr (is, some, none))) missing = none
+lacks_blob store e (inr (is, there)) missing = cc
 
 -- what is durable is an image
 pub durable_image : (file : File) (log : files.File) → Stands file log → IsImage file (behind_header (durable_bytes log.base log.log))
@@ -203,6 +205,7 @@ module _ {R : Type 0} (stream : R → Stream) where
   pub draws_opening : (before old new : DeviceState R) (result : Result ℕ OpenError) (answer : Result (Opened (Blob Handle)) Error) (below : Storage Store R)
       → before ≡ old → IsLetThrough before
       → IsFaultyCall stream Open before.storage.config.«open» (FaultyOpens log_partition log_name log_versions) before.storage answer below
-      → TellsOpening answer result → new.storage ≡ record below { inner = new.storage.inner } → IsOpeningCall stream old result new
+      → TellsOpening answer result → new.storage ≡ record below { inner = after_admission before.storage.inner answer below.inner }
+      → IsOpeningCall stream old result new
   draws_opening before old new result answer below same lasts call tells left =
       subst (λ (s : DeviceState R). IsOpeningCall stream s result new) same (inr (inr (lasts, (answer, below, call, tells, left))))

@@ -1,6 +1,6 @@
 -- The device: a log of the store that fails, the calls that were made of it, and a cut of the power.
 use Rattle.std.specs.Prelude.{◌≡◌, ℕ, ◌+◌, ◌-◌, ◌<◌, ◌^◌, ◌==◌, Bool, false, if◌then◌else◌, ◌⊎◌, Option, Some, None, is_some, IfSome}
-use Rattle.std.specs.Prelude.{Result, Ok, Err, IsOk, List, [], ◌∷◌}
+use Rattle.std.specs.Prelude.{Result, Ok, Err, IsOk, List, []}
 use Rattle.rand_core.specs.Stream.{Stream}
 use Rattle.fault_storage_parts.specs.declared.error.Call.TheVariants.{Open}
 use Rattle.fault_storage_parts.specs.declared.error.Error.{Error as StorageError}
@@ -21,10 +21,10 @@ use Rattle.fault_storage.specs.declared.faulty.Blob.{Blob}
 use Rattle.fault_storage.specs.declared.faulty.Storage.{Storage}
 use Rattle.fault_storage.specs.declared.storage.WriteMode.{WriteMode}
 use Rattle.fault_storage.specs.declared.storage.WriteMode.TheVariants.{Plain, Sync}
-use Rattle.fault_storage.specs.Directory.{fault_in}
+use Rattle.fault_storage.specs.Directory.{fault_in, admitted, IsMissing}
 use Rattle.fault_storage.specs.Faults.{IsFaultyCall, FaultyOpens}
 use Rattle.fault_storage.specs.Stores.{Store, Handle}
-use Rattle.paged_blob.specs.Answers.{Failures}
+use Rattle.paged_blob.specs.Answers.{Failures, used_up}
 use Rattle.paged_blob.specs.Calls.{Call, File, file_of}
 use Rattle.paged_blob.specs.declared.blob.WriteMode as blob
 use Rattle.paged_blob.specs.declared.blob.WriteMode.TheVariants as blobs
@@ -35,7 +35,7 @@ use Rattle.auth_store_device.specs.declared.error.OpenError.{OpenError}
 use Rattle.auth_store_device.specs.declared.error.OpenError.TheVariants as openings
 use Rattle.auth_store_device.specs.declared.log.Told.{Told}
 use Rattle.auth_store_device.specs.declared.log.Told.TheVariants.{Made, Failed, Ended, Unmade}
-use Rattle.auth_store_device.specs.Logs.{log_partition, log_name, log_versions, IsOrderly, log_of, Stands, IsHandleOf}
+use Rattle.auth_store_device.specs.Logs.{log_partition, log_name, log_versions, IsOrderly, has_log, log_of, Stands, IsHandleOf}
 
 -- A device: the store below, the open log, the calls so far, the newest first, how many more the power lasts for, where a cut was asked
 -- for, and how many were refused since the last crash.
@@ -81,11 +81,10 @@ told_of (Err AlreadyOpen) = Unmade
 told_of (Err (Header fault)) = Unmade
 told_of (Err BlobInsufficientLength) = Unmade
 
--- the mode in which a write reaches the store: an empty one makes nothing durable, and is a plain one
-abbrev pub mode_below : List ℕ → blob.WriteMode → WriteMode
-mode_below bytes blobs.Plain = Plain
-mode_below [] blobs.Sync = Plain
-mode_below (byte ∷ bytes) blobs.Sync = Sync
+-- the mode in which a write reaches the store
+abbrev pub mode_below : blob.WriteMode → WriteMode
+mode_below blobs.Plain = Plain
+mode_below blobs.Sync = Sync
 
 -- what the store refused, as a blob of this kind of call refuses it
 abbrev pub refusal_of : CallKind → StorageError → Error
@@ -110,15 +109,15 @@ Passes {T = T} kind Answers log storage result log_now storage_now =
     ((result ≡ Err refusals.Memory) × (log_now ≡ log) × (storage_now ≡ storage))
     ⊎ ((answer : Result T StorageError) × Answers log storage answer log_now storage_now × (result ≡ answer_of kind answer))
 
--- how many calls are left after one that was let through; one that counts as not made uses none up
-abbrev pub one_less : Option ℕ → Option ℕ
-one_less None = None
-one_less (Some left) = Some (left - 1)
-
+-- how many calls are left after one
 abbrev pub left_after : {T : Type 0} → Result T Error → Option ℕ → Option ℕ
-left_after (Err refusals.NumberEnded) left = left
-left_after (Err refusals.Memory) left = left
-left_after result left = one_less left
+left_after result None = None
+left_after result (Some left) = Some (left - used_up result)
+
+-- how many calls are let through until the power is cut, where a cut was asked for
+abbrev pub calls_left : Option ℕ → ℕ
+calls_left None = 0
+calls_left (Some left) = left
 
 -- what has refused calls of a log of the store so far, where so many were refused by a cut, if one was asked for
 abbrev pub failures_in : {R : Type 0} → Storage Store R → ℕ → Bool → Bool → Failures
@@ -163,6 +162,10 @@ IsDeviceCall kind Answers old result new =
 abbrev pub log_fault : Store → Option HeaderError
 log_fault store = fault_in log_partition log_name log_versions store.files
 
+-- an opening makes the log anew, since there is none or none with a header, and the store has no number left for it
+abbrev pub HasNoNumber : Store → Type 0
+HasNoNumber store = IsMissing log_partition log_name store.files × (store.next ≡ 2 ^ 64 - 1)
+
 -- what the store refused, as an opening does
 abbrev pub opening_refusal : StorageError → OpenError
 opening_refusal (Header fault) = openings.Header fault
@@ -193,11 +196,13 @@ abbrev pub refused_after : {T : Type 0} → Result T OpenError → ℕ → ℕ
 refused_after (Err openings.PowerCut) refused = refused + 1
 refused_after result refused = refused
 
+-- an opening that counts as not made, or that a cut refused, uses none up
 abbrev pub left_after_opening : {T : Type 0} → Result T OpenError → Option ℕ → Option ℕ
 left_after_opening (Err openings.NumberEnded) left = left
 left_after_opening (Err openings.Memory) left = left
 left_after_opening (Err openings.PowerCut) left = left
-left_after_opening result left = one_less left
+left_after_opening result None = None
+left_after_opening result (Some left) = Some (left - 1)
 
 -- why an opening is refused before it reaches the store
 abbrev pub stopped_opening : Error → OpenError
@@ -205,13 +210,18 @@ stopped_opening refusals.NumberEnded = openings.NumberEnded
 stopped_opening refusals.PowerCut = openings.PowerCut
 stopped_opening _ = openings.Memory
 
+-- a store that an opening left, after a log that was there is admitted; of one that was made anew there is nothing to admit
+abbrev pub after_admission : Store → Result (Opened (Blob Handle)) StorageError → Store → Store
+after_admission old (Ok opened) left = if has_log old then admitted log_partition log_name left else left
+after_admission old (Err e) left = left
+
 -- an opening's answer is Ok where the store's is, and else the store's refusal
 abbrev pub TellsOpening : Result (Opened (Blob Handle)) StorageError → Result ℕ OpenError → Type 0
 TellsOpening (Ok opened) result = IsOk result
 TellsOpening (Err e) result = result ≡ Err (opening_refusal e)
 
 -- An opening of the device: it is stopped; or it is let through, and there is no memory for what it shows, and nothing has changed; or it is
--- the store's own, whose draws and count of faults stay, and of which the files are admitted.
+-- the store's own, whose draws and count of faults stay, and after one that opened the log that is admitted, and nothing else.
 abbrev pub IsOpeningCall : {R : Type 0} → (R → Stream) → DeviceState R → Result ℕ OpenError → DeviceState R → Type 0
 IsOpeningCall {R = R} stream old result new =
     ((e : Error) × IsStopped {T = Unit} old (Err e) new × (result ≡ Err (stopped_opening e)))
@@ -219,4 +229,4 @@ IsOpeningCall {R = R} stream old result new =
     ⊎ (IsLetThrough old
     × ((answer : Result (Opened (Blob Handle)) StorageError) × (below : Storage Store R)
     × IsFaultyCall stream Open old.storage.config.«open» (FaultyOpens log_partition log_name log_versions) old.storage answer below
-    × TellsOpening answer result × (new.storage ≡ record below { inner = new.storage.inner })))
+    × TellsOpening answer result × (new.storage ≡ record below { inner = after_admission old.storage.inner answer below.inner })))

@@ -11,13 +11,13 @@ ghost use Rattle.fault_storage_parts.specs.Files.{IsLeftOf};
 ghost use Rattle.fault_storage.specs.Changes.{FaultyWrites, FaultyResizes};
 ghost use Rattle.fault_storage.specs.Directory.{MemoryReads, MemorySyncs};
 ghost use Rattle.fault_storage.specs.Faults.{IsFaultyCall};
-ghost use Rattle.paged_blob.specs.Answers.{Records, RecordsSync, RecordsOpening, failures_after};
+ghost use Rattle.paged_blob.specs.Answers.{Records, RecordsSync, RecordsOpening, failures_after, used_up, MeetsCut};
 ghost use Rattle.paged_blob.specs.Answers.{IsCause, IsReadCause, IsSlice};
 ghost use Rattle.paged_blob.specs.Images.{IsImage};
 ghost use Rattle.paged_blob.specs.Calls.{opened, content, synced, wrote, resized_to, file_of};
-ghost use Rattle.paged_blob.specs.WriteModes.{is_sync};
+ghost use Rattle.paged_blob.specs.WriteModes.{is_sync, place_of};
 ghost use Rattle.paged_blob.specs.declared.error.CallKind.{CallKind};
-ghost use Rattle.auth_store_device.specs.Devices.{left_after, left_after_opening, stopped_opening, is_cut, log_fault};
+ghost use Rattle.auth_store_device.specs.Devices.{calls_left, left_after, left_after_opening, stopped_opening, is_cut, log_fault};
 ghost use Rattle.auth_store_device.specs.Openings.{openings_of};
 ghost use Rattle.auth_store_device.specs.Settings.{AreFirst};
 ghost use Rattle.auth_store_device.specs.Logs.{has_log, log_of, behind_header, durable_log, HasOwnHeader};
@@ -146,6 +146,13 @@ impl<R: Rng + Drop> Device<R> {
         Openings::of(&self.record_kept)
     }
 
+    /// How many faults were injected into its calls so far.
+    pub fn injections(&self) -> u64
+        ensures { result ≡ self.now.storage.injections }
+    {
+        self.storage.injections()
+    }
+
     /// Whether a cut of the power stands, under which each call is refused.
     pub fn is_cut(&self) -> bool
         ensures { result ≡ is_cut self.now.left }
@@ -227,11 +234,14 @@ impl<R: Rng + Drop> Device<R> {
 // How many calls are left after one that was let through. One that counts as not made uses none up.
 fn left_after<T>(answer: &Result<T, Error>, left: Option<u64>) -> Option<u64>
     ensures left { result ≡ left_after answer.now left }
+    ensures used { calls_left result ≡ calls_left left - used_up answer.now }
     ensures asked { is_some result ≡ is_some left }
 {
     match answer {
+        Err(Error::PowerCut) => left,
         Err(Error::NumberEnded) => left,
         Err(Error::Memory) => left,
+        Err(Error::BlobMissing) => left,
         _ => left.map(|calls| calls.saturating_sub(1)),
     }
 }
@@ -261,8 +271,8 @@ fn left_after_opening<T>(answer: &Result<T, OpenError>, left: Option<u64>) -> Op
 }
 
 impl<R: Rng + Drop> Device<R> {
-    ghost use Rattle.auth_store_device.specs.Devices.{HasEnded, IsStopped, IsOpeningCall};
-    ghost use Rattle.auth_store_device.specs.Devices.{injected_after, refused_after};
+    ghost use Rattle.auth_store_device.specs.Devices.{HasEnded, IsStopped, IsOpeningCall, failures_of};
+    ghost use Rattle.auth_store_device.specs.Devices.{injected_after, refused_after, HasNoNumber};
 
     /// Opens the log, or makes it where there is none, admits what it shows, and answers how many bytes that is. It
     /// asks for a closed device. F8: a count has ended, or the numbers of files; F10: a cut of the power stands; F9: out
@@ -282,7 +292,7 @@ impl<R: Rng + Drop> Device<R> {
         ensures settings { self.new.storage.config ≡ self.old.storage.config }
         ensures ended { HasEnded self.old → result ≡ Err OpenError.NumberEnded }
         ensures numbers { result ≡ Err OpenError.NumberEnded
-            → HasEnded self.old ⊎ (self.old.storage.inner.next ≡ 2 ^ 64 - 1) }
+            → HasEnded self.old ⊎ HasNoNumber self.old.storage.inner }
         ensures cut { self.old.left ≡ Some 0 → HasEnded self.old ⊎ (result ≡ Err OpenError.PowerCut) }
         ensures power { result ≡ Err OpenError.PowerCut → self.old.left ≡ Some 0 }
         ensures header { (fault : HeaderError) → result ≡ Err (OpenError.Header fault)
@@ -313,6 +323,8 @@ impl<R: Rng + Drop> Device<R> {
         ensures ok { OnOk result ((self.new ≡ self.old) × (self.old.storage.injections < 2 ^ 64 - 1)
             × (self.old.refused < 2 ^ 64 - 1) × (self.old.left ≡ Some 0 → ⊥)) }
         ensures err { OnErr result (IsStopped self.old result self.new) }
+        ensures left { OnErr result (calls_left self.new.left ≡ calls_left self.old.left - used_up result) }
+        ensures cut { OnErr result (MeetsCut result (failures_of self.old) (calls_left self.old.left)) }
     {
         if self.storage.injections() == u64::MAX {
             return Err(Error::NumberEnded);
@@ -335,6 +347,8 @@ impl<R: Rng + Drop> Blob for Device<R> {
 
     ghost failures = { failures_of };
 
+    ghost left = { λ d. calls_left d.left };
+
     /// So many bytes from an offset on. F8: a count has ended; F10: a cut of the power stands; F1: no opening stands; F9:
     /// out of memory; F6: a fault was injected; F7: they are not all there. After a refusal the log is as it was.
     fn read_at(&mut self, _alloc: Global, offset: u64, len: usize) -> Result<Vec<u8>, Error>
@@ -342,6 +356,8 @@ impl<R: Rng + Drop> Blob for Device<R> {
         ensures cause { IfErr result (IsReadCause (failures_of self.old) (file_of self.old.calls) offset len) }
         ensures calls { self.new.calls ≡ self.old.calls }
         ensures failures { failures_of self.new ≡ failures_after result (failures_of self.old) }
+        ensures left { calls_left self.new.left ≡ calls_left self.old.left - used_up result }
+        ensures cut { MeetsCut result (failures_of self.old) (calls_left self.old.left) }
         ensures device { IsDeviceCall CallKind.Read (λ blob below answer changed left. (changed ≡ blob)
             × IsFaultyCall (R.stream) Call.Read below.config.read (MemoryReads blob.inner offset len) below answer left)
             self.old result self.new }
@@ -361,6 +377,8 @@ impl<R: Rng + Drop> Blob for Device<R> {
         ensures calls { RecordsSync result self.old.calls self.new.calls }
         ensures cause { IfErr result (IsCause (failures_of self.old) CallKind.Sync 0) }
         ensures failures { failures_of self.new ≡ failures_after result (failures_of self.old) }
+        ensures left { calls_left self.new.left ≡ calls_left self.old.left - used_up result }
+        ensures cut { MeetsCut result (failures_of self.old) (calls_left self.old.left) }
         ensures device { IsDeviceCall CallKind.Sync (λ blob below answer changed left. (changed ≡ blob)
             × IsFaultyCall (R.stream) Call.Sync below.config.sync (MemorySyncs blob.inner) below answer left)
             self.old result self.new }
@@ -378,11 +396,14 @@ impl<R: Rng + Drop> Blob for Device<R> {
     /// u64; F10: a cut of the power stands; F1: no opening stands; F9: out of memory; the log is then as it was. F6: a
     /// fault was injected; any part of the bytes may then be there.
     fn write_at(&mut self, offset: u64, bytes: &[u8], mode: WriteMode) -> Result<(), Error>
-        ensures calls { Records result (wrote offset bytes.now (is_sync mode)) self.old.calls self.new.calls }
+        ensures calls { Records result (wrote (place_of mode offset bytes.now) bytes.now (is_sync mode))
+            self.old.calls self.new.calls }
         ensures cause { IfErr result (IsCause (failures_of self.old) CallKind.Write (offset + length bytes.now)) }
         ensures failures { failures_of self.new ≡ failures_after result (failures_of self.old) }
+        ensures left { calls_left self.new.left ≡ calls_left self.old.left - used_up result }
+        ensures cut { MeetsCut result (failures_of self.old) (calls_left self.old.left) }
         ensures device { IsDeviceCall CallKind.Write (λ blob below answer changed left.
-            FaultyWrites (R.stream) blob offset bytes.now (mode_below bytes.now mode) below answer changed left)
+            FaultyWrites (R.stream) blob offset bytes.now (mode_below mode) below answer changed left)
             self.old result self.new }
     {
         self.stop()?;
@@ -408,6 +429,8 @@ impl<R: Rng + Drop> Blob for Device<R> {
         ensures calls { Records result (resized_to len) self.old.calls self.new.calls }
         ensures cause { IfErr result (IsCause (failures_of self.old) CallKind.Resize len) }
         ensures failures { failures_of self.new ≡ failures_after result (failures_of self.old) }
+        ensures left { calls_left self.new.left ≡ calls_left self.old.left - used_up result }
+        ensures cut { MeetsCut result (failures_of self.old) (calls_left self.old.left) }
         ensures device { IsDeviceCall CallKind.Resize (λ blob below answer changed left.
             FaultyResizes (R.stream) blob len below answer changed left) self.old result self.new }
     {

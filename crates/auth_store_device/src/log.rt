@@ -8,7 +8,7 @@ ghost use Rattle.fault_storage.specs.Faults.{IsFaultyCall};
 ghost use Rattle.paged_blob.specs.Answers.{Records, RecordsSync, Failures, failures_after};
 ghost use Rattle.paged_blob.specs.Answers.{IsCause, IsReadCause, IsSlice};
 ghost use Rattle.paged_blob.specs.Calls.{File, wrote, resized_to, file_of};
-ghost use Rattle.paged_blob.specs.WriteModes.{is_sync};
+ghost use Rattle.paged_blob.specs.WriteModes.{is_sync, place_of};
 ghost use Rattle.paged_blob.specs.declared.error.CallKind.{CallKind};
 ghost use Rattle.auth_store_device.specs.Devices.{Passes, failures_in, mode_below, refusal_of};
 ghost use Rattle.auth_store_device.specs.Logs.{IsOpenLog};
@@ -18,6 +18,7 @@ use crate::opening::behind_header;
 use crate::record::Record;
 use fault_storage::storage::Blob as _;
 use fault_storage::{Error as StorageError, WriteMode as StorageMode, faulty, memory};
+use paged_blob::blob::place_of;
 use paged_blob::{CallKind, Error, WriteMode};
 use rand_core::Rng;
 
@@ -63,13 +64,10 @@ fn refusal_of(kind: CallKind, error: StorageError) -> Error
     }
 }
 
-// The mode in which a write reaches the store: an empty one makes nothing durable, and is a plain one.
-fn mode_below(bytes: &[u8], mode: WriteMode) -> StorageMode
-    ensures { result ≡ mode_below bytes.now mode }
+// The mode in which a write reaches the store.
+fn mode_below(mode: WriteMode) -> StorageMode
+    ensures { result ≡ mode_below mode }
 {
-    if bytes.is_empty() {
-        return StorageMode::Plain;
-    }
     match mode {
         WriteMode::Plain => StorageMode::Plain,
         WriteMode::Sync => StorageMode::Sync,
@@ -88,24 +86,26 @@ pub(crate) fn write_log<R: Rng>(
     requires room { storage.old.injections < 2 ^ 64 - 1 }
     requires stands { IsOpenLog storage.old.inner (file_of (calls_of record_kept.old)) log.old.inner }
     ensures passes { Passes CallKind.Write (λ blob below answer changed left.
-        FaultyWrites (R.stream) blob offset bytes.now (mode_below bytes.now mode) below answer changed left)
+        FaultyWrites (R.stream) blob offset bytes.now (mode_below mode) below answer changed left)
         log.old storage.old result log.new storage.new }
-    ensures calls { Records result (wrote offset bytes.now (is_sync mode)) (calls_of record_kept.old)
-        (calls_of record_kept.new) }
+    ensures calls { Records result (wrote (place_of mode offset bytes.now) bytes.now (is_sync mode))
+        (calls_of record_kept.old) (calls_of record_kept.new) }
     ensures cause { (failures : Failures) → IfErr result (IsCause failures CallKind.Write (offset + length bytes.now)) }
     ensures count { (refused : ℕ) (is_open is_asked : Bool) → failures_in storage.new refused is_open is_asked
         ≡ failures_after result (failures_in storage.old refused is_open is_asked) }
+    ensures uncut { result ≡ Err Error.PowerCut → ⊥ }
     ensures stands { IsOpenLog storage.new.inner (file_of (calls_of record_kept.new)) log.new.inner }
 {
     record_kept.make_room(bytes.len())?;
+    let place = place_of(mode, offset, bytes);
     let is_sync = mode == WriteMode::Sync;
-    match Told::of(log.write_at(storage, offset, bytes, mode_below(bytes, mode))) {
+    match Told::of(log.write_at(storage, offset, bytes, mode_below(mode))) {
         Told::Made => {
-            record_kept.note_write(offset, bytes, is_sync, true);
+            record_kept.note_write(place, bytes, is_sync, true);
             Ok(())
         }
         Told::Failed => {
-            record_kept.note_write(offset, bytes, is_sync, false);
+            record_kept.note_write(place, bytes, is_sync, false);
             Err(Error::Injected(CallKind::Write))
         }
         Told::Ended => Err(Error::NumberEnded),
@@ -129,6 +129,7 @@ pub(crate) fn resize_log<R: Rng>(
     ensures cause { (failures : Failures) → IfErr result (IsCause failures CallKind.Resize len) }
     ensures count { (refused : ℕ) (is_open is_asked : Bool) → failures_in storage.new refused is_open is_asked
         ≡ failures_after result (failures_in storage.old refused is_open is_asked) }
+    ensures uncut { result ≡ Err Error.PowerCut → ⊥ }
     ensures stands { IsOpenLog storage.new.inner (file_of (calls_of record_kept.new)) log.new.inner }
 {
     record_kept.make_room(0)?;
@@ -163,6 +164,7 @@ pub(crate) fn read_log<R: Rng>(
         → IfErr result (IsReadCause failures file offset len) }
     ensures count { (refused : ℕ) (is_open is_asked : Bool) → failures_in storage.new refused is_open is_asked
         ≡ failures_after result (failures_in storage.old refused is_open is_asked) }
+    ensures uncut { result ≡ Err Error.PowerCut → ⊥ }
     ensures store { storage.new.inner ≡ storage.old.inner }
 {
     match log.read_at(storage, offset, len) {
@@ -186,6 +188,7 @@ pub(crate) fn sync_log<R: Rng + Drop>(
     ensures cause { (failures : Failures) → IfErr result (IsCause failures CallKind.Sync 0) }
     ensures count { (refused : ℕ) (is_open is_asked : Bool) → failures_in storage.new refused is_open is_asked
         ≡ failures_after result (failures_in storage.old refused is_open is_asked) }
+    ensures uncut { result ≡ Err Error.PowerCut → ⊥ }
     ensures stands { IsOpenLog storage.new.inner (file_of (calls_of record_kept.new)) log.now.inner }
 {
     record_kept.make_ready_to_sync(behind_header(log.inner().live()))?;

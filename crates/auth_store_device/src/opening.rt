@@ -14,7 +14,7 @@ ghost use Rattle.fault_storage.specs.Faults.{IsFaultyCall, FaultyOpens};
 ghost use Rattle.auth_store_device.specs.Logs.{log_partition, log_name, has_log, log_of, behind_header, durable_log};
 ghost use Rattle.auth_store_device.specs.Logs.{log_versions, IsOrderly, IsOpenLog};
 ghost use Rattle.auth_store_device.specs.Devices.{opening_refusal, opening_answer, injected_after};
-ghost use Rattle.auth_store_device.specs.Devices.{shown_file, log_fault};
+ghost use Rattle.auth_store_device.specs.Devices.{shown_file, log_fault, after_admission, HasNoNumber};
 ghost use Rattle.auth_store_device.specs.Records.{calls_of};
 ghost use Rattle.paged_blob.specs.Calls.{file_of};
 ghost use Rattle.paged_blob.specs.Images.{IsImage};
@@ -124,7 +124,8 @@ pub(crate) fn open_log<R: Rng + Drop>(
     ensures opens { (answer : Result (Opened (Blob Handle)) Error) × (left : Storage Store R)
         × IsFaultyCall (R.stream) Call.Open storage.old.config.«open»
         (FaultyOpens log_partition log_name log_versions) storage.old answer left
-        × (result ≡ opening_answer answer) × (storage.new ≡ record left { inner = storage.new.inner }) }
+        × (result ≡ opening_answer answer)
+        × (storage.new ≡ record left { inner = after_admission storage.old.inner answer left.inner }) }
     ensures header { (fault : HeaderError) → result ≡ Err (OpenError.Header fault)
         → (has_log storage.old.inner ≡ true) × (log_fault storage.old.inner ≡ Some fault) }
     ensures fine { OnOk result (has_log storage.old.inner ≡ true → log_fault storage.old.inner ≡ None) }
@@ -134,7 +135,7 @@ pub(crate) fn open_log<R: Rng + Drop>(
     ensures count { storage.new.injections ≡ injected_after result storage.old.injections }
     ensures settings { storage.new.config ≡ storage.old.config }
     ensures power { result ≡ Err OpenError.PowerCut → ⊥ }
-    ensures numbers { result ≡ Err OpenError.NumberEnded → storage.old.inner.next ≡ 2 ^ 64 - 1 }
+    ensures numbers { result ≡ Err OpenError.NumberEnded → HasNoNumber storage.old.inner }
     ensures refused { OnErr result (storage.new.inner ≡ storage.old.inner) }
 {
     let versions = Versions {

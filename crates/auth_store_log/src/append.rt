@@ -1,9 +1,9 @@
 //! Bytes that are appended and made durable in one.
 
-ghost use Rattle.std.specs.Prelude.{◌≡◌, ◌⊎◌, ◌+◌, ◌<◌, ◌++◌, length, IfOk, IfErr};
+ghost use Rattle.std.specs.Prelude.{◌≡◌, ◌≤◌, ◌⊎◌, ◌+◌, ◌<◌, ◌++◌, length, IfOk, IfErr, OnOk};
 ghost use Rattle.paged_format.specs.Footers.{content_size};
 ghost use Rattle.paged_blob.specs.Moments.{Through};
-ghost use Rattle.paged_blob.specs.Answers.{failures_after, IsCause};
+ghost use Rattle.paged_blob.specs.Answers.{failures_after, IsCause, IsPowerOff};
 ghost use Rattle.paged_blob.specs.Flushes.{physical_size};
 ghost use Rattle.paged_blob.specs.Writers.{written, IsWriter, Keeps};
 ghost use Rattle.paged_blob.specs.CachedContent.{HoldsPagesOf, KeepsOthers};
@@ -39,6 +39,9 @@ pub fn append_batch<B: Blob, C: Checksum>(
         (length (written C.checksum_of (B.calls blob.old) writer) + length bytes.now)) e
         ⊎ IsCause (B.failures blob.old) CallKind.Sync 0 e) }
     ensures failures { B.failures blob.new ≡ failures_after result (B.failures blob.old) }
+    ensures left { B.left blob.new ≤ B.left blob.old }
+    // Under a cut of the power no bytes are appended.
+    ensures powered { OnOk result (0 < length bytes.now → IsPowerOff (B.failures blob.old) (B.left blob.old) → ⊥) }
     ensures cache { cache.new ≡ record cache.old { pages = cache.new.pages } }
     ensures cached { HoldsPagesOf (written C.checksum_of (B.calls blob.old) writer) cache.old writer.blob_id
         → HoldsPagesOf (written C.checksum_of (B.calls blob.old) writer ++ bytes.now) cache.new writer.blob_id }

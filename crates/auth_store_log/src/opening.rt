@@ -49,12 +49,14 @@ fn settle<B: Blob, C: Checksum>(
     // Refused too, the cache has given names at most.
     ensures given { (cache.new ≡ record cache.old { next_id = cache.new.next_id })
         × (cache.old.next_id ≤ cache.new.next_id) }
+    ensures most { cache.new.next_id ≤ cache.old.next_id + 2 }
     ensures cause { IfErr result (IsLogCause (B.failures blob.old) (cache.old.next_id + 2)
         (length (content (B.calls blob.old)))) }
     ensures any_moment { let list = recovered C.checksum_of (cache.old.page_size + 12) (content (B.calls blob.old)) in
         Through (Keeps C.checksum_of (cache.old.page_size + 12) list (length list))
         (B.calls blob.old) (B.calls blob.new) }
     ensures failures { B.failures blob.new ≡ failures_after result (B.failures blob.old) }
+    ensures left { B.left blob.new ≤ B.left blob.old }
 {
     what_is_shown_withstands();
     let recovery = Recovery::<C>::open(alloc, blob, cache, blob_size, capacity)?;
@@ -83,11 +85,13 @@ fn cut_behind<B: Blob, C: Checksum>(
     ensures pages { cache.new.pages ≡ cache.old.pages }
     ensures given { (cache.new ≡ record cache.old { next_id = cache.new.next_id })
         × (cache.old.next_id ≤ cache.new.next_id) }
+    ensures most { cache.new.next_id ≤ cache.old.next_id + 1 }
     ensures cause { IfErr result (IsLogCause (B.failures blob.old) (cache.old.next_id + 1)
         (length (content (B.calls blob.old)))) }
     ensures any_moment { Through (Keeps C.checksum_of recovery.page_size
         (written C.checksum_of (B.calls blob.old) recovery) count) (B.calls blob.old) (B.calls blob.new) }
     ensures failures { B.failures blob.new ≡ failures_after result (B.failures blob.old) }
+    ensures left { B.left blob.new ≤ B.left blob.old }
 {
     what_is_shown_withstands();
     recovery.truncate(blob, cache, count)
@@ -117,6 +121,7 @@ fn keep_front<B: Blob, C: Checksum>(
     ensures named { AreNamed cache.new }
     ensures given { (cache.new ≡ record cache.old { next_id = cache.new.next_id })
         × (cache.old.next_id ≤ cache.new.next_id) }
+    ensures most { cache.new.next_id ≤ cache.old.next_id + 1 }
     ensures cached { IfOk result (λ w. HoldsPagesOf (take count (written C.checksum_of (B.calls blob.old) recovery))
         cache.new w.blob_id) }
     ensures cause { IfErr result (IsLogCause (B.failures blob.old) (cache.old.next_id + 1)
@@ -124,6 +129,7 @@ fn keep_front<B: Blob, C: Checksum>(
     ensures any_moment { Through (Keeps C.checksum_of recovery.page_size
         (written C.checksum_of (B.calls blob.old) recovery) count) (B.calls blob.old) (B.calls blob.new) }
     ensures failures { B.failures blob.new ≡ failures_after result (B.failures blob.old) }
+    ensures left { B.left blob.new ≤ B.left blob.old }
 {
     each_image_keeps_what_is_durable();
     if count == recovery.size() {
@@ -164,6 +170,7 @@ where
     ensures named { AreNamed cache.new }
     ensures same { cache.new ≡ record cache.old { next_id = cache.new.next_id; pages = cache.new.pages } }
     ensures names { cache.old.next_id ≤ cache.new.next_id }
+    ensures most { cache.new.next_id ≤ cache.old.next_id + 3 }
     ensures cached { IfOk result (λ r. HoldsPagesOf r.1.items cache.new r.0.blob_id) }
     ensures cause { IfErr result (IsLogCause (B.failures blob.old) (cache.old.next_id + 3)
         (length (content (B.calls blob.old)))) }
@@ -171,6 +178,7 @@ where
         (cache.old.page_size + 12) (recovered_log (format_of (K.after tt) (V.after tt) K.SIZE V.SIZE) C.checksum_of
         (cache.old.page_size + 12) (content (B.calls blob.old)))) (B.calls blob.old) (B.calls blob.new) }
     ensures failures { B.failures blob.new ≡ failures_after result (B.failures blob.old) }
+    ensures left { B.left blob.new ≤ B.left blob.old }
 {
     let recovery = settle::<B, C>(alloc, blob, cache, blob_size, capacity)?;
     let size = recovery.size() as usize;
@@ -231,10 +239,12 @@ where
     ensures named { AreNamed cache.new }
     ensures same { cache.new ≡ record cache.old { next_id = cache.new.next_id; pages = cache.new.pages } }
     ensures names { cache.old.next_id ≤ cache.new.next_id }
+    ensures most { cache.new.next_id ≤ cache.old.next_id + 3 }
     ensures any_moment { Through (IsKeptThrough (format_of (K.after tt) (V.after tt) K.SIZE V.SIZE) C.checksum_of
         (cache.old.page_size + 12) (recovered_log (format_of (K.after tt) (V.after tt) K.SIZE V.SIZE) C.checksum_of
         (cache.old.page_size + 12) (content (B.calls blob.old)))) (B.calls blob.old) (B.calls blob.new) }
     ensures failures { B.failures blob.new ≡ failures_after result (B.failures blob.old) }
+    ensures left { B.left blob.new ≤ B.left blob.old }
 {
     let (recovery, bytes) = recover_committed::<F, K, V, B, C>(
         alloc, blob, cache, blob_size, capacity,

@@ -177,6 +177,7 @@ where
     ensures named { AreNamed cache.old → writer.now.blob_id < cache.old.next_id → AreNamed cache.new }
     ensures calls { B.calls blob.new ≡ B.calls blob.old }
     ensures failures { B.failures blob.new ≡ failures_after_reading result (B.failures blob.old) }
+    ensures left { B.left blob.new ≤ B.left blob.old }
 {
     let Some((offset, size)) = place_of::<K, V>(index, writer.size()) else {
         return Err(LogError::Refused(Error::BlobInsufficientLength));

@@ -1,16 +1,17 @@
 -- What a run tells of causes: they were there.
-use Rattle.std.proofs.Common.{◌≡◌, ◌+◌, ◌<◌, ◌≤◌, ℕ, zero, suc, Bool, true, false, List, [], ◌∷◌, refl, sym, ◌∙◌, ap, subst, ⊎_elim, arith}
-use Rattle.std.specs.Prelude.{⊤, IsTrue, IsFalse}
+use Rattle.std.proofs.Common.{◌≡◌, ◌+◌, ◌<◌, ℕ, Bool, true, false, List, [], ◌∷◌, Option, None, refl, sym, ◌∙◌, ap, subst, ⊎_elim, arith}
+use Rattle.std.specs.Prelude.{⊤, IsTrue}
 use Rattle.auth_store_parts.specs.History.{History}
 use Rattle.auth_store_ledger.specs.Store.{commit_after}
 use Rattle.auth_store_session.specs.declared.error.StoreError.{StoreError}
 use Rattle.auth_store_session.specs.declared.error.StoreError.TheVariants.{Fault, PowerCut, NumberEnded, Memory, Corrupt, Failed, Header}
-use Rattle.auth_store_session.specs.Machine.{Machine, Power, State, closed, live, failed, doubtful, Request, ask_open, ask_commit, ask_get, ask_root, ask_commits, ask_floor, ask_len, ask_proof, ask_close, ask_crash, ask_config, ask_cut, Answer, opened, committed, value, root_is, commits_are, floor_is, len_is, proof, has_closed, has_crashed, is_set, refused, not_open, still_open, MayRefuseRead, MayRefuseOpening, MayRefuseCommit, IsStep, IsRun, Passes, turned, faults_told, AskNoCut, TellNoCut}
+use Rattle.auth_store_device.specs.Devices.{is_cut}
+use Rattle.auth_store_session.specs.Machine.{Machine, Power, State, closed, live, failed, doubtful, Request, ask_open, ask_commit, ask_get, ask_root, ask_commits, ask_floor, ask_len, ask_proof, ask_close, ask_crash, ask_config, ask_cut, Answer, opened, committed, value, root_is, commits_are, floor_is, len_is, proof, has_closed, has_crashed, is_set, refused, not_open, still_open, MayRefuseRead, MayRefuseOpening, MayRefuseCommit, IsStep, IsRun, IsSpent, Passes, turned, refusal_in, faults_in, faults_told, AskNoCut, TellNoCut}
 
 -- what a refusal tells of the power
 abbrev Why : Power → Power → StoreError → Type 0
 Why before after (Fault kind) = before.injected < after.injected
-Why before after PowerCut = IsTrue after.is_cut
+Why before after PowerCut = IsTrue (is_cut after.left)
 Why before after NumberEnded = ⊤
 Why before after Memory = ⊤
 Why before after Corrupt = ⊤
@@ -124,7 +125,7 @@ step_why m before after (live history) ask_floor e next step = plain e (floor_is
 step_why m before after (live history) ask_len e next step = plain e (len_is _) step.0 refl
 step_why m before after (live history) (ask_proof key) e next step = ⊎_elim
     (λ said. plain e (proof _) said refl)
-    (λ refuses. let (error, is, cause) = refuses in why_of before after e error is (subst (Why before after) (sym cause) tt))
+    (λ lacks. why_of before after e Memory lacks tt)
     step.1
 step_why m before after (live history) ask_close e next step = plain e has_closed step.0 refl
 step_why m before after (live history) ask_crash e next step = plain e still_open step.0 refl
@@ -155,8 +156,7 @@ turned_injected ask_len answer power = refl
 turned_injected (ask_proof key) answer power = refl
 turned_injected ask_close answer power = refl
 turned_injected ask_config answer power = refl
-turned_injected (ask_cut zero) answer power = refl
-turned_injected (ask_cut (suc calls)) answer power = refl
+turned_injected (ask_cut calls) answer power = refl
 turned_injected ask_crash opened power = refl
 turned_injected ask_crash (committed root) power = refl
 turned_injected ask_crash (value found) power = refl
@@ -174,7 +174,7 @@ turned_injected ask_crash still_open power = refl
 
 -- nor does it ask for a cut, where the request does not
 turned_asked : (request : Request) (answer : Answer) (power : Power) (requests : List Request) → AskNoCut (request ∷ requests)
-    → IsFalse power.is_asked → IsFalse (turned request answer power).is_asked
+    → power.left ≡ None → (turned request answer power).left ≡ None
 turned_asked ask_open answer power requests none is = is
 turned_asked (ask_commit words metadata) answer power requests none is = is
 turned_asked (ask_get key) answer power requests none is = is
@@ -215,71 +215,25 @@ fewer_asked ask_crash requests none = none
 fewer_asked ask_config requests none = none
 fewer_asked (ask_cut calls) requests none = absurd none
 
--- no step takes faults back
-stays_injected : (before after : Power) (request : Request) (answer : Answer) → Passes request answer before after → (n : ℕ)
-    → before.injected + n ≤ after.injected + n
-stays_injected before after request answer passes n =
-    let turns = turned_injected request answer before in
-    let rises = passes.injected.0 in omega (arith, turns, rises)
-
--- the faults that a step tells of were injected in it
-told_injected : (m : Machine) (before after : Power) (state : State) (request : Request) (answer : Answer) (next : State)
-    (answers : List Answer) → IsStep m before after state request answer next → Passes request answer before after
-    → before.injected + faults_told (answer ∷ answers) ≤ after.injected + faults_told answers
-told_injected m before after state request opened next answers step passes =
-    stays_injected before after request opened passes (faults_told answers)
-told_injected m before after state request (committed root) next answers step passes =
-    stays_injected before after request (committed root) passes (faults_told answers)
-told_injected m before after state request (value found) next answers step passes =
-    stays_injected before after request (value found) passes (faults_told answers)
-told_injected m before after state request (root_is root) next answers step passes =
-    stays_injected before after request (root_is root) passes (faults_told answers)
-told_injected m before after state request (commits_are count) next answers step passes =
-    stays_injected before after request (commits_are count) passes (faults_told answers)
-told_injected m before after state request (floor_is location) next answers step passes =
-    stays_injected before after request (floor_is location) passes (faults_told answers)
-told_injected m before after state request (len_is count) next answers step passes =
-    stays_injected before after request (len_is count) passes (faults_told answers)
-told_injected m before after state request (proof found) next answers step passes =
-    stays_injected before after request (proof found) passes (faults_told answers)
-told_injected m before after state request has_closed next answers step passes =
-    stays_injected before after request has_closed passes (faults_told answers)
-told_injected m before after state request has_crashed next answers step passes =
-    stays_injected before after request has_crashed passes (faults_told answers)
-told_injected m before after state request is_set next answers step passes =
-    stays_injected before after request is_set passes (faults_told answers)
-told_injected m before after state request (refused (Fault kind)) next answers step passes =
-    let rose : before.injected < after.injected = step_why m before after state request (Fault kind) next step in omega (arith, rose)
-told_injected m before after state request (refused PowerCut) next answers step passes =
-    stays_injected before after request (refused PowerCut) passes (faults_told answers)
-told_injected m before after state request (refused NumberEnded) next answers step passes =
-    stays_injected before after request (refused NumberEnded) passes (faults_told answers)
-told_injected m before after state request (refused Memory) next answers step passes =
-    stays_injected before after request (refused Memory) passes (faults_told answers)
-told_injected m before after state request (refused Corrupt) next answers step passes =
-    stays_injected before after request (refused Corrupt) passes (faults_told answers)
-told_injected m before after state request (refused Failed) next answers step passes =
-    stays_injected before after request (refused Failed) passes (faults_told answers)
-told_injected m before after state request (refused (Header fault)) next answers step passes =
-    stays_injected before after request (refused (Header fault)) passes (faults_told answers)
-told_injected m before after state request not_open next answers step passes =
-    stays_injected before after request not_open passes (faults_told answers)
-told_injected m before after state request still_open next answers step passes =
-    stays_injected before after request still_open passes (faults_told answers)
+-- as many faults were injected in a step as it tells of
+told_injected : (before after : Power) (request : Request) (answer : Answer) → Passes request answer before after
+    → after.injected ≡ before.injected + faults_in (refusal_in answer)
+told_injected before after request answer passes =
+    omega (arith, passes.injected, turned_injected request answer before)
 
 pub run_faults : (m : Machine) (before : Power) (first : State) (requests : List Request) (answers : List Answer) (after : Power)
-    (last : State) → IsRun m before first requests answers after last → before.injected + faults_told answers ≤ after.injected
+    (last : State) → IsRun m before first requests answers after last → after.injected ≡ before.injected + faults_told answers
 run_faults m before first [] [] after last ran =
     let same : after.injected ≡ before.injected = ap (λ (p : Power). p.injected) ran.0 in omega (arith, same)
 run_faults m before first (request ∷ requests) (answer ∷ answers) after last ran =
-    let here = told_injected m before ran.0 first request answer ran.1 answers ran.2 ran.3 in
+    let here = told_injected before ran.0 request answer ran.3 in
     let later = run_faults m ran.0 ran.1 requests answers after last ran.4 in omega (arith, here, later)
 run_faults m before first [] (answer ∷ answers) after last ran = absurd ran
 run_faults m before first (request ∷ requests) [] after last ran = absurd ran
 
 -- where no cut was asked for, none stands, and no step tells of one
 uncut_told : (m : Machine) (before after : Power) (state : State) (request : Request) (answer : Answer) (next : State)
-    (answers : List Answer) → IsStep m before after state request answer next → (IsTrue after.is_cut → ⊥) → TellNoCut answers
+    (answers : List Answer) → IsStep m before after state request answer next → (IsTrue (is_cut after.left) → ⊥) → TellNoCut answers
     → TellNoCut (answer ∷ answers)
 uncut_told m before after state request opened next answers step uncut rest = rest
 uncut_told m before after state request (committed root) next answers step uncut rest = rest
@@ -304,16 +258,17 @@ uncut_told m before after state request not_open next answers step uncut rest = 
 uncut_told m before after state request still_open next answers step uncut rest = rest
 
 pub run_cuts : (m : Machine) (before : Power) (first : State) (requests : List Request) (answers : List Answer) (after : Power)
-    (last : State) → IsRun m before first requests answers after last → IsFalse before.is_asked → AskNoCut requests
+    (last : State) → IsRun m before first requests answers after last → before.left ≡ None → AskNoCut requests
     → TellNoCut answers
 run_cuts m before first [] [] after last ran unasked none = tt
 run_cuts m before first (request ∷ requests) (answer ∷ answers) after last ran unasked none =
     let passes : Passes request answer before ran.0 = ran.3 in
-    let still : IsFalse ran.0.is_asked = passes.asked ∙ turned_asked request answer before requests none unasked in
-    uncut_told m before ran.0 first request answer ran.1 answers ran.2 (λ cut. both ran.0.is_asked (passes.cut cut) still)
+    let none_left = turned_asked request answer before requests none unasked in
+    let still : ran.0.left ≡ None = subst (λ l. IsSpent l ran.0.left) none_left passes.left in
+    uncut_told m before ran.0 first request answer ran.1 answers ran.2 (λ cut. uncut ran.0.left still cut)
     (run_cuts m ran.0 ran.1 requests answers after last ran.4 still (fewer_asked request requests none))
   where
-    both : (b : Bool) → IsTrue b → IsFalse b → ⊥
-    both b is none = let bad : true ≡ false = sym is ∙ none in cc
+    uncut : (left : Option ℕ) → left ≡ None → IsTrue (is_cut left) → ⊥
+    uncut left is cut = let bad : is_cut left ≡ false = ap is_cut is in cc
 run_cuts m before first [] (answer ∷ answers) after last ran unasked none = absurd ran
 run_cuts m before first (request ∷ requests) [] after last ran unasked none = absurd ran

@@ -1,16 +1,17 @@
 -- A cut of the power that stands: nothing is acknowledged under it, and it stays until a crash is asked for.
-use Rattle.std.proofs.Common.{◌≡◌, zero, suc, Bool, true, false, List, [], ◌∷◌, refl, sym, ◌∙◌, ap, subst, ⊎_elim}
-use Rattle.std.specs.Prelude.{IsTrue, IsFalse}
+use Rattle.std.proofs.Common.{◌≡◌, ◌≤◌, ℕ, Bool, true, false, List, [], ◌∷◌, Some, refl, sym, ◌∙◌, ap, subst, ⊎_elim, arith}
+use Rattle.std.specs.Prelude.{IsFalse}
 use Rattle.std.proofs.lemmas.Bool.{false_from_ne_true}
-use Rattle.auth_store_session.specs.declared.error.StoreError.TheVariants.{Failed}
-use Rattle.auth_store_session.specs.Machine.{Machine, Power, State, closed, live, failed, doubtful, Request, ask_open, ask_commit, ask_get, ask_root, ask_commits, ask_floor, ask_len, ask_proof, ask_close, ask_crash, ask_config, ask_cut, Answer, value, root_is, commits_are, floor_is, len_is, proof, has_closed, has_crashed, is_set, refused, not_open, still_open, IsStep, IsRun, Passes, turned, AskNoCrash, acknowledges, AcknowledgeNone}
+use Rattle.auth_store_session.specs.declared.error.StoreError.TheVariants.{Failed, Memory}
+use Rattle.auth_store_device.specs.Devices.{after_asking, is_cut}
+use Rattle.auth_store_session.specs.Machine.{Machine, Power, State, closed, live, failed, doubtful, Request, ask_open, ask_commit, ask_get, ask_root, ask_commits, ask_floor, ask_len, ask_proof, ask_close, ask_crash, ask_config, ask_cut, Answer, value, root_is, commits_are, floor_is, len_is, proof, has_closed, has_crashed, is_set, refused, not_open, still_open, IsStep, IsRun, IsSpent, Passes, turned, AskNoCrash, acknowledges, AcknowledgeNone}
 
 plain : {A : Type 0} (answer said : Answer) → acknowledges answer ≡ true → answer ≡ said → acknowledges said ≡ false → A
 plain answer said ack is none = let bad : true ≡ false = sym ack ∙ (ap acknowledges is ∙ none) in absurd (cc)
 
 -- what a step acknowledges was under no cut
 uncut : (m : Machine) (before after : Power) (state : State) (request : Request) (answer : Answer) (next : State)
-    → IsStep m before after state request answer next → acknowledges answer ≡ true → IsFalse before.is_cut
+    → IsStep m before after state request answer next → acknowledges answer ≡ true → IsFalse (is_cut before.left)
 uncut m before after (closed history pending) ask_open answer next step ack = ⊎_elim
     (λ opens. opens.1)
     (λ refuses. plain answer (refused refuses.0) ack refuses.1 refl)
@@ -56,7 +57,7 @@ uncut m before after (live history) ask_floor answer next step ack = plain answe
 uncut m before after (live history) ask_len answer next step ack = plain answer (len_is _) ack step.0 refl
 uncut m before after (live history) (ask_proof key) answer next step ack = ⊎_elim
     (λ said. plain answer (proof _) ack said refl)
-    (λ refuses. plain answer (refused refuses.0) ack refuses.1 refl)
+    (λ lacks. plain answer (refused Memory) ack lacks refl)
     step.1
 uncut m before after (live history) ask_close answer next step ack = plain answer has_closed ack step.0 refl
 uncut m before after (live history) ask_crash answer next step ack = plain answer still_open ack step.0 refl
@@ -77,7 +78,7 @@ uncut m before after (failed history commit) (ask_cut calls) answer next step ac
 
 -- without a crash what a request makes of the power leaves a cut
 stands_turned : (request : Request) (answer : Answer) (power : Power) (requests : List Request) → AskNoCrash (request ∷ requests)
-    → IsTrue power.is_cut → IsTrue (turned request answer power).is_cut
+    → power.left ≡ Some 0 → (turned request answer power).left ≡ Some 0
 stands_turned ask_open answer power requests none is = is
 stands_turned (ask_commit words metadata) answer power requests none is = is
 stands_turned (ask_get key) answer power requests none is = is
@@ -89,8 +90,7 @@ stands_turned (ask_proof key) answer power requests none is = is
 stands_turned ask_close answer power requests none is = is
 stands_turned ask_crash answer power requests none is = absurd none
 stands_turned ask_config answer power requests none is = is
-stands_turned (ask_cut zero) answer power requests none is = refl
-stands_turned (ask_cut (suc calls)) answer power requests none is = is
+stands_turned (ask_cut calls) answer power requests none is = ap (after_asking calls) is
 
 fewer_crashes : (request : Request) (requests : List Request) → AskNoCrash (request ∷ requests) → AskNoCrash requests
 fewer_crashes ask_open requests none = none
@@ -107,23 +107,27 @@ fewer_crashes ask_config requests none = none
 fewer_crashes (ask_cut calls) requests none = none
 
 pub run_under_a_cut : (m : Machine) (before : Power) (first : State) (requests : List Request) (answers : List Answer) (after : Power)
-    (last : State) → IsRun m before first requests answers after last → IsTrue before.is_cut → AskNoCrash requests
-    → AcknowledgeNone answers × IsTrue after.is_cut
+    (last : State) → IsRun m before first requests answers after last → before.left ≡ Some 0 → AskNoCrash requests
+    → AcknowledgeNone answers × (after.left ≡ Some 0)
 run_under_a_cut m before first [] [] after last ran cut none =
-    (tt, subst (λ (p : Power). IsTrue p.is_cut) (sym ran.0) cut)
+    (tt, subst (λ (p : Power). p.left ≡ Some 0) (sym ran.0) cut)
 run_under_a_cut m before first (request ∷ requests) (answer ∷ answers) after last ran cut none =
     let passes : Passes request answer before ran.0 = ran.3 in
-    let stands : IsTrue ran.0.is_cut = passes.stands (stands_turned request answer before requests none cut) in
+    let spent = subst (λ l. IsSpent l ran.0.left) (stands_turned request answer before requests none cut) passes.left in
+    let stands : ran.0.left ≡ Some 0 = spent.1 ∙ ap Some (no_more spent.0 spent.2) in
     let rest = run_under_a_cut m ran.0 ran.1 requests answers after last ran.4 stands (fewer_crashes request requests none) in (
       (
         false_from_ne_true (acknowledges answer)
-            (λ ack. both before.is_cut cut (uncut m before ran.0 first request answer ran.1 ran.2 ack)),
+            (λ ack. both (is_cut before.left) (ap is_cut cut) (uncut m before ran.0 first request answer ran.1 ran.2 ack)),
         rest.0,
       ),
       rest.1,
     )
   where
-    both : (b : Bool) → IsTrue b → IsFalse b → ⊥
+    both : (b : Bool) → b ≡ true → IsFalse b → ⊥
     both b is none = let bad : true ≡ false = sym is ∙ none in cc
+
+    no_more : (n : ℕ) → n ≤ 0 → n ≡ 0
+    no_more n few = omega (arith, few)
 run_under_a_cut m before first [] (answer ∷ answers) after last ran cut none = absurd ran
 run_under_a_cut m before first (request ∷ requests) [] after last ran cut none = absurd ran

@@ -61,20 +61,20 @@ keeps_live m before after history ask_commits answer next step = stays_at histor
 keeps_live m before after history ask_floor answer next step = stays_at history (live history) next step.1 refl
 keeps_live m before after history ask_len answer next step = stays_at history (live history) next step.1 refl
 
-keeps_failed : (history : History) (commit : Commit) (request : Request) (answer : Answer) (next : State)
-    → IsStepFailed history commit request answer next → Begins history (kept_history next)
-keeps_failed history commit ask_close answer next step = stays_at history (closed history (Some commit)) next step.1 refl
-keeps_failed history commit ask_open answer next step = stays_at history (failed history commit) next step.1 refl
-keeps_failed history commit ask_crash answer next step = stays_at history (failed history commit) next step.1 refl
-keeps_failed history commit ask_config answer next step = stays_at history (failed history commit) next step.1 refl
-keeps_failed history commit (ask_cut calls) answer next step = stays_at history (failed history commit) next step.1 refl
-keeps_failed history commit (ask_commit words metadata) answer next step = stays_at history (failed history commit) next step.1 refl
-keeps_failed history commit (ask_get key) answer next step = stays_at history (failed history commit) next step.1 refl
-keeps_failed history commit (ask_proof key) answer next step = stays_at history (failed history commit) next step.1 refl
-keeps_failed history commit ask_root answer next step = stays_at history (failed history commit) next step.1 refl
-keeps_failed history commit ask_commits answer next step = stays_at history (failed history commit) next step.1 refl
-keeps_failed history commit ask_floor answer next step = stays_at history (failed history commit) next step.1 refl
-keeps_failed history commit ask_len answer next step = stays_at history (failed history commit) next step.1 refl
+keeps_failed : (before after : Power) (history : History) (commit : Commit) (request : Request) (answer : Answer) (next : State)
+    → IsStepFailed before after history commit request answer next → Begins history (kept_history next)
+keeps_failed before after history commit ask_close answer next step = stays_at history (closed history (Some commit)) next step.1 refl
+keeps_failed before after history commit ask_open answer next step = stays_at history (failed history commit) next step.1 refl
+keeps_failed before after history commit ask_crash answer next step = stays_at history (failed history commit) next step.1 refl
+keeps_failed before after history commit ask_config answer next step = stays_at history (failed history commit) next step.1 refl
+keeps_failed before after history commit (ask_cut calls) answer next step = stays_at history (failed history commit) next step.1 refl
+keeps_failed before after history commit (ask_commit words metadata) answer next step = stays_at history (failed history commit) next step.1 refl
+keeps_failed before after history commit (ask_get key) answer next step = stays_at history (failed history commit) next step.1 refl
+keeps_failed before after history commit (ask_proof key) answer next step = stays_at history (failed history commit) next step.1 refl
+keeps_failed before after history commit ask_root answer next step = stays_at history (failed history commit) next step.1 refl
+keeps_failed before after history commit ask_commits answer next step = stays_at history (failed history commit) next step.1 refl
+keeps_failed before after history commit ask_floor answer next step = stays_at history (failed history commit) next step.1 refl
+keeps_failed before after history commit ask_len answer next step = stays_at history (failed history commit) next step.1 refl
 
 -- one step
 pub step_keeps : (m : Machine) (before after : Power) (state : State) (request : Request) (answer : Answer) (next : State)
@@ -84,7 +84,7 @@ step_keeps m before after (closed history pending) request answer next step =
 step_keeps m before after (doubtful history) request answer next step =
     keeps_in_doubt m before after history request answer next step
 step_keeps m before after (live history) request answer next step = keeps_live m before after history request answer next step
-step_keeps m before after (failed history commit) request answer next step = keeps_failed history commit request answer next step
+step_keeps m before after (failed history commit) request answer next step = keeps_failed before after history commit request answer next step
 
 -- a run
 pub run_keeps : (m : Machine) (before : Power) (first : State) (requests : List Request) (answers : List Answer) (after : Power)

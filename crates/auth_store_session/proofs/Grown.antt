@@ -18,27 +18,17 @@ use Rattle.auth_store_ledger.specs.declared.error.LedgerError.TheVariants as led
 use Rattle.auth_store_session.specs.Refusals.{of_ledger}
 use Rattle.auth_store_session.specs.Stores.{LiveState, IsLive, IsCommitRefusal}
 
--- what may refuse with less reason may refuse with more, also under a cut
-pub wider : (is_cut : Bool) (before after : Failures) (One Other : Type 0) (e : StoreError) → (One → Other)
-    → IsCommitRefusal false before after One e → IsCommitRefusal is_cut before after Other e
-wider is_cut before after One Other (Fault kind) more cause = cause
-wider is_cut before after One Other PowerCut more (inl none) = absurd (cc)
-wider is_cut before after One Other PowerCut more (inr counted) = inr counted
-wider is_cut before after One Other NumberEnded more (inl ended) = inl ended
-wider is_cut before after One Other NumberEnded more (inr one) = inr (more one)
-wider is_cut before after One Other Memory more cause = cause
-wider is_cut before after One Other Corrupt more cause = cause
-wider is_cut before after One Other Failed more cause = cause
-wider is_cut before after One Other (Header fault) more cause = cause
-
--- what shows a history shows it with a commit that may be pending
-pub perhaps : (format : Format) (size : ℕ) (history : History) (commit : Commit) (calls : List Call)
-    → MayShow format crc32 size history None calls → MayShow format crc32 size history (Some commit) calls
-perhaps format size history commit calls shows = λ image is chance. one_of (shows image is chance)
-  where
-    one_of : {bytes : List ℕ} → IsShown format history None bytes → IsShown format history (Some commit) bytes
-    one_of (inl log) = inl (inl log)
-    one_of (inr none) = inr none
+-- what may refuse with less reason may refuse with more
+pub wider : (before after : Failures) (One Other : Type 0) (e : StoreError) → (One → Other)
+    → IsCommitRefusal before after One e → IsCommitRefusal before after Other e
+wider before after One Other (Fault kind) more cause = cause
+wider before after One Other PowerCut more cause = cause
+wider before after One Other NumberEnded more (inl ended) = inl ended
+wider before after One Other NumberEnded more (inr one) = inr (more one)
+wider before after One Other Memory more cause = cause
+wider before after One Other Corrupt more cause = cause
+wider before after One Other Failed more cause = cause
+wider before after One Other (Header fault) more cause = cause
 
 -- what a writer keeps of a live store
 pub keeps_live : (format : Format) (calls : List Call) (cache : Cache) (now : LiveState)
@@ -54,13 +44,13 @@ keeps_live format calls cache now keeps some is =
     (subst (λ content. Keeps crc32 w.page_size content w.synced calls) is.content all))
 
 -- what a ledger refuses
-pub ledger_refused : (is_cut : Bool) (failures : Failures) (One Other : Type 0) (e : LedgerError)
+pub ledger_refused : (failures : Failures) (One Other : Type 0) (e : LedgerError)
     → (e ≡ ledgers.Memory) ⊎ ((e ≡ ledgers.NumberEnded) × One)
-    → IsCommitRefusal is_cut failures failures (One ⊎ Other) (of_ledger e)
-ledger_refused is_cut failures One Other e (inl is) =
-    subst (λ x. IsCommitRefusal is_cut failures failures (One ⊎ Other) (of_ledger x)) (sym is) tt
-ledger_refused is_cut failures One Other e (inr is) =
-    subst (λ x. IsCommitRefusal is_cut failures failures (One ⊎ Other) (of_ledger x)) (sym is.0) (inr (inl is.1))
+    → IsCommitRefusal failures failures (One ⊎ Other) (of_ledger e)
+ledger_refused failures One Other e (inl is) =
+    subst (λ x. IsCommitRefusal failures failures (One ⊎ Other) (of_ledger x)) (sym is) tt
+ledger_refused failures One Other e (inr is) =
+    subst (λ x. IsCommitRefusal failures failures (One ⊎ Other) (of_ledger x)) (sym is.0) (inr (inl is.1))
 
 -- what came back is as it was, or nothing did
 pub kept_or : {L : Type 0} (kept : Option L) (P Q : L → Type 0) (A B : Type 0) → IfSome kept (λ k. P k × Q k)

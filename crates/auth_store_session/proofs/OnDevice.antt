@@ -1,5 +1,5 @@
 -- Why a store on a device refuses, from the causes of its parts; and what its calls leave.
-use Rattle.std.proofs.Common.{◌≡◌, ◌⊎◌, ◌+◌, ◌-◌, ◌<◌, ◌≤◌, ◌^◌, ◌==◌, if◌then◌else◌, ℕ, Bool, true, List, ◌∷◌, Option, Some, None, Result, Ok, Err}
+use Rattle.std.proofs.Common.{◌≡◌, ◌⊎◌, ◌+◌, ◌-◌, ◌<◌, ◌≤◌, ◌^◌, ◌==◌, is_some, ℕ, List, ◌∷◌, Option, Some, None, Result, Ok, Err}
 use Rattle.std.proofs.Common.{inl, inr, refl, sym, subst, ap, ◌∙◌, ⊎_elim, length, arith}
 use Rattle.std.specs.Prelude.{IsTrue, IsFalse, OnOk, IfSome, IsSomeAnd, MatchResult}
 use Rattle.std.proofs.lemmas.Bool.{false_from_ne_true, eqb-true}
@@ -8,7 +8,7 @@ use Rattle.fault_storage_parts.specs.Crc32.{crc32}
 use Rattle.paged_format.specs.Tips.{Tip}
 use Rattle.paged_blob.specs.declared.flush.DurableSlot.{DurableSlot}
 use Rattle.paged_blob.specs.Caches.{Cache}
-use Rattle.paged_blob.specs.Answers.{RecordsOpening}
+use Rattle.paged_blob.specs.Answers.{RecordsOpening, IsPowerOff}
 use Rattle.paged_blob.specs.Calls.{Call, content, opened, file_of}
 use Rattle.paged_blob.specs.Images.{IsImage}
 use Rattle.paged_blob.specs.Moments.{Through}
@@ -17,7 +17,7 @@ use Rattle.auth_store_parts.specs.Batch.{Word}
 use Rattle.auth_store_parts.specs.History.{History, AreStates, log_of}
 use Rattle.auth_store_device.specs.declared.error.OpenError.{OpenError}
 use Rattle.auth_store_device.specs.declared.error.OpenError.TheVariants as openings
-use Rattle.auth_store_device.specs.Devices.{DeviceState, HasEnded, is_cut, log_fault, failures_of, injected_after, left_after_opening}
+use Rattle.auth_store_device.specs.Devices.{DeviceState, HasEnded, HasNoNumber, calls_left, is_cut, log_fault, failures_of, injected_after, left_after_opening}
 use Rattle.auth_store_device.specs.Logs.{HasOwnHeader}
 use Rattle.auth_store_ledger.specs.Store.{commit_after, root_of_history}
 use Rattle.auth_store_log.specs.Records.{Format, recovered_log, history_bytes, log_bytes, AreRecorded}
@@ -54,7 +54,7 @@ module _ {R T : Type 0} (m : Machine) (format : Format) (old new : DeviceState R
   where
     pub device_refused : (e : OpenError) (result : Result T OpenError) → result ≡ Err e
         → new.storage.injections ≡ injected_after result old.storage.injections
-        → (result ≡ Err openings.NumberEnded → HasEnded old ⊎ (old.storage.inner.next ≡ 2 ^ 64 - 1))
+        → (result ≡ Err openings.NumberEnded → HasEnded old ⊎ HasNoNumber old.storage.inner)
         → (result ≡ Err openings.PowerCut → old.left ≡ Some 0)
         → ((fault : HeaderError) → result ≡ Err (openings.Header fault) → log_fault old.storage.inner ≡ Some fault)
         → ((fault : HeaderError) → HasOwnHeader old.storage.inner → result ≡ Err (openings.Header fault) → ⊥)
@@ -69,11 +69,11 @@ module _ {R T : Type 0} (m : Machine) (format : Format) (old new : DeviceState R
         cut_stands new.left (left ∙ (ap (λ (r : Result T OpenError). left_after_opening r old.left) is ∙ power is))
     device_refused openings.NumberEnded result is count numbers power header own left = inl (ends (numbers is))
       where
-        ends : HasEnded old ⊎ (old.storage.inner.next ≡ 2 ^ 64 - 1)
+        ends : HasEnded old ⊎ HasNoNumber old.storage.inner
             → IsEndingOpening (power_of old cache)
         ends (inl (inl full)) = inl (inl (omega (arith, full)))
         ends (inl (inr full)) = inl (inr (omega (arith, full)))
-        ends (inr last) = inr (inr (inr (omega (arith, last))))
+        ends (inr (missing, last)) = inr (inr (inr (omega (arith, last))))
 
 -- a recovery that is refused after the device was opened
 module _ {R : Type 0} (m : Machine) (format : Format) (old mid new : DeviceState R) (cache now : Cache)
@@ -117,33 +117,19 @@ module _ {R : Type 0} (old new : DeviceState R) (cache now : Cache)
 
     -- and a commit
     pub commit_on_device : (m : Machine) (next : History) (e : StoreError) → (0 < new.refused → new.left ≡ Some 0)
-        → (is_cut old.left ≡ true → new ≡ old)
-        → IsCommitRefusal (is_cut old.left) (failures_of old) (failures_of new)
+        → IsCommitRefusal (failures_of old) (failures_of new)
         (PassesLimit next ⊎ EndsDisk m.page_size (log_bytes m.key_size m.value_size (log_of next))) e
         → MayRefuseCommit m (power_of old cache) (power_of new now) next e
-    commit_on_device m next (Fault kind) law untouched cause = cause
-    commit_on_device m next PowerCut law untouched (inl cut) = ap (λ (d : DeviceState R). is_cut d.left) (untouched cut) ∙ cut
-    commit_on_device m next PowerCut law untouched (inr counted) = cut_stands new.left (law (omega (arith, counted)))
-    commit_on_device m next NumberEnded law untouched (inl (inl full)) = inl (inl full)
-    commit_on_device m next NumberEnded law untouched (inl (inr full)) = inl (inr full)
-    commit_on_device m next NumberEnded law untouched (inr (inl limit)) = inr (inl limit)
-    commit_on_device m next NumberEnded law untouched (inr (inr disk)) = inr (inr disk)
-    commit_on_device m next Memory law untouched cause = tt
-    commit_on_device m next Corrupt law untouched cause = absurd cause
-    commit_on_device m next Failed law untouched cause = absurd cause
-    commit_on_device m next (Header fault) law untouched cause = absurd cause
-
--- a cut that is asked for behind a read leaves the read's cause
-pub refusal_kept : {R : Type 0} (old mid : DeviceState R) (stood : Bool) (e : StoreError)
-    → IsReadRefusal (failures_of old) (failures_of mid) e
-    → IsReadRefusal (failures_of old) (failures_of (record mid { left = if stood then Some 0 else mid.left })) e
-refusal_kept old mid stood (Fault kind) cause = cause
-refusal_kept old mid stood PowerCut cause = cause
-refusal_kept old mid stood NumberEnded cause = cause
-refusal_kept old mid stood Memory cause = cause
-refusal_kept old mid stood Corrupt cause = cause
-refusal_kept old mid stood Failed cause = cause
-refusal_kept old mid stood (Header fault) cause = cause
+    commit_on_device m next (Fault kind) law cause = cause
+    commit_on_device m next PowerCut law cause = cut_stands new.left (law (omega (arith, cause)))
+    commit_on_device m next NumberEnded law (inl (inl full)) = inl (inl full)
+    commit_on_device m next NumberEnded law (inl (inr full)) = inl (inr full)
+    commit_on_device m next NumberEnded law (inr (inl limit)) = inr (inl limit)
+    commit_on_device m next NumberEnded law (inr (inr disk)) = inr (inr disk)
+    commit_on_device m next Memory law cause = tt
+    commit_on_device m next Corrupt law cause = absurd cause
+    commit_on_device m next Failed law cause = absurd cause
+    commit_on_device m next (Header fault) law cause = absurd cause
 
 -- a store of which this is true has not failed
 pub is_live : (live : Option LiveState) (history : History) → IsSomeAnd live (λ now. now.history ≡ history)
@@ -151,38 +137,39 @@ pub is_live : (live : Option LiveState) (history : History) → IsSomeAnd live (
 is_live (Some now) history is = (now, refl, is)
 is_live None history is = absurd is
 
--- what a commit says of a history, where a cut stands or none
+-- what a commit says of a history
 module _ {R : Type 0} (m : Machine) (format : Format) (words : List Word) (metadata : Option (List ℕ)) (old new : StoreState R)
   where
-    abbrev pub CommitsHere : {D : Type 0} → (D → List ℕ) → Result D StoreError → Bool → History → Type 0
-    CommitsHere encoding result cut history =
+    abbrev pub CommitsHere : {D : Type 0} → (D → List ℕ) → Result D StoreError → History → Type 0
+    CommitsHere encoding result history =
         let next = commit_after words metadata history in
         MatchResult result
         (λ root. (encoding root ≡ root_of_history m.setting m.key_size m.value_size next)
-        × IsSomeAnd new.live (λ now. now.history ≡ next) × (length (log_of next) ≤ 2 ^ 62) × IsFalse cut)
-        (λ e. IsCommitRefusal cut (failures_of old.device) (failures_of new.device)
+        × IsSomeAnd new.live (λ now. now.history ≡ next) × (length (log_of next) ≤ 2 ^ 62)
+        × (IsPowerOff (failures_of old.device) (calls_left old.device.left) → ⊥))
+        (λ e. IsCommitRefusal (failures_of old.device) (failures_of new.device)
         (PassesLimit next ⊎ EndsDisk m.page_size (log_bytes m.key_size m.value_size (log_of next))) e
         × (IsSomeAnd new.live (λ now. now.history ≡ history) ⊎ ((new.live ≡ None) × (length (log_of next) ≤ 2 ^ 62)
         × Shows format m.page_size history (Some (commit_of words metadata history)) new.device.calls)))
 
     commits_of : {D : Type 0} (encoding : D → List ℕ) (result : Result D StoreError) (history : History)
-        → (0 < new.device.refused → new.device.left ≡ Some 0) → (is_cut old.device.left ≡ true → new.device ≡ old.device)
-        → CommitsHere encoding result (is_cut old.device.left) history → Commits m format words metadata history old (result_of encoding result) new
-    commits_of encoding (Ok root) history law untouched said = (said.0, is_live new.live _ said.1, said.2, said.3)
-    commits_of encoding (Err e) history law untouched said = (
-      commit_on_device old.device new.device old.cache new.cache m (commit_after words metadata history) e law untouched said.0,
+        → (0 < new.device.refused → new.device.left ≡ Some 0) → CommitsHere encoding result history
+        → Commits m format words metadata history old (result_of encoding result) new
+    commits_of encoding (Ok root) history law said =
+        (said.0, is_live new.live _ said.1, said.2, not_cut old.device.left (λ is. said.3 (ap is_some is, ap calls_left is)))
+    commits_of encoding (Err e) history law said = (
+      commit_on_device old.device new.device old.cache new.cache m (commit_after words metadata history) e law said.0,
       ⊎_elim (λ kept. inl (is_live new.live history kept)) (λ lost. inr lost) said.1,
     )
 
-    pub commits_on_device : {D : Type 0} (encoding : D → List ℕ) (result : Result D StoreError) (cut : Bool) (history : History)
-        → cut ≡ is_cut old.device.left → (0 < new.device.refused → new.device.left ≡ Some 0) → (cut ≡ true → new.device ≡ old.device)
-        → IfSome old.live (λ was. CommitsHere encoding result cut was.history) → IsLiveAt old history
+    pub commits_on_device : {D : Type 0} (encoding : D → List ℕ) (result : Result D StoreError) (history : History)
+        → (0 < new.device.refused → new.device.left ≡ Some 0)
+        → IfSome old.live (λ was. CommitsHere encoding result was.history) → IsLiveAt old history
         → Commits m format words metadata history old (result_of encoding result) new
-    commits_on_device encoding result cut history stands law untouched all (was, is, same) =
-        commits_of encoding result history law (subst (λ (b : Bool). b ≡ true → new.device ≡ old.device) stands untouched)
-        (subst (λ (b : Bool). CommitsHere encoding result b history) stands
-        (subst (CommitsHere encoding result cut) same
-        (subst (λ (l : Option LiveState). IfSome l (λ was. CommitsHere encoding result cut was.history)) is all)))
+    commits_on_device encoding result history law all (was, is, same) =
+        commits_of encoding result history law
+        (subst (CommitsHere encoding result) same
+        (subst (λ (l : Option LiveState). IfSome l (λ was. CommitsHere encoding result was.history)) is all))
 
 -- a store of these parts
 abbrev pub store_of : {R : Type 0} → DeviceState R → Cache → Option LiveState → StoreState R

@@ -1,247 +1,204 @@
 -- What the calls of a request leave of the power of a device and its cache.
-use Rattle.std.proofs.Common.{◌≡◌, ◌+◌, ◌≤◌, ℕ, zero, suc, ◌==◌, Bool, true, false, if◌then◌else◌, Option, Some, None, Result, Ok, Err, is_some, refl, sym, ◌∙◌, ap, subst, arith}
-use Rattle.std.specs.Prelude.{IsTrue, IsFalse}
-use Rattle.std.proofs.lemmas.Bool.{eqb-true}
+use Rattle.std.proofs.Common.{◌≡◌, ◌⊎◌, inl, inr, ◌+◌, ◌≤◌, ℕ, Option, Some, None, Result, Ok, Err, is_some, refl, sym, ◌∙◌, ap, subst, arith}
 use Rattle.paged_blob.specs.Answers.{Failures, failures_after}
 use Rattle.paged_blob.specs.Caches.{Cache}
 use Rattle.paged_blob.specs.declared.error.Error.{Error}
 use Rattle.paged_blob.specs.declared.error.Error.TheVariants.{Injected, BlobMissing, BlobInsufficientLength, NumberEnded, Memory, PowerCut, ChecksumMismatch}
 use Rattle.auth_store_device.specs.declared.error.OpenError.{OpenError}
 use Rattle.auth_store_device.specs.declared.error.OpenError.TheVariants as openings
-use Rattle.auth_store_device.specs.Devices.{DeviceState, after_asking, is_cut, failures_of, injected_after, refused_after, left_after_opening}
+use Rattle.auth_store_device.specs.Devices.{DeviceState, calls_left, failures_of, injected_after, refused_after, left_after_opening}
+use Rattle.auth_store_ledger.specs.declared.error.LedgerError.{LedgerError}
+use Rattle.auth_store_ledger.specs.declared.error.LedgerError.TheVariants as ledgers
 use Rattle.auth_store_log.specs.Causes.{failures_after_reading}
 use Rattle.auth_store_log.specs.declared.error.LogError.{LogError}
 use Rattle.auth_store_log.specs.declared.error.LogError.TheVariants.{Corrupt, Refused}
-use Rattle.auth_store_session.specs.Machine.{Power, IsRaised, Leaves, Passes, ask_cut, ask_crash, is_set, has_crashed}
+use Rattle.auth_store_session.specs.Machine.{Power, Leaves, Passes, IsCrash, IsSpent, asked_to_cut, faults_in, cuts_in, ask_cut, ask_crash, is_set, has_crashed}
+use Rattle.auth_store_session.specs.Refusals.{of_blob, of_ledger, of_log, of_opening}
+use Rattle.auth_store_session.specs.declared.error.StoreError.{StoreError}
+use Rattle.auth_store_session.specs.declared.error.StoreError.TheVariants as refusals
 use Rattle.auth_store_session.specs.Standing.{power_of, power_in}
 use Rattle.auth_store_session.specs.Stores.{Raises, StoreState}
 
-raised_none : (n : ℕ) → IsRaised n n
-raised_none n = (omega arith, omega arith)
-
-raised_one : (n : ℕ) → IsRaised n (n + 1)
-raised_one n = (omega arith, omega arith)
-
 -- no call
-pub raises_none : (failures : Failures) → Raises failures failures
-raises_none failures =
-    record { injected = raised_none failures.injected; refused = raised_none failures.refused; asked = refl }
+pub raises_none : (refusal : Option StoreError) (failures : Failures) → faults_in refusal ≡ 0 → cuts_in refusal ≡ 0
+    → Raises refusal failures failures
+raises_none refusal failures faults cuts =
+    record { injected = omega (arith, faults); refused = omega (arith, cuts); asked = refl }
 
--- one call
-raises_after : {T : Type 0} (result : Result T Error) (failures : Failures) → Raises failures (failures_after result failures)
-raises_after (Ok value) failures = raises_none failures
-raises_after (Err (Injected kind)) failures =
-    record { injected = raised_one failures.injected; refused = raised_none failures.refused; asked = refl }
-raises_after (Err PowerCut) failures =
-    record { injected = raised_none failures.injected; refused = raised_one failures.refused; asked = refl }
-raises_after (Err BlobMissing) failures = raises_none failures
-raises_after (Err BlobInsufficientLength) failures = raises_none failures
-raises_after (Err NumberEnded) failures = raises_none failures
-raises_after (Err Memory) failures = raises_none failures
-raises_after (Err ChecksumMismatch) failures = raises_none failures
+pub raises_same : (before after : Failures) → after ≡ before → Raises None before after
+raises_same before after same = subst (Raises None before) (sym same) (raises_none None before refl refl)
 
-pub raises_by : {T : Type 0} (result : Result T Error) (before after : Failures) → after ≡ failures_after result before
-    → Raises before after
-raises_by result before after is = subst (Raises before) (sym is) (raises_after result before)
+-- calls of which the last is refused
+raises_after : (e : Error) (failures : Failures) → Raises (Some (of_blob e)) failures (failures_after {T = Unit {0}} (Err e) failures)
+raises_after (Injected kind) failures = record { injected = omega arith; refused = omega arith; asked = refl }
+raises_after PowerCut failures = record { injected = omega arith; refused = omega arith; asked = refl }
+raises_after BlobMissing failures = raises_none (Some (of_blob BlobMissing)) failures refl refl
+raises_after BlobInsufficientLength failures = raises_none (Some (of_blob BlobInsufficientLength)) failures refl refl
+raises_after NumberEnded failures = raises_none (Some (of_blob NumberEnded)) failures refl refl
+raises_after Memory failures = raises_none (Some (of_blob Memory)) failures refl refl
+raises_after ChecksumMismatch failures = raises_none (Some (of_blob ChecksumMismatch)) failures refl refl
 
--- the reading of an operation
-reading_after : {T : Type 0} (result : Result T LogError) (failures : Failures) → Raises failures (failures_after_reading result failures)
-reading_after (Ok value) failures = raises_none failures
-reading_after (Err Corrupt) failures = raises_none failures
-reading_after (Err (Refused e)) failures = raises_after {T = Unit {0}} (Err e) failures
+pub raises_refused : (e : Error) (before after : Failures) → after ≡ failures_after {T = Unit {0}} (Err e) before
+    → Raises (Some (of_blob e)) before after
+raises_refused e before after is = subst (Raises (Some (of_blob e)) before) (sym is) (raises_after e before)
 
-pub raises_reading : {T : Type 0} (result : Result T LogError) (before after : Failures) → after ≡ failures_after_reading result before
-    → Raises before after
-raises_reading result before after is = subst (Raises before) (sym is) (reading_after result before)
+-- what was read is the log of no history
+pub raises_corrupt : (before after : Failures) → after ≡ before → Raises (Some refusals.Corrupt) before after
+raises_corrupt before after same =
+    subst (Raises (Some refusals.Corrupt) before) (sym same) (raises_none (Some refusals.Corrupt) before refl refl)
 
--- a cut that stands was asked for
-cut_is_asked : (left : Option ℕ) → IsTrue (is_cut left) → IsTrue (is_some left)
-cut_is_asked (Some left) is = refl
-cut_is_asked None is = cc
+pub raises_read : (e : LogError) (failures : Failures) → (e ≡ Refused Memory) ⊎ (e ≡ Corrupt) → Raises (Some (of_log e)) failures failures
+raises_read e failures (inl is) =
+    subst (λ x. Raises (Some (of_log x)) failures failures) (sym is) (raises_none (Some refusals.Memory) failures refl refl)
+raises_read e failures (inr is) =
+    subst (λ x. Raises (Some (of_log x)) failures failures) (sym is) (raises_none (Some refusals.Corrupt) failures refl refl)
 
--- calls of a device, by which a cut that stands stays
-pub leaves_of : {R : Type 0} (old new : DeviceState R) (cache now : Cache) → Raises (failures_of old) (failures_of new)
-    → cache.next_id ≤ now.next_id → (IsTrue (is_cut old.left) → IsTrue (is_cut new.left))
-    → Leaves (power_of old cache) (power_of new now)
-leaves_of old new cache now raises names stands = record {
+-- a ledger refuses for no call
+pub raises_ledger : (e : LedgerError) (failures : Failures) → Raises (Some (of_ledger e)) failures failures
+raises_ledger ledgers.NumberEnded failures = raises_none (Some (of_ledger ledgers.NumberEnded)) failures refl refl
+raises_ledger ledgers.Memory failures = raises_none (Some (of_ledger ledgers.Memory)) failures refl refl
+
+-- so a reading of an operation
+reading_after : (e : LogError) (failures : Failures)
+    → Raises (Some (of_log e)) failures (failures_after_reading {T = Unit {0}} (Err e) failures)
+reading_after Corrupt failures = raises_none (Some (of_log Corrupt)) failures refl refl
+reading_after (Refused e) failures = raises_after e failures
+
+pub raises_reading : (e : LogError) (before after : Failures) → after ≡ failures_after_reading {T = Unit {0}} (Err e) before
+    → Raises (Some (of_log e)) before after
+raises_reading e before after is = subst (Raises (Some (of_log e)) before) (sym is) (reading_after e before)
+
+-- what is let through after calls, given how much that is in numbers
+spent_by : (old new : Option ℕ) → is_some new ≡ is_some old → calls_left new ≤ calls_left old → IsSpent old new
+spent_by None None asked fewer = refl
+spent_by None (Some left) asked fewer = absurd (cc)
+spent_by (Some before) None asked fewer = absurd (cc)
+spent_by (Some before) (Some left) asked fewer = (left, refl, fewer)
+
+-- calls of a device
+pub leaves_of : {R : Type 0} (names : ℕ) (refusal : Option StoreError) (old new : DeviceState R) (cache now : Cache)
+    → Raises refusal (failures_of old) (failures_of new) → calls_left new.left ≤ calls_left old.left
+    → (cache.next_id ≤ now.next_id) × (now.next_id ≤ cache.next_id + names)
+    → Leaves names refusal (power_of old cache) (power_of new now)
+leaves_of names refusal old new cache now raises fewer given = record {
   injected = raises.injected;
   refused = raises.refused;
-  names = names;
-  asked = raises.asked;
-  cut = cut_is_asked new.left;
-  stands = stands;
+  left = spent_by old.left new.left raises.asked fewer;
+  names = given;
 }
 
--- no call is left where a cut stands
-none_left : (left : Option ℕ) → IsTrue (is_cut left) → left ≡ Some 0
-none_left (Some left) is = ap Some (eqb-true left 0 is)
-none_left None is = cc
+-- calls that give no name
+pub leaves_named : {R : Type 0} (refusal : Option StoreError) (old new : DeviceState R) (cache now : Cache)
+    → Raises refusal (failures_of old) (failures_of new) → calls_left new.left ≤ calls_left old.left → now.next_id ≡ cache.next_id
+    → Leaves 0 refusal (power_of old cache) (power_of new now)
+leaves_named refusal old new cache now raises fewer same =
+    leaves_of 0 refusal old new cache now raises fewer (omega (arith, same), omega (arith, same))
 
--- so it is behind an opening that is refused, and none succeeds
-pub stands_refused : {T : Type 0} (result : Result T OpenError) (old new : Option ℕ) → new ≡ left_after_opening result old
-    → IsTrue (is_cut old) → IsTrue (is_cut new)
-stands_refused result old new left is =
-    subst (λ l. IsTrue (is_cut l)) (sym (left ∙ ap (left_after_opening result) (none_left old is))) (by result)
+-- an opening lets fewer calls through, or as many
+pub opening_left : {T : Type 0} (result : Result T OpenError) (left : Option ℕ)
+    → calls_left (left_after_opening result left) ≤ calls_left left
+opening_left (Ok value) None = omega arith
+opening_left (Ok value) (Some left) = omega arith
+opening_left (Err openings.Injected) None = omega arith
+opening_left (Err openings.Injected) (Some left) = omega arith
+opening_left (Err (openings.Header fault)) None = omega arith
+opening_left (Err (openings.Header fault)) (Some left) = omega arith
+opening_left (Err openings.NumberEnded) left = omega arith
+opening_left (Err openings.Memory) left = omega arith
+opening_left (Err openings.PowerCut) left = omega arith
+
+-- nothing is called
+pub stays : (names : ℕ) (refusal : Option StoreError) (power : Power) → faults_in refusal ≡ 0 → cuts_in refusal ≡ 0
+    → Leaves names refusal power power
+stays names refusal power faults cuts = record {
+  injected = omega (arith, faults);
+  refused = omega (arith, cuts);
+  left = kept power.left;
+  names = (omega arith, omega arith);
+}
   where
-    by : {T : Type 0} (result : Result T OpenError) → IsTrue (is_cut (left_after_opening result (Some 0)))
-    by (Ok value) = refl
-    by (Err openings.Injected) = refl
-    by (Err (openings.Header fault)) = refl
-    by (Err openings.NumberEnded) = refl
-    by (Err openings.Memory) = refl
-    by (Err openings.PowerCut) = refl
+    kept : (left : Option ℕ) → IsSpent left left
+    kept None = refl
+    kept (Some left) = (left, refl, omega arith)
 
-pub none_stood : (old new : Option ℕ) → IsFalse (is_cut old) → IsTrue (is_cut old) → IsTrue (is_cut new)
-none_stood old new uncut is = let bad : false ≡ true = sym uncut ∙ is in cc
+pub leaves_none : {R : Type 0} (refusal : Option StoreError) (device : DeviceState R) (cache : Cache) → faults_in refusal ≡ 0
+    → cuts_in refusal ≡ 0 → Leaves 0 refusal (power_of device cache) (power_of device cache)
+leaves_none refusal device cache = stays 0 refusal (power_of device cache)
 
--- behind a commit, which leaves the device as it was
-pub stands_untouched : {R : Type 0} (old new : DeviceState R) (cut : Bool) → cut ≡ is_cut old.left → (cut ≡ true → new ≡ old)
-    → IsTrue (is_cut old.left) → IsTrue (is_cut new.left)
-stands_untouched {R = R} old new cut same untouched is =
-    subst (λ (d : DeviceState R). IsTrue (is_cut d.left)) (sym (untouched (same ∙ is))) is
+-- nor of a store that refuses because it had failed, or because there was no memory for a proof
+pub leaves_failed : {R : Type 0} (e : StoreError) (device : DeviceState R) (cache : Cache) → e ≡ refusals.Failed
+    → Leaves 0 (Some e) (power_of device cache) (power_of device cache)
+leaves_failed e device cache is =
+    subst (λ x. Leaves 0 (Some x) (power_of device cache) (power_of device cache)) (sym is)
+    (leaves_none (Some refusals.Failed) device cache refl refl)
 
--- and behind a read, where it is asked for once more
-pub stands_kept : (stood : Bool) (old mid : Option ℕ) → stood ≡ is_cut old → IsTrue (is_cut old)
-    → IsTrue (is_cut (if stood then Some 0 else mid))
-stands_kept true old mid same is = refl
-stands_kept false old mid same is = let bad : false ≡ true = same ∙ is in cc
-
-pub raises_kept : {R : Type 0} (stood : Bool) (old mid : DeviceState R) → stood ≡ is_cut old.left
-    → Raises (failures_of old) (failures_of mid)
-    → Raises (failures_of old) (failures_of (record mid { left = if stood then Some 0 else mid.left }))
-raises_kept true old mid same raises = record {
-  injected = raises.injected;
-  refused = raises.refused;
-  asked = sym (cut_is_asked old.left (sym same));
-}
-raises_kept false old mid same raises = record { injected = raises.injected; refused = raises.refused; asked = raises.asked }
-
--- a cut after no call stands at once
-pub asked_at_once : (left : Option ℕ) → after_asking 0 left ≡ Some 0
-asked_at_once None = refl
-asked_at_once (Some left) = either (left == 0)
-  where
-    first : Option ℕ
-    first = Some 0
-
-    either : (b : Bool) → (if b then first else first) ≡ first
-    either true = refl
-    either false = refl
-
-stays : (power : Power) → (IsTrue power.is_cut → IsTrue power.is_asked) → Leaves power power
-stays power cut = record {
-  injected = raised_none power.injected;
-  refused = raised_none power.refused;
-  names = omega arith;
-  asked = refl;
-  cut = cut;
-  stands = λ is. is;
-}
-
-pub leaves_none : {R : Type 0} (device : DeviceState R) (cache : Cache) → Leaves (power_of device cache) (power_of device cache)
-leaves_none device cache = stays (power_of device cache) (cut_is_asked device.left)
-
-abbrev nothing : Power
-nothing = record { injected = 0; refused = 0; names = 0; size = 0; files = 0; is_asked = false; is_cut = false }
-
--- a session of which nothing is called
-pub leaves_within : {R : Type 0} (parts : Option (DeviceState R × Cache)) (store : Option (StoreState R))
-    → Leaves (power_in parts store) (power_in parts store)
-leaves_within (Some parts) store = leaves_none parts.0 parts.1
-leaves_within None (Some store) = leaves_none store.device store.cache
-leaves_within None None = stays nothing (λ cut. cc)
+pub leaves_unproved : {R : Type 0} (e : StoreError) (device : DeviceState R) (cache : Cache)
+    → (e ≡ refusals.Memory) ⊎ (e ≡ refusals.Failed) → Leaves 0 (Some e) (power_of device cache) (power_of device cache)
+leaves_unproved e device cache (inl is) =
+    subst (λ x. Leaves 0 (Some x) (power_of device cache) (power_of device cache)) (sym is)
+    (leaves_none (Some refusals.Memory) device cache refl refl)
+leaves_unproved e device cache (inr is) = leaves_failed e device cache is
 
 -- what is equal has the same power
 pub leaves_same : {R : Type 0} (old new : DeviceState R) (cache now : Cache) → power_of new now ≡ power_of old cache
-    → Leaves (power_of old cache) (power_of new now)
-leaves_same old new cache now is = subst (Leaves (power_of old cache)) (sym is) (leaves_none old cache)
+    → Leaves 0 None (power_of old cache) (power_of new now)
+leaves_same old new cache now is =
+    subst (Leaves 0 None (power_of old cache)) (sym is) (leaves_none None old cache refl refl)
 
--- an opening of the device
-module _ {R T : Type 0} (old new : DeviceState R) (result : Result T OpenError)
-  where
-    injected_once : (result : Result T OpenError) (n : ℕ) → IsRaised n (injected_after result n)
-    injected_once (Ok value) n = raised_none n
-    injected_once (Err openings.Injected) n = raised_one n
-    injected_once (Err (openings.Header fault)) n = raised_none n
-    injected_once (Err openings.NumberEnded) n = raised_none n
-    injected_once (Err openings.Memory) n = raised_none n
-    injected_once (Err openings.PowerCut) n = raised_none n
+-- an opening of the device that is refused
+opening_after : (e : OpenError) (before after : Failures) → after.injected ≡ injected_after {T = ℕ} (Err e) before.injected
+    → after.refused ≡ refused_after {T = ℕ} (Err e) before.refused → after.is_asked ≡ before.is_asked
+    → Raises (Some (of_opening e)) before after
+opening_after openings.Injected before after injected refused asked =
+    record { injected = injected; refused = omega (arith, refused); asked = asked }
+opening_after (openings.Header fault) before after injected refused asked =
+    record { injected = omega (arith, injected); refused = omega (arith, refused); asked = asked }
+opening_after openings.NumberEnded before after injected refused asked =
+    record { injected = omega (arith, injected); refused = omega (arith, refused); asked = asked }
+opening_after openings.Memory before after injected refused asked =
+    record { injected = omega (arith, injected); refused = omega (arith, refused); asked = asked }
+opening_after openings.PowerCut before after injected refused asked =
+    record { injected = omega (arith, injected); refused = refused; asked = asked }
 
-    refused_once : (result : Result T OpenError) (n : ℕ) → IsRaised n (refused_after result n)
-    refused_once (Ok value) n = raised_none n
-    refused_once (Err openings.PowerCut) n = raised_one n
-    refused_once (Err (openings.Header fault)) n = raised_none n
-    refused_once (Err openings.Injected) n = raised_none n
-    refused_once (Err openings.NumberEnded) n = raised_none n
-    refused_once (Err openings.Memory) n = raised_none n
-
-    pub raises_opening : new.storage.injections ≡ injected_after result old.storage.injections
-        → new.refused ≡ refused_after result old.refused → is_some new.left ≡ is_some old.left
-        → Raises (failures_of old) (failures_of new)
-    raises_opening injected refused asked = record {
-      injected = subst (IsRaised old.storage.injections) (sym injected) (injected_once result old.storage.injections);
-      refused = subst (IsRaised old.refused) (sym refused) (refused_once result old.refused);
-      asked = asked;
-    }
+pub raises_opening : {R : Type 0} (e : OpenError) (old new : DeviceState R)
+    → new.storage.injections ≡ injected_after {T = ℕ} (Err e) old.storage.injections
+    → new.refused ≡ refused_after {T = ℕ} (Err e) old.refused → is_some new.left ≡ is_some old.left
+    → Raises (Some (of_opening e)) (failures_of old) (failures_of new)
+raises_opening e old new injected refused asked = opening_after e (failures_of old) (failures_of new) injected refused asked
 
 -- one that succeeds, and calls behind it
-pub raises_behind : {R : Type 0} (old mid new : DeviceState R) → mid.storage.injections ≡ old.storage.injections
-    → mid.refused ≡ old.refused → is_some mid.left ≡ is_some old.left → Raises (failures_of mid) (failures_of new)
-    → Raises (failures_of old) (failures_of new)
-raises_behind old mid new injected refused asked raises = record {
-  injected = subst (λ n. IsRaised n new.storage.injections) injected raises.injected;
-  refused = subst (λ n. IsRaised n new.refused) refused raises.refused;
+pub raises_behind : {R : Type 0} (refusal : Option StoreError) (old mid new : DeviceState R)
+    → mid.storage.injections ≡ old.storage.injections → mid.refused ≡ old.refused → is_some mid.left ≡ is_some old.left
+    → Raises refusal (failures_of mid) (failures_of new) → Raises refusal (failures_of old) (failures_of new)
+raises_behind refusal old mid new injected refused asked raises = record {
+  injected = subst (λ n. new.storage.injections ≡ n + faults_in refusal) injected raises.injected;
+  refused = subst (λ n. new.refused ≡ n + cuts_in refusal) refused raises.refused;
   asked = raises.asked ∙ asked;
 }
 
 -- a cut that is asked for
-asks : (calls : ℕ) (left : Option ℕ) → is_some (after_asking calls left) ≡ true
-asks calls None = refl
-asks calls (Some left) = either (left == 0)
-  where
-    either : (b : Bool) → is_some (if b then Some 0 else Some calls) ≡ true
-    either true = refl
-    either false = refl
-
-asked_stands : (calls : ℕ) (left : Option ℕ) → IsTrue (is_cut left) → IsTrue (is_cut (after_asking calls left))
-asked_stands calls (Some left) is = subst (λ n. IsTrue (is_cut (after_asking calls (Some n)))) (sym (eqb-true left 0 is)) refl
-asked_stands calls None is = cc
-
-passes_with : {R : Type 0} (device : DeviceState R) (cache : Cache) (calls : ℕ) → Passes (ask_cut calls) is_set
-    (power_of device cache) (power_of (record device { left = after_asking calls device.left }) cache)
-passes_with device cache zero = record {
-  injected = raised_none device.storage.injections;
-  refused = raised_none device.refused;
-  names = omega arith;
-  asked = asks 0 device.left;
-  cut = λ cut. asks 0 device.left;
-  stands = λ is. ap is_cut (asked_at_once device.left);
-}
-passes_with device cache (suc calls) = record {
-  injected = raised_none device.storage.injections;
-  refused = raised_none device.refused;
-  names = omega arith;
-  asked = asks (suc calls) device.left;
-  cut = λ cut. asks (suc calls) device.left;
-  stands = asked_stands (suc calls) device.left;
-}
-
 pub passes_asking : {R : Type 0} (device new : DeviceState R) (cache now : Cache) (calls : ℕ)
-    → new ≡ record device { left = after_asking calls device.left } → now ≡ cache
+    → power_of new now ≡ asked_to_cut calls (power_of device cache)
     → Passes (ask_cut calls) is_set (power_of device cache) (power_of new now)
-passes_asking device new cache now calls is same =
-    subst (λ d. Passes (ask_cut calls) is_set (power_of device cache) (power_of d now)) (sym is)
-    (subst (λ k. Passes (ask_cut calls) is_set (power_of device cache) (power_of (record device { left = after_asking calls device.left }) k))
-    (sym same) (passes_with device cache calls))
+passes_asking device new cache now calls is =
+    subst (Leaves 0 None (asked_to_cut calls (power_of device cache))) (sym is)
+    (stays 0 None (asked_to_cut calls (power_of device cache)) refl refl)
 
 -- a crash
 pub passes_crash : {R : Type 0} (device new : DeviceState R) (cache : Cache) → new.storage.injections ≡ device.storage.injections
     → new.refused ≡ 0 → new.left ≡ None → Passes ask_crash has_crashed (power_of device cache) (power_of new cache)
 passes_crash device new cache injected refused left = record {
-  injected = subst (IsRaised device.storage.injections) (sym injected) (raised_none device.storage.injections);
-  refused = subst (IsRaised 0) (sym refused) (raised_none 0);
-  names = omega arith;
-  asked = ap is_some left;
-  cut = cut_is_asked new.left;
-  stands = λ is. cc;
+  injected = omega (arith, injected);
+  refused = omega (arith, refused);
+  left = left;
+  names = (omega arith, omega arith);
 }
+
+pub is_crash : {R : Type 0} (device new : DeviceState R) (cache : Cache) → new.storage.injections ≡ device.storage.injections
+    → new.refused ≡ 0 → new.left ≡ None → new.storage.inner.next ≡ device.storage.inner.next
+    → IsCrash (power_of device cache) (power_of new cache)
+is_crash device new cache injected refused left files =
+    ap (λ n. record (power_of new cache) { injected = n }) injected
+    ∙ ap (λ n. record (power_of new cache) { injected = device.storage.injections; refused = n }) refused
+    ∙ ap (λ l. record (power_of new cache) { injected = device.storage.injections; refused = 0; left = l }) left
+    ∙ ap (λ n. record (power_of new cache) { injected = device.storage.injections; refused = 0; left = None; files = n }) files

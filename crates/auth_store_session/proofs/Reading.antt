@@ -22,15 +22,8 @@ use Rattle.auth_store_log.specs.declared.error.LogError.TheVariants.{Corrupt, Re
 use Rattle.auth_store_ledger.specs.Store.{HasValueAt}
 use Rattle.auth_store_session.specs.Refusals.{of_log}
 use Rattle.auth_store_session.specs.Stores.{IsReadRefusal, IsLive, LiveState}
+use Rattle.auth_store_session.proofs.Long.{log_length}
 use Rattle.auth_store_session.proofs.Refused.{refused_by}
-
--- a log has so many bytes for each operation
-log_length : (format : Format) (log : List Operation) → AreRecorded format log
-    → length (log_bytes format.key_size format.value_size log) ≡ length log * record_size format
-log_length format [] recorded = omega arith
-log_length format (operation ∷ log) recorded =
-    let more = log_length format log recorded.1 in
-    omega (arith, more, recorded.0.sized, length-append (record_of format operation) (log_bytes format.key_size format.value_size log))
 
 -- the pages of a part are no more than those of all
 pages_within : (size offset len : ℕ) → 12 < size → offset ≤ len → offset / content_size size * size ≤ physical_size size len

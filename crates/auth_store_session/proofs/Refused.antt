@@ -55,10 +55,10 @@ refused_by T failures kind reach Ends NumberEnded is ends (inr ended) = inl ende
 -- an append that is refused
 pub append_refused : (T : Type 0) (failures : Failures) (reach : ℕ) (e : Error) → failures.is_open ≡ true
     → IsCause failures Write reach e ⊎ IsCause failures Sync 0 e
-    → IsCommitRefusal false failures (failures_after {T = T} (Err e) failures) (2 ^ 64 ≤ reach + 4096) (of_blob e)
+    → IsCommitRefusal failures (failures_after {T = T} (Err e) failures) (2 ^ 64 ≤ reach + 4096) (of_blob e)
 append_refused T failures reach (Injected injected) is (inl cause) = (omega arith, inl (ap (λ k. Some k) cause))
 append_refused T failures reach (Injected injected) is (inr cause) = (omega arith, inr (ap (λ k. Some k) cause))
-append_refused T failures reach PowerCut is cause = inr (omega arith)
+append_refused T failures reach PowerCut is cause = omega arith
 append_refused T failures reach BlobMissing is (inl cause) = absurd (is_missing failures is cause)
 append_refused T failures reach BlobMissing is (inr cause) = absurd (is_missing failures is cause)
 append_refused T failures reach BlobInsufficientLength is (inl cause) = absurd cause

@@ -193,15 +193,15 @@ rests_at format store device cache (doubtful history) is calls header shows stan
 
 -- a store that is closed
 pub closes_in : {R : Type 0} (m : Machine) (format : Format) (store : StoreState R) (device : DeviceState R) (cache : Cache)
-    → cache ≡ store.cache → device.calls ≡ store.device.calls → HasOwnHeader device.storage.inner
+    → power_of device cache ≡ power_of store.device store.cache → cache ≡ store.cache → device.calls ≡ store.device.calls → HasOwnHeader device.storage.inner
     → ((history : History) → IsLiveAt store history → Shows format (store.cache.page_size + 12) history None device.calls)
     → Moves m format (open_at store) machine.ask_close machine.has_closed (closed_at device cache)
-closes_in m format store device cache is calls header shows (live history) none stands =
-    (closed history None, (refl, refl), rests_at format store device cache (live history) is calls header shows stands)
-closes_in m format store device cache is calls header shows (failed history commit) none stands =
-    (closed history (Some commit), (refl, refl), rests_at format store device cache (failed history commit) is calls header shows stands)
-closes_in m format store device cache is calls header shows (closed history pending) none stands = absurd stands
-closes_in m format store device cache is calls header shows (doubtful history) none stands = absurd stands
+closes_in m format store device cache same is calls header shows (live history) none stands =
+    (closed history None, (refl, refl, same), rests_at format store device cache (live history) is calls header shows stands)
+closes_in m format store device cache same is calls header shows (failed history commit) none stands =
+    (closed history (Some commit), (refl, refl, same), rests_at format store device cache (failed history commit) is calls header shows stands)
+closes_in m format store device cache same is calls header shows (closed history pending) none stands = absurd stands
+closes_in m format store device cache same is calls header shows (doubtful history) none stands = absurd stands
 
 -- a step of an open store is one of the session
 pub steps_open : {R : Type 0} (m : Machine) (format : Format) (old new : StoreState R) (request : Request) (answer : Answer)
@@ -261,14 +261,14 @@ grows_more was old calls is more = subst (λ (s : SessionState _). Grows (calls_
 -- a closed session of which another thing is asked
 pub rest_same : {R : Type 0} (m : Machine) (format : Format) (parts : Option (DeviceState R × Cache)) (store : Option (StoreState R))
     (request : Request) (answer : Answer) → store ≡ None
-    → ((before after : Power) (history : History) (pending : Option Commit)
-    → IsStepClosed m before after history pending request answer (closed history pending))
-    → ((before after : Power) (history : History) → IsStepInDoubt m before after history request answer (doubtful history))
+    → ((power : Power) (history : History) (pending : Option Commit)
+    → IsStepClosed m power power history pending request answer (closed history pending))
+    → ((power : Power) (history : History) → IsStepInDoubt m power power history request answer (doubtful history))
     → Moves m format (record { parts = parts; store = store }) request answer (record { parts = parts; store = store })
 rest_same m format (Some parts) None request answer at steps doubts (closed history pending) none stands =
-    (closed history pending, steps (power_of parts.0 parts.1) (power_of parts.0 parts.1) history pending, stands)
+    (closed history pending, steps (power_of parts.0 parts.1) history pending, stands)
 rest_same m format (Some parts) None request answer at steps doubts (doubtful history) none stands =
-    (doubtful history, doubts (power_of parts.0 parts.1) (power_of parts.0 parts.1) history, stands)
+    (doubtful history, doubts (power_of parts.0 parts.1) history, stands)
 rest_same m format (Some parts) None request answer at steps doubts (live history) none stands = absurd stands
 rest_same m format (Some parts) None request answer at steps doubts (failed history commit) none stands = absurd stands
 rest_same m format None None request answer at steps doubts state none stands = absurd stands
@@ -276,10 +276,10 @@ rest_same m format parts (Some store) request answer at steps doubts state none 
 
 -- what a closed session does not do
 pub record IsRefusedClosed (request : Request) : Type 0 where
-  pub steps : (m : Machine) (before after : Power) (history : History) (pending : Option Commit)
-      → IsStepClosed m before after history pending request machine.not_open (closed history pending)
-  pub doubts : (m : Machine) (before after : Power) (history : History)
-      → IsStepInDoubt m before after history request machine.not_open (doubtful history)
+  pub steps : (m : Machine) (power : Power) (history : History) (pending : Option Commit)
+      → IsStepClosed m power power history pending request machine.not_open (closed history pending)
+  pub doubts : (m : Machine) (power : Power) (history : History)
+      → IsStepInDoubt m power power history request machine.not_open (doubtful history)
   pub kind : IsAnswerTo false request machine.not_open
   pub turned : (power : Power) → machine.turned request machine.not_open power ≡ power
 
@@ -291,21 +291,21 @@ is_refused_closed key value steps.Crash a b c d = absurd (b refl)
 is_refused_closed key value (steps.Config config) a b c d = absurd (c config refl)
 is_refused_closed key value (steps.CutAfter calls) a b c d = absurd (d calls refl)
 is_refused_closed key value (steps.Commit batch metadata) a b c d =
-    record { steps = λ m before after h p. (refl, refl); doubts = λ m before after h. (refl, refl); kind = refl; turned = λ power. refl }
+    record { steps = λ m power h p. (refl, refl, refl); doubts = λ m power h. (refl, refl, refl); kind = refl; turned = λ power. refl }
 is_refused_closed key value (steps.Get k) a b c d =
-    record { steps = λ m before after h p. (refl, refl); doubts = λ m before after h. (refl, refl); kind = refl; turned = λ power. refl }
+    record { steps = λ m power h p. (refl, refl, refl); doubts = λ m power h. (refl, refl, refl); kind = refl; turned = λ power. refl }
 is_refused_closed key value steps.Root a b c d =
-    record { steps = λ m before after h p. (refl, refl); doubts = λ m before after h. (refl, refl); kind = refl; turned = λ power. refl }
+    record { steps = λ m power h p. (refl, refl, refl); doubts = λ m power h. (refl, refl, refl); kind = refl; turned = λ power. refl }
 is_refused_closed key value steps.Commits a b c d =
-    record { steps = λ m before after h p. (refl, refl); doubts = λ m before after h. (refl, refl); kind = refl; turned = λ power. refl }
+    record { steps = λ m power h p. (refl, refl, refl); doubts = λ m power h. (refl, refl, refl); kind = refl; turned = λ power. refl }
 is_refused_closed key value steps.Floor a b c d =
-    record { steps = λ m before after h p. (refl, refl); doubts = λ m before after h. (refl, refl); kind = refl; turned = λ power. refl }
+    record { steps = λ m power h p. (refl, refl, refl); doubts = λ m power h. (refl, refl, refl); kind = refl; turned = λ power. refl }
 is_refused_closed key value steps.Len a b c d =
-    record { steps = λ m before after h p. (refl, refl); doubts = λ m before after h. (refl, refl); kind = refl; turned = λ power. refl }
+    record { steps = λ m power h p. (refl, refl, refl); doubts = λ m power h. (refl, refl, refl); kind = refl; turned = λ power. refl }
 is_refused_closed key value (steps.ProveKey k) a b c d =
-    record { steps = λ m before after h p. (refl, refl); doubts = λ m before after h. (refl, refl); kind = refl; turned = λ power. refl }
+    record { steps = λ m power h p. (refl, refl, refl); doubts = λ m power h. (refl, refl, refl); kind = refl; turned = λ power. refl }
 is_refused_closed key value steps.Close a b c d =
-    record { steps = λ m before after h p. (refl, refl); doubts = λ m before after h. (refl, refl); kind = refl; turned = λ power. refl }
+    record { steps = λ m power h p. (refl, refl, refl); doubts = λ m power h. (refl, refl, refl); kind = refl; turned = λ power. refl }
 
 -- where a store is open, a session has nothing beside it
 pub parts_none : {R : Type 0} (parts : Option (DeviceState R × Cache)) (store : Option (StoreState R)) (is : StoreState R)

@@ -64,20 +64,20 @@ follows_live m before after history ask_commits answer next step = follows_same 
 follows_live m before after history ask_floor answer next step = follows_same history (live history) next step.1 tt refl
 follows_live m before after history ask_len answer next step = follows_same history (live history) next step.1 tt refl
 
-follows_failed : (history : History) (commit : Commit) (request : Request) (answer : Answer) (next : State)
-    → IsStepFailed history commit request answer next → Follows history next
-follows_failed history commit ask_close answer next step = follows_same history (closed history (Some commit)) next step.1 tt refl
-follows_failed history commit ask_open answer next step = follows_same history (failed history commit) next step.1 tt refl
-follows_failed history commit ask_crash answer next step = follows_same history (failed history commit) next step.1 tt refl
-follows_failed history commit ask_config answer next step = follows_same history (failed history commit) next step.1 tt refl
-follows_failed history commit (ask_cut calls) answer next step = follows_same history (failed history commit) next step.1 tt refl
-follows_failed history commit (ask_commit words metadata) answer next step = follows_same history (failed history commit) next step.1 tt refl
-follows_failed history commit (ask_get key) answer next step = follows_same history (failed history commit) next step.1 tt refl
-follows_failed history commit (ask_proof key) answer next step = follows_same history (failed history commit) next step.1 tt refl
-follows_failed history commit ask_root answer next step = follows_same history (failed history commit) next step.1 tt refl
-follows_failed history commit ask_commits answer next step = follows_same history (failed history commit) next step.1 tt refl
-follows_failed history commit ask_floor answer next step = follows_same history (failed history commit) next step.1 tt refl
-follows_failed history commit ask_len answer next step = follows_same history (failed history commit) next step.1 tt refl
+follows_failed : (before after : Power) (history : History) (commit : Commit) (request : Request) (answer : Answer) (next : State)
+    → IsStepFailed before after history commit request answer next → Follows history next
+follows_failed before after history commit ask_close answer next step = follows_same history (closed history (Some commit)) next step.1 tt refl
+follows_failed before after history commit ask_open answer next step = follows_same history (failed history commit) next step.1 tt refl
+follows_failed before after history commit ask_crash answer next step = follows_same history (failed history commit) next step.1 tt refl
+follows_failed before after history commit ask_config answer next step = follows_same history (failed history commit) next step.1 tt refl
+follows_failed before after history commit (ask_cut calls) answer next step = follows_same history (failed history commit) next step.1 tt refl
+follows_failed before after history commit (ask_commit words metadata) answer next step = follows_same history (failed history commit) next step.1 tt refl
+follows_failed before after history commit (ask_get key) answer next step = follows_same history (failed history commit) next step.1 tt refl
+follows_failed before after history commit (ask_proof key) answer next step = follows_same history (failed history commit) next step.1 tt refl
+follows_failed before after history commit ask_root answer next step = follows_same history (failed history commit) next step.1 tt refl
+follows_failed before after history commit ask_commits answer next step = follows_same history (failed history commit) next step.1 tt refl
+follows_failed before after history commit ask_floor answer next step = follows_same history (failed history commit) next step.1 tt refl
+follows_failed before after history commit ask_len answer next step = follows_same history (failed history commit) next step.1 tt refl
 
 -- one step
 pub step_goes_on : (m : Machine) (before after : Power) (state : State) (request : Request) (answer : Answer) (next : State)
@@ -86,7 +86,7 @@ step_goes_on m before after (closed history pending) request answer next certain
     follows_closed m before after history pending request answer next step
 step_goes_on m before after (live history) request answer next certain step = follows_live m before after history request answer next step
 step_goes_on m before after (failed history commit) request answer next certain step =
-    follows_failed history commit request answer next step
+    follows_failed before after history commit request answer next step
 step_goes_on m before after (doubtful history) request answer next certain step = absurd certain
 
 -- a run

@@ -15,15 +15,15 @@ use Rattle.auth_store_session.specs.MachineCode.{answer_of, request_of}
 use Rattle.auth_store_session.specs.declared.session.Step.{Step}
 use Rattle.auth_store_session.specs.declared.session.Step.TheVariants as steps
 use Rattle.auth_store_session.specs.declared.sizes.Sizes.{Sizes}
-use Rattle.auth_store_session.proofs.Powers.{leaves_none}
+use Rattle.auth_store_session.proofs.Powers.{leaves_none, stays}
 use Rattle.auth_store_session.specs.Standing.{Commits, IsLeftOpen, StandsFor, MovesOpen, StepsOpen, power_of, result_of}
 use Rattle.auth_store_session.specs.Stores.{StoreState, IsLiveAt, Shows}
 
 -- what a failed store answers to a request
 abbrev pub IsRefusedOnceFailed : Request → Type 0
 IsRefusedOnceFailed request =
-    (history : History) (commit : Commit) (answer : Answer) → answer ≡ refused Failed
-    → IsStepFailed history commit request answer (failed history commit)
+    (power : Power) (history : History) (commit : Commit) (answer : Answer) → answer ≡ refused Failed
+    → IsStepFailed power power history commit request answer (failed history commit)
 
 -- a failed store stays as it is
 pub stays_failed : {R T : Type 0} (m : Machine) (format : Format) (old new : StoreState R) (request : Request) (said : T → Answer)
@@ -33,7 +33,9 @@ pub stays_failed : {R T : Type 0} (m : Machine) (format : Format) (old new : Sto
     (answer_of said result) next × StandsFor format None (Some new) next
 stays_failed m format old new request said result history commit lost is stands = (
   failed history commit,
-  is history commit (answer_of said result) (ap (answer_of said) lost.0),
+  subst (λ s. IsStepFailed (power_of old.device old.cache) (power_of s.device s.cache) history commit request (answer_of said result)
+      (failed history commit)) (sym lost.1)
+      (is (power_of old.device old.cache) history commit (answer_of said result) (ap (answer_of said) lost.0)),
   subst (λ s. StandsFor format None (Some s) (failed history commit)) (sym lost.1) stands,
 )
 
@@ -58,7 +60,7 @@ commits_in m format encoding words metadata old new (Err e) sized commits lost (
     c.1
 commits_in m format encoding words metadata old new result sized commits lost (failed history commit) stands =
     stays_failed m format old new (ask_commit words metadata) (λ root. committed (encoding root)) result history commit (lost stands.0)
-    (λ h c answer is. (is, refl)) stands
+    (λ power h c answer is. (is, refl, refl)) stands
 commits_in m format encoding words metadata old new result sized commits lost (closed history pending) stands = absurd stands
 commits_in m format encoding words metadata old new result sized commits lost (doubtful history) stands = absurd stands
 
@@ -78,7 +80,7 @@ gets_in m format encoding key old new (Err e) is refuses stays lost (live histor
     (live history, (refl, inr (e, refl, refuses history stands)), stays history stands)
 gets_in m format encoding key old new result is refuses stays lost (failed history commit) stands =
     stays_failed m format old new (ask_get key) (λ found. value (option_map encoding found)) result history commit (lost stands.0)
-    (λ h c answer at. (at, refl)) stands
+    (λ power h c answer at. (at, refl, refl)) stands
 gets_in m format encoding key old new result is refuses stays lost (closed history pending) stands = absurd stands
 gets_in m format encoding key old new result is refuses stays lost (doubtful history) stands = absurd stands
 
@@ -90,15 +92,15 @@ pub proves_in : {R P : Type 0} (m : Machine) (format : Format) (parts : P → Li
     → (store.live ≡ None → result ≡ Err Failed)
     → MovesOpen m format store (ask_proof key) (answer_of (λ found. proof (option_map parts found)) result) store
 proves_in m format parts key store (Ok found) is refuses lost (live history) stands =
-    (live history, (refl, inl (ap proof (is history stands))), stands)
+    (live history, (refl, inl (ap proof (is history stands)), refl), stands)
 proves_in m format parts key store (Err e) is refuses lost (live history) stands = (
   live history,
-  (refl, inr (e, refl, refuses history stands)),
+  (refl, inr (ap refused (refuses history stands)), refl),
   stands,
 )
 proves_in m format parts key store result is refuses lost (failed history commit) stands =
     stays_failed m format store store (ask_proof key) (λ found. proof (option_map parts found)) result history commit
-    (lost stands.0, refl) (λ h c answer at. (at, refl)) stands
+    (lost stands.0, refl) (λ power h c answer at. (at, refl, refl)) stands
 proves_in m format parts key store result is refuses lost (closed history pending) stands = absurd stands
 proves_in m format parts key store result is refuses lost (doubtful history) stands = absurd stands
 
@@ -107,13 +109,13 @@ pub tells_in : {R T : Type 0} (m : Machine) (format : Format) (store : StoreStat
     (told : History → T) (result : Result T StoreError)
     → ((history : History) → IsLiveAt store history → result ≡ Ok (told history))
     → (store.live ≡ None → result ≡ Err Failed)
-    → ((before after : Power) (history : History) (answer : Answer) → answer ≡ said (told history)
-    → IsStepLive m before after history request answer (live history))
+    → ((power : Power) (history : History) (answer : Answer) → answer ≡ said (told history)
+    → IsStepLive m power power history request answer (live history))
     → IsRefusedOnceFailed request
     → MovesOpen m format store request (answer_of said result) store
 tells_in m format store request said told result is lost steps fails (live history) stands = (
   live history,
-  steps (power_of store.device store.cache) (power_of store.device store.cache) history (answer_of said result)
+  steps (power_of store.device store.cache) history (answer_of said result)
       (ap (answer_of said) (is history stands)),
   stands,
 )
@@ -125,12 +127,13 @@ tells_in m format store request said told result is lost steps fails (doubtful h
 -- a store that stays as it is
 pub stays_in : {R : Type 0} (m : Machine) (format : Format) (old new : StoreState R) (request : Request) (answer : Answer)
     → new.cache ≡ old.cache → new.live ≡ old.live → new.device.calls ≡ old.device.calls
-    → ((before after : Power) (history : History) → IsStepLive m before after history request answer (live history))
-    → ((history : History) (commit : Commit) → IsStepFailed history commit request answer (failed history commit))
+    → ((history : History) → IsStepLive m (power_of old.device old.cache) (power_of new.device new.cache) history request answer (live history))
+    → ((history : History) (commit : Commit) → IsStepFailed (power_of old.device old.cache) (power_of new.device new.cache) history commit
+    request answer (failed history commit))
     → MovesOpen m format old request answer new
 stays_in m format old new request answer cache alive calls steps fails (live history) stands = (
   live history,
-  steps (power_of old.device old.cache) (power_of new.device new.cache) history,
+  steps history,
   (stands.0, alive ∙ stands.1, stands.2),
 )
 stays_in m format old new request answer cache alive calls steps fails (failed history commit) stands = (
@@ -154,12 +157,12 @@ pub still_open_in : {R K V : Type 0} (m : Machine) (format : Format) (keys : K �
     → IsLeftOpen (request_of keys values step) → StepsOpen m format store (request_of keys values step) still_open store
 still_open_in m format keys values step store (inl is) left =
     subst (λ s. StepsOpen m format store (request_of keys values s) still_open store) (sym is.1) (
-      leaves_none store.device store.cache,
-      stays_in m format store store ask_open still_open refl refl refl (λ before after history. (refl, refl)) (λ history commit. (refl, refl)),
+      stays 3 None (power_of store.device store.cache) refl refl,
+      stays_in m format store store ask_open still_open refl refl refl (λ history. (refl, refl, refl)) (λ history commit. (refl, refl, refl)),
     )
 still_open_in m format keys values step store (inr (inl is)) left =
     subst (λ s. StepsOpen m format store (request_of keys values s) still_open store) (sym is) (
-      leaves_none store.device store.cache,
-      stays_in m format store store ask_crash still_open refl refl refl (λ before after history. (refl, refl)) (λ history commit. (refl, refl)),
+      leaves_none None store.device store.cache refl refl,
+      stays_in m format store store ask_crash still_open refl refl refl (λ history. (refl, refl, refl)) (λ history commit. (refl, refl, refl)),
     )
 still_open_in m format keys values step store (inr (inr is)) left = absurd (subst (λ s. IsLeftOpen (request_of keys values s)) is left)

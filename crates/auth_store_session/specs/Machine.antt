@@ -1,5 +1,5 @@
 -- The machine of a session: what each request answers, and what it leaves.
-use Rattle.std.specs.Prelude.{◌≡◌, ◌<◌, ◌≤◌, ◌+◌, ◌++◌, ◌^◌, ◌⊎◌, ℕ, zero, suc, ⊤, Bool, true, false, IsTrue, IsFalse, List, [], ◌∷◌, length, Option, None, Some, option_map}
+use Rattle.std.specs.Prelude.{◌≡◌, ◌<◌, ◌≤◌, ◌+◌, ◌++◌, ◌^◌, ◌⊎◌, ℕ, ⊤, Bool, true, false, IsTrue, IsFalse, List, [], ◌∷◌, length, Option, None, Some, option_map, Result, Ok, Err}
 use Rattle.merkle_forest.specs.Forest.{Rule}
 use Rattle.merkle_forest.specs.Hashing.{Hash}
 use Rattle.state_proofs.specs.Canonical.{Setting}
@@ -7,6 +7,7 @@ use Rattle.state_ops.specs.Operation.{Operation, fixed_size}
 use Rattle.paged_blob.specs.Flushes.{physical_size}
 use Rattle.auth_store_parts.specs.Batch.{Word, map_after}
 use Rattle.auth_store_parts.specs.Map.{value_at}
+use Rattle.auth_store_device.specs.Devices.{after_asking, is_cut}
 use Rattle.auth_store_parts.specs.History.{History, Commit, latest_map, log_of}
 use Rattle.auth_store_ledger.specs.Store.{setting_of_width, floor_of, root_of_history, commit_after}
 use Rattle.auth_store_log.specs.Records.{log_bytes}
@@ -110,15 +111,53 @@ pub data Answer : Type 0 where
 
 -- What the machine sees of the device under it and of its cache: how many faults were injected so far, and how many calls a cut refused
 -- since the last crash; how many names the cache has given, how many bytes the log has on the disk, which number the next file of the
--- disk has; whether a cut of the power was asked for since the last crash, and whether one stands.
+-- disk has; and how many more calls are let through until the power is cut, where that was asked for since the last crash.
 pub record Power : Type 0 where
   pub injected : ℕ
   pub refused : ℕ
   pub names : ℕ
   pub size : ℕ
   pub files : ℕ
-  pub is_asked : Bool
-  pub is_cut : Bool
+  pub left : Option ℕ
+
+-- the power after a cut was asked for that lets so many calls through, unless one stands
+abbrev pub asked_to_cut : ℕ → Power → Power
+asked_to_cut calls power = record power { left = after_asking calls power.left }
+
+-- a crash ends a cut and the count of the calls that it refused; it leaves some of the bytes that were not durable
+abbrev pub IsCrash : Power → Power → Type 0
+IsCrash before after = after ≡ record before { left = None; refused = 0; size = after.size }
+
+-- the refusal that an answer tells of, and a call's result
+abbrev pub refusal_in : Answer → Option StoreError
+refusal_in (refused error) = Some error
+refusal_in answer = None
+
+abbrev pub refusal_of : {T : Type 0} → Result T StoreError → Option StoreError
+refusal_of (Ok _) = None
+refusal_of (Err error) = Some error
+
+-- how many injected faults a refusal tells of, and how many calls that a cut refused
+abbrev pub faults_in : Option StoreError → ℕ
+faults_in (Some (refusals.Fault kind)) = 1
+faults_in refusal = 0
+
+abbrev pub cuts_in : Option StoreError → ℕ
+cuts_in (Some refusals.PowerCut) = 1
+cuts_in refusal = 0
+
+-- calls use up some of those that a cut lets through, and none asks for a cut
+abbrev pub IsSpent : Option ℕ → Option ℕ → Type 0
+IsSpent None after = after ≡ None
+IsSpent (Some before) after = (left : ℕ) × (after ≡ Some left) × (left ≤ before)
+
+-- What calls leave of the power of which the last was refused for that, or none: a fault that was injected, and a call that a cut refused,
+-- ends them; they use up what a cut lets through; and they give so many names at most.
+pub record Leaves (most : ℕ) (refusal : Option StoreError) (before after : Power) : Type 0 where
+  pub injected : after.injected ≡ before.injected + faults_in refusal
+  pub refused : after.refused ≡ before.refused + cuts_in refusal
+  pub left : IsSpent before.left after.left
+  pub names : (before.names ≤ after.names) × (after.names ≤ before.names + most)
 
 -- a count of refusals is about to pass its type
 abbrev pub IsEnding : Power → Type 0
@@ -143,7 +182,7 @@ IsShownOf history (Some commit) shown = (shown ≡ history) ⊎ (shown ≡ commi
 -- no memory.
 abbrev pub MayRefuse : Power → Power → StoreError → Type 0
 MayRefuse before after (refusals.Fault kind) = before.injected < after.injected
-MayRefuse before after refusals.PowerCut = IsTrue after.is_cut
+MayRefuse before after refusals.PowerCut = IsTrue (is_cut after.left)
 MayRefuse before after refusals.NumberEnded = IsEnding before
 MayRefuse before after refusals.Memory = ⊤
 MayRefuse before after _ = ⊥
@@ -186,7 +225,7 @@ MayRefuseCommit m before after next error = MayRefuse before after error
 -- and nothing changes.
 abbrev pub IsOpening : Machine → Power → Power → History → Option Commit → Answer → State → Type 0
 IsOpening m before after history pending answer next =
-    ((answer ≡ opened) × IsFalse before.is_cut
+    ((answer ≡ opened) × IsFalse (is_cut before.left)
     × ((shown : History) × IsShownOf history pending shown × (next ≡ live shown)))
     ⊎ ((error : StoreError) × (answer ≡ refused error) × (next ≡ closed history pending)
     × MayRefuseOpening m before after error)
@@ -195,16 +234,19 @@ IsOpening m before after history pending answer next =
 abbrev pub IsStepClosed : Machine → Power → Power → History → Option Commit → Request → Answer → State → Type 0
 IsStepClosed m before after history pending ask_open answer next = IsOpening m before after history pending answer next
 IsStepClosed m before after history pending ask_crash answer next =
-    (answer ≡ has_crashed) × (next ≡ closed history pending) × IsFalse after.is_cut
-IsStepClosed m before after history pending ask_config answer next = (answer ≡ is_set) × (next ≡ closed history pending)
-IsStepClosed m before after history pending (ask_cut calls) answer next = (answer ≡ is_set) × (next ≡ closed history pending)
-IsStepClosed m before after history pending _ answer next = (answer ≡ not_open) × (next ≡ closed history pending)
+    (answer ≡ has_crashed) × (next ≡ closed history pending) × IsCrash before after
+IsStepClosed m before after history pending ask_config answer next =
+    (answer ≡ is_set) × (next ≡ closed history pending) × (after ≡ before)
+IsStepClosed m before after history pending (ask_cut calls) answer next =
+    (answer ≡ is_set) × (next ≡ closed history pending) × (after ≡ asked_to_cut calls before)
+IsStepClosed m before after history pending _ answer next =
+    (answer ≡ not_open) × (next ≡ closed history pending) × (after ≡ before)
 
 -- In doubt an opening shows a history that goes on behind the log of this one, and no cut stood before; or it is refused, also
 -- where what it shows is the log of no history, and the doubt stays.
 abbrev pub IsOpeningInDoubt : Machine → Power → Power → History → Answer → State → Type 0
 IsOpeningInDoubt m before after history answer next =
-    ((answer ≡ opened) × IsFalse before.is_cut
+    ((answer ≡ opened) × IsFalse (is_cut before.left)
     × ((shown : History) × Begins history shown × (next ≡ live shown)))
     ⊎ ((error : StoreError) × (answer ≡ refused error) × (next ≡ doubtful history)
     × ((error ≡ refusals.Corrupt) ⊎ MayRefuseOpening m before after error))
@@ -213,10 +255,12 @@ IsOpeningInDoubt m before after history answer next =
 abbrev pub IsStepInDoubt : Machine → Power → Power → History → Request → Answer → State → Type 0
 IsStepInDoubt m before after history ask_open answer next = IsOpeningInDoubt m before after history answer next
 IsStepInDoubt m before after history ask_crash answer next =
-    (answer ≡ has_crashed) × (next ≡ doubtful history) × IsFalse after.is_cut
-IsStepInDoubt m before after history ask_config answer next = (answer ≡ is_set) × (next ≡ doubtful history)
-IsStepInDoubt m before after history (ask_cut calls) answer next = (answer ≡ is_set) × (next ≡ doubtful history)
-IsStepInDoubt m before after history _ answer next = (answer ≡ not_open) × (next ≡ doubtful history)
+    (answer ≡ has_crashed) × (next ≡ doubtful history) × IsCrash before after
+IsStepInDoubt m before after history ask_config answer next =
+    (answer ≡ is_set) × (next ≡ doubtful history) × (after ≡ before)
+IsStepInDoubt m before after history (ask_cut calls) answer next =
+    (answer ≡ is_set) × (next ≡ doubtful history) × (after ≡ asked_to_cut calls before)
+IsStepInDoubt m before after history _ answer next = (answer ≡ not_open) × (next ≡ doubtful history) × (after ≡ before)
 
 -- A commit is in, with the root of the history with it, and no cut stood before; or it is refused, and the store is as it was or has
 -- failed. Where the log would pass 2^62 operations it stays as it was.
@@ -224,79 +268,77 @@ abbrev pub IsCommitting : Machine → Power → Power → History → List Word 
 IsCommitting m before after history words metadata answer next =
     let later = commit_after words metadata history in
     ((answer ≡ committed (root_of_history m.setting m.key_size m.value_size later)) × (next ≡ live later)
-    × (length (log_of later) ≤ 2 ^ 62) × IsFalse before.is_cut)
+    × (length (log_of later) ≤ 2 ^ 62) × IsFalse (is_cut before.left))
     ⊎ ((error : StoreError) × (answer ≡ refused error) × MayRefuseCommit m before after later error
     × ((next ≡ live history) ⊎ ((next ≡ failed history (commit_of words metadata history)) × (length (log_of later) ≤ 2 ^ 62))))
 
--- an answer, or a refusal for such a cause, which changes nothing
-abbrev pub IsAnswered : (StoreError → Type 0) → History → Answer → Answer → State → Type 0
-IsAnswered MayBe history said answer next =
-    (next ≡ live history)
-    × ((answer ≡ said) ⊎ ((error : StoreError) × (answer ≡ refused error) × MayBe error))
-
 -- a step of an open store that has not failed
 abbrev pub IsStepLive : Machine → Power → Power → History → Request → Answer → State → Type 0
-IsStepLive m before after history ask_open answer next = (answer ≡ still_open) × (next ≡ live history)
-IsStepLive m before after history ask_crash answer next = (answer ≡ still_open) × (next ≡ live history)
-IsStepLive m before after history ask_config answer next = (answer ≡ is_set) × (next ≡ live history)
-IsStepLive m before after history (ask_cut calls) answer next = (answer ≡ is_set) × (next ≡ live history)
-IsStepLive m before after history ask_close answer next = (answer ≡ has_closed) × (next ≡ closed history None)
+IsStepLive m before after history ask_open answer next = (answer ≡ still_open) × (next ≡ live history) × (after ≡ before)
+IsStepLive m before after history ask_crash answer next = (answer ≡ still_open) × (next ≡ live history) × (after ≡ before)
+IsStepLive m before after history ask_config answer next = (answer ≡ is_set) × (next ≡ live history) × (after ≡ before)
+IsStepLive m before after history (ask_cut calls) answer next =
+    (answer ≡ is_set) × (next ≡ live history) × (after ≡ asked_to_cut calls before)
+IsStepLive m before after history ask_close answer next =
+    (answer ≡ has_closed) × (next ≡ closed history None) × (after ≡ before)
 IsStepLive m before after history (ask_commit words metadata) answer next =
     IsCommitting m before after history words metadata answer next
 IsStepLive m before after history (ask_get key) answer next =
-    IsAnswered (MayRefuseRead before after) history (value (value_at (latest_map history) key)) answer next
+    (next ≡ live history)
+    × ((answer ≡ value (value_at (latest_map history) key))
+    ⊎ ((error : StoreError) × (answer ≡ refused error) × MayRefuseRead before after error))
 IsStepLive m before after history (ask_proof key) answer next =
-    IsAnswered (λ error. error ≡ refusals.Memory) history (proof (proof_of m history key)) answer next
+    (next ≡ live history) × ((answer ≡ proof (proof_of m history key)) ⊎ (answer ≡ refused refusals.Memory))
+    × (after ≡ before)
 IsStepLive m before after history ask_root answer next =
-    (answer ≡ root_is (root_of_history m.setting m.key_size m.value_size history)) × (next ≡ live history)
-IsStepLive m before after history ask_commits answer next = (answer ≡ commits_are (length history)) × (next ≡ live history)
-IsStepLive m before after history ask_floor answer next = (answer ≡ floor_is (floor_of history)) × (next ≡ live history)
+    (answer ≡ root_is (root_of_history m.setting m.key_size m.value_size history)) × (next ≡ live history) × (after ≡ before)
+IsStepLive m before after history ask_commits answer next =
+    (answer ≡ commits_are (length history)) × (next ≡ live history) × (after ≡ before)
+IsStepLive m before after history ask_floor answer next =
+    (answer ≡ floor_is (floor_of history)) × (next ≡ live history) × (after ≡ before)
 IsStepLive m before after history ask_len answer next =
-    (answer ≡ len_is (length (log_of history))) × (next ≡ live history)
+    (answer ≡ len_is (length (log_of history))) × (next ≡ live history) × (after ≡ before)
 
 -- a failed store can only be closed
-abbrev pub IsStepFailed : History → Commit → Request → Answer → State → Type 0
-IsStepFailed history commit ask_open answer next = (answer ≡ still_open) × (next ≡ failed history commit)
-IsStepFailed history commit ask_crash answer next = (answer ≡ still_open) × (next ≡ failed history commit)
-IsStepFailed history commit ask_config answer next = (answer ≡ is_set) × (next ≡ failed history commit)
-IsStepFailed history commit (ask_cut calls) answer next = (answer ≡ is_set) × (next ≡ failed history commit)
-IsStepFailed history commit ask_close answer next = (answer ≡ has_closed) × (next ≡ closed history (Some commit))
-IsStepFailed history commit _ answer next = (answer ≡ refused refusals.Failed) × (next ≡ failed history commit)
+abbrev pub IsStepFailed : Power → Power → History → Commit → Request → Answer → State → Type 0
+IsStepFailed before after history commit ask_open answer next =
+    (answer ≡ still_open) × (next ≡ failed history commit) × (after ≡ before)
+IsStepFailed before after history commit ask_crash answer next =
+    (answer ≡ still_open) × (next ≡ failed history commit) × (after ≡ before)
+IsStepFailed before after history commit ask_config answer next =
+    (answer ≡ is_set) × (next ≡ failed history commit) × (after ≡ before)
+IsStepFailed before after history commit (ask_cut calls) answer next =
+    (answer ≡ is_set) × (next ≡ failed history commit) × (after ≡ asked_to_cut calls before)
+IsStepFailed before after history commit ask_close answer next =
+    (answer ≡ has_closed) × (next ≡ closed history (Some commit)) × (after ≡ before)
+IsStepFailed before after history commit _ answer next =
+    (answer ≡ refused refusals.Failed) × (next ≡ failed history commit) × (after ≡ before)
 
 -- One step, from a state to the next, with the power before it and after it.
 abbrev pub IsStep : Machine → Power → Power → State → Request → Answer → State → Type 0
 IsStep m before after (closed history pending) request answer next =
     IsStepClosed m before after history pending request answer next
 IsStep m before after (live history) request answer next = IsStepLive m before after history request answer next
-IsStep m before after (failed history commit) request answer next = IsStepFailed history commit request answer next
+IsStep m before after (failed history commit) request answer next =
+    IsStepFailed before after history commit request answer next
 IsStep m before after (doubtful history) request answer next = IsStepInDoubt m before after history request answer next
 
--- a count is the same, or one more
-abbrev pub IsRaised : ℕ → ℕ → Type 0
-IsRaised before after = (before ≤ after) × (after ≤ before + 1)
+-- how many names of its cache an opening gives at most; no other request gives one
+abbrev pub names_given : Request → ℕ
+names_given ask_open = 3
+names_given request = 0
 
--- What the calls of a request leave of the power: one fault is injected at most, and a cut refuses one call at most, as each of them
--- ends the request; names are only given; no call asks for a cut, none stands that was not asked for, and one that stands stays.
-pub record Leaves (before after : Power) : Type 0 where
-  pub injected : IsRaised before.injected after.injected
-  pub refused : IsRaised before.refused after.refused
-  pub names : before.names ≤ after.names
-  pub asked : after.is_asked ≡ before.is_asked
-  pub cut : IsTrue after.is_cut → IsTrue after.is_asked
-  pub stands : IsTrue before.is_cut → IsTrue after.is_cut
-
--- What a request makes of the power without its calls: a cut is asked for, which stands at once where no call is let through, or a crash
--- ends it.
+-- What a request makes of the power without its calls: a cut is asked for, or a crash ends it.
 abbrev pub turned : Request → Answer → Power → Power
-turned (ask_cut zero) answer power = record power { is_asked = true; is_cut = true }
-turned (ask_cut (suc calls)) answer power = record power { is_asked = true }
-turned ask_crash has_crashed power = record power { is_asked = false; is_cut = false; refused = 0 }
+turned (ask_cut calls) answer power = asked_to_cut calls power
+turned ask_crash has_crashed power = record power { left = None; refused = 0 }
 turned request answer power = power
 
--- The power before a step and after it. So in a run there are at most as many answers that tell of an injected fault as faults were
--- injected, one that tells of a cut comes only where a cut was asked for since the last crash, and a cut that stands does so until then.
+-- The power before a step and after it: a fault was injected in it where its answer tells of one, and a cut refused a call where it tells of
+-- that, and no more; and its calls use up what a cut lets through. So in a run there are as many answers that tell of an injected fault as
+-- faults were injected, and one that tells of a cut comes only after so many calls as were asked for since the last crash.
 abbrev pub Passes : Request → Answer → Power → Power → Type 0
-Passes request answer before after = Leaves (turned request answer before) after
+Passes request answer before after = Leaves (names_given request) (refusal_in answer) (turned request answer before) after
 
 -- A run: an answer for each request, one step after the other; each step meets the power that the one before left.
 abbrev pub IsRun : Machine → Power → State → List Request → List Answer → Power → State → Type 0
@@ -319,8 +361,7 @@ IsRunInDoubt m before first (request ∷ requests) (answer ∷ answers) after la
 -- how many answers tell of an injected fault
 abbrev pub faults_told : List Answer → ℕ
 faults_told [] = 0
-faults_told (refused (refusals.Fault kind) ∷ answers) = faults_told answers + 1
-faults_told (answer ∷ answers) = faults_told answers
+faults_told (answer ∷ answers) = faults_told answers + faults_in (refusal_in answer)
 
 -- no request asks for a cut of the power
 abbrev pub AskNoCut : List Request → Type 0

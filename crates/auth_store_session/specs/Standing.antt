@@ -36,8 +36,7 @@ power_of device cache = record {
   names = cache.next_id;
   size = length (shown_of device);
   files = device.storage.inner.next;
-  is_asked = is_some device.left;
-  is_cut = is_cut device.left;
+  left = device.left;
 }
 
 -- the digest's encoding where a root is answered
@@ -87,7 +86,7 @@ abbrev pub power_in : {R : Type 0} → Option (DeviceState R × Cache) → Optio
 power_in (Some parts) store = power_of parts.0 parts.1
 power_in None (Some store) = power_of store.device store.cache
 power_in None None =
-    record { injected = 0; refused = 0; names = 0; size = 0; files = 0; is_asked = false; is_cut = false }
+    record { injected = 0; refused = 0; names = 0; size = 0; files = 0; left = None }
 
 -- the settings by which its device fails
 abbrev pub config_in : {R : Type 0} → Option (DeviceState R × Cache) → Option (StoreState R) → Option Config

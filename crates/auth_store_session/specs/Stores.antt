@@ -1,5 +1,5 @@
 -- An open store over its device: what holds of it while it has not failed, and what its calls say.
-use Rattle.std.specs.Prelude.{◌≡◌, ◌⊎◌, ◌+◌, ◌<◌, ◌≤◌, ◌^◌, ℕ, ⊤, Bool, true, List, [], ◌∷◌, length, Option, Some, is_some, IfSome}
+use Rattle.std.specs.Prelude.{◌≡◌, ◌⊎◌, ◌+◌, ◌<◌, ◌≤◌, ◌^◌, ℕ, ⊤, true, List, [], ◌∷◌, length, Option, Some, is_some, IfSome}
 use Rattle.fault_storage_parts.specs.Crc32.{crc32}
 use Rattle.paged_format.specs.Footers.{IsPageSize}
 use Rattle.paged_blob.specs.Answers.{Failures, HaveEnded}
@@ -17,7 +17,7 @@ use Rattle.auth_store_log.specs.Shown.{MayShow, KeepsLog}
 use Rattle.auth_store_session.specs.declared.error.StoreError.{StoreError}
 use Rattle.auth_store_session.specs.declared.error.StoreError.TheVariants.{Fault, PowerCut, NumberEnded, Memory, Corrupt}
 use Rattle.auth_store_session.specs.Refusals.{IsOfChange, IsOfRead}
-use Rattle.auth_store_session.specs.Machine.{IsRaised}
+use Rattle.auth_store_session.specs.Machine.{faults_in, cuts_in}
 
 -- an open store that has not failed: its history, and the writer of its log
 pub record LiveState : Type 0 where
@@ -51,11 +51,11 @@ pub record IsStore {R : Type 0} (format : Format) (state : StoreState R) : Type 
   pub cache : IsCache state.cache
   pub live : IfSome state.live (IsLive format state.device.calls state.cache)
 
--- What the calls of a request leave of what has refused calls: one fault is injected at most, a cut refuses one call at most, and none
--- asks for a cut.
-pub record Raises (before after : Failures) : Type 0 where
-  pub injected : IsRaised before.injected after.injected
-  pub refused : IsRaised before.refused after.refused
+-- What the calls of a request leave of what has refused calls, of which the last was refused for that, or none: an injected fault and a
+-- call that a cut refuses are counted, and none asks for a cut.
+pub record Raises (refusal : Option StoreError) (before after : Failures) : Type 0 where
+  pub injected : after.injected ≡ before.injected + faults_in refusal
+  pub refused : after.refused ≡ before.refused + cuts_in refusal
   pub asked : after.is_asked ≡ before.is_asked
 
 -- Why a call over the blob may refuse: a count was raised, a number ended, or there was no memory.
@@ -108,11 +108,10 @@ abbrev pub IsReadRefusal : Failures → Failures → StoreError → Type 0
 IsReadRefusal before after (Fault kind) = (before.injected < after.injected) × IsOfRead kind
 IsReadRefusal before after error = IsRefusal before after ⊥ error
 
--- why a commit may: so, where a fault came into a write or a sync, or where a cut stands
-abbrev pub IsCommitRefusal : Bool → Failures → Failures → Type 0 → StoreError → Type 0
-IsCommitRefusal is_cut before after Ends (Fault kind) = (before.injected < after.injected) × IsOfChange kind
-IsCommitRefusal is_cut before after Ends PowerCut = (is_cut ≡ true) ⊎ (before.refused < after.refused)
-IsCommitRefusal is_cut before after Ends error = IsRefusal before after Ends error
+-- why a commit may: so, where a fault came into a write or a sync
+abbrev pub IsCommitRefusal : Failures → Failures → Type 0 → StoreError → Type 0
+IsCommitRefusal before after Ends (Fault kind) = (before.injected < after.injected) × IsOfChange kind
+IsCommitRefusal before after Ends error = IsRefusal before after Ends error
 
 -- the store has not failed, and this is its history
 abbrev pub IsLiveAt : {R : Type 0} → StoreState R → History → Type 0

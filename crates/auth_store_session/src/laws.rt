@@ -63,22 +63,22 @@ pub fn a_run_in_doubt_goes_on()
         → IsRunInDoubt m before first (requests ++ request ∷ []) (answers ++ answer ∷ []) after next }
 {}
 
-/// A run tells causes that were there: of injected faults at most as many answers as there were faults, and of a cut of
-/// the power none where none was asked for.
+/// A run tells causes that were there: of injected faults as many answers as faults were injected, and of a cut of the
+/// power none where none was asked for.
 pub fn a_run_tells_causes()
     ensures faults { (m : Machine) (before : Power) (first : State) (requests : List Request) (answers : List Answer)
         (after : Power) (last : State) → IsRun m before first requests answers after last
-        → before.injected + faults_told answers ≤ after.injected }
+        → after.injected ≡ before.injected + faults_told answers }
     ensures cuts { (m : Machine) (before : Power) (first : State) (requests : List Request) (answers : List Answer)
         (after : Power) (last : State) → IsRun m before first requests answers after last
-        → IsFalse before.is_asked → AskNoCut requests → TellNoCut answers }
+        → before.left ≡ None → AskNoCut requests → TellNoCut answers }
 {}
 
 /// A cut of the power that stands does so until a crash is asked for, and till then no opening and no commit succeeds.
 pub fn a_cut_stands_until_a_crash()
     ensures { (m : Machine) (before : Power) (first : State) (requests : List Request) (answers : List Answer)
-        (after : Power) (last : State) → IsRun m before first requests answers after last → IsTrue before.is_cut
-        → AskNoCrash requests → AcknowledgeNone answers × IsTrue after.is_cut }
+        (after : Power) (last : State) → IsRun m before first requests answers after last → before.left ≡ Some 0
+        → AskNoCrash requests → AcknowledgeNone answers × (after.left ≡ Some 0) }
 {}
 
 /// A batch that was acknowledged, or that an opening has shown, is in for good, and none goes in before it: the history

@@ -3,6 +3,7 @@
 ghost use Rattle.std.specs.Prelude.{◌≡◌, ◌⊎◌, ◌+◌, ◌++◌, ◌≤◌, ◌<◌, ◌^◌, [], length, true, false, IsFalse, IfOk, IfErr, OnOk, OnErr, IfSome};
 ghost use Rattle.std.specs.Prelude.{List, option_map, Some, None, Err, MatchResult, IsSomeAnd};
 ghost use Rattle.fault_storage_parts.specs.Crc32.{crc32};
+ghost use Rattle.paged_blob.specs.Answers.{IsPowerOff};
 ghost use Rattle.paged_blob.specs.CachedContent.{HoldsPagesOf};
 ghost use Rattle.paged_blob.specs.Caches.{Cache};
 ghost use Rattle.paged_blob.specs.Calls.{Call, content, file_of};
@@ -14,7 +15,7 @@ ghost use Rattle.auth_store_parts.specs.Map.{value_at};
 ghost use Rattle.auth_store_ledger.specs.Store.{IsChunkWidth, commit_after, root_of_history, setting_of_width};
 ghost use Rattle.auth_store_log.specs.Records.{format_of, begun, history_bytes, recovered_log, AreRecorded};
 ghost use Rattle.auth_store_log.specs.Shown.{IsKeptThrough};
-ghost use Rattle.auth_store_session.specs.Machine.{commit_of, PassesLimit};
+ghost use Rattle.auth_store_session.specs.Machine.{commit_of, refusal_of, PassesLimit};
 ghost use Rattle.auth_store_session.specs.Stores.{IsCache, IsLive, IsNoHistory, IsReadRefusal, IsOpenRefusal, IsCommitRefusal, Raises, EndsDisk, EndsOpening, Shows};
 
 use crate::error::StoreError;
@@ -94,8 +95,9 @@ where
     ensures page_size { cache.new.page_size ≡ cache.old.page_size }
     ensures open { (B.failures blob.new).is_open ≡ true }
     ensures settings { (B.failures blob.new).settings ≡ (B.failures blob.old).settings }
-    ensures raised { Raises (B.failures blob.old) (B.failures blob.new) }
-    ensures names { cache.old.next_id ≤ cache.new.next_id }
+    ensures raised { Raises (refusal_of result) (B.failures blob.old) (B.failures blob.new) }
+    ensures left { B.left blob.new ≤ B.left blob.old }
+    ensures names { (cache.old.next_id ≤ cache.new.next_id) × (cache.new.next_id ≤ cache.old.next_id + 3) }
     ensures refused { IfErr result (IsOpenRefusal (B.failures blob.old) (B.failures blob.new)
         (EndsOpening (cache.old.page_size + 12) (K.SIZE, V.SIZE) cache.old.next_id
         (length (content (B.calls blob.old))))
@@ -143,9 +145,11 @@ where
     ensures page_size { cache.new.page_size ≡ cache.old.page_size }
     ensures open { (B.failures blob.new).is_open ≡ true }
     ensures settings { (B.failures blob.new).settings ≡ (B.failures blob.old).settings }
-    ensures raised { Raises (B.failures blob.old) (B.failures blob.new) }
-    ensures names { cache.old.next_id ≤ cache.new.next_id }
-    ensures refused { IfErr result (IsCommitRefusal false (B.failures blob.old) (B.failures blob.new)
+    ensures raised { Raises (refusal_of result) (B.failures blob.old) (B.failures blob.new) }
+    ensures left { B.left blob.new ≤ B.left blob.old }
+    ensures powered { OnOk result (0 < length bytes.now → IsPowerOff (B.failures blob.old) (B.left blob.old) → ⊥) }
+    ensures names { cache.new.next_id ≡ cache.old.next_id }
+    ensures refused { IfErr result (IsCommitRefusal (B.failures blob.old) (B.failures blob.new)
         (EndsDisk (cache.old.page_size + 12) (history_bytes (format_of (K.after tt) (V.after tt) K.SIZE V.SIZE)
         ledger))) }
 {
@@ -157,13 +161,12 @@ where
 }
 
 // Takes a batch with its commit into the history and makes it durable. Refused before anything is appended, what was
-// handed in comes back; refused later, nothing does, and so it is where a cut stands.
+// handed in comes back; refused later, nothing does.
 fn grow_live<B, F, H, K, V, const N: usize>(
     mut ledger: Ledger<F, H, K, V, N>,
     writer: Writer<Crc32>,
     blob: &mut B,
     cache: &mut CacheRef,
-    is_cut: bool,
     batch: Batch<K, V>,
     metadata: Option<V>,
 ) -> Result<Live<F, H, K, V, N>, (Option<Live<F, H, K, V, N>>, StoreError)>
@@ -181,7 +184,9 @@ where
         cache.new) }
     ensures next { let said = words.meanings K.encoding V.encoding batch.words.items in
         let next = commit_after said (option_map V.encoding metadata) ledger in
-        IfOk result (λ now. (now.history ≡ next) × (length (log_of next) ≤ 2 ^ 62) × IsFalse is_cut) }
+        IfOk result (λ now. (now.history ≡ next) × (length (log_of next) ≤ 2 ^ 62)) }
+    // Under a cut of the power nothing is made durable.
+    ensures powered { OnOk result (IsPowerOff (B.failures blob.old) (B.left blob.old) → ⊥) }
     ensures kept { IfErr result (λ refused. IfSome refused.0 (λ kept. (kept.history ≡ ledger)
         × IsLive (format_of (K.after tt) (V.after tt) K.SIZE V.SIZE) (B.calls blob.new) cache.new kept)) }
     ensures failed { let said = words.meanings K.encoding V.encoding batch.words.items in
@@ -191,17 +196,18 @@ where
         (Some (commit_of said noted ledger)) (B.calls blob.new)) }
     ensures refused { let said = words.meanings K.encoding V.encoding batch.words.items in
         let next = commit_after said (option_map V.encoding metadata) ledger in
-        IfErr result (λ refused. IsCommitRefusal is_cut (B.failures blob.old) (B.failures blob.new)
+        IfErr result (λ refused. IsCommitRefusal (B.failures blob.old) (B.failures blob.new)
         (PassesLimit next ⊎ EndsDisk (cache.old.page_size + 12)
         (history_bytes (format_of (K.after tt) (V.after tt) K.SIZE V.SIZE) next)) refused.1) }
     ensures cache { IsCache cache.new }
     ensures page_size { cache.new.page_size ≡ cache.old.page_size }
     ensures open { (B.failures blob.new).is_open ≡ true }
     ensures settings { (B.failures blob.new).settings ≡ (B.failures blob.old).settings }
-    ensures raised { Raises (B.failures blob.old) (B.failures blob.new) }
-    ensures names { cache.old.next_id ≤ cache.new.next_id }
+    ensures raised { MatchResult result (λ now. Raises None (B.failures blob.old) (B.failures blob.new))
+        (λ refused. Raises (Some refused.1) (B.failures blob.old) (B.failures blob.new)) }
+    ensures left { B.left blob.new ≤ B.left blob.old }
+    ensures names { cache.new.next_id ≡ cache.old.next_id }
     ensures grows { Grows (B.calls blob.old) (B.calls blob.new) }
-    ensures untouched { is_cut ≡ true → blob.new ≡ blob.old }
 {
     each_image_keeps_what_is_durable();
     a_kept_log_is_shown();
@@ -212,9 +218,6 @@ where
     };
     ledger.holds_a_history();
     ledger.is_recorded();
-    if is_cut {
-        return Err((None, StoreError::PowerCut));
-    }
     match append_live(ledger, writer, blob, cache, &bytes) {
         Ok(live) => Ok(live),
         Err(error) => Err((None, error)),
@@ -222,12 +225,11 @@ where
 }
 
 /// Takes a batch with its commit into the history and makes it durable, and answers the new root. Refused before
-/// anything is appended, the store is as it was; refused later, it has failed, and so it has where a cut stands.
+/// anything is appended, the store is as it was; refused later, it has failed.
 pub fn commit_live<B, F, H, K, V, const N: usize>(
     store: &mut Option<Live<F, H, K, V, N>>,
     blob: &mut B,
     cache: &mut CacheRef,
-    is_cut: bool,
     batch: Batch<K, V>,
     metadata: Option<V>,
 ) -> Result<H::Digest, StoreError>
@@ -250,8 +252,9 @@ where
         IfSome store.old (λ was. let next = commit_after said noted was.history in MatchResult result
         (λ root. (H.Digest.encoding root
         ≡ root_of_history (setting_of_width F.merge_rule H.hash_of N) K.SIZE V.SIZE next)
-        × IsSomeAnd store.new (λ now. now.history ≡ next) × (length (log_of next) ≤ 2 ^ 62) × IsFalse is_cut)
-        (λ e. IsCommitRefusal is_cut (B.failures blob.old) (B.failures blob.new) (PassesLimit next
+        × IsSomeAnd store.new (λ now. now.history ≡ next) × (length (log_of next) ≤ 2 ^ 62)
+        × (IsPowerOff (B.failures blob.old) (B.left blob.old) → ⊥))
+        (λ e. IsCommitRefusal (B.failures blob.old) (B.failures blob.new) (PassesLimit next
         ⊎ EndsDisk (cache.old.page_size + 12)
         (history_bytes (format_of (K.after tt) (V.after tt) K.SIZE V.SIZE) next)) e
         × (IsSomeAnd store.new (λ now. now.history ≡ was.history) ⊎ ((store.new ≡ None)
@@ -261,15 +264,15 @@ where
     ensures page_size { cache.new.page_size ≡ cache.old.page_size }
     ensures open { (B.failures blob.new).is_open ≡ true }
     ensures settings { (B.failures blob.new).settings ≡ (B.failures blob.old).settings }
-    ensures raised { Raises (B.failures blob.old) (B.failures blob.new) }
-    ensures names { cache.old.next_id ≤ cache.new.next_id }
+    ensures raised { Raises (refusal_of result) (B.failures blob.old) (B.failures blob.new) }
+    ensures left { B.left blob.new ≤ B.left blob.old }
+    ensures names { cache.new.next_id ≡ cache.old.next_id }
     ensures grows { Grows (B.calls blob.old) (B.calls blob.new) }
-    ensures untouched { is_cut ≡ true → blob.new ≡ blob.old }
 {
     let Some(Live { ledger, writer }) = store.take() else {
         return Err(StoreError::Failed);
     };
-    match grow_live(ledger, writer, blob, cache, is_cut, batch, metadata) {
+    match grow_live(ledger, writer, blob, cache, batch, metadata) {
         Ok(live) => {
             let root = live.ledger.root();
             *store = Some(live);
@@ -308,8 +311,9 @@ where
     ensures page_size { cache.new.page_size ≡ cache.old.page_size }
     ensures open { (B.failures blob.new).is_open ≡ true }
     ensures settings { (B.failures blob.new).settings ≡ (B.failures blob.old).settings }
-    ensures raised { Raises (B.failures blob.old) (B.failures blob.new) }
-    ensures names { cache.old.next_id ≤ cache.new.next_id }
+    ensures raised { Raises (refusal_of result) (B.failures blob.old) (B.failures blob.new) }
+    ensures left { B.left blob.new ≤ B.left blob.old }
+    ensures names { cache.new.next_id ≡ cache.old.next_id }
     ensures refused { IfErr result (IsReadRefusal (B.failures blob.old) (B.failures blob.new)) }
 {
     let Some(index) = live.ledger.location(key) else {

@@ -638,6 +638,17 @@ where
         self.step_closed(step)
     }
 
+    /// How many faults were injected into the device's calls so far: with each answer S1 one more.
+    pub fn injections(&self) -> u64
+        ensures { result ≡ (power_in self.now.parts self.now.store).injected }
+    {
+        match (&self.parts, &self.store) {
+            (Some((device, _)), _) => device.injections(),
+            (None, Some(store)) => store.injections(),
+            (None, None) => unreachable!(),
+        }
+    }
+
     /// Closes the store, if one is open, and answers device and cache: they stand for the state at rest. It always
     /// succeeds.
     pub fn into_parts(self) -> (Device<R>, CacheRef)

@@ -1,6 +1,6 @@
 //! A store on a disk that fails.
 
-ghost use Rattle.std.specs.Prelude.{◌≡◌, ◌+◌, length, option_map, if◌then◌else◌, Ok, Err, None, Some, true, is_some, IfOk, IfErr, OnOk, IsFalse, MatchResult};
+ghost use Rattle.std.specs.Prelude.{◌≡◌, ◌⊎◌, ◌+◌, length, option_map, Ok, Err, None, Some, true, is_some, IfOk, IfErr, OnOk, IsFalse, MatchResult};
 ghost use Rattle.paged_blob.specs.Moments.{Grows};
 ghost use Rattle.auth_store_parts.specs.Batch as words;
 ghost use Rattle.auth_store_parts.specs.History.{History, latest_map, log_of};
@@ -10,7 +10,7 @@ ghost use Rattle.auth_store_device.specs.Logs.{has_log, HasOwnHeader};
 ghost use Rattle.auth_store_ledger.specs.ProvingCode.{parts_of};
 ghost use Rattle.auth_store_ledger.specs.Store.{IsChunkWidth, floor_of, root_of_history};
 ghost use Rattle.auth_store_log.specs.Records.{format_of};
-ghost use Rattle.auth_store_session.specs.Machine.{machine, proof_of, Leaves, MayRefuseRead};
+ghost use Rattle.auth_store_session.specs.Machine.{machine, proof_of, refusal_of, Leaves, MayRefuseRead};
 ghost use Rattle.auth_store_session.specs.Standing.{Commits, IsOpenError, IsOpenedThrough, IsRecovered, IsShownThrough};
 ghost use Rattle.auth_store_session.specs.Standing.{power_of, result_of, shown_of};
 ghost use Rattle.auth_store_session.specs.Stores.{IsCache, IsLive, IsLiveAt, Shows};
@@ -95,7 +95,7 @@ where
         IsOpenedThrough format (cache.old.page_size + 12) (shown_of device.old) device.old.calls device.new.calls }
     ensures header { HasOwnHeader device.old.storage.inner → HasOwnHeader device.new.storage.inner }
     ensures settings { device.new.storage.config ≡ device.old.storage.config }
-    ensures leaves { Leaves (power_of device.old cache.old) (power_of device.new cache.new) }
+    ensures leaves { Leaves 3 (refusal_of result) (power_of device.old cache.old) (power_of device.new cache.new) }
     ensures cache { IsCache cache.new }
     ensures page_size { cache.new.page_size ≡ cache.old.page_size }
     ensures refused { let format = format_of (K.after tt) (V.after tt) K.SIZE V.SIZE in
@@ -110,16 +110,6 @@ where
     live.ledger.holds_a_history();
     live.ledger.is_recorded();
     Ok(live)
-}
-
-// Has a cut that stood before a read stand behind it. No read ends one, which is not said of the reads of any blob: this
-// changes nothing.
-fn keep_cut<R: Rng + Drop>(device: &mut Device<R>, stood: bool)
-    ensures { device.new ≡ record device.old { left = if stood then Some 0 else device.old.left } }
-{
-    if stood {
-        device.cut_after(0);
-    }
 }
 
 impl<R, F, H, K, V, const N: usize> Store<R, F, H, K, V, N>
@@ -160,8 +150,8 @@ where
         ensures settings { MatchResult result (λ store. store.device.storage.config ≡ device.storage.config)
             (λ refused. refused.device.storage.config ≡ device.storage.config) }
         ensures leaves { MatchResult result
-            (λ store. Leaves (power_of device cache) (power_of store.device store.cache))
-            (λ refused. Leaves (power_of device cache) (power_of refused.device refused.cache)) }
+            (λ store. Leaves 3 None (power_of device cache) (power_of store.device store.cache))
+            (λ refused. Leaves 3 (Some refused.error) (power_of device cache) (power_of refused.device refused.cache)) }
         ensures cache { IfErr result (λ refused. IsCache refused.cache
             × (refused.cache.page_size ≡ cache.page_size)) }
         ensures refused { let format = format_of (K.after tt) (V.after tt) K.SIZE V.SIZE in
@@ -207,16 +197,14 @@ where
         ensures failed { self.old.live ≡ None → (result ≡ Err StoreError.Failed) × (self.new ≡ self.old) }
         ensures page_size { self.new.cache.page_size ≡ self.old.cache.page_size }
         ensures settings { self.new.device.storage.config ≡ self.old.device.storage.config }
-        ensures leaves { Leaves (power_of self.old.device self.old.cache)
+        ensures leaves { Leaves 0 (refusal_of result) (power_of self.old.device self.old.cache)
             (power_of self.new.device self.new.cache) }
         ensures grows { Grows self.old.device.calls self.new.device.calls }
     {
-        let is_cut = self.device.is_cut();
         let answer = commit_live(
             &mut self.live,
             &mut self.device,
             &mut self.cache,
-            is_cut,
             batch,
             metadata,
         );
@@ -236,16 +224,14 @@ where
         ensures failed { self.old.live ≡ None → (result ≡ Err StoreError.Failed) × (self.new ≡ self.old) }
         ensures page_size { self.new.cache.page_size ≡ self.old.cache.page_size }
         ensures settings { self.new.device.storage.config ≡ self.old.device.storage.config }
-        ensures leaves { Leaves (power_of self.old.device self.old.cache)
+        ensures leaves { Leaves 0 (refusal_of result) (power_of self.old.device self.old.cache)
             (power_of self.new.device self.new.cache) }
         ensures calls { self.new.device.calls ≡ self.old.device.calls }
     {
         let Some(live) = &self.live else {
             return Err(StoreError::Failed);
         };
-        let is_cut = self.device.is_cut();
         let answer = get_live(self.alloc, live, &mut self.device, &mut self.cache, key);
-        keep_cut(&mut self.device, is_cut);
         self.device.refuses_only_under_a_cut();
         answer
     }
@@ -257,6 +243,7 @@ where
             (history : History) → IsLiveAt self.now history → result_of H.Digest.encoding result
             ≡ Ok (root_of_history m.setting K.SIZE V.SIZE history) }
         ensures failed { self.now.live ≡ None → result ≡ Err StoreError.Failed }
+        ensures err { IfErr result (λ e. e ≡ StoreError.Failed) }
     {
         let live = self.live.as_ref().ok_or(StoreError::Failed)?;
         Ok(live.ledger.root())
@@ -266,6 +253,7 @@ where
     pub fn commits(&self) -> Result<u64, StoreError>
         ensures count { (history : History) → IsLiveAt self.now history → result ≡ Ok (length history) }
         ensures failed { self.now.live ≡ None → result ≡ Err StoreError.Failed }
+        ensures err { IfErr result (λ e. e ≡ StoreError.Failed) }
     {
         let live = self.live.as_ref().ok_or(StoreError::Failed)?;
         Ok(live.ledger.commits())
@@ -275,6 +263,7 @@ where
     pub fn floor(&self) -> Result<u64, StoreError>
         ensures floor { (history : History) → IsLiveAt self.now history → result ≡ Ok (floor_of history) }
         ensures failed { self.now.live ≡ None → result ≡ Err StoreError.Failed }
+        ensures err { IfErr result (λ e. e ≡ StoreError.Failed) }
     {
         let live = self.live.as_ref().ok_or(StoreError::Failed)?;
         Ok(live.ledger.floor())
@@ -284,6 +273,7 @@ where
     pub fn len(&self) -> Result<u64, StoreError>
         ensures count { (history : History) → IsLiveAt self.now history → result ≡ Ok (length (log_of history)) }
         ensures failed { self.now.live ≡ None → result ≡ Err StoreError.Failed }
+        ensures err { IfErr result (λ e. e ≡ StoreError.Failed) }
     {
         let live = self.live.as_ref().ok_or(StoreError::Failed)?;
         Ok(live.ledger.len())
@@ -299,6 +289,7 @@ where
         ensures refused { (history : History) → IsLiveAt self.now history
             → IfErr result (λ e. e ≡ StoreError.Memory) }
         ensures failed { self.now.live ≡ None → result ≡ Err StoreError.Failed }
+        ensures err { IfErr result (λ e. (e ≡ StoreError.Memory) ⊎ (e ≡ StoreError.Failed)) }
     {
         let live = self.live.as_ref().ok_or(StoreError::Failed)?;
         Ok(live.ledger.prove_key(key)?)
@@ -309,6 +300,13 @@ where
         ensures { result ≡ self.now.device.storage.config }
     {
         self.device.config()
+    }
+
+    /// How many faults were injected into the device's calls so far, also of a store that has failed.
+    pub fn injections(&self) -> u64
+        ensures { result ≡ self.now.device.storage.injections }
+    {
+        self.device.injections()
     }
 
     /// Other settings from now on, also of a store that has failed.

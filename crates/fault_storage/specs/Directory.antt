@@ -124,6 +124,14 @@ removed_partition partition store = record store {
 abbrev pub names_in : List ℕ → List StoredFile → List (List ℕ)
 names_in partition files = map (λ stored. stored.name.1) (filter (is_in partition) files)
 
+-- the partition is there, under a valid name
+abbrev pub HasPartition : List ℕ → Store → Type 0
+HasPartition partition store = (is_partition_name partition ≡ true) × (has_partition partition store.partitions ≡ true)
+
+-- and in it a file of the name
+abbrev pub HasFile : List ℕ → List ℕ → Store → Type 0
+HasFile partition name store = HasPartition partition store × (list_any (has_name partition name) store.files ≡ true)
+
 -- the partition is refused: its name is invalid, or there is none
 abbrev pub LacksPartition : List ℕ → Store → Error → Type 0
 LacksPartition partition store e =
@@ -134,8 +142,7 @@ LacksPartition partition store e =
 abbrev pub LacksName : List ℕ → List ℕ → Store → Error → Type 0
 LacksName partition name store e =
     LacksPartition partition store e
-    ⊎ ((e ≡ BlobMissing) × (is_partition_name partition ≡ true) × (has_partition partition store.partitions ≡ true)
-    × (list_any (has_name partition name) store.files ≡ false))
+    ⊎ ((e ≡ BlobMissing) × HasPartition partition store × (list_any (has_name partition name) store.files ≡ false))
 
 -- both layouts are accepted, and files are created in the first
 abbrev pub both_layouts : Layouts
@@ -150,6 +157,12 @@ abbrev pub IsMissing : List ℕ → List ℕ → List StoredFile → Type 0
 IsMissing partition name files =
     (list_any (has_name partition name) files ≡ false)
     ⊎ ((list_any (has_name partition name) files ≡ true) × IsUnmade (front_of (durable_in partition name files)) (length (durable_in partition name files)))
+
+-- there is a file of a name, which is neither under eight bytes nor what a crash in its creation left
+abbrev pub IsMade : List ℕ → List ℕ → List StoredFile → Type 0
+IsMade partition name files =
+    (list_any (has_name partition name) files ≡ true)
+    × (IsUnmade (front_of (durable_in partition name files)) (length (durable_in partition name files)) → ⊥)
 
 -- the handle of a blob that is created
 abbrev pub new_handle : ℕ → Versions → Handle
@@ -170,11 +183,18 @@ abbrev pub fault_in : List ℕ → List ℕ → Versions → List StoredFile →
 fault_in partition name versions files = let bytes = durable_in partition name files in first_fault
     (file_checks both_layouts versions (front_of bytes) (length bytes))
 
+-- why an opening under a valid name is refused: the header of a file that is there, the end of numbers where one would be given, or memory
+abbrev pub RefusesOpening : Store → List ℕ → List ℕ → Versions → Error → Type 0
+RefusesOpening store partition name versions e =
+    ((fault : HeaderError) × IsMade partition name store.files × (e ≡ Header fault) × (fault_in partition name versions store.files ≡ Some fault))
+    ⊎ ((e ≡ NumberEnded) × IsMissing partition name store.files × (store.next ≡ 2 ^ 64 - 1))
+    ⊎ (e ≡ Memory)
+
 -- what an opening gives of a blob that is there, or that it creates, and why it is refused
 abbrev pub MemoryOpens : Store → List ℕ → List ℕ → Versions → Result (Opened Handle) Error → Store → Type 0
 MemoryOpens old partition name versions result new = MatchResult result
     (λ opened. (is_partition_name partition ≡ true)
-    × (((list_any (has_name partition name) old.files ≡ true) × (fault_in partition name versions old.files ≡ None)
+    × ((IsMade partition name old.files × (fault_in partition name versions old.files ≡ None)
     × (opened ≡ record {
       blob = handle_in partition name old.files;
       size = (shown_in partition name old.files).size;
@@ -187,10 +207,7 @@ MemoryOpens old partition name versions result new = MatchResult result
     × (new ≡ placed partition name (created V0 versions.greatest) old))))
     (λ e. (new ≡ old)
     × (((e ≡ PartitionNameInvalid) × (is_partition_name partition ≡ false))
-    ⊎ ((fault : HeaderError) × (list_any (has_name partition name) old.files ≡ true) × (e ≡ Header fault)
-    × (fault_in partition name versions old.files ≡ Some fault))
-    ⊎ ((e ≡ NumberEnded) × (old.next ≡ 2 ^ 64 - 1))
-    ⊎ (e ≡ Memory)))
+    ⊎ ((is_partition_name partition ≡ true) × RefusesOpening old partition name versions e)))
 
 -- what the making of a file anew gives: its number
 abbrev pub MemoryPlaces : List ℕ → List ℕ → List ℕ → Store → Result ℕ Error → Store → Type 0
@@ -201,10 +218,8 @@ MemoryPlaces partition name bytes old result new = MatchResult result
 -- what a listing gives, and why it is refused
 abbrev pub MemoryScans : List ℕ → Store → Result (Vec (Vec ℕ Global) Global) Error → Store → Type 0
 MemoryScans partition old result new = (new ≡ old) × MatchResult result
-    (λ names. (is_partition_name partition ≡ true) × (has_partition partition old.partitions ≡ true)
-    × (map (λ name. name.items) names.items ≡ names_in partition old.files))
-    (λ e. LacksPartition partition old e
-    ⊎ ((e ≡ Memory) × (is_partition_name partition ≡ true) × (has_partition partition old.partitions ≡ true)))
+    (λ names. HasPartition partition old × (map (λ name. name.items) names.items ≡ names_in partition old.files))
+    (λ e. LacksPartition partition old e ⊎ ((e ≡ Memory) × HasPartition partition old))
 
 -- what a read gives
 abbrev pub MemoryReads : Handle → ℕ → ℕ → Store → Result (Vec ℕ Global) Error → Store → Type 0
@@ -244,7 +259,8 @@ MemorySyncs handle old result new = MatchResult result
 -- what a removal gives
 abbrev pub MemoryRemoves : Store → List ℕ → Option (List ℕ) → Result Unit Error → Store → Type 0
 MemoryRemoves old partition None result new =
-    MatchResult result (λ _. new ≡ removed_partition partition old) (λ e. (new ≡ old) × LacksPartition partition old e)
+    MatchResult result (λ _. (new ≡ removed_partition partition old) × HasPartition partition old)
+    (λ e. (new ≡ old) × LacksPartition partition old e)
 MemoryRemoves old partition (Some name) result new =
-    MatchResult result (λ _. (new ≡ removed partition name old) × (list_any (has_name partition name) old.files ≡ true))
+    MatchResult result (λ _. (new ≡ removed partition name old) × HasFile partition name old)
     (λ e. (new ≡ old) × LacksName partition name old e)

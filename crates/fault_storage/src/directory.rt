@@ -166,6 +166,7 @@ pub fn durable_of(
     ensures none { IfOk result (λ found. IfNone found (list_any (has_name partition.now name.now) files.now ≡ false)) }
     ensures some { IfOk result (λ found. IfSome found (λ it. (list_any (has_name partition.now name.now) files.now ≡ true)
         × (it.number ≡ number_with (has_name partition.now name.now) files.now) × (it.bytes.items ≡ durable_in partition.now name.now files.now))) }
+    ensures err { OnErr result (list_any (has_name partition.now name.now) files.now ≡ true) }
 {
     let Some(place) = place_of_name(files, partition, name) else {
         return Ok(None);

@@ -6,12 +6,11 @@
 //!
 //! A call that answers F8 or F9 has taken no word and changed nothing. The draw comes before every other check of the store.
 
-ghost use Rattle.std.specs.Prelude.{◌≡◌, ◌+◌, ◌-◌, ◌^◌, ◌<◌, ◌⊎◌, Err, Ok, IfErr, OnOk, OnErr, true, length, if◌then◌else◌};
-ghost use Rattle.std.specs.List.{list_any};
+ghost use Rattle.std.specs.Prelude.{◌≡◌, ◌+◌, ◌-◌, ◌^◌, ◌<◌, ◌⊎◌, Err, Ok, IfErr, OnOk, OnErr, length, if◌then◌else◌};
 ghost use Rattle.fault_storage_parts.specs.Draws.{sample};
 ghost use Rattle.fault_storage_parts.specs.DrawsCode.{rate_of};
 ghost use Rattle.fault_storage.specs.Stores.{resizing, without_retired, published, crashed_store};
-ghost use Rattle.fault_storage.specs.Directory.{has_name, admitted, LacksName, MemoryRemoves, MemoryScans, MemoryReads, MemoryFills, MemorySyncs};
+ghost use Rattle.fault_storage.specs.Directory.{admitted, HasFile, LacksName, MemoryRemoves, MemoryScans, MemoryReads, MemoryFills, MemorySyncs};
 ghost use Rattle.fault_storage_parts.specs.declared.error.Call.TheVariants.{Open, Read, Write, Sync, Resize, Remove, Scan};
 ghost use Rattle.fault_storage.specs.Changes.{FaultyWrites, FaultyResizes, is_injected};
 ghost use Rattle.fault_storage.specs.Faults.{IsFaultyCall, FaultyOpens, unwrapped};
@@ -125,9 +124,9 @@ impl<R: Rng> Storage<memory::Storage, R> {
     /// Makes what is durable of the file the base, and forgets its other mutations: what an opening showed stays. F3, F2, F1, F9; no
     /// word is taken. In the Rust: `commonware_runtime::storage::faulty::Storage::admit`.
     pub fn admit(&mut self, partition: &str, name: &[u8]) -> Result<(), Error>
-        ensures ok { OnOk result ((list_any (has_name partition.now name.now) self.old.inner.files ≡ true)
-            × (self.new.inner ≡ admitted partition.now name.now self.old.inner)) }
-        ensures err { IfErr result (λ e. (self.new.inner ≡ self.old.inner) × (LacksName partition.now name.now self.old.inner e ⊎ (e ≡ Error.Memory))) }
+        ensures ok { OnOk result (HasFile partition.now name.now self.old.inner × (self.new.inner ≡ admitted partition.now name.now self.old.inner)) }
+        ensures err { IfErr result (λ e. (self.new.inner ≡ self.old.inner)
+            × (LacksName partition.now name.now self.old.inner e ⊎ ((e ≡ Error.Memory) × HasFile partition.now name.now self.old.inner))) }
         ensures rest { (R.stream self.new.rng ≡ R.stream self.old.rng) × (self.new.injections ≡ self.old.injections) × (self.new.config ≡ self.old.config) }
     {
         self.inner.admit(partition, name)

@@ -1,6 +1,7 @@
 //! Which names are open: a name is opened once at a time, and neither removed nor replaced while it is open.
 
 ghost use Rattle.std.specs.Prelude.{◌≡◌, ℕ, ◌++◌, ◌∷◌, [], true, false, List, Err, Ok, IfOk, IfErr, MatchResult, ◌⊎◌, option_map};
+ghost use Rattle.std.specs.Borrow.{sem, Lends};
 ghost use Rattle.std.specs.Str.{bytes_eq};
 ghost use Rattle.fault_storage.specs.Opens.{Name, is_before, is_name, is_open, is_held, closed};
 
@@ -76,10 +77,36 @@ impl BlobName {
 /// A blob that was opened through [`Opens`], under its name. It has to be closed.
 #[derive(Debug)]
 pub struct OpenBlob<B> {
-    /// The blob, its size and its version.
-    pub opened: Opened<B>,
-    /// Its name.
-    pub name: BlobName,
+    opened: Opened<B>,
+    name: BlobName,
+}
+
+impl<B> OpenBlob<B> {
+    ghost use Rattle.fault_storage.specs.contracts.opens.OpenBlob.{the_row};
+
+    /// The blob, with the size and the version that its opening showed.
+    pub fn opened(&self) -> &Opened<B>
+        ensures { result.now ≡ self.now.opened }
+    {
+        &self.opened
+    }
+
+    /// The blob, lent for a call that changes it.
+    pub fn blob_mut(&mut self) -> &mut B
+        ensures blob { result.now ≡ self.old.opened.blob }
+        ensures* writes_back { sem 𝓛 (Lends (the_row B.row) B.row self.entry result
+            (λ w. record self.old { opened = record self.old.opened { blob = w } })) }
+    {
+        let opened = &mut self.opened;
+        &mut opened.blob
+    }
+
+    /// The name under which it is open.
+    pub fn name(&self) -> &BlobName
+        ensures { result.now ≡ self.now.name }
+    {
+        &self.name
+    }
 }
 
 /// The names that are open. In the Rust: `commonware_runtime::storage::Opens`.

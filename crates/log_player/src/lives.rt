@@ -37,13 +37,8 @@ fn value(alloc: Global, file: Vec<u8>, key: &Name) -> Result<String, StoreError>
     }
 }
 
-// What a store that is recovered of a file answers to a batch, under a cut or not, and whether it stays live.
-fn commit(
-    alloc: Global,
-    file: Vec<u8>,
-    batch: Batch<Name, u64>,
-    is_cut: bool,
-) -> Result<String, Unanswered> {
+// What a store that is recovered of a file answers to a batch, and whether it stays live.
+fn commit(alloc: Global, file: Vec<u8>, batch: Batch<Name, u64>) -> Result<String, Unanswered> {
     let mut disk = MemoryDisk::showing(alloc, file)?;
     let mut cache = CacheRef::new(alloc, 52, 8);
     let len = disk.as_bytes().len() as u64;
@@ -52,7 +47,7 @@ fn commit(
         Err(error) => return refusals::of_store(alloc, error),
     };
     let mut store = Some(live);
-    let told = match commit_live(&mut store, &mut disk, &mut cache, is_cut, batch, None) {
+    let told = match commit_live(&mut store, &mut disk, &mut cache, batch, None) {
         Ok(root) => hex::encode(alloc, root.as_bytes())?,
         Err(error) => refusals::of_store(alloc, error)?,
     };
@@ -82,12 +77,11 @@ pub fn answer(alloc: Global, words: &[&str]) -> Result<String, Unanswered> {
         ["recover", log] => told(alloc, recovery(alloc, file(alloc, log)?)),
         ["begin"] => told(alloc, recovery(alloc, Vec::new(alloc))),
         ["get", log, digits] => told(alloc, value(alloc, file(alloc, log)?, &key(digits)?)),
-        ["commit", log] => commit(alloc, file(alloc, log)?, Batch::new(alloc), false),
-        ["commit", log, "cut"] => commit(alloc, file(alloc, log)?, Batch::new(alloc), true),
+        ["commit", log] => commit(alloc, file(alloc, log)?, Batch::new(alloc)),
         ["commit", log, digits, value] => {
             let mut batch = Batch::new(alloc);
             batch.put(key(digits)?, value.parse()?)?;
-            commit(alloc, file(alloc, log)?, batch, false)
+            commit(alloc, file(alloc, log)?, batch)
         }
         _ => Err(Unanswered::BadLine),
     }

@@ -46,9 +46,27 @@ failures_after (Err (Injected _)) failures = record failures { injected = failur
 failures_after (Err PowerCut) failures = record failures { refused = failures.refused + 1 }
 failures_after (Err _) failures = failures
 
+-- a cut of the power stands: one was asked for, and no more calls are let through
+abbrev pub IsPowerOff : Failures → ℕ → Type 0
+IsPowerOff failures left = (failures.is_asked ≡ true) × (left ≡ 0)
+
 -- a count stands at its last number
 abbrev pub HaveEnded : Failures → Type 0
 HaveEnded failures = (2 ^ 64 ≤ failures.injected + 1) ⊎ (2 ^ 64 ≤ failures.refused + 1)
+
+-- how many of the calls that are let through a call uses up: one, unless it counts as not made
+abbrev pub used_up : {T : Type 0} → Result T Error → ℕ
+used_up (Err PowerCut) = 0
+used_up (Err NumberEnded) = 0
+used_up (Err Memory) = 0
+used_up (Err BlobMissing) = 0
+used_up result = 1
+
+-- Under a cut of the power a call is refused for that, unless a count has ended, and without one it is not.
+abbrev pub MeetsCut : {T : Type 0} → Result T Error → Failures → ℕ → Type 0
+MeetsCut (Err PowerCut) failures left = IsPowerOff failures left
+MeetsCut (Err NumberEnded) failures left = IsPowerOff failures left → HaveEnded failures
+MeetsCut result failures left = IsPowerOff failures left → ⊥
 
 -- a blob's numbers end at 2^64, of which its header may take 4096
 abbrev pub IsPastNumbers : ℕ → Type 0

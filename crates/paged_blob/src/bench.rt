@@ -5,7 +5,7 @@ ghost use Rattle.std.specs.Prelude.{true, false, None, IfOk, OnOk, OnErr};
 ghost use Rattle.paged_blob.specs.Calls.{opened, content, resized, with_bytes};
 ghost use Rattle.paged_blob.specs.Recorded.{calls_of};
 
-use crate::blob::{Blob, WriteMode};
+use crate::blob::{Blob, WriteMode, place_of};
 use crate::error::Error;
 use crate::record::Recorded;
 use std::alloc::{AllocError, Global};
@@ -110,6 +110,8 @@ impl Blob for MemoryDisk {
       settings = None;
     } };
 
+    ghost left = { λ _. 0 };
+
     fn read_at(&mut self, alloc: Global, offset: u64, len: usize) -> Result<Vec<u8>, Error> {
         let Some(end) = (offset as usize).checked_add(len) else {
             return Err(Error::NumberEnded);
@@ -125,10 +127,11 @@ impl Blob for MemoryDisk {
             return Err(Error::NumberEnded);
         }
         let copy = bytes.to_vec(self.alloc)?;
+        let place = place_of(mode, offset, bytes);
         let is_sync = mode == WriteMode::Sync;
         self.record_kept
-            .push(Recorded::Wrote(offset, copy, is_sync, true))?;
-        if put_bytes(&mut self.bytes, offset as usize, bytes).is_err() {
+            .push(Recorded::Wrote(place, copy, is_sync, true))?;
+        if put_bytes(&mut self.bytes, place as usize, bytes).is_err() {
             self.record_kept.pop();
             return Err(Error::Memory);
         }

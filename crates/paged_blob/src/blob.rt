@@ -1,10 +1,10 @@
 //! What a blob is: the list of the calls that were made of it.
 
-ghost use Rattle.std.specs.Prelude.{◌≡◌, ◌+◌, ℕ, List, Bool, map, length, IfOk, IfErr};
+ghost use Rattle.std.specs.Prelude.{◌≡◌, ◌+◌, ◌-◌, ◌≤◌, ℕ, List, Bool, map, length, IfOk, IfErr};
 ghost use Rattle.paged_blob.specs.Calls.{Call, wrote, resized_to, file_of};
-ghost use Rattle.paged_blob.specs.Answers.{Records, RecordsSync, Failures, failures_after, IsCause, IsSlice, IsReadCause};
+ghost use Rattle.paged_blob.specs.Answers.{Records, RecordsSync, Failures, failures_after, IsCause, IsSlice, IsReadCause, used_up, MeetsCut};
 ghost use Rattle.paged_blob.specs.Answers.{AreSlices, IsManyCause};
-ghost use Rattle.paged_blob.specs.WriteModes.{is_sync};
+ghost use Rattle.paged_blob.specs.WriteModes.{is_sync, place_of};
 ghost use Rattle.paged_blob.specs.declared.error.CallKind.TheVariants.{Write, Resize, Sync};
 
 use crate::error::Error;
@@ -19,6 +19,21 @@ pub enum WriteMode {
     Sync,
 }
 
+/// Where a write counts as laid: at its offset, but at the beginning where it has no bytes and is durable at once, since
+/// it then makes no gap (own).
+pub fn place_of(mode: WriteMode, offset: u64, bytes: &[u8]) -> u64
+    ensures is { result ≡ place_of mode offset bytes.now }
+    ensures within { result ≤ offset }
+{
+    match mode {
+        WriteMode::Plain => offset,
+        WriteMode::Sync => match bytes {
+            [] => 0,
+            [_, ..] => offset,
+        },
+    }
+}
+
 /// A blob: bytes that are read, written, resized and made durable. All that is known of it is the list of the calls so
 /// far: what a read finds, what a crash may leave now and at each moment since, and what stood before an opening are
 /// definitions over that list. In the Rust: `commonware_runtime::Blob`.
@@ -30,6 +45,9 @@ pub trait Blob {
     /// whether an opening stands.
     ghost failures: { Self → Failures };
 
+    /// How many more calls are let through until the power is cut, where a cut was asked for.
+    ghost left: { Self → ℕ };
+
     /// So many bytes from an offset on. Where the blob ends before them: F7. While no write or resize has failed they
     /// are a slice of the content; after one has, of some bytes that a crash may leave.
     /// In the Rust: `commonware_runtime::Blob::read_at`, without an allocator.
@@ -37,27 +55,36 @@ pub trait Blob {
         ensures slice { IfOk result (λ bytes. IsSlice (file_of (calls self.old)) offset len bytes.items) }
         ensures cause { IfErr result (IsReadCause (failures self.old) (file_of (calls self.old)) offset len) }
         ensures calls { calls self.new ≡ calls self.old }
-        ensures failures { failures self.new ≡ failures_after result (failures self.old) };
+        ensures failures { failures self.new ≡ failures_after result (failures self.old) }
+        ensures left { left self.new ≡ left self.old - used_up result }
+        ensures cut { MeetsCut result (failures self.old) (left self.old) };
 
     /// Writes bytes at an offset, also past the end; a gap is filled by zeros. Until the next sync that succeeds a
-    /// crash may leave any of them, unless the mode says that they are durable at once.
-    /// In the Rust: `commonware_runtime::Blob::write_at`.
+    /// crash may leave any of them, unless the mode says that they are durable at once. No bytes past the end grow the
+    /// blob in mode `Plain`, and leave it in mode `Sync`. In the Rust: `commonware_runtime::Blob::write_at`.
     fn write_at(&mut self, offset: u64, bytes: &[u8], mode: WriteMode) -> Result<(), Error>
-        ensures calls { Records result (wrote offset bytes.now (is_sync mode)) (calls self.old) (calls self.new) }
+        ensures calls { Records result (wrote (place_of mode offset bytes.now) bytes.now (is_sync mode))
+            (calls self.old) (calls self.new) }
         ensures cause { IfErr result (IsCause (failures self.old) Write (offset + length bytes.now)) }
-        ensures failures { failures self.new ≡ failures_after result (failures self.old) };
+        ensures failures { failures self.new ≡ failures_after result (failures self.old) }
+        ensures left { left self.new ≡ left self.old - used_up result }
+        ensures cut { MeetsCut result (failures self.old) (left self.old) };
 
     /// Cuts the blob to a length, or grows it to that by zeros. In the Rust: `commonware_runtime::Blob::resize`.
     fn resize(&mut self, len: u64) -> Result<(), Error>
         ensures calls { Records result (resized_to len) (calls self.old) (calls self.new) }
         ensures cause { IfErr result (IsCause (failures self.old) Resize len) }
-        ensures failures { failures self.new ≡ failures_after result (failures self.old) };
+        ensures failures { failures self.new ≡ failures_after result (failures self.old) }
+        ensures left { left self.new ≡ left self.old - used_up result }
+        ensures cut { MeetsCut result (failures self.old) (left self.old) };
 
     /// Makes durable what was written. In the Rust: `commonware_runtime::Blob::sync`.
     fn sync(&mut self) -> Result<(), Error>
         ensures calls { RecordsSync result (calls self.old) (calls self.new) }
         ensures cause { IfErr result (IsCause (failures self.old) Sync 0) }
-        ensures failures { failures self.new ≡ failures_after result (failures self.old) };
+        ensures failures { failures self.new ≡ failures_after result (failures self.old) }
+        ensures left { left self.new ≡ left self.old - used_up result }
+        ensures cut { MeetsCut result (failures self.old) (left self.old) };
 
     /// The bytes of each range, an offset and a length: single reads in turn, the first refusal ending them.
     /// In the Rust: `commonware_runtime::Blob::read_many`.
@@ -67,6 +94,7 @@ pub trait Blob {
         ensures cause { IfErr result (IsManyCause (failures self.old) (file_of (calls self.old)) ranges.now) }
         ensures calls { calls self.new ≡ calls self.old }
         ensures failures { failures self.new ≡ failures_after result (failures self.old) }
+        ensures left { left self.new ≤ left self.old }
     {
         let mut all = Vec::new(alloc);
         for (offset, len) in ranges {

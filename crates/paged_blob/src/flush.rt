@@ -122,6 +122,7 @@ pub(crate) fn flush<C: Checksum, B: Blob>(
     ensures cause { IfErr result
         (IsCause (B.failures blob.old) CallKind.Write (first * page_size + physical_size page_size (length content.now))) }
     ensures failures { B.failures blob.new ≡ failures_after result (B.failures blob.old) }
+    ensures left { B.left blob.new ≤ B.left blob.old }
 {
     let pages = physical_bytes::<C>(alloc, page_size, kept, content)?;
     blob.write_at(first * page_size as u64, &pages, WriteMode::Plain)

@@ -48,6 +48,7 @@ fn read_page<B: Blob, C: Checksum>(
     ensures cause { IfErr result (IsCause (B.failures blob.old) Read ((page + 1) * physical_page_size)) }
     ensures calls { B.calls blob.new ≡ B.calls blob.old }
     ensures failures { B.failures blob.new ≡ failures_after result (B.failures blob.old) }
+    ensures left { B.left blob.new ≤ B.left blob.old }
 {
     let size = u64::from(physical_page_size);
     let mut bytes = blob.read_at(alloc, page * size, physical_page_size as usize)?;
@@ -105,6 +106,7 @@ fn page_into<B: Blob, C: Checksum>(
         (pages.len / content_size pages.physical_page_size * pages.physical_page_size)) }
     ensures calls { B.calls blob.new ≡ B.calls blob.old }
     ensures failures { B.failures blob.new ≡ failures_after result (B.failures blob.old) }
+    ensures left { B.left blob.new ≤ B.left blob.old }
 {
     if copy_kept(cache, pages.blob_id, page, from, out) {
         return Ok(());
@@ -144,6 +146,7 @@ fn read_flushed<B: Blob, C: Checksum>(
         (pages.len / content_size pages.physical_page_size * pages.physical_page_size)) }
     ensures calls { B.calls blob.new ≡ B.calls blob.old }
     ensures failures { B.failures blob.new ≡ failures_after result (B.failures blob.old) }
+    ensures left { B.left blob.new ≤ B.left blob.old }
 {
     let room = u64::from(pages.physical_page_size) - 12;
     let mut done = 0;
@@ -194,6 +197,7 @@ pub fn read_into<B: Blob, C: Checksum>(
     ensures others { KeepsOthers cache.old cache.new pages.blob_id }
     ensures calls { B.calls blob.new ≡ B.calls blob.old }
     ensures failures { B.failures blob.new ≡ failures_after result (B.failures blob.old) }
+    ensures left { B.left blob.new ≤ B.left blob.old }
 {
     let Some(end) = offset.checked_add(out.len() as u64) else {
         return Err(Error::BlobInsufficientLength);
@@ -244,6 +248,7 @@ pub fn read_at<B: Blob, C: Checksum>(
     ensures others { KeepsOthers cache.old cache.new pages.blob_id }
     ensures calls { B.calls blob.new ≡ B.calls blob.old }
     ensures failures { B.failures blob.new ≡ failures_after result (B.failures blob.old) }
+    ensures left { B.left blob.new ≤ B.left blob.old }
 {
     let size = pages.len + tip.len() as u64;
     if offset > size || len as u64 > size - offset {
@@ -289,6 +294,7 @@ pub fn read_up_to<B: Blob, C: Checksum>(
     ensures others { KeepsOthers cache.old cache.new pages.blob_id }
     ensures calls { B.calls blob.new ≡ B.calls blob.old }
     ensures failures { B.failures blob.new ≡ failures_after result (B.failures blob.old) }
+    ensures left { B.left blob.new ≤ B.left blob.old }
 {
     let size = pages.len + tip.len() as u64;
     let Some(left) = size.checked_sub(offset) else {

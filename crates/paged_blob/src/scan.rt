@@ -1,6 +1,6 @@
 //! The prefix that is recovered of a blob, found page by page.
 
-ghost use Rattle.std.specs.Prelude.{◌≡◌, min, IsFalse, IfOk, IfErr};
+ghost use Rattle.std.specs.Prelude.{◌≡◌, ◌≤◌, min, IsFalse, IfOk, IfErr};
 ghost use Rattle.paged_format.specs.Footers.{IsPageSize};
 ghost use Rattle.paged_blob.specs.Calls.{file_of};
 ghost use Rattle.paged_blob.specs.Answers.{failures_after, IsReadCause};
@@ -31,6 +31,7 @@ pub fn prefix_of_blob<B: Blob, C: Checksum>(
     ensures cause { IfErr result (IsReadCause (B.failures blob.old) (file_of (B.calls blob.old)) 0 blob_size) }
     ensures calls { B.calls blob.new ≡ B.calls blob.old }
     ensures failures { B.failures blob.new ≡ failures_after result (B.failures blob.old) }
+    ensures left { B.left blob.new ≤ B.left blob.old }
 {
     prefix_of_blob_at_most::<B, C>(
         alloc,
@@ -62,6 +63,7 @@ pub fn prefix_of_blob_at_most<B: Blob, C: Checksum>(
     ensures cause { IfErr result (IsReadCause (B.failures blob.old) (file_of (B.calls blob.old)) 0 blob_size) }
     ensures calls { B.calls blob.new ≡ B.calls blob.old }
     ensures failures { B.failures blob.new ≡ failures_after result (B.failures blob.old) }
+    ensures left { B.left blob.new ≤ B.left blob.old }
 {
     let size = u64::from(physical_page_size);
     let room = size - 12;

@@ -79,6 +79,7 @@ fn hand_over<B: Blob, C: Checksum>(
         Through (Keeps C.checksum_of physical_page_size old count) (B.calls blob.old) (B.calls blob.new) }
     ensures cause { IfErr result (IsCutCause (B.failures blob.old) ((page + 1) * physical_page_size)) }
     ensures failures { B.failures blob.new ≡ failures_after result (B.failures blob.old) }
+    ensures left { B.left blob.new ≤ B.left blob.old }
 {
     let start = page * u64::from(physical_page_size);
     let other = start + slot_start(physical_page_size, other_slot(counted));
@@ -129,6 +130,7 @@ fn leave_one_slot<B: Blob, C: Checksum>(
         Through (Keeps C.checksum_of (length bytes.now) old count) (B.calls blob.old) (B.calls blob.new) }
     ensures cause { IfErr result (IsCutCause (B.failures blob.old) ((page + 1) * length bytes.now)) }
     ensures failures { B.failures blob.new ≡ failures_after result (B.failures blob.old) }
+    ensures left { B.left blob.new ≤ B.left blob.old }
 {
     if stands_alone(bytes, counted, len, crc) {
         return Ok(counted);
@@ -158,6 +160,7 @@ fn cut_behind<B: Blob, C: Checksum>(
         (B.calls blob.old) (B.calls blob.new) }
     ensures cause { IfErr result (IsCutCause (B.failures blob.old) (length (file_of (B.calls blob.old)).base)) }
     ensures failures { B.failures blob.new ≡ failures_after result (B.failures blob.old) }
+    ensures left { B.left blob.new ≤ B.left blob.old }
 {
     blob.resize(pages * u64::from(physical_page_size))?;
     blob.sync()
@@ -193,6 +196,7 @@ fn cut_within<B: Blob, C: Checksum>(
         Through (Keeps C.checksum_of physical_page_size old kept) (B.calls blob.old) (B.calls blob.new) }
     ensures cause { IfErr result (IsCutCause (B.failures blob.old) (length (file_of (B.calls blob.old)).base)) }
     ensures failures { B.failures blob.new ≡ failures_after result (B.failures blob.old) }
+    ensures left { B.left blob.new ≤ B.left blob.old }
 {
     let size = u64::from(physical_page_size);
     let mut bytes = blob.read_at(alloc, page * size, physical_page_size as usize)?;
@@ -215,6 +219,7 @@ fn settle<B: Blob>(blob: &mut B, needs_sync: bool) -> Result<(), Error>
     ensures calls { (B.calls blob.new ≡ B.calls blob.old) ⊎ RecordsSync result (B.calls blob.old) (B.calls blob.new) }
     ensures cause { IfErr result (IsCutCause (B.failures blob.old) 0) }
     ensures failures { B.failures blob.new ≡ failures_after result (B.failures blob.old) }
+    ensures left { B.left blob.new ≤ B.left blob.old }
 {
     if needs_sync {
         return blob.sync();
@@ -251,6 +256,7 @@ pub fn cut_blob<B: Blob, C: Checksum>(
         → Through (Keeps C.checksum_of physical_page_size old (min size synced)) (B.calls blob.old) (B.calls blob.new) }
     ensures cause { IfErr result (IsCutCause (B.failures blob.old) (length (content (B.calls blob.old)))) }
     ensures failures { B.failures blob.new ≡ failures_after result (B.failures blob.old) }
+    ensures left { B.left blob.new ≤ B.left blob.old }
 {
     settle(blob, needs_sync)?;
     let kept = size.min(len);

@@ -2,11 +2,11 @@
 
 ghost use Rattle.std.specs.Prelude.{◌≡◌, ◌⊎◌, ◌+◌, ◌-◌, ◌*◌, ◌/◌, ◌%◌, ◌<◌, ◌≤◌, ◌^◌, ◌++◌, ◌↔◌};
 ghost use Rattle.std.specs.Prelude.{take, drop, length};
-ghost use Rattle.std.specs.Prelude.{false, None, List, IsTrue, IfOk, IfErr, OnOk, OnErr, IfSome, OnSome, IsNone};
+ghost use Rattle.std.specs.Prelude.{false, None, List, Ok, IsTrue, IfOk, IfErr, OnOk, OnErr, IfSome, OnSome, IsNone};
 ghost use Rattle.paged_format.specs.Footers.{IsPageSize, content_size};
 ghost use Rattle.paged_blob.specs.Calls.{Call};
 ghost use Rattle.paged_blob.specs.Moments.{Through};
-ghost use Rattle.paged_blob.specs.Answers.{failures_after, HaveEnded, IsCause, IsPastNumbers};
+ghost use Rattle.paged_blob.specs.Answers.{failures_after, HaveEnded, IsCause, IsPastNumbers, IsPowerOff};
 ghost use Rattle.paged_blob.specs.Flushes.{physical_size, last_slot};
 ghost use Rattle.paged_blob.specs.Writers.{WriterState, written, IsWriter, IsFlushed, Keeps, IsTaken};
 ghost use Rattle.paged_blob.specs.WritersCode.{IsTakingCause};
@@ -110,6 +110,7 @@ impl<C: Checksum, Phase> Writer<C, Phase> {
             (written C.checksum_of (B.calls blob.old) self.old) self.old.synced) (B.calls blob.old) (B.calls blob.new) }
         ensures cause { IfErr result (IsCause (B.failures blob.old) CallKind.Write 0) }
         ensures failures { B.failures blob.new ≡ failures_after result (B.failures blob.old) }
+        ensures left { B.left blob.new ≤ B.left blob.old }
         ensures cache { cache.new ≡ record cache.old { pages = cache.new.pages } }
         ensures cached { OnOk result
             (HoldsPagesOf (written C.checksum_of (B.calls blob.old) self.old) cache.old self.old.blob_id
@@ -161,6 +162,7 @@ impl<C: Checksum, Phase> Writer<C, Phase> {
             (B.calls blob.old) (B.calls blob.new) }
         ensures cause { IfErr result (IsCause (B.failures blob.old) CallKind.Write 0) }
         ensures failures { B.failures blob.new ≡ failures_after result (B.failures blob.old) }
+        ensures left { B.left blob.new ≤ B.left blob.old }
         ensures cache { cache.new ≡ record cache.old { pages = cache.new.pages } }
         ensures cached { OnOk result
             (HoldsPagesOf (written C.checksum_of (B.calls blob.old) self.old) cache.old self.old.blob_id
@@ -196,6 +198,7 @@ impl<C: Checksum, Phase> Writer<C, Phase> {
             (B.calls blob.old) (B.calls blob.new) }
         ensures cause { IfErr result (IsCause (B.failures blob.old) CallKind.Write 0) }
         ensures failures { B.failures blob.new ≡ failures_after result (B.failures blob.old) }
+        ensures left { B.left blob.new ≤ B.left blob.old }
         ensures cache { cache.new ≡ record cache.old { pages = cache.new.pages } }
         ensures cached { HoldsPagesOf (written C.checksum_of (B.calls blob.old) self.old) cache.old self.old.blob_id
             → HoldsPagesOf (written C.checksum_of (B.calls blob.old) self.old ++ bytes.now) cache.new self.old.blob_id }
@@ -240,6 +243,7 @@ impl<C: Checksum, Phase> Writer<C, Phase> {
         ensures ended { IfErr result (λ e. e ≡ Error.NumberEnded
             → (B.calls blob.new ≡ B.calls blob.old) ⊎ HaveEnded (B.failures blob.old)) }
         ensures failures { B.failures blob.new ≡ failures_after result (B.failures blob.old) }
+        ensures left { B.left blob.new ≤ B.left blob.old }
         ensures cache { cache.new ≡ record cache.old { pages = cache.new.pages } }
         // The pages that are kept under the writer's name stay those of its content.
         ensures cached { HoldsPagesOf (written C.checksum_of (B.calls blob.old) self) cache.old self.blob_id
@@ -279,6 +283,7 @@ impl<C: Checksum, Phase> Writer<C, Phase> {
         ensures ended { IfErr result (λ e. e ≡ Error.NumberEnded
             → (B.calls blob.new ≡ B.calls blob.old) ⊎ HaveEnded (B.failures blob.old)) }
         ensures failures { B.failures blob.new ≡ failures_after result (B.failures blob.old) }
+        ensures left { B.left blob.new ≤ B.left blob.old }
         ensures cache { cache.new ≡ record cache.old { pages = cache.new.pages } }
         // The pages that are kept under the writer's name stay those of its content.
         ensures cached { HoldsPagesOf (written C.checksum_of (B.calls blob.old) self) cache.old self.blob_id
@@ -352,6 +357,7 @@ impl<C: Checksum, Phase> Writer<C, Phase> {
             (written C.checksum_of (B.calls blob.old) self.now) self.now.synced) (B.calls blob.old) (B.calls blob.new) }
         ensures cause { IfErr result (IsCause (B.failures blob.old) CallKind.Write 0) }
         ensures failures { B.failures blob.new ≡ failures_after result (B.failures blob.old) }
+        ensures left { B.left blob.new ≤ B.left blob.old }
     {
         if self.tip.is_empty() {
             return Ok(());
@@ -409,6 +415,12 @@ impl<C: Checksum, Phase> Writer<C, Phase> {
         ensures cause { IfErr result (λ e. IsCause (B.failures blob.old) CallKind.Write 0 e
             ⊎ IsCause (B.failures blob.old) CallKind.Sync 0 e) }
         ensures failures { B.failures blob.new ≡ failures_after result (B.failures blob.old) }
+        ensures left { B.left blob.new ≤ B.left blob.old }
+        // No call is made where all is durable, and none goes through under a cut.
+        ensures idle { self.tip.offset + length self.tip.bytes ≤ self.synced
+            → (result ≡ Ok self) × (blob.new ≡ blob.old) × (cache.new ≡ cache.old) }
+        ensures powered { OnOk result (self.synced < self.tip.offset + length self.tip.bytes
+            → IsPowerOff (B.failures blob.old) (B.left blob.old) → ⊥) }
         ensures cache { cache.new ≡ record cache.old { pages = cache.new.pages } }
         // The pages that are kept under the writer's name stay those of its content.
         ensures cached { HoldsPagesOf (written C.checksum_of (B.calls blob.old) self) cache.old self.blob_id
@@ -463,6 +475,7 @@ impl<C: Checksum, Phase> Writer<C, Phase> {
         ensures others { KeepsOthers cache.old cache.new self.now.blob_id }
         ensures calls { B.calls blob.new ≡ B.calls blob.old }
         ensures failures { B.failures blob.new ≡ failures_after result (B.failures blob.old) }
+        ensures left { B.left blob.new ≤ B.left blob.old }
     {
         let pages = self.flushed_pages();
         read_into::<B, C>(
@@ -500,6 +513,7 @@ impl<C: Checksum, Phase> Writer<C, Phase> {
         ensures others { KeepsOthers cache.old cache.new self.now.blob_id }
         ensures calls { B.calls blob.new ≡ B.calls blob.old }
         ensures failures { B.failures blob.new ≡ failures_after result (B.failures blob.old) }
+        ensures left { B.left blob.new ≤ B.left blob.old }
     {
         let pages = self.flushed_pages();
         read_at::<B, C>(
@@ -537,6 +551,7 @@ impl<C: Checksum, Phase> Writer<C, Phase> {
         ensures others { KeepsOthers cache.old cache.new self.now.blob_id }
         ensures calls { B.calls blob.new ≡ B.calls blob.old }
         ensures failures { B.failures blob.new ≡ failures_after result (B.failures blob.old) }
+        ensures left { B.left blob.new ≤ B.left blob.old }
     {
         let pages = self.flushed_pages();
         read_up_to::<B, C>(

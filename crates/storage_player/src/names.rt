@@ -13,7 +13,8 @@ fn opened<B: Drop>(
 ) -> Result<String, Unanswered> {
     match answer {
         Ok(open) => {
-            let (size, version) = (open.opened.size, open.opened.version);
+            let shown = open.opened();
+            let (size, version) = (shown.size, shown.version);
             opens.close(open);
             Ok(format!(in alloc; "{size} {version}")?)
         }

@@ -140,6 +140,17 @@ impl Any {
         }
     }
 
+    /// How many faults were injected into the calls of the device that something has.
+    pub fn injections(&self) -> Result<u64, Unanswered> {
+        match self.taken {
+            Some(Kind::Range) => self.range.injections(),
+            Some(Kind::WideRange) => self.wide_range.injections(),
+            Some(Kind::Belt) => self.belt.injections(),
+            Some(Kind::WideBelt) => self.wide_belt.injections(),
+            None => Err(Unanswered::BadLine),
+        }
+    }
+
     /// What is answered to a step.
     pub fn step(&mut self, alloc: Global, step: Asking) -> Result<String, Unanswered> {
         let answer = match self.taken {

@@ -80,6 +80,15 @@ impl Stores {
         Ok(format!(in alloc; "{}", settings == self.asked.settings())?)
     }
 
+    // How many faults were injected so far.
+    fn injections(&self, alloc: Global) -> Result<String, Unanswered> {
+        let count = match &self.device {
+            Some(device) => device.injections(),
+            None => self.any.injections()?,
+        };
+        Ok(format!(in alloc; "{count}")?)
+    }
+
     // Says settings to what stands.
     fn set(&mut self, alloc: Global, words: &[&str]) -> Result<String, Unanswered> {
         if let Some(device) = &mut self.device {
@@ -125,6 +134,7 @@ impl Player for Stores {
             ["check", ..] | ["turned", ..] | ["shortened", ..] => clients::answer(alloc, words),
             ["apart"] => self.take_apart(alloc),
             ["has", "settings"] => self.has_settings(alloc),
+            ["injections"] => self.injections(alloc),
             ["fault", ..] | ["keep", ..] | ["mode", ..] => self.set(alloc, words),
             ["put", key, value] => self.asked.put(alloc, key, value),
             ["del", key] => self.asked.delete(alloc, key),

@@ -140,6 +140,15 @@ impl<F: Graftable + PendingOf<Root>, const N: usize> Standing<F, N> {
         }
     }
 
+    /// How many faults were injected into the calls of the device.
+    pub fn injections(&self) -> Result<u64, Unanswered> {
+        match self {
+            Standing::Session(session) => Ok(session.injections()),
+            Standing::Store(store) => Ok(store.injections()),
+            Standing::Nothing => Err(Unanswered::BadLine),
+        }
+    }
+
     /// What is answered to a step.
     pub fn step(&mut self, step: Asking) -> Result<Told, Unanswered> {
         match self {

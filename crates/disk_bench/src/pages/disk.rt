@@ -12,6 +12,7 @@ ghost use Rattle.disk_bench.specs.Undone.{calls_from};
 
 use crate::pages::step::Step;
 use paged_blob::bench::{put_bytes, set_length};
+use paged_blob::blob::place_of;
 use paged_blob::{Blob, Error, WriteMode};
 use std::alloc::{AllocError, Global};
 
@@ -64,6 +65,8 @@ impl Blob for UndoDisk {
       settings = None;
     } };
 
+    ghost left = { λ _. 0 };
+
     fn read_at(&mut self, alloc: Global, offset: u64, len: usize) -> Result<Vec<u8>, Error> {
         let Some(end) = (offset as usize).checked_add(len) else {
             return Err(Error::NumberEnded);
@@ -79,11 +82,12 @@ impl Blob for UndoDisk {
             return Err(Error::NumberEnded);
         }
         let size = self.bytes.len();
-        let lost = there(&self.bytes, offset as usize, bytes.len()).to_vec(self.alloc)?;
+        let place = place_of(mode, offset, bytes);
+        let lost = there(&self.bytes, place as usize, bytes.len()).to_vec(self.alloc)?;
         let is_sync = mode == WriteMode::Sync;
-        let step = Step::Wrote(offset, bytes.len(), is_sync, size, lost);
+        let step = Step::Wrote(place, bytes.len(), is_sync, size, lost);
         self.steps.push(step)?;
-        if put_bytes(&mut self.bytes, offset as usize, bytes).is_err() {
+        if put_bytes(&mut self.bytes, place as usize, bytes).is_err() {
             self.steps.pop();
             return Err(Error::Memory);
         }

@@ -8,7 +8,7 @@ ghost use Rattle.fault_storage_parts.specs.declared.error.HeaderError.{HeaderErr
 ghost use Rattle.fault_storage_parts.specs.declared.header.Layout.TheVariants.{V0};
 ghost use Rattle.fault_storage_parts.specs.Headers.{created};
 ghost use Rattle.fault_storage.specs.Faults.{IsDrawnCall};
-ghost use Rattle.fault_storage.specs.Directory.{durable_in, MemoryOpens, MemoryPlaces, MemoryRemoves, MemoryScans, IsMissing, fault_in, handle_in, shown_in, new_handle, has_name, has_partition, placed, admitted, removed, removed_partition, LacksName, LacksPartition};
+ghost use Rattle.fault_storage.specs.Directory.{durable_in, MemoryOpens, MemoryPlaces, MemoryRemoves, MemoryScans, IsMissing, fault_in, handle_in, shown_in, new_handle, has_name, has_partition, placed, admitted, removed, removed_partition, HasFile, HasPartition, IsMade, LacksName, LacksPartition};
 ghost use Rattle.fault_storage_parts.specs.Revisions.{kept_of, shortened};
 ghost use Rattle.fault_storage.specs.Stores.{revised, withdrawn, Store, is_there, without_retired, issued, published, crashed_store};
 
@@ -133,9 +133,8 @@ impl Storage {
 
     // Whether the partition is there: F3, F2.
     fn find_partition(&self, partition: &str) -> Result<(), Error>
-        ensures ok { OnOk result ((is_partition_name partition.now ≡ true) × (has_partition partition.now self.now.partitions ≡ true)) }
-        ensures err { IfErr result (λ e. ((e ≡ Error.PartitionNameInvalid) × (is_partition_name partition.now ≡ false))
-            ⊎ ((e ≡ Error.PartitionMissing) × (is_partition_name partition.now ≡ true) × (has_partition partition.now self.now.partitions ≡ false))) }
+        ensures ok { OnOk result (HasPartition partition.now self.now) }
+        ensures err { IfErr result (LacksPartition partition.now self.now) }
     {
         validate_partition_name(partition)?;
         if !has_partition(&self.partitions, partition) {
@@ -146,7 +145,7 @@ impl Storage {
 
     /// Removes the blob of this name. F3, F2, F1 (there is no such blob). In the Rust: `commonware_runtime::Storage::remove`.
     pub fn remove_blob(&mut self, partition: &str, name: &[u8]) -> Result<(), Error>
-        ensures ok { OnOk result ((self.new ≡ removed partition.now name.now self.old) × (list_any (has_name partition.now name.now) self.old.files ≡ true)) }
+        ensures ok { OnOk result ((self.new ≡ removed partition.now name.now self.old) × HasFile partition.now name.now self.old) }
         ensures err { IfErr result (λ e. (self.new ≡ self.old) × LacksName partition.now name.now self.old e) }
     {
         self.find_partition(partition)?;
@@ -159,7 +158,7 @@ impl Storage {
 
     /// Removes the partition with all its blobs. F3, F2. In the Rust: `commonware_runtime::Storage::remove`.
     pub fn remove_all(&mut self, partition: &str) -> Result<(), Error>
-        ensures ok { OnOk result (self.new ≡ removed_partition partition.now self.old) }
+        ensures ok { OnOk result ((self.new ≡ removed_partition partition.now self.old) × HasPartition partition.now self.old) }
         ensures err { IfErr result (λ e. (self.new ≡ self.old) × LacksPartition partition.now self.old e) }
     {
         self.find_partition(partition)?;
@@ -241,8 +240,9 @@ impl Storage {
     /// Makes what is durable of the file the base, and forgets its other mutations: what an opening showed stays. F3, F2, F1, F9.
     /// In the Rust: `commonware_runtime::storage::faulty::Storage::admit`.
     pub fn admit(&mut self, partition: &str, name: &[u8]) -> Result<(), Error>
-        ensures ok { OnOk result ((list_any (has_name partition.now name.now) self.old.files ≡ true) × (self.new ≡ admitted partition.now name.now self.old)) }
-        ensures err { IfErr result (λ e. (self.new ≡ self.old) × (LacksName partition.now name.now self.old e ⊎ (e ≡ Error.Memory))) }
+        ensures ok { OnOk result (HasFile partition.now name.now self.old × (self.new ≡ admitted partition.now name.now self.old)) }
+        ensures err { IfErr result (λ e. (self.new ≡ self.old)
+            × (LacksName partition.now name.now self.old e ⊎ ((e ≡ Error.Memory) × HasFile partition.now name.now self.old))) }
     {
         self.find_partition(partition)?;
         let Some(durable) = durable_of(self.alloc, &self.files, partition, name)? else {
@@ -256,9 +256,9 @@ impl Storage {
     /// What is durable of the file of this name, its header first. F3, F2, F1, F9.
     /// In the Rust: `commonware_runtime::storage::memory::Storage::raw_blob`.
     pub fn raw_blob(&self, partition: &str, name: &[u8]) -> Result<Vec<u8>, Error>
-        ensures ok { IfOk result (λ bytes. (list_any (has_name partition.now name.now) self.now.files ≡ true)
+        ensures ok { IfOk result (λ bytes. HasFile partition.now name.now self.now
             × (bytes.items ≡ durable_in partition.now name.now self.now.files)) }
-        ensures err { IfErr result (λ e. LacksName partition.now name.now self.now e ⊎ (e ≡ Error.Memory)) }
+        ensures err { IfErr result (λ e. LacksName partition.now name.now self.now e ⊎ ((e ≡ Error.Memory) × HasFile partition.now name.now self.now)) }
     {
         self.find_partition(partition)?;
         match durable_of(self.alloc, &self.files, partition, name)? {
@@ -290,13 +290,13 @@ impl Storage {
         versions: Versions,
     ) -> Result<Option<Opened<Blob>>, Error>
         ensures none { IfOk result (λ found. IfNone found (IsMissing partition.now name.now self.now.files)) }
-        ensures some { IfOk result (λ found. IfSome found (λ opened. (list_any (has_name partition.now name.now) self.now.files ≡ true)
+        ensures some { IfOk result (λ found. IfSome found (λ opened. IsMade partition.now name.now self.now.files
             × (fault_in partition.now name.now versions self.now.files ≡ None) × (opened.blob ≡ handle_in partition.now name.now self.now.files)
             × (opened.size ≡ (shown_in partition.now name.now self.now.files).size)
             × (opened.version ≡ (shown_in partition.now name.now self.now.files).version))) }
-        ensures err { IfErr result (λ e. ((fault : HeaderError)
-            × (list_any (has_name partition.now name.now) self.now.files ≡ true) × (e ≡ Error.Header fault)
-            × (fault_in partition.now name.now versions self.now.files ≡ Some fault)) ⊎ (e ≡ Error.Memory)) }
+        ensures err { IfErr result (λ e. ((fault : HeaderError) × IsMade partition.now name.now self.now.files × (e ≡ Error.Header fault)
+            × (fault_in partition.now name.now versions self.now.files ≡ Some fault))
+            ⊎ ((e ≡ Error.Memory) × (list_any (has_name partition.now name.now) self.now.files ≡ true))) }
     {
         let Some(durable) = durable_of(self.alloc, &self.files, partition, name)? else {
             return Ok(None);

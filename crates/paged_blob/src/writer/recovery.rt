@@ -62,6 +62,7 @@ impl<C: Checksum> Writer<C, Recovering> {
             ⊎ ((e ≡ Error.NumberEnded) × (cache.old.next_id + 1 ≡ 2 ^ 64))) }
         ensures calls { B.calls blob.new ≡ B.calls blob.old }
         ensures failures { B.failures blob.new ≡ failures_after result (B.failures blob.old) }
+        ensures left { B.left blob.new ≤ B.left blob.old }
     {
         let page_size = cache.page_size() as usize + 12;
         let len = prefix_of_blob::<B, C>(alloc, blob, page_size as u32, blob_size, 0, capacity)?;
@@ -148,6 +149,7 @@ impl<C: Checksum> Writer<C, Recovering> {
             ⊎ ((e ≡ Error.NumberEnded) × ((cache.old.next_id + 1 ≡ 2 ^ 64)
             ⊎ (2 ^ 64 ≤ physical_size self.page_size (min size (self.tip.offset + length self.tip.bytes)) + 4096)))) }
         ensures failures { B.failures blob.new ≡ failures_after result (B.failures blob.old) }
+        ensures left { B.left blob.new ≤ B.left blob.old }
     {
         let len = self.size();
         let kept = size.min(len);
@@ -226,6 +228,7 @@ impl<C: Checksum> Writer<C> {
             ⊎ ((e ≡ Error.NumberEnded) × ((2 ^ 64 ≤ cache.old.next_id + 2)
             ⊎ (2 ^ 64 ≤ physical_size (cache.old.page_size + 12) (length old) + 4096)))) }
         ensures failures { B.failures blob.new ≡ failures_after result (B.failures blob.old) }
+        ensures left { B.left blob.new ≤ B.left blob.old }
     {
         let recovery = Recovery::<C>::open(alloc, blob, cache, blob_size, capacity)?;
         let size = recovery.size();
@@ -251,6 +254,7 @@ impl<C: Checksum, Phase> Writer<C, Phase> {
         ensures cause { IfErr result (IsReadCause (B.failures blob.old) (file_of (B.calls blob.old)) 0 blob_size) }
         ensures calls { B.calls blob.new ≡ B.calls blob.old }
         ensures failures { B.failures blob.new ≡ failures_after result (B.failures blob.old) }
+        ensures left { B.left blob.new ≤ B.left blob.old }
     {
         let page_size = self.page_size as u32;
         prefix_of_blob::<B, C>(self.alloc, blob, page_size, blob_size, proven, buffer_size)
@@ -271,6 +275,7 @@ impl<C: Checksum, Phase> Writer<C, Phase> {
         ensures cause { IfErr result (IsReadCause (B.failures blob.old) (file_of (B.calls blob.old)) 0 blob_size) }
         ensures calls { B.calls blob.new ≡ B.calls blob.old }
         ensures failures { B.failures blob.new ≡ failures_after result (B.failures blob.old) }
+        ensures left { B.left blob.new ≤ B.left blob.old }
     {
         let page_size = self.page_size as u32;
         let alloc = self.alloc;

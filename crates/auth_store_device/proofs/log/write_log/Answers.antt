@@ -1,7 +1,7 @@
 use Rattle.std.proofs.Common.{rules, ◌≡◌, ◌∷◌, true, false}
 use Rattle.paged_blob.specs.Calls.{wrote}
 use Rattle.auth_store_device.specs.Records.{calls_of}
-use Rattle.paged_blob.specs.WriteModes.{is_sync}
+use Rattle.paged_blob.specs.WriteModes.{is_sync, place_of}
 use Rattle.auth_store_device.specs.Devices.{told_of}
 use Rattle.auth_store_device.proofs.Changes.{write_made, write_failed}
 use Rattle.auth_store_device.specs.declared.log.Told.TheVariants.{Made, Failed}
@@ -10,7 +10,7 @@ use Rattle.auth_store_device.proofs.log.write_log.Goals as goal
 pub returns-in-Made-clause-stands : goal.returns-in-Made-clause-stands
 returns-in-Made-clause-stands g c =
     let told : told_of c.write_at.result ≡ Made = search rules in
-    let recorded : calls_of c.note_write.new.self ≡ wrote c.args.offset c.args.bytes.now
+    let recorded : calls_of c.note_write.new.self ≡ wrote (place_of c.args.mode c.args.offset c.args.bytes.now) c.args.bytes.now
     (is_sync c.args.mode) true ∷ calls_of c.args.record_kept.now =
     search rules in
     write_made g.R.Rng.stream c.args.log.now c.write_at.new.self c.args.offset c.args.bytes.now c.args.mode c.args.storage.now c.write_at.new.storage
@@ -20,7 +20,7 @@ returns-in-Made-clause-stands g c =
 pub returns-in-Failed-clause-stands : goal.returns-in-Failed-clause-stands
 returns-in-Failed-clause-stands g c =
     let told : told_of c.write_at.result ≡ Failed = search rules in
-    let recorded : calls_of c.note_write-in-Failed.new.self ≡ wrote c.args.offset c.args.bytes.now
+    let recorded : calls_of c.note_write-in-Failed.new.self ≡ wrote (place_of c.args.mode c.args.offset c.args.bytes.now) c.args.bytes.now
     (is_sync c.args.mode) false ∷ calls_of c.args.record_kept.now =
     search rules in
     write_failed g.R.Rng.stream c.args.log.now c.write_at.new.self c.args.offset c.args.bytes.now c.args.mode c.args.storage.now

@@ -1,7 +1,14 @@
-use Rattle.std.proofs.Common.{◌≡◌, ℕ, ◌++◌, List, ap, subst, arith}
+use Rattle.std.proofs.Common.{◌≡◌, ℕ, ◌+◌, ◌++◌, ◌∙◌, List, Option, length, length-append, ap, subst, arith}
+use Rattle.std.proofs.lemmas.List.{length-drop}
+use Rattle.std.proofs.lemmas.Result.{on_ok_weaker}
+use Rattle.paged_format.specs.Tips.{Tip}
+use Rattle.paged_blob.specs.Answers.{Failures}
+use Rattle.paged_blob.specs.CachedContent.{KeepsOthers}
+use Rattle.paged_blob.specs.declared.flush.DurableSlot.{DurableSlot}
+use Rattle.paged_blob.proofs.CachedLaws.{others_joined}
 use Rattle.paged_blob.specs.Calls.{Call}
 use Rattle.paged_blob.specs.Moments.{Through}
-use Rattle.paged_blob.specs.Writers.{written, Keeps}
+use Rattle.paged_blob.specs.Writers.{written, Keeps, IsWriterOf}
 use Rattle.paged_blob.specs.Laws.Moments.{joined}
 use Rattle.paged_blob.specs.Caches.{Cache}
 use Rattle.auth_store_log.proofs.Causes.{names_kept}
@@ -15,6 +22,12 @@ kept_as sum old new size other_size content other synced other_synced sizes cont
     subst (λ n. Through (Keeps sum other_size other n) old new) syncs
     (subst (λ l. Through (Keeps sum other_size l synced) old new) contents
     (subst (λ n. Through (Keeps sum n content synced) old new) sizes kept))
+
+-- the tip of a writer ends where its content does
+tip_ends : (sum : List ℕ → ℕ) (size : ℕ) (calls : List Call) (content : List ℕ) (synced : ℕ) (tip : Tip) (slot : Option DurableSlot)
+    → IsWriterOf sum size calls content synced tip slot → tip.offset + length tip.bytes ≡ length content
+tip_ends sum size calls content synced tip slot is =
+    omega (arith, is.tip_within, ap length is.tip_bytes, length-drop tip.offset content)
 
 pub returns-clause-any_moment : goal.returns-clause-any_moment
 returns-clause-any_moment g c =
@@ -40,3 +53,25 @@ returns-clause-named g c = λ named given.
     let same = c.in_ok-appended.ensures.same.1 in
     names_kept c.append.new.cache c.sync.new.cache w.blob_id c.sync.ensures.others (omega (arith, two)) (omega (arith, same, given, one))
     (names_kept c.args.cache.now c.append.new.cache c.args.writer.blob_id c.append.ensures.others (omega (arith, one)) given named)
+
+pub returns-clause-powered : goal.returns-clause-powered
+returns-clause-powered g c =
+    let sum = g.C.Checksum.checksum_of in
+    let old = g.B.Blob.calls c.args.blob.now in
+    let mid = g.B.Blob.calls c.append.new.blob in
+    let before = c.args.writer in
+    let w = c.in_ok-appended.appended in
+    let there = c.in_ok-appended.ensures in
+    on_ok_weaker c.sync.result
+    (λ powered some off.
+    let long = tip_ends sum w.page_size mid (written sum mid w) w.synced w.tip w.slot there.writer in
+    let within = c.requires.writer.kept.within in
+    let more = ap length there.content ∙ length-append (written sum old before) c.args.bytes.now in
+    let asked = ap (λ (f : Failures). f.is_asked) there.failures in
+    powered (omega (arith, long, within, more, there.synced, some)) (asked ∙ off.0, omega (arith, off.1, c.append.ensures.left)))
+    c.sync.ensures.powered
+
+pub returns-clause-others : goal.returns-clause-others
+returns-clause-others g c =
+    others_joined c.args.cache.now c.append.new.cache c.sync.new.cache c.args.writer.blob_id c.append.ensures.others
+    (subst (KeepsOthers c.append.new.cache c.sync.new.cache) c.in_ok-appended.ensures.same.1 c.sync.ensures.others)

@@ -1,4 +1,4 @@
-use Rattle.std.proofs.Common.{◌≡◌, ◌∙◌, ◌+◌, ap, sym, subst, false, length, length-append, arith}
+use Rattle.std.proofs.Common.{◌≡◌, ◌∙◌, ◌+◌, Some, ap, sym, subst, length, length-append, arith}
 use Rattle.std.specs.Prelude.{IfErr}
 use Rattle.std.proofs.lemmas.Result.{err_from_is_err_and}
 use Rattle.fault_storage_parts.specs.Crc32.{crc32}
@@ -10,9 +10,10 @@ use Rattle.paged_blob.specs.Flushes.{physical_size}
 use Rattle.paged_blob.specs.Writers.{written}
 use Rattle.auth_store_log.specs.Records.{format_of, history_bytes}
 use Rattle.auth_store_session.specs.declared.error.StoreError.{StoreError}
-use Rattle.auth_store_session.specs.Stores.{IsCommitRefusal, EndsDisk}
+use Rattle.auth_store_session.specs.Machine.{refusal_of}
+use Rattle.auth_store_session.specs.Stores.{IsCommitRefusal, EndsDisk, Raises}
 use Rattle.auth_store_session.proofs.Refused.{open_after, settings_after, append_refused}
-use Rattle.auth_store_session.proofs.Powers.{raises_by}
+use Rattle.auth_store_session.proofs.Powers.{raises_refused, raises_same}
 use Rattle.auth_store_session.proofs.live.append_live.Goals as goal
 
 pub returns-in_err-appended-clause-open : goal.returns-in_err-appended-clause-open
@@ -34,8 +35,8 @@ returns-in_err-appended-clause-refused g c =
     let p = err_from_is_err_and c.from_residual.result c.from_residual.ensures.1 in
     let why = append_refused (Unit {0}) before (physical_size c.args.writer.page_size (length list + length c.args.bytes.now)) e c.requires.open
     c.in_err-appended.ensures.cause in
-    subst (λ r. IfErr r (IsCommitRefusal false before (g.B.Blob.failures c.append_batch.new.blob) (EndsDisk size log))) (sym p.1)
-    (subst (λ (x : StoreError). IsCommitRefusal false before (g.B.Blob.failures c.append_batch.new.blob) (EndsDisk size log) x) (sym p.2)
+    subst (λ r. IfErr r (IsCommitRefusal before (g.B.Blob.failures c.append_batch.new.blob) (EndsDisk size log))) (sym p.1)
+    (subst (λ (x : StoreError). IsCommitRefusal before (g.B.Blob.failures c.append_batch.new.blob) (EndsDisk size log) x) (sym p.2)
     (rw (long, sym c.requires.sized, c.in_err-appended.ensures.failures) why))
 
 pub returns-clause-live : goal.returns-clause-live
@@ -66,7 +67,14 @@ returns-clause-cache g c =
     }
 
 pub returns-in_err-appended-clause-raised : goal.returns-in_err-appended-clause-raised
-returns-in_err-appended-clause-raised g c = raises_by c.append_batch.result _ _ c.append_batch.ensures.failures
+returns-in_err-appended-clause-raised g c =
+    let before : Failures = g.B.Blob.failures c.args.blob.now in
+    let after : Failures = g.B.Blob.failures c.append_batch.new.blob in
+    let p = err_from_is_err_and c.from_residual.result c.from_residual.ensures.1 in
+    subst (λ r. Raises (refusal_of r) before after) (sym p.1)
+    (subst (λ (x : StoreError). Raises (Some x) before after) (sym p.2)
+    (raises_refused c.in_err-appended.field-0.0 before after c.in_err-appended.ensures.failures))
 
 pub returns-clause-raised : goal.returns-clause-raised
-returns-clause-raised g c = raises_by c.append_batch.result _ _ c.append_batch.ensures.failures
+returns-clause-raised g c =
+    raises_same (g.B.Blob.failures c.args.blob.now) (g.B.Blob.failures c.append_batch.new.blob) c.in_ok-appended.ensures.failures

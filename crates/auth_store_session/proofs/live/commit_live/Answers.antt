@@ -1,11 +1,28 @@
-use Rattle.std.proofs.Common.{◌∙◌, sym}
+use Rattle.std.proofs.Common.{◌∙◌, Some, ap, refl, sym}
 use Rattle.paged_blob.specs.Moments.{here}
 use Rattle.auth_store_session.proofs.Grown.{kept_or, kept_live}
+use Rattle.auth_store_ledger.specs.Store.{root_of_history, setting_of_width}
+use Rattle.auth_store_session.specs.Stores.{LiveState}
+use Rattle.auth_store_session.specs.declared.error.StoreError.TheVariants.{Failed}
 use Rattle.auth_store_session.proofs.Powers.{raises_none}
 use Rattle.auth_store_session.proofs.live.commit_live.Goals as goal
 
 pub returns-in_default-clause-grows : goal.returns-in_default-clause-grows
 returns-in_default-clause-grows g c = here tt
+
+pub returns-in-Ok-clause-commits : goal.returns-in-Ok-clause-commits
+returns-in-Ok-clause-commits g c =
+    let view = rw c.in-Some.is at c.take-2.view_is in
+    let is = sym c.take.ensures.value ∙ sym view in
+    let next = c.in-Ok.ensures.next in
+    let same = ap (λ (l : LiveState). l.history) c.live.view_is ∙ next.0 in
+    let setting = setting_of_width g.F.Family.merge_rule g.H.HashFunction.hash_of g.row.N in
+    rw is (
+      c.root-root.ensures ∙ ap (root_of_history setting g.K.FixedSize.SIZE g.V.FixedSize.SIZE) same,
+      next.0,
+      next.1,
+      c.in-Ok.ensures.powered,
+    )
 
 pub returns-in-Err-clause-live : goal.returns-in-Err-clause-live
 returns-in-Err-clause-live g c = kept_live c.in-Err.kept _ _ c.in-Err.ensures.kept
@@ -17,4 +34,4 @@ returns-in-Err-clause-commits g c =
     rw is (c.in-Err.ensures.refused, kept_or c.in-Err.kept _ _ _ _ c.in-Err.ensures.kept c.in-Err.ensures.failed)
 
 pub returns-in_default-clause-raised : goal.returns-in_default-clause-raised
-returns-in_default-clause-raised g c = raises_none (g.B.Blob.failures c.args.blob.now)
+returns-in_default-clause-raised g c = raises_none (Some Failed) (g.B.Blob.failures c.args.blob.now) refl refl

@@ -1,4 +1,4 @@
-use Rattle.std.proofs.Common.{◌≡◌, ◌∙◌, ap, sym, subst, Some, rules}
+use Rattle.std.proofs.Common.{◌≡◌, ◌∙◌, ap, sym, refl, subst, None, Some, rules}
 use Rattle.std.specs.Prelude.{IfErr}
 use Rattle.std.proofs.lemmas.Result.{err_from_is_err_and}
 use Rattle.paged_blob.specs.Answers.{Failures}
@@ -6,9 +6,10 @@ use Rattle.auth_store_parts.specs.History.{latest_map, log_of}
 use Rattle.auth_store_parts.specs.Map.{value_at}
 use Rattle.auth_store_log.specs.Records.{Format, format_of}
 use Rattle.auth_store_session.specs.declared.error.StoreError.{StoreError}
-use Rattle.auth_store_session.specs.Stores.{LiveState, IsLive, IsReadRefusal}
+use Rattle.auth_store_session.specs.Machine.{refusal_of}
+use Rattle.auth_store_session.specs.Stores.{LiveState, IsLive, IsReadRefusal, Raises}
 use Rattle.auth_store_session.proofs.Reading.{read_refused, same_value, not_deleted, not_committed}
-use Rattle.auth_store_session.proofs.Powers.{raises_none, raises_reading}
+use Rattle.auth_store_session.proofs.Powers.{raises_none, raises_same, raises_corrupt, raises_reading}
 use Rattle.auth_store_session.proofs.live.get_live.Goals as goal
 
 pub returns-in_err-operation-clause-refused : goal.returns-in_err-operation-clause-refused
@@ -61,16 +62,25 @@ returns-clause-refused g c =
     not_committed _ _ _ c.in-Some.ensures.value c.in-Some.ensures.next said
 
 pub returns-in_err-operation-clause-raised : goal.returns-in_err-operation-clause-raised
-returns-in_err-operation-clause-raised g c = raises_reading c.read_operation.result _ _ c.read_operation.ensures.failures
+returns-in_err-operation-clause-raised g c =
+    let before : Failures = g.B.Blob.failures c.args.blob.now in
+    let after : Failures = g.B.Blob.failures c.read_operation.new.blob in
+    let p = err_from_is_err_and c.from_residual.result c.from_residual.ensures.1 in
+    subst (λ r. Raises (refusal_of r) before after) (sym p.1)
+    (subst (λ (x : StoreError). Raises (Some x) before after) (sym p.2)
+    (raises_reading c.in_err-operation.field-0.0 before after c.in_err-operation.ensures.failures))
 
 pub returns-in-Update-clause-raised : goal.returns-in-Update-clause-raised
-returns-in-Update-clause-raised g c = raises_reading c.read_operation.result _ _ c.read_operation.ensures.failures
+returns-in-Update-clause-raised g c =
+    raises_same (g.B.Blob.failures c.args.blob.now) (g.B.Blob.failures c.read_operation.new.blob) c.in_ok-operation.ensures.failures
 
 pub returns-in-Delete-clause-raised : goal.returns-in-Delete-clause-raised
-returns-in-Delete-clause-raised g c = raises_reading c.read_operation.result _ _ c.read_operation.ensures.failures
+returns-in-Delete-clause-raised g c =
+    raises_corrupt (g.B.Blob.failures c.args.blob.now) (g.B.Blob.failures c.read_operation.new.blob) c.in_ok-operation.ensures.failures
 
 pub returns-clause-raised : goal.returns-clause-raised
-returns-clause-raised g c = raises_reading c.read_operation.result _ _ c.read_operation.ensures.failures
+returns-clause-raised g c =
+    raises_corrupt (g.B.Blob.failures c.args.blob.now) (g.B.Blob.failures c.read_operation.new.blob) c.in_ok-operation.ensures.failures
 
 pub returns-in_default-clause-raised : goal.returns-in_default-clause-raised
-returns-in_default-clause-raised g c = raises_none (g.B.Blob.failures c.args.blob.now)
+returns-in_default-clause-raised g c = raises_none None (g.B.Blob.failures c.args.blob.now) refl refl

@@ -1,9 +1,10 @@
-use Rattle.std.proofs.Common.{◌≡◌, ◌∙◌, ⊎_elim, ◌+◌, ap, sym, subst, List, ℕ, length, arith}
+use Rattle.std.proofs.Common.{◌≡◌, ◌∙◌, ⊎_elim, ◌+◌, Some, ap, sym, subst, List, ℕ, length, arith}
 use Rattle.std.specs.Prelude.{IfErr}
 use Rattle.std.proofs.lemmas.List.{length-map}
 use Rattle.std.proofs.lemmas.Result.{err_from_is_err_and}
 use Rattle.fault_storage_parts.specs.Crc32.{crc32}
 use Rattle.paged_format.specs.Footers.{IsPageSize}
+use Rattle.paged_blob.specs.Answers.{Failures}
 use Rattle.paged_blob.specs.Caches.{Cache}
 use Rattle.paged_blob.specs.CachedContent.{HoldsPagesOf}
 use Rattle.paged_blob.specs.Calls.{content}
@@ -13,10 +14,11 @@ use Rattle.auth_store_ledger.specs.declared.error.LedgerError.{LedgerError}
 use Rattle.auth_store_ledger.specs.declared.error.LedgerError.TheVariants as ledgers
 use Rattle.auth_store_log.specs.Records.{Format, format_of, history_bytes, log_bytes, recovered_log, AreRecorded}
 use Rattle.auth_store_session.specs.declared.error.StoreError.{StoreError}
-use Rattle.auth_store_session.specs.Refusals.{of_ledger}
-use Rattle.auth_store_session.specs.Stores.{IsOpenRefusal, IsNoHistory, EndsOpening}
+use Rattle.auth_store_session.specs.Refusals.{of_ledger, of_log}
+use Rattle.auth_store_session.specs.Machine.{refusal_of}
+use Rattle.auth_store_session.specs.Stores.{IsOpenRefusal, IsNoHistory, EndsOpening, Raises}
 use Rattle.auth_store_session.proofs.Long.{log_long}
-use Rattle.auth_store_session.proofs.Powers.{raises_by}
+use Rattle.auth_store_session.proofs.Powers.{raises_refused, raises_read, raises_ledger, raises_same}
 use Rattle.auth_store_session.proofs.live.recover_live.Goals as goal
 
 pub returns-in_err-ledger-clause-refused : goal.returns-in_err-ledger-clause-refused
@@ -64,13 +66,32 @@ returns-clause-cache g c = record {
 }
 
 pub returns-in_err-writer-clause-raised : goal.returns-in_err-writer-clause-raised
-returns-in_err-writer-clause-raised g c = raises_by c.recover.result _ _ c.recover.ensures.failures
+returns-in_err-writer-clause-raised g c =
+    let before : Failures = g.B.Blob.failures c.args.blob.now in
+    let after : Failures = g.B.Blob.failures c.recover.new.blob in
+    let p = err_from_is_err_and c.from_residual.result c.from_residual.ensures.1 in
+    subst (λ r. Raises (refusal_of r) before after) (sym p.1)
+    (subst (λ (x : StoreError). Raises (Some x) before after) (sym p.2)
+    (raises_refused c.in_err-writer.field-0.0 before after c.in_err-writer.ensures.failures))
 
 pub returns-in_err-log-clause-raised : goal.returns-in_err-log-clause-raised
-returns-in_err-log-clause-raised g c = raises_by c.recover.result _ _ c.recover.ensures.failures
+returns-in_err-log-clause-raised g c =
+    let before : Failures = g.B.Blob.failures c.args.blob.now in
+    let after : Failures = g.B.Blob.failures c.recover.new.blob in
+    let p = err_from_is_err_and c.from_residual-in_err-log.result c.from_residual-in_err-log.ensures.1 in
+    subst (λ r. Raises (refusal_of r) before after) (sym p.1)
+    (subst (λ (x : StoreError). Raises (Some x) before after) (sym p.2)
+    (subst (Raises (Some (of_log c.in_err-log.field-0.0)) before) (sym c.in_ok-writer.ensures.failures) (raises_read c.in_err-log.field-0.0 before c.in_err-log.ensures.memory)))
 
 pub returns-in_err-ledger-clause-raised : goal.returns-in_err-ledger-clause-raised
-returns-in_err-ledger-clause-raised g c = raises_by c.recover.result _ _ c.recover.ensures.failures
+returns-in_err-ledger-clause-raised g c =
+    let before : Failures = g.B.Blob.failures c.args.blob.now in
+    let after : Failures = g.B.Blob.failures c.recover.new.blob in
+    let p = err_from_is_err_and c.from_residual-in_err-ledger.result c.from_residual-in_err-ledger.ensures.1 in
+    subst (λ r. Raises (refusal_of r) before after) (sym p.1)
+    (subst (λ (x : StoreError). Raises (Some x) before after) (sym p.2)
+    (subst (Raises (Some (of_ledger c.in_err-ledger.field-0.0)) before) (sym c.in_ok-writer.ensures.failures) (raises_ledger c.in_err-ledger.field-0.0 before)))
 
 pub returns-clause-raised : goal.returns-clause-raised
-returns-clause-raised g c = raises_by c.recover.result _ _ c.recover.ensures.failures
+returns-clause-raised g c =
+    raises_same (g.B.Blob.failures c.args.blob.now) (g.B.Blob.failures c.recover.new.blob) c.in_ok-writer.ensures.failures

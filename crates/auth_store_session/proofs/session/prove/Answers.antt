@@ -1,15 +1,15 @@
-use Rattle.std.proofs.Common.{◌+◌}
+use Rattle.std.proofs.Common.{None, refl, ◌+◌}
 use Rattle.std.specs.Prelude.{Ok, Err}
 use Rattle.auth_store_log.specs.Records.{format_of}
 use Rattle.auth_store_session.specs.Machine.{machine}
 use Rattle.auth_store_ledger.specs.ProvingCode.{parts_of}
 use Rattle.auth_store_session.proofs.Steps.{proves_in}
-use Rattle.auth_store_session.proofs.Powers.{leaves_none}
+use Rattle.auth_store_session.proofs.Powers.{leaves_none, leaves_unproved}
 use Rattle.auth_store_session.proofs.session.prove.Goals as goal
 
 pub returns-in-Ok-clause-steps : goal.returns-in-Ok-clause-steps
 returns-in-Ok-clause-steps g c = (
-  leaves_none c.args.store.now.device c.args.store.now.cache,
+  leaves_none None c.args.store.now.device c.args.store.now.cache refl refl,
   proves_in
       (machine g.F.Family.merge_rule g.H.HashFunction.hash_of g.F.PendingOf.pending_encoding g.row.N g.K.FixedSize.SIZE g.V.FixedSize.SIZE
       (c.args.store.now.cache.page_size + 12))
@@ -20,7 +20,7 @@ returns-in-Ok-clause-steps g c = (
 
 pub returns-in-Err-clause-steps : goal.returns-in-Err-clause-steps
 returns-in-Err-clause-steps g c = (
-  leaves_none c.args.store.now.device c.args.store.now.cache,
+  leaves_unproved c.in-Err.error c.args.store.now.device c.args.store.now.cache c.in-Err.ensures.err,
   proves_in
       (machine g.F.Family.merge_rule g.H.HashFunction.hash_of g.F.PendingOf.pending_encoding g.row.N g.K.FixedSize.SIZE g.V.FixedSize.SIZE
       (c.args.store.now.cache.page_size + 12))

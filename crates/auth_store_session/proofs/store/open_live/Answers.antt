@@ -1,13 +1,15 @@
-use Rattle.std.proofs.Common.{◌+◌, Ok, ap, sym, subst, arith}
+use Rattle.std.proofs.Common.{◌+◌, Ok, None, Some, ap, sym, subst, arith}
 use Rattle.std.specs.Prelude.{IfErr}
 use Rattle.std.proofs.lemmas.Result.{err_from_is_err_and}
 use Rattle.paged_blob.specs.Calls.{content}
 use Rattle.auth_store_log.specs.Records.{Format, format_of}
 use Rattle.auth_store_session.specs.declared.error.StoreError.{StoreError}
-use Rattle.auth_store_session.specs.Machine.{Machine, machine}
-use Rattle.auth_store_session.specs.Standing.{IsOpenError, shown_of}
+use Rattle.auth_store_session.specs.Machine.{Machine, machine, refusal_of, Leaves}
+use Rattle.auth_store_session.specs.Standing.{IsOpenError, power_of, shown_of}
+use Rattle.auth_store_device.specs.Devices.{calls_left}
+use Rattle.auth_store_session.specs.Refusals.{of_opening}
 use Rattle.auth_store_session.proofs.OnDevice.{device_refused, recovery_on_device, opened_uncut, shown_through}
-use Rattle.auth_store_session.proofs.Powers.{leaves_of, none_stood, raises_opening, raises_behind, stands_refused}
+use Rattle.auth_store_session.proofs.Powers.{leaves_of, opening_left, raises_opening, raises_behind}
 use Rattle.auth_store_session.proofs.store.open_live.Goals as goal
 
 pub returns-in_err-count-clause-refused : goal.returns-in_err-count-clause-refused
@@ -43,24 +45,43 @@ pub returns-clause-uncut : goal.returns-clause-uncut
 returns-clause-uncut g c = opened_uncut c.args.device.now (Ok c.in_ok-count.count) c.in_ok-count.ensures.cut c.in_ok-count.ensures.ended
 
 pub returns-in_err-count-clause-leaves : goal.returns-in_err-count-clause-leaves
-returns-in_err-count-clause-leaves g c = leaves_of c.args.device.now c.open.new.self c.args.cache.now c.args.cache.now
-    (raises_opening c.args.device.now c.open.new.self c.open.result c.open.ensures.count c.open.ensures.refusals c.open.ensures.asked)
-    (omega arith) (stands_refused c.open.result c.args.device.now.left c.open.new.self.left c.open.ensures.left)
+returns-in_err-count-clause-leaves g c =
+    let old = c.args.device.now in
+    let new = c.open.new.self in
+    let names = c.args.cache.now in
+    let e = c.in_err-count.field-0.0 in
+    let p = err_from_is_err_and c.from_residual.result c.from_residual.ensures.1 in
+    let fewer = opening_left c.open.result old.left in
+    subst (λ r. Leaves 3 (refusal_of r) (power_of old names) (power_of new names)) (sym p.1)
+    (subst (λ (x : StoreError). Leaves 3 (Some x) (power_of old names) (power_of new names)) (sym p.2)
+    (leaves_of 3 (Some (of_opening e)) old new names names
+    (raises_opening e old new c.in_err-count.ensures.count c.in_err-count.ensures.refusals c.open.ensures.asked)
+    (omega (arith, ap calls_left c.open.ensures.left, fewer)) (omega arith, omega arith)))
 
 pub returns-in_err-live-clause-leaves : goal.returns-in_err-live-clause-leaves
 returns-in_err-live-clause-leaves g c =
     let old = c.args.device.now in
+    let mid = c.open.new.self in
     let new = c.recover_live-recovered.new.blob in
-    leaves_of old new c.args.cache.now c.recover_live-recovered.new.cache
-    (raises_behind old c.open.new.self new c.in_ok-count.ensures.count c.in_ok-count.ensures.refusals c.in_ok-count.ensures.asked
-    c.recover_live-recovered.ensures.raised) c.recover_live-recovered.ensures.names
-    (none_stood old.left new.left (opened_uncut old (Ok c.in_ok-count.count) c.in_ok-count.ensures.cut c.in_ok-count.ensures.ended))
+    let names = c.args.cache.now in
+    let now = c.recover_live-recovered.new.cache in
+    let e = c.in_err-live.field-0.0 in
+    let p = err_from_is_err_and c.from_residual-in_err-live.result c.from_residual-in_err-live.ensures.1 in
+    let fewer = opening_left c.open.result old.left in
+    subst (λ r. Leaves 3 (refusal_of r) (power_of old names) (power_of new now)) (sym p.1)
+    (subst (λ (x : StoreError). Leaves 3 (Some x) (power_of old names) (power_of new now)) (sym p.2)
+    (leaves_of 3 (Some e) old new names now
+    (raises_behind (Some e) old mid new c.in_ok-count.ensures.count c.in_ok-count.ensures.refusals c.in_ok-count.ensures.asked
+    c.in_err-live.ensures.raised)
+    (omega (arith, ap calls_left c.open.ensures.left, fewer, c.recover_live-recovered.ensures.left)) c.recover_live-recovered.ensures.names))
 
 pub returns-clause-leaves : goal.returns-clause-leaves
 returns-clause-leaves g c =
     let old = c.args.device.now in
+    let mid = c.open.new.self in
     let new = c.recover_live-recovered.new.blob in
-    leaves_of old new c.args.cache.now c.recover_live-recovered.new.cache
-    (raises_behind old c.open.new.self new c.in_ok-count.ensures.count c.in_ok-count.ensures.refusals c.in_ok-count.ensures.asked
-    c.recover_live-recovered.ensures.raised) c.recover_live-recovered.ensures.names
-    (none_stood old.left new.left (opened_uncut old (Ok c.in_ok-count.count) c.in_ok-count.ensures.cut c.in_ok-count.ensures.ended))
+    let fewer = opening_left c.open.result old.left in
+    leaves_of 3 None old new c.args.cache.now c.recover_live-recovered.new.cache
+    (raises_behind None old mid new c.in_ok-count.ensures.count c.in_ok-count.ensures.refusals c.in_ok-count.ensures.asked
+    c.in_ok-live.ensures.raised)
+    (omega (arith, ap calls_left c.open.ensures.left, fewer, c.recover_live-recovered.ensures.left)) c.recover_live-recovered.ensures.names

@@ -48,6 +48,7 @@ loop-done-preserved g c =
       same = c.in_ok-page_into.ensures.same ∙ ap put i.same;
       calls = c.in_ok-page_into.ensures.calls ∙ i.calls;
       failures = c.in_ok-page_into.ensures.failures ∙ i.failures;
+      left = omega (arith, c.page_into.ensures.left, i.left);
     }
 
 pub page_into-requires-clause-kept : goal.page_into-requires-clause-kept

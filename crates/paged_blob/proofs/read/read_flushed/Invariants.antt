@@ -14,6 +14,7 @@ invariant-loop-done g l = record {
   same : l.cache ≡ record l.initial.cache { pages = l.cache.pages };
   calls : g.B.Blob.calls l.blob ≡ g.B.Blob.calls l.fn.blob;
   failures : g.B.Blob.failures l.blob ≡ g.B.Blob.failures l.fn.blob;
+  left : g.B.Blob.left l.blob ≤ g.B.Blob.left l.fn.blob;
 }
 
 abbrev pub decreases-loop-done : goal.decreases-loop-done

@@ -23,6 +23,7 @@ loop-page-init g c =
       within = within;
       calls = search rules;
       failures = search rules;
+      left = omega arith;
       known = λ sound. start_known g.C.Checksum.checksum_of size footer (content (g.B.Blob.calls c.args.blob.now)) c.args.blob_size page c.args.proven first
           (c.requires.proven sound);
     }
@@ -94,6 +95,7 @@ loop-page-preserved g c =
       within = omega (arith, few, c.loop-page-test.true);
       calls = c.in_ok-bytes.ensures.calls ∙ i.calls;
       failures = c.in_ok-bytes.ensures.failures ∙ i.failures;
+      left = omega (arith, c.in_ok-bytes.ensures.left, i.left);
       known = λ sound.
           let read = sliced calls (page * size) (count * size) c.in_ok-bytes.bytes.items sound slice in
           goes_further sum size footer (content calls) c.args.blob_size page count c.prefix_len-shown.result c.deref.result.now within read.0

@@ -9,6 +9,7 @@ invariant-loop-page g l = record {
   within : l.page ≤ l.pages;
   calls : g.B.Blob.calls l.blob ≡ g.B.Blob.calls l.fn.blob;
   failures : g.B.Blob.failures l.blob ≡ g.B.Blob.failures l.fn.blob;
+  left : g.B.Blob.left l.blob ≤ g.B.Blob.left l.fn.blob;
   known : IsFalse (file_of (g.B.Blob.calls l.fn.blob)).failed
       → length (recovered g.C.Checksum.checksum_of l.physical_page_size (take l.blob_size (content (g.B.Blob.calls l.fn.blob))))
       ≡ l.page * content_size l.physical_page_size + length (recovered g.C.Checksum.checksum_of l.physical_page_size

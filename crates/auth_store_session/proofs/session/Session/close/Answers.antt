@@ -1,4 +1,4 @@
-use Rattle.std.proofs.Common.{◌+◌, Some, sym, ap, ◌∙◌}
+use Rattle.std.proofs.Common.{◌≡◌, ◌+◌, Some, sym, ap, ◌∙◌}
 use Rattle.auth_store_device.specs.Devices.{DeviceState}
 use Rattle.paged_blob.specs.Caches.{Cache}
 use Rattle.auth_store_log.specs.Records.{format_of}
@@ -18,12 +18,13 @@ returns-clause-steps g c =
     let now = closed_at parts.0 parts.1 in
     let is = was_open c.self.inside.parts c.self.inside.store c.in-Some.store c.args.self.now c.self.view_is c.in-Some.ensures.value
     c.self.invariant.1 in
+    let same : power_of parts.0 parts.1 ≡ power_of c.in-Some.store.device c.in-Some.store.cache =
+    ap (λ (d : DeviceState _). power_of d parts.1) c.into_parts.ensures.device
+    ∙ ap (power_of c.in-Some.store.device) c.into_parts.ensures.cache.0 in
     steps_from m format was c.args.self.now now (record { parts = Some parts; store = c.take.new.self }) ask_close has_closed is
     (ap (λ s. record { parts = Some parts; store = s }) (sym c.take.ensures.after)) (
-      leaves_same c.in-Some.store.device parts.0 c.in-Some.store.cache parts.1
-          (ap (λ (d : DeviceState _). power_of d parts.1) c.into_parts.ensures.device
-          ∙ ap (power_of c.in-Some.store.device) c.into_parts.ensures.cache.0),
-      closes_in m format c.in-Some.store parts.0 parts.1 c.into_parts.ensures.cache.0 (ap (λ (d : DeviceState _). d.calls)
+      leaves_same c.in-Some.store.device parts.0 c.in-Some.store.cache parts.1 same,
+      closes_in m format c.in-Some.store parts.0 parts.1 same c.into_parts.ensures.cache.0 (ap (λ (d : DeviceState _). d.calls)
           c.into_parts.ensures.device) c.into_parts.ensures.header c.into_parts.ensures.shows,
     )
 

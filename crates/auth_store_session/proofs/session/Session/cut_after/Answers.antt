@@ -1,8 +1,8 @@
-use Rattle.std.proofs.Common.{Some, refl, ap, ◌∙◌}
+use Rattle.std.proofs.Common.{◌≡◌, Some, refl, ap, ◌∙◌}
 use Rattle.auth_store_device.specs.Devices.{DeviceState, after_asking}
 use Rattle.auth_store_log.specs.Records.{format_of}
-use Rattle.auth_store_session.specs.Machine.{machine, ask_cut, is_set}
-use Rattle.auth_store_session.specs.Standing.{page_size_in, SessionState, config_in, left_in}
+use Rattle.auth_store_session.specs.Machine.{machine, ask_cut, is_set, asked_to_cut}
+use Rattle.auth_store_session.specs.Standing.{page_size_in, power_of, SessionState, config_in, left_in}
 use Rattle.auth_store_session.proofs.Rests.{closed_at, was_closed, now_closed, steps_from, grows_from, rests_in, header_same}
 use Rattle.auth_store_session.proofs.Powers.{passes_asking}
 use Rattle.auth_store_session.proofs.session.Session.cut_after.Goals as goal
@@ -17,12 +17,14 @@ returns-clause-steps g c =
     let is = was_closed c.self.inside.parts c.self.inside.store c.in-Some.device c.in-Some.cache c.args.self.now c.self.view_is
     c.in-Some.ensures.value c.requires in
     let ends = now_closed c.self.inside.parts c.self.inside.store c.cut_after.new.self c.in-Some.cache c.args.self.now c.self.view_is c.requires in
+    let same : power_of c.cut_after.new.self c.in-Some.cache ≡ asked_to_cut c.args.calls (power_of c.in-Some.device c.in-Some.cache) =
+    ap (λ (d : DeviceState _). power_of d c.in-Some.cache) c.cut_after.ensures in
     steps_from m format was c.args.self.now now (record { parts = Some (c.cut_after.new.self, c.in-Some.cache); store = c.self.inside.store }) (ask_cut c.args.calls) is_set is ends (
-      passes_asking c.in-Some.device c.cut_after.new.self c.in-Some.cache c.in-Some.cache c.args.calls c.cut_after.ensures refl,
+      passes_asking c.in-Some.device c.cut_after.new.self c.in-Some.cache c.in-Some.cache c.args.calls same,
       rests_in m format c.in-Some.device c.cut_after.new.self c.in-Some.cache (ask_cut c.args.calls) is_set
           (ap (λ (d : DeviceState _). d.calls) c.cut_after.ensures)
-          (header_same _ _ (ap (λ (d : DeviceState _). d.storage.inner) c.cut_after.ensures)) (λ history pending. (refl, refl))
-          (λ history. (refl, refl)),
+          (header_same _ _ (ap (λ (d : DeviceState _). d.storage.inner) c.cut_after.ensures)) (λ history pending. (refl, refl, same))
+          (λ history. (refl, refl, same)),
     )
 
 pub returns-clause-grows : goal.returns-clause-grows

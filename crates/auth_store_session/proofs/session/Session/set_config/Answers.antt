@@ -1,4 +1,4 @@
-use Rattle.std.proofs.Common.{Some, refl, ap, ◌∙◌}
+use Rattle.std.proofs.Common.{◌≡◌, Some, refl, ap, ◌∙◌}
 use Rattle.auth_store_device.specs.Devices.{DeviceState}
 use Rattle.auth_store_log.specs.Records.{format_of}
 use Rattle.auth_store_session.specs.Machine.{machine, ask_config, is_set}
@@ -17,13 +17,14 @@ returns-clause-steps g c =
     let is = was_closed c.self.inside.parts c.self.inside.store c.in-Some.device c.in-Some.cache c.args.self.now c.self.view_is
     c.in-Some.ensures.value c.requires in
     let ends = now_closed c.self.inside.parts c.self.inside.store c.set_config.new.self c.in-Some.cache c.args.self.now c.self.view_is c.requires in
+    let same : power_of c.set_config.new.self c.in-Some.cache ≡ power_of c.in-Some.device c.in-Some.cache =
+    ap (λ (d : DeviceState _). power_of d c.in-Some.cache) c.set_config.ensures in
     steps_from m format was c.args.self.now now (record { parts = Some (c.set_config.new.self, c.in-Some.cache); store = c.self.inside.store }) ask_config is_set is ends (
-      leaves_same c.in-Some.device c.set_config.new.self c.in-Some.cache c.in-Some.cache
-          (ap (λ (d : DeviceState _). power_of d c.in-Some.cache) c.set_config.ensures),
+      leaves_same c.in-Some.device c.set_config.new.self c.in-Some.cache c.in-Some.cache same,
       rests_in m format c.in-Some.device c.set_config.new.self c.in-Some.cache ask_config is_set
           (ap (λ (d : DeviceState _). d.calls) c.set_config.ensures)
-          (header_same _ _ (ap (λ (d : DeviceState _). d.storage.inner) c.set_config.ensures)) (λ history pending. (refl, refl))
-          (λ history. (refl, refl)),
+          (header_same _ _ (ap (λ (d : DeviceState _). d.storage.inner) c.set_config.ensures)) (λ history pending. (refl, refl, same))
+          (λ history. (refl, refl, same)),
     )
 
 pub returns-clause-grows : goal.returns-clause-grows

@@ -1,10 +1,10 @@
-use Rattle.std.proofs.Common.{refl, sym, subst}
+use Rattle.std.proofs.Common.{None, refl, sym, subst}
 use Rattle.paged_blob.specs.Moments.{here}
 use Rattle.auth_store_log.specs.Records.{format_of}
-use Rattle.auth_store_session.specs.Machine.{machine, not_open, Leaves}
+use Rattle.auth_store_session.specs.Machine.{machine, not_open, names_given, Leaves}
 use Rattle.auth_store_session.specs.Standing.{page_size_in, power_in, config_in, left_in}
 use Rattle.auth_store_session.specs.MachineCode.{request_of}
-use Rattle.auth_store_session.proofs.Powers.{leaves_within}
+use Rattle.auth_store_session.proofs.Powers.{stays}
 use Rattle.auth_store_session.proofs.Rests.{rest_same, is_refused_closed, config_kept, left_kept}
 use Rattle.auth_store_session.proofs.session.Session.step_closed.Goals as goal
 use Rattle.auth_store_session.proofs.session.Session.step_closed.Goals.{in-Open, in-Crash, in-Config, in-CutAfter, in_default}
@@ -44,10 +44,12 @@ returns-clause-steps g c = elim c.match-step.branch [
   | in-Config w ↦ rw (w.self-is, w.result-is, w.in-Config.is) w.set_config.ensures.steps
   | in-CutAfter w ↦ rw (w.self-is, w.result-is, w.in-CutAfter.is) w.cut_after.ensures.steps
   | in_default w ↦ rw (w.self-is, w.result-is) (
-    subst (λ p. Leaves p (power_in c.args.self.now.parts c.args.self.now.store))
+    subst (λ p. Leaves (names_given (request_of g.K.Write.encoding g.V.Write.encoding c.args.step)) None p
+        (power_in c.args.self.now.parts c.args.self.now.store))
         (sym ((is_refused_closed g.K.Write.encoding g.V.Write.encoding c.args.step w.in_default.not-Open w.in_default.not-Crash
         w.in_default.not-Config w.in_default.not-CutAfter).turned (power_in c.args.self.now.parts c.args.self.now.store)))
-        (leaves_within c.args.self.now.parts c.args.self.now.store),
+        (stays (names_given (request_of g.K.Write.encoding g.V.Write.encoding c.args.step)) None
+        (power_in c.args.self.now.parts c.args.self.now.store) refl refl),
     rest_same (machine g.F.Family.merge_rule g.H.HashFunction.hash_of g.F.PendingOf.pending_encoding g.row.N g.K.FixedSize.SIZE g.V.FixedSize.SIZE
         (page_size_in c.args.self.now.parts c.args.self.now.store))
         (format_of (g.K.Read.after (tt {0})) (g.V.Read.after (tt {0})) g.K.FixedSize.SIZE g.V.FixedSize.SIZE) c.args.self.now.parts c.args.self.now.store (request_of g.K.Write.encoding g.V.Write.encoding c.args.step) not_open

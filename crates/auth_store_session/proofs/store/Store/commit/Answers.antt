@@ -8,9 +8,9 @@ use Rattle.auth_store_session.specs.Machine.{Machine, machine}
 use Rattle.auth_store_session.specs.Standing.{Commits, result_of}
 use Rattle.auth_store_session.specs.Stores.{StoreState, IsLiveAt}
 use Rattle.auth_store_session.proofs.OnDevice.{commits_on_device, same_store, store_of}
-use Rattle.auth_store_session.specs.Machine.{Leaves}
+use Rattle.auth_store_session.specs.Machine.{Leaves, refusal_of}
 use Rattle.auth_store_session.specs.Standing.{power_of}
-use Rattle.auth_store_session.proofs.Powers.{leaves_of, stands_untouched}
+use Rattle.auth_store_session.proofs.Powers.{leaves_named}
 use Rattle.auth_store_session.proofs.store.Store.commit.Goals as goal
 
 pub invariant_of-self : goal.invariant_of-self
@@ -36,8 +36,7 @@ returns-clause-commits g c =
     subst (λ (s : StoreState g.row.R.Denot). (history : History) → IsLiveAt s history → Commits (m s.cache) format said noted history s
     (result_of g.H.Digest.Write.encoding c.commit_live-answer.result) new) c.self.view_is
     (λ history live. commits_on_device (m old.cache) format said noted old new g.H.Digest.Write.encoding c.commit_live-answer.result
-    c.is_cut-is_cut.result history c.is_cut-is_cut.ensures c.refuses_only_under_a_cut.ensures c.commit_live-answer.ensures.untouched
-    c.commit_live-answer.ensures.commits live)
+    history c.refuses_only_under_a_cut.ensures c.commit_live-answer.ensures.commits live)
 
 pub returns-clause-failed : goal.returns-clause-failed
 returns-clause-failed g c = λ none.
@@ -52,6 +51,7 @@ pub returns-clause-leaves : goal.returns-clause-leaves
 returns-clause-leaves g c =
     let new = c.commit_live-answer.new.blob in
     let now = c.commit_live-answer.new.cache in
-    subst (λ (s : StoreState g.row.R.Denot). Leaves (power_of s.device s.cache) (power_of new now)) c.self.view_is
-    (leaves_of c.self.inside.device new c.self.inside.cache now c.commit_live-answer.ensures.raised c.commit_live-answer.ensures.names
-    (stands_untouched c.self.inside.device new c.is_cut-is_cut.result c.is_cut-is_cut.ensures c.commit_live-answer.ensures.untouched))
+    let refusal = refusal_of c.commit_live-answer.result in
+    subst (λ (s : StoreState g.row.R.Denot). Leaves 0 refusal (power_of s.device s.cache) (power_of new now)) c.self.view_is
+    (leaves_named refusal c.self.inside.device new c.self.inside.cache now c.commit_live-answer.ensures.raised
+    c.commit_live-answer.ensures.left c.commit_live-answer.ensures.names)

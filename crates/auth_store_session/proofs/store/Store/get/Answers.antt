@@ -1,29 +1,27 @@
-use Rattle.std.proofs.Common.{◌≡◌, ◌∙◌, ◌+◌, ap, is_some, sym, subst, option_map}
-use Rattle.std.specs.Prelude.{IfOk, IfErr, IsTrue}
+use Rattle.std.proofs.Common.{◌≡◌, ◌+◌, refl, subst, option_map}
+use Rattle.std.specs.Prelude.{IfOk, IfErr}
 use Rattle.std.proofs.lemmas.Result.{IfErr-weaker}
 use Rattle.auth_store_parts.specs.History.{History, latest_map}
 use Rattle.auth_store_parts.specs.Map.{value_at}
 use Rattle.auth_store_session.specs.Machine.{MayRefuseRead}
 use Rattle.auth_store_session.specs.Standing.{power_of}
-use Rattle.auth_store_session.specs.Stores.{StoreState, IsLive, IsReadRefusal, Raises}
-use Rattle.auth_store_device.specs.Devices.{DeviceState, failures_of, is_cut}
+use Rattle.auth_store_session.specs.Stores.{StoreState}
 use Rattle.auth_store_log.specs.Records.{Format, format_of}
-use Rattle.auth_store_session.proofs.OnDevice.{one_history, read_on_device, refusal_kept, live_stays}
-use Rattle.auth_store_session.specs.Machine.{Leaves}
-use Rattle.auth_store_session.proofs.Powers.{leaves_of, leaves_none, raises_kept, stands_kept}
+use Rattle.auth_store_session.proofs.OnDevice.{one_history, read_on_device, live_stays}
+use Rattle.auth_store_session.specs.Machine.{Leaves, refusal_of}
+use Rattle.auth_store_session.proofs.Powers.{leaves_named, leaves_failed}
+use Rattle.auth_store_session.specs.declared.error.StoreError.TheVariants.{Failed}
 use Rattle.auth_store_session.proofs.store.Store.get.Goals as goal
 
 pub invariant_of-self : goal.invariant_of-self
 invariant_of-self g c =
-    let format : Format = format_of (g.K.Read.after tt) (g.V.Read.after tt) g.K.FixedSize.SIZE g.V.FixedSize.SIZE in
-    let mid = c.get_live-answer.new.blob in (
+    let format : Format = format_of (g.K.Read.after tt) (g.V.Read.after tt) g.K.FixedSize.SIZE g.V.FixedSize.SIZE in (
       c.self.invariant.0,
       record {
-        opened = ap (λ (d : DeviceState g.row.R.Denot). is_some d.log) c.keep_cut.ensures ∙ c.get_live-answer.ensures.open;
+        opened = c.get_live-answer.ensures.open;
         cache = c.get_live-answer.ensures.cache;
-        live = live_stays format c.keep_cut.new.device.calls c.get_live-answer.new.cache c.self.inside.live c.in-Some.live
-            c.in-Some.is (subst (λ calls. IsLive format calls c.get_live-answer.new.cache c.in-Some.live)
-            (sym (ap (λ (d : DeviceState g.row.R.Denot). d.calls) c.keep_cut.ensures)) c.get_live-answer.ensures.live);
+        live = live_stays format c.get_live-answer.new.blob.calls c.get_live-answer.new.cache c.self.inside.live c.in-Some.live
+            c.in-Some.is c.get_live-answer.ensures.live;
       },
     )
 
@@ -37,29 +35,22 @@ returns-clause-found g c = λ history live.
 pub returns-clause-refused : goal.returns-clause-refused
 returns-clause-refused g c = λ history live.
     let old = c.self.inside.device in
-    let mid = c.get_live-answer.new.blob in
-    let new = c.keep_cut.new.device in
+    let new = c.get_live-answer.new.blob in
     subst (λ (s : StoreState g.row.R.Denot). IfErr c.get_live-answer.result (MayRefuseRead (power_of s.device s.cache)
     (power_of new c.get_live-answer.new.cache))) c.self.view_is
     (IfErr-weaker c.get_live-answer.result _ _
-    (λ e cause. read_on_device old new c.self.inside.cache c.get_live-answer.new.cache e c.refuses_only_under_a_cut.ensures
-    (subst (λ (d : DeviceState g.row.R.Denot). IsReadRefusal (failures_of old) (failures_of d) e) (sym c.keep_cut.ensures)
-    (refusal_kept old mid c.is_cut-is_cut.result e cause))) c.get_live-answer.ensures.refused)
+    (λ e cause. read_on_device old new c.self.inside.cache c.get_live-answer.new.cache e c.refuses_only_under_a_cut.ensures cause)
+    c.get_live-answer.ensures.refused)
 
 pub returns-clause-leaves : goal.returns-clause-leaves
 returns-clause-leaves g c =
     let old = c.self.inside.device in
-    let mid = c.get_live-answer.new.blob in
-    let new = c.keep_cut.new.device in
+    let new = c.get_live-answer.new.blob in
     let now = c.get_live-answer.new.cache in
-    let stood = c.is_cut-is_cut.result in
-    subst (λ (s : StoreState g.row.R.Denot). Leaves (power_of s.device s.cache) (power_of new now)) c.self.view_is
-    (leaves_of old new c.self.inside.cache now
-    (subst (λ (d : DeviceState g.row.R.Denot). Raises (failures_of old) (failures_of d)) (sym c.keep_cut.ensures)
-    (raises_kept stood old mid c.is_cut-is_cut.ensures c.get_live-answer.ensures.raised))
-    c.get_live-answer.ensures.names
-    (λ is. subst (λ (d : DeviceState g.row.R.Denot). IsTrue (is_cut d.left)) (sym c.keep_cut.ensures)
-    (stands_kept stood old.left mid.left c.is_cut-is_cut.ensures is)))
+    let refusal = refusal_of c.get_live-answer.result in
+    subst (λ (s : StoreState g.row.R.Denot). Leaves 0 refusal (power_of s.device s.cache) (power_of new now)) c.self.view_is
+    (leaves_named refusal old new c.self.inside.cache now c.get_live-answer.ensures.raised c.get_live-answer.ensures.left
+    c.get_live-answer.ensures.names)
 
 pub returns-in_default-clause-leaves : goal.returns-in_default-clause-leaves
-returns-in_default-clause-leaves g c = leaves_none c.args.self.now.device c.args.self.now.cache
+returns-in_default-clause-leaves g c = leaves_failed Failed c.args.self.now.device c.args.self.now.cache refl

@@ -1,4 +1,4 @@
-use Rattle.std.proofs.Common.{◌+◌, refl, sym, subst}
+use Rattle.std.proofs.Common.{◌+◌, Some, refl, sym, subst}
 use Rattle.auth_store_device.specs.Devices.{DeviceState}
 use Rattle.auth_store_device.specs.Logs.{HasOwnHeader}
 use Rattle.auth_store_log.specs.Records.{Format, format_of}
@@ -35,9 +35,9 @@ returns-in-Err-clause-refused g c =
     (refused_closed m format c.args.device c.open_live.new.device c.args.cache c.open_live.new.cache c.in-Err.error c.in-Err.ensures.refused)
 
 pub returns-in-Ok-clause-leaves : goal.returns-in-Ok-clause-leaves
-returns-in-Ok-clause-leaves g c = c.open_live.ensures.leaves
+returns-in-Ok-clause-leaves g c = c.in-Ok.ensures.leaves
 
 pub returns-in-Err-clause-leaves : goal.returns-in-Err-clause-leaves
 returns-in-Err-clause-leaves g c =
-    subst (λ (d : DeviceState g.row.R.Denot). Leaves (power_of c.args.device c.args.cache) (power_of d c.open_live.new.cache))
-    (sym c.close.ensures) c.open_live.ensures.leaves
+    subst (λ (d : DeviceState g.row.R.Denot). Leaves 3 (Some c.in-Err.error) (power_of c.args.device c.args.cache) (power_of d c.open_live.new.cache))
+    (sym c.close.ensures) c.in-Err.ensures.leaves

@@ -1,4 +1,4 @@
-use Rattle.std.proofs.Common.{rules, ◌≡◌, ◌<◌, ◌+◌, ◌++◌, ◌∷◌, [], ℕ, List, length, get_or, take, map, subst, ap, ◌∙◌, add-one}
+use Rattle.std.proofs.Common.{rules, ◌≡◌, ◌<◌, ◌+◌, ◌++◌, ◌∷◌, [], ℕ, List, length, get_or, take, map, subst, ap, ◌∙◌, add-one, arith}
 use Rattle.std.proofs.lemmas.List.{map-append}
 use Rattle.std.proofs.lemmas.List.Elements.{Contains-get_or}
 use Rattle.std.proofs.lemmas.Result.{err_from_is_err_and}
@@ -41,4 +41,5 @@ loop-offset-preserved g c =
       slices = rw (next, pushed) more;
       calls = c.in_ok-bytes.ensures.calls ∙ c.loop-offset.invariant.calls;
       failures = c.in_ok-bytes.ensures.failures ∙ c.loop-offset.invariant.failures;
+      left = omega (arith, c.in_ok-bytes.ensures.left, c.loop-offset.invariant.left);
     }

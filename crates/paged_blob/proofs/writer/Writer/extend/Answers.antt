@@ -32,6 +32,7 @@ loop-rest-init g c =
       blob_id = refl;
       capacity = refl;
       failures = refl;
+      left = omega arith;
       cache = refl;
       cached = λ holds. holds;
       others = others_same c.args.cache.now w.blob_id;
@@ -170,6 +171,7 @@ loop-rest-preserved g c =
       blob_id = s.1 ∙ i.blob_id;
       capacity = s.2 ∙ i.capacity;
       failures = c.in_ok-count.ensures.failures ∙ i.failures;
+      left = omega (arith, c.fill.ensures.left, i.left);
       cache = c.fill.ensures.cache ∙ ap (λ (k : Cache). record k { pages = c.fill.new.cache.pages }) i.cache;
       cached = λ holds.
           let P : ℕ → Type 0 = λ id. HoldsPagesOf (written sum mid c.loop-rest.self) c.loop-rest.cache id

@@ -20,6 +20,7 @@ invariant-loop-rest g l = record {
   blob_id : l.self.blob_id ≡ l.initial.self.blob_id;
   capacity : l.self.tip.capacity ≡ l.initial.self.tip.capacity;
   failures : g.B.Blob.failures l.blob ≡ g.B.Blob.failures l.initial.blob;
+  left : g.B.Blob.left l.blob ≤ g.B.Blob.left l.initial.blob;
   cache : l.cache ≡ record l.initial.cache { pages = l.cache.pages };
   cached : HoldsPagesOf (written g.C.Checksum.checksum_of (g.B.Blob.calls l.initial.blob) l.initial.self) l.initial.cache l.initial.self.blob_id
       → HoldsPagesOf (written g.C.Checksum.checksum_of (g.B.Blob.calls l.blob) l.self) l.cache l.initial.self.blob_id;

@@ -16,15 +16,15 @@ returns-clause-calls c =
     let bytes = c.args.bytes.now in
     let sync : c.eq-is_sync.result ≡ is_sync c.args.mode = search rules in
     let size : c.len-size.result ≡ length file = search rules in
-    let lost : c.in_ok-lost.lost.items ≡ take (length bytes) (drop c.args.offset file) = search rules in
-    let laid : new ≡ with_bytes c.args.offset bytes file = search rules in
-    let step = Wrote c.args.offset (length bytes) c.eq-is_sync.result c.len-size.result c.in_ok-lost.lost in
+    let lost : c.in_ok-lost.lost.items ≡ take (length bytes) (drop c.place_of-place.result file) = search rules in
+    let laid : new ≡ with_bytes c.place_of-place.result bytes file = search rules in
+    let step = Wrote c.place_of-place.result (length bytes) c.eq-is_sync.result c.len-size.result c.in_ok-lost.lost in
     let pushed : reverse c.push.new.self.items ≡ step ∷ steps = grind (arith, common_steps) in
-    let calls : calls_from (reverse c.push.new.self.items) new ≡ wrote c.args.offset bytes (is_sync c.args.mode) true ∷ calls_from steps file =
+    let calls : calls_from (reverse c.push.new.self.items) new ≡ wrote c.place_of-place.result bytes (is_sync c.args.mode) true ∷ calls_from steps file =
     ap (λ l. calls_from l new) pushed
-    ∙ write_read steps c.args.offset (length bytes) c.len-size.result c.eq-is_sync.result (is_sync c.args.mode) c.in_ok-lost.lost.items bytes file new
+    ∙ write_read steps c.place_of-place.result (length bytes) c.len-size.result c.eq-is_sync.result (is_sync c.args.mode) c.in_ok-lost.lost.items bytes file new
     sync refl size lost laid in
-    calls
+    calls ∙ ap (λ p. wrote p bytes (is_sync c.args.mode) true ∷ calls_from steps file) c.place_of-place.ensures.is
 
 pub invariant_of-self-else-is_err : goal.invariant_of-self-else-is_err
 invariant_of-self-else-is_err c =
@@ -35,12 +35,12 @@ invariant_of-self-else-is_err c =
     let bytes = c.args.bytes.now in
     let sync : c.eq-is_sync.result ≡ is_sync c.args.mode = search rules in
     let size : c.len-size.result ≡ length file = search rules in
-    let lost : c.in_ok-lost.lost.items ≡ take (length bytes) (drop c.args.offset file) = search rules in
-    let laid : new ≡ with_bytes c.args.offset bytes file = search rules in
-    let step = Wrote c.args.offset (length bytes) c.eq-is_sync.result c.len-size.result c.in_ok-lost.lost in
+    let lost : c.in_ok-lost.lost.items ≡ take (length bytes) (drop c.place_of-place.result file) = search rules in
+    let laid : new ≡ with_bytes c.place_of-place.result bytes file = search rules in
+    let step = Wrote c.place_of-place.result (length bytes) c.eq-is_sync.result c.len-size.result c.in_ok-lost.lost in
     let pushed : reverse c.push.new.self.items ≡ step ∷ steps = grind (arith, common_steps) in
-    let calls : calls_from (reverse c.push.new.self.items) new ≡ wrote c.args.offset bytes (is_sync c.args.mode) true ∷ calls_from steps file =
+    let calls : calls_from (reverse c.push.new.self.items) new ≡ wrote c.place_of-place.result bytes (is_sync c.args.mode) true ∷ calls_from steps file =
     ap (λ l. calls_from l new) pushed
-    ∙ write_read steps c.args.offset (length bytes) c.len-size.result c.eq-is_sync.result (is_sync c.args.mode) c.in_ok-lost.lost.items bytes file new
+    ∙ write_read steps c.place_of-place.result (length bytes) c.len-size.result c.eq-is_sync.result (is_sync c.args.mode) c.in_ok-lost.lost.items bytes file new
     sync refl size lost laid in
-    record { live = laid ∙ ap (with_bytes c.args.offset bytes) disk.live ∙ sym (ap content calls) }
+    record { live = laid ∙ ap (with_bytes c.place_of-place.result bytes) disk.live ∙ sym (ap content calls) }
