@@ -1,6 +1,6 @@
 //! Proofs that are built out of trees and bits.
 
-ghost use Rattle.state_proofs.specs.Bits.{IsChunkWidth};
+ghost use Rattle.state_bitmap.specs.Bits.{IsChunkWidth};
 
 use crate::arguments::{Answer, Hash, append, array_digits, numbers, numbers_told, refused};
 use crate::kept_bits::{KeptBits, Numbers};

@@ -166,11 +166,6 @@ chunk_of-bits_in (suc width) (byte ∷ bytes) within small =
     (ap (chunk_of width) (drop_at (bits_of 8 byte) (bits_in bytes) 8 refl)
     ∙ chunk_of-bits_in width bytes (omega arith) (λ i lt. small (suc i) (omega arith)))
 
-pub length-chunk_of : (width : ℕ) (bits : List Bool) → length (chunk_of width bits) ≡ width
-unfolding chunk_of
-length-chunk_of zero bits = refl
-length-chunk_of (suc width) bits = ap (λ n. suc n) (length-chunk_of width (drop 8 bits))
-
 -- ---- the bits of a chunk
 lowest : (bit : Bool) (rest : ℕ) → eqb (((if bit then 1 else 0) + 2 * rest) % 2) 1 ≡ bit
 lowest true rest = eq-eqb _ 1 (omega arith)

@@ -5,7 +5,6 @@ pub mod ChunkLemmas
 pub mod HeldLemmas
 pub mod HonestLemmas
 pub mod KeptLemmas
-pub mod KnownLemmas
 pub mod LastLemmas
 pub mod LeafLemmas
 pub mod MadeLemmas
@@ -14,7 +13,6 @@ pub mod OneEachLemmas
 pub mod PartsLemmas
 pub mod ProveLemmas
 pub mod ReadLemmas
-pub mod RefusalLemmas
 pub mod SiteLemmas
 pub mod SoundLemmas
 pub mod WidthLemmas

@@ -56,6 +56,10 @@ pub record AreBitsOf (width : ℕ) (all : List Bool) (bits : Bits) : Type 0 wher
 abbrev pub bit_count : ℕ → Bits → ℕ
 bit_count width bits = 8 * width * bits.pruned + length bits.kept
 
+-- all bits, where those that are pruned are clear
+abbrev pub all_bits : ℕ → Bits → List Bool
+all_bits width bits = replicate (8 * width * bits.pruned) false ++ bits.kept
+
 -- The last chunk, and how many of its bits there are. Where no bit is kept it is zeros, and has none; where the bits
 -- fill their chunks it is the last full one.
 abbrev pub last_chunk : ℕ → List Bool → List ℕ × ℕ

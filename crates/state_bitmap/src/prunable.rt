@@ -11,7 +11,7 @@
 
 ghost use Rattle.std.specs.Prelude.{◌≡◌, ◌<◌, ◌≤◌, ◌+◌, ◌-◌, ◌*◌, ◌/◌, ◌%◌, ◌^◌, ◌++◌, [], ◌∷◌, ◌↔◌, false, ℕ, List};
 ghost use Rattle.std.specs.Prelude.{length, replicate, slice_set, slice_index_or, take, drop, IsTrue};
-ghost use Rattle.std.specs.Prelude.{OnOk, OnErr};
+ghost use Rattle.std.specs.Prelude.{IfOk, OnOk, OnErr};
 ghost use Rattle.state_bitmap.specs.Bits.{Bits, IsChunkWidth, bits_of, bits_in, chunk_at, bit_count, last_chunk};
 ghost use Rattle.state_bitmap.specs.Bits.{pruned_to};
 
@@ -122,6 +122,19 @@ impl<const N: usize> Prunable<N> {
             kept: 0,
             bytes: Vec::new(alloc),
         }
+    }
+
+    /// Bits that are equal to these. It fails only when out of memory (own). In the Rust: `Clone::clone`.
+    pub fn try_copy(&self) -> Result<Prunable<N>, AllocError>
+        ensures { IfOk result (λ copy. copy ≡ self.now) }
+    {
+        let bytes = Vec::from_slice(self.alloc, &self.bytes)?;
+        Ok(Prunable {
+            alloc: self.alloc,
+            pruned: self.pruned,
+            kept: self.kept,
+            bytes,
+        })
     }
 
     /// So many chunks that are pruned, of fewer than 2^64 bits, and no other bits. It takes no memory yet.

@@ -6,7 +6,7 @@ use Rattle.state_proofs.specs.Canonical.{Setting, State, chunk_bits, chunk}
 use Rattle.state_proofs.specs.Honest.{honest_parts}
 use Rattle.state_proofs.specs.MadeRanges.{HasActive, HasRange}
 use Rattle.state_proofs.specs.Verified.{Parts, bit_of, shown_alone, IsShaped}
-use Rattle.state_proofs.proofs.ActiveLemmas.{length-chunk, active_bit, bit_of_chunk}
+use Rattle.state_proofs.specs.Laws.Chunks.{length-chunk, active_bit, bit_of_chunk}
 use Rattle.state_proofs.proofs.StateParts.{get_some}
 
 -- the bit of the operation is set in the proof's chunk

@@ -4,7 +4,7 @@ use Rattle.std.proofs.Math.Nat.{pow-suc}
 use Rattle.std.proofs.lemmas.Nat.{pow_below}
 use Rattle.std.proofs.lemmas.Bool.{cases_lt}
 use Rattle.std.proofs.lemmas.List.{length-take, append-nil}
-use Rattle.state_proofs.specs.Bits.{byte_of, chunk_of, chunks_of}
+use Rattle.state_bitmap.specs.Bits.{byte_of, chunk_of, chunks_of}
 
 -- n bits are below 2 to the n
 pub byte_of-below : (bits : List Bool) → byte_of bits < 2 ^ length bits

@@ -18,9 +18,9 @@ use Rattle.state_proofs.specs.Canonical.{Setting, State, chunk_bits, full_chunks
 use Rattle.state_proofs.specs.Grafting.{grafted, grafted_digest}
 use Rattle.state_proofs.specs.Honest.{grafted_range, honest_parts}
 use Rattle.state_proofs.specs.Encoded.{Fits}
-use Rattle.state_proofs.proofs.ChunkCounts.{inactive-few}
-use Rattle.state_proofs.proofs.ActiveLemmas.{length-chunk}
-use Rattle.state_proofs.proofs.HeightLemmas.{some_height}
+use Rattle.state_proofs.specs.Laws.ChunkCounts.{inactive-few}
+use Rattle.state_proofs.specs.Laws.Chunks.{length-chunk}
+use Rattle.state_proofs.specs.Laws.Heights.{some_height}
 
 graft_sized : (size : ℕ) (hash : Hash) (chunk own : List ℕ) (test : Bool) → IsSized size hash → length own ≡ size
     → length (cond test own (hash (chunk ++ own))) ≡ size

@@ -1,15 +1,9 @@
 pub mod BitLemmas
 pub mod WidthLemmas
-pub mod RootLemmas
 pub mod HonestLemmas
-pub mod HeightLemmas
-pub mod ActiveLemmas
-pub mod ChunkCounts
 pub mod HonestSizes
 pub mod Extending
 pub mod StateParts
-pub mod SameNodeLemmas
-pub mod VerifierLemmas
 pub mod RangeIsTrue
 pub mod Alone
 pub mod LogLemmas
@@ -32,6 +26,3 @@ pub mod OneEachProofs
 pub mod RangeLed
 pub mod RangeTold
 pub mod RangeNodes
-pub mod GraftedNodeLemmas
-pub mod GraftedReads
-pub mod GraftedTrees

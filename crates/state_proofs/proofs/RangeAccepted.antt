@@ -28,9 +28,9 @@ use Rattle.state_proofs.specs.MadeRanges.{HasRange}
 use Rattle.state_proofs.specs.MadeStates.{made_chunk}
 use Rattle.state_proofs.specs.Verified.{Shown, shown_bits, stop_of, first_index, last_index, Covers, covering, given_by, shown_grafted, IsShaped, FitsShown, VerifiesRange, FitsChunk}
 use Rattle.state_proofs.specs.Verifier.{Given, given_chunk, claimed_chunk}
-use Rattle.state_proofs.proofs.ChunkCounts.{Aligned, inactive-few}
-use Rattle.state_proofs.proofs.ActiveLemmas.{any_default, location_chunks}
-use Rattle.state_proofs.proofs.HeightLemmas.{some_height}
+use Rattle.state_proofs.specs.Laws.ChunkCounts.{Aligned, inactive-few}
+use Rattle.state_proofs.specs.Laws.Chunks.{any_default, location_chunks}
+use Rattle.state_proofs.specs.Laws.Heights.{some_height}
 use Rattle.state_proofs.proofs.RangeIsTrue.{both_on}
 use Rattle.state_proofs.proofs.SameReading.{Alike, AllAlike, range_same}
 use Rattle.state_proofs.proofs.StateParts.{Counted}

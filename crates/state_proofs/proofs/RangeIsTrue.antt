@@ -30,10 +30,10 @@ use Rattle.state_proofs.specs.MadeRanges.{is_covered, range_pending, range_parti
 use Rattle.state_proofs.specs.MadeStates.{made_operations, made_chunk, made_pending, made_partial, made_state, hashed_strings}
 use Rattle.state_proofs.specs.Verified.{Shown, shown_bits, stop_of, first_index, last_index, full_shown, graftable_shown, Covers, covering, given_by, shown_grafted, IsShaped, FitsShown, VerifiesRange, RangeParts}
 use Rattle.state_proofs.specs.Verifier.{Given, given_chunk, claimed_chunk}
-use Rattle.state_proofs.proofs.ChunkCounts.{index-few}
-use Rattle.state_proofs.proofs.ActiveLemmas.{any_default, location_chunks, chunks-wide}
-use Rattle.state_proofs.proofs.HeightLemmas.{same_power, some_height}
-use Rattle.state_proofs.proofs.VerifierLemmas.{claimed-wide}
+use Rattle.state_proofs.specs.Laws.ChunkCounts.{index-few}
+use Rattle.state_proofs.specs.Laws.Chunks.{any_default, location_chunks, chunks-wide}
+use Rattle.state_proofs.specs.Laws.Heights.{same_power, some_height}
+use Rattle.state_proofs.specs.Laws.Verifier.{claimed-wide}
 use Rattle.state_proofs.proofs.StateParts.{Counted, not_forty, left_over, both_true, held_value, held_sized, next_sized, some_sized, none_sized, match_made, match_next, some_made, none_made, same_pending, same_partial, not_none, string_same, told_at, value_state, few_inactive, get_some, if_is}
 
 -- a number of the range that is one of a chunk's locations

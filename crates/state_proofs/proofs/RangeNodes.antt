@@ -23,10 +23,10 @@ use Rattle.state_proofs.specs.MadeStates.{made_chunk}
 use Rattle.state_proofs.specs.RangeExtracted.{AreMadeOfShown, ShowsDigests}
 use Rattle.state_proofs.specs.Verified.{Shown, shown_bits, stop_of, given_by, graftable_shown, shown_over, shown_grafted, IsShaped, VerifiesRange, RangeParts}
 use Rattle.state_proofs.specs.Verifier.{Given, claimed_chunk, grafted_node, joined_chunk}
-use Rattle.state_proofs.proofs.ChunkCounts.{Aligned}
+use Rattle.state_proofs.specs.Laws.ChunkCounts.{Aligned}
 use Rattle.state_proofs.proofs.RangeAccepted.{met_in, same_at, agrees}
 use Rattle.state_proofs.proofs.RangeIsTrue.{at_level}
-use Rattle.state_proofs.proofs.VerifierLemmas.{joined_is, node_at-is}
+use Rattle.state_proofs.specs.Laws.Verifier.{joined_is, node_at-is}
 use Rattle.state_proofs.proofs.StateParts.{Counted}
 
 -- the law that an honest proof gives the digests of the nodes that it tells

@@ -14,7 +14,7 @@ use Rattle.state_proofs.specs.Grafting.{grafted}
 use Rattle.state_proofs.specs.RangeExtracted.{AreMadeOfShown, told_by}
 use Rattle.state_proofs.specs.Verified.{Shown, stop_of, given_by, graftable_shown, RangeParts}
 use Rattle.state_proofs.specs.Verifier.{Given, grafted_node, joined_chunk}
-use Rattle.state_proofs.proofs.VerifierLemmas.{node_at-is}
+use Rattle.state_proofs.specs.Laws.Verifier.{node_at-is}
 
 case_of : (P : Bool → Type 0) (test : Bool) → P true → P false → P test
 case_of P true one other = one

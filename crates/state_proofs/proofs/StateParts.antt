@@ -27,8 +27,8 @@ use Rattle.state_proofs.specs.MadeGrafted.{grafted_over, grafted_names}
 use Rattle.state_proofs.specs.MadeRanges.{held_or_made}
 use Rattle.state_proofs.specs.MadeStates.{operations_names, made_operations, made_chunk, made_grafted, made_pending, made_partial, made_state}
 use Rattle.state_proofs.specs.Verified.{FitsChunk}
-use Rattle.state_proofs.proofs.ChunkCounts.{inactive-few}
-use Rattle.state_proofs.proofs.HeightLemmas.{pow_le}
+use Rattle.state_proofs.specs.Laws.ChunkCounts.{inactive-few}
+use Rattle.state_proofs.specs.Laws.Heights.{pow_le}
 
 -- digests of chunks, as they are held, made and given
 pub held_value : (hash : Hash) (site : Site) (chunk : List ℕ) (There Covered : Type 0) (test : Bool) (held : Option (List ℕ)) → (test ≡ true → Covered)

@@ -5,7 +5,7 @@ use Rattle.merkle_forest.specs.Forest.{Tree, Rule, forest_of}
 use Rattle.merkle_forest.specs.Hashing.{Hash, number, root_of}
 use Rattle.merkle_forest.specs.Nodes.{nodes_of_height}
 use Rattle.merkle_forest.specs.Trees.{Located, located, peak_digests, inactive_peaks, tree_root}
-use Rattle.state_proofs.specs.Bits.{chunks_of}
+use Rattle.state_bitmap.specs.Bits.{chunks_of}
 use Rattle.state_proofs.specs.Grafting.{grafted_digest, chunk_aligned_inactive_peaks}
 
 -- how a tree grows, how strings are hashed, and how many bytes a chunk has: 8 times that is 2 to the grafting height

@@ -1,9 +1,10 @@
 //! Bits of a state that may be read by chunks.
 
 ghost use Rattle.std.specs.Prelude.{◌≡◌, ◌<◌, ◌≤◌, ◌+◌, ◌*◌, ◌^◌, List, Bool, ℕ, length, drop};
-ghost use Rattle.state_proofs.specs.Bits.{chunk_of};
+ghost use Rattle.state_bitmap.specs.Bits.{chunk_of};
 
 use crate::bits::chunk_array;
+use state_bitmap::Prunable;
 
 /// Bits in chunks of N bytes, of which chunks may be pruned from the front.
 /// In the Rust: `commonware_utils::bitmap::Readable`.
@@ -61,4 +62,30 @@ impl<'a, const N: usize> BitmapReadable<N> for BitList<'a> {
     }
 
     ghost pruned_within = { λ list. none_pruned N (length list.bits.now) };
+}
+
+/// Bits of which those that are pruned are said to be clear: which they were is not kept.
+impl<const N: usize> BitmapReadable<N> for Prunable<N> {
+    ghost use Rattle.state_bitmap.specs.Bits.{all_bits};
+    ghost use Rattle.state_bitmap.specs.Laws.Bits.{pruned_in_all};
+
+    ghost bits = { λ bits. all_bits N bits };
+
+    ghost pruned = { λ bits. bits.pruned };
+
+    fn len(&self) -> u64 {
+        Prunable::len(self)
+    }
+
+    fn pruned_chunks(&self) -> u64 {
+        Prunable::pruned_chunks(self)
+    }
+
+    fn get_chunk(&self, index: u64) -> [u8; N] {
+        let mut chunk = [0; N];
+        chunk.copy_from_slice(Prunable::get_chunk(self, index));
+        chunk
+    }
+
+    ghost pruned_within = { λ bits. pruned_in_all N bits };
 }

@@ -5,7 +5,8 @@
 //! zeros stand for what is not there.
 
 ghost use Rattle.std.specs.Prelude.{◌≡◌, ◌<◌, ◌≤◌, ◌+◌, ◌*◌, ◌^◌, ◌++◌, [], ◌∷◌, ℕ, List, map, take, drop, length, IfOk, OnOk};
-ghost use Rattle.state_proofs.specs.Bits.{byte_of, chunk_of, chunks_of, is_zero};
+ghost use Rattle.state_bitmap.specs.Bits.{byte_of, chunk_of, chunks_of};
+ghost use Rattle.state_proofs.specs.Bits.{is_zero};
 
 use crate::chunk_size::ChunkSize;
 use std::alloc::{AllocError, Global};

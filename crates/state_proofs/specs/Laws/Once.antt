@@ -15,12 +15,12 @@ within_all : (v : Option (List ℕ)) → IfSome v (λ d. Unit {0})
 within_all None = tt
 within_all (Some d) = tt
 
-numbers_once : (m n : ℕ) (x y : List ℕ) → m < 2 ^ 64 → n < 2 ^ 64 → varint m ++ x ≡ varint n ++ y → (m ≡ n) × (x ≡ y)
+pub numbers_once : (m n : ℕ) (x y : List ℕ) → m < 2 ^ 64 → n < 2 ^ 64 → varint m ++ x ≡ varint n ++ y → (m ≡ n) × (x ≡ y)
 numbers_once m n x y low high same =
     let it = one_encoding varint after_varint (λ k. k < 2 ^ 64) after_varint_again m n x y low high same in
     (varint_same m n low high it.0, it.1)
 
-fixed_once : (size : ℕ) (d e x y : List ℕ) → length d ≡ size → length e ≡ size → d ++ x ≡ e ++ y → (d ≡ e) × (x ≡ y)
+pub fixed_once : (size : ℕ) (d e x y : List ℕ) → length d ≡ size → length e ≡ size → d ++ x ≡ e ++ y → (d ≡ e) × (x ≡ y)
 fixed_once size d e x y low high same =
     one_encoding (λ b. b) (after_fixed size) (λ b. length b ≡ size) (fixed_again size) d e x y low high same
 
@@ -40,7 +40,7 @@ digests_once size (d ∷ ds) (e ∷ es) x y count low high same =
     (All-tail Sized e es high) first.1 in
     (ap (λ b. b ∷ ds) first.0 ∙ ap (λ bs. e ∷ bs) rest.0, rest.1)
 
-lists_once : (size : ℕ) (ds es : List (List ℕ)) (x y : List ℕ) → length ds < 2 ^ 64 → length es < 2 ^ 64
+pub lists_once : (size : ℕ) (ds es : List (List ℕ)) (x y : List ℕ) → length ds < 2 ^ 64 → length es < 2 ^ 64
     → All (λ d. length d ≡ size) ds → All (λ d. length d ≡ size) es
     → list_encoding (λ d. d) ds ++ x ≡ list_encoding (λ d. d) es ++ y → (ds ≡ es) × (x ≡ y)
 lists_once size ds es x y few small low high same =
@@ -51,13 +51,13 @@ lists_once size ds es x y few small low high same =
     (flat_map (λ d. d) es ++ y) few small whole in
     digests_once size ds es x y count.0 low high count.1
 
-options_same : (p q : Option (List ℕ)) → option_encoding (λ d. d) p ≡ option_encoding (λ d. d) q → p ≡ q
+pub options_same : (p q : Option (List ℕ)) → option_encoding (λ d. d) p ≡ option_encoding (λ d. d) q → p ≡ q
 options_same None None same = refl
 options_same None (Some q) same = absurd cc
 options_same (Some p) None same = absurd cc
 options_same (Some p) (Some q) same = let inner : p ≡ q = cc in ap (λ d. Some d) inner
 
-options_once : (size : ℕ) (p q : Option (List ℕ)) (x y : List ℕ) → IfSome p (λ d. length d ≡ size)
+pub options_once : (size : ℕ) (p q : Option (List ℕ)) (x y : List ℕ) → IfSome p (λ d. length d ≡ size)
     → IfSome q (λ d. length d ≡ size) → option_encoding (λ d. d) p ++ x ≡ option_encoding (λ d. d) q ++ y
     → (p ≡ q) × (x ≡ y)
 options_once size p q x y low high same =

@@ -171,7 +171,16 @@ where
         alloc: Global,
         cursor: &mut Cursor<'_>,
         cfg: &(C::Limits, (), ()),
-    ) -> Result<ExclusionProof<F, K, V, D, C>, Error> {
+    ) -> Result<ExclusionProof<F, K, V, D, C>, Error>
+        ensures read { Reads ⟦<ExclusionProof<F, K, V, D, C> as Write>⟧.encoding cursor.old cursor.new
+            (after_exclusion (after_form (D.after tt) F.pending_after (C.told cfg.now.0)) (K.after tt) (V.after tt)
+            cursor.old)
+            (ExclusionLacks (after_form (D.after tt) F.pending_after (C.told cfg.now.0)) (K.after tt) (V.after tt)
+            (FormLacks (C.may_lack cfg.now.0) (C.told cfg.now.0)) (K.may_lack tt) (V.may_lack tt) cursor.old) result }
+        ensures value { IfOk result ⟦<ExclusionProof<F, K, V, D, C> as Write>⟧.is_value }
+        ensures chunk { IfOk result
+            (IsExclusionWithin (λ proof. length (C.items proof.chunk) ≡ (C.told cfg.now.0).width)) }
+    {
         match read_tag(cursor)? {
             KEY_VALUE_CONTEXT => {
                 let (proof, update) = read_update(alloc, cursor, &cfg.0)?;

@@ -6,7 +6,7 @@ ghost use Rattle.merkle_forest.specs.Nodes.{nodes_of_height, HasPeak};
 ghost use Rattle.merkle_forest.specs.Peaks.{located_from};
 ghost use Rattle.merkle_forest.specs.Trees.{located};
 ghost use Rattle.merkle_core_parts.specs.declared.error.Error.TheVariants.{LocationOverflow};
-ghost use Rattle.state_proofs.specs.Bits.{IsChunkWidth};
+ghost use Rattle.state_bitmap.specs.Bits.{IsChunkWidth};
 ghost use Rattle.state_proofs.specs.Grafting.{chunk_aligned_inactive_peaks as aligned_peaks};
 ghost use Rattle.state_proofs.specs.PeakEnds.{IsPeakEnd};
 

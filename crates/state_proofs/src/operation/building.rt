@@ -2,7 +2,7 @@
 
 ghost use Rattle.std.specs.Prelude.{◌≡◌, ◌<◌, ◌+◌, ◌*◌, ◌^◌, ℕ, IfOk, IfErr, OnOk};
 ghost use Rattle.merkle_core.specs.Plans.{Lookup, AnswersAs};
-ghost use Rattle.state_proofs.specs.Bits.{IsChunkWidth};
+ghost use Rattle.state_bitmap.specs.Bits.{IsChunkWidth};
 ghost use Rattle.state_proofs.specs.Built.{IsBuildable, IsRefusalOfLocated, IsRefusalOfOperation, IsSourceOf};
 ghost use Rattle.state_proofs.specs.BuiltCode.{measures_with, setting_with, source_of, span_of};
 ghost use Rattle.state_proofs.specs.Canonical.{State, operations_root};

@@ -7,7 +7,7 @@ ghost use Rattle.merkle_forest.specs.declared.bagging.Bagging.TheVariants.{Backw
 ghost use Rattle.merkle_forest.specs.Forest.{forest_of};
 ghost use Rattle.merkle_forest.specs.Nodes.{nodes_of_height};
 ghost use Rattle.state_proofs.specs.declared.error.Error.TheVariants.{DataCorrupted};
-ghost use Rattle.state_proofs.specs.Bits.{IsChunkWidth, chunk_of};
+ghost use Rattle.state_bitmap.specs.Bits.{IsChunkWidth, chunk_of};
 ghost use Rattle.state_proofs.specs.Built.{AreApart, IsBuildable, IsRefusalOfNodes, IsRefusalOfPlanned, IsRefusalOfSource, IsSourceOf, lifted};
 ghost use Rattle.state_proofs.specs.BuiltCode.{measures_with, setting_with, source_of, span_of};
 ghost use Rattle.state_proofs.specs.Canonical.{State, operations_root, partial_digest as partial_of, pending_digest as pending_of};

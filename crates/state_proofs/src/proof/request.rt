@@ -4,7 +4,7 @@ ghost use Rattle.std.specs.Prelude.{◌≡◌, ◌<◌, ◌≤◌, ◌⊎◌, �
 ghost use Rattle.std.specs.List.{range_with_len};
 ghost use Rattle.std.specs.NonZero.{non_zero_u64_get};
 ghost use Rattle.state_proofs.specs.declared.error.Error.TheVariants.{Memory};
-ghost use Rattle.state_proofs.specs.Bits.{IsChunkWidth, chunks_of};
+ghost use Rattle.state_bitmap.specs.Bits.{IsChunkWidth, chunks_of};
 ghost use Rattle.state_proofs.specs.Built.{IsBuildable, IsSourceOf};
 ghost use Rattle.state_proofs.specs.BuiltCode.{measures_with, setting_with, source_of, span_of};
 ghost use Rattle.state_proofs.specs.Canonical.{State, operations_root};

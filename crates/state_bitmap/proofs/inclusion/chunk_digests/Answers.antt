@@ -4,9 +4,9 @@ use Rattle.merkle_forest.specs.Laws.Rules.{mmr_merges_equals}
 use Rattle.merkle_core_parts.specs.Mem.{node_at, tree_digest}
 use Rattle.merkle_core.specs.Plans.{first_missing, range_positions, honest_digests}
 use Rattle.std.proofs.Common.{length}
-use Rattle.state_bitmap.proofs.KnownLemmas.{all_known}
+use Rattle.state_bitmap.specs.Laws.Known.{all_known}
 use Rattle.state_bitmap.proofs.ReadLemmas.{lookup_of}
-use Rattle.state_bitmap.proofs.RefusalLemmas.{element_memory}
+use Rattle.state_bitmap.specs.Laws.Refusals.{element_memory}
 use Rattle.state_bitmap.proofs.inclusion.chunk_digests.Goals as goal
 
 pub out_of_memory-requires : goal.out_of_memory-requires

@@ -1,7 +1,7 @@
 use Rattle.std.proofs.Common.{◌≡◌, ◌-◌, ◌∙◌, ap, arith}
 use Rattle.state_bitmap.specs.MapsCode.{leaves_from}
 use Rattle.state_bitmap.proofs.CallLemmas.{at_chunk, added_next}
-use Rattle.state_bitmap.proofs.RefusalLemmas.{past_memory}
+use Rattle.state_bitmap.specs.Laws.Refusals.{past_memory}
 use Rattle.state_bitmap.proofs.tree.add_chunks.Goals as goal
 
 pub loop-chunk-init : goal.loop-chunk-init

@@ -7,7 +7,7 @@ use Rattle.merkle_core_parts.specs.Layers.{AreLed, oldest_leaves}
 use Rattle.merkle_core_parts.specs.Mem.{Nodes, Additions, Layer, Replacement, AreNodesOf, base_of, own_layer, with_leaves, with_batch}
 use Rattle.state_bitmap.proofs.CallLemmas.{applied_alone, batch_is, brought_leaves, updates_from}
 use Rattle.state_bitmap.proofs.MapLemmas.{leaves-brought}
-use Rattle.state_bitmap.proofs.RefusalLemmas.{onto_memory}
+use Rattle.state_bitmap.specs.Laws.Refusals.{onto_memory}
 use Rattle.state_bitmap.proofs.WidthLemmas.{wide-some}
 use Rattle.state_bitmap.proofs.tree.tree_over.Goals as goal
 

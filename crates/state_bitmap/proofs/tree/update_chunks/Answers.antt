@@ -4,7 +4,7 @@ use Rattle.merkle_forest.specs.Forest.{mmr_rule}
 use Rattle.merkle_core_parts.specs.Mem.{Additions, node_count}
 use Rattle.state_bitmap.specs.MapsCode.{leaves_at}
 use Rattle.state_bitmap.proofs.CallLemmas.{all_at, updated_next}
-use Rattle.state_bitmap.proofs.RefusalLemmas.{at_memory}
+use Rattle.state_bitmap.specs.Laws.Refusals.{at_memory}
 use Rattle.state_bitmap.proofs.tree.update_chunks.Goals as goal
 
 pub loop-chunk-init : goal.loop-chunk-init

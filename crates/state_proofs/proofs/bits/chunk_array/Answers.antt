@@ -1,6 +1,6 @@
 use Rattle.std.proofs.Common.{◌≡◌, ◌<◌, ◌+◌, ◌-◌, ◌++◌, ◌∷◌, [], ℕ, List, Bool, take, length, slice_set, sym, ◌∙◌, ap, arith}
 use Rattle.std.proofs.lemmas.List.{length-set, take_all, take_more_set}
-use Rattle.state_proofs.specs.Bits.{byte_of, chunk_of}
+use Rattle.state_bitmap.specs.Bits.{byte_of, chunk_of}
 use Rattle.state_proofs.proofs.BitLemmas.{chunk_goes_on, chunk_ends}
 use Rattle.state_proofs.proofs.bits.chunk_array.Goals as goal
 

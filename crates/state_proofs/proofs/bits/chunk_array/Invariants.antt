@@ -1,5 +1,5 @@
 use Rattle.std.proofs.Common.{◌≡◌, ◌-◌, ◌++◌, take, length}
-use Rattle.state_proofs.specs.Bits.{chunk_of}
+use Rattle.state_bitmap.specs.Bits.{chunk_of}
 use Rattle.state_proofs.proofs.bits.chunk_array.Given as goal
 
 abbrev pub invariant-loop-index : goal.invariant-loop-index

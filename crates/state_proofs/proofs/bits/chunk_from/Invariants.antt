@@ -1,5 +1,5 @@
 use Rattle.std.proofs.Common.{◌≡◌, ◌-◌, ◌++◌}
-use Rattle.state_proofs.specs.Bits.{chunk_of}
+use Rattle.state_bitmap.specs.Bits.{chunk_of}
 use Rattle.state_proofs.proofs.bits.chunk_from.Given as goal
 
 abbrev pub invariant-loop : goal.invariant-loop

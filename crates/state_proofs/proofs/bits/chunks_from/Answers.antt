@@ -1,6 +1,6 @@
 use Rattle.std.proofs.Common.{◌≡◌, ◌∷◌, [], ◌++◌, map, ap, ◌∙◌}
 use Rattle.std.proofs.lemmas.List.{map_push}
-use Rattle.state_proofs.specs.Bits.{chunk_of}
+use Rattle.state_bitmap.specs.Bits.{chunk_of}
 use Rattle.state_proofs.proofs.BitLemmas.{chunks_go_on, chunks_end}
 use Rattle.state_proofs.proofs.bits.chunks_from.Goals as goal
 

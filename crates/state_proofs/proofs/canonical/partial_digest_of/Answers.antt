@@ -4,7 +4,7 @@ use Rattle.std.proofs.lemmas.Bool.{ne_eqb}
 use Rattle.std.proofs.lemmas.List.{length-map}
 use Rattle.state_proofs.specs.Canonical.{full_chunks, next_bit}
 use Rattle.state_proofs.specs.Snapshot.{state_of, setting_of}
-use Rattle.state_proofs.proofs.RootLemmas.{is_partial_digest, chunk_is, partial_stands}
+use Rattle.state_proofs.specs.Laws.Roots.{is_partial_digest, chunk_is, partial_stands}
 use Rattle.state_proofs.proofs.canonical.partial_digest_of.Goals as goal
 
 pub returns : goal.returns

@@ -5,7 +5,7 @@ use Rattle.merkle_forest.specs.Forest.{forest_of}
 use Rattle.state_proofs.specs.Canonical.{full_chunks}
 use Rattle.merkle_forest.specs.Nodes.{nodes_of_height}
 use Rattle.state_proofs.specs.Snapshot.{state_of, setting_of}
-use Rattle.state_proofs.proofs.RootLemmas.{is_pending_digest, chunk_is, length-chunks}
+use Rattle.state_proofs.specs.Laws.Roots.{is_pending_digest, chunk_is, length-chunks}
 use Rattle.state_proofs.proofs.canonical.pending_digest_of.Goals as goal
 
 pub returns-then-graftable-full : goal.returns-then-graftable-full

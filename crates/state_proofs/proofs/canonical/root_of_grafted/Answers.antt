@@ -6,7 +6,7 @@ use Rattle.merkle_forest.specs.TreesCode.{shapes}
 use Rattle.state_proofs.specs.Canonical.{chunk_bits}
 use Rattle.state_proofs.specs.Grafting.{grafted_digest, chunk_aligned_inactive_peaks}
 use Rattle.state_proofs.specs.Snapshot.{state_of, setting_of}
-use Rattle.state_proofs.proofs.RootLemmas.{is_grafted_root, is_grafted_digests}
+use Rattle.state_proofs.specs.Laws.Roots.{is_grafted_root, is_grafted_digests}
 use Rattle.state_proofs.proofs.canonical.root_of_grafted.Goals as goal
 
 pub returns : goal.returns

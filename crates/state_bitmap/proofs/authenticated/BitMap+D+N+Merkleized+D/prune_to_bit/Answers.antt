@@ -6,7 +6,7 @@ use Rattle.state_bitmap.specs.Maps.{Map, IsMapOf}
 use Rattle.state_bitmap.proofs.CallLemmas.{prune_fits, prune_of}
 use Rattle.state_bitmap.proofs.ChunkLemmas.{chunks_le, chunks_of_bits}
 use Rattle.state_bitmap.proofs.MapLemmas.{chunk_within}
-use Rattle.state_bitmap.proofs.RefusalLemmas.{prune_memory}
+use Rattle.state_bitmap.specs.Laws.Refusals.{prune_memory}
 use Rattle.state_bitmap.proofs.WidthLemmas.{wide-some}
 use Rattle.state_bitmap.proofs.authenticated.BitMap+D+N+Merkleized+D.prune_to_bit.Goals as goal
 

@@ -1,6 +1,6 @@
 use Rattle.std.proofs.Common.{length, sym, ◌∙◌, ap}
 use Rattle.std.proofs.lemmas.List.{length-replicate}
-use Rattle.state_bitmap.proofs.BitLemmas.{length-chunk_of}
+use Rattle.state_bitmap.specs.Laws.Bits.{length-chunk_of}
 use Rattle.state_bitmap.proofs.prunable.Prunable.get_chunk_containing.Goals as goal
 
 pub copy_from_slice-requires : goal.copy_from_slice-requires

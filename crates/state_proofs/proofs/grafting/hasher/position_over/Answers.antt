@@ -2,7 +2,7 @@ use Rattle.std.proofs.Common.{◌≡◌, ℕ, ◌+◌, ◌*◌, ◌^◌, Some, o
 use Rattle.merkle_forest.specs.Forest.{position}
 use Rattle.merkle_forest.specs.Laws.Nodes.{subtree-low}
 use Rattle.state_proofs.specs.GraftedNodes.{node_over}
-use Rattle.state_proofs.proofs.GraftedNodeLemmas.{begins, spread, too_high, too_late, not_born, is_born, placed_over}
+use Rattle.state_proofs.specs.Laws.GraftedNodes.{begins, spread, too_high, too_late, not_born, is_born, placed_over}
 use Rattle.state_proofs.proofs.grafting.hasher.position_over.Goals as goal
 
 pub overflow_sub-height : goal.overflow_sub-height

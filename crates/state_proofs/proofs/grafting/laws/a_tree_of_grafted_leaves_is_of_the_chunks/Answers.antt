@@ -1,6 +1,6 @@
 use Rattle.state_proofs.specs.BuiltCode.{setting_with}
 use Rattle.state_proofs.specs.Canonical.{Setting}
-use Rattle.state_proofs.proofs.GraftedTrees.{chunks_are}
+use Rattle.state_proofs.specs.Laws.GraftedTrees.{chunks_are}
 use Rattle.state_proofs.proofs.grafting.laws.a_tree_of_grafted_leaves_is_of_the_chunks.Goals as goal
 
 pub returns : goal.returns

@@ -1,9 +1,9 @@
 use Rattle.std.proofs.Common.{length}
 use Rattle.state_proofs.specs.BuiltCode.{setting_with}
 use Rattle.state_proofs.specs.Canonical.{Setting}
-use Rattle.state_proofs.proofs.GraftedTrees.{nodes_there}
-use Rattle.state_proofs.proofs.HeightLemmas.{some_height}
-use Rattle.state_proofs.proofs.SameNodeLemmas.{born}
+use Rattle.state_proofs.specs.Laws.GraftedTrees.{nodes_there}
+use Rattle.state_proofs.specs.Laws.Heights.{some_height}
+use Rattle.state_proofs.specs.Laws.SameNodes.{born}
 use Rattle.state_proofs.proofs.grafting.laws.nodes_over_known_leaves_are_there.Goals as goal
 
 pub returns : goal.returns

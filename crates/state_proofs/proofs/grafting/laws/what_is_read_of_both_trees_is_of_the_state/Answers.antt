@@ -1,6 +1,6 @@
 use Rattle.state_proofs.specs.BuiltCode.{setting_with}
 use Rattle.state_proofs.specs.Canonical.{Setting}
-use Rattle.state_proofs.proofs.GraftedTrees.{nodes_are, source_is}
+use Rattle.state_proofs.specs.Laws.GraftedTrees.{nodes_are, source_is}
 use Rattle.state_proofs.proofs.grafting.laws.what_is_read_of_both_trees_is_of_the_state.Goals as goal
 
 pub returns-clause-nodes : goal.returns-clause-nodes

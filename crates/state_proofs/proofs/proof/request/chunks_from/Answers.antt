@@ -1,6 +1,6 @@
 use Rattle.std.proofs.Common.{◌≡◌, ◌+◌, ◌-◌, ◌*◌, ◌++◌, ◌∷◌, [], ℕ, Bool, List, drop, ap, sym, ◌∙◌, arith}
 use Rattle.std.proofs.lemmas.List.{drop-drop}
-use Rattle.state_proofs.specs.Bits.{chunk_of, chunks_of}
+use Rattle.state_bitmap.specs.Bits.{chunk_of, chunks_of}
 use Rattle.state_proofs.proofs.BitLemmas.{chunks_go_on, chunks_end}
 use Rattle.state_proofs.proofs.proof.request.chunks_from.Goals as goal
 

@@ -11,7 +11,7 @@ use Rattle.state_proofs.specs.Verified.{Shown, given_by, shown_over, graftable_s
 use Rattle.state_proofs.specs.ShownCode.{form_shown_of}
 use Rattle.state_proofs.specs.Verifier.{Given, grafted_node}
 use Rattle.state_proofs.specs.VerifierCode.{form_given_of}
-use Rattle.state_proofs.proofs.VerifierLemmas.{hashes_grafted}
+use Rattle.state_proofs.specs.Laws.Verifier.{hashes_grafted}
 use Rattle.state_proofs.proofs.proof.verifying.shown_root.Goals as goal
 
 pub returns : goal.returns

@@ -2,9 +2,9 @@ use Rattle.std.proofs.Common.{◌≡◌, ℕ, Some, sym, ◌∙◌, ap, subst, a
 use Rattle.merkle_forest.specs.Laws.Nodes.{subtree-at}
 use Rattle.merkle_forest.specs.Nodes.{IsSubtree}
 use Rattle.state_proofs.specs.Verifier.{node_at}
-use Rattle.state_proofs.proofs.GraftedNodeLemmas.{position-none, position-some, position-missing}
-use Rattle.state_proofs.proofs.SameNodeLemmas.{tree_of}
-use Rattle.state_proofs.proofs.VerifierLemmas.{node_at-is, node_at-none}
+use Rattle.state_proofs.specs.Laws.GraftedNodes.{position-none, position-some, position-missing}
+use Rattle.state_proofs.specs.Laws.SameNodes.{tree_of}
+use Rattle.state_proofs.specs.Laws.Verifier.{node_at-is, node_at-none}
 use Rattle.state_proofs.proofs.grafting.hasher.GraftedHasher.position_of.Goals as goal
 
 pub returns-then-position-leaf_position : goal.returns-then-position-leaf_position

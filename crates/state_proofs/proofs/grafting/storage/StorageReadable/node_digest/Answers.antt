@@ -2,9 +2,9 @@ use Rattle.std.proofs.Common.{◌≡◌, ℕ, Some, sym, ◌∙◌, ap, arith}
 use Rattle.state_proofs.specs.GraftedNodes.{TwoTrees}
 use Rattle.state_proofs.specs.SameNodes.{IsSameNode}
 use Rattle.state_proofs.specs.Verifier.{node_at}
-use Rattle.state_proofs.proofs.GraftedReads.{read-none, read-low, read-same, high_is, stands_there, tree_there}
-use Rattle.state_proofs.proofs.SameNodeLemmas.{tree_of}
-use Rattle.state_proofs.proofs.VerifierLemmas.{node_at-is, node_at-none}
+use Rattle.state_proofs.specs.Laws.GraftedReads.{read-none, read-low, read-same, high_is, stands_there, tree_there}
+use Rattle.state_proofs.specs.Laws.SameNodes.{tree_of}
+use Rattle.state_proofs.specs.Laws.Verifier.{node_at-is, node_at-none}
 use Rattle.state_proofs.proofs.grafting.storage.StorageReadable.node_digest.Goals as goal
 
 pub returns-then-position-leaf_position : goal.returns-then-position-leaf_position

@@ -2,8 +2,8 @@ use Rattle.std.proofs.Common.{◌≡◌, ℕ, ◌/◌, ◌^◌, inl, inr, sym, �
 use Rattle.merkle_forest.specs.Laws.Nodes.{node-low}
 use Rattle.state_proofs.specs.Verifier.{node_at, joined_chunk, given_chunk}
 use Rattle.state_proofs.specs.VerifierCode.{form_given_of}
-use Rattle.state_proofs.proofs.SameNodeLemmas.{tree_of}
-use Rattle.state_proofs.proofs.VerifierLemmas.{node_at-is, node_at-none, not_at_height, at_height_is, not_given, is_given}
+use Rattle.state_proofs.specs.Laws.SameNodes.{tree_of}
+use Rattle.state_proofs.specs.Laws.Verifier.{node_at-is, node_at-none, not_at_height, at_height_is, not_given, is_given}
 use Rattle.state_proofs.proofs.grafting.verifier.Verifier.chunk_joined_at.Goals as goal
 use Rattle.state_proofs.proofs.grafting.verifier.Verifier.chunk_joined_at.Goals.{then-index-self-via-then-index-self, then-index-self-via-else-index-self+then-index-self-2}
 

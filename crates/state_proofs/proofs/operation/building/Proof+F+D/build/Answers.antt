@@ -1,14 +1,14 @@
 use Rattle.std.proofs.Common.{◌≡◌, ◌<◌, ◌+◌, ◌*◌, ◌/◌, ℕ, List, Bool, length, drop, sym, ◌∙◌, ap, subst, arith}
 use Rattle.std.proofs.lemmas.Nat.{pow_pos}
 use Rattle.merkle_core.specs.Plans.{Asked, IsWithinTree}
-use Rattle.state_proofs.specs.Bits.{chunk_of}
+use Rattle.state_bitmap.specs.Bits.{chunk_of}
 use Rattle.state_proofs.specs.Built.{IsBuildable, IsRefusalOfSource, IsSourceOf}
 use Rattle.state_proofs.specs.BuiltCode.{measures_with, setting_with, source_of}
 use Rattle.state_proofs.specs.Canonical.{Setting}
 use Rattle.state_proofs.specs.Honest.{honest_range}
 use Rattle.state_proofs.specs.ProofsCode.{range_parts_of}
 use Rattle.state_proofs.specs.Required.{Measures}
-use Rattle.state_proofs.proofs.ActiveLemmas.{chunk_is}
+use Rattle.state_proofs.specs.Laws.Chunks.{chunk_is}
 use Rattle.state_proofs.proofs.BuiltLemmas.{operation_refusal, same_parts}
 use Rattle.state_proofs.proofs.operation.building.Proof+F+D.build.Goals as goal
 

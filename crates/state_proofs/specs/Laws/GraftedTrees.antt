@@ -28,12 +28,12 @@ use Rattle.state_proofs.specs.GraftedNodes.{AreGraftedLeaves, IsLookupOfChunks, 
 use Rattle.state_proofs.specs.Grafting.{grafted, grafted_digest}
 use Rattle.state_proofs.specs.SameNodes.{IsSameNode}
 use Rattle.state_proofs.specs.Verifier.{node_at}
-use Rattle.state_proofs.proofs.GraftedNodeLemmas.{Aligned, Roots, node_over-is, node_over-some}
-use Rattle.state_proofs.proofs.GraftedReads.{read-low, read-high}
-use Rattle.state_proofs.proofs.HeightLemmas.{some_height}
-use Rattle.state_proofs.proofs.RootLemmas.{is_grafted_digests}
-use Rattle.state_proofs.proofs.SameNodeLemmas.{AreBorn, in_chunks}
-use Rattle.state_proofs.proofs.VerifierLemmas.{node_at-is, node_at-tree}
+use Rattle.state_proofs.specs.Laws.GraftedNodes.{Aligned, Roots, node_over-is, node_over-some}
+use Rattle.state_proofs.specs.Laws.GraftedReads.{read-low, read-high}
+use Rattle.state_proofs.specs.Laws.Heights.{some_height}
+use Rattle.state_proofs.specs.Laws.Roots.{is_grafted_digests}
+use Rattle.state_proofs.specs.Laws.SameNodes.{AreBorn, in_chunks}
+use Rattle.state_proofs.specs.Laws.Verifier.{node_at-is, node_at-tree}
 
 -- ---- the position at which a branch of the tree of the chunks is hashed
 pub same_position : (rule : Rule) (root : ℕ → ℕ → ℕ) → IsPairing rule → Roots rule root → (level ops p : ℕ) → IsSameNode rule level ops p
@@ -125,7 +125,7 @@ both_some join None other one two = absurd (let e : false ≡ true = one in cc)
 both_some join (Some x) None one two = absurd (let e : false ≡ true = two in cc)
 
 -- ---- a node of the operations' tree, and that of the chunks' tree over the same chunks
-record AreOver (rule : Rule) (n level first chunk : ℕ) (wide narrow : Tree) : Type 0 where
+pub record AreOver (rule : Rule) (n level first chunk : ℕ) (wide narrow : Tree) : Type 0 where
   pub few : n ≤ 2 ^ 62
   pub operations : IsNodeAt first wide (forest_of rule n)
   pub count : ℕ
@@ -133,6 +133,38 @@ record AreOver (rule : Rule) (n level first chunk : ℕ) (wide narrow : Tree) : 
   pub chunks : IsNodeAt chunk narrow (forest_of rule count)
   pub begins : first ≡ chunk * 2 ^ level
   pub high : height wide ≡ height narrow + level
+
+module _ (rule : Rule) (pairs : IsPairing rule) (n level : ℕ) where
+  pub left_over : (first chunk q p : ℕ) (a b l r : Tree) → AreOver rule n level first chunk (branch q a b) (branch p l r)
+      → AreOver rule n level first chunk a l
+  left_over first chunk q p a b l r over = record {
+    few = over.few;
+    operations = node-left first q a b (forest_of rule n) over.operations;
+    count = over.count;
+    few_chunks = over.few_chunks;
+    chunks = node-left chunk p l r (forest_of rule over.count) over.chunks;
+    begins = over.begins;
+    high = omega (arith, over.high);
+  }
+
+  pub right_over : (first chunk q p : ℕ) (a b l r : Tree) → AreOver rule n level first chunk (branch q a b) (branch p l r)
+      → AreOver rule n level (first + leaf_count a) (chunk + leaf_count l) b r
+  right_over first chunk q p a b l r over =
+      let wide = node-perfect first (branch q a b) (forest_of rule n) (forest_of-perfect rule pairs n) over.operations in
+      let narrow = node-perfect chunk (branch p l r) (forest_of rule over.count) (forest_of-perfect rule pairs over.count) over.chunks in
+      let left_high : height a ≡ height l + level = omega (arith, over.high) in
+      let leaves_are : leaf_count a ≡ leaf_count l * 2 ^ level =
+      leaf_count-perfect a wide.1 ∙ ap (λ k. 2 ^ k) left_high ∙ pow-add 2 (height l) level
+      ∙ ap (λ k. k * 2 ^ level) (sym (leaf_count-perfect l narrow.1)) in
+      record {
+        few = over.few;
+        operations = node-right first q a b (forest_of rule n) over.operations;
+        count = over.count;
+        few_chunks = over.few_chunks;
+        chunks = node-right chunk p l r (forest_of rule over.count) over.chunks;
+        begins = ap₂ (λ x y. x + y) over.begins leaves_are ∙ sym (add-mul chunk (leaf_count l) (2 ^ level));
+        high = omega (arith, left_high, wide.0, narrow.0);
+      }
 
 module _ (rule : Rule) (root : ℕ → ℕ → ℕ) (pairs : IsPairing rule) (roots : Roots rule root) (hash : Hash) (n level bits : ℕ)
     (given elements : List (List ℕ)) (whole : bits ≡ 2 ^ level) (some : 0 < level) where
@@ -154,37 +186,6 @@ module _ (rule : Rule) (root : ℕ → ℕ → ℕ) (pairs : IsPairing rule) (ro
           narrow,
           record { leaf_total = over.count; few = over.few_chunks; stands = over.chunks; subtree = refl; level = refl },
         );
-      }
-
-  left_over : (first chunk q p : ℕ) (a b l r : Tree) → AreOver rule n level first chunk (branch q a b) (branch p l r)
-      → AreOver rule n level first chunk a l
-  left_over first chunk q p a b l r over = record {
-    few = over.few;
-    operations = node-left first q a b (forest_of rule n) over.operations;
-    count = over.count;
-    few_chunks = over.few_chunks;
-    chunks = node-left chunk p l r (forest_of rule over.count) over.chunks;
-    begins = over.begins;
-    high = omega (arith, over.high);
-  }
-
-  right_over : (first chunk q p : ℕ) (a b l r : Tree) → AreOver rule n level first chunk (branch q a b) (branch p l r)
-      → AreOver rule n level (first + leaf_count a) (chunk + leaf_count l) b r
-  right_over first chunk q p a b l r over =
-      let wide = node-perfect first (branch q a b) (forest_of rule n) (forest_of-perfect rule pairs n) over.operations in
-      let narrow = node-perfect chunk (branch p l r) (forest_of rule over.count) (forest_of-perfect rule pairs over.count) over.chunks in
-      let left_high : height a ≡ height l + level = omega (arith, over.high) in
-      let leaves_are : leaf_count a ≡ leaf_count l * 2 ^ level =
-      leaf_count-perfect a wide.1 ∙ ap (λ k. 2 ^ k) left_high ∙ pow-add 2 (height l) level
-      ∙ ap (λ k. k * 2 ^ level) (sym (leaf_count-perfect l narrow.1)) in
-      record {
-        few = over.few;
-        operations = node-right first q a b (forest_of rule n) over.operations;
-        count = over.count;
-        few_chunks = over.few_chunks;
-        chunks = node-right chunk p l r (forest_of rule over.count) over.chunks;
-        begins = ap₂ (λ x y. x + y) over.begins leaves_are ∙ sym (add-mul chunk (leaf_count l) (2 ^ level));
-        high = omega (arith, left_high, wide.0, narrow.0);
       }
 
   -- a branch over the same chunks has the digest of its children's digests
@@ -229,8 +230,8 @@ module _ (rule : Rule) (root : ℕ → ℕ → ℕ) (pairs : IsPairing rule) (ro
         (λ known. of first p (branch q a b) d over.operations (same_of first chunk (branch q a b) (branch p l r) over) known)
         (λ made. both_is p (answer l) (answer r) d (joined_digest first (branch q a b))
         (λ x y one other. branch_is first chunk q p a b l r over x y
-        (answer_is first chunk a l x (left_over first chunk q p a b l r over) one)
-        (answer_is (first + leaf_count a) (chunk + leaf_count l) b r y (right_over first chunk q p a b l r over) other)) made) is
+        (answer_is first chunk a l x (left_over rule pairs n level first chunk q p a b l r over) one)
+        (answer_is (first + leaf_count a) (chunk + leaf_count l) b r y (right_over rule pairs n level first chunk q p a b l r over) other)) made) is
 
   -- ---- the digests over grafted leaves
   module _ (leaf_digests : List (List ℕ))
@@ -250,8 +251,8 @@ module _ (rule : Rule) (root : ℕ → ℕ → ℕ) (pairs : IsPairing rule) (ro
     listed_is first chunk (leaf q) (branch p l r) over =
         absurd (let high : 0 ≡ suc (height l) + level = over.high in omega (arith, high))
     listed_is first chunk (branch q a b) (branch p l r) over =
-        branch_is first chunk q p a b l r over _ _ (listed_is first chunk a l (left_over first chunk q p a b l r over))
-        (listed_is (first + leaf_count a) (chunk + leaf_count l) b r (right_over first chunk q p a b l r over))
+        branch_is first chunk q p a b l r over _ _ (listed_is first chunk a l (left_over rule pairs n level first chunk q p a b l r over))
+        (listed_is (first + leaf_count a) (chunk + leaf_count l) b r (right_over rule pairs n level first chunk q p a b l r over))
 
   -- ---- nothing is missing over leaves that are known
   module _ (lookup : Lookup)
@@ -267,8 +268,8 @@ module _ (rule : Rule) (root : ℕ → ℕ → ℕ) (pairs : IsPairing rule) (ro
         absurd (let high : 0 ≡ suc (height l) + level = over.high in omega (arith, high))
     there_is first chunk (branch q a b) (branch p l r) over =
         some_or (lookup p) _ (both_some (chunks_node hash rule level p) _ _
-        (there_is first chunk a l (left_over first chunk q p a b l r over))
-        (there_is (first + leaf_count a) (chunk + leaf_count l) b r (right_over first chunk q p a b l r over)))
+        (there_is first chunk a l (left_over rule pairs n level first chunk q p a b l r over))
+        (there_is (first + leaf_count a) (chunk + leaf_count l) b r (right_over rule pairs n level first chunk q p a b l r over)))
 
 -- ---- what is read of both trees
 quotient_whole : (first c h level : ℕ) → first ≡ c * 2 ^ h → level ≤ h → first ≡ (first / 2 ^ level) * 2 ^ level

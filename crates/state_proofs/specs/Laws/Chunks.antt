@@ -4,7 +4,9 @@ use Rattle.std.specs.Prelude.{slice_get, slice_index_or, if◌then◌else◌, �
 use Rattle.std.proofs.lemmas.Nat.{div-mul-add, shr-shr}
 use Rattle.std.proofs.lemmas.Bool.{eq-eqb, eqb-true}
 use Rattle.std.proofs.Math.Nat.{div-lt_iff_lt-mul, lt-mul-div-succ, div-add-mod, zero-div}
-use Rattle.state_proofs.specs.Bits.{byte_of, chunk_of, chunks_of, is_set}
+use Rattle.state_bitmap.specs.Bits.{byte_of, chunk_of, chunks_of}
+use Rattle.state_bitmap.specs.Laws.Bits.{length-chunk_of}
+use Rattle.state_proofs.specs.Bits.{is_set}
 use Rattle.state_proofs.specs.Canonical.{Setting, State, chunk_bits, full_chunks, next_bit, chunks, chunk}
 
 -- a bit of a byte
@@ -43,11 +45,6 @@ drop_drop n zero bits = ap (λ k. drop k bits) (omega arith)
 drop_drop zero (suc m) [] = let e : suc m + 0 ≡ suc m = omega arith in rw e refl
 drop_drop (suc n) (suc m) [] = let e : suc m + suc n ≡ suc (m + suc n) = omega arith in rw e refl
 drop_drop n (suc m) (b ∷ bits) = let e : suc m + n ≡ suc (m + n) = omega arith in rw e (drop_drop n m bits)
-
-pub length-chunk_of : (width : ℕ) (bits : List Bool) → length (chunk_of width bits) ≡ width
-unfolding chunk_of
-length-chunk_of zero bits = refl
-length-chunk_of (suc width) bits = ap suc (length-chunk_of width (drop 8 bits))
 
 pub byte_at : (width j : ℕ) (bits : List Bool) → j < width
     → slice_get (chunk_of width bits) j ≡ Some (byte_of (take 8 (drop (8 * j) bits)))

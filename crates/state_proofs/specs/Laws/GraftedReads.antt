@@ -19,8 +19,8 @@ use Rattle.merkle_core.specs.Subtrees.{IsTreeAt}
 use Rattle.state_proofs.specs.GraftedNodes.{TwoTrees, chunks_node, digest_of_found, grafted_lookup, known_or_made, node_over}
 use Rattle.state_proofs.specs.SameNodes.{IsSameNode}
 use Rattle.state_proofs.specs.Verifier.{node_at}
-use Rattle.state_proofs.proofs.GraftedNodeLemmas.{Roots, node_over-is}
-use Rattle.state_proofs.proofs.VerifierLemmas.{node_at-is}
+use Rattle.state_proofs.specs.Laws.GraftedNodes.{Roots, node_over-is}
+use Rattle.state_proofs.specs.Laws.Verifier.{node_at-is}
 
 -- ---- the branch that stands at a position
 pub record Halves (rule : Rule) (p h : ℕ) : Type 0 where

@@ -1,0 +1,4 @@
+-- Lemmas that crates above cite.
+pub mod Bits
+pub mod Known
+pub mod Refusals

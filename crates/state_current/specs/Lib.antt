@@ -1,0 +1,4 @@
+pub mod ChunkLeaves
+pub mod Growth
+pub mod Kept
+pub mod Settled

@@ -1,0 +1,90 @@
+//! The state that is kept.
+
+ghost use Rattle.std.specs.Prelude.{◌≡◌, ◌≤◌, ◌*◌, ◌^◌, [], ℕ};
+ghost use Rattle.state_bitmap.specs.Bits.{IsChunkWidth};
+ghost use Rattle.state_proofs.specs.BuiltCode.{setting_with};
+ghost use Rattle.state_current.specs.Kept.{StandsFor};
+
+use merkle_core::Mem;
+use merkle_forest::hasher::HashFunction;
+use merkle_forest::{Graftable, Location};
+use state_bitmap::Prunable;
+use state_proofs::ChunkSize;
+use std::alloc::Global;
+use std::marker::Model;
+
+/// A state, kept as the tree of its operations, the tree of its chunks, its bits and its floor, of which whole chunks may
+/// be pruned from the front. Contracts see what is kept; which state it stands for is known to the caller.
+/// Own: in the Rust `qmdb::current::db::Db` keeps these beside its log.
+#[derive(Drop)]
+pub struct Current<F: Graftable, H: HashFunction, const N: usize> {
+    pub(crate) alloc: Global,
+    pub(crate) operations: Mem<F, H::Digest>,
+    pub(crate) chunks: Mem<F, H::Digest>,
+    pub(crate) bits: Prunable<N>,
+    pub(crate) floor: u64,
+}
+
+impl<F: Graftable, H: HashFunction, const N: usize> Model for Current<F, H, N> {
+    ghost use Rattle.state_current.specs.Kept.{Kept, AreTogether};
+
+    ghost Value = { Kept };
+
+    ghost view = { λ c. record { operations = c.operations; chunks = c.chunks; bits = c.bits; floor = c.floor } };
+
+    ghost invariant = { λ c. AreTogether F.merge_rule N (record {
+      operations = c.operations;
+      chunks = c.chunks;
+      bits = c.bits;
+      floor = c.floor;
+    }) };
+}
+
+impl<F: Graftable, H: HashFunction, const N: usize> Current<F, H, N> {
+    /// The state of no operations. It takes no memory yet (own).
+    pub fn new(alloc: Global) -> Current<F, H, N>
+        requires { IsChunkWidth N }
+        ensures { (height : ℕ) → 8 * N ≡ 2 ^ height
+            → StandsFor (setting_with F.merge_rule H.hash_of N height)
+            (record { operations = []; bits = []; floor = 0 }) result }
+    {
+        Current {
+            alloc,
+            operations: Mem::new(alloc),
+            chunks: Mem::new(alloc),
+            bits: Prunable::new(alloc),
+            floor: 0,
+        }
+    }
+
+    /// How many operations there are, with those that are pruned (own).
+    pub fn leaves(&self) -> Location<F>
+        ensures leaves { result ≡ self.now.operations.leaves }
+        ensures few { result ≤ 2 ^ 62 }
+    {
+        self.operations.leaves()
+    }
+
+    /// How many chunks are pruned (own).
+    pub fn pruned_chunks(&self) -> u64
+        ensures pruned { result ≡ self.now.bits.pruned }
+        ensures few { result ≤ 2 ^ 62 }
+    {
+        self.bits.pruned_chunks()
+    }
+
+    /// The location before which no operation is active (own).
+    pub fn floor(&self) -> Location<F>
+        ensures { result ≡ self.now.floor }
+    {
+        Location::new(self.floor)
+    }
+
+    // How many bits a chunk has.
+    pub(crate) fn chunk_size(&self) -> ChunkSize
+        ensures { result.width ≡ N }
+    {
+        let _floor = self.floor;
+        ChunkSize::of_bytes::<N>()
+    }
+}
