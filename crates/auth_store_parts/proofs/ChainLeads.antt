@@ -17,7 +17,7 @@ use Rattle.auth_store_parts.specs.Chains.{over_delete, over_update, over_deletes
 use Rattle.auth_store_parts.specs.Laws.Logs.{equal_bytes, replayed-batch}
 use Rattle.auth_store_parts.specs.Laws.Lookups.{same, exact, none_later, IsState-tail}
 use Rattle.auth_store_parts.specs.Laws.Below.{value_at_head, none_below_first}
-use Rattle.auth_store_parts.proofs.Neighbours.{next_behind, next_of_last}
+use Rattle.auth_store_parts.specs.Laws.Neighbours.{next_behind, next_of_last}
 use Rattle.auth_store_parts.proofs.Pointers.{transitive, not_itself, at_key, one, behind_past, past_tail, front}
 
 opposite : (b : Bool) → not b ≡ true → b ≡ false

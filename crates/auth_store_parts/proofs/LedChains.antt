@@ -18,7 +18,7 @@ use Rattle.auth_store_parts.specs.Chains.{over_delete, over_update, over_deletes
 use Rattle.auth_store_parts.specs.Laws.Lookups.{same, exact, none_later, IsState-tail}
 use Rattle.auth_store_parts.specs.Laws.Logs.{equal_bytes}
 use Rattle.auth_store_parts.specs.Laws.Below.{value_at_head, value_at_behind, none_below_first}
-use Rattle.auth_store_parts.proofs.Neighbours.{first, is, next_behind, next_of_last}
+use Rattle.auth_store_parts.specs.Laws.Neighbours.{first, is, next_behind, next_of_last}
 use Rattle.auth_store_parts.proofs.Pointers.{transitive, not_itself, one_way, apart, past_tail, front}
 
 second : (a b : Bool) → T (a && b) → T b

@@ -1,5 +1,3 @@
-pub mod Entries
-pub mod Neighbours
 pub mod Batches
 pub mod Firsts
 pub mod Pointers
@@ -9,7 +7,6 @@ pub mod ChainLeads
 pub mod LedChains
 pub mod ChainFirsts
 pub mod Chained
-pub mod Many
 pub mod Mapped
 pub mod Runs
 pub mod Ranks

@@ -12,7 +12,7 @@ use Rattle.auth_store_parts.specs.History.{IsState}
 use Rattle.auth_store_parts.specs.Chains.{Pointer, first_of, behind, is_at_key, is_past, is_one}
 use Rattle.auth_store_parts.specs.Laws.Logs.{equal_bytes}
 use Rattle.auth_store_parts.specs.Laws.Lookups.{IsState-with_entry}
-use Rattle.auth_store_parts.proofs.Neighbours.{first, is}
+use Rattle.auth_store_parts.specs.Laws.Neighbours.{first, is}
 
 less : (o : Ordering) → is_lt o ≡ true → o ≡ Less
 less Less e = refl

@@ -3,7 +3,7 @@ use Rattle.std.proofs.Common.{◌≡◌, ℕ, zero, suc, ◌+◌, ◌≤◌, Lis
 use Rattle.state_ops.specs.Operation.{Operation, delete, update, ordered, commit_floor}
 use Rattle.auth_store_parts.specs.Map.{Map, with_entry}
 use Rattle.auth_store_parts.specs.Places.{after_place, placed, updates_in_front, located_key, located_keys}
-use Rattle.auth_store_parts.proofs.Many.{with_all}
+use Rattle.auth_store_parts.specs.Laws.Many.{with_all}
 
 -- operations may be taken in two parts
 pub placed-parts : {A : Type 0} (meaning : A → Operation) (n start : ℕ) (places : Map) (xs : List A)

@@ -5,3 +5,6 @@ pub mod Actives
 pub mod Places
 pub mod Floors
 pub mod Below
+pub mod Entries
+pub mod Neighbours
+pub mod Many

@@ -19,7 +19,7 @@ use std::collections::BTreeMap;
 
 /// Whether two values have one encoding. They are written into `room`, whose bytes are of no use before or after. It fails
 /// only when out of memory.
-pub(super) fn is_same_value<V: FixedValue>(
+pub fn is_same_value<V: FixedValue>(
     room: &mut Vec<u8>,
     value: &V,
     other: &V,

@@ -250,4 +250,11 @@ impl<K: FixedKey> Places<K> {
     {
         self.locations.get(key).copied()
     }
+
+    /// The map of the keys that are there, each with the location of the update that gives it its value (own).
+    pub fn locations(&self) -> &BTreeMap<K, usize>
+        ensures { state_of K.encoding (λ location. location ∷ []) result.now.entries ≡ self.now }
+    {
+        &self.locations
+    }
 }

@@ -57,6 +57,43 @@ pub fn report_root<W: Write>(alloc: Global, out: &mut W, digest: &[u8]) -> io::R
     writeln!(out, "root {digits}")
 }
 
+/// Prints `floor N`.
+pub fn report_floor<W: Write>(out: &mut W, location: u64) -> io::Result<()>
+    ensures { OnOk result (Appends (W.contents out.old) (W.contents out.new)
+        (reported (codes "floor " ++ decimal location))) }
+{
+    writeln!(out, "floor {location}")
+}
+
+/// Prints `len N`.
+pub fn report_len<W: Write>(out: &mut W, count: u64) -> io::Result<()>
+    ensures { OnOk result (Appends (W.contents out.old) (W.contents out.new)
+        (reported (codes "len " ++ decimal count))) }
+{
+    writeln!(out, "len {count}")
+}
+
+/// Prints `ok`.
+pub fn report_ok<W: Write>(out: &mut W) -> io::Result<()>
+    ensures { OnOk result (Appends (W.contents out.old) (W.contents out.new) (reported (codes "ok"))) }
+{
+    out.write_all(b"ok\n")
+}
+
+/// Prints `closed`.
+pub fn report_closed<W: Write>(out: &mut W) -> io::Result<()>
+    ensures { OnOk result (Appends (W.contents out.old) (W.contents out.new) (reported (codes "closed"))) }
+{
+    out.write_all(b"closed\n")
+}
+
+/// Prints `crashed`.
+pub fn report_crashed<W: Write>(out: &mut W) -> io::Result<()>
+    ensures { OnOk result (Appends (W.contents out.old) (W.contents out.new) (reported (codes "crashed"))) }
+{
+    out.write_all(b"crashed\n")
+}
+
 /// Prints `present V`.
 pub fn report_present<W: Write>(out: &mut W, value: u64) -> io::Result<()>
     ensures { OnOk result (Appends (W.contents out.old) (W.contents out.new)

@@ -1,4 +1,4 @@
-use Rattle.auth_store_parts.proofs.Entries.{state_of-cloned}
+use Rattle.auth_store_parts.specs.Laws.Entries.{state_of-cloned}
 use Rattle.auth_store_parts.proofs.state.copy_of.Goals as goal
 
 pub returns : goal.returns

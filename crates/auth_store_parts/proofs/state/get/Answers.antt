@@ -1,5 +1,5 @@
 use Rattle.std.proofs.Common.{◌∙◌}
-use Rattle.auth_store_parts.proofs.Entries.{option_map-copied, value_at-state_of}
+use Rattle.auth_store_parts.specs.Laws.Entries.{option_map-copied, value_at-state_of}
 use Rattle.auth_store_parts.proofs.state.get.Goals as goal
 
 pub returns : goal.returns

@@ -1,4 +1,4 @@
-use Rattle.auth_store_parts.proofs.Entries.{next_key-above, next_key-least}
+use Rattle.auth_store_parts.specs.Laws.Entries.{next_key-above, next_key-least}
 use Rattle.auth_store_parts.proofs.state.next_key.Goals as goal
 
 pub returns-in-Some : goal.returns-in-Some

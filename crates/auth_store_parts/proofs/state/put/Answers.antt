@@ -1,4 +1,4 @@
-use Rattle.auth_store_parts.proofs.Entries.{state_of-insert_copies}
+use Rattle.auth_store_parts.specs.Laws.Entries.{state_of-insert_copies}
 use Rattle.auth_store_parts.proofs.state.put.Goals as goal
 
 pub returns-clause-ok : goal.returns-clause-ok

@@ -1,6 +1,6 @@
 use Rattle.std.proofs.Common.{◌∙◌, ap}
 use Rattle.auth_store_parts.specs.Map.{state_of}
-use Rattle.auth_store_parts.proofs.Entries.{state_of-remove_entry}
+use Rattle.auth_store_parts.specs.Laws.Entries.{state_of-remove_entry}
 use Rattle.auth_store_parts.proofs.state.remove.Goals as goal
 
 pub returns : goal.returns

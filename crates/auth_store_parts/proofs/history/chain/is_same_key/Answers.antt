@@ -1,6 +1,6 @@
 use Rattle.std.proofs.Common.{refl}
 use Rattle.auth_store_parts.specs.Map.{key_order}
-use Rattle.auth_store_parts.proofs.Entries.{bytes_eq-cmp}
+use Rattle.auth_store_parts.specs.Laws.Entries.{bytes_eq-cmp}
 use Rattle.auth_store_parts.proofs.history.chain.is_same_key.Goals as goal
 
 pub returns : goal.returns

@@ -1,5 +1,5 @@
 use Rattle.std.proofs.Common.{refl}
-use Rattle.auth_store_parts.proofs.Entries.{bytes_eq-cmp}
+use Rattle.auth_store_parts.specs.Laws.Entries.{bytes_eq-cmp}
 use Rattle.auth_store_parts.proofs.history.changes.is_next.Goals as goal
 
 pub returns : goal.returns

@@ -3,7 +3,7 @@ use Rattle.std.proofs.lemmas.Result.{on_ok_weaker}
 use Rattle.state_ops.specs.Operation.{Operation}
 use Rattle.auth_store_parts.specs.Map.{Map, state_of, first_key, next_key}
 use Rattle.auth_store_parts.specs.History as spec
-use Rattle.auth_store_parts.proofs.Neighbours.{state_sorted, next_behind, next_of_last}
+use Rattle.auth_store_parts.specs.Laws.Neighbours.{state_sorted, next_behind, next_of_last}
 use Rattle.auth_store_parts.proofs.history.changes.push_updates.Goals as goal
 
 abbrev Entry : Type 0

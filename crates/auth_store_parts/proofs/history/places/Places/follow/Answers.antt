@@ -2,7 +2,7 @@ use Rattle.std.proofs.Common.{◌∙◌, ◌∷◌, [], ap, sym, refl}
 use Rattle.state_ops.specs.Operation.{meaning_of}
 use Rattle.auth_store_parts.specs.Map.{state_of, with_entry, without_key}
 use Rattle.auth_store_parts.specs.Places.{after_place}
-use Rattle.auth_store_parts.proofs.Entries.{state_of-insert_copies, state_of-remove_entry}
+use Rattle.auth_store_parts.specs.Laws.Entries.{state_of-insert_copies, state_of-remove_entry}
 use Rattle.auth_store_parts.proofs.history.places.Places.follow.Goals as goal
 
 pub returns-in-Delete-clause-ok : goal.returns-in-Delete-clause-ok

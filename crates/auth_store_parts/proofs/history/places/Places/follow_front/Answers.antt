@@ -3,7 +3,7 @@ use Rattle.std.proofs.lemmas.List.{length-map, length-take, take-map}
 use Rattle.state_ops.specs.Operation.{Operation, meaning_of}
 use Rattle.auth_store_parts.specs.Map.{Map, state_of}
 use Rattle.auth_store_parts.specs.Places.{placed, located_keys, updates_in_front}
-use Rattle.auth_store_parts.proofs.Many.{with_all, state_of-appended}
+use Rattle.auth_store_parts.specs.Laws.Many.{with_all, state_of-appended}
 use Rattle.auth_store_parts.proofs.Runs.{run-within, placed-run}
 use Rattle.auth_store_parts.proofs.history.places.Places.follow_front.Goals as goal
 

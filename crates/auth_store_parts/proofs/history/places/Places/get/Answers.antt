@@ -1,6 +1,6 @@
 use Rattle.std.proofs.Common.{◌∙◌, ◌∷◌, [], ap, option_map}
 use Rattle.auth_store_parts.specs.Map.{value_at}
-use Rattle.auth_store_parts.proofs.Entries.{value_at-state_of}
+use Rattle.auth_store_parts.specs.Laws.Entries.{value_at-state_of}
 use Rattle.auth_store_parts.proofs.history.places.Places.get.Goals as goal
 
 pub returns : goal.returns

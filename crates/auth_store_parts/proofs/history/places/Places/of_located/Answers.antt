@@ -1,5 +1,5 @@
 use Rattle.std.proofs.Common.{◌∷◌, []}
-use Rattle.auth_store_parts.proofs.Many.{state_of-made}
+use Rattle.auth_store_parts.specs.Laws.Many.{state_of-made}
 use Rattle.auth_store_parts.proofs.history.places.Places.of_located.Goals as goal
 
 pub returns : goal.returns

@@ -1,5 +1,5 @@
 use Rattle.std.proofs.Common.{◌∙◌, ◌∷◌, [], ap}
-use Rattle.auth_store_parts.proofs.Entries.{state_of-clone}
+use Rattle.auth_store_parts.specs.Laws.Entries.{state_of-clone}
 use Rattle.auth_store_parts.proofs.history.places.Places.try_copy.Goals as goal
 
 pub returns : goal.returns

@@ -15,8 +15,8 @@ use Rattle.std.proofs.lemmas.Map.Made.{update_all_distinct, update_all_none}
 use Rattle.auth_store_parts.specs.Map.{Map, state_of, with_entry, value_at, key_order}
 use Rattle.auth_store_parts.specs.History.{IsState}
 use Rattle.auth_store_parts.specs.Laws.Lookups.{same, exact, value_at-find, IsState-with_entry, lookup-insert_entry}
-use Rattle.auth_store_parts.proofs.Entries.{state_of-insert_entry, value_at-state_of}
-use Rattle.auth_store_parts.proofs.Neighbours.{state_sorted, sorted_state}
+use Rattle.auth_store_parts.specs.Laws.Entries.{state_of-insert_entry, value_at-state_of}
+use Rattle.auth_store_parts.specs.Laws.Neighbours.{state_sorted, sorted_state}
 
 -- the state after all entries, put in one after the other
 abbrev pub with_all : Map → List (List ℕ × List ℕ) → Map

@@ -1,0 +1,14 @@
+use Rattle.std.proofs.Common.{◌∙◌, ap}
+use Rattle.auth_store_parts.specs.Chains.{first_of}
+use Rattle.auth_store_parts.specs.Map.{state_of}
+use Rattle.auth_store_parts.specs.Laws.Entries.{state_of-above}
+use Rattle.auth_store_index.specs.Near.{staying}
+use Rattle.auth_store_index.proofs.near.staying_above.Goals as goal
+
+pub returns : goal.returns
+returns g c value =
+    let key = g.K.Write.encoding in
+    c.first_staying.ensures value
+    ∙ ap (λ s. first_of (staying (state_of key value c.args.gone.now.entries) s))
+    (ap (state_of key value) (c.range-above.ensures.between tt)
+    ∙ state_of-above key value g.K.Ord.cmp g.met.K.FixedKey.in_order c.args.index.now.entries c.args.key.now)
