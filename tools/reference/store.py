@@ -516,8 +516,18 @@ class Session:
             return str(refused)
 
     def run(self):
+        """What is answered to the steps that wait, as one run, at whose end an open store is closed."""
         steps, self.waiting = self.waiting, []
-        return ", ".join(map(self.step, steps))
+        answers = ", ".join(map(self.step, steps))
+        if self.store:
+            self.close()
+        return answers
+
+    def run_whole(self):
+        """So over the device and the cache of the session: an open store is closed before it."""
+        if self.store:
+            self.close()
+        return self.run()
 
 
 # ---------------------------------------------------------------- cases
@@ -650,6 +660,8 @@ class Stores:
                 return "ok"
             case ["run"]:
                 return self.user.run()
+            case ["run", "whole"]:
+                return self.user.run_whole()
         return self.user.step(self.step(words))
 
 

@@ -1,5 +1,5 @@
 -- Steps of a session without an open store, and what closing leaves.
-use Rattle.std.proofs.Common.{◌≡◌, ◌⊎◌, ◌+◌, ℕ, List, ◌∷◌, Option, Some, None, true, false, is_some, refl, sym, ◌∙◌, subst, ap, inl, inr}
+use Rattle.std.proofs.Common.{◌≡◌, ◌⊎◌, ◌+◌, ℕ, Bool, List, ◌∷◌, Option, Some, None, true, false, is_some, refl, sym, ◌∙◌, subst, ap, inl, inr}
 use Rattle.fault_storage_parts.specs.Crc32.{crc32}
 use Rattle.paged_blob.specs.Caches.{Cache}
 use Rattle.paged_blob.specs.Calls.{Call, opened, file_of}
@@ -16,13 +16,13 @@ use Rattle.auth_store_device.specs.Logs.{HasOwnHeader}
 use Rattle.auth_store_session.specs.declared.error.StoreError.{StoreError}
 use Rattle.auth_store_session.specs.declared.error.StoreError.TheVariants.{Fault, PowerCut, NumberEnded, Memory, Corrupt, Failed, Header}
 use Rattle.auth_store_session.specs.Machine as machine
-use Rattle.auth_store_session.specs.Machine.{Machine, Power, State, closed, live, failed, doubtful, Request, ask_open, Answer, refused, at_rest, IsShownOf, IsStep, IsStepClosed, IsStepInDoubt, IsAnswerTo, MayRefuseOpening}
+use Rattle.auth_store_session.specs.Machine.{Machine, Power, State, closed, live, failed, doubtful, Request, ask_open, Answer, refused, at_rest, IsShownOf, IsStep, IsStepClosed, IsStepInDoubt, IsAnswerTo, IsSaid, is_open_after, MayRefuseOpening}
 use Rattle.auth_store_session.specs.MachineCode.{request_of, config_after, config_after_all, IsLeftBy}
 use Rattle.auth_store_session.specs.declared.session.Step.{Step}
 use Rattle.auth_store_session.specs.declared.session.Step.TheVariants as steps
 use Rattle.auth_store_session.specs.declared.sizes.Sizes.{Sizes}
 use Rattle.fault_storage_parts.specs.declared.config.Config.{Config}
-use Rattle.auth_store_session.specs.Standing.{StandsFor, Moves, Steps, StepsOpen, SessionState, IsSession, calls_in, page_size_in, IsOpenedThrough, IsShownThrough, IsRecovered, IsOpenError, power_of, shown_of}
+use Rattle.auth_store_session.specs.Standing.{StandsFor, Moves, Steps, StepsOpen, SessionState, IsSession, IsLeftOpen, calls_in, closed_at, page_size_in, IsOpenedThrough, IsShownThrough, IsRecovered, IsOpenError, power_of, shown_of}
 use Rattle.auth_store_session.specs.Stores.{StoreState, IsCache, IsLiveAt, IsNoHistory, IsWritten, IsKept, Shows}
 use Rattle.auth_store_session.proofs.Kept.{begun_same, some_bytes, opened_keeps, opening_begins}
 use Rattle.auth_store_session.proofs.Opens.{fewer, opening_shows, still_shows, grown, behind}
@@ -34,10 +34,6 @@ ShowsWhatStood =
     → Shows format size history pending calls → IsWritten format now → IsImage (file_of calls) shown
     → NoneByChance crc32 size (opened shown ∷ calls) → history_bytes format now ≡ begun format (recovered_log format crc32 size shown)
     → IsShownOf history pending now
-
--- the same steps with the same page size
-abbrev pub closed_at : {R : Type 0} → DeviceState R → Cache → SessionState R
-closed_at device cache = record { parts = Some (device, cache); store = None }
 
 abbrev pub open_at : {R : Type 0} → StoreState R → SessionState R
 open_at store = record { parts = None; store = Some store }
@@ -418,3 +414,45 @@ pub config_taken : {K V : Type 0} (left rest : List (Step K V)) (step : Step K V
     → left ≡ step ∷ rest → after ≡ config_after step before → config_after_all left before ≡ last → config_after_all rest after ≡ last
 config_taken left rest step before after last is now all =
     ap (config_after_all rest) now ∙ (sym (ap (λ steps. config_after_all steps before) is) ∙ all)
+
+-- a session whose old state has no store has none
+pub still_none : {R : Type 0} (parts : Option (DeviceState R × Cache)) (store : Option (StoreState R)) (old : SessionState R)
+    → record { parts = parts; store = store } ≡ old → old.store ≡ None → store ≡ None
+still_none parts store old view none = ap (λ (s : SessionState _). s.store) view ∙ none
+
+-- an answer of a kind, and not that a store is closed, leaves one open
+said_open : (is_kind : Answer → Bool) (answer : Answer) → is_kind machine.has_closed ≡ false → IsSaid is_kind answer
+    → is_open_after true answer ≡ true
+said_open is_kind machine.opened not_closed said = refl
+said_open is_kind machine.has_closed not_closed said = absurd (false_true (sym not_closed ∙ said))
+  where
+    false_true : false ≡ true → ⊥
+    false_true e = cc
+said_open is_kind (machine.committed root) not_closed said = refl
+said_open is_kind (machine.value found) not_closed said = refl
+said_open is_kind (machine.root_is root) not_closed said = refl
+said_open is_kind (machine.commits_are count) not_closed said = refl
+said_open is_kind (machine.floor_is location) not_closed said = refl
+said_open is_kind (machine.len_is count) not_closed said = refl
+said_open is_kind (machine.proof found) not_closed said = refl
+said_open is_kind machine.has_crashed not_closed said = refl
+said_open is_kind machine.is_set not_closed said = refl
+said_open is_kind (machine.refused error) not_closed said = refl
+said_open is_kind machine.not_open not_closed said = refl
+said_open is_kind machine.still_open not_closed said = refl
+
+-- each request but one to close leaves an open store open
+pub stays_open : (request : Request) (answer : Answer) → IsLeftOpen request → IsAnswerTo true request answer
+    → is_open_after true answer ≡ true
+stays_open machine.ask_close answer left kind = absurd left
+stays_open ask_open answer left kind = ap (is_open_after true) kind
+stays_open machine.ask_crash answer left kind = ap (is_open_after true) kind
+stays_open machine.ask_config answer left kind = ap (is_open_after true) kind
+stays_open (machine.ask_cut calls) answer left kind = ap (is_open_after true) kind
+stays_open (machine.ask_commit words metadata) answer left kind = said_open machine.is_root_of_commit answer refl kind
+stays_open (machine.ask_get key) answer left kind = said_open machine.is_value answer refl kind
+stays_open machine.ask_root answer left kind = said_open machine.is_root answer refl kind
+stays_open machine.ask_commits answer left kind = said_open machine.is_commits answer refl kind
+stays_open machine.ask_floor answer left kind = said_open machine.is_floor answer refl kind
+stays_open machine.ask_len answer left kind = said_open machine.is_len answer refl kind
+stays_open (machine.ask_proof key) answer left kind = said_open machine.is_proof answer refl kind

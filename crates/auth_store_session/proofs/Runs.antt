@@ -1,5 +1,5 @@
 -- A run and one step more.
-use Rattle.std.proofs.Common.{◌≡◌, ◌+◌, ℕ, List, [], ◌∷◌, ◌++◌, Option, Some, None, refl, sym, ◌∙◌, ap, subst, append_assoc}
+use Rattle.std.proofs.Common.{◌≡◌, ◌+◌, ℕ, Bool, List, [], ◌∷◌, ◌++◌, Option, Some, None, is_some, refl, sym, ◌∙◌, ap, subst, append_assoc}
 use Rattle.std.proofs.lemmas.List.{append-nil}
 use Rattle.fault_storage_parts.specs.Crc32.{crc32}
 use Rattle.paged_blob.specs.Caches.{Cache}
@@ -8,8 +8,8 @@ use Rattle.paged_blob.specs.Chance.{NoneByChance}
 use Rattle.paged_blob.specs.Moments.{Grows, here}
 use Rattle.auth_store_device.specs.Devices.{DeviceState}
 use Rattle.auth_store_log.specs.Records.{Format}
-use Rattle.auth_store_session.specs.Machine.{Machine, Power, State, closed, live, failed, doubtful, Request, Answer, IsStep, IsRun, IsRunInDoubt, Passes, at_rest, in_doubt}
-use Rattle.auth_store_session.specs.Standing.{SessionState, StandsFor, IsSure, Steps, Runs, RunsInDoubt, RunsWhole, calls_in, page_size_in, power_in, power_of}
+use Rattle.auth_store_session.specs.Machine.{Machine, Power, State, closed, live, failed, doubtful, Request, Answer, IsStep, IsRun, IsRunInDoubt, IsAnswerTo, AreAnswersTo, is_open_after, Passes, at_rest, in_doubt}
+use Rattle.auth_store_session.specs.Standing.{SessionState, StandsFor, IsSure, Steps, Runs, RunsInDoubt, RunsToRest, RunsToRestInDoubt, RunsWhole, calls_in, closed_at, page_size_in, power_in, power_of}
 use Rattle.auth_store_session.specs.Stores.{StoreState}
 use Rattle.auth_store_session.proofs.Opens.{fewer, grows_on}
 
@@ -111,6 +111,28 @@ runs_go_on_in_doubt m format first now next requests answers request answer runs
 pub runs_none_in_doubt : {R : Type 0} (m : Machine) (format : Format) (first : SessionState R) → RunsInDoubt m format first [] [] first
 runs_none_in_doubt m format first state stands = (state, (refl, refl), stands)
 
+-- whether a store is open after answers
+pub opens : Bool → List Answer → Bool
+opens before [] = before
+opens before (answer ∷ answers) = opens (is_open_after before answer) answers
+
+opens_next : (before : Bool) (answers : List Answer) (answer : Answer)
+    → opens before (answers ++ answer ∷ []) ≡ is_open_after (opens before answers) answer
+unfolding opens
+opens_next before [] answer = refl
+opens_next before (a ∷ answers) answer = opens_next (is_open_after before a) answers answer
+
+-- one answer more of its kind
+answers_next : (before : Bool) (requests : List Request) (answers : List Answer) (request : Request) (answer : Answer)
+    → AreAnswersTo before requests answers → IsAnswerTo (opens before answers) request answer
+    → AreAnswersTo before (requests ++ request ∷ []) (answers ++ answer ∷ [])
+unfolding opens
+answers_next before [] [] request answer kinds kind = (kind, tt)
+answers_next before (r ∷ requests) (a ∷ answers) request answer kinds kind =
+    (kinds.0, answers_next (is_open_after before a) requests answers request answer kinds.1 kind)
+answers_next before [] (a ∷ answers) request answer kinds kind = absurd kinds
+answers_next before (r ∷ requests) [] request answer kinds kind = absurd kinds
+
 -- what was taken of some requests, and what is left
 pub record Taken {R : Type 0} (m : Machine) (format : Format) (first : SessionState R) (whole rest : List Request) (given : List Answer)
     (now : SessionState R) : Type 0 where
@@ -118,16 +140,21 @@ pub record Taken {R : Type 0} (m : Machine) (format : Format) (first : SessionSt
   pub is : before ++ rest ≡ whole
   pub ran : Runs m format first before given now
   pub ran_in_doubt : RunsInDoubt m format first before given now
+  pub kinds : AreAnswersTo (is_some first.store) before given
+  pub is_open : is_some now.store ≡ opens (is_some first.store) given
   pub sized : page_size_in now.parts now.store ≡ page_size_in first.parts first.store
   pub grown : Grows (calls_in first.parts first.store) (calls_in now.parts now.store)
 
 pub taken_none : {R : Type 0} (m : Machine) (format : Format) (first : SessionState R) (whole rest : List Request) (given : List Answer)
     → rest ≡ whole → given ≡ [] → Taken m format first whole rest given first
+unfolding opens
 taken_none m format first whole rest given is none = record {
   before = [];
   is = is;
   ran = subst (λ answers. Runs m format first [] answers first) (sym none) (runs_none m format first);
   ran_in_doubt = subst (λ answers. RunsInDoubt m format first [] answers first) (sym none) (runs_none_in_doubt m format first);
+  kinds = subst (λ answers. AreAnswersTo (is_some first.store) [] answers) (sym none) tt;
+  is_open = subst (λ answers. is_some first.store ≡ opens (is_some first.store) answers) (sym none) refl;
   sized = refl;
   grown = here tt;
 }
@@ -137,11 +164,13 @@ pub taken_next : {R : Type 0} (make : ℕ → Machine) (format : Format) (first 
     (given more : List Answer) (now next : SessionState R) (request : Request) (answer : Answer)
     → Taken (make (page_size_in first.parts first.store)) format first whole left given now → left ≡ request ∷ rest
     → Steps (make (page_size_in now.parts now.store)) format now request answer next
+    → IsAnswerTo (is_some now.store) request answer → is_some next.store ≡ is_open_after (is_some now.store) answer
     → Grows (calls_in now.parts now.store) (calls_in next.parts next.store)
     → page_size_in next.parts next.store ≡ page_size_in now.parts now.store → more ≡ given ++ answer ∷ []
     → Taken (make (page_size_in first.parts first.store)) format first whole rest more next
-taken_next make format first whole left rest given more now next request answer taken is steps grows sized gives =
+taken_next make format first whole left rest given more now next request answer taken is steps kind opens_to grows sized gives =
     let m = make (page_size_in first.parts first.store) in
+    let was = is_some first.store in
     let step = subst (λ size. Steps (make size) format now request answer next) taken.sized steps in
     record {
       before = taken.before ++ request ∷ [];
@@ -151,6 +180,11 @@ taken_next make format first whole left rest given more now next request answer 
           step);
       ran_in_doubt = subst (λ answers. RunsInDoubt m format first (taken.before ++ request ∷ []) answers next) (sym gives)
           (runs_go_on_in_doubt m format first now next taken.before given request answer taken.ran_in_doubt step);
+      kinds = subst (λ answers. AreAnswersTo was (taken.before ++ request ∷ []) answers) (sym gives)
+          (answers_next was taken.before given request answer taken.kinds
+          (subst (λ is_open. IsAnswerTo is_open request answer) taken.is_open kind));
+      is_open = opens_to ∙ (ap (λ is_open. is_open_after is_open answer) taken.is_open
+          ∙ (sym (opens_next was given answer) ∙ ap (opens was) (sym gives)));
       sized = sized ∙ taken.sized;
       grown = grows_on (calls_in first.parts first.store) (calls_in now.parts now.store) (calls_in next.parts next.store) taken.grown grows;
     }
@@ -168,19 +202,48 @@ taken_end_in_doubt m format first whole left given now taken none =
     subst (λ requests. RunsInDoubt m format first requests given now)
     (sym (append-nil taken.before) ∙ (ap (λ l. taken.before ++ l) (sym none) ∙ taken.is)) taken.ran_in_doubt
 
--- a run of a closed session that is closed at its end
+pub taken_kinds : {R : Type 0} (m : Machine) (format : Format) (first : SessionState R) (whole left : List Request) (given : List Answer)
+    (now : SessionState R) → Taken m format first whole left given now → left ≡ [] → AreAnswersTo (is_some first.store) whole given
+taken_kinds m format first whole left given now taken none =
+    subst (λ requests. AreAnswersTo (is_some first.store) requests given)
+    (sym (append-nil taken.before) ∙ (ap (λ l. taken.before ++ l) (sym none) ∙ taken.is)) taken.kinds
+
+-- a run of a session that is closed at its end
+pub runs_to_rest : {R : Type 0} (m : Machine) (format : Format) (first now : SessionState R) (requests : List Request)
+    (answers : List Answer) (device : DeviceState R) (cache : Cache)
+    → Runs m format first requests answers now → device.calls ≡ calls_in now.parts now.store
+    → m.page_size ≡ page_size_in now.parts now.store → power_of device cache ≡ power_in now.parts now.store
+    → ((state : State) → StandsFor format now.parts now.store state → StandsFor format (Some (device, cache)) None (at_rest state))
+    → RunsToRest m format first requests answers device cache
+runs_to_rest m format first now requests answers device cache runs calls paged power rests chance state stands =
+    let ran = runs (subst (λ size. NoneByChance crc32 size (calls_in now.parts now.store)) paged
+    (subst (NoneByChance crc32 m.page_size) calls chance)) state stands in (
+      ran.0,
+      subst (λ p. IsRun m (power_in first.parts first.store) state requests answers p ran.0) (sym power) ran.1,
+      rests ran.0 ran.2,
+    )
+
+-- so in doubt
+pub runs_to_rest_in_doubt : {R : Type 0} (m : Machine) (format : Format) (first now : SessionState R) (requests : List Request)
+    (answers : List Answer) (device : DeviceState R) (cache : Cache)
+    → RunsInDoubt m format first requests answers now → power_of device cache ≡ power_in now.parts now.store
+    → ((state : State) → StandsFor format now.parts now.store state → StandsFor format (Some (device, cache)) None (at_rest state))
+    → RunsToRestInDoubt m format first requests answers device cache
+runs_to_rest_in_doubt m format first now requests answers device cache runs power rests state stands =
+    let ran = runs state stands in (
+      ran.0,
+      subst (λ p. IsRunInDoubt m (power_in first.parts first.store) state requests answers p ran.0) (sym power) ran.1,
+      rests ran.0 ran.2,
+    )
+
+-- so of a closed session
 pub runs_whole : {R : Type 0} (m : Machine) (format : Format) (first now : SessionState R) (requests : List Request)
-    (answers : List Answer) (device new : DeviceState R) (cache last : Cache) → first ≡ record { parts = Some (device, cache); store = None }
+    (answers : List Answer) (device new : DeviceState R) (cache last : Cache) → first ≡ closed_at device cache
     → Runs m format first requests answers now → new.calls ≡ calls_in now.parts now.store
     → last.page_size + 12 ≡ page_size_in now.parts now.store → m.page_size ≡ page_size_in now.parts now.store
     → power_of new last ≡ power_in now.parts now.store
     → ((state : State) → StandsFor format now.parts now.store state → StandsFor format (Some (new, last)) None (at_rest state))
     → RunsWhole m format device cache requests answers new last
-runs_whole m format first now requests answers device new cache last is runs calls sized paged power rests chance state stands =
-    let ran = subst (λ s. Runs m format s requests answers now) is runs
-    (subst (λ size. NoneByChance crc32 size (calls_in now.parts now.store)) paged
-    (subst (NoneByChance crc32 m.page_size) calls chance)) state stands in (
-      ran.0,
-      subst (λ p. IsRun m (power_of device cache) state requests answers p ran.0) (sym power) ran.1,
-      rests ran.0 ran.2,
-    )
+runs_whole m format first now requests answers device new cache last is runs calls sized paged power rests =
+    subst (λ s. RunsToRest m format s requests answers new last) is
+    (runs_to_rest m format first now requests answers new last runs calls paged power rests)

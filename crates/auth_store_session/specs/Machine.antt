@@ -446,3 +446,16 @@ IsAnswerTo true ask_commits answer = IsSaid is_commits answer
 IsAnswerTo true ask_floor answer = IsSaid is_floor answer
 IsAnswerTo true ask_len answer = IsSaid is_len answer
 IsAnswerTo true (ask_proof key) answer = IsSaid is_proof answer
+
+-- whether a session has an open store after an answer, by whether it had one before
+abbrev pub is_open_after : Bool → Answer → Bool
+is_open_after before opened = true
+is_open_after before has_closed = false
+is_open_after before _ = before
+
+-- An answer for each request, each of its request's kind.
+abbrev pub AreAnswersTo : Bool → List Request → List Answer → Type 0
+AreAnswersTo is_open [] [] = ⊤
+AreAnswersTo is_open (request ∷ requests) (answer ∷ answers) =
+    IsAnswerTo is_open request answer × AreAnswersTo (is_open_after is_open answer) requests answers
+AreAnswersTo is_open _ _ = ⊥

@@ -5,7 +5,7 @@ use Rattle.fault_storage_parts.specs.declared.config.Config.{Config}
 use Rattle.paged_blob.specs.Caches.{Cache}
 use Rattle.paged_blob.specs.Calls.{Call, opened, file_of}
 use Rattle.paged_blob.specs.Images.{IsImage}
-use Rattle.paged_blob.specs.Moments.{Through}
+use Rattle.paged_blob.specs.Moments.{Grows, Through}
 use Rattle.paged_blob.specs.Chance.{NoneByChance}
 use Rattle.auth_store_parts.specs.Batch.{Word}
 use Rattle.auth_store_parts.specs.History.{History, log_of}
@@ -16,7 +16,7 @@ use Rattle.auth_store_log.specs.Shown.{IsKeptThrough}
 use Rattle.auth_store_ledger.specs.Store.{commit_after, root_of_history}
 use Rattle.auth_store_session.specs.declared.error.StoreError.{StoreError}
 use Rattle.auth_store_session.specs.declared.error.StoreError.TheVariants as refusals
-use Rattle.auth_store_session.specs.Machine.{Machine, Power, State, closed, live, failed, doubtful, Request, ask_close, Answer, at_rest, IsStep, IsRun, IsRunInDoubt, Passes, MayRefuseOpening, MayRefuseCommit, commit_of}
+use Rattle.auth_store_session.specs.Machine.{Machine, Power, State, closed, live, failed, doubtful, Request, ask_close, Answer, at_rest, IsStep, IsRun, IsRunInDoubt, AreAnswersTo, Passes, MayRefuseOpening, MayRefuseCommit, commit_of}
 use Rattle.auth_store_session.specs.Stores.{StoreState, IsCache, IsLiveAt, IsNoHistory, IsWritten, IsKept, Shows}
 
 -- a session: the device and the cache while no store is open, or the store
@@ -178,12 +178,41 @@ RunsInDoubt m format old requests answers new =
     → (last : State) × IsRunInDoubt m (power_in old.parts old.store) first requests answers (power_in new.parts new.store) last
     × StandsFor format new.parts new.store last
 
--- A whole run of a device and a cache, closed before it and after it: where no opening is by chance, it is a run of the machine from
--- each state for which they stood, and they stand for its last state at rest.
+-- So many steps of a session that is taken apart then, closed: where no opening is by chance they are a run of the machine from each
+-- state for which it stood, and device and cache stand for the last one at rest.
+abbrev pub RunsToRest : {R : Type 0} → Machine → Format → SessionState R → List Request → List Answer → DeviceState R → Cache → Type 0
+RunsToRest m format old requests answers device cache =
+    NoneByChance crc32 m.page_size device.calls
+    → (first : State) → StandsFor format old.parts old.store first
+    → (last : State) × IsRun m (power_in old.parts old.store) first requests answers (power_of device cache) last
+    × StandsFor format (Some (device, cache)) None (at_rest last)
+
+-- So, in doubt: by chance or not.
+abbrev pub RunsToRestInDoubt : {R : Type 0} → Machine → Format → SessionState R → List Request → List Answer → DeviceState R → Cache
+    → Type 0
+RunsToRestInDoubt m format old requests answers device cache =
+    (first : State) → StandsFor format old.parts old.store first
+    → (last : State) × IsRunInDoubt m (power_in old.parts old.store) first requests answers (power_of device cache) last
+    × StandsFor format (Some (device, cache)) None (at_rest last)
+
+-- a closed session over a device and a cache
+abbrev pub closed_at : {R : Type 0} → DeviceState R → Cache → SessionState R
+closed_at device cache = record { parts = Some (device, cache); store = None }
+
+-- A whole run of a device and a cache, closed before it and after it.
 abbrev pub RunsWhole : {R : Type 0} → Machine → Format → DeviceState R → Cache → List Request → List Answer → DeviceState R → Cache
     → Type 0
-RunsWhole m format device cache requests answers new now =
-    NoneByChance crc32 m.page_size new.calls
-    → (first : State) → StandsFor format (Some (device, cache)) None first
-    → (last : State) × IsRun m (power_of device cache) first requests answers (power_of new now) last
-    × StandsFor format (Some (new, now)) None (at_rest last)
+RunsWhole m format device cache requests answers new now = RunsToRest m format (closed_at device cache) requests answers new now
+
+-- All that is promised of a whole run of a session: it is a run of the machine; by chance or not it is one in doubt, in which what was
+-- acknowledged begins the log of each later history, and it has an answer for each request, of its kind; the device's record only grows;
+-- and device and cache are left closed, so that another session may be begun with them.
+pub record HasRunToRest {R : Type 0} (m : Machine) (format : Format) (old : SessionState R) (requests : List Request)
+    (answers : List Answer) (device : DeviceState R) (cache : Cache) : Type 0 where
+  pub runs : RunsToRest m format old requests answers device cache
+  pub in_doubt : RunsToRestInDoubt m format old requests answers device cache
+  pub kinds : AreAnswersTo (is_some old.store) requests answers
+  pub grows : Grows (calls_in old.parts old.store) device.calls
+  pub is_closed : device.log ≡ None
+  pub is_cache : IsCache cache
+  pub page_size : cache.page_size + 12 ≡ page_size_in old.parts old.store

@@ -15,7 +15,7 @@ ghost use Rattle.fault_storage_parts.specs.declared.config.Config as settings;
 ghost use Rattle.paged_blob.specs.Moments.{Grows};
 ghost use Rattle.auth_store_ledger.specs.Store.{IsChunkWidth};
 ghost use Rattle.auth_store_log.specs.Records.{format_of};
-ghost use Rattle.auth_store_session.specs.Machine.{machine, State, at_rest, IsAnswerTo};
+ghost use Rattle.auth_store_session.specs.Machine.{machine, State, at_rest, IsAnswerTo, is_open_after};
 ghost use Rattle.auth_store_parts.specs.Batch as words;
 ghost use Rattle.auth_store_session.specs.Machine.{ask_open, ask_crash, ask_config, ask_cut, ask_close, ask_commit};
 ghost use Rattle.auth_store_session.specs.Machine.{ask_get, ask_root, ask_commits, ask_floor, ask_len, ask_proof};
@@ -411,6 +411,8 @@ where
             (page_size_in self.old.parts self.old.store) in
             Steps m format self.old ask_open (meaning_of H.Digest.encoding V.encoding result) self.new }
         ensures kind { IsAnswerTo false ask_open (meaning_of H.Digest.encoding V.encoding result) }
+        ensures open { is_some self.new.store
+            ≡ is_open_after false (meaning_of H.Digest.encoding V.encoding result) }
         ensures page_size { page_size_in self.new.parts self.new.store
             ≡ page_size_in self.old.parts self.old.store }
         ensures grows { Grows (calls_in self.old.parts self.old.store) (calls_in self.new.parts self.new.store) }
@@ -446,6 +448,7 @@ where
             (page_size_in self.old.parts self.old.store) in
             Steps m format self.old ask_crash (meaning_of H.Digest.encoding V.encoding result) self.new }
         ensures kind { IsAnswerTo false ask_crash (meaning_of H.Digest.encoding V.encoding result) }
+        ensures closed { self.new.store ≡ None }
         ensures page_size { page_size_in self.new.parts self.new.store
             ≡ page_size_in self.old.parts self.old.store }
         ensures grows { Grows (calls_in self.old.parts self.old.store) (calls_in self.new.parts self.new.store) }
@@ -467,6 +470,7 @@ where
             (page_size_in self.old.parts self.old.store) in
             Steps m format self.old ask_config (meaning_of H.Digest.encoding V.encoding result) self.new }
         ensures kind { IsAnswerTo false ask_config (meaning_of H.Digest.encoding V.encoding result) }
+        ensures closed { self.new.store ≡ None }
         ensures page_size { page_size_in self.new.parts self.new.store
             ≡ page_size_in self.old.parts self.old.store }
         ensures grows { Grows (calls_in self.old.parts self.old.store) (calls_in self.new.parts self.new.store) }
@@ -489,6 +493,7 @@ where
             (page_size_in self.old.parts self.old.store) in
             Steps m format self.old (ask_cut calls) (meaning_of H.Digest.encoding V.encoding result) self.new }
         ensures kind { IsAnswerTo false (ask_cut calls) (meaning_of H.Digest.encoding V.encoding result) }
+        ensures closed { self.new.store ≡ None }
         ensures page_size { page_size_in self.new.parts self.new.store
             ≡ page_size_in self.old.parts self.old.store }
         ensures grows { Grows (calls_in self.old.parts self.old.store) (calls_in self.new.parts self.new.store) }
@@ -514,6 +519,8 @@ where
             (meaning_of H.Digest.encoding V.encoding result) self.new }
         ensures kind { IsAnswerTo false (request_of K.encoding V.encoding step)
             (meaning_of H.Digest.encoding V.encoding result) }
+        ensures open { is_some self.new.store
+            ≡ is_open_after false (meaning_of H.Digest.encoding V.encoding result) }
         ensures page_size { page_size_in self.new.parts self.new.store
             ≡ page_size_in self.old.parts self.old.store }
         ensures grows { Grows (calls_in self.old.parts self.old.store) (calls_in self.new.parts self.new.store) }
@@ -539,6 +546,7 @@ where
             (page_size_in self.old.parts self.old.store) in
             Steps m format self.old ask_close (meaning_of H.Digest.encoding V.encoding result) self.new }
         ensures kind { IsAnswerTo true ask_close (meaning_of H.Digest.encoding V.encoding result) }
+        ensures closed { self.new.store ≡ None }
         ensures page_size { page_size_in self.new.parts self.new.store
             ≡ page_size_in self.old.parts self.old.store }
         ensures grows { Grows (calls_in self.old.parts self.old.store) (calls_in self.new.parts self.new.store) }
@@ -563,6 +571,8 @@ where
             (meaning_of H.Digest.encoding V.encoding result) self.new }
         ensures kind { IsAnswerTo true (request_of K.encoding V.encoding step)
             (meaning_of H.Digest.encoding V.encoding result) }
+        ensures open { is_some self.new.store
+            ≡ is_open_after true (meaning_of H.Digest.encoding V.encoding result) }
         ensures page_size { page_size_in self.new.parts self.new.store
             ≡ page_size_in self.old.parts self.old.store }
         ensures grows { Grows (calls_in self.old.parts self.old.store) (calls_in self.new.parts self.new.store) }
@@ -587,6 +597,8 @@ where
             (meaning_of H.Digest.encoding V.encoding result) self.new }
         ensures kind { IsAnswerTo true (request_of K.encoding V.encoding step)
             (meaning_of H.Digest.encoding V.encoding result) }
+        ensures open { is_some self.new.store
+            ≡ is_open_after true (meaning_of H.Digest.encoding V.encoding result) }
         ensures page_size { page_size_in self.new.parts self.new.store
             ≡ page_size_in self.old.parts self.old.store }
         ensures grows { Grows (calls_in self.old.parts self.old.store) (calls_in self.new.parts self.new.store) }
@@ -613,9 +625,9 @@ where
     }
 
     /// Takes one step and answers it: a step of the machine, from each state that the session stood for, where no
-    /// opening of the device is by chance, or in doubt; and an answer of the step's kind, by chance or not. The device
-    /// has the settings of the last step that had some, and lets through as many calls as a step says, also while a
-    /// store is open.
+    /// opening of the device is by chance, or in doubt; and an answer of the step's kind, by chance or not, which tells
+    /// whether a store is open then. The device has the settings of the last step that had some, and lets through as many
+    /// calls as a step says, also while a store is open.
     pub fn step(&mut self, step: Step<K, V>) -> Answer<H::Digest, V>
         ensures steps { let format = format_of (K.after tt) (V.after tt) K.SIZE V.SIZE in
             let m = machine F.merge_rule H.hash_of F.pending_encoding N K.SIZE V.SIZE
@@ -624,6 +636,8 @@ where
             (meaning_of H.Digest.encoding V.encoding result) self.new }
         ensures kind { IsAnswerTo (is_some self.old.store) (request_of K.encoding V.encoding step)
             (meaning_of H.Digest.encoding V.encoding result) }
+        ensures open { is_some self.new.store
+            ≡ is_open_after (is_some self.old.store) (meaning_of H.Digest.encoding V.encoding result) }
         ensures page_size { page_size_in self.new.parts self.new.store
             ≡ page_size_in self.old.parts self.old.store }
         ensures grows { Grows (calls_in self.old.parts self.old.store) (calls_in self.new.parts self.new.store) }

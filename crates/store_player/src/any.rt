@@ -163,13 +163,25 @@ impl Any {
         told(alloc, &answer)
     }
 
-    /// What is answered to steps that are taken as one run.
+    /// What is answered to steps that are taken as one run of a session, which is closed then.
     pub fn run(&mut self, alloc: Global, steps: Vec<Asking>) -> Result<String, Unanswered> {
         let answers = match self.taken {
             Some(Kind::Range) => self.range.run(alloc, steps)?,
             Some(Kind::WideRange) => self.wide_range.run(alloc, steps)?,
             Some(Kind::Belt) => self.belt.run(alloc, steps)?,
             Some(Kind::WideBelt) => self.wide_belt.run(alloc, steps)?,
+            None => return Err(Unanswered::BadLine),
+        };
+        all_told(alloc, &answers)
+    }
+
+    /// What is answered to steps that are taken as one run over the device of a session.
+    pub fn run_whole(&mut self, alloc: Global, steps: Vec<Asking>) -> Result<String, Unanswered> {
+        let answers = match self.taken {
+            Some(Kind::Range) => self.range.run_whole(alloc, steps)?,
+            Some(Kind::WideRange) => self.wide_range.run_whole(alloc, steps)?,
+            Some(Kind::Belt) => self.belt.run_whole(alloc, steps)?,
+            Some(Kind::WideBelt) => self.wide_belt.run_whole(alloc, steps)?,
             None => return Err(Unanswered::BadLine),
         };
         all_told(alloc, &answers)

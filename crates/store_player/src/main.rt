@@ -139,7 +139,12 @@ impl Player for Stores {
             ["put", key, value] => self.asked.put(alloc, key, value),
             ["del", key] => self.asked.delete(alloc, key),
             ["later", words @ ..] if self.any.is_session() => self.asked.wait(alloc, words),
-            ["run"] => self.any.run(alloc, self.asked.take_waiting(alloc)),
+            ["run"] if self.any.is_session() => {
+                self.any.run(alloc, self.asked.take_waiting(alloc))
+            }
+            ["run", "whole"] if self.any.is_session() => {
+                self.any.run_whole(alloc, self.asked.take_waiting(alloc))
+            }
             words => self.step(alloc, words),
         }
     }

@@ -6,7 +6,7 @@ ghost use Rattle.auth_store_session.specs.Stores.{IsCache};
 
 use crate::asked::{Asking, Name, Root};
 use auth_store_device::Device;
-use auth_store_run::run;
+use auth_store_run::{Ran, run, run_session};
 use auth_store_session::{Answer, Session, Sizes, Step, Store, StoreError};
 use case_lines::Unanswered;
 use fault_storage::Config;
@@ -20,6 +20,8 @@ use std::mem;
 pub type Told = Answer<Root, u64>;
 
 type Alone<F, const N: usize> = Store<Pcg32, F, ByteHash, Name, u64, N>;
+
+type Talk<F, const N: usize> = Session<Pcg32, F, ByteHash, Name, u64, N>;
 
 /// A session or a store that has the device, if one has.
 #[derive(Drop)]
@@ -86,15 +88,50 @@ fn asked_of<F: Graftable + PendingOf<Root>, const N: usize>(
     }
 }
 
-// Takes the steps as one run.
-fn answers_of<F: Graftable + PendingOf<Root>, const N: usize>(
+// What a run has answered, and a session over the device and the cache that it leaves.
+fn begun_again<F: Graftable + PendingOf<Root>, const N: usize>(
     alloc: Global,
-    session: &mut Session<Pcg32, F, ByteHash, Name, u64, N>,
+    ran: Ran<Pcg32, Root, u64>,
+) -> (Vec<Told>, Talk<F, N>)
+    requires width { IsChunkWidth N }
+    requires closed { ran.device.log ≡ None }
+    requires cache { IsCache ran.cache }
+{
+    let Ran {
+        answers,
+        device,
+        cache,
+    } = ran;
+    (answers, Session::new(alloc, device, cache))
+}
+
+// Takes the steps of a session as one run, which closes it.
+fn run_on<F: Graftable + PendingOf<Root>, const N: usize>(
+    alloc: Global,
+    session: Talk<F, N>,
     steps: Vec<Asking>,
-) -> Result<Vec<Told>, AllocError> {
-    let mut answers = Vec::with_capacity(alloc, steps.len())?;
-    run(session, steps, &mut answers);
-    Ok(answers)
+) -> Result<(Vec<Told>, Talk<F, N>), AllocError>
+    requires { IsChunkWidth N }
+{
+    match run_session(alloc, session, steps) {
+        Ok(ran) => Ok(begun_again(alloc, ran)),
+        Err(_) => Err(AllocError),
+    }
+}
+
+// Takes the steps as one run over the device and the cache of a session.
+fn run_anew<F: Graftable + PendingOf<Root>, const N: usize>(
+    alloc: Global,
+    session: Talk<F, N>,
+    steps: Vec<Asking>,
+) -> Result<(Vec<Told>, Talk<F, N>), AllocError>
+    requires { IsChunkWidth N }
+{
+    let (device, cache) = session.into_parts();
+    match run::<Pcg32, F, ByteHash, Name, u64, N>(alloc, device, cache, steps) {
+        Ok(ran) => Ok(begun_again(alloc, ran)),
+        Err(_) => Err(AllocError),
+    }
 }
 
 impl<F: Graftable + PendingOf<Root>, const N: usize> Standing<F, N> {
@@ -161,11 +198,27 @@ impl<F: Graftable + PendingOf<Root>, const N: usize> Standing<F, N> {
         }
     }
 
-    /// What is answered to steps that are taken as one run.
-    pub fn run(&mut self, alloc: Global, steps: Vec<Asking>) -> Result<Vec<Told>, Unanswered> {
-        match self {
-            Standing::Session(session) => Ok(answers_of(alloc, session, steps)?),
-            _ => Err(Unanswered::BadLine),
-        }
+    /// What is answered to steps that are taken as one run of the session, which is closed then.
+    pub fn run(&mut self, alloc: Global, steps: Vec<Asking>) -> Result<Vec<Told>, Unanswered>
+        requires { IsChunkWidth N }
+    {
+        let Standing::Session(session) = mem::replace(self, Standing::Nothing) else {
+            return Err(Unanswered::BadLine);
+        };
+        let (answers, session) = run_on(alloc, session, steps)?;
+        let _before = mem::replace(self, Standing::Session(session));
+        Ok(answers)
+    }
+
+    /// What is answered to steps that are taken as one run over the device and the cache of the session.
+    pub fn run_whole(&mut self, alloc: Global, steps: Vec<Asking>) -> Result<Vec<Told>, Unanswered>
+        requires { IsChunkWidth N }
+    {
+        let Standing::Session(session) = mem::replace(self, Standing::Nothing) else {
+            return Err(Unanswered::BadLine);
+        };
+        let (answers, session) = run_anew(alloc, session, steps)?;
+        let _before = mem::replace(self, Standing::Session(session));
+        Ok(answers)
     }
 }

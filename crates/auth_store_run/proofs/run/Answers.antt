@@ -1,53 +1,27 @@
-use Rattle.std.proofs.Common.{ap, ◌∙◌, sym, arith, ℕ}
-use Rattle.std.proofs.lemmas.List.{map-append, nil_from_length}
+use Rattle.std.proofs.Common.{◌≡◌, Some, subst}
+use Rattle.std.specs.Prelude.{IfErr, IfOk}
 use Rattle.auth_store_log.specs.Records.{format_of}
-use Rattle.auth_store_session.specs.Machine.{Machine, machine}
-use Rattle.auth_store_session.specs.MachineCode.{requests_of, meaning_of, meanings_of, config_after_all}
-use Rattle.auth_store_session.proofs.Rests.{config_taken}
-use Rattle.auth_store_session.proofs.Runs.{taken_none, taken_next, taken_end, taken_end_in_doubt}
-use Rattle.auth_store_session.specs.Standing.{config_in}
+use Rattle.auth_store_session.specs.Machine.{machine}
+use Rattle.auth_store_session.specs.MachineCode.{requests_of, meanings_of, config_after_all}
+use Rattle.auth_store_session.specs.Standing.{HasRunToRest, config_in, page_size_in}
 use Rattle.auth_store_run.proofs.run.Goals as goal
 
-pub loop-step-init : goal.loop-step-init
-loop-step-init g c = (
-  taken_none _ _ _ _ _ _ (ap (requests_of g.K.Write.encoding g.V.Write.encoding) c.into_iter-steps.ensures.rest)
-      (ap (meanings_of g.H.Digest.Write.encoding g.V.Write.encoding) c.requires.none),
-  omega (arith, c.into_iter-steps.ensures.len, c.requires.room),
-  ap (λ items. config_after_all items (config_in c.args.session.now.parts c.args.session.now.store)) c.into_iter-steps.ensures.rest,
-)
-
-pub loop-step-preserved : goal.loop-step-preserved
-loop-step-preserved g c =
-    let make : ℕ → Machine = machine g.F.Family.merge_rule g.H.HashFunction.hash_of g.F.PendingOf.pending_encoding g.row.N
-    g.K.FixedSize.SIZE g.V.FixedSize.SIZE in (
-      taken_next make (format_of (g.K.Read.after tt) (g.V.Read.after tt) g.K.FixedSize.SIZE g.V.FixedSize.SIZE)
-          _ _ _ _ _ _ _ _ _ _ c.loop-step.invariant.0 (ap (requests_of g.K.Write.encoding g.V.Write.encoding)
-          c.in-Some.ensures.items) c.step.ensures.steps c.step.ensures.grows c.step.ensures.page_size
-          (ap (meanings_of g.H.Digest.Write.encoding g.V.Write.encoding) c.note.ensures.items
-          ∙ map-append (meaning_of g.H.Digest.Write.encoding g.V.Write.encoding) c.loop-step.answers.items _),
-      omega (arith, c.in-Some.ensures.len, c.note.ensures.len, c.note.ensures.capacity, c.loop-step.invariant.1),
-      config_taken _ _ _ _ _ _ c.in-Some.ensures.items c.step.ensures.settings c.loop-step.invariant.2,
-    )
-
-pub step-requires : goal.step-requires
-step-requires g c = assumption c.well_formed
+pub run_session-requires : goal.run_session-requires
+run_session-requires g c = assumption c.well_formed
 
 pub returns-clause-runs : goal.returns-clause-runs
-returns-clause-runs g c = taken_end _ _ _ _ _ _ _ c.loop-step.invariant.0 (ap (requests_of g.K.Write.encoding g.V.Write.encoding)
-    (nil_from_length _ (sym c.loop-step.steps.rest.ok.0 ∙ c.in_default.ensures.cases.0)))
-
-pub returns-clause-kept : goal.returns-clause-kept
-returns-clause-kept g c = taken_end_in_doubt _ _ _ _ _ _ _ c.loop-step.invariant.0 (ap (requests_of g.K.Write.encoding g.V.Write.encoding)
-    (nil_from_length _ (sym c.loop-step.steps.rest.ok.0 ∙ c.in_default.ensures.cases.0)))
-
-pub returns-clause-page_size : goal.returns-clause-page_size
-returns-clause-page_size g c = c.loop-step.invariant.0.sized
-
-pub returns-clause-grows : goal.returns-clause-grows
-returns-clause-grows g c = c.loop-step.invariant.0.grown
+returns-clause-runs g c =
+    subst (λ session. IfOk c.run_session.result (λ ran. HasRunToRest (machine g.F.Family.merge_rule g.H.HashFunction.hash_of
+    g.F.PendingOf.pending_encoding g.row.N g.K.FixedSize.SIZE g.V.FixedSize.SIZE (page_size_in session.parts session.store))
+    (format_of (g.K.Read.after tt) (g.V.Read.after tt) g.K.FixedSize.SIZE g.V.FixedSize.SIZE) session
+    (requests_of g.K.Write.encoding g.V.Write.encoding c.args.steps.items)
+    (meanings_of g.H.Digest.Write.encoding g.V.Write.encoding ran.answers.items) ran.device ran.cache)) c.new.ensures
+    c.run_session.ensures.runs
 
 pub returns-clause-settings : goal.returns-clause-settings
 returns-clause-settings g c =
-    sym (ap (λ items. config_after_all items (config_in c.loop-step.session.parts c.loop-step.session.store))
-    (nil_from_length _ (sym c.loop-step.steps.rest.ok.0 ∙ c.in_default.ensures.cases.0)))
-    ∙ c.loop-step.invariant.2
+    subst (λ session. IfOk c.run_session.result (λ ran. Some ran.device.storage.config
+    ≡ config_after_all c.args.steps.items (config_in session.parts session.store))) c.new.ensures c.run_session.ensures.settings
+
+pub returns-clause-unchanged : goal.returns-clause-unchanged
+returns-clause-unchanged g c = subst (λ session. IfErr c.run_session.result (λ begun. begun ≡ session)) c.new.ensures c.run_session.ensures.unchanged

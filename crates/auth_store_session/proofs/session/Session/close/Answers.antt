@@ -3,8 +3,8 @@ use Rattle.auth_store_device.specs.Devices.{DeviceState}
 use Rattle.paged_blob.specs.Caches.{Cache}
 use Rattle.auth_store_log.specs.Records.{format_of}
 use Rattle.auth_store_session.specs.Machine.{machine, ask_close, has_closed}
-use Rattle.auth_store_session.specs.Standing.{page_size_in, power_of, SessionState, config_in, left_in}
-use Rattle.auth_store_session.proofs.Rests.{closed_at, open_at, was_open, steps_from, grows_from, closes_in, page_from}
+use Rattle.auth_store_session.specs.Standing.{closed_at, page_size_in, power_of, SessionState, config_in, left_in}
+use Rattle.auth_store_session.proofs.Rests.{open_at, was_open, steps_from, grows_from, closes_in, page_from}
 use Rattle.auth_store_session.proofs.Powers.{leaves_same}
 use Rattle.auth_store_session.proofs.session.Session.close.Goals as goal
 

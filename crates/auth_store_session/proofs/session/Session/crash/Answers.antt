@@ -3,8 +3,8 @@ use Rattle.rand_core.specs.Stream.{Stream}
 use Rattle.fault_storage.specs.Stores.{Store}
 use Rattle.auth_store_log.specs.Records.{format_of}
 use Rattle.auth_store_session.specs.Machine.{machine, ask_crash, has_crashed}
-use Rattle.auth_store_session.specs.Standing.{page_size_in, SessionState, config_in}
-use Rattle.auth_store_session.proofs.Rests.{closed_at, was_closed, now_closed, steps_from, grows_from, rests_in}
+use Rattle.auth_store_session.specs.Standing.{closed_at, page_size_in, SessionState, config_in}
+use Rattle.auth_store_session.proofs.Rests.{still_none, was_closed, now_closed, steps_from, grows_from, rests_in}
 use Rattle.auth_store_session.proofs.Powers.{passes_crash, is_crash}
 use Rattle.auth_store_session.proofs.session.Session.crash.Goals as goal
 
@@ -39,3 +39,6 @@ returns-clause-settings g c =
     let is = was_closed c.self.inside.parts c.self.inside.store c.in-Some.device c.in-Some.cache c.args.self.now c.self.view_is
     c.in-Some.ensures.value c.requires in
     ap Some c.crash.ensures.rest.1 ∙ ap (λ (s : SessionState _). config_in s.parts s.store) is
+
+pub returns-clause-closed : goal.returns-clause-closed
+returns-clause-closed g c = still_none c.self.inside.parts c.self.inside.store c.args.self.now c.self.view_is c.requires

@@ -2,8 +2,8 @@ use Rattle.std.proofs.Common.{◌≡◌, Some, refl, ap, ◌∙◌}
 use Rattle.auth_store_device.specs.Devices.{DeviceState, after_asking}
 use Rattle.auth_store_log.specs.Records.{format_of}
 use Rattle.auth_store_session.specs.Machine.{machine, ask_cut, is_set, asked_to_cut}
-use Rattle.auth_store_session.specs.Standing.{page_size_in, power_of, SessionState, config_in, left_in}
-use Rattle.auth_store_session.proofs.Rests.{closed_at, was_closed, now_closed, steps_from, grows_from, rests_in, header_same}
+use Rattle.auth_store_session.specs.Standing.{closed_at, page_size_in, power_of, SessionState, config_in, left_in}
+use Rattle.auth_store_session.proofs.Rests.{still_none, was_closed, now_closed, steps_from, grows_from, rests_in, header_same}
 use Rattle.auth_store_session.proofs.Powers.{passes_asking}
 use Rattle.auth_store_session.proofs.session.Session.cut_after.Goals as goal
 
@@ -45,3 +45,6 @@ returns-clause-left g c =
     c.in-Some.ensures.value c.requires in
     ap (λ (d : DeviceState _). d.left) c.cut_after.ensures
     ∙ ap (λ (s : SessionState _). after_asking c.args.calls (left_in s.parts s.store)) is
+
+pub returns-clause-closed : goal.returns-clause-closed
+returns-clause-closed g c = still_none c.self.inside.parts c.self.inside.store c.args.self.now c.self.view_is c.requires

@@ -1,8 +1,8 @@
-use Rattle.std.proofs.Common.{◌+◌, Some, sym, ap, subst, ◌∙◌}
+use Rattle.std.proofs.Common.{is_some, ◌+◌, Some, sym, ap, subst, ◌∙◌}
 use Rattle.auth_store_log.specs.Records.{format_of}
 use Rattle.auth_store_session.specs.Machine.{machine, ask_open, opened, refused}
-use Rattle.auth_store_session.specs.Standing.{SessionState, page_size_in, IsOpenError, config_in}
-use Rattle.auth_store_session.proofs.Rests.{closed_at, open_at, was_closed, now_closed, steps_from, grows_through, grows_more, opens_in, refused_in, page_from}
+use Rattle.auth_store_session.specs.Standing.{closed_at, SessionState, page_size_in, IsOpenError, config_in}
+use Rattle.auth_store_session.proofs.Rests.{still_none, open_at, was_closed, now_closed, steps_from, grows_through, grows_more, opens_in, refused_in, page_from}
 use Rattle.auth_store_session.proofs.Opens.{opened_grows}
 use Rattle.auth_store_session.proofs.session.Session.open.Goals as goal
 
@@ -82,3 +82,7 @@ returns-in-Err-clause-settings g c =
     let is = was_closed c.self.inside.parts c.self.inside.store c.in-Some.device c.in-Some.cache c.args.self.now c.self.view_is
     c.in-Some.ensures.value c.requires in
     ap Some c.in-Err.ensures.settings ∙ ap (λ (s : SessionState _). config_in s.parts s.store) is
+
+pub returns-in-Err-clause-open : goal.returns-in-Err-clause-open
+returns-in-Err-clause-open g c =
+    ap is_some (still_none c.self.inside.parts c.self.inside.store c.args.self.now c.self.view_is c.requires)

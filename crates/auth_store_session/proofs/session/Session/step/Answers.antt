@@ -35,3 +35,9 @@ returns-clause-settings g c = c.step_closed.ensures.settings
 
 pub returns-clause-left : goal.returns-clause-left
 returns-clause-left g c = c.step_closed.ensures.left
+
+pub returns-then-is_open-clause-open : goal.returns-then-is_open-clause-open
+returns-then-is_open-clause-open g c = rw (c.is_open.ensures.yes c.if-is_open.true) c.step_opened.ensures.open
+
+pub returns-clause-open : goal.returns-clause-open
+returns-clause-open g c = rw (c.is_open.ensures.no c.if-is_open.false) c.step_closed.ensures.open

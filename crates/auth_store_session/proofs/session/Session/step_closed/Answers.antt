@@ -1,4 +1,4 @@
-use Rattle.std.proofs.Common.{None, refl, sym, subst}
+use Rattle.std.proofs.Common.{None, is_some, refl, sym, subst, ap}
 use Rattle.paged_blob.specs.Moments.{here}
 use Rattle.auth_store_log.specs.Records.{format_of}
 use Rattle.auth_store_session.specs.Machine.{machine, not_open, names_given, Leaves}
@@ -80,4 +80,13 @@ returns-clause-left g c = elim c.match-step.branch [
   | in-Config w ↦ rw (w.self-is, w.in-Config.is) w.set_config.ensures.left
   | in-CutAfter w ↦ rw (w.self-is, w.in-CutAfter.is) w.cut_after.ensures.left
   | in_default w ↦ rw w.self-is (left_kept c.args.step w.in_default.not-CutAfter (left_in c.args.self.now.parts c.args.self.now.store))
+]
+
+pub returns-clause-open : goal.returns-clause-open
+returns-clause-open g c = elim c.match-step.branch [
+  | in-Open w ↦ rw (w.self-is, w.result-is) w.open.ensures.open
+  | in-Crash w ↦ rw (w.self-is, w.result-is, w.crash.ensures.kind) (ap is_some w.crash.ensures.closed)
+  | in-Config w ↦ rw (w.self-is, w.result-is, w.set_config.ensures.kind) (ap is_some w.set_config.ensures.closed)
+  | in-CutAfter w ↦ rw (w.self-is, w.result-is, w.cut_after.ensures.kind) (ap is_some w.cut_after.ensures.closed)
+  | in_default w ↦ rw (w.self-is, w.result-is) (ap is_some c.requires)
 ]

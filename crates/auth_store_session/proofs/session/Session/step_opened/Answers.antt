@@ -1,4 +1,4 @@
-use Rattle.std.proofs.Common.{sym, ◌∙◌}
+use Rattle.std.proofs.Common.{is_some, ap, sym, ◌∙◌}
 use Rattle.auth_store_session.proofs.session.Session.step_opened.Goals as goal
 
 pub returns-then-is_close-clause-steps : goal.returns-then-is_close-clause-steps
@@ -36,3 +36,9 @@ returns-clause-settings g c = c.step_within.ensures.settings
 
 pub returns-clause-left : goal.returns-clause-left
 returns-clause-left g c = c.step_within.ensures.left
+
+pub returns-then-is_close-clause-open : goal.returns-then-is_close-clause-open
+returns-then-is_close-clause-open g c = rw c.close.ensures.kind (ap is_some c.close.ensures.closed)
+
+pub returns-clause-open : goal.returns-clause-open
+returns-clause-open g c = c.step_within.ensures.open

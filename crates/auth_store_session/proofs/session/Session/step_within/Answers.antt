@@ -4,7 +4,7 @@ use Rattle.auth_store_session.specs.Machine.{machine}
 use Rattle.auth_store_session.specs.MachineCode.{request_of, meaning_of, config_after, IsLeftBy}
 use Rattle.auth_store_session.specs.Standing.{SessionState, StepsOpen, page_size_in, calls_in, config_in, left_in}
 use Rattle.paged_blob.specs.Moments.{Grows}
-use Rattle.auth_store_session.proofs.Rests.{open_at, was_open, now_open, session_within, steps_from, steps_open, grows_more, page_from}
+use Rattle.auth_store_session.proofs.Rests.{stays_open, open_at, was_open, now_open, session_within, steps_from, steps_open, grows_more, page_from}
 use Rattle.auth_store_session.proofs.session.Session.step_within.Goals as goal
 
 pub invariant_of-self : goal.invariant_of-self
@@ -60,3 +60,7 @@ returns-clause-left g c =
     subst (λ (s : SessionState _). IsLeftBy c.args.step (left_in c.args.self.now.parts c.args.self.now.store) (left_in s.parts s.store)) ends
     (subst (λ (s : SessionState _). IsLeftBy c.args.step (left_in s.parts s.store) c.step_open.new.store.device.left) is
     c.step_open.ensures.left)
+
+pub returns-clause-open : goal.returns-clause-open
+returns-clause-open g c = sym (stays_open (request_of g.K.Write.encoding g.V.Write.encoding c.args.step)
+    (meaning_of g.H.Digest.Write.encoding g.V.Write.encoding c.step_open.result) c.requires.left (c.step_open.ensures.kind c.requires.left))

@@ -6,17 +6,19 @@ use Rattle.auth_store_session.specs.Machine.{machine}
 use Rattle.auth_store_session.specs.MachineCode.{requests_of, meanings_of, config_after_all}
 use Rattle.auth_store_session.specs.Standing.{page_size_in, config_in}
 use Rattle.auth_store_session.proofs.Runs.{Taken}
-use Rattle.auth_store_run.proofs.run.Given as goal
+use Rattle.auth_store_run.specs.Room.{HasRoom}
+use Rattle.auth_store_run.proofs.take_all.Given as goal
 
 abbrev pub invariant-loop-step : goal.invariant-loop-step
 invariant-loop-step g l =
-    Taken (machine g.F.Family.merge_rule g.H.HashFunction.hash_of g.F.PendingOf.pending_encoding g.row.N
+    (HasRoom l.fn.answers (vec_len l.fn.steps)
+    → Taken (machine g.F.Family.merge_rule g.H.HashFunction.hash_of g.F.PendingOf.pending_encoding g.row.N
     g.K.FixedSize.SIZE g.V.FixedSize.SIZE (page_size_in l.fn.session.parts l.fn.session.store))
     (format_of (g.K.Read.after tt) (g.V.Read.after tt) g.K.FixedSize.SIZE g.V.FixedSize.SIZE) l.fn.session
     (requests_of g.K.Write.encoding g.V.Write.encoding l.fn.steps.items)
     (requests_of g.K.Write.encoding g.V.Write.encoding (into_iter_items l.steps))
     (meanings_of g.H.Digest.Write.encoding g.V.Write.encoding l.answers.items) l.session
-    × (vec_len l.answers + into_iter_len l.steps ≤ vec_capacity l.answers)
+    × (vec_len l.answers + into_iter_len l.steps ≤ vec_capacity l.answers))
     × (config_after_all (into_iter_items l.steps) (config_in l.session.parts l.session.store)
     ≡ config_after_all l.fn.steps.items (config_in l.fn.session.parts l.fn.session.store))
 
