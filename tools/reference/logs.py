@@ -357,16 +357,22 @@ def parsed_number(word):
     return str(int(word)) if is_number else None
 
 
+FAULTS = ("open", "read", "write", "sync", "resize")
+ALONE = ("open", "root", "floor", "len", "proof", "mode prefix", "mode subset", "close", "crash")
+
+
 def parsed_line(line):
     """What a line asks for, or None."""
     if not line:
         return "empty"
     words = line.split(" ")
     shapes = {
-        "new mmr": ("new", parsed_number), "open": ("open",), "root": ("root",), "proof": ("proof",),
-        "put": ("put", parsed_key, parsed_number), "get": ("get", parsed_key), "prove": ("prove", parsed_key),
-        "check value": ("check", parsed_key, parsed_number),
+        "put": ("put", parsed_key, parsed_number), "del": ("del", parsed_key), "get": ("get", parsed_key),
+        "prove": ("prove", parsed_key), "check value": ("check", parsed_key, parsed_number), "cut": ("cut", parsed_number),
     }
+    shapes |= {f"new {family}": (f"new {family}", parsed_number) for family in ("mmr", "mmb")}
+    shapes |= {f"fault {kind}": (f"fault {kind}", parsed_number, parsed_number) for kind in FAULTS}
+    shapes |= {word: (word,) for word in ALONE}
     for front, (name, *parsers) in shapes.items():
         front = front.split()
         if words[:len(front)] == front and len(words) == len(front) + len(parsers):
@@ -399,7 +405,7 @@ def of_text(words):
 def report(words):
     """The line that the script prints."""
     match words:
-        case ["new" | "none" | "yes" | "no" as word]:
+        case ["new" | "none" | "yes" | "no" | "ok" | "closed" | "crashed" as word]:
             return word
         case ["error", code]:
             return f"error {code}"
@@ -407,7 +413,7 @@ def report(words):
             return f"{word} {digits(data).hex()}"
         case ["bad", count]:
             return f"bad line {number(count)}"
-        case ["open" | "commit" | "value" | "present" as word, count]:
+        case ["open" | "commit" | "value" | "present" | "floor" | "len" as word, count]:
             return f"{word} {number(count)}"
     raise BadLine
 

@@ -1,26 +1,29 @@
 -- What a line of a script does, from the steps that it takes and from what is printed.
-use Rattle.std.proofs.Common.{◌≡◌, ◌+◌, inl, inr, ℕ, List, [], ◌∷◌, ◌++◌, Bool, true, false, Option, None, Some, refl, ap, sym, ◌∙◌, subst, option_map, append_assoc, append-nil}
+use Rattle.std.proofs.Common.{◌≡◌, inl, inr, ℕ, List, [], ◌∷◌, ◌++◌, Bool, true, false, Option, None, Some, refl, ap, sym, ◌∙◌, subst, option_map, unwrap_or, append_assoc, append-nil}
 use Rattle.std.proofs.lemmas.List.{map-append}
-use Rattle.std.specs.Prelude.{Result, Ok, Err, IfOk, OnOk, IsSomeAnd, IsTrue, ◌↔◌, codes}
+use Rattle.std.specs.Prelude.{Result, Ok, Err, IfOk, OnOk, IsSomeAnd, IsTrue, ◌↔◌}
 use Rattle.std.specs.Io.KnownBytes.{Appends}
-use Rattle.merkle_forest.specs.Forest.{mmr_rule}
+use Rattle.merkle_forest.specs.declared.codec.fixed_bytes.FixedBytes.{FixedBytes}
+use Rattle.merkle_forest.specs.Forest.{Rule}
 use Rattle.sha2.specs.Sha256.{sha256}
 use Rattle.rand_pcg.specs.Lcg.{Lcg}
+use Rattle.fault_storage_parts.specs.declared.config.Config as settings
 use Rattle.paged_blob.specs.Moments.{Grows}
 use Rattle.auth_store_parts.specs.Report.{reported}
 use Rattle.auth_store_session.specs.declared.session.Answer as code
 use Rattle.auth_store_session.specs.declared.session.Answer.TheVariants as answers
-use Rattle.auth_store_session.specs.declared.error.StoreError.TheVariants.{Memory}
+use Rattle.auth_store_session.specs.declared.session.Step.{Step}
+use Rattle.auth_store_session.specs.declared.session.Step.TheVariants as steps
 use Rattle.auth_store_session.specs.Machine.{Machine, Request, Answer, machine, is_opened, is_root_of_commit}
-use Rattle.auth_store_session.specs.MachineCode.{meaning_of}
-use Rattle.auth_store_session.specs.Standing.{SessionState, Steps, Runs, calls_in, page_size_in}
+use Rattle.auth_store_session.specs.MachineCode.{config_after, meaning_of, request_of}
+use Rattle.auth_store_session.specs.Standing.{SessionState, Steps, Runs, calls_in, config_in, page_size_in}
 use Rattle.auth_store_session.proofs.Runs.{runs_go_on}
-use Rattle.auth_store.specs.ScriptLines.{Exchange, Checks, Does, asked, answered, answer_line, exchange, checked_line, kept_after, present_line, refusal_line, script_format, script_machine}
-use Rattle.auth_store.specs.ScriptCode.{DoesLine, Goes, Handled, HasRun, progress_of}
-use Rattle.auth_store.specs.declared.script.progress.Progress as progress
+use Rattle.auth_store.specs.ScriptLines.{Exchange, Checks, Does, asked, answered, answer_line, bytes_of, value_of, checked_line, kept_after, present_line, settings_after, pending_of, rule_of, script_format, script_machine}
+use Rattle.auth_store.specs.ScriptCode.{DoesLine, Goes, Handled, HasRun, Now, exchange_of, settings_in}
 use Rattle.auth_store_parts.specs.declared.script.line.Line.{Line}
-use Rattle.auth_store.specs.declared.script.progress.End.{End}
-use Rattle.auth_store.specs.declared.script.progress.End.TheVariants as ends
+use Rattle.auth_store_parts.specs.declared.script.words.TreeFamily.{TreeFamily}
+use Rattle.auth_store.specs.declared.script.end.End.{End}
+use Rattle.auth_store.specs.declared.script.end.End.TheVariants as ends
 
 -- ---- what is printed
 
@@ -39,47 +42,86 @@ handled_by Did a b (Err ends.BadLine) said exchanges did line bad quiet =
 handled_by Did a b (Err ends.Memory) said exchanges did line bad quiet = tt
 handled_by Did a b (Err ends.Io) said exchanges did line bad quiet = tt
 
--- so a line, between two states of the code
-pub handled_line : (old new : progress.Progress) (line : Line) (a b : Option (List ℕ)) (result : Result Unit End)
+-- so a line, between two places where a script stands
+pub handled_line : (old new : Now) (line : Line) (a b : Option (List ℕ)) (result : Result Unit End)
     (said : Option (List ℕ)) (exchanges : List Exchange)
     → ((printed : Option (List ℕ)) → printed ≡ option_map reported said
-    → Does (progress_of old) line exchanges printed (progress_of new)) → Goes old.session exchanges new.session
+    → Does old.progress line exchanges printed new.progress) → Goes old.progress.family old.session exchanges new.session
     → OnOk result (IsSomeAnd said (λ line. Appends a b (reported line)))
     → (result ≡ Err ends.BadLine ↔ (said ≡ None)) → (result ≡ Err ends.BadLine → Appends a b [])
     → Handled (DoesLine old line new) a b result
 handled_line old new line a b result said exchanges does goes =
     handled_by (DoesLine old line new) a b result said exchanges (λ printed is. (does printed is, goes))
 
+-- what was done is done so too
+pub handled_as : (Did Done : Option (List ℕ) → List Exchange → Type 0) (a b : Option (List ℕ)) (result : Result Unit End)
+    → ((printed : Option (List ℕ)) (exchanges : List Exchange) → Did printed exchanges → Done printed exchanges)
+    → Handled Did a b result → Handled Done a b result
+handled_as Did Done a b (Ok u) so (exchanges, printed, did, adds) = (exchanges, printed, so (Some printed) exchanges did, adds)
+handled_as Did Done a b (Err ends.BadLine) so (exchanges, did, adds) = (exchanges, so None exchanges did, adds)
+handled_as Did Done a b (Err ends.Memory) so handled = tt
+handled_as Did Done a b (Err ends.Io) so handled = tt
+
 -- ---- steps
 
+-- the settings after a step
+set_by : {K V : Type 0} (step : Step K V) (now : settings.Config)
+    → config_after step (Some now) ≡ Some (unwrap_or (settings_in step) now)
+set_by (steps.Open sizes) now = refl
+set_by (steps.Commit batch metadata) now = refl
+set_by (steps.Get key) now = refl
+set_by steps.Root now = refl
+set_by steps.Commits now = refl
+set_by steps.Floor now = refl
+set_by steps.Len now = refl
+set_by (steps.ProveKey key) now = refl
+set_by steps.Close now = refl
+set_by steps.Crash now = refl
+set_by (steps.Config config) now = refl
+set_by (steps.CutAfter calls) now = refl
+
+settings_after-append : (one other : List Exchange) (now : settings.Config)
+    → settings_after (one ++ other) now ≡ settings_after other (settings_after one now)
+settings_after-append [] other now = refl
+settings_after-append (e ∷ one) other now = settings_after-append one other (unwrap_or e.settings now)
+
 -- nothing asked leads nowhere
-pub goes_none : (now : SessionState Lcg) → Goes now [] now
-goes_none now first earlier ran = subst (λ e. HasRun first e now) (sym (append-nil earlier)) ran
+pub goes_none : (family : TreeFamily) (now : SessionState Lcg) → Goes family now [] now
+goes_none family now first earlier ran = subst (λ e. HasRun family first e now) (sym (append-nil earlier)) ran
 
 -- one thing after the other
-pub goes_on : (old now new : SessionState Lcg) (one other : List Exchange) → Goes old one now → Goes now other new
-    → Goes old (one ++ other) new
-goes_on old now new one other goes later first earlier ran =
-    subst (λ e. HasRun first e new) (append_assoc earlier one other) (later first (earlier ++ one) (goes first earlier ran))
+pub goes_on : (family : TreeFamily) (old now new : SessionState Lcg) (one other : List Exchange) → Goes family old one now
+    → Goes family now other new → Goes family old (one ++ other) new
+goes_on family old now new one other goes later first earlier ran =
+    subst (λ e. HasRun family first e new) (append_assoc earlier one other) (later first (earlier ++ one) (goes first earlier ran))
 
-abbrev make : ℕ → Machine
-make size = machine mmr_rule sha256 (λ _. []) 1 8 8 size
+abbrev make : Rule → (Option (List ℕ) → List ℕ) → ℕ → Machine
+make rule pending size = machine rule sha256 pending 1 8 8 size
 
 -- a step of the session leads on
-pub goes_by : (old new : SessionState Lcg) (request : Request) (answer : Answer)
-    → Steps (make (page_size_in old.parts old.store)) script_format old request answer new
+pub goes_by : (family : TreeFamily) (rule : Rule) (pending : Option (List ℕ) → List ℕ) → rule ≡ rule_of family
+    → pending ≡ pending_of family → (old new : SessionState Lcg) (step : Step (FixedBytes 8) ℕ) (answer : Answer)
+    → Steps (make rule pending (page_size_in old.parts old.store)) script_format old (request_of bytes_of value_of step) answer new
     → page_size_in new.parts new.store ≡ page_size_in old.parts old.store
     → Grows (calls_in old.parts old.store) (calls_in new.parts new.store)
-    → Goes old (exchange request answer ∷ []) new
-goes_by old new request answer steps sized grows first earlier ran =
-    let more = exchange request answer ∷ [] in
-    let went = runs_go_on script_machine script_format first old new (asked earlier) (answered earlier) request answer sized grows
-    ran.runs (subst (λ (size : ℕ). Steps (make size) script_format old request answer new) ran.paged steps) in
+    → config_in new.parts new.store ≡ config_after step (config_in old.parts old.store)
+    → Goes family old (exchange_of step answer ∷ []) new
+goes_by family rule pending merges encodes old new step answer stepped sized grows set first earlier ran =
+    let more = exchange_of step answer ∷ [] in
+    let request : Request = request_of bytes_of value_of step in
+    let named = subst (λ (p : Option (List ℕ) → List ℕ). Steps (make (rule_of family) p (page_size_in old.parts old.store))
+    script_format old request answer new) encodes (subst (λ (r : Rule). Steps (make r pending (page_size_in old.parts old.store))
+    script_format old request answer new) merges stepped) in
+    let went = runs_go_on (script_machine family) script_format first old new (asked earlier) (answered earlier) request answer sized
+    grows ran.runs (subst (λ (size : ℕ). Steps (make (rule_of family) (pending_of family) size) script_format old request answer new)
+    ran.paged named) in
     record {
       paged = sized ∙ ran.paged;
-      runs = subst (λ (given : List Answer). Runs script_machine script_format first (asked (earlier ++ more)) given new)
+      set = λ before is. set ∙ ap (config_after step) (ran.set before is) ∙ set_by step (settings_after earlier before)
+          ∙ ap Some (sym (settings_after-append earlier more before));
+      runs = subst (λ (given : List Answer). Runs (script_machine family) script_format first (asked (earlier ++ more)) given new)
           (sym (map-append (λ (e : Exchange). e.answer) earlier more))
-          (subst (λ (wanted : List Request). Runs script_machine script_format first wanted (answered earlier ++ answered more) new)
+          (subst (λ (wanted : List Request). Runs (script_machine family) script_format first wanted (answered earlier ++ answered more) new)
           (sym (map-append (λ (e : Exchange). e.request) earlier more)) went);
     }
 
@@ -147,3 +189,9 @@ pub checked : {E : Type 0} (found : Result Bool E) (Shown : Type 0) → IfOk fou
 checked (Ok true) Shown exact = inl (refl, exact.0 refl)
 checked (Ok false) Shown exact = inr (inl (refl, λ shown. absurd (let e : false ≡ true = exact.1 shown in cc)))
 checked (Err e) Shown exact = inr (inr refl)
+
+-- of what is shown as well
+pub checks_as : (One Other : Type 0) (printed : List ℕ) → (One ↔ Other) → Checks One printed → Checks Other printed
+checks_as One Other printed same (inl (said, shown)) = inl (said, same.0 shown)
+checks_as One Other printed same (inr (inl (said, not))) = inr (inl (said, λ shown. not (same.1 shown)))
+checks_as One Other printed same (inr (inr said)) = inr (inr said)

@@ -12,15 +12,15 @@ use Rattle.auth_store_parts.specs.Line.{line_of}
 use Rattle.auth_store_parts.specs.Report.{reported}
 use Rattle.auth_store_device.specs.Settings.{IsNew}
 use Rattle.auth_store_parts.specs.declared.script.line.Line.{Line}
-use Rattle.auth_store_parts.specs.declared.script.line.Line.TheVariants.{Empty, New, Open, Put, Commit, Get, Root, Prove, Proof, CheckValue}
+use Rattle.auth_store_parts.specs.declared.script.line.Line.TheVariants.{Empty, New, Open, Put, Delete, Commit, Get, Root, Floor, Len, Prove, Proof, CheckValue, Cut, Mode, Fault, Close, Crash}
+use Rattle.auth_store_parts.specs.declared.script.words.TreeFamily.{TreeFamily}
 use Rattle.auth_store_session.specs.Standing.{SessionState}
 use Rattle.auth_store_session.proofs.Runs.{runs_none}
 use Rattle.auth_store.specs.ScriptLines.{Exchange, Progress, Does, new_progress, script_format, script_machine}
 use Rattle.auth_store.specs.ScriptRun.{LineDoes, HasTaken, Ends, IsRunOf, Prints, Stops, lines_of, script_cache, seeded_by}
-use Rattle.auth_store.specs.ScriptCode.{DoesLine, DoesText, Handled, HasRun, IsRunning, progress_of}
-use Rattle.auth_store.specs.declared.script.progress.End.{End}
-use Rattle.auth_store.specs.declared.script.progress.End.TheVariants as ends
-use Rattle.auth_store.specs.declared.script.progress.Progress as code
+use Rattle.auth_store.specs.ScriptCode.{DoesLine, DoesText, Handled, HasRun, IsRunning, Now, kept_in}
+use Rattle.auth_store.specs.declared.script.end.End.{End}
+use Rattle.auth_store.specs.declared.script.end.End.TheVariants as ends
 
 onto_first_length : (b : ℕ) (lines : List (List ℕ)) (n : ℕ) → length lines ≤ n + 1 → length (onto_first b lines) ≤ n + 1
 onto_first_length b [] n few = omega arith
@@ -103,50 +103,111 @@ cut_none text is = all_before text (ltb-false _ _ (not_found (ltb (position_or_l
 -- ---- a line of a run
 
 -- where nothing is asked, a run stays where it is
-stays_running : (now : Option code.Progress) (earlier : List Exchange) → IsRunning earlier now → IsRunning (earlier ++ []) now
+stays_running : (now : Option Now) (earlier : List Exchange) → IsRunning earlier now → IsRunning (earlier ++ []) now
 stays_running now earlier running = subst (λ e. IsRunning e now) (sym (append-nil earlier)) running
 
 -- a text that spells no line
-pub no_line : (now : Option code.Progress) (spelled : Option Line) → spelled ≡ None → DoesText now spelled now None []
+pub no_line : (now : Option Now) (spelled : Option Line) → spelled ≡ None → DoesText now spelled now None []
 no_line now spelled none =
     subst (λ l. DoesText now l now None []) (sym none) ((refl, refl, refl), stays_running now)
 
 -- an empty line before the run begins
-pub empty_before : (now : Option code.Progress) (spelled : Option Line) → now ≡ None → spelled ≡ Some Empty
+pub empty_before : (now : Option Now) (spelled : Option Line) → now ≡ None → spelled ≡ Some Empty
     → DoesText now spelled now (Some []) []
 empty_before now spelled none empty =
     subst (λ l. DoesText now l now (Some []) []) (sym empty)
     (subst (λ n. DoesText n (Some Empty) n (Some []) []) (sym none) ((refl, refl, refl), stays_running None))
 
--- the seed stays
+-- any other line before the run begins
+other_line : (line : Line) → (line ≡ Empty → ⊥) → ((family : TreeFamily) (seed : ℕ) → line ≡ New family seed → ⊥)
+    → LineDoes None (Some line) [] None None
+other_line Empty empty begins = absurd (empty refl)
+other_line (New tree seed) empty begins = absurd (begins tree seed refl)
+other_line Open empty begins = (refl, refl, refl)
+other_line (Put key number) empty begins = (refl, refl, refl)
+other_line (Delete key) empty begins = (refl, refl, refl)
+other_line (Commit metadata) empty begins = (refl, refl, refl)
+other_line (Get key) empty begins = (refl, refl, refl)
+other_line Root empty begins = (refl, refl, refl)
+other_line Floor empty begins = (refl, refl, refl)
+other_line Len empty begins = (refl, refl, refl)
+other_line (Prove key) empty begins = (refl, refl, refl)
+other_line Proof empty begins = (refl, refl, refl)
+other_line (CheckValue key number) empty begins = (refl, refl, refl)
+other_line (Cut calls) empty begins = (refl, refl, refl)
+other_line (Mode mode) empty begins = (refl, refl, refl)
+other_line (Fault kind n d) empty begins = (refl, refl, refl)
+other_line Close empty begins = (refl, refl, refl)
+other_line Crash empty begins = (refl, refl, refl)
+
+pub other_before : (now : Option Now) (spelled : Option Line) (line : Line) → now ≡ None → spelled ≡ Some line
+    → (line ≡ Empty → ⊥) → ((family : TreeFamily) (seed : ℕ) → line ≡ New family seed → ⊥) → DoesText now spelled now None []
+other_before now spelled line none is empty begins =
+    subst (λ l. DoesText now l now None []) (sym is)
+    (subst (λ n. DoesText n (Some line) n None []) (sym none) (other_line line empty begins, stays_running None))
+
+-- the seed and the family stay
 same_seed : (now : Progress) (line : Line) (exchanges : List Exchange) (printed : Option (List ℕ)) (next : Progress)
     → Does now line exchanges printed next → next.seed ≡ now.seed
 same_seed now Empty exchanges printed next does = ap (λ (p : Progress). p.seed) does.2
-same_seed now (New seed) exchanges printed next does = ap (λ (p : Progress). p.seed) does.2
+same_seed now (New tree seed) exchanges printed next does = ap (λ (p : Progress). p.seed) does.2
 same_seed now Open exchanges printed next does = ap (λ (p : Progress). p.seed) does.1
 same_seed now (Put key number) exchanges printed next does = ap (λ (p : Progress). p.seed) does.2
+same_seed now (Delete key) exchanges printed next does = ap (λ (p : Progress). p.seed) does.2
 same_seed now (Commit metadata) exchanges printed next does = ap (λ (p : Progress). p.seed) does.1
 same_seed now (Get key) exchanges printed next does = ap (λ (p : Progress). p.seed) does.1
 same_seed now Root exchanges printed next does = ap (λ (p : Progress). p.seed) does.1
+same_seed now Floor exchanges printed next does = ap (λ (p : Progress). p.seed) does.1
+same_seed now Len exchanges printed next does = ap (λ (p : Progress). p.seed) does.1
 same_seed now (Prove key) exchanges printed next (inl (answer, none, asks, same, says)) = ap (λ (p : Progress). p.seed) same
 same_seed now (Prove key) exchanges printed next (inr (bytes, proved, answer, asks, same, says)) = ap (λ (p : Progress). p.seed) same
 same_seed now Proof exchanges printed next does = ap (λ (p : Progress). p.seed) does.2
 same_seed now (CheckValue key number) exchanges printed next does = ap (λ (p : Progress). p.seed) does.1
+same_seed now (Cut calls) exchanges printed next does = ap (λ (p : Progress). p.seed) does.1
+same_seed now (Mode mode) exchanges printed next does = ap (λ (p : Progress). p.seed) does.1
+same_seed now (Fault kind n d) exchanges printed next (inl (rate, first, second, sets)) = ap (λ (p : Progress). p.seed) sets.1
+same_seed now (Fault kind n d) exchanges printed next (inr (none, quiet, says, same)) = ap (λ (p : Progress). p.seed) same
+same_seed now Close exchanges printed next does = ap (λ (p : Progress). p.seed) does.1
+same_seed now Crash exchanges printed next does = ap (λ (p : Progress). p.seed) does.1
+
+same_family : (now : Progress) (line : Line) (exchanges : List Exchange) (printed : Option (List ℕ)) (next : Progress)
+    → Does now line exchanges printed next → next.family ≡ now.family
+same_family now Empty exchanges printed next does = ap (λ (p : Progress). p.family) does.2
+same_family now (New tree seed) exchanges printed next does = ap (λ (p : Progress). p.family) does.2
+same_family now Open exchanges printed next does = ap (λ (p : Progress). p.family) does.1
+same_family now (Put key number) exchanges printed next does = ap (λ (p : Progress). p.family) does.2
+same_family now (Delete key) exchanges printed next does = ap (λ (p : Progress). p.family) does.2
+same_family now (Commit metadata) exchanges printed next does = ap (λ (p : Progress). p.family) does.1
+same_family now (Get key) exchanges printed next does = ap (λ (p : Progress). p.family) does.1
+same_family now Root exchanges printed next does = ap (λ (p : Progress). p.family) does.1
+same_family now Floor exchanges printed next does = ap (λ (p : Progress). p.family) does.1
+same_family now Len exchanges printed next does = ap (λ (p : Progress). p.family) does.1
+same_family now (Prove key) exchanges printed next (inl (answer, none, asks, same, says)) = ap (λ (p : Progress). p.family) same
+same_family now (Prove key) exchanges printed next (inr (bytes, proved, answer, asks, same, says)) = ap (λ (p : Progress). p.family) same
+same_family now Proof exchanges printed next does = ap (λ (p : Progress). p.family) does.2
+same_family now (CheckValue key number) exchanges printed next does = ap (λ (p : Progress). p.family) does.1
+same_family now (Cut calls) exchanges printed next does = ap (λ (p : Progress). p.family) does.1
+same_family now (Mode mode) exchanges printed next does = ap (λ (p : Progress). p.family) does.1
+same_family now (Fault kind n d) exchanges printed next (inl (rate, first, second, sets)) = ap (λ (p : Progress). p.family) sets.1
+same_family now (Fault kind n d) exchanges printed next (inr (none, quiet, says, same)) = ap (λ (p : Progress). p.family) same
+same_family now Close exchanges printed next does = ap (λ (p : Progress). p.family) does.1
+same_family now Crash exchanges printed next does = ap (λ (p : Progress). p.family) does.1
 
 -- what a line does once the run has begun
-line_does : (p new : code.Progress) (line : Line) (printed : Option (List ℕ)) (exchanges : List Exchange)
+line_does : (p new : Now) (line : Line) (printed : Option (List ℕ)) (exchanges : List Exchange)
     → DoesLine p line new printed exchanges → DoesText (Some p) (Some line) (Some new) printed exchanges
-line_does p new line printed exchanges does = (
-  (progress_of new, refl, does.0),
-  λ earlier (device, begun, ran). (
-    device,
-    subst (λ seed. IsNew (seeded_by seed) device)
-        (sym (same_seed (progress_of p) line exchanges printed (progress_of new) does.0)) begun,
-    does.1 (record { parts = Some (device, script_cache); store = None }) earlier ran,
-  ),
-)
+line_does p new line printed exchanges does =
+    let first : DeviceState Lcg → SessionState Lcg = λ device. record { parts = Some (device, script_cache); store = None } in (
+      (new.progress, refl, does.0),
+      λ earlier (device, begun, ran). (
+        device,
+        subst (λ seed. IsNew (seeded_by seed) device) (sym (same_seed p.progress line exchanges printed new.progress does.0)) begun,
+        subst (λ family. HasRun family (first device) (earlier ++ exchanges) new.session)
+            (sym (same_family p.progress line exchanges printed new.progress does.0)) (does.1 (first device) earlier ran),
+      ),
+    )
 
-within : (p new : code.Progress) (line : Line) (a b : Option (List ℕ)) (result : Result Unit End)
+within : (p new : Now) (line : Line) (a b : Option (List ℕ)) (result : Result Unit End)
     → Handled (DoesLine p line new) a b result → Handled (DoesText (Some p) (Some line) (Some new)) a b result
 within p new line a b (Ok u) (exchanges, printed, does, adds) =
     (exchanges, printed, line_does p new line (Some printed) exchanges does, adds)
@@ -154,7 +215,7 @@ within p new line a b (Err ends.BadLine) (exchanges, does, adds) = (exchanges, l
 within p new line a b (Err ends.Memory) handled = tt
 within p new line a b (Err ends.Io) handled = tt
 
-pub handled_text : (p new : code.Progress) (now : Option code.Progress) (line : Line) (spelled : Option Line) (a b : Option (List ℕ))
+pub handled_text : (p new : Now) (now : Option Now) (line : Line) (spelled : Option Line) (a b : Option (List ℕ))
     (result : Result Unit End) → now ≡ Some p → spelled ≡ Some line → Handled (DoesLine p line new) a b result
     → Handled (DoesText now spelled (Some new)) a b result
 handled_text p new now line spelled a b result begun is handled =
@@ -162,22 +223,27 @@ handled_text p new now line spelled a b result begun is handled =
     (subst (λ n. Handled (DoesText n (Some line) (Some new)) a b result) (sym begun) (within p new line a b result handled))
 
 -- the line that begins the run
-pub begins : (p : code.Progress) (now : Option code.Progress) (spelled : Option Line) (seed : ℕ) (device : DeviceState Lcg)
-    → now ≡ None → spelled ≡ Some (New seed) → progress_of p ≡ new_progress seed
+pub begins : (p : Now) (now : Option Now) (spelled : Option Line) (family : TreeFamily) (seed : ℕ) (device : DeviceState Lcg)
+    → now ≡ None → spelled ≡ Some (New family seed) → p.progress ≡ new_progress family seed device.storage.config
     → p.session ≡ record { parts = Some (device, script_cache); store = None } → IsNew (seeded_by seed) device
     → DoesText now spelled (Some p) (Some (reported (codes "new"))) []
-begins p now spelled seed device none is made session new =
+begins p now spelled family seed device none is made session new =
     let first : SessionState Lcg = record { parts = Some (device, script_cache); store = None } in
-    let none_yet : HasRun first [] first = record { paged = refl; runs = runs_none script_machine script_format first } in
-    let ran : HasRun first [] p.session = subst (HasRun first []) (sym session) none_yet in
-    let kept : IsNew (seeded_by p.seed) device = subst (λ s. IsNew (seeded_by s) device) (sym (ap (λ (q : Progress). q.seed) made)) new in
+    let none_yet : HasRun p.progress.family first [] first = record {
+      paged = refl;
+      set = λ before is. is;
+      runs = runs_none (script_machine p.progress.family) script_format first;
+    } in
+    let ran : HasRun p.progress.family first [] p.session = subst (HasRun p.progress.family first []) (sym session) none_yet in
+    let kept : IsNew (seeded_by p.progress.seed) device =
+    subst (λ s. IsNew (seeded_by s) device) (sym (ap (λ (q : Progress). q.seed) made)) new in
     subst (λ l. DoesText now l (Some p) (Some (reported (codes "new"))) []) (sym is)
-    (subst (λ n. DoesText n (Some (New seed)) (Some p) (Some (reported (codes "new"))) []) (sym none) (
-      (refl, refl, ap Some made),
+    (subst (λ n. DoesText n (Some (New family seed)) (Some p) (Some (reported (codes "new"))) []) (sym none) (
+      (refl, refl, (device.storage.config, new.settings, ap Some made)),
       λ earlier nothing. (
         device,
         kept,
-        subst (λ e. HasRun first (e ++ []) p.session) (sym nothing) ran,
+        subst (λ e. HasRun p.progress.family first (e ++ []) p.session) (sym nothing) ran,
       ),
     ))
 
@@ -196,16 +262,16 @@ size_of None = 0
 size_of (Some text) = length text + 1
 
 -- what has been asked and printed of a run so far, and where it stands
-pub record Sofar (before : List (List ℕ)) (a b : Option (List ℕ)) (now : Option code.Progress) : Type 0 where
+pub record Sofar (before : List (List ℕ)) (a b : Option (List ℕ)) (now : Option Now) : Type 0 where
   pub asked : List Exchange
   pub said : List ℕ
   pub printed : Appends a b said
-  pub taken : HasTaken None before asked said (option_map progress_of now)
+  pub taken : HasTaken None before asked said (kept_in now)
   pub running : IsRunning asked now
 
 -- the lines that were taken, how many they are, and what is left
 pub record Taken (script : List ℕ) (left : Option (List ℕ)) (number : ℕ) (a b : Option (List ℕ))
-    (now : Option code.Progress) : Type 0 where
+    (now : Option Now) : Type 0 where
   pub before : List (List ℕ)
   pub lines : lines_of script ≡ before ++ lines_left left
   pub count : number ≡ length before
@@ -227,7 +293,7 @@ left_after text line None cut = cut
 left_after text line (Some r) cut = cut
 
 pub taken_next : (script text line : List ℕ) (rest : Option (Bor (List ℕ))) (number : ℕ)
-    (a b c : Option (List ℕ)) (now next : Option code.Progress) (result : Result Unit End)
+    (a b c : Option (List ℕ)) (now next : Option Now) (result : Result Unit End)
     → Taken script (Some text) number a b now
     → MatchOption rest (lines_of text ≡ line ∷ []) (λ r. lines_of text ≡ line ∷ lines_of r.now)
     → Handled (DoesText now (line_of line) next) b c result → ((e : End) → result ≡ Err e → ⊥)
@@ -243,15 +309,15 @@ taken_next script text line rest number a b c now next (Ok u) taken cut (asks, p
         asked = sofar.asked ++ asks;
         said = sofar.said ++ printed;
         printed = Appends-trans a b c sofar.said printed sofar.printed adds;
-        taken = taken_more None taken.before line sofar.asked asks sofar.said printed (option_map progress_of now)
-            (option_map progress_of next) sofar.taken does.0;
+        taken = taken_more None taken.before line sofar.asked asks sofar.said printed (kept_in now)
+            (kept_in next) sofar.taken does.0;
         running = does.1 sofar.asked sofar.running;
       };
     }
 taken_next script text line rest number a b c now next (Err e) taken cut does ok = absurd (ok e refl)
 
 -- there are few lines
-pub few_taken : (script text : List ℕ) (number : ℕ) (a b : Option (List ℕ)) (now : Option code.Progress)
+pub few_taken : (script text : List ℕ) (number : ℕ) (a b : Option (List ℕ)) (now : Option Now)
     → length script ≤ 2 ^ 24
     → Taken script (Some text) number a b now → number ≤ 2 ^ 24 + 1
 few_taken script text number a b now few taken =
@@ -266,12 +332,12 @@ smaller text None less = omega arith
 smaller text (Some r) less = omega arith
 
 -- whose device it is at the end
-abbrev pub Leaves : Option code.Progress → Option (DeviceState Lcg) → Type 0
+abbrev pub Leaves : Option Now → Option (DeviceState Lcg) → Type 0
 Leaves now device = (exchanges : List Exchange) → IsRunning exchanges now
-    → IsRunOf (option_map progress_of now) device exchanges
+    → IsRunOf (kept_in now) device exchanges
 
 -- no line is left
-pub taken_all : (script : List ℕ) (number : ℕ) (a b : Option (List ℕ)) (now : Option code.Progress)
+pub taken_all : (script : List ℕ) (number : ℕ) (a b : Option (List ℕ)) (now : Option Now)
     (device : Option (DeviceState Lcg))
     → Taken script None number a b now → Leaves now device → Prints a b (Ends script device)
 taken_all script number a b now device taken leaves =
@@ -280,8 +346,8 @@ taken_all script number a b now device taken leaves =
       sofar.printed,
       (
         sofar.asked,
-        option_map progress_of now,
-        subst (λ (l : List (List ℕ)). HasTaken None l sofar.asked sofar.said (option_map progress_of now))
+        kept_in now,
+        subst (λ (l : List (List ℕ)). HasTaken None l sofar.asked sofar.said (kept_in now))
             (sym (append-nil taken.before) ∙ sym taken.lines) sofar.taken,
         leaves sofar.asked sofar.running,
       ),
@@ -289,7 +355,7 @@ taken_all script number a b now device taken leaves =
 
 -- the next line is out of place
 pub stops : (script text line : List ℕ) (rest : Option (Bor (List ℕ))) (number : ℕ)
-    (a b c d : Option (List ℕ)) (now next : Option code.Progress) (device : Option (DeviceState Lcg))
+    (a b c d : Option (List ℕ)) (now next : Option Now) (device : Option (DeviceState Lcg))
     → Taken script (Some text) number a b now
     → MatchOption rest (lines_of text ≡ line ∷ []) (λ r. lines_of text ≡ line ∷ lines_of r.now)
     → Handled (DoesText now (line_of line) next) b c (Err ends.BadLine)
@@ -302,12 +368,12 @@ stops script text line rest number a b c d now next device taken cut (asks, does
       Appends-trans a b d sofar.said said sofar.printed (Appends-trans b c d [] said quiet told),
       (
         sofar.asked ++ asks,
-        option_map progress_of next,
+        kept_in next,
         record {
           before = taken.before;
           text = line;
           later = lines_left (text_of rest);
-          now = option_map progress_of now;
+          now = kept_in now;
           earlier = sofar.asked;
           here = asks;
           said = sofar.said;

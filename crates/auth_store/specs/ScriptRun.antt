@@ -8,23 +8,25 @@ use Rattle.rand_pcg.specs.Lcg.{Lcg}
 use Rattle.rand_pcg.specs.Pcg.{pcg32_of_seed}
 use Rattle.paged_blob.specs.Caches.{Cache}
 use Rattle.auth_store_device.specs.Devices.{DeviceState}
-use Rattle.auth_store_device.specs.Settings.{IsNew}
+use Rattle.auth_store_device.specs.Settings.{AreFirst, IsNew}
+use Rattle.fault_storage_parts.specs.declared.config.Config.{Config}
 use Rattle.auth_store_parts.specs.Line.{line_of}
 use Rattle.auth_store_parts.specs.Report.{reported}
 use Rattle.auth_store_parts.specs.declared.script.line.Line.{Line}
 use Rattle.auth_store_parts.specs.declared.script.line.Line.TheVariants.{Empty, New}
 use Rattle.auth_store_session.specs.Standing.{RunsWhole}
-use Rattle.auth_store.specs.ScriptLines.{Exchange, Progress, Does, IsQuiet, asked, answered, new_progress, script_machine, script_format}
+use Rattle.auth_store.specs.ScriptLines.{Exchange, Progress, Does, IsQuiet, asked, answered, settings_after, new_progress, script_machine, script_format}
 
--- What a line does in a run. The first that isn't empty begins it. A text that spells no line is out of place, and so is before the
--- run begins each line but an empty one or `new`.
+-- What a line does in a run. The first that isn't empty begins it, with the settings of a new device. A text that spells
+-- no line is out of place, and so is before the run begins each line but an empty one or `new`.
 abbrev pub LineDoes : Option Progress → Option Line → List Exchange → Option (List ℕ) → Option Progress → Type 0
 LineDoes now None exchanges printed next = IsQuiet exchanges × (printed ≡ None) × (next ≡ now)
 LineDoes (Some now) (Some line) exchanges printed next =
     (later : Progress) × (next ≡ Some later) × Does now line exchanges printed later
 LineDoes None (Some Empty) exchanges printed next = IsQuiet exchanges × (printed ≡ Some []) × (next ≡ None)
-LineDoes None (Some (New seed)) exchanges printed next =
-    IsQuiet exchanges × (printed ≡ Some (reported (codes "new"))) × (next ≡ Some (new_progress seed))
+LineDoes None (Some (New family seed)) exchanges printed next =
+    IsQuiet exchanges × (printed ≡ Some (reported (codes "new")))
+    × ((first : Config) × AreFirst first × (next ≡ Some (new_progress family seed first)))
 LineDoes None (Some line) exchanges printed next = IsQuiet exchanges × (printed ≡ None) × (next ≡ None)
 
 -- lines that are taken, one after the other, all that they ask and all that they print
@@ -66,13 +68,16 @@ seeded_by seed = pcg32_of_seed (pcg32_seed 16 seed)
 abbrev pub script_cache : Cache
 script_cache = record { page_size = 52; capacity = 8; next_id = 0; pages = [] }
 
--- A whole run of the session asked these things, of a device that had no file and was seeded by the number of the script's first
--- line, and of an empty cache; without that line there is no device, and nothing was asked.
+-- A whole run of the session asked these things, over trees of the family of the script's first line, of a device that
+-- had no file and was seeded by that line's number, and of an empty cache; the device has the settings that were put in
+-- place last. Without that line there is no device, and nothing was asked.
 abbrev pub IsRunOf : Option Progress → Option (DeviceState Lcg) → List Exchange → Type 0
 IsRunOf None None exchanges = IsQuiet exchanges
 IsRunOf (Some progress) (Some device) exchanges =
     (first : DeviceState Lcg) × (now : Cache) × IsNew (seeded_by progress.seed) first
-    × RunsWhole script_machine script_format first script_cache (asked exchanges) (answered exchanges) device now
+    × (device.storage.config ≡ settings_after exchanges first.storage.config)
+    × RunsWhole (script_machine progress.family) script_format first script_cache (asked exchanges) (answered exchanges)
+    device now
 IsRunOf _ _ exchanges = ⊥
 
 -- the script runs to its end

@@ -8,7 +8,7 @@ pub use auth_store_device::{Device, Image, Mutation, Mutations, OpenError, Openi
 pub use auth_store_ledger::{
     Batch, Claim, KeyProof, Word, batch, check, history, is_chunk_width, state,
 };
-pub use auth_store_run::run;
+pub use auth_store_run::{Ran, run, run_session};
 pub use auth_store_session::{Answer, NotOpened, Session, Sizes, Step, Store, StoreError};
 pub use fault_storage::{
     Config, HeaderError, PartialWriteMode, Probability, ResizeConfig, WriteConfig,

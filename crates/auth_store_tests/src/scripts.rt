@@ -12,7 +12,7 @@ struct Script {
     status: u8,
 }
 
-static SCRIPTS: [Script; 23] = [
+static SCRIPTS: [Script; 37] = [
     Script {
         name: "puts, commits, proves and checks",
         lines: "new mmr 0\n\
@@ -300,6 +300,274 @@ static SCRIPTS: [Script; 23] = [
         printed: "new\n\
          open 0\n",
         status: DONE,
+    },
+    Script {
+        name: "a delete that a cut stops is gone after a crash",
+        lines: "new mmr 0\n\
+         open\n\
+         put 0000000000000061 1\n\
+         commit\n\
+         cut 0\n\
+         del 0000000000000061\n\
+         commit\n\
+         get 0000000000000061\n\
+         close\n\
+         crash\n\
+         open\n\
+         get 0000000000000061\n",
+        printed: "new\n\
+         open 0\n\
+         commit 1\n\
+         ok\n\
+         error S2\n\
+         error S6\n\
+         closed\n\
+         crashed\n\
+         open 1\n\
+         value 1\n",
+        status: DONE,
+    },
+    Script {
+        name: "a rate above one is bad",
+        lines: "new mmr 0\n\
+         fault write 3 2\n",
+        printed: "new\n\
+         bad line 2\n",
+        status: BAD_LINE,
+    },
+    Script {
+        name: "a rate without a denominator is bad",
+        lines: "new mmr 0\n\
+         fault sync 0 0\n",
+        printed: "new\n\
+         bad line 2\n",
+        status: BAD_LINE,
+    },
+    Script {
+        name: "a fault of a kind that no script names is bad",
+        lines: "new mmr 0\n\
+         fault remove 1 2\n",
+        printed: "new\n\
+         bad line 2\n",
+        status: BAD_LINE,
+    },
+    Script {
+        name: "floors and lengths, a delete and metadata over an MMB, as a program that was made apart has it",
+        lines: "new mmb 5\n\
+         open\n\
+         floor\n\
+         len\n\
+         put 0000000000000061 1\n\
+         commit\n\
+         put 0000000000000063 3\n\
+         commit\n\
+         floor\n\
+         len\n\
+         del 0000000000000061\n\
+         commit 7\n\
+         floor\n\
+         len\n\
+         root\n\
+         get 0000000000000061\n\
+         prove 0000000000000063\n\
+         proof\n\
+         check value 0000000000000063 3\n\
+         check value 0000000000000063 4\n",
+        printed: "new\n\
+         open 0\n\
+         floor 0\n\
+         len 1\n\
+         commit 1\n\
+         commit 2\n\
+         floor 3\n\
+         len 6\n\
+         commit 3\n\
+         floor 7\n\
+         len 9\n\
+         root 6621f09729cddfe7a0bee530fe78e4faab28ec8f891e43193f3dca08131e95a6\n\
+         none\n\
+         present 3\n\
+         proof 078009000414a5cd06557f472a7375c5918a9cea0ffd816d6da64b12f953b41c8cfd7ced49122d3a14eadb33f446d9dfe17076b827e0717504ee9a64b288b19a988122445223297500c18ff592bd5615a6bc90ab1edc98044c19846c193f23343b2aa44235be0e55ba53f06182c08b0b34c4096c5c8d2c1767fbbb98033e8f0534de132c770176be8b528d0075f7aae98d6fa57a6d3c83ae480a8469e668d7b0af968995ac71014bf5122f344554c53bde2ebb8cd2b7e3d1600ad631c385a5d7cce23c7785459ac916c71047b3fea0fa28ebeed641b794b9ebd87f9dd07e7662deb2e3cc799ea20000000000000063\n\
+         yes\n\
+         no\n",
+        status: DONE,
+    },
+    Script {
+        name: "of a put and a delete of one key in a batch the later one wins",
+        lines: "new mmb 0\n\
+         open\n\
+         put 0000000000000061 1\n\
+         del 0000000000000061\n\
+         commit\n\
+         get 0000000000000061\n\
+         del 0000000000000062\n\
+         put 0000000000000062 2\n\
+         commit\n\
+         get 0000000000000062\n\
+         len\n",
+        printed: "new\n\
+         open 0\n\
+         commit 1\n\
+         none\n\
+         commit 2\n\
+         value 2\n\
+         len 4\n",
+        status: DONE,
+    },
+    Script {
+        name: "a mode keeps the rates, and a rate the mode and the other rates",
+        lines: "new mmr 3\n\
+         open\n\
+         fault sync 1 1\n\
+         mode prefix\n\
+         fault read 1 2\n\
+         put 0000000000000061 1\n\
+         commit\n\
+         close\n\
+         fault sync 0 1\n\
+         open\n\
+         get 0000000000000061\n",
+        printed: "new\n\
+         open 0\n\
+         ok\n\
+         ok\n\
+         ok\n\
+         error S1\n\
+         closed\n\
+         ok\n\
+         open 0\n\
+         none\n",
+        status: DONE,
+    },
+    Script {
+        name: "an opening that fails leaves the store closed",
+        lines: "new mmb 9\n\
+         fault open 1 1\n\
+         open\n\
+         open\n\
+         fault open 0 1\n\
+         open\n\
+         root\n",
+        printed: "new\n\
+         ok\n\
+         error S1\n\
+         error S1\n\
+         ok\n\
+         open 0\n\
+         root c53c021671c9918572a3d8618becb5aebdf33a769b5becc4ca7163482bf9748d\n",
+        status: DONE,
+    },
+    Script {
+        name: "writes that fail by halves, cuts and crashes, as a program that was made apart has it",
+        lines: "new mmb 77\n\
+         open\n\
+         put 0000000000000061 1\n\
+         put 0000000000000062 2\n\
+         commit\n\
+         fault write 1 2\n\
+         put 0000000000000063 3\n\
+         commit\n\
+         put 0000000000000063 4\n\
+         commit\n\
+         close\n\
+         crash\n\
+         open\n\
+         close\n\
+         fault write 0 1\n\
+         open\n\
+         get 0000000000000063\n\
+         cut 1\n\
+         del 0000000000000062\n\
+         commit\n\
+         close\n\
+         crash\n\
+         open\n\
+         get 0000000000000062\n\
+         len\n\
+         root\n",
+        printed: "new\n\
+         open 0\n\
+         commit 1\n\
+         ok\n\
+         error S1\n\
+         error S6\n\
+         closed\n\
+         crashed\n\
+         open 1\n\
+         closed\n\
+         ok\n\
+         open 1\n\
+         none\n\
+         ok\n\
+         error S2\n\
+         closed\n\
+         crashed\n\
+         open 1\n\
+         value 2\n\
+         len 4\n\
+         root 2d6f2e631aacee5c425b00cac747aa0ec22a04f4799b4d1f6e16435d85c18b61\n",
+        status: DONE,
+    },
+    Script {
+        name: "an opening after a close is of the same device",
+        lines: "new mmr 1\n\
+         open\n\
+         put 0000000000000061 1\n\
+         commit\n\
+         close\n\
+         open\n\
+         get 0000000000000061\n\
+         crash\n",
+        printed: "new\n\
+         open 0\n\
+         commit 1\n\
+         closed\n\
+         open 1\n\
+         value 1\n\
+         bad line 8\n",
+        status: BAD_LINE,
+    },
+    Script {
+        name: "a close of no store is bad",
+        lines: "new mmr 0\n\
+         open\n\
+         close\n\
+         close\n",
+        printed: "new\n\
+         open 0\n\
+         closed\n\
+         bad line 4\n",
+        status: BAD_LINE,
+    },
+    Script {
+        name: "a cut before the first opening",
+        lines: "new mmr 0\n\
+         cut 1\n\
+         open\n\
+         crash\n\
+         open\n\
+         len\n",
+        printed: "new\n\
+         ok\n\
+         error S2\n\
+         crashed\n\
+         open 0\n\
+         len 1\n",
+        status: DONE,
+    },
+    Script {
+        name: "a cut before the first line is bad",
+        lines: "cut 0\n",
+        printed: "bad line 1\n",
+        status: BAD_LINE,
+    },
+    Script {
+        name: "a second line of the other family is bad",
+        lines: "new mmb 0\n\
+         new mmr 0\n",
+        printed: "new\n\
+         bad line 2\n",
+        status: BAD_LINE,
     },
 ];
 

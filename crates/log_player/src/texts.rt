@@ -4,7 +4,9 @@
 //! empty text.
 
 use auth_store_ledger::is_chunk_width;
-use auth_store_parts::script::{InputError, Line, parse_key, parse_line, parse_number};
+use auth_store_parts::script::{
+    FaultKind, InputError, Line, TornMode, TreeFamily, parse_key, parse_line, parse_number,
+};
 use auth_store_session::StoreError;
 use case_lines::Unanswered;
 use merkle_forest::codec::FixedBytes;
@@ -42,22 +44,70 @@ fn of_key(
     }
 }
 
+// The word for a family of trees.
+fn of_family(family: TreeFamily) -> &'static str {
+    match family {
+        TreeFamily::Mmr => "mmr",
+        TreeFamily::Mmb => "mmb",
+    }
+}
+
+// The word for what is kept of a torn write.
+fn of_mode(mode: TornMode) -> &'static str {
+    match mode {
+        TornMode::Prefix => "prefix",
+        TornMode::Subset => "subset",
+    }
+}
+
+// The word for a kind of calls.
+fn of_kind(kind: FaultKind) -> &'static str {
+    match kind {
+        FaultKind::Open => "open",
+        FaultKind::Read => "read",
+        FaultKind::Write => "write",
+        FaultKind::Sync => "sync",
+        FaultKind::Resize => "resize",
+    }
+}
+
 // What a line asks for.
 fn of_line(alloc: Global, line: Line) -> Result<String, AllocError> {
     match line {
         Line::Empty => "empty".to_string(alloc),
-        Line::New { seed } => format!(in alloc; "new {seed}"),
+        Line::New { family, seed } => {
+            let word = of_family(family);
+            format!(in alloc; "new {word} {seed}")
+        }
         Line::Open => "open".to_string(alloc),
         Line::Put { key, value } => of_key(alloc, "put", key, Some(value)),
+        Line::Delete { key } => of_key(alloc, "del", key, None),
         Line::Commit { metadata: None } => "commit".to_string(alloc),
         Line::Commit {
             metadata: Some(metadata),
         } => format!(in alloc; "commit {metadata}"),
         Line::Get { key } => of_key(alloc, "get", key, None),
         Line::Root => "root".to_string(alloc),
+        Line::Floor => "floor".to_string(alloc),
+        Line::Len => "len".to_string(alloc),
         Line::Prove { key } => of_key(alloc, "prove", key, None),
         Line::Proof => "proof".to_string(alloc),
         Line::CheckValue { key, value } => of_key(alloc, "check", key, Some(value)),
+        Line::Cut { calls } => format!(in alloc; "cut {calls}"),
+        Line::Mode { mode } => {
+            let word = of_mode(mode);
+            format!(in alloc; "mode {word}")
+        }
+        Line::Fault {
+            kind,
+            numerator,
+            denominator,
+        } => {
+            let word = of_kind(kind);
+            format!(in alloc; "fault {word} {numerator} {denominator}")
+        }
+        Line::Close => "close".to_string(alloc),
+        Line::Crash => "crash".to_string(alloc),
     }
 }
 

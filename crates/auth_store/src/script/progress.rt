@@ -3,47 +3,41 @@
 //! A line takes its steps one after the other, and says the last answer:
 //!
 //! ```text
-//!   open    Open ---Opened---> Commits         prove   ProveKey ---a proof---> Root ---> keeps both
-//!   commit  Commit ---Committed---> Commits    get     Get
-//!   root    Root                               put, proof, check: no step
+//!   open    Open ---Opened---> Commits         prove        ProveKey ---a proof---> Root ---> keeps both
+//!   commit  Commit ---Committed---> Commits    mode, fault  Config, with the settings that are kept
+//!   get, root, floor, len, cut, close, crash: the step of that name
+//!   put, del, proof, check: no step
 //! ```
 
-ghost use Rattle.std.specs.Prelude.{◌≡◌, ◌<◌, ◌^◌, ◌++◌, ◌∷◌, ◌↔◌, [], option_map, None, Some, codes};
-ghost use Rattle.std.specs.Prelude.{IfOk, IfErr, IsSomeAnd, OnOk, Option, List, ℕ};
-ghost use Rattle.std.specs.Io.KnownBytes.{Appends};
-ghost use Rattle.std.specs.IoError.{error_kind};
-ghost use Rattle.std.specs.declared.io.ErrorKind.TheVariants.{OutOfMemory};
-ghost use Rattle.auth_store_parts.specs.Report.{reported};
+ghost use Rattle.std.specs.Prelude.{◌≡◌, ◌<◌, ◌^◌, ◌++◌, ◌∷◌, [], None, Some};
+ghost use Rattle.std.specs.Prelude.{IfOk, IfErr, Option, List, ℕ};
 ghost use Rattle.auth_store_session.specs.Machine.{proof};
-ghost use Rattle.auth_store_session.specs.MachineCode.{meaning_of, request_of};
-ghost use Rattle.auth_store.specs.ScriptLines.{answer_line, count_line, checked_line, proof_in, exchange, Exchange};
-ghost use Rattle.auth_store.specs.ScriptLines.{bytes_of, value_of, new_progress};
+ghost use Rattle.auth_store_session.specs.MachineCode.{meaning_of};
+ghost use Rattle.auth_store.specs.ScriptLines.{proof_in, Exchange, bytes_of, value_of, new_progress};
 ghost use Rattle.auth_store.specs.ScriptRun.{IsRunOf};
-ghost use Rattle.auth_store.specs.ScriptCode.{DoesLine, Goes, Handled, IsRunning, progress_of};
-ghost use Rattle.auth_store.specs.declared.script.progress.End.TheVariants as ends;
+ghost use Rattle.auth_store.specs.ScriptCode.{Goes, Handled, IsRunning, Says, SetsTo, TakesLine};
+ghost use Rattle.auth_store.specs.ScriptCode.{exchange_of, now_of, progress_of};
 
+use super::answers::{ScriptAnswer, report, report_checked, report_committed, report_opened};
+use super::end::End;
+use super::family::Named;
+use super::settings::{with_mode, with_rate};
 use auth_store_device::Device;
 use auth_store_ledger::{Batch, Claim, KeyProof, check};
-use auth_store_parts::script::Line;
-use auth_store_parts::script::report::{
-    report_check, report_commit, report_error, report_none, report_open, report_present,
-    report_proof, report_root, report_value,
-};
-use auth_store_session::{Answer, Session, Sizes, Step, StoreError};
+use auth_store_parts::script::report::{report_present, report_proof};
+use auth_store_parts::script::{FaultKind, Line, TornMode};
+use auth_store_session::{Answer, Session, Sizes, Step};
+use fault_storage::{Config, Probability};
+use merkle_forest::ByteHash;
 use merkle_forest::codec::FixedBytes;
-use merkle_forest::digest::Digest;
-use merkle_forest::{ByteHash, mmr};
 use paged_blob::CacheRef;
 use rand_pcg::Pcg32;
-use std::alloc::{AllocError, AllocFailed, Global};
-use std::io;
-use std::io::{ErrorKind, Write};
+use std::alloc::Global;
+use std::io::Write;
 
 pub(crate) type Keys = FixedBytes<8>;
 
-pub(crate) type ScriptSession = Session<Pcg32, mmr::Family, ByteHash, Keys, u64, 1>;
-
-type ScriptAnswer = Answer<FixedBytes<32>, u64>;
+pub(crate) type ScriptSession<F> = Session<Pcg32, F, ByteHash, Keys, u64, 1>;
 
 /// Both buffers of the script's store, in bytes.
 const SIZES: Sizes = Sizes {
@@ -57,42 +51,6 @@ const PAGE_CONTENT: u16 = 52;
 /// How many pages of the log are kept in memory.
 const PAGES_KEPT: usize = 8;
 
-/// Why a line ended the run.
-#[derive(Debug, Drop)]
-pub(crate) enum End {
-    BadLine,
-    Memory,
-    Io,
-}
-
-impl From<AllocError> for End {
-    ghost from_gives = { λ _ e. e ≡ ends.Memory };
-
-    fn from(_e: AllocError) -> End {
-        End::Memory
-    }
-}
-
-impl<T: Drop> From<AllocFailed<T>> for End {
-    ghost from_gives = { λ _ e. e ≡ ends.Memory };
-
-    fn from(_e: AllocFailed<T>) -> End {
-        End::Memory
-    }
-}
-
-impl From<io::Error> for End {
-    ghost from_gives = { λ e end. (error_kind e ≡ OutOfMemory → end ≡ ends.Memory)
-        × ((error_kind e ≡ OutOfMemory → ⊥) → end ≡ ends.Io) };
-
-    fn from(e: io::Error) -> End {
-        match e.kind() {
-            ErrorKind::OutOfMemory => End::Memory,
-            _ => End::Io,
-        }
-    }
-}
-
 /// The bytes of the last proof, and the root of the moment at which it was made.
 #[derive(Drop)]
 pub(crate) struct Kept {
@@ -100,80 +58,23 @@ pub(crate) struct Kept {
     root: FixedBytes<32>,
 }
 
-/// What a script has made so far: the number that its device is seeded by, its session, the words of its batch and the
-/// last proof.
+/// What a script has made so far: the number that its device is seeded by, the settings that are in place, its session,
+/// the words of its batch and the last proof.
 #[derive(Drop)]
-pub(crate) struct Progress {
+pub(crate) struct Progress<F: Named> {
     alloc: Global,
     seed: u64,
-    session: ScriptSession,
+    settings: Config,
+    session: ScriptSession<F>,
     batch: Batch<Keys, u64>,
     kept: Option<Kept>,
 }
 
 // Takes a step of the session.
-fn ask(session: &mut ScriptSession, step: Step<Keys, u64>) -> ScriptAnswer
-    ensures { Goes session.old
-        (exchange (request_of bytes_of value_of step) (meaning_of bytes_of value_of result) ∷ []) session.new }
+fn ask<F: Named>(session: &mut ScriptSession<F>, step: Step<Keys, u64>) -> ScriptAnswer
+    ensures { Goes F.family session.old (exchange_of step (meaning_of bytes_of value_of result) ∷ []) session.new }
 {
     session.step(step)
-}
-
-// Prints a value, a root or a refusal. Any other answer has no line of its own, and the line was out of place.
-pub(crate) fn report<W: Write>(alloc: Global, out: &mut W, answer: ScriptAnswer) -> Result<(), End>
-    ensures line { OnOk result (IsSomeAnd (answer_line (meaning_of bytes_of value_of answer))
-        (λ line. Appends (W.contents out.old) (W.contents out.new) (reported line))) }
-    ensures bad { result ≡ Err End.BadLine ↔ (answer_line (meaning_of bytes_of value_of answer) ≡ None) }
-    ensures quiet { result ≡ Err End.BadLine → Appends (W.contents out.old) (W.contents out.new) [] }
-{
-    match answer {
-        Answer::Value(Some(value)) => Ok(report_value(out, value)?),
-        Answer::Value(None) => Ok(report_none(out)?),
-        Answer::Root(root) => Ok(report_root(alloc, out, root.as_bytes())?),
-        Answer::Refused(error) => Ok(report_error(out, error.number())?),
-        _ => Err(End::BadLine),
-    }
-}
-
-// Prints how many commits an opened store has, or what else was answered.
-fn report_opened<W: Write>(alloc: Global, out: &mut W, answer: ScriptAnswer) -> Result<(), End>
-    ensures line { OnOk result (IsSomeAnd (count_line (codes "open ") (meaning_of bytes_of value_of answer))
-        (λ line. Appends (W.contents out.old) (W.contents out.new) (reported line))) }
-    ensures bad { result ≡ Err End.BadLine
-        ↔ (count_line (codes "open ") (meaning_of bytes_of value_of answer) ≡ None) }
-    ensures quiet { result ≡ Err End.BadLine → Appends (W.contents out.old) (W.contents out.new) [] }
-{
-    match answer {
-        Answer::Commits(commits) => Ok(report_open(out, commits)?),
-        other => report(alloc, out, other),
-    }
-}
-
-// Prints how many commits there are after one, or what else was answered.
-fn report_committed<W: Write>(alloc: Global, out: &mut W, answer: ScriptAnswer) -> Result<(), End>
-    ensures line { OnOk result (IsSomeAnd (count_line (codes "commit ") (meaning_of bytes_of value_of answer))
-        (λ line. Appends (W.contents out.old) (W.contents out.new) (reported line))) }
-    ensures bad { result ≡ Err End.BadLine
-        ↔ (count_line (codes "commit ") (meaning_of bytes_of value_of answer) ≡ None) }
-    ensures quiet { result ≡ Err End.BadLine → Appends (W.contents out.old) (W.contents out.new) [] }
-{
-    match answer {
-        Answer::Commits(commits) => Ok(report_commit(out, commits)?),
-        other => report(alloc, out, other),
-    }
-}
-
-// Prints what a check answers.
-pub(crate) fn report_checked<W: Write>(
-    out: &mut W,
-    checked: Result<bool, AllocError>,
-) -> io::Result<()>
-    ensures { OnOk result (Appends (W.contents out.old) (W.contents out.new) (reported (checked_line checked))) }
-{
-    match checked {
-        Ok(holds) => report_check(out, holds),
-        Err(_) => report_error(out, StoreError::Memory.number()),
-    }
 }
 
 // The value of a key that is there and the bytes of its proof, or the other answer.
@@ -189,11 +90,11 @@ fn value_and_proof(answer: ScriptAnswer) -> Result<(u64, Vec<u8>), ScriptAnswer>
     }
 }
 
-impl Progress {
+impl<F: Named> Progress<F> {
     // The session over a new device, with no word and no proof.
-    pub(crate) fn new(alloc: Global, seed: u64, device: Device<Pcg32>) -> Progress
+    pub(crate) fn new(alloc: Global, seed: u64, device: Device<Pcg32>) -> Progress<F>
         requires { device.log ≡ None }
-        ensures progress { progress_of result ≡ new_progress seed }
+        ensures progress { progress_of F.family result ≡ new_progress F.family seed device.storage.config }
         ensures session { result.session ≡ record {
           parts = Some (device, record { page_size = 52; capacity = 8; next_id = 0; pages = [] });
           store = None;
@@ -202,6 +103,7 @@ impl Progress {
         Progress {
             alloc,
             seed,
+            settings: device.config(),
             session: Session::new(
                 alloc,
                 device,
@@ -214,7 +116,8 @@ impl Progress {
 
     // Opens a store, where none is open.
     fn open<W: Write>(&mut self, out: &mut W) -> Result<(), End>
-        ensures { Handled (DoesLine self.old Line.Open self.new) (W.contents out.old) (W.contents out.new) result }
+        ensures { Handled (TakesLine F.family self.old Line.Open self.new) (W.contents out.old)
+            (W.contents out.new) result }
     {
         match ask(&mut self.session, Step::Open(SIZES)) {
             Answer::Opened => {
@@ -227,16 +130,16 @@ impl Progress {
 
     // Says in the batch that the key has this value.
     fn put(&mut self, key: Keys, value: u64) -> Result<(), End>
-        ensures { (contents : Option (List ℕ)) → Handled (DoesLine self.old (Line.Put key value) self.new) contents contents
-            result }
+        ensures { (contents : Option (List ℕ))
+            → Handled (TakesLine F.family self.old (Line.Put key value) self.new) contents contents result }
     {
         Ok(self.batch.put(key, value)?)
     }
 
     // Commits the words so far. The batch is empty again, also after a refusal.
     fn commit<W: Write>(&mut self, out: &mut W, metadata: Option<u64>) -> Result<(), End>
-        ensures { Handled (DoesLine self.old (Line.Commit metadata) self.new) (W.contents out.old) (W.contents out.new)
-            result }
+        ensures { Handled (TakesLine F.family self.old (Line.Commit metadata) self.new) (W.contents out.old)
+            (W.contents out.new) result }
     {
         let batch = std::mem::replace(&mut self.batch, Batch::new(self.alloc));
         match ask(&mut self.session, Step::Commit(batch, metadata)) {
@@ -248,25 +151,62 @@ impl Progress {
         }
     }
 
-    // Answers the value of a key.
-    fn get<W: Write>(&mut self, out: &mut W, key: Keys) -> Result<(), End>
-        ensures { Handled (DoesLine self.old (Line.Get key) self.new) (W.contents out.old) (W.contents out.new) result }
+    // Says in the batch that the key is gone.
+    fn delete(&mut self, key: Keys) -> Result<(), End>
+        ensures { (contents : Option (List ℕ))
+            → Handled (TakesLine F.family self.old (Line.Delete key) self.new) contents contents result }
     {
-        let answer = ask(&mut self.session, Step::Get(key));
+        Ok(self.batch.delete(key)?)
+    }
+
+    // Takes one step, and says its answer.
+    fn say<W: Write>(&mut self, out: &mut W, step: Step<Keys, u64>) -> Result<(), End>
+        ensures { Handled (Says F.family self.old step self.new) (W.contents out.old) (W.contents out.new) result }
+    {
+        let answer = ask(&mut self.session, step);
         report(self.alloc, out, answer)
     }
 
-    // Answers the root.
-    fn root<W: Write>(&mut self, out: &mut W) -> Result<(), End>
-        ensures { Handled (DoesLine self.old Line.Root self.new) (W.contents out.old) (W.contents out.new) result }
+    // Puts settings in place, and keeps them.
+    fn set<W: Write>(&mut self, out: &mut W, settings: Config) -> Result<(), End>
+        ensures { Handled (SetsTo F.family self.old settings self.new) (W.contents out.old)
+            (W.contents out.new) result }
     {
-        let answer = ask(&mut self.session, Step::Root);
-        report(self.alloc, out, answer)
+        self.settings = settings;
+        self.say(out, Step::Config(settings))
+    }
+
+    // Sets what is kept of a torn write.
+    fn set_mode<W: Write>(&mut self, out: &mut W, mode: TornMode) -> Result<(), End>
+        ensures { Handled (TakesLine F.family self.old (Line.Mode mode) self.new)
+            (W.contents out.old) (W.contents out.new) result }
+    {
+        let settings = with_mode(self.settings, mode);
+        self.set(out, settings)
+    }
+
+    // Sets how often a call of this kind fails. A fraction that is no rate is out of place.
+    fn set_rate<W: Write>(
+        &mut self,
+        out: &mut W,
+        kind: FaultKind,
+        numerator: u64,
+        denominator: u64,
+    ) -> Result<(), End>
+        ensures { Handled (TakesLine F.family self.old (Line.Fault kind numerator denominator) self.new)
+            (W.contents out.old) (W.contents out.new) result }
+    {
+        let Some(rate) = Probability::new(numerator, denominator) else {
+            return Err(End::BadLine);
+        };
+        let settings = with_rate(self.settings, kind, rate);
+        self.set(out, settings)
     }
 
     // Proves a key that is there, and keeps the bytes and the root of now. A refused proof keeps the former ones.
     fn prove<W: Write>(&mut self, out: &mut W, key: Keys) -> Result<(), End>
-        ensures { Handled (DoesLine self.old (Line.Prove key) self.new) (W.contents out.old) (W.contents out.new) result }
+        ensures { Handled (TakesLine F.family self.old (Line.Prove key) self.new) (W.contents out.old)
+            (W.contents out.new) result }
     {
         let answer = ask(&mut self.session, Step::ProveKey(key));
         let (value, bytes) = match value_and_proof(answer) {
@@ -282,7 +222,8 @@ impl Progress {
 
     // Answers the kept bytes.
     fn proof<W: Write>(&self, out: &mut W) -> Result<(), End>
-        ensures { Handled (DoesLine self.now Line.Proof self.now) (W.contents out.old) (W.contents out.new) result }
+        ensures { Handled (TakesLine F.family self.now Line.Proof self.now) (W.contents out.old)
+            (W.contents out.new) result }
     {
         let Some(kept) = &self.kept else {
             return Err(End::BadLine);
@@ -292,14 +233,14 @@ impl Progress {
 
     // Checks the kept bytes against the kept root.
     fn check_value<W: Write>(&self, out: &mut W, key: Keys, value: u64) -> Result<(), End>
-        ensures { Handled (DoesLine self.now (Line.CheckValue key value) self.now) (W.contents out.old)
+        ensures { Handled (TakesLine F.family self.now (Line.CheckValue key value) self.now) (W.contents out.old)
             (W.contents out.new) result }
     {
         let Some(kept) = &self.kept else {
             return Err(End::BadLine);
         };
         let claim = Claim::Value { key, value };
-        let checked = check::<mmr::Family, ByteHash, Keys, u64, 1>(
+        let checked = check::<F, ByteHash, Keys, u64, 1>(
             self.alloc,
             &kept.root,
             &claim,
@@ -310,26 +251,38 @@ impl Progress {
 
     // Takes one line after the first one.
     pub(crate) fn step<W: Write>(&mut self, out: &mut W, line: Line) -> Result<(), End>
-        ensures { Handled (DoesLine self.old line self.new) (W.contents out.old) (W.contents out.new) result }
+        ensures { Handled (TakesLine F.family self.old line self.new) (W.contents out.old) (W.contents out.new) result }
     {
         match line {
             Line::Empty => Ok(()),
-            Line::New { seed: _ } => Err(End::BadLine),
+            Line::New { family: _, seed: _ } => Err(End::BadLine),
             Line::Open => self.open(out),
             Line::Put { key, value } => self.put(key, value),
+            Line::Delete { key } => self.delete(key),
             Line::Commit { metadata } => self.commit(out, metadata),
-            Line::Get { key } => self.get(out, key),
-            Line::Root => self.root(out),
+            Line::Get { key } => self.say(out, Step::Get(key)),
+            Line::Root => self.say(out, Step::Root),
+            Line::Floor => self.say(out, Step::Floor),
+            Line::Len => self.say(out, Step::Len),
             Line::Prove { key } => self.prove(out, key),
             Line::Proof => self.proof(out),
             Line::CheckValue { key, value } => self.check_value(out, key, value),
+            Line::Cut { calls } => self.say(out, Step::CutAfter(calls)),
+            Line::Mode { mode } => self.set_mode(out, mode),
+            Line::Fault {
+                kind,
+                numerator,
+                denominator,
+            } => self.set_rate(out, kind, numerator, denominator),
+            Line::Close => self.say(out, Step::Close),
+            Line::Crash => self.say(out, Step::Crash),
         }
     }
 
     // Closes the store, if one is open, and answers its device.
     pub(crate) fn into_device(self) -> Device<Pcg32>
-        ensures { (exchanges : List Exchange) → IsRunning exchanges (Some self)
-            → IsRunOf (Some (progress_of self)) (Some result) exchanges }
+        ensures { (exchanges : List Exchange) → IsRunning exchanges (Some (now_of F.family self))
+            → IsRunOf (Some (progress_of F.family self)) (Some result) exchanges }
     {
         let (device, _cache) = self.session.into_parts();
         device

@@ -8,10 +8,11 @@ ghost use Rattle.auth_store_parts.specs.Line.{line_of};
 ghost use Rattle.auth_store_parts.specs.Report.{reported};
 ghost use Rattle.auth_store.specs.ScriptLines.{Exchange};
 ghost use Rattle.auth_store.specs.ScriptRun.{Ends, IsRunOf, Prints, Stops, lines_of};
-ghost use Rattle.auth_store.specs.ScriptCode.{DoesText, Handled, IsRunning, progress_of};
+ghost use Rattle.auth_store.specs.ScriptCode.{DoesText, Handled, IsRunning, kept_in, now_in};
 
 use super::device::new_device;
-use super::progress::{End, Progress};
+use super::end::End;
+use super::running::Running;
 use auth_store_device::Device;
 use auth_store_parts::script::report::{report_bad_line, report_new};
 use auth_store_parts::script::{InputError, Line, parse_line, read_script};
@@ -45,24 +46,24 @@ pub struct ScriptEnd {
 // Takes a line: the first one that isn't empty begins the run.
 fn take_line<W: Write>(
     alloc: Global,
-    progress: &mut Option<Progress>,
+    running: &mut Option<Running>,
     out: &mut W,
     text: &[u8],
 ) -> Result<(), End>
-    ensures { Handled (DoesText progress.old (line_of text.now)
-        progress.new) (W.contents out.old) (W.contents out.new) result }
+    ensures { Handled (DoesText (option_map now_in running.old) (line_of text.now) (option_map now_in running.new))
+        (W.contents out.old) (W.contents out.new) result }
 {
     let Some(line) = parse_line(text) else {
         return Err(End::BadLine);
     };
-    if let Some(progress) = progress {
-        return progress.step(out, line);
+    if let Some(running) = running {
+        return running.step(out, line);
     }
     match line {
         Line::Empty => Ok(()),
-        Line::New { seed } => {
+        Line::New { family, seed } => {
             let device = new_device(alloc, seed)?;
-            *progress = Some(Progress::new(alloc, seed, device));
+            *running = Some(Running::new(alloc, family, seed, device));
             Ok(report_new(out)?)
         }
         _ => Err(End::BadLine),
@@ -107,12 +108,12 @@ fn cut_line(text: &[u8]) -> (&[u8], Option<&[u8]>)
 }
 
 // The device of a run, closed, where there is one.
-fn device_of(progress: Option<Progress>) -> Option<Device<Pcg32>>
-    ensures { (exchanges : List Exchange) → IsRunning exchanges progress
-        → IsRunOf (option_map progress_of progress) result exchanges }
+fn device_of(running: Option<Running>) -> Option<Device<Pcg32>>
+    ensures { (exchanges : List Exchange) → IsRunning exchanges (option_map now_in running)
+        → IsRunOf (kept_in (option_map now_in running)) result exchanges }
 {
-    match progress {
-        Some(progress) => Some(progress.into_device()),
+    match running {
+        Some(running) => Some(running.into_device()),
         None => None,
     }
 }
@@ -126,24 +127,24 @@ fn run_lines<W: Write>(alloc: Global, script: &[u8], out: &mut W) -> ScriptEnd
         (Stops script.now result.device) }
     ensures status { result.status ≤ 3 }
 {
-    let mut progress = None;
+    let mut running = None;
     let mut number = 0u64;
     let mut left = Some(script);
     while let Some(text) = left {
         let (line, rest) = cut_line(text);
         number += 1;
-        if let Err(end) = take_line(alloc, &mut progress, out, line) {
+        if let Err(end) = take_line(alloc, &mut running, out, line) {
             let status = end_run(out, end, number);
             return ScriptEnd {
                 status,
-                device: device_of(progress),
+                device: device_of(running),
             };
         }
         left = rest;
     }
     ScriptEnd {
         status: DONE,
-        device: device_of(progress),
+        device: device_of(running),
     }
 }
 

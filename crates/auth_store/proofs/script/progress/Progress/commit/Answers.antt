@@ -1,24 +1,26 @@
-use Rattle.std.proofs.Common.{◌≡◌, ◌∷◌, ◌∙◌, [], ap, sym, refl, inl, inr, true, option_map}
+use Rattle.std.proofs.Common.{◌∷◌, ◌∙◌, [], ap, inl, inr, option_map}
 use Rattle.std.specs.Prelude.{codes}
 use Rattle.auth_store_parts.specs.Batch.{meanings}
-use Rattle.auth_store_parts.specs.Report.{reported}
 use Rattle.auth_store_session.specs.MachineCode.{meaning_of}
 use Rattle.auth_store_session.specs.Machine.{Answer, ask_commit, ask_commits, is_root_of_commit}
 use Rattle.auth_store.specs.ScriptLines.{answer_line, bytes_of, count_line, exchange, value_of, with_words}
 use Rattle.auth_store.proofs.ScriptLines.{goes_on, handled_line, not_committed}
-use Rattle.auth_store.specs.ScriptCode.{progress_of}
+use Rattle.auth_store.specs.ScriptCode.{Now, now_of}
 use Rattle.auth_store_parts.specs.declared.script.line.Line.TheVariants as lines
-use Rattle.auth_store.specs.declared.script.progress.Progress as code
 use Rattle.auth_store.proofs.script.progress.Progress.commit.Goals as goal
 
 pub returns-in-Committed : goal.returns-in-Committed
 returns-in-Committed g c =
-    let old : code.Progress = c.args.self.now in
-    let new : code.Progress = record { alloc = old.alloc; seed = old.seed; session = c.ask-count.new.session; batch = c.replace-batch.new.dest; kept = old.kept } in
+    let family = g.F.Named.family in
+    let old : Now = now_of family c.args.self.now in
+    let new : Now = record {
+      progress = with_words (meanings bytes_of value_of c.replace-batch.new.dest.words.items) old.progress;
+      session = c.ask-count.new.session;
+    } in
     let done : Answer = meaning_of bytes_of value_of c.ask.result in
     let answer : Answer = meaning_of bytes_of value_of c.ask-count.result in
     let metadata = option_map value_of c.args.metadata in
-    let now = progress_of c.args.self.now in
+    let now = old.progress in
     let one = exchange (ask_commit (meanings bytes_of value_of c.replace-batch.result.words.items) metadata) done ∷ [] in
     let other = exchange ask_commits answer ∷ [] in
     handled_line old new (lines.Commit c.args.metadata) _ _ _ (count_line (codes "commit ") answer)
@@ -35,16 +37,20 @@ returns-in-Committed g c =
       ap (λ batch. with_words (meanings bytes_of value_of batch.words.items) now) c.replace-batch.ensures.after
           ∙ ap (λ items. with_words (meanings bytes_of value_of items) now) c.new.ensures,
     ))
-    (goes_on old.session c.ask.new.session new.session one other c.ask.ensures c.ask-count.ensures)
+    (goes_on family old.session c.ask.new.session new.session one other c.ask.ensures c.ask-count.ensures)
     c.report_committed.ensures.line c.report_committed.ensures.bad c.report_committed.ensures.quiet
 
 pub returns-in_default : goal.returns-in_default
 returns-in_default g c =
-    let old : code.Progress = c.args.self.now in
-    let new : code.Progress = record { alloc = old.alloc; seed = old.seed; session = c.ask.new.session; batch = c.replace-batch.new.dest; kept = old.kept } in
+    let family = g.F.Named.family in
+    let old : Now = now_of family c.args.self.now in
+    let new : Now = record {
+      progress = with_words (meanings bytes_of value_of c.replace-batch.new.dest.words.items) old.progress;
+      session = c.ask.new.session;
+    } in
     let answer : Answer = meaning_of bytes_of value_of c.ask.result in
     let metadata = option_map value_of c.args.metadata in
-    let now = progress_of c.args.self.now in
+    let now = old.progress in
     handled_line old new (lines.Commit c.args.metadata) _ _ _ (answer_line answer)
     (exchange (ask_commit (meanings bytes_of value_of c.replace-batch.result.words.items) metadata) answer ∷ [])
     (λ printed is. (

@@ -1,4 +1,4 @@
-use Rattle.std.proofs.Common.{◌≡◌, ◌++◌, ◌∙◌, [], Some, ap, sym, refl, option_map}
+use Rattle.std.proofs.Common.{◌++◌, ◌∙◌, [], Some, ap, sym, refl, option_map}
 use Rattle.std.specs.Prelude.{codes}
 use Rattle.hex.specs.Hex.{encode_lower}
 use Rattle.auth_store_parts.specs.Report.{reported}
@@ -17,7 +17,7 @@ returns g c = (
           ∙ sym (ap (λ k. option_map (λ kept. reported (codes "proof " ++ encode_lower kept.0)) (kept_of k)) c.in-Some.is),
       refl,
     ),
-    goes_none c.args.self.now.session,
+    goes_none g.F.Named.family c.args.self.now.session,
   ),
   c.in_ok-report_proof.ensures,
 )

@@ -1,4 +1,4 @@
-use Rattle.std.proofs.Common.{◌≡◌, ℕ, List, ◌∷◌, ◌++◌, ◌∙◌, [], Some, ap, sym, refl, inl, inr, option_map}
+use Rattle.std.proofs.Common.{ℕ, List, ◌∷◌, ◌++◌, ◌∙◌, [], Some, ap, sym, refl, inl, inr, option_map}
 use Rattle.std.proofs.lemmas.Nat.{from_be_bytes-to_be_bytes_8}
 use Rattle.std.specs.Prelude.{codes}
 use Rattle.std.specs.Fmt.{decimal}
@@ -7,15 +7,15 @@ use Rattle.auth_store_session.specs.MachineCode.{meaning_of}
 use Rattle.auth_store_session.specs.Machine.{Answer, ask_proof, ask_root, proof, root_is}
 use Rattle.auth_store.specs.ScriptLines.{Proves, answer_line, bytes_of, exchange, value_of, with_kept}
 use Rattle.auth_store.proofs.ScriptLines.{goes_on, handled_line, not_root}
-use Rattle.auth_store.specs.ScriptCode.{progress_of}
+use Rattle.auth_store.specs.ScriptCode.{Now, now_of}
 use Rattle.auth_store_parts.specs.declared.script.line.Line.TheVariants as lines
-use Rattle.auth_store.specs.declared.script.progress.Progress as code
 use Rattle.auth_store.proofs.script.progress.Progress.prove.Goals as goal
 
 pub returns-in-Err : goal.returns-in-Err
 returns-in-Err g c =
-    let old : code.Progress = c.args.self.now in
-    let new : code.Progress = record { alloc = old.alloc; seed = old.seed; session = c.ask-answer.new.session; batch = old.batch; kept = old.kept } in
+    let family = g.F.Named.family in
+    let old : Now = now_of family c.args.self.now in
+    let new : Now = record { progress = old.progress; session = c.ask-answer.new.session } in
     let answer : Answer = meaning_of bytes_of value_of c.ask-answer.result in
     let other : Answer = meaning_of bytes_of value_of c.in-Err.other in
     handled_line old new (lines.Prove c.args.key) _ _ _ (answer_line other) (exchange (ask_proof c.args.key.bytes) answer ∷ [])
@@ -31,11 +31,12 @@ returns-in-Err g c =
 
 pub returns-in_default : goal.returns-in_default
 returns-in_default g c =
-    let old : code.Progress = c.args.self.now in
-    let new : code.Progress = record { alloc = old.alloc; seed = old.seed; session = c.ask.new.session; batch = old.batch; kept = old.kept } in
+    let family = g.F.Named.family in
+    let old : Now = now_of family c.args.self.now in
+    let new : Now = record { progress = old.progress; session = c.ask.new.session } in
     let proved : Answer = meaning_of bytes_of value_of c.ask-answer.result in
     let answer : Answer = meaning_of bytes_of value_of c.ask.result in
-    let now = progress_of c.args.self.now in
+    let now = old.progress in
     let bytes = c.in-Ok.proved.1.items in
     let value = value_of c.in-Ok.proved.0 in
     let one = exchange (ask_proof c.args.key.bytes) proved ∷ [] in
@@ -51,18 +52,19 @@ returns-in_default g c =
       sym (ap (λ k. with_kept k now) kept.0),
       is ∙ sym (ap (option_map reported) said.1),
     ))
-    (goes_on old.session c.ask-answer.new.session new.session one next c.ask-answer.ensures c.ask.ensures)
+    (goes_on family old.session c.ask-answer.new.session new.session one next c.ask-answer.ensures c.ask.ensures)
     c.report-in_default.ensures.line c.report-in_default.ensures.bad c.report-in_default.ensures.quiet
 
 pub returns : goal.returns
 returns g c =
-    let old = c.args.self.now in
+    let family = g.F.Named.family in
+    let old : Now = now_of family c.args.self.now in
     let proved : Answer = meaning_of bytes_of value_of c.ask-answer.result in
     let answer : Answer = meaning_of bytes_of value_of c.ask.result in
     let number = c.in-Ok.proved.0 in
     let bytes = c.in-Ok.proved.1.items in
     let digest = c.in-Root.root.bytes in
-    let now = progress_of old in
+    let now = old.progress in
     let one = exchange (ask_proof c.args.key.bytes) proved ∷ [] in
     let next = exchange ask_root answer ∷ [] in
     let shown : Answer = proof (Some (value_of number, bytes)) in
@@ -81,6 +83,6 @@ returns g c =
     ) in (
       exchange (ask_proof c.args.key.bytes) proved ∷ next,
       text,
-      (does, goes_on old.session c.ask-answer.new.session c.ask.new.session one next c.ask-answer.ensures c.ask.ensures),
+      (does, goes_on family old.session c.ask-answer.new.session c.ask.new.session one next c.ask-answer.ensures c.ask.ensures),
       c.in_ok-report_present.ensures,
     )
