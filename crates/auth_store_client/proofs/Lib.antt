@@ -1,0 +1,4 @@
+pub mod Absent
+pub mod Decoding
+pub mod Fitting
+pub mod Shown

@@ -1,0 +1,80 @@
+-- Claims about a history, and when bytes show them under a root.
+use Rattle.std.specs.Prelude.{◌≡◌, ℕ, true, List, [], Option, None, Some, Ok, slice_get, IfSome}
+use Rattle.merkle_forest.specs.Codec.{Outcome}
+use Rattle.merkle_forest.specs.Forest.{Rule}
+use Rattle.merkle_forest.specs.Hashing.{Hash}
+use Rattle.state_ops.specs.Operation.{Operation, fixed_encoding, update, ordered}
+use Rattle.state_ops.specs.Reading.{IsField}
+use Rattle.state_proofs.specs.Encoded.{Format, format_of, Fits, ShowsOperation, ShowsUpdate}
+use Rattle.state_proofs.specs.Exclusion.{ExclusionParts, by_update, by_commit, exclusion_encoding, Excludes}
+use Rattle.auth_store_parts.specs.History.{History, activity_bits, latest_map, log_of}
+use Rattle.auth_store_parts.specs.Map.{value_at}
+
+-- What is said of a history: a key has a value; a key is not there; an operation stands at a location of its log and is active.
+pub data Claim : Type 0 where
+  has_value : List ℕ → List ℕ → Claim
+  is_absent : List ℕ → Claim
+  is_active : ℕ → Operation → Claim
+
+-- ---- when a claim is true
+
+-- the claim holds of the history
+abbrev pub IsTrueOf : Claim → History → Type 0
+IsTrueOf (has_value key value) history = value_at (latest_map history) key ≡ Some value
+IsTrueOf (is_absent key) history = value_at (latest_map history) key ≡ None
+IsTrueOf (is_active location operation) history =
+    (slice_get (log_of history) location ≡ Some operation) × (slice_get (activity_bits (log_of history)) location ≡ Some true)
+
+-- ---- when bytes show it
+
+-- How a store's proofs are encoded: their format, how many bytes a key and a value have, and which bytes are one.
+pub record Terms : Type 1 where
+  pub format : Format
+  pub key_size : ℕ
+  pub value_size : ℕ
+  pub IsKey : List ℕ → Type 0
+  pub IsValue : List ℕ → Type 0
+
+-- The terms of a family's trees, a hash function, chunks of `width` bytes and digests of `size`, of which a proof of one operation has
+-- up to 122; the family says which pending digests a proof may hold and how they are encoded; `key` and `value` are the grammars of keys
+-- and of values.
+abbrev pub terms : Rule → Hash → ℕ → ℕ → (Option (List ℕ) → Type 0) → (Option (List ℕ) → List ℕ) → (List ℕ → Outcome)
+    → (List ℕ → Outcome) → ℕ → ℕ → Terms
+terms rule hash width size IsPending pending key value key_size value_size = record {
+  format = format_of rule hash width size IsPending pending (λ bytes. key bytes ≡ Ok []);
+  key_size = key_size;
+  value_size = value_size;
+  IsKey = IsField key key_size;
+  IsValue = IsField value value_size;
+}
+
+-- the encoding of an operation
+abbrev pub encoded : Terms → Operation → List ℕ
+encoded terms operation = fixed_encoding terms.key_size terms.value_size operation
+
+-- the parts of a proof of absence are within the limits, and encode keys and values
+abbrev pub FitsExclusion : Terms → ExclusionParts → Type 0
+FitsExclusion terms (by_update proof key value next) =
+    Fits terms.format.IsPending terms.format.width terms.format.size terms.format.most proof
+    × terms.IsKey key × terms.IsValue value × terms.IsKey next
+FitsExclusion terms (by_commit proof metadata) =
+    Fits terms.format.IsPending terms.format.width terms.format.size terms.format.most proof × IfSome metadata terms.IsValue
+
+-- the bytes are those of a proof that the key is not in the state of this root
+pub record ShowsAbsence (terms : Terms) (root key bytes : List ℕ) : Type 0 where
+  pub proof : ExclusionParts
+  pub is : bytes ≡ exclusion_encoding terms.format.pending proof
+  pub fits : FitsExclusion terms proof
+  pub excludes : Excludes terms.format.rule terms.format.hash terms.key_size terms.value_size root proof key
+
+-- the bytes are those of a proof that the operation is active at this location
+pub record ShowsActive (terms : Terms) (root : List ℕ) (location : ℕ) (operation : Operation) (bytes : List ℕ) : Type 0 where
+  pub shown : ShowsOperation terms.format root (encoded terms operation) bytes
+  pub at : shown.proof.location ≡ location
+
+-- The bytes show the claim under this root. That a key has a value is shown by a proof of the update that says so.
+abbrev pub Shows : Terms → Claim → List ℕ → List ℕ → Type 0
+Shows terms (has_value key value) root bytes =
+    ShowsUpdate terms.format root (λ next_key. encoded terms (update (ordered key value next_key))) bytes
+Shows terms (is_absent key) root bytes = ShowsAbsence terms root key bytes
+Shows terms (is_active location operation) root bytes = ShowsActive terms root location operation bytes

@@ -1,0 +1,5 @@
+pub mod Encodings
+pub mod Sound
+pub mod Spans
+pub mod Standing
+pub mod Widths

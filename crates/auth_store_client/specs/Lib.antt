@@ -1,0 +1,6 @@
+pub mod States
+pub mod Claims
+pub mod ClaimsCode
+pub mod Proving
+pub mod Soundness
+pub mod Laws

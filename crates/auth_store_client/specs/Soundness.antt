@@ -1,0 +1,44 @@
+-- What a client's yes means: which strings are hashed for a history, and which are rebuilt from a claim and the proof that
+-- the bytes encode.
+use Rattle.std.specs.Prelude.{◌≡◌, ℕ, List, [], Ok, length}
+use Rattle.std.specs.List.{AllByRecursion}
+use Rattle.merkle_forest.specs.Codec.{Outcome}
+use Rattle.merkle_forest.specs.Made.{Strings}
+use Rattle.state_ops.specs.Operation.{Operation, fixed_encoding, update, ordered}
+use Rattle.state_ops.specs.Reading.{operation_at}
+use Rattle.state_proofs.specs.Canonical.{Setting}
+use Rattle.state_proofs.specs.Exclusion.{proof_of, operation_of}
+use Rattle.state_proofs.specs.MadeRanges as ranges
+use Rattle.state_proofs.specs.MadeStates as states
+use Rattle.auth_store_parts.specs.History.{History, Commit}
+use Rattle.auth_store_client.specs.Claims.{Claim, has_value, is_absent, is_active, Terms, encoded, Shows}
+use Rattle.auth_store_client.specs.States.{state_of_history}
+
+-- each key and each value of the history has its size
+abbrev pub HasSizes : ℕ → ℕ → History → Type 0
+HasSizes key value history =
+    AllByRecursion (λ (commit : Commit). AllByRecursion (λ (entry : List ℕ × List ℕ). (length entry.0 ≡ key) × (length entry.1 ≡ value)) commit.map) history
+
+-- an operation whose encoding is read as it again
+abbrev pub IsReadAgain : (List ℕ → Outcome) → (List ℕ → Outcome) → ℕ → ℕ → Operation → Type 0
+IsReadAgain key value key_size value_size operation =
+    operation_at key value key_size value_size (fixed_encoding key_size value_size operation) ≡ Ok (operation, [])
+
+-- so is each of these
+abbrev pub AreReadAgain : (List ℕ → Outcome) → (List ℕ → Outcome) → ℕ → ℕ → List Operation → Type 0
+AreReadAgain key value key_size value_size log = AllByRecursion (IsReadAgain key value key_size value_size) log
+
+-- the strings that are hashed for a history
+abbrev pub hashed_strings : Setting → ℕ → ℕ → History → Strings
+hashed_strings setting key value history = states.hashed_strings setting (state_of_history key value history)
+
+-- The strings that are hashed when the canonical root is rebuilt from the proof that the bytes encode and from the operation that it is
+-- of: the update that the claim says, with the next key in the bytes; the operation in the bytes that leaves a key out; or the one that is
+-- claimed to be active.
+abbrev pub rebuilt_strings : Setting → (terms : Terms) → (claim : Claim) → (root bytes : List ℕ) → Shows terms claim root bytes → Strings
+rebuilt_strings setting terms (has_value key value) root bytes shown =
+    ranges.rebuilt_strings setting shown.proof (encoded terms (update (ordered key value shown.next_key)))
+rebuilt_strings setting terms (is_absent key) root bytes shown =
+    ranges.rebuilt_strings setting (proof_of shown.proof) (operation_of terms.key_size terms.value_size shown.proof)
+rebuilt_strings setting terms (is_active location operation) root bytes shown =
+    ranges.rebuilt_strings setting shown.shown.proof (encoded terms operation)

@@ -1,0 +1,13 @@
+//! The light client of a store: it checks claims about a state against the state's root. It stands on no log, page, file
+//! or device, so that a bridge takes it alone.
+#![tactic(auto)]
+
+pub mod checking;
+pub mod claim;
+pub mod laws;
+mod reading;
+pub mod width;
+
+pub use checking::check;
+pub use claim::Claim;
+pub use width::is_chunk_width;
