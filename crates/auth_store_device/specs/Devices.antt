@@ -4,17 +4,7 @@ use Rattle.std.specs.Prelude.{Result, Ok, Err, IsOk, List, []}
 use Rattle.rand_core.specs.Stream.{Stream}
 use Rattle.fault_storage_parts.specs.declared.error.Call.TheVariants.{Open}
 use Rattle.fault_storage_parts.specs.declared.error.Error.{Error as StorageError}
-use Rattle.fault_storage_parts.specs.declared.error.Error.TheVariants.{
-  BlobMissing,
-  PartitionMissing,
-  PartitionNameInvalid,
-  AlreadyOpen,
-  Header,
-  Injected,
-  BlobInsufficientLength,
-  NumberEnded,
-  Memory,
-}
+use Rattle.fault_storage_parts.specs.declared.error.Error.TheVariants.{Header, Injected, BlobInsufficientLength, NumberEnded, Memory}
 use Rattle.fault_storage_parts.specs.declared.error.HeaderError.{HeaderError}
 use Rattle.fault_storage.specs.declared.storage.Opened.{Opened}
 use Rattle.fault_storage.specs.declared.faulty.Blob.{Blob}
@@ -73,13 +63,7 @@ abbrev pub told_of : {T : Type 0} → Result T StorageError → Told
 told_of (Ok _) = Made
 told_of (Err (Injected call)) = Failed
 told_of (Err NumberEnded) = Ended
-told_of (Err Memory) = Unmade
-told_of (Err BlobMissing) = Unmade
-told_of (Err PartitionMissing) = Unmade
-told_of (Err PartitionNameInvalid) = Unmade
-told_of (Err AlreadyOpen) = Unmade
-told_of (Err (Header fault)) = Unmade
-told_of (Err BlobInsufficientLength) = Unmade
+told_of (Err _) = Unmade
 
 -- the mode in which a write reaches the store
 abbrev pub mode_below : blob.WriteMode → WriteMode
@@ -92,11 +76,7 @@ refusal_of kind (Injected call) = refusals.Injected kind
 refusal_of kind NumberEnded = refusals.NumberEnded
 refusal_of kind Memory = refusals.Memory
 refusal_of kind BlobInsufficientLength = refusals.BlobInsufficientLength
-refusal_of kind BlobMissing = refusals.BlobMissing
-refusal_of kind PartitionMissing = refusals.BlobMissing
-refusal_of kind PartitionNameInvalid = refusals.BlobMissing
-refusal_of kind AlreadyOpen = refusals.BlobMissing
-refusal_of kind (Header fault) = refusals.BlobMissing
+refusal_of kind _ = refusals.BlobMissing
 
 abbrev pub answer_of : {T : Type 0} → CallKind → Result T StorageError → Result T Error
 answer_of kind (Ok value) = Ok value
@@ -171,12 +151,7 @@ abbrev pub opening_refusal : StorageError → OpenError
 opening_refusal (Header fault) = openings.Header fault
 opening_refusal (Injected call) = openings.Injected
 opening_refusal NumberEnded = openings.NumberEnded
-opening_refusal Memory = openings.Memory
-opening_refusal BlobMissing = openings.Memory
-opening_refusal PartitionMissing = openings.Memory
-opening_refusal PartitionNameInvalid = openings.Memory
-opening_refusal AlreadyOpen = openings.Memory
-opening_refusal BlobInsufficientLength = openings.Memory
+opening_refusal _ = openings.Memory
 
 abbrev pub opening_answer : Result (Opened (Blob Handle)) StorageError → Result (Blob Handle) OpenError
 opening_answer (Ok opened) = Ok opened.blob

@@ -1,6 +1,11 @@
+pub mod Begun
 pub mod Changing
 pub mod Counting
 pub mod Leaving
 pub mod Opening
+pub mod Ordered
 pub mod Places
+pub mod Rebuilt
 pub mod Revising
+pub mod Stale
+pub mod Standings

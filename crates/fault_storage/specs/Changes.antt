@@ -33,17 +33,7 @@ use Rattle.fault_storage_parts.specs.declared.config.WriteConfig.{WriteConfig}
 use Rattle.fault_storage_parts.specs.declared.error.Call.{Call}
 use Rattle.fault_storage_parts.specs.declared.error.Call.TheVariants.{Write, Resize}
 use Rattle.fault_storage_parts.specs.declared.error.Error.{Error}
-use Rattle.fault_storage_parts.specs.declared.error.Error.TheVariants.{
-  BlobMissing,
-  PartitionMissing,
-  PartitionNameInvalid,
-  AlreadyOpen,
-  Header,
-  Injected,
-  BlobInsufficientLength,
-  NumberEnded,
-  Memory,
-}
+use Rattle.fault_storage_parts.specs.declared.error.Error.TheVariants.{Injected, NumberEnded, Memory}
 use Rattle.fault_storage_parts.specs.declared.probability.Probability.{Probability}
 use Rattle.fault_storage_parts.specs.Draws.{Rate, sample, kept_bytes, length_between}
 use Rattle.fault_storage_parts.specs.DrawsCode.{rate_of, mode_of}
@@ -102,16 +92,8 @@ IsDrawnChange stream call rate end failed made blob store rng result changed lef
 
 -- the answer says that a fault was injected
 abbrev pub is_injected : Result Unit Error → Bool
-is_injected (Ok _) = false
-is_injected (Err BlobMissing) = false
-is_injected (Err PartitionMissing) = false
-is_injected (Err PartitionNameInvalid) = false
-is_injected (Err AlreadyOpen) = false
-is_injected (Err (Header fault)) = false
 is_injected (Err (Injected call)) = true
-is_injected (Err BlobInsufficientLength) = false
-is_injected (Err NumberEnded) = false
-is_injected (Err Memory) = false
+is_injected _ = false
 
 -- A change of a blob that may fail: as above, and a fault is counted. Where the count has ended, it is not made.
 abbrev pub IsFaultyChange : {R : Type 0} → (R → Stream) → Call → Probability → ℕ → (Handle → Store → Stream → (Handle × Store) × Stream)

@@ -8,8 +8,13 @@ pub use Rattle.fault_storage_parts.specs.Names
 pub use Rattle.fault_storage_parts.specs.Refusals
 pub use Rattle.fault_storage_parts.specs.Revisions
 pub use Rattle.fault_storage_parts.specs.Settings
+pub mod Audits
 pub mod Changes
+pub mod Contents
 pub mod Directory
 pub mod Faults
 pub mod Opens
+pub mod Orders
+pub mod Pending
+pub mod Snapshots
 pub mod Stores

@@ -59,6 +59,13 @@ impl PartitionName {
         })
     }
 
+    /// A copy of it. It fails only when out of memory.
+    pub fn try_copy(&self, alloc: Global) -> Result<PartitionName, AllocError>
+        ensures { IfOk result (λ made. made ≡ self.now) }
+    {
+        PartitionName::new(alloc, self.name.as_str())
+    }
+
     /// Whether it is this name.
     pub fn is(&self, name: &str) -> bool
         ensures { result ≡ bytes_eq self.now name.now }

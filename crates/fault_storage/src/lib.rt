@@ -7,6 +7,8 @@ pub mod faulty;
 pub mod laws;
 pub mod memory;
 pub mod opens;
+pub mod pending;
+pub mod started;
 pub mod storage;
 pub mod stored;
 
@@ -22,4 +24,6 @@ pub use fault_storage_parts::{
     replay,
 };
 pub use opens::{BlobName, OpenBlob, Opens};
+pub use pending::{Pending, Ticket};
+pub use started::StartedSync;
 pub use storage::{Blob, Opened, Storage, WriteMode};

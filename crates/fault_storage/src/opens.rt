@@ -35,6 +35,27 @@ impl BlobName {
         })
     }
 
+    /// A copy of it. It fails only when out of memory.
+    pub fn try_copy(&self, alloc: Global) -> Result<BlobName, AllocError>
+        ensures { IfOk result (λ made. made ≡ self.now) }
+    {
+        BlobName::new(alloc, self.partition.as_str(), self.name.as_slice())
+    }
+
+    /// The name of the partition.
+    pub fn partition(&self) -> &str
+        ensures { result.now ≡ self.now.0 }
+    {
+        self.partition.as_str()
+    }
+
+    /// The name in the partition.
+    pub fn name(&self) -> &[u8]
+        ensures { result.now ≡ self.now.1 }
+    {
+        self.name.as_slice()
+    }
+
     /// Whether it is a name of the partition.
     pub fn is_in(&self, partition: &str) -> bool
         ensures { result ≡ bytes_eq self.now.0 partition.now }
@@ -67,7 +88,7 @@ impl BlobName {
     }
 
     // Whether it is the other name.
-    fn is_same(&self, other: &BlobName) -> bool
+    pub(crate) fn is_same(&self, other: &BlobName) -> bool
         ensures { result ≡ is_name other.now.0 other.now.1 self.now }
     {
         self.is(other.partition.as_str(), other.name.as_slice())

@@ -10,6 +10,7 @@ ghost use Rattle.fault_storage.specs.declared.storage.WriteMode.{WriteMode};
 
 use crate::error::Error;
 use crate::header::Versions;
+use crate::started::StartedSync;
 
 /// A blob that was opened.
 #[derive(Debug, Drop)]
@@ -105,4 +106,13 @@ pub trait Blob<S> {
     /// Makes the live bytes durable.
     fn sync(&self, storage: &mut S) -> Result<(), Error>
         ensures { syncs self.now storage.old result storage.new };
+
+    /// Starts a sync of the bytes that are live now, and gives its answer as a value to be finished: a refusal is told
+    /// of then. It is made at once, so that what a crash leaves from now on is what one leaves after it.
+    /// In the Rust: `commonware_runtime::Blob::start_sync`.
+    fn start_sync(&self, storage: &mut S) -> StartedSync
+        ensures { syncs self.now storage.old result.answer storage.new }
+    {
+        StartedSync::new(self.sync(storage))
+    }
 }

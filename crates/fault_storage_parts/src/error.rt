@@ -100,6 +100,9 @@ pub enum Error {
     /// F9: out of memory; the call counts as not made (own).
     #[error("F9: out of memory")]
     Memory,
+    /// F11: a failure of the name is retained, so that it is not opened as it is.
+    #[error("F11: failure retained")]
+    Retained,
 }
 
 impl From<AllocError> for Error {

@@ -2,7 +2,7 @@
 
 use crate::told::{bytes as told_bytes, done, names, refused};
 use case_lines::{Unanswered, bytes, digits};
-use fault_storage::{Blob, Opened, Storage, Versions, WriteMode};
+use fault_storage::{Blob, Opened, StartedSync, Storage, Versions, WriteMode};
 use std::alloc::Global;
 
 // The mode of this name.
@@ -29,11 +29,12 @@ fn fill<S, B: Blob<S>>(
     Ok(format!(in alloc; "{told} {buffer}")?)
 }
 
-/// Makes a call of a blob.
+/// Makes a call of a blob. A sync that it starts comes behind the others.
 pub fn of_blob<S, B: Blob<S>>(
     alloc: Global,
     storage: &mut S,
     blob: &mut B,
+    started: &mut Vec<StartedSync>,
     words: &[&str],
 ) -> Result<String, Unanswered> {
     match words {
@@ -51,8 +52,18 @@ pub fn of_blob<S, B: Blob<S>>(
         }
         ["resize", size] => done(alloc, blob.resize(storage, size.parse()?)),
         ["sync"] => done(alloc, blob.sync(storage)),
+        ["start"] => {
+            started.push(blob.start_sync(storage))?;
+            Ok("started".to_string(alloc)?)
+        }
         _ => Err(Unanswered::BadLine),
     }
+}
+
+/// Finishes the sync that was started last: its answer.
+pub fn finish(alloc: Global, started: &mut Vec<StartedSync>) -> Result<String, Unanswered> {
+    let sync = started.pop().ok_or(Unanswered::BadLine)?;
+    done(alloc, sync.finish())
 }
 
 /// Makes a call of a store that gives no blob.

@@ -2,6 +2,7 @@
 #![tactic(auto)]
 
 mod calls;
+mod debts;
 mod formats;
 mod names;
 mod refusals;
@@ -11,6 +12,7 @@ mod told;
 mod words;
 
 use case_lines::{Player, Unanswered, play};
+use debts::Debts;
 use std::alloc::Global;
 use stores::{Failing, Plain};
 
@@ -52,6 +54,7 @@ impl Stored {
 #[derive(Drop)]
 struct StoragePlayer {
     stored: Stored,
+    debts: Debts,
 }
 
 impl StoragePlayer {
@@ -65,6 +68,7 @@ impl Player for StoragePlayer {
     fn begin(alloc: Global) -> Result<Self, Unanswered> {
         Ok(StoragePlayer {
             stored: Stored::Plain(Plain::new(alloc)),
+            debts: Debts::new(alloc),
         })
     }
 
@@ -73,6 +77,7 @@ impl Player for StoragePlayer {
             ["failing", words @ ..] => self.stored = self.take(alloc).failing(alloc, words)?,
             ["plain"] => self.stored = self.take(alloc).plain(alloc),
             ["format", words @ ..] => return formats::answer(alloc, words),
+            ["pending", words @ ..] => return self.debts.answer(alloc, words),
             words => return self.stored.answer(alloc, words),
         }
         Ok("ok".to_string(alloc)?)

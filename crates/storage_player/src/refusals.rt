@@ -39,5 +39,6 @@ pub fn number(error: Error) -> (&'static str, &'static str) {
         Error::BlobInsufficientLength => ("F7", ""),
         Error::NumberEnded => ("F8", ""),
         Error::Memory => ("F9", ""),
+        Error::Retained => ("F11", ""),
     }
 }

@@ -1,13 +1,13 @@
 //! A store in memory that never fails, and one that fails over it, each with the blobs that were opened, from number 0 on.
 
-use crate::calls::{blob_of, of_blob, of_store, open, partition_of};
+use crate::calls::{blob_of, finish, of_blob, of_store, open, partition_of};
 use crate::formats::{listed, versions};
 use crate::names::while_open;
 use crate::settings::{rate, with_setting};
-use crate::told::{bytes as told_bytes, done};
+use crate::told::{bytes as told_bytes, done, refused};
 use crate::words::Listed;
 use case_lines::{Unanswered, bytes, digits};
-use fault_storage::{Config, faulty, memory};
+use fault_storage::{Config, StartedSync, faulty, memory};
 use std::alloc::Global;
 
 /// A store that never fails.
@@ -15,6 +15,7 @@ use std::alloc::Global;
 pub struct Plain {
     pub storage: memory::Storage,
     pub blobs: Vec<memory::Blob>,
+    pub started: Vec<StartedSync>,
 }
 
 /// A store that fails.
@@ -22,6 +23,26 @@ pub struct Plain {
 pub struct Failing {
     pub storage: faulty::Storage<memory::Storage, Listed>,
     pub blobs: Vec<faulty::Blob<memory::Blob>>,
+    pub started: Vec<StartedSync>,
+}
+
+// What is durable in a store in memory.
+fn told_of(alloc: Global, storage: &memory::Storage, words: &[&str]) -> Result<String, Unanswered> {
+    match words {
+        ["file", partition, name] => {
+            let name = bytes(alloc, name)?;
+            told_bytes(alloc, storage.raw_blob(partition_of(partition), &name))
+        }
+        ["logical", partition, name] => {
+            let name = bytes(alloc, name)?;
+            told_bytes(alloc, storage.logical_blob(partition_of(partition), &name))
+        }
+        ["audit"] => match storage.audit() {
+            Ok(sum) => digits(alloc, &sum),
+            Err(error) => refused(alloc, error),
+        },
+        _ => Err(Unanswered::BadLine),
+    }
 }
 
 impl Plain {
@@ -30,12 +51,17 @@ impl Plain {
         Plain {
             storage: memory::Storage::new(alloc),
             blobs: Vec::new(alloc),
+            started: Vec::new(alloc),
         }
     }
 
     /// The store under one that fails by these words, with its blobs.
     pub fn failing(self, alloc: Global, words: &[&str]) -> Result<Failing, Unanswered> {
-        let Plain { storage, blobs } = self;
+        let Plain {
+            storage,
+            blobs,
+            started,
+        } = self;
         let mut wrapped = Vec::new(alloc);
         for blob in blobs {
             wrapped.push(faulty::Blob::new(blob))?;
@@ -43,6 +69,7 @@ impl Plain {
         Ok(Failing {
             storage: faulty::Storage::new(storage, listed(alloc, words)?, Config::default()),
             blobs: wrapped,
+            started,
         })
     }
 
@@ -67,6 +94,21 @@ impl Plain {
         )
     }
 
+    // Makes the store anew of a snapshot of it.
+    fn rebuild(&mut self, alloc: Global) -> Result<String, Unanswered> {
+        let snapshot = match self.storage.take_snapshot() {
+            Ok(snapshot) => snapshot,
+            Err(error) => return refused(alloc, error),
+        };
+        match memory::Storage::from_snapshot(alloc, &snapshot) {
+            Ok(storage) => {
+                self.storage = storage;
+                Ok("ok".to_string(alloc)?)
+            }
+            Err(error) => refused(alloc, error),
+        }
+    }
+
     // A call that only a store in memory has.
     fn own_answer(&mut self, alloc: Global, words: &[&str]) -> Result<String, Unanswered> {
         match words {
@@ -82,6 +124,8 @@ impl Plain {
                 let name = bytes(alloc, name)?;
                 done(alloc, self.storage.admit(partition_of(partition), &name))
             }
+            ["snapshot"] => self.rebuild(alloc),
+            ["finish"] => finish(alloc, &mut self.started),
             ["blob", number, "keep", offset, written, kept] => {
                 self.retain_write(alloc, number, offset.parse()?, written, kept)
             }
@@ -95,7 +139,7 @@ impl Plain {
             }
             ["blob", number, words @ ..] => {
                 let blob = blob_of(&mut self.blobs, number)?;
-                of_blob(alloc, &mut self.storage, blob, words)
+                of_blob(alloc, &mut self.storage, blob, &mut self.started, words)
             }
             words => of_store(alloc, &mut self.storage, words),
         }
@@ -122,10 +166,9 @@ impl Plain {
                 self.storage.remove_retired();
                 Ok("ok".to_string(alloc)?)
             }
-            ["file", partition, name] => {
-                let name = bytes(alloc, name)?;
-                told_bytes(alloc, self.storage.raw_blob(partition_of(partition), &name))
-            }
+            ["file", _, _] => told_of(alloc, &self.storage, words),
+            ["logical", _, _] => told_of(alloc, &self.storage, words),
+            ["audit"] => told_of(alloc, &self.storage, words),
             ["live", number] => {
                 let blob = blob_of(&mut self.blobs, number)?;
                 digits(alloc, blob.live())
@@ -138,11 +181,16 @@ impl Plain {
 impl Failing {
     /// The store below, without its blobs.
     pub fn plain(self, alloc: Global) -> Plain {
-        let Failing { storage, blobs } = self;
+        let Failing {
+            storage,
+            blobs,
+            started,
+        } = self;
         drop(blobs);
         Plain {
             storage: storage.into_inner(),
             blobs: Vec::new(alloc),
+            started,
         }
     }
 
@@ -156,6 +204,7 @@ impl Failing {
                 let config = with_setting(self.storage.config(), words)?;
                 self.storage.set_config(config);
             }
+            ["finish"] => return finish(alloc, &mut self.started),
             ["faults"] => return Ok(format!(in alloc; "{}", self.storage.injections())?),
             ["admit", partition, name] => {
                 let name = bytes(alloc, name)?;
@@ -163,7 +212,7 @@ impl Failing {
             }
             ["blob", number, words @ ..] => {
                 let blob = blob_of(&mut self.blobs, number)?;
-                return of_blob(alloc, &mut self.storage, blob, words);
+                return of_blob(alloc, &mut self.storage, blob, &mut self.started, words);
             }
             words => return of_store(alloc, &mut self.storage, words),
         }
@@ -187,15 +236,9 @@ impl Failing {
             ["while", least, greatest, words @ ..] => {
                 while_open(alloc, &mut self.storage, versions(least, greatest)?, words)
             }
-            ["file", partition, name] => {
-                let name = bytes(alloc, name)?;
-                told_bytes(
-                    alloc,
-                    self.storage
-                        .inner()
-                        .raw_blob(partition_of(partition), &name),
-                )
-            }
+            ["file", _, _] => told_of(alloc, self.storage.inner(), words),
+            ["logical", _, _] => told_of(alloc, self.storage.inner(), words),
+            ["audit"] => told_of(alloc, self.storage.inner(), words),
             ["live", number] => {
                 let blob = blob_of(&mut self.blobs, number)?;
                 digits(alloc, blob.inner().live())

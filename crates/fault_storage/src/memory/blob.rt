@@ -1,6 +1,6 @@
 //! A blob of the store in memory.
 
-ghost use Rattle.std.specs.Prelude.{◌≡◌, ◌+◌, ◌-◌, ◌^◌, ◌<◌, ◌≤◌, ◌⊎◌, ◌↔◌, false, true, Err, IfOk, IfErr, IfSome, OnOk, OnErr, MatchOption, length, max, replicate};
+ghost use Rattle.std.specs.Prelude.{◌≡◌, ◌+◌, ◌-◌, ◌^◌, ◌<◌, ◌≤◌, ◌⊎◌, ◌↔◌, false, true, Err, IfOk, IfErr, IfSome, OnOk, OnErr, MatchOption, length, drop, max, replicate};
 ghost use Rattle.std.specs.Vec.{vec_capacity};
 ghost use Rattle.fault_storage_parts.specs.DrawsCode.{rate_of, mode_of};
 ghost use Rattle.fault_storage_parts.specs.Files.{written, fixed, resized_to, with_bytes, with_kept, resized};
@@ -304,6 +304,16 @@ impl Blob {
         ensures { result.now ≡ self.now.live }
     {
         &self.live
+    }
+
+    // The live bytes behind those of the header.
+    pub(crate) fn behind_header(&self) -> &[u8]
+        ensures { result.now ≡ drop self.now.offset self.now.live }
+    {
+        match self.live.get(self.offset..) {
+            Some(bytes) => bytes,
+            None => &[],
+        }
     }
 
     /// A copy of the live bytes, those of the header first. None: the blob is gone. It fails only when out of memory.

@@ -8,11 +8,15 @@ ghost use Rattle.fault_storage_parts.specs.declared.error.HeaderError.{HeaderErr
 ghost use Rattle.fault_storage_parts.specs.declared.header.Layout.TheVariants.{V0};
 ghost use Rattle.fault_storage_parts.specs.Headers.{created};
 ghost use Rattle.fault_storage.specs.Faults.{IsDrawnCall};
+ghost use Rattle.fault_storage.specs.Audits.{audit_of};
+ghost use Rattle.fault_storage.specs.Contents.{ShowsContent};
+ghost use Rattle.fault_storage.specs.Snapshots.{Rebuilds, snapshot_of, emptied};
 ghost use Rattle.fault_storage.specs.Directory.{durable_in, MemoryOpens, MemoryPlaces, MemoryRemoves, MemoryScans, IsMissing, fault_in, handle_in, shown_in, new_handle, has_name, has_partition, placed, admitted, removed, removed_partition, HasFile, HasPartition, IsMade, LacksName, LacksPartition};
 ghost use Rattle.fault_storage_parts.specs.Revisions.{kept_of, shortened};
 ghost use Rattle.fault_storage.specs.Stores.{revised, withdrawn, Store, is_there, without_retired, issued, published, crashed_store};
 
 use crate::blob_file::BlobFile;
+use crate::checksum::{Checksum as _, Crc32};
 use crate::directory::{
     PartitionName, durable_of, has_partition, names_in, place_of_name, publish_name, remove_files,
     remove_name, remove_partition,
@@ -20,11 +24,13 @@ use crate::directory::{
 use crate::error::{Call, Error};
 use crate::file::Mutation;
 use crate::header::{Header, Layout, Layouts, Versions, resolve};
+use crate::memory::audit::files_told;
 use crate::memory::blob::Blob;
 use crate::memory::files::{
     fix_in, forget_turns, has_file, issue_in, keep_turns, note_partition, publish_in, replace_file,
     settle_turns, shorten_in, take_number, withdraw_in, withdraw_turn,
 };
+use crate::memory::snapshot::Snapshot;
 use crate::opens::BlobName;
 use crate::partition::validate_partition_name;
 use crate::probability::Probability;
@@ -265,6 +271,71 @@ impl Storage {
             Some(durable) => Ok(durable.bytes),
             None => Err(Error::BlobMissing),
         }
+    }
+
+    /// What follows the header in what is durable of the file of this name. F3, F2; F1: there is no such blob, or none
+    /// with a header; F5, but not for its version; F9. In the Rust:
+    /// `commonware_runtime::storage::memory::Storage::logical_blob`.
+    pub fn logical_blob(&self, partition: &str, name: &[u8]) -> Result<Vec<u8>, Error>
+        ensures { ShowsContent partition.now name.now self.now result }
+    {
+        self.find_partition(partition)?;
+        let versions = Versions {
+            least: 0,
+            greatest: u16::MAX,
+        };
+        match self.find_blob(partition, name, versions)? {
+            Some(opened) => {
+                let bytes = opened.blob.behind_header().to_vec(self.alloc)?;
+                Ok(bytes)
+            }
+            None => Err(Error::BlobMissing),
+        }
+    }
+
+    /// A checksum of what is durable of all files, in byte order of partition and then name: of each its partition, its
+    /// name and its raw bytes, each behind its length in eight bytes. F9. In the Rust:
+    /// `commonware_runtime::storage::memory::Storage::audit`.
+    pub fn audit(&self) -> Result<[u8; 4], Error>
+        ensures ok { IfOk result (λ sum. sum ≡ audit_of self.now) }
+        ensures err { IfErr result (λ e. e ≡ Error.Memory) }
+    {
+        let told = files_told(self.alloc, &self.files)?;
+        Ok(Crc32::checksum(&told).to_be_bytes())
+    }
+
+    /// Takes what is durable out of the store, which has no partition after it: a value of a blob that was opened is
+    /// then one of a blob that is gone, here and in a store that is made of the snapshot. F9, and nothing is changed.
+    /// In the Rust: `commonware_runtime::storage::memory::Storage::take_snapshot`.
+    pub fn take_snapshot(&mut self) -> Result<Snapshot, Error>
+        ensures ok { IfOk result (λ snapshot. (snapshot ≡ snapshot_of self.old) × (self.new ≡ emptied self.old)) }
+        ensures err { IfErr result (λ e. (e ≡ Error.Memory) × (self.new ≡ self.old)) }
+    {
+        let snapshot = Snapshot::of(self.alloc, &self.partitions, &self.files, self.next)?;
+        self.partitions.clear();
+        self.files.clear();
+        self.order.clear();
+        Ok(snapshot)
+    }
+
+    /// A store with what the snapshot has, whose files have numbers that none had before. F8: these would pass their
+    /// end; F9.
+    /// In the Rust: `commonware_runtime::storage::memory::Storage::from_snapshot`.
+    pub fn from_snapshot(alloc: Global, snapshot: &Snapshot) -> Result<Storage, Error>
+        ensures { Rebuilds snapshot.now result }
+    {
+        let Some(next) = snapshot.next_number() else {
+            return Err(Error::NumberEnded);
+        };
+        let partitions = snapshot.partitions(alloc)?;
+        let files = snapshot.files(alloc)?;
+        Ok(Storage {
+            alloc,
+            partitions,
+            files,
+            order: Vec::new(alloc),
+            next,
+        })
     }
 
     // The blob of this name, or None where it has no header yet. F3, F5, F9.
