@@ -6,10 +6,12 @@ ghost use Rattle.paged_format.specs.Footers.{IsPageSize};
 
 mod formats;
 mod keeping;
+mod many;
+mod sealing;
 mod told;
 mod writers;
 
-use case_lines::{Player, Unanswered, digits, play};
+use case_lines::{Player, Unanswered, bytes, digits, play};
 use fault_storage::Crc32;
 use formats::{page, prefix, slot_lengths, spelled};
 use keeping::Kept;
@@ -96,6 +98,56 @@ impl PagesPlayer {
             Ok(writer) => {
                 let writer = writers::try_appends(alloc, writer, words, &mut told)?;
                 told.push_number(alloc, writer.size())?;
+            }
+            Err(error) => told.push(number(error))?,
+        }
+        self.keep(alloc, &disk)?;
+        told.finish(alloc)
+    }
+
+    // Takes a snapshot of a writer that goes on, or seals its list, and makes the calls of a line on it.
+    fn seal(
+        &mut self,
+        alloc: Global,
+        first: &[u8],
+        more: Option<&[u8]>,
+        words: &[&str],
+    ) -> Result<String, Unanswered> {
+        let mut cache = self.cache(alloc)?;
+        let mut told = Told::new(alloc);
+        let mut disk = MemoryDisk::showing(alloc, self.file.to_vec(alloc)?)?;
+        let size = disk.as_bytes().len() as u64;
+        let room = self.capacity;
+        let writer = writers::opened::<MemoryDisk, Crc32>(alloc, &mut disk, &mut cache, size, room);
+        match sealing::sealed_of(writer, &mut disk, &mut cache, first, more) {
+            Ok(sealed) => {
+                let disk = &mut disk;
+                sealing::play_sealed(alloc, &sealed, disk, &mut cache, words, &mut told)?;
+            }
+            Err(error) => told.push(number(error))?,
+        }
+        self.keep(alloc, &disk)?;
+        told.finish(alloc)
+    }
+
+    // Replays the list of a writer, and makes the calls of a line on the replay.
+    fn replay(
+        &mut self,
+        alloc: Global,
+        first: &[u8],
+        buffer_size: usize,
+        words: &[&str],
+    ) -> Result<String, Unanswered> {
+        let mut cache = self.cache(alloc)?;
+        let mut told = Told::new(alloc);
+        let mut disk = MemoryDisk::showing(alloc, self.file.to_vec(alloc)?)?;
+        let size = disk.as_bytes().len() as u64;
+        let room = self.capacity;
+        let writer = writers::opened::<MemoryDisk, Crc32>(alloc, &mut disk, &mut cache, size, room);
+        match sealing::replayed(writer, &mut disk, &mut cache, first, buffer_size) {
+            Ok(replay) => {
+                let mut replay = replay;
+                sealing::play_replay(alloc, &mut replay, &mut disk, words, &mut told)?;
             }
             Err(error) => told.push(number(error))?,
         }
@@ -266,6 +318,14 @@ impl Player for PagesPlayer {
             ["write", words @ ..] => self.write(alloc, words),
             ["try-write", words @ ..] => self.try_write(alloc, words),
             ["recover", cut, words @ ..] => self.recover(alloc, cut.parse()?, words),
+            ["snapshot", first, more, words @ ..] => {
+                let (first, more) = (bytes(alloc, first)?, bytes(alloc, more)?);
+                self.seal(alloc, &first, Some(&more), words)
+            }
+            ["seal", first, words @ ..] => self.seal(alloc, &bytes(alloc, first)?, None, words),
+            ["replay", first, buffer, words @ ..] => {
+                self.replay(alloc, &bytes(alloc, first)?, buffer.parse()?, words)
+            }
             ["cut", size] => self.cut(alloc, size.parse()?),
             ["text", number] => text(alloc, number),
             words => self.file_answer(alloc, words),
