@@ -20,6 +20,7 @@ pub mod ReadPages
 pub mod StandLaws
 pub mod ServedLaws
 pub mod ReplayLaws
+pub mod DirectLaws
 pub mod CutWriter
 pub mod CutWithin
 pub mod Taken

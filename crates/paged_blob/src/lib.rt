@@ -5,6 +5,7 @@
 pub mod bench;
 pub mod blob;
 pub mod cache;
+pub mod direct;
 pub mod error;
 pub mod flush;
 pub mod laws;
