@@ -290,6 +290,9 @@ class Case:
             slots.append((length, *(other or [0])))
         return Pages(content, slots)
 
+    def pages_there(self):
+        return len(self.pages.slots) if self.pages else len(self.file) // self.size
+
     def cut_pages(self, size):
         pages, room = self.pages_now(), self.size - 12
         content = pages.content[:size]
@@ -441,6 +444,16 @@ class Case:
                 self.check_sizes()
                 length = len(self.pages_now().content)
                 return f"{length}, {length}, {min(length, number(most))}"
+            case ["range", offset, count] if is_page_size(self.size):
+                content, offset, count = self.pages_now().content, number(offset), number(count)
+                if offset + count > len(content):
+                    raise Bad
+                return hexed(content[offset : offset + count])
+            case ["tail", count] if is_page_size(self.size):
+                content, pages = self.pages_now().content, self.pages_there()
+                if (pages - 1) * (self.size - 12) >= len(content) and pages:
+                    raise Bad
+                return f"{len(content)}, {hexed(content[max(len(content) - number(count), 0) :])}"
             case ["scan", _, most] if is_page_size(self.size):
                 length = len(self.pages_now().content)
                 return f"{length}, {min(length, number(most))}"

@@ -221,6 +221,55 @@ impl PagesPlayer {
         told.finish(alloc)
     }
 
+    // So many bytes of what is recovered of the file, from an offset on.
+    fn range(&self, alloc: Global, offset: u64, count: usize) -> Result<String, Unanswered> {
+        if !is_page_size(self.page_size) {
+            return Err(Unanswered::BadLine);
+        }
+        let mut told = Told::new(alloc);
+        let mut disk = MemoryDisk::showing(alloc, self.file.to_vec(alloc)?)?;
+        let page = self.page_size;
+        let size = disk.as_bytes().len() as u64;
+        let found = prefix_of_blob::<MemoryDisk, Crc32>(alloc, &mut disk, page, size, 0, 64);
+        let Ok(length) = found else {
+            return Err(Unanswered::Memory);
+        };
+        if offset > length || count as u64 > length - offset {
+            return Err(Unanswered::BadLine);
+        }
+        let read = Writer::<Crc32>::read_range(alloc, &mut disk, page, offset, count);
+        told.push_bytes(alloc, read)?;
+        told.finish(alloc)
+    }
+
+    // How many bytes are recovered of the file, and the last so many of them.
+    fn tail(&self, alloc: Global, count: usize) -> Result<String, Unanswered> {
+        if !is_page_size(self.page_size) {
+            return Err(Unanswered::BadLine);
+        }
+        let mut told = Told::new(alloc);
+        let mut disk = MemoryDisk::showing(alloc, self.file.to_vec(alloc)?)?;
+        let page = self.page_size;
+        let size = disk.as_bytes().len() as u64;
+        let found = prefix_of_blob::<MemoryDisk, Crc32>(alloc, &mut disk, page, size, 0, 64);
+        let Ok(length) = found else {
+            return Err(Unanswered::Memory);
+        };
+        let room = u64::from(page) - 12;
+        let whole = size / u64::from(page) * room;
+        if whole >= room && whole - room >= length {
+            return Err(Unanswered::BadLine);
+        }
+        match Writer::<Crc32>::read_tail(alloc, &mut disk, size, page, count) {
+            Ok((all, bytes)) => {
+                told.push_number(alloc, all)?;
+                told.push(digits(alloc, &bytes)?.as_str())?;
+            }
+            Err(error) => told.push(number(error))?,
+        }
+        told.finish(alloc)
+    }
+
     // Cuts the file to so many bytes of its content: how many the last page has where it is not full.
     fn cut(&mut self, alloc: Global, size: u64) -> Result<String, Unanswered> {
         if !is_page_size(self.page_size) {
@@ -276,6 +325,8 @@ impl PagesPlayer {
             ["prefix"] => return Ok(prefix(&self.file, self.page_size)?.to_string(alloc)?),
             ["found", buffer, most] => return self.found(alloc, buffer.parse()?, most.parse()?),
             ["scan", buffer, most] => return self.scan(alloc, buffer.parse()?, most.parse()?),
+            ["range", offset, count] => return self.range(alloc, offset.parse()?, count.parse()?),
+            ["tail", count] => return self.tail(alloc, count.parse()?),
             _ => return Err(Unanswered::BadLine),
         }
         Ok("ok".to_string(alloc)?)
