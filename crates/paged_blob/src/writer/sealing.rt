@@ -57,7 +57,7 @@ impl<C: Checksum> Writer<C> {
     /// Makes durable what was appended, as `sync` does, and seals the list as it stands, while the writer goes on: the
     /// sealed list keeps its size and its bytes through all later calls of the writer, also where they fail. It copies
     /// what the buffer holds then. Refused where the sync is, and out of memory, the writer is given up.
-    /// In the Rust: `paged::Writer::snapshot`, which does not sync.
+    /// In the Rust: `paged::Writer::snapshot`.
     pub fn snapshot<B: Blob>(
         self,
         blob: &mut B,
@@ -116,7 +116,7 @@ impl<C: Checksum> Writer<C> {
 
     /// Makes durable what was appended, as `sync` does, and seals the list: no more bytes come to it. Refused where the
     /// sync is, and out of memory, the writer is given up.
-    /// In the Rust: `paged::Writer::seal`, which starts the sync and answers it too.
+    /// In the Rust: `paged::Writer::seal`, which answers a handle beside it.
     pub fn seal<B: Blob>(self, blob: &mut B, cache: &mut CacheRef) -> Result<Sealed<C>, Error>
         requires writer { IsWriter C.checksum_of (B.calls blob.old) self }
         requires pages { cache.old.page_size ≡ content_size self.page_size }
