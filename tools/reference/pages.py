@@ -81,12 +81,168 @@ class Pages:
         self.content, self.slots = content, slots
 
 
-class Writer:
-    def __init__(self, pages, size, capacity):
+class Kept:
+    """The pages of one list that are kept in memory, at most so many."""
+
+    def __init__(self, most):
+        self.most, self.pages = most, []
+
+    def keep(self, page):
+        # ours: a page that is flushed whole or read is kept, and where there is no room the one that was put longest ago goes
+        self.pages = [it for it in self.pages if it != page]
+        if len(self.pages) >= self.most:
+            self.pages.pop(0)
+        self.pages.append(page)
+
+
+class Reads:
+    """The reads of a list: its content, of which so many first bytes are on whole pages, and the others in memory."""
+
+    def read(self, offset, count):
+        if offset + count > len(self.content):
+            return "F7"
+        for page in self.pages_of(offset, count):
+            if page not in self.kept.pages:
+                self.kept.keep(page)
+        return hexed(self.content[offset : offset + count])
+
+    def read_up_to(self, offset, count):
+        return self.read(offset, max(min(count, len(self.content) - offset), 0))
+
+    def pages_of(self, offset, count):
+        end = min(offset + count, self.flushed)
+        return range(offset // self.room, -(-end // self.room)) if offset < end else range(0)
+
+    def is_served(self, offset, count):
+        is_kept = all(page in self.kept.pages for page in self.pages_of(offset, count))
+        return offset + count <= len(self.content) and is_kept
+
+    def are_within(self, ranges):
+        return all(offset + count <= len(self.content) for offset, count in ranges)
+
+    def read_many(self, ranges):
+        if not self.are_within(ranges):
+            return "F7"
+        return hexed(b"".join(unhex(self.read(*it)) for it in ranges))
+
+    def try_many(self, ranges):
+        if not self.are_within(ranges):
+            return "F7"
+        return "+".join(str(at) for at, it in enumerate(ranges) if not self.is_served(*it)) or "all"
+
+    def try_read(self, form, text):
+        ranges = items(text) if form == "items" else pairs(text)
+        if form == "one":
+            offset, count = ranges[0]
+            return hexed(self.content[offset : offset + count]) if self.is_served(offset, count) else "false"
+        if form not in ("items", "ranges"):
+            raise Bad
+        return self.try_many(ranges)
+
+
+def pairs(text):
+    """Ranges, each an offset, a plus and a count, with commas between them."""
+    ranges = [it.split("+", 1) for it in text.split(",")]
+    if any(len(it) != 2 for it in ranges):
+        raise Bad
+    return [(number(offset), number(count)) for offset, count in ranges]
+
+
+def items(text):
+    """A size and offsets: the ranges of as many bytes from each of them on."""
+    size, colon, offsets = text.partition(":")
+    if not colon:
+        raise Bad
+    return [(number(offset), number(size)) for offset in offsets.split(",")]
+
+
+class Sealed(Reads):
+    """A list that takes no more bytes, and the pages of its writer that are kept."""
+
+    def __init__(self, writer):
+        self.content, self.flushed, self.room, self.kept = writer.content, writer.flushed, writer.room, writer.kept
+
+    def play(self, words, told):
+        while words:
+            match words:
+                case ["size", *words]:
+                    told.append(str(len(self.content)))
+                case ["copied", *words]:
+                    pass
+                case ["read", "items", text, *words]:
+                    told.append(self.read_many(items(text)))
+                case ["read", "ranges", text, *words]:
+                    told.append(self.read_many(pairs(text)))
+                case ["read", "at" | "into", text, *words] if len(pairs(text)) == 1:
+                    told.append(self.read(*pairs(text)[0]))
+                case ["read", "up-to", text, *words] if len(pairs(text)) == 1:
+                    told.append(self.read_up_to(*pairs(text)[0]))
+                case ["try", form, text, *words]:
+                    told.append(self.try_read(form, text))
+                case _:
+                    raise Bad
+        return ", ".join(told) or "ok"
+
+
+class Replay:
+    """A list that is read from a place on, so many pages at once."""
+
+    def __init__(self, sealed, pages_at_once):
+        self.sealed, self.at_once = sealed, pages_at_once
+        self.place, self.next = 0, 0
+
+    def ensure(self, count):
+        # ours: whole pages are read, as many as the buffer has, and then as many bytes of what stands behind them
+        room, flushed, end = self.sealed.room, self.sealed.flushed, len(self.sealed.content)
+        while self.next - self.place < count and self.next < end:
+            if self.next >= flushed:
+                self.next = min(self.next + self.at_once * room, end)
+            else:
+                self.next = min((self.next // room + self.at_once) * room, flushed)
+        return "true" if self.next - self.place >= count else "false"
+
+    def taken(self, count):
+        self.place += count
+        return hexed(self.sealed.content[self.place - count : self.place])
+
+    def play(self, words, told):
+        while words:
+            there = self.next - self.place
+            match words:
+                case ["size", *words]:
+                    told.append(str(len(self.sealed.content)))
+                case ["remaining", *words]:
+                    told.append(str(there))
+                case ["exhausted", *words]:
+                    told.append("true" if self.next == len(self.sealed.content) else "false")
+                case ["chunk", *words]:
+                    told.append(hexed(self.sealed.content[self.place : self.next]))
+                case ["seek", place, *words]:
+                    is_past = number(place) > len(self.sealed.content)
+                    if not is_past:
+                        self.place = self.next = number(place)
+                    told.append("F7" if is_past else "ok")
+                case ["ensure", count, *words]:
+                    told.append(self.ensure(number(count)))
+                case ["copy", count, *words]:
+                    told.append(self.taken(number(count)) if number(count) <= there else "F7")
+                case ["take", count, *words] if number(count) <= there:
+                    told.append(self.taken(number(count)))
+                case ["advance", count, *words] if number(count) <= there:
+                    self.taken(number(count))
+                    told.append("ok")
+                case _:
+                    raise Bad
+        return ", ".join(told) or "ok"
+
+
+class Writer(Reads):
+    def __init__(self, pages, size, capacity, most_kept):
         self.room, self.capacity = size - 12, max(capacity, size)
         self.content, self.slots = pages.content, list(pages.slots)
         self.synced = len(self.content)
         self.flushed = len(self.content) - len(self.content) % self.room
+        self.kept = Kept(most_kept)
 
     def append(self, piece):
         if len(self.content) - self.flushed + len(piece) > self.capacity:
@@ -103,16 +259,13 @@ class Writer:
                 self.slots.append((length, 0))
             elif self.slots[page][0] != length:
                 self.slots[page] = (length, self.slots[page][0])
+            if length == self.room:
+                self.kept.keep(page)
         self.flushed = end - end % self.room
 
     def sync(self):
         self.flush(len(self.content))
         self.synced = len(self.content)
-
-    def read(self, offset, count):
-        if offset + count > len(self.content):
-            return "F7"
-        return hexed(self.content[offset : offset + count])
 
 
 class Case:
@@ -137,6 +290,9 @@ class Case:
             slots.append((length, *(other or [0])))
         return Pages(content, slots)
 
+    def pages_there(self):
+        return len(self.pages.slots) if self.pages else len(self.file) // self.size
+
     def cut_pages(self, size):
         pages, room = self.pages_now(), self.size - 12
         content = pages.content[:size]
@@ -151,15 +307,27 @@ class Case:
             raise Bad
 
     def play(self, pages, words, told):
-        writer = Writer(pages, self.size, self.capacity)
+        writer = Writer(pages, self.size, self.capacity, self.room)
         while words:
             words = self.step(writer, words, told)
         # bytes that are in the writer's buffer are gone with it
         self.pages = Pages(writer.content[: sum(it[0] for it in writer.slots)], writer.slots)
         return ", ".join(told) or "ok"
 
+    def sealed(self, first, more, play):
+        """What is told of the list that is sealed after a first piece, while its writer goes on by more bytes and a sync."""
+        writer = Writer(self.cut_pages(1 << 64), self.size, self.capacity, self.room)
+        writer.append(first)
+        writer.sync()
+        sealed = Sealed(writer)
+        writer.append(more)
+        writer.sync()
+        told = play(sealed)
+        self.pages = Pages(writer.content[: sum(it[0] for it in writer.slots)], writer.slots)
+        return told
+
     def try_write(self, words):
-        writer, told = Writer(self.cut_pages(1 << 64), self.size, self.capacity), []
+        writer, told = Writer(self.cut_pages(1 << 64), self.size, self.capacity, self.room), []
         for at in range(0, len(words), 2):
             match words[at : at + 2]:
                 case ["bytes", value]:
@@ -189,15 +357,20 @@ class Case:
             case ["needs-sync", *rest]:
                 told.append("true" if writer.synced < len(writer.content) else "false")
             case ["kept", page, *rest]:
-                # ours: a page that is flushed whole is kept, under the writer's second name
+                # ours: under the writer's second name
                 start = number(page) * writer.room
-                there = start + writer.room <= writer.flushed
+                there = number(page) in writer.kept.pages
                 told.append(writer.content[start : start + writer.room].hex() if there else "none")
+            case ["try-snapshot", *rest]:
+                told.append("none" if writer.synced < len(writer.content) else str(len(writer.content)))
+            case ["read-many", form, text, *rest] if form in ("items", "ranges"):
+                told.append(writer.read_many(items(text) if form == "items" else pairs(text)))
+            case ["try", form, text, *rest]:
+                told.append(writer.try_read(form, text))
             case ["read", "at" | "into", offset, count, *rest]:
                 told.append(writer.read(number(offset), number(count)))
             case ["read", "up-to", offset, count, *rest]:
-                count = min(number(count), len(writer.content) - number(offset))
-                told.append(writer.read(number(offset), count))
+                told.append(writer.read_up_to(number(offset), number(count)))
             case _:
                 raise Bad
         return rest
@@ -218,6 +391,16 @@ class Case:
             case ["try-write", *words]:
                 self.check_sizes()
                 return self.try_write(words)
+            case ["snapshot", first, more, *words]:
+                self.check_sizes()
+                return self.sealed(unhex(first), unhex(more), lambda sealed: sealed.play(words, []))
+            case ["seal", first, *words]:
+                self.check_sizes()
+                return self.sealed(unhex(first), b"", lambda sealed: sealed.play(words, []))
+            case ["replay", first, buffer, *words]:
+                self.check_sizes()
+                at_once = max(number(buffer) // self.size, 1)
+                return self.sealed(unhex(first), b"", lambda sealed: Replay(sealed, at_once).play(words, []))
             case ["recover", cut, *words]:
                 self.check_sizes()
                 found = len(self.pages_now().content)
@@ -261,6 +444,16 @@ class Case:
                 self.check_sizes()
                 length = len(self.pages_now().content)
                 return f"{length}, {length}, {min(length, number(most))}"
+            case ["range", offset, count] if is_page_size(self.size):
+                content, offset, count = self.pages_now().content, number(offset), number(count)
+                if offset + count > len(content):
+                    raise Bad
+                return hexed(content[offset : offset + count])
+            case ["tail", count] if is_page_size(self.size):
+                content, pages = self.pages_now().content, self.pages_there()
+                if (pages - 1) * (self.size - 12) >= len(content) and pages:
+                    raise Bad
+                return f"{len(content)}, {hexed(content[max(len(content) - number(count), 0) :])}"
             case ["scan", _, most] if is_page_size(self.size):
                 length = len(self.pages_now().content)
                 return f"{length}, {min(length, number(most))}"

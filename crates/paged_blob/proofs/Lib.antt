@@ -17,8 +17,13 @@ pub mod Done
 pub mod Settled
 pub mod CutBlob
 pub mod ReadPages
+pub mod StandLaws
+pub mod ServedLaws
+pub mod ReplayLaws
+pub mod DirectLaws
 pub mod CutWriter
 pub mod CutWithin
 pub mod Taken
 pub mod WriterReads
+pub mod WriterViews
 pub mod Recovered

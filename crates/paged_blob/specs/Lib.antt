@@ -10,6 +10,9 @@ pub mod WritersCode
 pub mod CachedContent
 pub mod Shrinks
 pub mod Reads
+pub mod Stands
+pub mod Served
+pub mod Replays
 pub mod CachesCode
 pub mod ShrinksCode
 pub mod Answers

@@ -5,13 +5,17 @@
 pub mod bench;
 pub mod blob;
 pub mod cache;
+pub mod direct;
 pub mod error;
 pub mod flush;
 pub mod laws;
 pub mod read;
 pub mod record;
+pub mod replay;
 pub mod scan;
+pub mod sealed;
 pub mod shrink;
+pub mod view;
 pub mod writer;
 
 pub use blob::{Blob, WriteMode};
@@ -19,7 +23,10 @@ pub use cache::CacheRef;
 pub use error::{CallKind, Error};
 pub use flush::DurableSlot;
 pub use record::Recorded;
+pub use replay::Replay;
 pub use scan::{prefix_of_blob, prefix_of_blob_at_most};
+pub use sealed::Sealed;
 pub use shrink::{LastPage, cut_blob};
+pub use view::View;
 pub use writer::recovery::{Recovering, Recovery};
 pub use writer::{Append, Writer};

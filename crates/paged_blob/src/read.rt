@@ -11,6 +11,7 @@ ghost use Rattle.paged_blob.specs.Caches.{Page};
 ghost use Rattle.paged_blob.specs.CachedContent.{HoldsPagesOf, KeepsOthers};
 ghost use Rattle.paged_blob.specs.Answers.{failures_after, IsCause};
 ghost use Rattle.paged_blob.specs.Reads.{flushed, readable, ServesPages, StaysKept, IsReadingCause};
+ghost use Rattle.paged_blob.specs.Stands.{Stand, on_blob, listed};
 ghost use Rattle.paged_blob.specs.declared.error.CallKind.TheVariants.{Read};
 
 use crate::blob::Blob;
@@ -31,29 +32,28 @@ pub struct FlushedPages {
     pub len: u64,
 }
 
-// The content of a page that was whole, from the blob. Where it does not verify: F12.
-fn read_page<B: Blob, C: Checksum>(
+// The content of a page that stands, from the blob. Where it does not verify: F12.
+pub(crate) fn read_page<B: Blob, C: Checksum>(
     alloc: Global,
     blob: &mut B,
-    physical_page_size: u32,
+    pages: FlushedPages,
     page: u64,
 ) -> Result<Vec<u8>, Error>
-    requires page { IsPageSize physical_page_size }
-    requires sound { IsFalse (file_of (B.calls blob.old)).failed }
-    requires numbers { (page + 1) * physical_page_size < 2 ^ 64 }
-    requires whole { (page + 1) * content_size physical_page_size
-        ≤ length (recovered C.checksum_of physical_page_size (content (B.calls blob.old))) }
-    ensures bytes { IfOk result (λ bytes. bytes.items ≡ page_at (content_size physical_page_size) page
-        (recovered C.checksum_of physical_page_size (content (B.calls blob.old)))) }
-    ensures cause { IfErr result (IsCause (B.failures blob.old) Read ((page + 1) * physical_page_size)) }
+    requires page { IsPageSize pages.physical_page_size }
+    requires stand { Stand C.checksum_of (B.calls blob.old) pages }
+    requires whole { (page + 1) * content_size pages.physical_page_size ≤ pages.len }
+    ensures bytes { IfOk result (λ bytes. bytes.items ≡ page_at (content_size pages.physical_page_size) page
+        (on_blob C.checksum_of (B.calls blob.old) pages)) }
+    ensures cause { IfErr result (IsCause (B.failures blob.old) Read
+        (pages.len / content_size pages.physical_page_size * pages.physical_page_size)) }
     ensures calls { B.calls blob.new ≡ B.calls blob.old }
     ensures failures { B.failures blob.new ≡ failures_after result (B.failures blob.old) }
     ensures left { B.left blob.new ≤ B.left blob.old }
 {
-    let size = u64::from(physical_page_size);
-    let mut bytes = blob.read_at(alloc, page * size, physical_page_size as usize)?;
-    let room = physical_page_size as usize - 12;
-    if prefix_len::<C>(&bytes, physical_page_size) < room as u64 {
+    let size = u64::from(pages.physical_page_size);
+    let mut bytes = blob.read_at(alloc, page * size, pages.physical_page_size as usize)?;
+    let room = pages.physical_page_size as usize - 12;
+    if prefix_len::<C>(&bytes, pages.physical_page_size) < room as u64 {
         return Err(Error::ChecksumMismatch);
     }
     bytes.truncate(room);
@@ -86,10 +86,7 @@ fn page_into<B: Blob, C: Checksum>(
     out: &mut [u8],
 ) -> Result<(), Error>
     requires page { IsPageSize pages.physical_page_size }
-    requires sound { IsFalse (file_of (B.calls blob.old)).failed }
-    requires shown { pages.len
-        ≤ length (recovered C.checksum_of pages.physical_page_size (content (B.calls blob.old))) }
-    requires numbers { pages.len / content_size pages.physical_page_size * pages.physical_page_size < 2 ^ 64 }
+    requires stand { Stand C.checksum_of (B.calls blob.old) pages }
     requires whole { (page + 1) * content_size pages.physical_page_size ≤ pages.len }
     requires within { from + length out.old ≤ content_size pages.physical_page_size }
     requires sizes { cache.old.page_size ≡ content_size pages.physical_page_size }
@@ -111,7 +108,7 @@ fn page_into<B: Blob, C: Checksum>(
     if copy_kept(cache, pages.blob_id, page, from, out) {
         return Ok(());
     }
-    let bytes = read_page::<B, C>(alloc, blob, pages.physical_page_size, page)?;
+    let bytes = read_page::<B, C>(alloc, blob, pages, page)?;
     cache.cache(pages.blob_id, &bytes, page * u64::from(cache.page_size()));
     out.copy_from_slice(&bytes[from..from + out.len()]);
     Ok(())
@@ -127,11 +124,7 @@ fn read_flushed<B: Blob, C: Checksum>(
     offset: u64,
 ) -> Result<(), Error>
     requires page { IsPageSize pages.physical_page_size }
-    requires sound { IsFalse (file_of (B.calls blob.old)).failed }
-    requires shown { pages.len
-        ≤ length (recovered C.checksum_of pages.physical_page_size (content (B.calls blob.old))) }
-    requires whole { pages.len % content_size pages.physical_page_size ≡ 0 }
-    requires numbers { pages.len / content_size pages.physical_page_size * pages.physical_page_size < 2 ^ 64 }
+    requires stand { Stand C.checksum_of (B.calls blob.old) pages }
     requires within { offset + length out.old ≤ pages.len }
     requires sizes { cache.old.page_size ≡ content_size pages.physical_page_size }
     requires kept { ServesPages
@@ -158,6 +151,50 @@ fn read_flushed<B: Blob, C: Checksum>(
         page_into::<B, C>(alloc, blob, cache, pages, at / room, from, piece)?;
         done += count;
     }
+    Ok(())
+}
+
+// Reads a slice of the content into `out`, as `read_into` does, where the pages stand.
+pub(crate) fn read_slice<B: Blob, C: Checksum>(
+    alloc: Global,
+    blob: &mut B,
+    cache: &mut CacheRef,
+    pages: FlushedPages,
+    tip: &[u8],
+    out: &mut [u8],
+    offset: u64,
+) -> Result<(), Error>
+    requires page { IsPageSize pages.physical_page_size }
+    requires stand { Stand C.checksum_of (B.calls blob.old) pages }
+    requires ends { pages.len + length tip.now < 2 ^ 64 }
+    requires sizes { cache.old.page_size ≡ content_size pages.physical_page_size }
+    requires kept { ServesPages (on_blob C.checksum_of (B.calls blob.old) pages) cache.old pages.blob_id }
+    ensures bytes { OnOk result (out.new ≡ take (length out.old) (drop offset
+        (listed C.checksum_of (B.calls blob.old) pages tip.now))) }
+    ensures within { OnOk result (offset + length out.old ≤ pages.len + length tip.now) }
+    ensures past { pages.len + length tip.now < offset + length out.old
+        → (result ≡ Err Error.BlobInsufficientLength) × (out.new ≡ out.old) × (cache.new ≡ cache.old) }
+    ensures cause { IfErr result (IsReadingCause (B.failures blob.old) pages.physical_page_size pages.len
+        (pages.len + length tip.now) (offset + length out.old)) }
+    ensures kept { StaysKept (on_blob C.checksum_of (B.calls blob.old) pages) cache.old cache.new pages.blob_id }
+    ensures same { cache.new ≡ record cache.old { pages = cache.new.pages } }
+    ensures others { KeepsOthers cache.old cache.new pages.blob_id }
+    ensures calls { B.calls blob.new ≡ B.calls blob.old }
+    ensures failures { B.failures blob.new ≡ failures_after result (B.failures blob.old) }
+    ensures left { B.left blob.new ≤ B.left blob.old }
+{
+    let Some(end) = offset.checked_add(out.len() as u64) else {
+        return Err(Error::BlobInsufficientLength);
+    };
+    if end > pages.len + tip.len() as u64 {
+        return Err(Error::BlobInsufficientLength);
+    }
+    let on_blob = pages.len.saturating_sub(offset).min(out.len() as u64) as usize;
+    let start = offset.min(pages.len);
+    read_flushed::<B, C>(alloc, blob, cache, pages, &mut out[..on_blob], start)?;
+    let from = offset.saturating_sub(pages.len) as usize;
+    let rest = &mut out[on_blob..];
+    rest.copy_from_slice(&tip[from..from + rest.len()]);
     Ok(())
 }
 
@@ -199,19 +236,7 @@ pub fn read_into<B: Blob, C: Checksum>(
     ensures failures { B.failures blob.new ≡ failures_after result (B.failures blob.old) }
     ensures left { B.left blob.new ≤ B.left blob.old }
 {
-    let Some(end) = offset.checked_add(out.len() as u64) else {
-        return Err(Error::BlobInsufficientLength);
-    };
-    if end > pages.len + tip.len() as u64 {
-        return Err(Error::BlobInsufficientLength);
-    }
-    let on_blob = pages.len.saturating_sub(offset).min(out.len() as u64) as usize;
-    let start = offset.min(pages.len);
-    read_flushed::<B, C>(alloc, blob, cache, pages, &mut out[..on_blob], start)?;
-    let from = offset.saturating_sub(pages.len) as usize;
-    let rest = &mut out[on_blob..];
-    rest.copy_from_slice(&tip[from..from + rest.len()]);
-    Ok(())
+    read_slice::<B, C>(alloc, blob, cache, pages, tip, out, offset)
 }
 
 /// So many bytes of the content from an offset on, as `read_into` gives them. Where the content ends before them: F7.

@@ -15,7 +15,9 @@ ghost use Rattle.paged_blob.specs.Caches.{AreGiven, Cache};
 ghost use Rattle.paged_blob.specs.CachedContent.{HoldsPagesOf, KeepsOthers};
 ghost use Rattle.paged_blob.specs.declared.error.CallKind.{CallKind};
 
+pub mod reading;
 pub mod recovery;
+pub mod sealing;
 
 use crate::blob::Blob;
 use crate::cache::CacheRef;

@@ -6,10 +6,12 @@ ghost use Rattle.paged_format.specs.Footers.{IsPageSize};
 
 mod formats;
 mod keeping;
+mod many;
+mod sealing;
 mod told;
 mod writers;
 
-use case_lines::{Player, Unanswered, digits, play};
+use case_lines::{Player, Unanswered, bytes, digits, play};
 use fault_storage::Crc32;
 use formats::{page, prefix, slot_lengths, spelled};
 use keeping::Kept;
@@ -103,6 +105,56 @@ impl PagesPlayer {
         told.finish(alloc)
     }
 
+    // Takes a snapshot of a writer that goes on, or seals its list, and makes the calls of a line on it.
+    fn seal(
+        &mut self,
+        alloc: Global,
+        first: &[u8],
+        more: Option<&[u8]>,
+        words: &[&str],
+    ) -> Result<String, Unanswered> {
+        let mut cache = self.cache(alloc)?;
+        let mut told = Told::new(alloc);
+        let mut disk = MemoryDisk::showing(alloc, self.file.to_vec(alloc)?)?;
+        let size = disk.as_bytes().len() as u64;
+        let room = self.capacity;
+        let writer = writers::opened::<MemoryDisk, Crc32>(alloc, &mut disk, &mut cache, size, room);
+        match sealing::sealed_of(writer, &mut disk, &mut cache, first, more) {
+            Ok(sealed) => {
+                let disk = &mut disk;
+                sealing::play_sealed(alloc, &sealed, disk, &mut cache, words, &mut told)?;
+            }
+            Err(error) => told.push(number(error))?,
+        }
+        self.keep(alloc, &disk)?;
+        told.finish(alloc)
+    }
+
+    // Replays the list of a writer, and makes the calls of a line on the replay.
+    fn replay(
+        &mut self,
+        alloc: Global,
+        first: &[u8],
+        buffer_size: usize,
+        words: &[&str],
+    ) -> Result<String, Unanswered> {
+        let mut cache = self.cache(alloc)?;
+        let mut told = Told::new(alloc);
+        let mut disk = MemoryDisk::showing(alloc, self.file.to_vec(alloc)?)?;
+        let size = disk.as_bytes().len() as u64;
+        let room = self.capacity;
+        let writer = writers::opened::<MemoryDisk, Crc32>(alloc, &mut disk, &mut cache, size, room);
+        match sealing::replayed(writer, &mut disk, &mut cache, first, buffer_size) {
+            Ok(replay) => {
+                let mut replay = replay;
+                sealing::play_replay(alloc, &mut replay, &mut disk, words, &mut told)?;
+            }
+            Err(error) => told.push(number(error))?,
+        }
+        self.keep(alloc, &disk)?;
+        told.finish(alloc)
+    }
+
     // Recovers the file, says how many bytes are found, cuts it to so many and makes the calls of a line on it.
     fn recover(&mut self, alloc: Global, cut: u64, words: &[&str]) -> Result<String, Unanswered> {
         let mut cache = self.cache(alloc)?;
@@ -169,6 +221,55 @@ impl PagesPlayer {
         told.finish(alloc)
     }
 
+    // So many bytes of what is recovered of the file, from an offset on.
+    fn range(&self, alloc: Global, offset: u64, count: usize) -> Result<String, Unanswered> {
+        if !is_page_size(self.page_size) {
+            return Err(Unanswered::BadLine);
+        }
+        let mut told = Told::new(alloc);
+        let mut disk = MemoryDisk::showing(alloc, self.file.to_vec(alloc)?)?;
+        let page = self.page_size;
+        let size = disk.as_bytes().len() as u64;
+        let found = prefix_of_blob::<MemoryDisk, Crc32>(alloc, &mut disk, page, size, 0, 64);
+        let Ok(length) = found else {
+            return Err(Unanswered::Memory);
+        };
+        if offset > length || count as u64 > length - offset {
+            return Err(Unanswered::BadLine);
+        }
+        let read = Writer::<Crc32>::read_range(alloc, &mut disk, page, offset, count);
+        told.push_bytes(alloc, read)?;
+        told.finish(alloc)
+    }
+
+    // How many bytes are recovered of the file, and the last so many of them.
+    fn tail(&self, alloc: Global, count: usize) -> Result<String, Unanswered> {
+        if !is_page_size(self.page_size) {
+            return Err(Unanswered::BadLine);
+        }
+        let mut told = Told::new(alloc);
+        let mut disk = MemoryDisk::showing(alloc, self.file.to_vec(alloc)?)?;
+        let page = self.page_size;
+        let size = disk.as_bytes().len() as u64;
+        let found = prefix_of_blob::<MemoryDisk, Crc32>(alloc, &mut disk, page, size, 0, 64);
+        let Ok(length) = found else {
+            return Err(Unanswered::Memory);
+        };
+        let room = u64::from(page) - 12;
+        let whole = size / u64::from(page) * room;
+        if whole >= room && whole - room >= length {
+            return Err(Unanswered::BadLine);
+        }
+        match Writer::<Crc32>::read_tail(alloc, &mut disk, size, page, count) {
+            Ok((all, bytes)) => {
+                told.push_number(alloc, all)?;
+                told.push(digits(alloc, &bytes)?.as_str())?;
+            }
+            Err(error) => told.push(number(error))?,
+        }
+        told.finish(alloc)
+    }
+
     // Cuts the file to so many bytes of its content: how many the last page has where it is not full.
     fn cut(&mut self, alloc: Global, size: u64) -> Result<String, Unanswered> {
         if !is_page_size(self.page_size) {
@@ -224,6 +325,8 @@ impl PagesPlayer {
             ["prefix"] => return Ok(prefix(&self.file, self.page_size)?.to_string(alloc)?),
             ["found", buffer, most] => return self.found(alloc, buffer.parse()?, most.parse()?),
             ["scan", buffer, most] => return self.scan(alloc, buffer.parse()?, most.parse()?),
+            ["range", offset, count] => return self.range(alloc, offset.parse()?, count.parse()?),
+            ["tail", count] => return self.tail(alloc, count.parse()?),
             _ => return Err(Unanswered::BadLine),
         }
         Ok("ok".to_string(alloc)?)
@@ -266,6 +369,14 @@ impl Player for PagesPlayer {
             ["write", words @ ..] => self.write(alloc, words),
             ["try-write", words @ ..] => self.try_write(alloc, words),
             ["recover", cut, words @ ..] => self.recover(alloc, cut.parse()?, words),
+            ["snapshot", first, more, words @ ..] => {
+                let (first, more) = (bytes(alloc, first)?, bytes(alloc, more)?);
+                self.seal(alloc, &first, Some(&more), words)
+            }
+            ["seal", first, words @ ..] => self.seal(alloc, &bytes(alloc, first)?, None, words),
+            ["replay", first, buffer, words @ ..] => {
+                self.replay(alloc, &bytes(alloc, first)?, buffer.parse()?, words)
+            }
             ["cut", size] => self.cut(alloc, size.parse()?),
             ["text", number] => text(alloc, number),
             words => self.file_answer(alloc, words),

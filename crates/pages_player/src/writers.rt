@@ -7,6 +7,9 @@ ghost use Rattle.paged_blob.specs.Calls.{content, file_of};
 ghost use Rattle.paged_blob.specs.CachedContent.{HoldsPagesOf};
 ghost use Rattle.paged_blob.specs.Writers.{IsWriter, written};
 
+use crate::many::{
+    buffer_of_items, buffer_of_ranges, items, ranges, told_missing, told_read, told_tried,
+};
 use crate::told::{Told, number};
 use case_lines::{Unanswered, bytes, digits};
 use fault_storage::Checksum;
@@ -130,6 +133,69 @@ fn read<B: Blob, C: Checksum>(
     }
 }
 
+// Reads many slices by one of the forms, which leave the writer as it is.
+fn read_many<B: Blob, C: Checksum>(
+    alloc: Global,
+    writer: &Writer<C>,
+    blob: &mut B,
+    cache: &mut CacheRef,
+    form: &str,
+    text: &str,
+    told: &mut Told,
+) -> Result<(), Unanswered>
+    requires writer { IsWriter C.checksum_of (B.calls blob.old) writer.now }
+    requires pages { cache.old.page_size ≡ content_size writer.now.page_size }
+    requires cached { HoldsPagesOf (written C.checksum_of (B.calls blob.old) writer.now) cache.old writer.now.blob_id }
+    ensures calls { B.calls blob.new ≡ B.calls blob.old }
+    ensures pages { cache.new.page_size ≡ cache.old.page_size }
+    ensures cached { HoldsPagesOf (written C.checksum_of (B.calls blob.old) writer.now) cache.new writer.now.blob_id }
+{
+    match form {
+        "items" => {
+            let (size, offsets) = items(alloc, text)?;
+            let mut out = buffer_of_items(alloc, offsets.len(), size)?;
+            let answer = writer.read_many_into(blob, cache, &mut out, &offsets, size);
+            told_read(alloc, told, answer, &out)
+        }
+        "ranges" => {
+            let ranges = ranges(alloc, text)?;
+            let mut out = buffer_of_ranges(alloc, &ranges)?;
+            let answer = writer.read_ranges_into(blob, cache, &mut out, &ranges);
+            told_read(alloc, told, answer, &out)
+        }
+        _ => Err(Unanswered::BadLine),
+    }
+}
+
+// Reads by one of the forms that make no call of the blob.
+fn try_read<C: Checksum>(
+    alloc: Global,
+    writer: &Writer<C>,
+    cache: &CacheRef,
+    form: &str,
+    text: &str,
+    told: &mut Told,
+) -> Result<(), Unanswered> {
+    if form == "items" {
+        let (size, offsets) = items(alloc, text)?;
+        let mut out = buffer_of_items(alloc, offsets.len(), size)?;
+        let answer = writer.try_read_many_sync_into(cache, &mut out, &offsets, size);
+        return told_missing(alloc, told, answer);
+    }
+    let ranges = ranges(alloc, text)?;
+    if form == "ranges" {
+        let mut out = buffer_of_ranges(alloc, &ranges)?;
+        let answer = writer.try_read_ranges_sync_into(cache, &mut out, &ranges);
+        return told_missing(alloc, told, answer);
+    }
+    let (Some((offset, count)), "one") = (ranges.first(), form) else {
+        return Err(Unanswered::BadLine);
+    };
+    let mut out = buffer_of_items(alloc, *count, 1)?;
+    let is_served = writer.try_read_sync_into(cache, &mut out, *offset);
+    told_tried(alloc, told, is_served, &out)
+}
+
 // Appends bytes, lent or given away.
 fn append<B: Blob, C: Checksum>(
     alloc: Global,
@@ -188,6 +254,11 @@ fn tell<C: Checksum>(
     match word {
         "size" => told.push_number(alloc, writer.size())?,
         "needs-sync" => told.push(if writer.needs_sync() { "true" } else { "false" })?,
+        "try-snapshot" => match writer.try_snapshot() {
+            Ok(Some(sealed)) => told.push_number(alloc, sealed.size())?,
+            Ok(None) => told.push("none")?,
+            Err(error) => told.push(number(error))?,
+        },
         word => match cache.page(1, word.parse()?) {
             Some(page) => told.push(digits(alloc, page)?.as_str())?,
             None => told.push("none")?,
@@ -226,6 +297,14 @@ pub fn play<B: Blob, C: Checksum>(
         ["read", form, offset, count, rest @ ..] => {
             let (offset, count) = (offset.parse()?, count.parse()?);
             read(alloc, &writer, blob, cache, form, offset, count, told)?;
+            play(alloc, writer, blob, cache, rest, told)
+        }
+        ["read-many", form, text, rest @ ..] => {
+            read_many(alloc, &writer, blob, cache, form, text, told)?;
+            play(alloc, writer, blob, cache, rest, told)
+        }
+        ["try", form, text, rest @ ..] => {
+            try_read(alloc, &writer, cache, form, text, told)?;
             play(alloc, writer, blob, cache, rest, told)
         }
         ["kept", page, rest @ ..] => {

@@ -6,6 +6,7 @@ use Rattle.paged_format.specs.Pages.{recovered}
 use Rattle.paged_blob.specs.Calls.{Call, content}
 use Rattle.paged_blob.specs.Caches.{Cache}
 use Rattle.paged_blob.specs.Reads.{flushed, ServesPages, StaysKept}
+use Rattle.paged_blob.specs.Stands.{Stand}
 use Rattle.paged_blob.proofs.CachedLaws.{others_joined}
 use Rattle.paged_blob.proofs.ReadPages.{parts, one_more, longer}
 use Rattle.paged_blob.proofs.read.read_flushed.Goals as goal
@@ -18,7 +19,7 @@ loop-done-preserved g c =
     let is : c.from-room.result ≡ size = search rules in
     let calls = g.B.Blob.calls c.args.blob.now in
     let all = flushed sum size calls c.args.pages.len in
-    let long : length all ≡ c.args.pages.len = length-take-le c.args.pages.len (recovered sum size (content calls)) c.requires.shown in
+    let long : length all ≡ c.args.pages.len = length-take-le c.args.pages.len (recovered sum size (content calls)) c.requires.stand.shown in
     let i = c.loop-done.invariant in
     let done = c.loop-done.done in
     let count = c.min-count.result in
@@ -58,3 +59,16 @@ page_into-requires-clause-kept g c =
     let P : List Call → Type 0 = λ l.
     ServesPages (flushed g.C.Checksum.checksum_of c.args.pages.physical_page_size l c.args.pages.len) c.loop-done.cache c.args.pages.blob_id in
     subst P (sym i.calls) (more, i.kept more holds)
+
+pub page_into-requires-clause-stand : goal.page_into-requires-clause-stand
+page_into-requires-clause-stand g c =
+    subst (λ (l : List Call). Stand g.C.Checksum.checksum_of l c.args.pages) (sym c.loop-done.invariant.calls) c.requires.stand
+
+pub returns-in_err-page_into-clause-kept : goal.returns-in_err-page_into-clause-kept
+returns-in_err-page_into-clause-kept g c =
+    let i = c.loop-done.invariant in
+    let Q : List Call → Type 0 = λ l.
+    StaysKept (flushed g.C.Checksum.checksum_of c.args.pages.physical_page_size l c.args.pages.len) c.loop-done.cache c.page_into.new.cache
+    c.args.pages.blob_id in
+    let still : Q (g.B.Blob.calls c.args.blob.now) = subst Q i.calls c.in_err-page_into.ensures.kept in
+    λ more holds. still more (i.kept more holds)
