@@ -1,4 +1,5 @@
 pub mod Encodings
+pub mod Fields
 pub mod Sound
 pub mod Spans
 pub mod Standing

@@ -6,6 +6,8 @@ ghost use Rattle.state_ops.specs.Operation.{Operation};
 ghost use Rattle.auth_store_client.specs.Claims.{Claim, has_value, is_absent, is_active, IsTrueOf, Shows, terms};
 ghost use Rattle.auth_store_parts.specs.History.{History, AreStates, latest_map, log_of};
 ghost use Rattle.auth_store_parts.specs.Map.{next_key, value_at};
+ghost use Rattle.state_ops.specs.Reading.{IsField};
+ghost use Rattle.auth_store_client.specs.Fields.{IsSound};
 ghost use Rattle.auth_store_client.specs.Proving.{honest_proof};
 ghost use Rattle.auth_store_client.specs.Soundness.{HasSizes, IsReadAgain, AreReadAgain, hashed_strings, rebuilt_strings};
 ghost use Rattle.auth_store_client.specs.States.{IsChunkWidth, setting_of_width, root_of_history};
@@ -125,3 +127,14 @@ where
         → rebuilt_strings setting terms claim root bytes shown
         ≡ rebuilt_strings setting terms claim other bytes again) }
 {}
+
+/// The operations of a history whose keys and values are some are read again as they were written, and its keys and values
+/// have their sizes: so what is said of such histories above holds of each that a store may have.
+pub fn sound_histories_are_read_again<K: FixedKey, V: FixedValue>()
+    ensures read { (history : History) → IsSound (IsField (K.after tt) K.SIZE) (IsField (V.after tt) V.SIZE) history
+        → AreReadAgain (K.after tt) (V.after tt) K.SIZE V.SIZE (log_of history) }
+    ensures sized { (history : History) → IsSound (IsField (K.after tt) K.SIZE) (IsField (V.after tt) V.SIZE) history
+        → HasSizes K.SIZE V.SIZE history }
+{
+    encoded_is_read_again();
+}

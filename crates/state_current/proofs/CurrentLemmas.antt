@@ -44,9 +44,9 @@ pub record IsGraftable (rule : Rule) : Type 0 where
       → HasNode (forest_of rule n) (chunk * 2 ^ level) level ↔ (chunk < nodes_of_height level (forest_of rule n))
 
 -- ---- no operations
-pub settled_none : (rule : Rule) (level : ℕ) → IsSettled rule level 0 0
+pub settled_none : (rule : Rule) (level n : ℕ) → IsSettled rule level n 0
 unfolding forest_of
-settled_none rule level first peak stands = absurd stands
+settled_none rule level n first peak stands = absurd stands
 
 pub none_of_height : (rule : Rule) (level : ℕ) → 0 ≡ nodes_of_height level (forest_of rule 0)
 unfolding forest_of
@@ -317,7 +317,7 @@ together_none rule width wide = record {
   leaves = none_of_height rule wide.0;
   pruned = refl;
   pruned_operations = omega arith;
-  settled = settled_none rule wide.0;
+  settled = settled_none rule wide.0 0;
 }
 
 pub stands_none : (setting : Setting) → 8 * setting.width ≡ 2 ^ setting.grafting_height

@@ -1,4 +1,4 @@
-//! What holds of the tree of the chunks as a state grows.
+//! What holds of the tree of the chunks, and of settled chunks, as a state grows.
 
 ghost use Rattle.std.specs.Prelude.{◌≡◌, ◌≤◌, ◌*◌, ◌^◌, ◌++◌, ℕ, List, length, Some};
 ghost use Rattle.merkle_forest.specs.Forest.{Tree, height, position, forest_of};
@@ -11,7 +11,7 @@ ghost use Rattle.state_proofs.specs.GraftedNodes.{AreGraftedLeaves, TwoTrees, ch
 ghost use Rattle.state_current.specs.Growth.{Change, grown, AreBrought};
 ghost use Rattle.state_current.specs.Settled.{IsAbove, IsSettled};
 
-use merkle_forest::Graftable;
+use merkle_forest::{Family, Graftable};
 
 /// As a state grows, only those leaves of the tree of its chunks change that stand over a cleared place, and leaves are
 /// added for the chunks that have their nodes since.
@@ -52,4 +52,11 @@ pub fn nodes_above_pruned_peaks_are_read<F: Graftable>()
         → (first : ℕ) (tree : Tree) → IsNodeAt first tree (forest setting state)
         → IsAbove F.merge_rule grafting_height chunks.boundary first (height tree)
         → grafted_lookup F.merge_rule hash trees (position tree) ≡ Some (grafted_digests setting state first tree) }
+{}
+
+/// Chunks that are settled stay so as operations are added, and no chunks at all are settled.
+pub fn settled_chunks_stay_settled<F: Family>()
+    ensures stay { (grafting_height operations more chunks : ℕ) → operations ≤ more
+        → IsSettled F.merge_rule grafting_height operations chunks → IsSettled F.merge_rule grafting_height more chunks }
+    ensures none { (grafting_height operations : ℕ) → IsSettled F.merge_rule grafting_height operations 0 }
 {}

@@ -22,4 +22,4 @@ pub mod settled;
 mod trees;
 
 pub use current::Current;
-pub use settled::is_settled;
+pub use settled::{greatest_settled, is_settled};

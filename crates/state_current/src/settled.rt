@@ -26,8 +26,8 @@ pub fn is_settled<F: Graftable>(operations: u64, chunks: u64, height: u32) -> bo
     true
 }
 
-// The greatest number of chunks up to a limit that is settled, but no fewer than those that are pruned, which are.
-pub(crate) fn greatest_settled<F: Graftable>(
+/// The greatest number of chunks up to a limit that is settled, but no fewer than those that are pruned, which are (own).
+pub fn greatest_settled<F: Graftable>(
     operations: u64,
     pruned: u64,
     limit: u64,

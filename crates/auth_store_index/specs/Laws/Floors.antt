@@ -1,7 +1,8 @@
 -- What is active in a log, and what is taken out of it, stands at its floor or behind it.
-use Rattle.std.proofs.Common.{◌≡◌, ℕ, zero, suc, ◌+◌, ◌*◌, ◌/◌, ◌≤◌, Bool, true, false, cond, not, ◌&&◌, List, [], ◌∷◌, ◌++◌, drop, length, Option, None, Some, slice_get, refl, ap, sym, subst, ◌∙◌, arith, append_assoc}
+use Rattle.std.proofs.Common.{◌≡◌, ℕ, zero, suc, ◌+◌, ◌*◌, ◌/◌, ◌≤◌, Bool, true, false, cond, not, ◌&&◌, List, [], ◌∷◌, ◌++◌, drop, length, Option, None, Some, slice_get, inl, inr, ◌⊎◌, ⊎_elim, refl, ap, sym, subst, ◌∙◌, arith, append_assoc}
 use Rattle.std.specs.Prelude.{◌||◌, map}
 use Rattle.std.specs.List.{list_any, AllByRecursion}
+use Rattle.std.proofs.lemmas.Bool.{cases_Bool}
 use Rattle.std.proofs.lemmas.List.Folds.{list_any-append}
 use Rattle.std.proofs.Math.Nat.{mul-div-le}
 use Rattle.state_ops.specs.Operation.{Operation, delete, update, ordered, commit_floor}
@@ -89,6 +90,59 @@ floor_of_bits (op ∷ later) m f =
     ap (λ n. cond (is_active_update op later) 0 (n + 1)) (floor_of_bits later m f)
     ∙ ap (λ b. cond b 0 (first_set (activity_bits (later ++ commit_floor m f ∷ [])) + 1))
     (sym (bit_before_commit op later m f))
+
+-- an active update stands at the floor, before the commit
+pub record IsUpdateAtFloor (front : List Operation) (m : Option (List ℕ)) (f : ℕ) : Type 0 where
+  pub key : List ℕ
+  pub value : List ℕ
+  pub next : List ℕ
+  pub at : slice_get (front ++ commit_floor m f ∷ []) (inactivity_floor front) ≡ Some (update (ordered key value next))
+  pub bit : IsActiveAt (front ++ commit_floor m f ∷ []) (inactivity_floor front)
+
+-- what stands at the floor of a log that a commit ends: the commit, or an active update
+pub update_at_floor : (front : List Operation) (m : Option (List ℕ)) (f : ℕ)
+    → (inactivity_floor front ≡ length front) ⊎ IsUpdateAtFloor front m f
+update_at_floor [] m f = inl refl
+update_at_floor (op ∷ later) m f =
+    ⊎_elim here (λ away. ⊎_elim (λ ended. inl (last away ended)) (λ found. inr (behind away found)) (update_at_floor later m f))
+    (cases_Bool (is_active_update op later))
+  where
+    floor_here : is_active_update op later ≡ true → inactivity_floor (op ∷ later) ≡ 0
+    floor_here counts = ap (λ b. cond b 0 (inactivity_floor later + 1)) counts
+
+    floor_there : is_active_update op later ≡ false → inactivity_floor (op ∷ later) ≡ suc (inactivity_floor later)
+    floor_there away = ap (λ b. cond b 0 (inactivity_floor later + 1)) away ∙ omega arith
+
+    last : is_active_update op later ≡ false → inactivity_floor later ≡ length later
+        → inactivity_floor (op ∷ later) ≡ length (op ∷ later)
+    last away ended = floor_there away ∙ ap suc ended
+
+    at_start : (o : Operation) → o ≡ op → is_active_update o later ≡ true → IsUpdateAtFloor (op ∷ later) m f
+    at_start (delete k) is counts = absurd (let none : false ≡ true = counts in cc)
+    at_start (commit_floor n g) is counts = absurd (let none : false ≡ true = counts in cc)
+    at_start (update (ordered k v n)) is counts =
+        let own : is_active_update op later ≡ true = subst (λ o. is_active_update o later ≡ true) is counts in
+        record {
+          key = k;
+          value = v;
+          next = n;
+          at = ap (λ i. slice_get (op ∷ (later ++ commit_floor m f ∷ [])) i) (floor_here own) ∙ ap Some (sym is);
+          bit = ap (λ i. slice_get (activity_bits (op ∷ (later ++ commit_floor m f ∷ []))) i) (floor_here own)
+              ∙ ap Some (bit_before_commit op later m f ∙ own);
+        }
+
+    here : is_active_update op later ≡ true
+        → (inactivity_floor (op ∷ later) ≡ length (op ∷ later)) ⊎ IsUpdateAtFloor (op ∷ later) m f
+    here counts = inr (at_start op refl counts)
+
+    behind : is_active_update op later ≡ false → IsUpdateAtFloor later m f → IsUpdateAtFloor (op ∷ later) m f
+    behind away found = record {
+      key = found.key;
+      value = found.value;
+      next = found.next;
+      at = ap (λ i. slice_get (op ∷ (later ++ commit_floor m f ∷ [])) i) (floor_there away) ∙ found.at;
+      bit = ap (λ i. slice_get (activity_bits (op ∷ (later ++ commit_floor m f ∷ []))) i) (floor_there away) ∙ found.bit;
+    }
 
 -- the first bit that is set, looked for from a place before it on
 first_set_from : (bits : List Bool) (start : ℕ) → start ≤ first_set bits

@@ -54,7 +54,7 @@ no_more Equal t = absurd t
 no_more Greater t = absurd t
 
 -- none of some entries is below a key that is below them all
-below_none : (k : List ℕ) (s : Map) → T (below_all key_order k s) → below s k ≡ []
+pub below_none : (k : List ℕ) (s : Map) → T (below_all key_order k s) → below s k ≡ []
 below_none k [] h = refl
 below_none k (e ∷ s) h =
     ap (λ b. cond b (e ∷ below s k) (below s k)) (no_more (key_order k e.0) (first _ _ h))
