@@ -18,6 +18,8 @@ ghost use Rattle.auth_store_session.specs.Standing.{Runs, RunsInDoubt, HasRunToR
 ghost use Rattle.auth_store_session.specs.Standing.{calls_in, config_in, page_size_in};
 ghost use Rattle.auth_store_session.specs.Stores.{IsCache};
 
+pub mod laws;
+
 use auth_store_device::Device;
 use auth_store_session::{Answer, Session, Step};
 use merkle_forest::{Family, Graftable, HashFunction, PendingOf};
