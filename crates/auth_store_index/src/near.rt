@@ -46,7 +46,10 @@ fn named_key<K: FixedKey, V: FixedValue>(word: &Word<K, V>) -> &K
 
 /// The greatest key below the key with its value, or the greatest of all where none is below. `None` in the empty
 /// state.
-pub fn entry_before<'a, K: FixedKey, X>(state: &'a BTreeMap<K, X>, key: &K) -> Option<(&'a K, &'a X)>
+pub fn entry_before<'a, K: FixedKey, X>(
+    state: &'a BTreeMap<K, X>,
+    key: &K,
+) -> Option<(&'a K, &'a X)>
     ensures { MatchOption result (state.now.entries ≡ []) (λ found. (value : X → List ℕ)
         → let seen = state_of K.encoding value state.now.entries in
         (K.encoding found.0.now ≡ prev_key seen (K.encoding key.now))

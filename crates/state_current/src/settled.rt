@@ -27,12 +27,7 @@ pub fn is_settled<F: Graftable>(operations: u64, chunks: u64, height: u32) -> bo
 }
 
 /// The greatest number of chunks up to a limit that is settled, but no fewer than those that are pruned, which are (own).
-pub fn greatest_settled<F: Graftable>(
-    operations: u64,
-    pruned: u64,
-    limit: u64,
-    height: u32,
-) -> u64
+pub fn greatest_settled<F: Graftable>(operations: u64, pruned: u64, limit: u64, height: u32) -> u64
     requires few { operations ≤ MAX_LEAVES }
     requires low { height ≤ 62 }
     requires settled { IsSettled F.merge_rule height operations pruned }
