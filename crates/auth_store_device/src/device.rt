@@ -31,7 +31,7 @@ use crate::record::Record;
 use fault_storage::{
     Config, PartialWriteMode, Probability, ResizeConfig, WriteConfig, faulty, memory,
 };
-use paged_blob::{Blob, Error, WriteMode};
+use paged_blob::{Blob, Error, StartedSync, WriteMode};
 use rand_core::Rng;
 use std::alloc::{AllocError, Global};
 use std::marker::Model;
@@ -390,6 +390,21 @@ impl<R: Rng + Drop> Blob for Device<R> {
         let answer = sync_log(&mut self.storage, log, &mut self.record_kept);
         self.left = left_after(&answer, self.left);
         answer
+    }
+
+    /// Starts a sync, which is made at once and uses up a call as `sync` does, and gives its answer as a value to be
+    /// finished: what `sync` answers.
+    fn start_sync(&mut self) -> StartedSync
+        ensures calls { RecordsSync result.answer self.old.calls self.new.calls }
+        ensures cause { IfErr result.answer (IsCause (failures_of self.old) CallKind.Sync 0) }
+        ensures failures { failures_of self.new ≡ failures_after result.answer (failures_of self.old) }
+        ensures left { calls_left self.new.left ≡ calls_left self.old.left - used_up result.answer }
+        ensures cut { MeetsCut result.answer (failures_of self.old) (calls_left self.old.left) }
+        ensures device { IsDeviceCall CallKind.Sync (λ blob below answer changed left. (changed ≡ blob)
+            × IsFaultyCall (R.stream) Call.Sync below.config.sync (MemorySyncs blob.inner) below answer left)
+            self.old result.answer self.new }
+    {
+        StartedSync::new(self.sync())
     }
 
     /// Writes bytes at an offset, with zeros in a gap before them. F8: a count has ended, or their end would pass a

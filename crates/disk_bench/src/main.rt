@@ -1,5 +1,6 @@
-//! Measures the fault storage (`storage`) and writers of pages (`pages`), each beside copies and bare checksums.
-//! It reads from standard input what is measured, a line each: a subject, and a number that says how much of it. Standard
+//! Measures the fault storage (`storage`), writers of pages (`pages`) and lists of so many MiB that are replayed, lent and
+//! sealed (`lists`), each beside copies and bare checksums.
+//! It reads from standard input what is measured, a line each: a subject, and numbers that say how much of it. Standard
 //! output gets what was done and a sum of the answers, standard error the processor time of one.
 #![tactic(auto)]
 
@@ -20,6 +21,10 @@ fn measure_subject<R: Print + Eprint + CpuClock>(
     match words.as_slice() {
         ["storage", count] => storage::measure_all(rt, alloc, count.parse().unwrap_or(1)),
         ["pages", count] => pages::measure_all(rt, alloc, count.parse().unwrap_or(1)),
+        ["lists", size, count] => {
+            let size: usize = size.parse().unwrap_or(1);
+            pages::measure_lists(rt, alloc, size.min(1024) << 20, count.parse().unwrap_or(1))
+        }
         _ => println!(rt; "bad line"),
     }
 }

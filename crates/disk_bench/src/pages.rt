@@ -1,7 +1,8 @@
-//! What appending and syncing cost beside the checksums and one copy alone, and what a read of a kept page costs in a
-//! small and in a large list.
+//! What appending and syncing cost beside the checksums and one copy alone, what a read of a kept page costs in a small and
+//! in a large list, and what lists cost that are replayed, lent and sealed.
 
 mod disk;
+mod lists;
 mod step;
 mod work;
 
@@ -73,4 +74,65 @@ pub fn measure_all<R: Print + Eprint + CpuClock>(
         count,
     )?;
     report_ratio(rt, "reads from 4 MiB over reads from 64 KiB", large, small)
+}
+
+// How many bytes the list has of which snapshots are taken: 4,000 of them stand behind its whole pages.
+const SEALED: usize = 4_190_100;
+
+/// Measures a replay of a list of so many MiB, reads of a view, and snapshots, each done so many times.
+pub fn measure_lists<R: Print + Eprint + CpuClock>(
+    rt: &R,
+    alloc: Global,
+    size: usize,
+    count: u64,
+) -> io::Result<()> {
+    let made = measure(rt, "the list alone", count, |_round| {
+        lists::replayed(alloc, size, 0)
+    })?;
+    let checked = measure(rt, "its pages read and checked", count, |_round| {
+        lists::checked(alloc, size)
+    })?;
+    let replayed = measure(rt, "the list replayed", count, |_round| {
+        lists::replayed(alloc, size, 1)
+    })?;
+    let (replay, check) = (replayed.saturating_sub(made), checked.saturating_sub(made));
+    report_ratio(
+        rt,
+        "a replay over its pages read and checked",
+        replay,
+        check,
+    )?;
+    let by_writer = measure(
+        rt,
+        "5,000,000 reads of 25 bytes by a writer",
+        count,
+        |_round| { lists::viewed(alloc, 64 << 10, READS, false) },
+    )?;
+    let by_view = measure(
+        rt,
+        "5,000,000 reads of 25 bytes by a view",
+        count,
+        |_round| { lists::viewed(alloc, 64 << 10, READS, true) },
+    )?;
+    report_ratio(
+        rt,
+        "reads by a view over reads by a writer",
+        by_view,
+        by_writer,
+    )?;
+    let copied = measure(rt, "1,000,000 copies of a page", count, |_round| {
+        lists::copied(alloc, 1_000_000)
+    })?;
+    let list = measure(rt, "the list alone", count, |_round| {
+        lists::snapped(alloc, SEALED, 0)
+    })?;
+    let sealed = measure(rt, "1,000,000 snapshots of the list", count, |_round| {
+        lists::snapped(alloc, SEALED, 1_000_000)
+    })?;
+    report_ratio(
+        rt,
+        "a snapshot over a copy of a page",
+        sealed.saturating_sub(list),
+        copied,
+    )
 }

@@ -1,12 +1,14 @@
 //! Encodings of numbers, options, arrays, bytes and lists of digests.
 
-use crate::told::fault;
+use crate::told::{fault, shown};
 use case_lines::{Unanswered, bytes, digits};
 use merkle_forest::codec::{
     Cursor, Decode, Encode, EncodeSize, Error, FixedBytes, MaxEncodeSize, RangeCfg, UInt,
     read_number,
 };
 use std::alloc::Global;
+use std::num::ParseIntError;
+use std::str::FromStr;
 
 // The bytes that a value is encoded as, and how many it says that there are.
 fn encoded<T: EncodeSize>(alloc: Global, value: &T) -> Result<String, Unanswered> {
@@ -58,36 +60,60 @@ fn decoded(alloc: Global, kind: &str, bytes: &[u8]) -> Result<String, Unanswered
     }
 }
 
+// A number of one of Rust's types, encoded.
+fn encoded_word<T: EncodeSize + FromStr<Err = ParseIntError>>(
+    alloc: Global,
+    number: &str,
+) -> Result<String, Unanswered> {
+    encoded(alloc, &number.parse::<T>()?)
+}
+
+// A number encoded as a varint.
+fn encoded_varint(alloc: Global, number: &str) -> Result<String, Unanswered> {
+    encoded(alloc, &UInt(number.parse()?))
+}
+
+// A number, or none, encoded as an option.
+fn encoded_option(alloc: Global, number: &str) -> Result<String, Unanswered> {
+    match number {
+        "none" => encoded(alloc, &None::<UInt>),
+        _ => encoded(alloc, &Some(UInt(number.parse()?))),
+    }
+}
+
+// Bytes, encoded.
+fn encoded_bytes(alloc: Global, text: &str) -> Result<String, Unanswered> {
+    encoded(alloc, &bytes(alloc, text)?)
+}
+
 // Encodes a number as this type.
 fn encoded_number(alloc: Global, kind: &str, number: &str) -> Result<String, Unanswered> {
     match kind {
-        "uint" => encoded(alloc, &UInt(number.parse()?)),
+        "uint" => encoded_varint(alloc, number),
         "bool" => encoded(alloc, &(number == "true")),
-        "u8" => encoded(alloc, &number.parse::<u8>()?),
-        "u16" => encoded(alloc, &number.parse::<u16>()?),
-        "u32" => encoded(alloc, &number.parse::<u32>()?),
-        "u64" => encoded(alloc, &number.parse::<u64>()?),
-        "option" if number == "none" => encoded(alloc, &None::<UInt>),
-        "option" => encoded(alloc, &Some(UInt(number.parse()?))),
-        "bytes" => encoded(alloc, &bytes(alloc, number)?),
+        "u8" => encoded_word::<u8>(alloc, number),
+        "u16" => encoded_word::<u16>(alloc, number),
+        "u32" => encoded_word::<u32>(alloc, number),
+        "u64" => encoded_word::<u64>(alloc, number),
+        "option" => encoded_option(alloc, number),
+        "bytes" => encoded_bytes(alloc, number),
         _ => Err(Unanswered::BadLine),
     }
 }
 
 // The greatest number of bytes of a type.
 fn greatest_size(alloc: Global, kind: &str) -> Result<String, Unanswered> {
-    let size = match kind {
-        "uint" => UInt::MAX_SIZE,
-        "bool" => bool::MAX_SIZE,
-        "u8" => u8::MAX_SIZE,
-        "u16" => u16::MAX_SIZE,
-        "u32" => u32::MAX_SIZE,
-        "u64" => u64::MAX_SIZE,
-        "array" => <[u8; 4]>::MAX_SIZE,
-        "digest" => FixedBytes::<2>::MAX_SIZE,
-        _ => return Err(Unanswered::BadLine),
-    };
-    Ok(format!(in alloc; "{size}")?)
+    match kind {
+        "uint" => shown(alloc, UInt::MAX_SIZE),
+        "bool" => shown(alloc, bool::MAX_SIZE),
+        "u8" => shown(alloc, u8::MAX_SIZE),
+        "u16" => shown(alloc, u16::MAX_SIZE),
+        "u32" => shown(alloc, u32::MAX_SIZE),
+        "u64" => shown(alloc, u64::MAX_SIZE),
+        "array" => shown(alloc, <[u8; 4]>::MAX_SIZE),
+        "digest" => shown(alloc, FixedBytes::<2>::MAX_SIZE),
+        _ => Err(Unanswered::BadLine),
+    }
 }
 
 // A list of digests of two bytes each, encoded.
@@ -101,33 +127,56 @@ fn encoded_list(alloc: Global, words: &[&str]) -> Result<String, Unanswered> {
     encoded(alloc, &list)
 }
 
+// The fault of a tag, in the codec's own words.
+fn fault_text(alloc: Global, tag: &str) -> Result<String, Unanswered> {
+    shown(alloc, Error::InvalidEnum(tag.parse()?))
+}
+
+// A value, encoded.
+fn encode(alloc: Global, words: &[&str]) -> Result<String, Unanswered> {
+    match words {
+        ["list", words @ ..] => encoded_list(alloc, words),
+        [kind, number] => encoded_number(alloc, kind, number),
+        _ => Err(Unanswered::BadLine),
+    }
+}
+
+// Reads bytes or a list of digests, of at least so many and at most so many.
+fn limited(alloc: Global, kind: &str, range: RangeCfg, text: &[u8]) -> Result<String, Unanswered> {
+    match kind {
+        "bytes" => read(alloc, Vec::<u8>::decode_cfg(alloc, text, &range)),
+        "list" => read(alloc, Vec::<FixedBytes<2>>::decode_cfg(alloc, text, &range)),
+        _ => Err(Unanswered::BadLine),
+    }
+}
+
+// A value that is read.
+fn decode(alloc: Global, words: &[&str]) -> Result<String, Unanswered> {
+    match words {
+        [kind, text] => decoded(alloc, kind, &bytes(alloc, text)?),
+        [kind, least, greatest, text] => {
+            limited(alloc, kind, range(least, greatest)?, &bytes(alloc, text)?)
+        }
+        _ => Err(Unanswered::BadLine),
+    }
+}
+
+// The answer to a question with one word behind its name.
+fn told(alloc: Global, name: &str, word: &str) -> Result<String, Unanswered> {
+    match name {
+        "front" => front(alloc, &bytes(alloc, word)?),
+        "greatest" => greatest_size(alloc, word),
+        "fault" => fault_text(alloc, word),
+        _ => Err(Unanswered::BadLine),
+    }
+}
+
 /// The answer to a question about encodings.
 pub fn answer(alloc: Global, words: &[&str]) -> Result<String, Unanswered> {
     match words {
-        ["encode", "list", words @ ..] => encoded_list(alloc, words),
-        ["encode", kind, number] => encoded_number(alloc, kind, number),
-        ["decode", "bytes", least, greatest, text] => {
-            let range = range(least, greatest)?;
-            read(
-                alloc,
-                Vec::<u8>::decode_cfg(alloc, &bytes(alloc, text)?, &range),
-            )
-        }
-        ["decode", "list", least, greatest, text] => {
-            let range = range(least, greatest)?;
-            let text = bytes(alloc, text)?;
-            read(
-                alloc,
-                Vec::<FixedBytes<2>>::decode_cfg(alloc, &text, &range),
-            )
-        }
-        ["decode", kind, text] => decoded(alloc, kind, &bytes(alloc, text)?),
-        ["front", text] => front(alloc, &bytes(alloc, text)?),
-        ["greatest", kind] => greatest_size(alloc, kind),
-        ["fault", tag] => {
-            let error = Error::InvalidEnum(tag.parse()?);
-            Ok(format!(in alloc; "{error}")?)
-        }
+        ["encode", words @ ..] => encode(alloc, words),
+        ["decode", words @ ..] => decode(alloc, words),
+        [name, word] => told(alloc, name, word),
         _ => Err(Unanswered::BadLine),
     }
 }

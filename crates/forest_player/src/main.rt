@@ -12,17 +12,18 @@ use merkle_forest::codec::FixedBytes;
 use merkle_forest::{Graftable, PendingOf, mmb, mmr};
 use std::alloc::Global;
 
-// The answer to a question about a family.
+// The answer to a question about a family: its name, and the words behind it.
 fn of_family<F: Graftable + PendingOf<FixedBytes<32>>>(
     alloc: Global,
+    name: &str,
     words: &[&str],
 ) -> Result<String, Unanswered> {
-    match words {
-        ["location", number, words @ ..] => numbers::location_answer::<F>(alloc, number, words),
-        ["position", number, words @ ..] => numbers::position_answer::<F>(alloc, number, words),
-        ["decode", kind, text] => numbers::decoded::<F>(alloc, kind, text),
-        ["digest", words @ ..] => hashing::answer::<F>(alloc, words),
-        words => nodes::answer::<F>(alloc, words),
+    match name {
+        "location" => numbers::location_answer::<F>(alloc, words),
+        "position" => numbers::position_answer::<F>(alloc, words),
+        "decode" => numbers::decoded::<F>(alloc, words),
+        "digest" => hashing::answer::<F>(alloc, words),
+        name => nodes::answer::<F>(alloc, name, words),
     }
 }
 
@@ -38,8 +39,8 @@ impl Player for ForestPlayer {
     fn answer(&mut self, alloc: Global, words: &[&str]) -> Result<String, Unanswered> {
         match words {
             ["codec", words @ ..] => codec::answer(alloc, words),
-            ["mmr", words @ ..] => of_family::<mmr::Family>(alloc, words),
-            ["mmb", words @ ..] => of_family::<mmb::Family>(alloc, words),
+            ["mmr", name, words @ ..] => of_family::<mmr::Family>(alloc, name, words),
+            ["mmb", name, words @ ..] => of_family::<mmb::Family>(alloc, name, words),
             _ => Err(Unanswered::BadLine),
         }
     }

@@ -2,7 +2,7 @@
 
 ghost use Rattle.std.specs.Prelude.{◌≤◌, ◌<◌, ◌^◌};
 
-use crate::told::{Words, or_none};
+use crate::told::{Words, numbers, or_none, shown};
 use case_lines::Unanswered;
 use merkle_forest::chunk_peaks::has_node;
 use merkle_forest::forest::{Tree, grow};
@@ -96,7 +96,7 @@ fn inactive<F: Graftable>(alloc: Global, leaves: u64, floor: u64) -> Result<Stri
         return Err(Unanswered::BadLine);
     }
     let size = F::location_to_position(Location::new(leaves));
-    Ok(F::inactive_peaks(size, Location::new(floor)).to_string(alloc)?)
+    shown(alloc, F::inactive_peaks(size, Location::new(floor)))
 }
 
 // The maximal nodes over a chunk of 2^height leaves.
@@ -104,14 +104,14 @@ fn chunk<F: Graftable>(
     alloc: Global,
     leaves: u64,
     chunk: u64,
-    height: u32,
+    height: u64,
 ) -> Result<String, Unanswered> {
     if leaves > MAX_LEAVES || height > 62 {
         return Err(Unanswered::BadLine);
     }
     let size = F::location_to_position(Location::new(leaves));
     let mut words = Words::new(alloc);
-    for (position, height) in F::chunk_peaks(size, chunk, height) {
+    for (position, height) in F::chunk_peaks(size, chunk, height as u32) {
         words.push_node(alloc, position.as_u64(), height)?;
     }
     words.finish(alloc)
@@ -122,24 +122,25 @@ fn has<F: Graftable>(
     alloc: Global,
     leaves: u64,
     first: u64,
-    height: u32,
+    height: u64,
 ) -> Result<String, Unanswered> {
     if leaves > MAX_LEAVES || first > MAX_LEAVES || height > 62 {
         return Err(Unanswered::BadLine);
     }
-    Ok(has_node::<F>(leaves, first, height).to_string(alloc)?)
+    shown(alloc, has_node::<F>(leaves, first, height as u32))
 }
 
 // The way from the node over the first 2^height of so many leaves down to a leaf.
 fn way<F: Graftable>(
     alloc: Global,
     leaves: u64,
-    height: u32,
+    height: u64,
     target: u64,
 ) -> Result<String, Unanswered> {
     if leaves > MAX_LEAVES || height > 62 || target >= 1 << height {
         return Err(Unanswered::BadLine);
     }
+    let height = height as u32;
     if !has_node::<F>(leaves, 0, height) {
         return Err(Unanswered::BadLine);
     }
@@ -191,7 +192,7 @@ fn located<F: Graftable>(alloc: Global, leaves: u64) -> Result<String, Unanswere
 }
 
 // How many peaks of so many single leaves side by side, at most three, end at the floor or before it.
-fn counted(alloc: Global, leaves: usize, floor: u64) -> Result<String, Unanswered> {
+fn counted(alloc: Global, leaves: u64, floor: u64) -> Result<String, Unanswered> {
     let leaf = Tree::Leaf(0);
     let peaks = [(0, &leaf), (1, &leaf), (2, &leaf)];
     let count = match leaves {
@@ -199,16 +200,15 @@ fn counted(alloc: Global, leaves: usize, floor: u64) -> Result<String, Unanswere
         3 => inactive_count_of(floor, &peaks),
         _ => return Err(Unanswered::BadLine),
     };
-    Ok(count.to_string(alloc)?)
+    shown(alloc, count)
 }
 
 // Which peaks merge next, of these heights from the right.
-fn merge<F: Family>(alloc: Global, merges: usize, words: &[&str]) -> Result<String, Unanswered> {
-    let mut heights = Vec::new(alloc);
-    for word in words {
-        heights.push(word.parse::<u64>()?)?;
+fn merge<F: Family>(alloc: Global, numbers: &[u64]) -> Result<String, Unanswered> {
+    match numbers {
+        [merges, heights @ ..] => or_none(alloc, F::merge_index(*merges as usize, heights)),
+        [] => Err(Unanswered::BadLine),
     }
-    or_none(alloc, F::merge_index(merges, &heights))
 }
 
 // The position of the leaf at a location.
@@ -216,39 +216,76 @@ fn position<F: Family>(alloc: Global, location: u64) -> Result<String, Unanswere
     if location > MAX_LEAVES {
         return Err(Unanswered::BadLine);
     }
-    Ok(F::location_to_position(Location::new(location)).to_string(alloc)?)
+    shown(alloc, F::location_to_position(Location::new(location)))
 }
 
-/// The answer to a question about the nodes of a family's forests.
-pub fn answer<F: Graftable>(alloc: Global, words: &[&str]) -> Result<String, Unanswered> {
-    match words {
-        ["position-of", location] => position::<F>(alloc, location.parse()?),
-        ["location-of", at] => {
-            or_none(alloc, F::position_to_location(Position::new(at.parse()?)))
-        }
-        ["nearest-size", at] => {
-            Ok(F::to_nearest_size(Position::new(at.parse()?)).to_string(alloc)?)
-        }
-        ["peaks", leaves] => peaks::<F>(alloc, leaves.parse()?),
-        ["peaks-within", size] => peaks_within::<F>(alloc, size.parse()?),
-        ["pins", leaves] => pins::<F>(alloc, leaves.parse()?),
-        ["parents", leaves] => parents::<F>(alloc, leaves.parse()?),
-        ["inactive", leaves, floor] => inactive::<F>(alloc, leaves.parse()?, floor.parse()?),
-        ["node", at] => node::<F>(alloc, at.parse()?),
-        ["children", at] => children::<F>(alloc, at.parse()?),
-        ["chunk", leaves, number, height] => {
-            chunk::<F>(alloc, leaves.parse()?, number.parse()?, height.parse()?)
-        }
-        ["has", leaves, first, height] => {
-            has::<F>(alloc, leaves.parse()?, first.parse()?, height.parse()?)
-        }
-        ["way", leaves, height, target] => {
-            way::<F>(alloc, leaves.parse()?, height.parse()?, target.parse()?)
-        }
-        ["grown", leaves] => grown::<F>(alloc, leaves.parse()?),
-        ["located", leaves] => located::<F>(alloc, leaves.parse()?),
-        ["counted", leaves, floor] => counted(alloc, leaves.parse()?, floor.parse()?),
-        ["merge", merges, heights @ ..] => merge::<F>(alloc, merges.parse()?, heights),
+// The answer about the forest of so many leaves.
+fn of_leaves<F: Graftable>(alloc: Global, name: &str, leaves: u64) -> Result<String, Unanswered> {
+    match name {
+        "peaks" => peaks::<F>(alloc, leaves),
+        "pins" => pins::<F>(alloc, leaves),
+        "parents" => parents::<F>(alloc, leaves),
+        "grown" => grown::<F>(alloc, leaves),
+        "located" => located::<F>(alloc, leaves),
+        "position-of" => position::<F>(alloc, leaves),
+        _ => Err(Unanswered::BadLine),
+    }
+}
+
+// The answer about a position, or about a number of leaves.
+fn of_one<F: Graftable>(alloc: Global, name: &str, number: u64) -> Result<String, Unanswered> {
+    match name {
+        "location-of" => or_none(alloc, F::position_to_location(Position::new(number))),
+        "nearest-size" => shown(alloc, F::to_nearest_size(Position::new(number))),
+        "peaks-within" => peaks_within::<F>(alloc, number),
+        "node" => node::<F>(alloc, number),
+        "children" => children::<F>(alloc, number),
+        name => of_leaves::<F>(alloc, name, number),
+    }
+}
+
+// The answer about the forest of so many leaves and a floor.
+fn of_floor<F: Graftable>(
+    alloc: Global,
+    name: &str,
+    leaves: u64,
+    floor: u64,
+) -> Result<String, Unanswered> {
+    match name {
+        "inactive" => inactive::<F>(alloc, leaves, floor),
+        "counted" => counted(alloc, leaves, floor),
+        _ => Err(Unanswered::BadLine),
+    }
+}
+
+// The answer about the forest of so many leaves and a node in it.
+fn of_node<F: Graftable>(
+    alloc: Global,
+    name: &str,
+    leaves: u64,
+    one: u64,
+    other: u64,
+) -> Result<String, Unanswered> {
+    match name {
+        "chunk" => chunk::<F>(alloc, leaves, one, other),
+        "has" => has::<F>(alloc, leaves, one, other),
+        "way" => way::<F>(alloc, leaves, one, other),
+        _ => Err(Unanswered::BadLine),
+    }
+}
+
+/// The answer to a question about the nodes of a family's forests: its name, and the numbers behind it.
+pub fn answer<F: Graftable>(
+    alloc: Global,
+    name: &str,
+    words: &[&str],
+) -> Result<String, Unanswered> {
+    let numbers = numbers(alloc, words)?;
+    match numbers.as_slice() {
+        numbers if name == "merge" => merge::<F>(alloc, numbers),
+        [number] => of_one::<F>(alloc, name, *number),
+        [leaves, floor] => of_floor::<F>(alloc, name, *leaves, *floor),
+        [leaves, one, other] => of_node::<F>(alloc, name, *leaves, *one, *other),
         _ => Err(Unanswered::BadLine),
     }
 }

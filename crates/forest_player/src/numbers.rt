@@ -1,10 +1,21 @@
 //! Locations and positions as numbers: their ends, their arithmetic, their order and their encodings.
 
-use crate::told::{fault, or_none, refused, truth};
+use crate::told::{fault, or_none, refused, shown, truth};
 use case_lines::{Unanswered, bytes, digits};
 use merkle_forest::codec::{Decode, Encode, EncodeSize, MaxEncodeSize};
 use merkle_forest::{Family, Location, LocationRangeExt, Position};
 use std::alloc::Global;
+use std::fmt::{Debug, Display};
+
+// The bytes of a value.
+fn encoded<T: EncodeSize>(alloc: Global, value: &T) -> Result<String, Unanswered> {
+    digits(alloc, &value.encode(alloc)?)
+}
+
+// A value as it is shown to a user, and to a programmer.
+fn shown_twice<T: Display + Debug + Drop>(alloc: Global, value: T) -> Result<String, Unanswered> {
+    Ok(format!(in alloc; "{value} {value:?}")?)
+}
 
 // How many bytes a value says that its encoding has, and the most of its type; the bytes themselves where they are not so many.
 fn size<T: EncodeSize + MaxEncodeSize>(alloc: Global, value: &T) -> Result<String, Unanswered> {
@@ -16,36 +27,38 @@ fn size<T: EncodeSize + MaxEncodeSize>(alloc: Global, value: &T) -> Result<Strin
     Ok(format!(in alloc; "{size} {most}")?)
 }
 
-// What a location and one more or less are.
+// What a location and one more or less are, and how it stands to another.
 fn location_sum<F: Family>(
     alloc: Global,
     location: Location<F>,
-    words: &[&str],
+    name: &str,
+    other: u64,
 ) -> Result<String, Unanswered> {
-    match words {
-        ["checked-add", more] => or_none(alloc, location.checked_add(more.parse()?)),
-        ["checked-sub", less] => or_none(alloc, location.checked_sub(less.parse()?)),
-        ["saturating-add", more] => Ok(location.saturating_add(more.parse()?).to_string(alloc)?),
-        ["saturating-sub", less] => Ok(location.saturating_sub(less.parse()?).to_string(alloc)?),
-        ["less", other] => truth(alloc, location < Location::new(other.parse()?)),
-        ["same", other] => truth(alloc, location == Location::new(other.parse()?)),
+    match name {
+        "checked-add" => or_none(alloc, location.checked_add(other)),
+        "checked-sub" => or_none(alloc, location.checked_sub(other)),
+        "saturating-add" => shown(alloc, location.saturating_add(other)),
+        "saturating-sub" => shown(alloc, location.saturating_sub(other)),
+        "less" => truth(alloc, location < Location::new(other)),
+        "same" => truth(alloc, location == Location::new(other)),
         _ => Err(Unanswered::BadLine),
     }
 }
 
-// What a position and one more or less are.
+// What a position and one more or less are, and how it stands to another.
 fn position_sum<F: Family>(
     alloc: Global,
     position: Position<F>,
-    words: &[&str],
+    name: &str,
+    other: u64,
 ) -> Result<String, Unanswered> {
-    match words {
-        ["checked-add", more] => or_none(alloc, position.checked_add(more.parse()?)),
-        ["checked-sub", less] => or_none(alloc, position.checked_sub(less.parse()?)),
-        ["saturating-add", more] => Ok(position.saturating_add(more.parse()?).to_string(alloc)?),
-        ["saturating-sub", less] => Ok(position.saturating_sub(less.parse()?).to_string(alloc)?),
-        ["less", other] => truth(alloc, position < Position::new(other.parse()?)),
-        ["same", other] => truth(alloc, position == Position::new(other.parse()?)),
+    match name {
+        "checked-add" => or_none(alloc, position.checked_add(other)),
+        "checked-sub" => or_none(alloc, position.checked_sub(other)),
+        "saturating-add" => shown(alloc, position.saturating_add(other)),
+        "saturating-sub" => shown(alloc, position.saturating_sub(other)),
+        "less" => truth(alloc, position < Position::new(other)),
+        "same" => truth(alloc, position == Position::new(other)),
         _ => Err(Unanswered::BadLine),
     }
 }
@@ -119,74 +132,183 @@ fn range<F: Family>(alloc: Global, start: u64, end: u64) -> Result<String, Unans
     Ok(format!(in alloc; "{} {}", range.start, range.end)?)
 }
 
-/// The answer to a question about a location.
-pub fn location_answer<F: Family>(
-    alloc: Global,
-    number: &str,
-    words: &[&str],
-) -> Result<String, Unanswered> {
-    let location: Location<F> = Location::new(number.parse()?);
-    match words {
-        ["valid"] => truth(alloc, location.is_valid()),
-        ["valid-index"] => truth(alloc, location.is_valid_index()),
-        ["encode"] => digits(alloc, &location.encode(alloc)?),
-        ["size"] => size(alloc, &location),
-        ["show"] => Ok(format!(in alloc; "{location} {location:?}")?),
-        ["from-usize"] => Ok(Location::<F>::from(number.parse::<usize>()?).to_string(alloc)?),
-        ["default"] => Ok(Location::<F>::default().to_string(alloc)?),
-        ["to-position"] => match Position::try_from(location) {
-            Ok(position) => Ok(position.to_string(alloc)?),
-            Err(error) => refused(alloc, error),
-        },
-        ["sums", other] => location_sums::<F>(alloc, location.as_u64(), other.parse()?),
-        ["differences", other] => {
-            location_differences::<F>(alloc, location.as_u64(), other.parse()?)
-        }
-        ["to", end] => range::<F>(alloc, location.as_u64(), end.parse()?),
-        words => location_sum(alloc, location, words),
+// A location as the other kind of number, or why it is none.
+fn position_of<F: Family>(alloc: Global, location: Location<F>) -> Result<String, Unanswered> {
+    match Position::try_from(location) {
+        Ok(position) => shown(alloc, position),
+        Err(error) => refused(alloc, error),
     }
 }
 
-/// The answer to a question about a position.
-pub fn position_answer<F: Family>(
+// The answer about a location and another number.
+fn location_and<F: Family>(
     alloc: Global,
-    number: &str,
+    location: Location<F>,
+    name: &str,
+    other: u64,
+) -> Result<String, Unanswered> {
+    match name {
+        "sums" => location_sums::<F>(alloc, location.as_u64(), other),
+        "differences" => location_differences::<F>(alloc, location.as_u64(), other),
+        "to" => range::<F>(alloc, location.as_u64(), other),
+        name => location_sum(alloc, location, name, other),
+    }
+}
+
+// The answer about how a location is written.
+fn location_written<F: Family>(
+    alloc: Global,
+    location: Location<F>,
+    name: &str,
+) -> Result<String, Unanswered> {
+    match name {
+        "encode" => encoded(alloc, &location),
+        "size" => size(alloc, &location),
+        "show" => shown_twice(alloc, location),
+        "from-usize" => shown(alloc, Location::<F>::from(location.as_u64() as usize)),
+        "default" => shown(alloc, Location::<F>::default()),
+        _ => Err(Unanswered::BadLine),
+    }
+}
+
+// The answer about a location alone.
+fn location_told<F: Family>(
+    alloc: Global,
+    location: Location<F>,
+    name: &str,
+) -> Result<String, Unanswered> {
+    match name {
+        "valid" => truth(alloc, location.is_valid()),
+        "valid-index" => truth(alloc, location.is_valid_index()),
+        "to-position" => position_of(alloc, location),
+        name => location_written(alloc, location, name),
+    }
+}
+
+// The answer to a question about a location: the question's name, and another number perhaps.
+fn of_location<F: Family>(
+    alloc: Global,
+    location: Location<F>,
     words: &[&str],
 ) -> Result<String, Unanswered> {
-    let position: Position<F> = Position::new(number.parse()?);
     match words {
-        ["valid"] => truth(alloc, position.is_valid()),
-        ["valid-index"] => truth(alloc, position.is_valid_index()),
-        ["valid-size"] => truth(alloc, position.is_valid_size()),
-        ["encode"] => digits(alloc, &position.encode(alloc)?),
-        ["size"] => size(alloc, &position),
-        ["show"] => Ok(format!(in alloc; "{position} {position:?}")?),
-        ["from-usize"] => Ok(Position::<F>::from(number.parse::<usize>()?).to_string(alloc)?),
-        ["default"] => Ok(Position::<F>::default().to_string(alloc)?),
-        ["to-location"] => match Location::try_from(position) {
-            Ok(location) => Ok(location.to_string(alloc)?),
-            Err(error) => refused(alloc, error),
-        },
-        ["sums", other] => position_sums::<F>(alloc, position.as_u64(), other.parse()?),
-        ["differences", other] => {
-            position_differences::<F>(alloc, position.as_u64(), other.parse()?)
-        }
-        words => position_sum(alloc, position, words),
+        [name] => location_told(alloc, location, name),
+        [name, other] => location_and(alloc, location, name, other.parse()?),
+        _ => Err(Unanswered::BadLine),
+    }
+}
+
+/// The answer to a question about a location: its number, the question's name, and another number perhaps.
+pub fn location_answer<F: Family>(alloc: Global, words: &[&str]) -> Result<String, Unanswered> {
+    match words {
+        [number, words @ ..] => of_location::<F>(alloc, Location::new(number.parse()?), words),
+        [] => Err(Unanswered::BadLine),
+    }
+}
+
+// A position as the other kind of number, or why it is none.
+fn location_of<F: Family>(alloc: Global, position: Position<F>) -> Result<String, Unanswered> {
+    match Location::try_from(position) {
+        Ok(location) => shown(alloc, location),
+        Err(error) => refused(alloc, error),
+    }
+}
+
+// The answer about a position and another number.
+fn position_and<F: Family>(
+    alloc: Global,
+    position: Position<F>,
+    name: &str,
+    other: u64,
+) -> Result<String, Unanswered> {
+    match name {
+        "sums" => position_sums::<F>(alloc, position.as_u64(), other),
+        "differences" => position_differences::<F>(alloc, position.as_u64(), other),
+        name => position_sum(alloc, position, name, other),
+    }
+}
+
+// The answer about how a position is written.
+fn position_written<F: Family>(
+    alloc: Global,
+    position: Position<F>,
+    name: &str,
+) -> Result<String, Unanswered> {
+    match name {
+        "encode" => encoded(alloc, &position),
+        "size" => size(alloc, &position),
+        "show" => shown_twice(alloc, position),
+        "from-usize" => shown(alloc, Position::<F>::from(position.as_u64() as usize)),
+        "default" => shown(alloc, Position::<F>::default()),
+        _ => Err(Unanswered::BadLine),
+    }
+}
+
+// The answer about a position alone.
+fn position_told<F: Family>(
+    alloc: Global,
+    position: Position<F>,
+    name: &str,
+) -> Result<String, Unanswered> {
+    match name {
+        "valid" => truth(alloc, position.is_valid()),
+        "valid-index" => truth(alloc, position.is_valid_index()),
+        "valid-size" => truth(alloc, position.is_valid_size()),
+        "to-location" => location_of(alloc, position),
+        name => position_written(alloc, position, name),
+    }
+}
+
+// The answer to a question about a position: the question's name, and another number perhaps.
+fn of_position<F: Family>(
+    alloc: Global,
+    position: Position<F>,
+    words: &[&str],
+) -> Result<String, Unanswered> {
+    match words {
+        [name] => position_told(alloc, position, name),
+        [name, other] => position_and(alloc, position, name, other.parse()?),
+        _ => Err(Unanswered::BadLine),
+    }
+}
+
+/// The answer to a question about a position: its number, the question's name, and another number perhaps.
+pub fn position_answer<F: Family>(alloc: Global, words: &[&str]) -> Result<String, Unanswered> {
+    match words {
+        [number, words @ ..] => of_position::<F>(alloc, Position::new(number.parse()?), words),
+        [] => Err(Unanswered::BadLine),
+    }
+}
+
+// A location that is read.
+fn decoded_location<F: Family>(alloc: Global, text: &[u8]) -> Result<String, Unanswered> {
+    match Location::<F>::decode_cfg(alloc, text, &()) {
+        Ok(location) => shown(alloc, location),
+        Err(error) => fault(alloc, error),
+    }
+}
+
+// A position that is read.
+fn decoded_position<F: Family>(alloc: Global, text: &[u8]) -> Result<String, Unanswered> {
+    match Position::<F>::decode_cfg(alloc, text, &()) {
+        Ok(position) => shown(alloc, position),
+        Err(error) => fault(alloc, error),
+    }
+}
+
+// A number of this kind that is read.
+fn decoded_kind<F: Family>(alloc: Global, kind: &str, text: &[u8]) -> Result<String, Unanswered> {
+    match kind {
+        "location" => decoded_location::<F>(alloc, text),
+        "position" => decoded_position::<F>(alloc, text),
+        _ => Err(Unanswered::BadLine),
     }
 }
 
 /// A location or a position that is read.
-pub fn decoded<F: Family>(alloc: Global, kind: &str, text: &str) -> Result<String, Unanswered> {
-    let text = bytes(alloc, text)?;
-    match kind {
-        "location" => match Location::<F>::decode_cfg(alloc, &text, &()) {
-            Ok(location) => Ok(location.to_string(alloc)?),
-            Err(error) => fault(alloc, error),
-        },
-        "position" => match Position::<F>::decode_cfg(alloc, &text, &()) {
-            Ok(position) => Ok(position.to_string(alloc)?),
-            Err(error) => fault(alloc, error),
-        },
+pub fn decoded<F: Family>(alloc: Global, words: &[&str]) -> Result<String, Unanswered> {
+    match words {
+        [kind, text] => decoded_kind::<F>(alloc, kind, &bytes(alloc, text)?),
         _ => Err(Unanswered::BadLine),
     }
 }

@@ -6,6 +6,11 @@ use merkle_forest::{Error, Family};
 use std::alloc::Global;
 use std::fmt::Display;
 
+// A refusal's number and what it carries.
+fn numbered(alloc: Global, number: &str, carried: u64) -> Result<String, Unanswered> {
+    Ok(format!(in alloc; "{number} {carried}")?)
+}
+
 /// A refusal to read, by its number and what it carries.
 pub fn fault(alloc: Global, error: CodecError) -> Result<String, Unanswered> {
     let number = match error {
@@ -13,35 +18,50 @@ pub fn fault(alloc: Global, error: CodecError) -> Result<String, Unanswered> {
         CodecError::ExtraData => "C2",
         CodecError::InvalidVarint => "C3",
         CodecError::InvalidBool => "C4",
-        CodecError::InvalidEnum(tag) => return Ok(format!(in alloc; "C5 {tag}")?),
+        CodecError::InvalidEnum(tag) => return numbered(alloc, "C5", u64::from(tag)),
         CodecError::InvalidLength => "C6",
         CodecError::Invalid => "C7",
         CodecError::Memory => "C8",
     };
-    Ok(number.to_string(alloc)?)
+    shown(alloc, number)
 }
 
 /// A refusal of a location, a position or a root, by its number and what it carries.
 pub fn refused<F: Family>(alloc: Global, error: Error<F>) -> Result<String, Unanswered> {
-    match error {
-        Error::NonLeaf(position) => Ok(format!(in alloc; "M1 {position}")?),
-        Error::PositionOverflow(position) => Ok(format!(in alloc; "M2 {position}")?),
-        Error::LocationOverflow(location) => Ok(format!(in alloc; "M3 {location}")?),
-        Error::InvalidInactivePeaks => Ok("M16".to_string(alloc)?),
+    let (number, carried) = match error {
+        Error::NonLeaf(position) => ("M1", position.as_u64()),
+        Error::PositionOverflow(position) => ("M2", position.as_u64()),
+        Error::LocationOverflow(location) => ("M3", location.as_u64()),
+        Error::InvalidInactivePeaks => return shown(alloc, "M16"),
+    };
+    numbered(alloc, number, carried)
+}
+
+/// The value in words.
+pub fn shown<T: Display + Drop>(alloc: Global, value: T) -> Result<String, Unanswered> {
+    Ok(value.to_string(alloc)?)
+}
+
+/// The numbers of these words.
+pub fn numbers(alloc: Global, words: &[&str]) -> Result<Vec<u64>, Unanswered> {
+    let mut numbers = Vec::new(alloc);
+    for word in words {
+        numbers.push(word.parse()?)?;
     }
+    Ok(numbers)
 }
 
 /// The value, or `none`.
 pub fn or_none<T: Display + Drop>(alloc: Global, value: Option<T>) -> Result<String, Unanswered> {
     match value {
-        Some(value) => Ok(format!(in alloc; "{value}")?),
-        None => Ok("none".to_string(alloc)?),
+        Some(value) => shown(alloc, value),
+        None => shown(alloc, "none"),
     }
 }
 
 /// The word of a truth value.
 pub fn truth(alloc: Global, holds: bool) -> Result<String, Unanswered> {
-    Ok(if holds { "true" } else { "false" }.to_string(alloc)?)
+    shown(alloc, holds)
 }
 
 /// Words with a space between two of them, and `none` where there is none.

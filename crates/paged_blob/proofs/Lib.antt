@@ -26,4 +26,5 @@ pub mod CutWithin
 pub mod Taken
 pub mod WriterReads
 pub mod WriterViews
+pub mod Syncing
 pub mod Recovered

@@ -384,6 +384,13 @@ module _ (sum : List ℕ → ℕ) (size : ℕ) (some_room : 12 < size) (calls : 
       (file_keeps sum size room (synced (content calls) true ∷ calls) bytes (length bytes) settled_kept)))
       (file_keeps sum size room (synced [] false ∷ calls) bytes durable f.kept)
 
+  -- and what is recovered of it begins with all of the content
+  pub flushed_recovered : take (length bytes) (recovered sum size (content calls)) ≡ bytes
+  flushed_recovered =
+      let room : 12 ≤ size = omega (arith, some_room) in
+      recovered_keeps sum size room bytes (length bytes) settled (content calls) (kept_withstands sum size room bytes (length bytes) settled settled_kept)
+      (record { no_shorter = omega arith; no_longer = omega arith; each = λ i below. eq-eqb _ _ refl }) ∙ take_all (length bytes) bytes (omega arith)
+
 -- what a writer has written is its content
 module _ (sum : List ℕ → ℕ) (calls : List Call) (w : WriterState) (some_room : 12 < w.page_size) (bytes : List ℕ)
     (is : IsWriterOf sum w.page_size calls bytes w.synced w.tip w.slot) where
@@ -520,7 +527,7 @@ module _ (sum : List ℕ → ℕ) (calls : List Call) (w : WriterState) (some_ro
       (subst (λ c. IsWriterOf sum size c bytes w.synced next None) (sym calls_are) after)
 
 -- more content to come, at each moment
-keeps_more : (sum : List ℕ → ℕ) (size : ℕ) (bytes more : List ℕ) (durable : ℕ) → durable ≤ length bytes → (calls : List Call)
+pub keeps_more : (sum : List ℕ → ℕ) (size : ℕ) (bytes more : List ℕ) (durable : ℕ) → durable ≤ length bytes → (calls : List Call)
     → Keeps sum size bytes durable calls
     → Keeps sum size (bytes ++ more) durable calls
 keeps_more sum size bytes more durable within calls keeps = λ image is.

@@ -12,6 +12,7 @@ pub mod Shrinks
 pub mod Reads
 pub mod Stands
 pub mod Served
+pub mod Syncs
 pub mod Replays
 pub mod CachesCode
 pub mod ShrinksCode

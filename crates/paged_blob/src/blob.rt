@@ -8,6 +8,7 @@ ghost use Rattle.paged_blob.specs.WriteModes.{is_sync, place_of};
 ghost use Rattle.paged_blob.specs.declared.error.CallKind.TheVariants.{Write, Resize, Sync};
 
 use crate::error::Error;
+use crate::started::{StartedReads, StartedSync};
 use std::alloc::Global;
 
 /// Whether a write is durable at once. In the Rust: `commonware_runtime::WriteMode`.
@@ -102,5 +103,33 @@ pub trait Blob {
             all.push(bytes)?;
         }
         Ok(all)
+    }
+
+    /// Starts the reads of `read_many`, and gives their answer as a value to be finished: a refusal is told of then.
+    /// They are of what is there now, whatever is called before they are finished.
+    /// In the Rust: `commonware_runtime::Blob::start_read_many`.
+    fn start_read_many(&mut self, alloc: Global, ranges: &[(u64, usize)]) -> StartedReads
+        ensures slices { IfOk result.answer (λ all. AreSlices (file_of (calls self.old)) ranges.now
+            (map (λ bytes. bytes.items) all.items)) }
+        ensures cause { IfErr result.answer (IsManyCause (failures self.old) (file_of (calls self.old)) ranges.now) }
+        ensures calls { calls self.new ≡ calls self.old }
+        ensures failures { failures self.new ≡ failures_after result.answer (failures self.old) }
+        ensures left { left self.new ≤ left self.old }
+    {
+        StartedReads::new(self.read_many(alloc, ranges))
+    }
+
+    /// Starts a sync of the calls so far, and gives its answer as a value to be finished: a refusal is told of then. It
+    /// is made at once, so that what a crash leaves from now on is what one leaves after it, which one might have left
+    /// before it too. What is written from now on is not made durable by it.
+    /// In the Rust: `commonware_runtime::Blob::start_sync`.
+    fn start_sync(&mut self) -> StartedSync
+        ensures calls { RecordsSync result.answer (calls self.old) (calls self.new) }
+        ensures cause { IfErr result.answer (IsCause (failures self.old) Sync 0) }
+        ensures failures { failures self.new ≡ failures_after result.answer (failures self.old) }
+        ensures left { left self.new ≡ left self.old - used_up result.answer }
+        ensures cut { MeetsCut result.answer (failures self.old) (left self.old) }
+    {
+        StartedSync::new(self.sync())
     }
 }

@@ -1,13 +1,16 @@
 //! What holds of all blobs, and of all writers over them.
 
-ghost use Rattle.std.specs.Prelude.{◌≡◌, ◌<◌, ◌≤◌, ◌+◌, ◌^◌, ℕ, List, Option, [], length};
+ghost use Rattle.std.specs.Prelude.{◌≡◌, ◌<◌, ◌≤◌, ◌+◌, ◌^◌, ℕ, List, Option, Result, [], length};
 ghost use Rattle.std.specs.Bool.{Decides};
 ghost use Rattle.paged_format.specs.Pages.{recovered};
 ghost use Rattle.paged_format.specs.Tips.{Tip};
 ghost use Rattle.paged_blob.specs.Calls.{Call, File, content, file_of};
+ghost use Rattle.paged_blob.specs.Answers.{RecordsSync};
+ghost use Rattle.paged_blob.specs.Images.{IsImage};
 ghost use Rattle.paged_blob.specs.Chance.{is_by_chance};
 ghost use Rattle.paged_blob.specs.Laws.Chance.{IsByChance};
 ghost use Rattle.paged_blob.specs.Writers.{IsWriterOf, WriterState, written, Keeps};
+ghost use Rattle.paged_blob.specs.declared.error.Error.{Error};
 ghost use Rattle.paged_blob.specs.declared.flush.DurableSlot.{DurableSlot};
 ghost use Rattle.paged_blob.specs.Flushes.{physical_size};
 ghost use Rattle.paged_blob.specs.Shrinks.{Withstands, IsCut};
@@ -41,6 +44,13 @@ pub fn a_writer_stands_on_a_cut_blob()
         → IsCut sum size content calls → (capacity : ℕ) (last : Option LastPage)
         → EndsWith size content (file_of calls).base last → physical_size size (length content) + 4096 < 2 ^ 64
         → IsWriterOf sum size calls content (length content) (tip_of size content capacity) (slot_of last) }
+{}
+
+/// What a crash may leave after a sync, whatever that answered, one might have left before it too. So what it may leave
+/// between the start of a sync and its end is an image of the calls before and of those after.
+pub fn a_sync_leaves_what_stood_before_it()
+    ensures { (answer : Result Unit Error) (old new : List Call) → RecordsSync answer old new
+        → (image : List ℕ) → IsImage (file_of new) image → IsImage (file_of old) image }
 {}
 
 /// An opening is found to be by chance exactly where a slot of it verifies that the base and no beginning of the

@@ -15,6 +15,7 @@ pub mod replay;
 pub mod scan;
 pub mod sealed;
 pub mod shrink;
+pub mod started;
 pub mod view;
 pub mod writer;
 
@@ -27,6 +28,8 @@ pub use replay::Replay;
 pub use scan::{prefix_of_blob, prefix_of_blob_at_most};
 pub use sealed::Sealed;
 pub use shrink::{LastPage, cut_blob};
+pub use started::{StartedReads, StartedSync};
 pub use view::View;
 pub use writer::recovery::{Recovering, Recovery};
+pub use writer::syncing::WriterSync;
 pub use writer::{Append, Writer};

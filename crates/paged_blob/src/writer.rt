@@ -13,11 +13,14 @@ ghost use Rattle.paged_blob.specs.WritersCode.{IsTakingCause};
 ghost use Rattle.paged_blob.specs.Reads.{IsReadingCause};
 ghost use Rattle.paged_blob.specs.Caches.{AreGiven, Cache};
 ghost use Rattle.paged_blob.specs.CachedContent.{HoldsPagesOf, KeepsOthers};
+ghost use Rattle.paged_blob.specs.Syncs.{IsUnderWay};
+ghost use Rattle.paged_blob.specs.declared.writer.syncing.WriterSync.{WriterSync};
 ghost use Rattle.paged_blob.specs.declared.error.CallKind.{CallKind};
 
 pub mod reading;
 pub mod recovery;
 pub mod sealing;
+pub mod syncing;
 
 use crate::blob::Blob;
 use crate::cache::CacheRef;
@@ -313,6 +316,15 @@ impl<C: Checksum, Phase> Writer<C, Phase> {
         ensures cached { (calls : List Call) (cache : Cache) → IsWriter C.checksum_of calls self.old
             → HoldsPagesOf (written C.checksum_of calls self.old) cache self.old.blob_id
             → HoldsPagesOf (written C.checksum_of calls self.new) cache self.new.blob_id }
+        // So it takes bytes while a sync is under way, which does not cover them.
+        ensures under_way { (calls : List Call) (started : WriterSync) → IsUnderWay C.checksum_of calls self.old started
+            → IsUnderWay C.checksum_of calls self.new started }
+        // Over whatever calls the list is longer by them, and the pages of it that are kept stay so.
+        ensures list { (calls : List Call) → IfOk result (λ o. OnSome o (written C.checksum_of calls self.new
+            ≡ written C.checksum_of calls self.old ++ bytes.now)) }
+        ensures pages { (calls : List Call) (cache : Cache)
+            → HoldsPagesOf (written C.checksum_of calls self.old) cache self.old.blob_id
+            → HoldsPagesOf (written C.checksum_of calls self.new) cache self.new.blob_id }
     {
         let size = self.size();
         if !is_within_numbers(self.page_size, size, bytes.len()) {
@@ -340,6 +352,15 @@ impl<C: Checksum, Phase> Writer<C, Phase> {
             (written C.checksum_of calls self.new ≡ written C.checksum_of calls self.old ++ T.encoding value.now)) }
         // The pages that are kept under the writer's name stay those of its content.
         ensures cached { (calls : List Call) (cache : Cache) → IsWriter C.checksum_of calls self.old
+            → HoldsPagesOf (written C.checksum_of calls self.old) cache self.old.blob_id
+            → HoldsPagesOf (written C.checksum_of calls self.new) cache self.new.blob_id }
+        // So it takes bytes while a sync is under way, which does not cover them.
+        ensures under_way { (calls : List Call) (started : WriterSync) → IsUnderWay C.checksum_of calls self.old started
+            → IsUnderWay C.checksum_of calls self.new started }
+        // Over whatever calls the list is longer by them, and the pages of it that are kept stay so.
+        ensures list { (calls : List Call) → IfOk result (λ o. OnSome o (written C.checksum_of calls self.new
+            ≡ written C.checksum_of calls self.old ++ T.encoding value.now)) }
+        ensures pages { (calls : List Call) (cache : Cache)
             → HoldsPagesOf (written C.checksum_of calls self.old) cache self.old.blob_id
             → HoldsPagesOf (written C.checksum_of calls self.new) cache self.new.blob_id }
     {
@@ -393,11 +414,8 @@ impl<C: Checksum, Phase> Writer<C, Phase> {
             (self.old.tip.offset / cache.old.page_size) cache.old.page_size self.old.tip.bytes
             (length self.old.tip.bytes / cache.old.page_size) }
     {
-        let room = self.page_size - 12;
-        self.synced = self.tip.end();
-        self.slot = last_slot::<C>(self.page_size, self.slot, self.tip.as_bytes());
-        let _ = cache.cache(self.blob_id, self.tip.as_bytes(), self.tip.offset());
-        self.tip.drain(self.tip.as_bytes().len() / room * room);
+        let end = self.tip.end();
+        self.settle_first(cache, end);
     }
 
     /// Makes durable what was appended. Where all is, no call of the blob is made. Refused, the writer is given up.

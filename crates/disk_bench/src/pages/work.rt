@@ -38,8 +38,8 @@ fn append_one<B: Blob, C: Checksum>(
     writer.sync(disk, cache)
 }
 
-// Appends so many pieces, with a sync after each MiB.
-fn append_pieces<B: Blob, C: Checksum>(
+/// Appends so many pieces, with a sync after each MiB.
+pub fn append_pieces<B: Blob, C: Checksum>(
     writer: Writer<C>,
     disk: &mut B,
     cache: &mut CacheRef,
@@ -90,8 +90,8 @@ pub fn summed_and_copied(alloc: Global, size: usize, round: u64) -> u64 {
     sum ^ copied.len() as u64
 }
 
-// Reads so many times 25 bytes of the last page but one.
-fn read_often<B: Blob, C: Checksum>(
+/// Reads so many times 25 bytes of the last page but one.
+pub fn read_often<B: Blob, C: Checksum>(
     writer: &Writer<C>,
     disk: &mut B,
     cache: &mut CacheRef,

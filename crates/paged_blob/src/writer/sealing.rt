@@ -23,8 +23,8 @@ use std::alloc::AllocError;
 use std::marker::PhantomData;
 
 impl<C: Checksum, Phase> Writer<C, Phase> {
-    // Its list, lent to be read.
-    pub(crate) fn view(&self) -> View<'_, C>
+    /// Its list as it stands, lent to be read, also while a sync of it is under way (own).
+    pub fn view(&self) -> View<'_, C>
         ensures pages { result.pages ≡ pages_of self.now }
         ensures tail { result.tail.now ≡ self.now.tip.bytes }
     {
