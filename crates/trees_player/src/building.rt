@@ -1,8 +1,8 @@
 //! Proofs that are built out of the nodes of a tree, or of those that batches make.
 
-use crate::shelves::{Shelves, named};
-use crate::stop::{Stop, bad_line};
-use crate::told::{self, Line};
+use crate::shelves::{Shelves, named, put_proof};
+use crate::stop::{Answer, Stop, bad_line, or_stop};
+use crate::told;
 use crate::words::{self, Hash};
 use merkle_core::building::{element_proof, historical_range_proof, multi_proof, range_proof};
 use merkle_core::multi::multi_proof_positions;
@@ -12,130 +12,240 @@ use merkle_forest::{ByteHash, Family, Location};
 use std::alloc::Global;
 use std::ops::Range;
 
+/// A proof, or the stop of the call that was to build it.
+type Built<F> = Result<Proof<F, Hash>, Stop>;
+
 impl<F: Family> Shelves<F> {
     /// Builds a proof out of a tree, or of the nodes that a batch and those below it make, and gives it a name.
-    pub fn prove(&mut self, alloc: Global, name: &str, call: &[&str]) -> Result<String, Stop> {
-        let proof = match call {
-            ["tree", tree, call @ ..] => {
-                proved(alloc, &self.hasher, named(&self.trees, tree)?, call)?
+    pub fn prove(&mut self, alloc: Global, name: &str, call: &[&str]) -> Answer {
+        match call {
+            [kind, nodes, what, words @ ..] => {
+                let proof = self.proved(alloc, kind, nodes, what, words);
+                put_proof(alloc, &mut self.proofs, name, proof)
             }
-            ["made", made, call @ ..] => {
-                proved(alloc, &self.hasher, named(&self.made, made)?, call)?
-            }
-            _ => return bad_line(),
-        };
-        self.keep_proof(alloc, name, proof)
+            _ => bad_line(),
+        }
+    }
+
+    // The proof that a call asks for, out of the nodes that have this name.
+    fn proved(
+        &self,
+        alloc: Global,
+        kind: &str,
+        name: &str,
+        what: &str,
+        words: &[&str],
+    ) -> Built<F> {
+        match kind {
+            "tree" => proved(alloc, &self.hasher, named(&self.trees, name), what, words),
+            "made" => proved(alloc, &self.hasher, named(&self.made, name), what, words),
+            _ => bad_line(),
+        }
     }
 }
 
-/// Plans a proof, before digests are looked up.
-pub fn call_plan<F: Family>(alloc: Global, kind: &str, call: &[&str]) -> Result<String, Stop> {
-    match (kind, call) {
-        ("range", [leaves, start, stop]) => {
-            told_plan(alloc, &range_plan::<F>(alloc, leaves, start, stop)?)
-        }
-        ("element", [leaves, location]) => {
-            told_element(alloc, &element_plan::<F>(alloc, leaves, location)?)
-        }
-        ("element-as-range", [leaves, location]) => {
-            let plan = element_plan::<F>(alloc, leaves, location)?;
-            told_plan(alloc, &RangePlan::from(plan))
-        }
-        ("many", [leaves, locations @ ..]) => planned_many::<F>(alloc, leaves, locations),
-        _ => bad_line(),
-    }
-}
-
-// The plan of the proof of a range.
-fn range_plan<F: Family>(
-    alloc: Global,
-    leaves: &str,
-    start: &str,
-    stop: &str,
-) -> Result<RangePlan<F>, Stop> {
-    Ok(RangePlan::new(alloc, words::location(leaves)?, range(start, stop)?)?)
-}
-
-/// The locations from one up to another.
-pub fn range<F: Family>(start: &str, stop: &str) -> Result<Range<Location<F>>, Stop> {
-    Ok(words::location(start)?..words::location(stop)?)
-}
-
-// The plan of the proof of an element.
-fn element_plan<F: Family>(
-    alloc: Global,
-    leaves: &str,
-    location: &str,
-) -> Result<ElementPlan<F>, Stop> {
-    Ok(ElementPlan::new(alloc, words::location(leaves)?, words::location(location)?)?)
-}
-
-// The positions of the nodes of a proof of some elements.
-fn planned_many<F: Family>(
-    alloc: Global,
-    leaves: &str,
-    locations: &[&str],
-) -> Result<String, Stop> {
-    let leaves = words::location::<F>(leaves)?;
-    let locations = words::locations(alloc, locations)?;
-    let positions = multi_proof_positions(alloc, leaves, &locations)?;
-    told::positions(alloc, &positions)
-}
-
-// The leaves of a plan, and then its positions.
-fn told_plan<F: Family>(alloc: Global, plan: &RangePlan<F>) -> Result<String, Stop> {
-    let mut line = Line::new(alloc);
-    line.number(plan.leaves().as_u64())?;
-    line.positions(plan.positions())?;
-    line.text()
-}
-
-// The location of the plan of an element, and then its positions.
-fn told_element<F: Family>(alloc: Global, plan: &ElementPlan<F>) -> Result<String, Stop> {
-    let mut line = Line::new(alloc);
-    line.number(plan.location().as_u64())?;
-    line.positions(plan.positions())?;
-    line.text()
-}
-
-// The proof that a call asks for.
+// The proof that a call asks for, out of these nodes if they are there.
 fn proved<F: Family, R: Provable<F> + Readable<F, Digest = Hash>>(
     alloc: Global,
     hasher: &Standard<ByteHash>,
+    nodes: Result<&R, Stop>,
+    what: &str,
+    words: &[&str],
+) -> Built<F> {
+    let nodes = nodes?;
+    let numbers = words::numbers(alloc, words)?;
+    match what {
+        "many" => of_many(alloc, nodes, &numbers),
+        what => of_few(alloc, hasher, nodes, what, &numbers),
+    }
+}
+
+// The proof of several elements.
+fn of_many<F: Family, R: Readable<F, Digest = Hash>>(
+    alloc: Global,
     nodes: &R,
-    call: &[&str],
-) -> Result<Proof<F, Hash>, Stop> {
-    match call {
-        ["range", start, stop, inactive] => {
-            let range = range(start, stop)?;
-            Ok(range_proof(alloc, hasher, nodes, range, inactive.parse()?)?)
-        }
-        ["element", location, inactive] => {
-            let location = words::location(location)?;
-            Ok(element_proof(alloc, hasher, nodes, location, inactive.parse()?)?)
-        }
-        ["earlier", leaves, start, stop, inactive] => {
-            let leaves = words::location(leaves)?;
-            let range = range(start, stop)?;
-            Ok(historical_range_proof(alloc, hasher, nodes, leaves, range, inactive.parse()?)?)
-        }
-        ["many", inactive, locations @ ..] => {
+    numbers: &[u64],
+) -> Built<F> {
+    match numbers {
+        [inactive, locations @ ..] => {
             let locations = words::locations(alloc, locations)?;
-            Ok(multi_proof(alloc, nodes, &locations, inactive.parse()?)?)
+            or_stop(multi_proof(alloc, nodes, &locations, *inactive as usize))
         }
-        ["own-range", start, stop, inactive] => {
-            let range = range(start, stop)?;
-            Ok(nodes.range_proof(alloc, hasher, range, inactive.parse()?)?)
+        [] => bad_line(),
+    }
+}
+
+// The proof of an element or a range.
+fn of_few<F: Family, R: Provable<F> + Readable<F, Digest = Hash>>(
+    alloc: Global,
+    hasher: &Standard<ByteHash>,
+    nodes: &R,
+    what: &str,
+    numbers: &[u64],
+) -> Built<F> {
+    match numbers {
+        [location, inactive] => {
+            let location = Location::new(*location);
+            of_element(alloc, hasher, nodes, what, location, *inactive as usize)
         }
-        ["own-element", location, inactive] => {
-            let location = words::location(location)?;
-            Ok(nodes.proof(alloc, hasher, location, inactive.parse()?)?)
+        [start, stop, inactive] => {
+            let range = Location::new(*start)..Location::new(*stop);
+            of_range(alloc, hasher, nodes, what, range, *inactive as usize)
         }
-        ["planned", leaves, start, stop, inactive] => {
-            let plan = range_plan(alloc, leaves, start, stop)?;
-            let get_node = |position| nodes.node_digest(position);
-            Ok(plan.build(hasher, inactive.parse()?, &get_node)?)
+        [leaves, start, stop, inactive] => {
+            let range = Location::new(*start)..Location::new(*stop);
+            let leaves = Location::new(*leaves);
+            of_earlier(
+                alloc,
+                hasher,
+                nodes,
+                what,
+                leaves,
+                range,
+                *inactive as usize,
+            )
         }
         _ => bad_line(),
     }
+}
+
+// The proof of an element.
+fn of_element<F: Family, R: Provable<F> + Readable<F, Digest = Hash>>(
+    alloc: Global,
+    hasher: &Standard<ByteHash>,
+    nodes: &R,
+    what: &str,
+    location: Location<F>,
+    inactive: usize,
+) -> Built<F> {
+    match what {
+        "element" => or_stop(element_proof(alloc, hasher, nodes, location, inactive)),
+        "own-element" => or_stop(nodes.proof(alloc, hasher, location, inactive)),
+        _ => bad_line(),
+    }
+}
+
+// The proof of a range.
+fn of_range<F: Family, R: Provable<F> + Readable<F, Digest = Hash>>(
+    alloc: Global,
+    hasher: &Standard<ByteHash>,
+    nodes: &R,
+    what: &str,
+    range: Range<Location<F>>,
+    inactive: usize,
+) -> Built<F> {
+    match what {
+        "range" => or_stop(range_proof(alloc, hasher, nodes, range, inactive)),
+        "own-range" => or_stop(nodes.range_proof(alloc, hasher, range, inactive)),
+        _ => bad_line(),
+    }
+}
+
+// The proof of a range in the tree of the first leaves, of so many.
+fn of_earlier<F: Family, R: Readable<F, Digest = Hash>>(
+    alloc: Global,
+    hasher: &Standard<ByteHash>,
+    nodes: &R,
+    what: &str,
+    leaves: Location<F>,
+    range: Range<Location<F>>,
+    inactive: usize,
+) -> Built<F> {
+    match what {
+        "earlier" => {
+            or_stop(historical_range_proof(alloc, hasher, nodes, leaves, range, inactive))
+        }
+        "planned" => {
+            let plan = RangePlan::new(alloc, leaves, range)?;
+            by_plan(hasher, nodes, &plan, inactive)
+        }
+        _ => bad_line(),
+    }
+}
+
+// The proof that is built by a plan.
+fn by_plan<F: Family, R: Readable<F, Digest = Hash>>(
+    hasher: &Standard<ByteHash>,
+    nodes: &R,
+    plan: &RangePlan<F>,
+    inactive: usize,
+) -> Built<F> {
+    let get_node = |position| nodes.node_digest(position);
+    or_stop(plan.build(hasher, inactive, &get_node))
+}
+
+/// Plans a proof, before digests are looked up: what is planned, the leaves, and the locations.
+pub fn call_plan<F: Family>(alloc: Global, kind: &str, call: &[&str]) -> Answer {
+    let numbers = words::numbers(alloc, call)?;
+    match kind {
+        "many" => plan_many::<F>(alloc, &numbers),
+        "range" => plan_range::<F>(alloc, &numbers),
+        kind => plan_element::<F>(alloc, kind, &numbers),
+    }
+}
+
+// The positions of the nodes of a proof of some elements.
+fn plan_many<F: Family>(alloc: Global, numbers: &[u64]) -> Answer {
+    match numbers {
+        [leaves, locations @ ..] => {
+            let locations = words::locations(alloc, locations)?;
+            planned_many::<F>(alloc, Location::new(*leaves), &locations)
+        }
+        [] => bad_line(),
+    }
+}
+
+// The positions of the nodes of a proof of the elements at these locations.
+fn planned_many<F: Family>(
+    alloc: Global,
+    leaves: Location<F>,
+    locations: &[Location<F>],
+) -> Answer {
+    let positions = multi_proof_positions(alloc, leaves, locations)?;
+    told::positions(alloc, &positions)
+}
+
+// The plan of an element, or what it is as the plan of a range.
+fn plan_element<F: Family>(alloc: Global, kind: &str, numbers: &[u64]) -> Answer {
+    match numbers {
+        [leaves, location] => {
+            let location = Location::new(*location);
+            planned_element::<F>(
+                alloc,
+                kind,
+                ElementPlan::new(alloc, Location::new(*leaves), location)?,
+            )
+        }
+        _ => bad_line(),
+    }
+}
+
+// The location of the plan of an element, and then its positions; or what it tells as the plan of a range.
+fn planned_element<F: Family>(alloc: Global, kind: &str, plan: ElementPlan<F>) -> Answer {
+    match kind {
+        "element" => {
+            told::number_and_positions(alloc, plan.location().as_u64(), plan.positions())
+        }
+        "element-as-range" => told_plan(alloc, &RangePlan::from(plan)),
+        _ => bad_line(),
+    }
+}
+
+// The plan of a range.
+fn plan_range<F: Family>(alloc: Global, numbers: &[u64]) -> Answer {
+    match numbers {
+        [leaves, start, stop] => {
+            let range = Location::new(*start)..Location::new(*stop);
+            told_plan::<F>(
+                alloc,
+                &RangePlan::new(alloc, Location::new(*leaves), range)?,
+            )
+        }
+        _ => bad_line(),
+    }
+}
+
+// The leaves of a plan, and then its positions.
+fn told_plan<F: Family>(alloc: Global, plan: &RangePlan<F>) -> Answer {
+    told::number_and_positions(alloc, plan.leaves().as_u64(), plan.positions())
 }

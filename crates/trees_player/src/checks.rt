@@ -1,104 +1,91 @@
 //! Checks of proofs against a root, and roots that proofs lead to.
 
+use crate::claims::{Claim, located, pointed};
 use crate::shelves::{Shelves, named};
-use crate::stop::{Stop, bad_line};
-use crate::told::{self, Line};
+use crate::stop::{Answer, Stop, bad_line};
+use crate::told;
 use crate::words::{self, Hash};
-use merkle_core::Proof;
 use merkle_core::multi::root::reconstruct_shown;
 use merkle_core::verifying::reconstruct_range;
+use merkle_core::{ExtractionError, Proof, ReconstructionError};
 use merkle_forest::hasher::Standard;
 use merkle_forest::{ByteHash, Family, Location, Position};
-use std::alloc::{AllocError, Global};
+use std::alloc::Global;
 
 impl<F: Family> Shelves<F> {
     /// Checks the proof of a name against a root, or rebuilds the root that it leads to.
-    pub fn check(&self, alloc: Global, name: &str, call: &[&str]) -> Result<String, Stop> {
-        let proof = named(&self.proofs, name)?;
-        let hasher = &self.hasher;
+    pub fn check(&self, alloc: Global, name: &str, call: &[&str]) -> Answer {
         match call {
-            ["element", root, location, element] => {
-                one(alloc, hasher, proof, root, location, element)
+            [what, words @ ..] => {
+                checked(alloc, &self.hasher, named(&self.proofs, name)?, what, words)
             }
-            ["range", root, start, elements @ ..] => {
-                some(alloc, hasher, proof, root, start, elements)
-            }
-            ["many", root, elements @ ..] => many(alloc, hasher, proof, root, elements),
-            ["pinned", root, start, parts @ ..] => pinned(alloc, hasher, proof, root, start, parts),
-            ["extract", root, start, elements @ ..] => {
-                extracted(alloc, hasher, proof, root, start, elements)
-            }
-            _ => rebuilt(alloc, hasher, proof, call),
+            [] => bad_line(),
         }
     }
 }
 
-// Whether a proof shows an element at a location.
-fn one<F: Family>(
+// What a check of a proof says.
+fn checked<F: Family>(
     alloc: Global,
     hasher: &Standard<ByteHash>,
     proof: &Proof<F, Hash>,
-    root: &str,
-    location: &str,
-    element: &str,
-) -> Result<String, Stop> {
-    let root = words::digest(root)?;
-    let location = words::location(location)?;
-    let element = case_lines::bytes(alloc, element)?;
-    let shown = proof.verify_element_inclusion(hasher, &element, location, &root);
-    told::truth(alloc, shown)
+    what: &str,
+    words: &[&str],
+) -> Answer {
+    match what {
+        "many" => many(alloc, hasher, proof, words),
+        "pinned" => pinned(alloc, hasher, proof, words),
+        "rebuild-many" => rebuilt_many(alloc, hasher, proof, words),
+        "rebuild" | "rebuild-range" => rebuilt(alloc, hasher, proof, what, words),
+        what => claimed(alloc, hasher, proof, what, &Claim::of_words(alloc, words)?),
+    }
+}
+
+// Whether a proof shows what is claimed, or what it tells then.
+fn claimed<F: Family>(
+    alloc: Global,
+    hasher: &Standard<ByteHash>,
+    proof: &Proof<F, Hash>,
+    what: &str,
+    claim: &Claim<F>,
+) -> Answer {
+    match what {
+        "element" => element(alloc, hasher, proof, claim),
+        "range" => range(alloc, hasher, proof, claim),
+        "extract" => extracted(alloc, hasher, proof, claim),
+        _ => bad_line(),
+    }
+}
+
+// Whether a proof shows an element at a location.
+fn element<F: Family>(
+    alloc: Global,
+    hasher: &Standard<ByteHash>,
+    proof: &Proof<F, Hash>,
+    claim: &Claim<F>,
+) -> Answer {
+    match claim.elements.as_slice() {
+        [element] => {
+            told::shown(
+                alloc,
+                proof.verify_element_inclusion(hasher, element, claim.start, &claim.root),
+            )
+        }
+        _ => bad_line(),
+    }
 }
 
 // Whether a proof shows elements from a location on.
-fn some<F: Family>(
+fn range<F: Family>(
     alloc: Global,
     hasher: &Standard<ByteHash>,
     proof: &Proof<F, Hash>,
-    root: &str,
-    start: &str,
-    elements: &[&str],
-) -> Result<String, Stop> {
-    let root = words::digest(root)?;
-    let start = words::location(start)?;
-    let elements = words::elements(alloc, elements)?;
-    let shown = words::slices(alloc, &elements)?;
-    let shown = proof.verify_range_inclusion(hasher, &shown, start, &root);
-    told::truth(alloc, shown)
-}
-
-// Whether a proof shows elements, each at its location.
-fn many<F: Family>(
-    alloc: Global,
-    hasher: &Standard<ByteHash>,
-    proof: &Proof<F, Hash>,
-    root: &str,
-    elements: &[&str],
-) -> Result<String, Stop> {
-    let root = words::digest(root)?;
-    let elements = located(alloc, elements)?;
-    let shown = pointed(alloc, &elements)?;
-    let shown = proof.verify_multi_inclusion(alloc, hasher, &shown, &root)?;
-    told::truth(alloc, shown)
-}
-
-// Whether a proof shows elements, and has been made over these nodes that are pinned before them.
-fn pinned<F: Family>(
-    alloc: Global,
-    hasher: &Standard<ByteHash>,
-    proof: &Proof<F, Hash>,
-    root: &str,
-    start: &str,
-    parts: &[&str],
-) -> Result<String, Stop> {
-    let root = words::digest(root)?;
-    let (elements, pinned) = words::two_lists(parts)?;
-    let elements = words::elements(alloc, elements)?;
-    let shown = words::slices(alloc, &elements)?;
-    let pinned = words::digests(alloc, pinned)?;
-    let start = words::location(start)?;
-    told::truth(
+    claim: &Claim<F>,
+) -> Answer {
+    let elements = words::slices(alloc, &claim.elements)?;
+    told::shown(
         alloc,
-        proof.verify_proof_and_pinned_nodes(alloc, hasher, &shown, start, &pinned, &root)?,
+        proof.verify_range_inclusion(hasher, &elements, claim.start, &claim.root),
     )
 }
 
@@ -107,75 +94,155 @@ fn extracted<F: Family>(
     alloc: Global,
     hasher: &Standard<ByteHash>,
     proof: &Proof<F, Hash>,
-    root: &str,
-    start: &str,
-    elements: &[&str],
-) -> Result<String, Stop> {
-    let root = words::digest(root)?;
-    let elements = words::elements(alloc, elements)?;
-    let shown = words::slices(alloc, &elements)?;
-    let start = words::location(start)?;
-    let told = proof.verify_range_inclusion_and_extract_digests(
-        alloc, hasher, &shown, start, &root,
-    )?;
-    nodes(alloc, &told)
+    claim: &Claim<F>,
+) -> Answer {
+    let elements = words::slices(alloc, &claim.elements)?;
+    nodes(
+        alloc,
+        proof.verify_range_inclusion_and_extract_digests(
+            alloc,
+            hasher,
+            &elements,
+            claim.start,
+            &claim.root,
+        ),
+    )
 }
 
-// Nodes, each as its position and its digest.
-fn nodes<F: Family>(alloc: Global, nodes: &[(Position<F>, Hash)]) -> Result<String, Stop> {
-    let mut line = Line::new(alloc);
-    for (position, digest) in nodes {
-        line.number(position.as_u64())?;
-        line.digest(digest)?;
+// Nodes, or why they are not told.
+fn nodes<F: Family>(
+    alloc: Global,
+    nodes: Result<Vec<(Position<F>, Hash)>, ExtractionError>,
+) -> Answer {
+    match nodes {
+        Ok(nodes) => told::nodes(alloc, &nodes),
+        Err(error) => Err(Stop::from(error)),
     }
-    line.text()
 }
 
-// The root that a proof leads to.
+// Whether a proof shows elements, and has been made over the nodes behind the `/` that are pinned before them.
+fn pinned<F: Family>(
+    alloc: Global,
+    hasher: &Standard<ByteHash>,
+    proof: &Proof<F, Hash>,
+    words: &[&str],
+) -> Answer {
+    let (claim, pinned) = words::two_lists(words)?;
+    let claim = Claim::of_words(alloc, claim)?;
+    with_pinned(
+        alloc,
+        hasher,
+        proof,
+        &claim,
+        &words::digests(alloc, pinned)?,
+    )
+}
+
+// Whether a proof shows what is claimed, and has been made over these pinned nodes.
+fn with_pinned<F: Family>(
+    alloc: Global,
+    hasher: &Standard<ByteHash>,
+    proof: &Proof<F, Hash>,
+    claim: &Claim<F>,
+    pinned: &[Hash],
+) -> Answer {
+    let elements = words::slices(alloc, &claim.elements)?;
+    told::shown(
+        alloc,
+        proof.verify_proof_and_pinned_nodes(
+            alloc,
+            hasher,
+            &elements,
+            claim.start,
+            pinned,
+            &claim.root,
+        )?,
+    )
+}
+
+// Whether a proof shows elements, each at its location.
+fn many<F: Family>(
+    alloc: Global,
+    hasher: &Standard<ByteHash>,
+    proof: &Proof<F, Hash>,
+    words: &[&str],
+) -> Answer {
+    match words {
+        [root, elements @ ..] => {
+            let root = words::digest(root)?;
+            many_under(alloc, hasher, proof, &root, &located(alloc, elements)?)
+        }
+        [] => bad_line(),
+    }
+}
+
+// Whether a proof shows these elements under a root.
+fn many_under<F: Family>(
+    alloc: Global,
+    hasher: &Standard<ByteHash>,
+    proof: &Proof<F, Hash>,
+    root: &Hash,
+    elements: &[(Vec<u8>, Location<F>)],
+) -> Answer {
+    let elements = pointed(alloc, elements)?;
+    told::shown(
+        alloc,
+        proof.verify_multi_inclusion(alloc, hasher, &elements, root)?,
+    )
+}
+
+// The root that the proof of a range leads to, by the method of the proof or by the function below it.
 fn rebuilt<F: Family>(
     alloc: Global,
     hasher: &Standard<ByteHash>,
     proof: &Proof<F, Hash>,
-    call: &[&str],
-) -> Result<String, Stop> {
-    match call {
-        ["rebuild", start, elements @ ..] => rebuilt_own(alloc, hasher, proof, start, elements),
-        ["rebuild-range", start, elements @ ..] => {
-            rebuilt_range(alloc, hasher, proof, start, elements)
+    what: &str,
+    words: &[&str],
+) -> Answer {
+    match words {
+        [start, elements @ ..] => {
+            let start = words::location(start)?;
+            let elements = words::elements(alloc, elements)?;
+            rebuilt_from(alloc, hasher, proof, what, start, &elements)
         }
-        ["rebuild-many", elements @ ..] => rebuilt_many(alloc, hasher, proof, elements),
-        _ => bad_line(),
+        [] => bad_line(),
     }
 }
 
-// The root that the proof of a range leads to, by the method of the proof.
-fn rebuilt_own<F: Family>(
+// The root that the proof of a range of these elements leads to.
+fn rebuilt_from<F: Family>(
     alloc: Global,
     hasher: &Standard<ByteHash>,
     proof: &Proof<F, Hash>,
-    start: &str,
-    elements: &[&str],
-) -> Result<String, Stop> {
-    let start = words::location(start)?;
-    let elements = words::elements(alloc, elements)?;
-    let shown = words::slices(alloc, &elements)?;
-    let root = proof.reconstruct_root(hasher, &shown, start)?;
-    told::digest(alloc, &root)
+    what: &str,
+    start: Location<F>,
+    elements: &[Vec<u8>],
+) -> Answer {
+    let elements = words::slices(alloc, elements)?;
+    rebuilt_of(alloc, hasher, proof, what, start, &elements)
 }
 
-// The same by the function below it.
-fn rebuilt_range<F: Family>(
+// The same of elements that are lent.
+fn rebuilt_of<F: Family>(
     alloc: Global,
     hasher: &Standard<ByteHash>,
     proof: &Proof<F, Hash>,
-    start: &str,
-    elements: &[&str],
-) -> Result<String, Stop> {
-    let start = words::location(start)?;
-    let elements = words::elements(alloc, elements)?;
-    let shown = words::slices(alloc, &elements)?;
-    let root = reconstruct_range(hasher, proof, start, &shown)?;
-    told::digest(alloc, &root)
+    what: &str,
+    start: Location<F>,
+    elements: &[&[u8]],
+) -> Answer {
+    match what {
+        "rebuild" => root(alloc, proof.reconstruct_root(hasher, elements, start)),
+        _ => root(alloc, reconstruct_range(hasher, proof, start, elements)),
+    }
+}
+
+// A root, or why it is not rebuilt.
+fn root(alloc: Global, root: Result<Hash, ReconstructionError>) -> Answer {
+    match root {
+        Ok(root) => told::digest(alloc, &root),
+        Err(error) => Err(Stop::NotRebuilt(error)),
+    }
 }
 
 // The root that the proof of several elements leads to.
@@ -184,32 +251,8 @@ fn rebuilt_many<F: Family>(
     hasher: &Standard<ByteHash>,
     proof: &Proof<F, Hash>,
     elements: &[&str],
-) -> Result<String, Stop> {
+) -> Answer {
     let elements = located(alloc, elements)?;
-    let shown = pointed(alloc, &elements)?;
-    let root = reconstruct_shown(alloc, hasher, proof, &shown)?;
-    told::some_digest(alloc, root)
-}
-
-// Elements, each with its location.
-fn located<F: Family>(alloc: Global, words: &[&str]) -> Result<Vec<(Vec<u8>, Location<F>)>, Stop> {
-    let mut found = Vec::new(alloc);
-    for (location, element) in words::pairs(alloc, words)?.iter() {
-        found.push((
-            case_lines::bytes(alloc, element)?,
-            words::location(location)?,
-        ))?;
-    }
-    Ok(found)
-}
-
-// Their bytes, each with its location.
-fn pointed<'a, F: Family>(
-    alloc: Global,
-    elements: &'a [(Vec<u8>, Location<F>)],
-) -> Result<Vec<(&'a [u8], Location<F>)>, AllocError> {
-    elements
-        .iter()
-        .map(|element| (element.0.as_slice(), element.1))
-        .collect(alloc)
+    let elements = pointed(alloc, &elements)?;
+    told::some_digest(alloc, reconstruct_shown(alloc, hasher, proof, &elements)?)
 }

@@ -4,6 +4,7 @@
 mod batch;
 mod building;
 mod checks;
+mod claims;
 mod definitions;
 mod proofs;
 mod reading;
@@ -16,8 +17,8 @@ mod tree;
 mod widths;
 mod words;
 
-use crate::shelves::{Shelves, bagging};
-use crate::stop::Stop;
+use crate::shelves::{Shelf, Shelves, bagging};
+use crate::stop::Answer;
 use crate::words::Hash;
 use case_lines::{Player, Unanswered};
 use merkle_core::{mmb, mmr};
@@ -35,36 +36,46 @@ enum Trees {
 // The trees of a family, by the names that its module has.
 fn range(alloc: Global, fold: Bagging) -> Trees {
     let hasher: mmr::StandardHasher<ByteHash> = mmr::StandardHasher::new(fold);
-    let trees: BTreeMap<String, mmr::Mmr<Hash>> = BTreeMap::new(alloc);
-    let proofs: BTreeMap<String, mmr::Proof<Hash>> = BTreeMap::new(alloc);
+    let trees: Shelf<mmr::Mmr<Hash>> = BTreeMap::new(alloc);
+    let proofs: Shelf<mmr::Proof<Hash>> = BTreeMap::new(alloc);
     Trees::Range(Shelves::new(alloc, hasher, trees, proofs))
 }
 
 fn belt(alloc: Global, fold: Bagging) -> Trees {
     let hasher: mmb::StandardHasher<ByteHash> = mmb::StandardHasher::new(fold);
-    let trees: BTreeMap<String, mmb::Mmb<Hash>> = BTreeMap::new(alloc);
-    let proofs: BTreeMap<String, mmb::Proof<Hash>> = BTreeMap::new(alloc);
+    let trees: Shelf<mmb::Mmb<Hash>> = BTreeMap::new(alloc);
+    let proofs: Shelf<mmb::Proof<Hash>> = BTreeMap::new(alloc);
     Trees::Belt(Shelves::new(alloc, hasher, trees, proofs))
 }
 
-// What these words begin anew with, if they ask for a family.
-fn begun(alloc: Global, words: &[&str]) -> Result<Option<Trees>, Stop> {
-    match words {
-        ["mmr", fold] => Ok(Some(range(alloc, bagging(fold)?))),
-        ["mmb", fold] => Ok(Some(belt(alloc, bagging(fold)?))),
-        _ => Ok(None),
-    }
-}
-
 impl Trees {
-    fn answer_or_stop(&mut self, alloc: Global, words: &[&str]) -> Result<String, Stop> {
-        if let Some(trees) = begun(alloc, words)? {
-            *self = trees;
-            return told::ok(alloc);
-        }
+    // Begins anew with these.
+    fn begin_with(&mut self, alloc: Global, trees: Trees) -> Answer {
+        *self = trees;
+        told::ok(alloc)
+    }
+
+    fn begin_range(&mut self, alloc: Global, fold: &str) -> Answer {
+        self.begin_with(alloc, range(alloc, bagging(fold)?))
+    }
+
+    fn begin_belt(&mut self, alloc: Global, fold: &str) -> Answer {
+        self.begin_with(alloc, belt(alloc, bagging(fold)?))
+    }
+
+    // The answer of the family that the case asked for.
+    fn answer_of_family(&mut self, alloc: Global, words: &[&str]) -> Answer {
         match self {
             Trees::Range(shelves) => shelves.answer(alloc, words),
             Trees::Belt(shelves) => shelves.answer(alloc, words),
+        }
+    }
+
+    fn answer_or_stop(&mut self, alloc: Global, words: &[&str]) -> Answer {
+        match words {
+            ["mmr", fold] => self.begin_range(alloc, fold),
+            ["mmb", fold] => self.begin_belt(alloc, fold),
+            words => self.answer_of_family(alloc, words),
         }
     }
 }

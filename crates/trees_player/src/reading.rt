@@ -1,8 +1,8 @@
 //! Trees, and the nodes that batches make, as something whose nodes are read.
 
-use crate::stop::Stop;
+use crate::stop::Answer;
 use crate::told::{self, Line};
-use crate::words::{self, Hash};
+use crate::words::Hash;
 use merkle_core::Readable;
 use merkle_forest::{Family, Position};
 use std::alloc::Global;
@@ -11,12 +11,12 @@ use std::alloc::Global;
 pub fn read<F: Family, R: Readable<F, Digest = Hash>>(
     alloc: Global,
     nodes: &R,
-    position: &str,
-) -> Result<String, Stop> {
-    let position: Position<F> = words::position(position)?;
+    position: u64,
+) -> Answer {
+    let node = told::some_digest(alloc, nodes.get_node(Position::new(position)))?;
     let mut line = Line::new(alloc);
-    line.number(nodes.leaf_count())?;
-    line.number(nodes.size().as_u64())?;
-    line.word(&told::some_digest(alloc, nodes.get_node(position))?)?;
+    line.number(nodes.leaf_count());
+    line.number(nodes.size().as_u64());
+    line.word(&node);
     line.text()
 }

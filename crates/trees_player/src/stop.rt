@@ -4,15 +4,18 @@ use case_lines::Unanswered;
 use hex::FromHexError;
 use merkle_core::error::Error;
 use merkle_core::{ExtractionError, ReconstructionError, StoreError};
-use merkle_forest::{Family, codec};
+use merkle_forest::{Family, Location, Position, codec};
 use std::alloc::{AllocError, AllocFailed, Global};
 use std::num::ParseIntError;
 
 /// Why a call gives no answer of its own.
-#[derive(Debug, Drop)]
+#[derive(Clone, Copy)]
 pub enum Stop {
+    /// A tree or a proof refuses it: the number.
+    Refused(u8),
+
     /// A tree or a proof refuses it: the number, and the position or the location that it carries.
-    Refused(u8, Option<u64>),
+    RefusedAt(u8, u64),
 
     /// Bytes are refused: the number.
     Unread(u8),
@@ -20,75 +23,113 @@ pub enum Stop {
     /// No root is rebuilt, which is named by a word.
     NotRebuilt(ReconstructionError),
 
-    /// The line that asks for it has no answer.
-    Unanswered(Unanswered),
+    /// The line asks for nothing known.
+    BadLine,
+
+    /// No memory is left for the answer.
+    Memory,
 }
 
 impl Stop {
     /// What is printed for a line that stops so: the refusal. `Err` where the line has no answer.
     pub fn told(self, alloc: Global) -> Result<String, Unanswered> {
         match self {
-            Stop::Refused(number, Some(at)) => Ok(format!(in alloc; "M{number} {at}")?),
-            Stop::Refused(number, None) => Ok(format!(in alloc; "M{number}")?),
-            Stop::Unread(number) => Ok(format!(in alloc; "C{number}")?),
+            Stop::Refused(number) => numbered(alloc, "M", number),
+            Stop::RefusedAt(number, at) => numbered_at(alloc, number, at),
+            Stop::Unread(number) => numbered(alloc, "C", number),
             Stop::NotRebuilt(error) => Ok(format!(in alloc; "{error:?}")?),
-            Stop::Unanswered(why) => Err(why),
+            Stop::BadLine => Err(Unanswered::BadLine),
+            Stop::Memory => Err(Unanswered::Memory),
         }
     }
 }
 
+// The number of a refusal, behind the letter of its kind.
+fn numbered(alloc: Global, letter: &str, number: u8) -> Result<String, Unanswered> {
+    Ok(format!(in alloc; "{letter}{number}")?)
+}
+
+// The number of a refusal, and the place that it carries.
+fn numbered_at(alloc: Global, number: u8, at: u64) -> Result<String, Unanswered> {
+    Ok(format!(in alloc; "M{number} {at}")?)
+}
+
+/// What is printed for a call, or why nothing is.
+pub type Answer = Result<String, Stop>;
+
 /// A line that asks for nothing known.
 pub fn bad_line<T>() -> Result<T, Stop> {
-    Err(Stop::Unanswered(Unanswered::BadLine))
+    Err(Stop::BadLine)
+}
+
+/// What was made, or the stop that its refusal is.
+pub fn or_stop<F: Family, T>(made: Result<T, Error<F>>) -> Result<T, Stop> {
+    match made {
+        Ok(made) => Ok(made),
+        Err(error) => Err(Stop::from(error)),
+    }
 }
 
 impl From<Unanswered> for Stop {
     fn from(error: Unanswered) -> Stop {
-        Stop::Unanswered(error)
+        match error {
+            Unanswered::BadLine => Stop::BadLine,
+            Unanswered::Memory => Stop::Memory,
+        }
     }
 }
 
 impl From<AllocError> for Stop {
     fn from(_error: AllocError) -> Stop {
-        Stop::Unanswered(Unanswered::Memory)
+        Stop::Memory
     }
 }
 
 impl<T: Drop> From<AllocFailed<T>> for Stop {
     fn from(_error: AllocFailed<T>) -> Stop {
-        Stop::Unanswered(Unanswered::Memory)
+        Stop::Memory
     }
 }
 
 impl From<ParseIntError> for Stop {
     fn from(_error: ParseIntError) -> Stop {
-        Stop::Unanswered(Unanswered::BadLine)
+        Stop::BadLine
     }
 }
 
 impl From<FromHexError> for Stop {
     fn from(error: FromHexError) -> Stop {
-        Stop::Unanswered(Unanswered::from(error))
+        Stop::from(Unanswered::from(error))
     }
+}
+
+// The refusal of this number, with the location that it carries.
+fn at_location<F: Family>(number: u8, location: Location<F>) -> Stop {
+    Stop::RefusedAt(number, location.as_u64())
+}
+
+// The refusal of this number, with the position that it carries.
+fn at_position<F: Family>(number: u8, position: Position<F>) -> Stop {
+    Stop::RefusedAt(number, position.as_u64())
 }
 
 impl<F: Family> From<Error<F>> for Stop {
     fn from(error: Error<F>) -> Stop {
         match error {
-            Error::LocationOverflow(location) => Stop::Refused(3, Some(location.as_u64())),
-            Error::Empty => Stop::Refused(4, None),
-            Error::RangeOutOfBounds(location) => Stop::Refused(5, Some(location.as_u64())),
-            Error::InvalidSize => Stop::Refused(6, None),
-            Error::LeafOutOfBounds(location) => Stop::Refused(7, Some(location.as_u64())),
-            Error::DuplicateLocation(location) => Stop::Refused(8, Some(location.as_u64())),
-            Error::UnsortedLocation(location) => Stop::Refused(9, Some(location.as_u64())),
-            Error::ElementPruned(position) => Stop::Refused(10, Some(position.as_u64())),
-            Error::InvalidPinnedNodes => Stop::Refused(12, None),
-            Error::StaleBatch => Stop::Refused(13, None),
-            Error::AncestorDropped => Stop::Refused(14, None),
-            Error::InvalidInactivePeaks => Stop::Refused(16, None),
-            Error::MissingNode(position) => Stop::Refused(20, Some(position.as_u64())),
-            Error::Memory => Stop::Refused(23, None),
+            Error::LocationOverflow(location) => at_location(3, location),
+            Error::Empty => Stop::Refused(4),
+            Error::RangeOutOfBounds(location) => at_location(5, location),
+            Error::InvalidSize => Stop::Refused(6),
+            Error::LeafOutOfBounds(location) => at_location(7, location),
+            Error::DuplicateLocation(location) => at_location(8, location),
+            Error::UnsortedLocation(location) => at_location(9, location),
+            Error::ElementPruned(position) => at_position(10, position),
+            Error::InvalidPinnedNodes => Stop::Refused(12),
+            Error::StaleBatch => Stop::Refused(13),
+            Error::AncestorDropped => Stop::Refused(14),
+            Error::InvalidInactivePeaks => Stop::Refused(16),
+            Error::MissingNode(position) => at_position(20, position),
+            Error::Memory => Stop::Refused(23),
         }
     }
 }
@@ -97,7 +138,7 @@ impl<F: Family> From<StoreError<F>> for Stop {
     fn from(error: StoreError<F>) -> Stop {
         match error {
             StoreError::Refused(error) => Stop::from(error),
-            StoreError::CompressedDigest(position) => Stop::Refused(11, Some(position.as_u64())),
+            StoreError::CompressedDigest(position) => at_position(11, position),
         }
     }
 }
@@ -105,9 +146,9 @@ impl<F: Family> From<StoreError<F>> for Stop {
 impl From<ExtractionError> for Stop {
     fn from(error: ExtractionError) -> Stop {
         match error {
-            ExtractionError::InvalidProof => Stop::Refused(15, None),
-            ExtractionError::RootMismatch => Stop::Refused(17, None),
-            ExtractionError::Memory => Stop::Refused(23, None),
+            ExtractionError::InvalidProof => Stop::Refused(15),
+            ExtractionError::RootMismatch => Stop::Refused(17),
+            ExtractionError::Memory => Stop::Refused(23),
         }
     }
 }
@@ -120,16 +161,17 @@ impl From<ReconstructionError> for Stop {
 
 impl From<codec::Error> for Stop {
     fn from(error: codec::Error) -> Stop {
-        match error {
-            codec::Error::EndOfBuffer => Stop::Unread(1),
-            codec::Error::ExtraData => Stop::Unread(2),
-            codec::Error::InvalidVarint => Stop::Unread(3),
-            codec::Error::InvalidBool => Stop::Unread(4),
+        let number = match error {
+            codec::Error::EndOfBuffer => 1,
+            codec::Error::ExtraData => 2,
+            codec::Error::InvalidVarint => 3,
+            codec::Error::InvalidBool => 4,
             // No part of a proof has a tag.
-            codec::Error::InvalidEnum(_) => Stop::Unread(5),
-            codec::Error::InvalidLength => Stop::Unread(6),
-            codec::Error::Invalid => Stop::Unread(7),
-            codec::Error::Memory => Stop::Unread(8),
-        }
+            codec::Error::InvalidEnum(_) => 5,
+            codec::Error::InvalidLength => 6,
+            codec::Error::Invalid => 7,
+            codec::Error::Memory => 8,
+        };
+        Stop::Unread(number)
     }
 }

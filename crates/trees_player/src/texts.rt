@@ -1,35 +1,48 @@
 //! Errors as they are printed for a person.
 
-use crate::stop::{Stop, bad_line};
+use crate::stop::{Answer, Stop, bad_line};
+use crate::told;
 use merkle_core::error::Error;
 use merkle_core::{ExtractionError, ReconstructionError, StoreError};
 use merkle_forest::{Family, Location, Position};
 use std::alloc::Global;
+use std::fmt::Display;
 
 /// The text of the error of a number, with the location or the position that it carries, or of a name.
-pub fn text<F: Family>(alloc: Global, number: &str, more: &[&str]) -> Result<String, Stop> {
+pub fn text<F: Family>(alloc: Global, number: &str, more: &[&str]) -> Answer {
     match more {
-        [] => Ok(format!(in alloc; "{}", plain::<F>(number)?)?),
-        [more] => match number {
-            "store" => {
-                let error = StoreError::Refused(plain::<F>(more)?);
-                Ok(format!(in alloc; "{error}")?)
-            }
-            "extraction" => Ok(format!(in alloc; "{}", extraction(more)?)?),
-            "rebuilding" => Ok(format!(in alloc; "{}", rebuilding(more)?)?),
-            number => text_at::<F>(alloc, number, more.parse()?),
-        },
+        [] => shown(alloc, plain::<F>(number)),
+        [more] => text_of::<F>(alloc, number, more),
         _ => bad_line(),
     }
 }
 
-// The text of the error of a number that carries a location or a position.
-fn text_at<F: Family>(alloc: Global, number: &str, at: u64) -> Result<String, Stop> {
-    if number == "M11" {
-        let error = StoreError::CompressedDigest(Position::<F>::new(at));
-        return Ok(format!(in alloc; "{error}")?);
+// The text of an error, if it is one.
+fn shown<T: Display + Drop>(alloc: Global, error: Result<T, Stop>) -> Answer {
+    told::shown(alloc, error?)
+}
+
+// The text of the error of one of these kinds, or of a number that carries a location or a position.
+fn text_of<F: Family>(alloc: Global, kind: &str, word: &str) -> Answer {
+    match kind {
+        "store" => shown(alloc, refused::<F>(word)),
+        "extraction" => shown(alloc, extraction(word)),
+        "rebuilding" => shown(alloc, rebuilding(word)),
+        number => text_at::<F>(alloc, number, word.parse()?),
     }
-    Ok(format!(in alloc; "{}", placed::<F>(number, at)?)?)
+}
+
+// The text of the error of a number that carries a location or a position.
+fn text_at<F: Family>(alloc: Global, number: &str, at: u64) -> Answer {
+    match number {
+        "M11" => told::shown(alloc, StoreError::CompressedDigest(Position::<F>::new(at))),
+        number => shown(alloc, placed::<F>(number, at)),
+    }
+}
+
+// The error of a store of proofs that is that of a number which carries nothing.
+fn refused<F: Family>(number: &str) -> Result<StoreError<F>, Stop> {
+    Ok(StoreError::Refused(plain(number)?))
 }
 
 // The error of a number that carries nothing.

@@ -1,7 +1,6 @@
 //! The words of a line as values.
 
-use crate::stop::{Stop, bad_line};
-use case_lines::Unanswered;
+use crate::stop::Stop;
 use merkle_forest::codec::FixedBytes;
 use merkle_forest::{Family, Location, Position};
 use std::alloc::Global;
@@ -25,16 +24,25 @@ pub fn digests(alloc: Global, words: &[&str]) -> Result<Vec<Hash>, Stop> {
     Ok(found)
 }
 
+/// The number of each word.
+pub fn numbers(alloc: Global, words: &[&str]) -> Result<Vec<u64>, Stop> {
+    let mut found = Vec::new(alloc);
+    for word in words {
+        found.push(word.parse()?)?;
+    }
+    Ok(found)
+}
+
 /// The location of this number.
 pub fn location<F: Family>(word: &str) -> Result<Location<F>, Stop> {
     Ok(Location::new(word.parse()?))
 }
 
-/// The location of each word.
-pub fn locations<F: Family>(alloc: Global, words: &[&str]) -> Result<Vec<Location<F>>, Stop> {
+/// The location of each number.
+pub fn locations<F: Family>(alloc: Global, numbers: &[u64]) -> Result<Vec<Location<F>>, Stop> {
     let mut found = Vec::new(alloc);
-    for word in words {
-        found.push(location(word)?)?;
+    for number in numbers {
+        found.push(Location::new(*number))?;
     }
     Ok(found)
 }
@@ -67,22 +75,10 @@ pub fn two_lists<'a, 'b>(words: &'a [&'b str]) -> Result<(&'a [&'b str], &'a [&'
     let place = words
         .iter()
         .position(|word| *word == "/")
-        .ok_or(Stop::Unanswered(Unanswered::BadLine))?;
+        .ok_or(Stop::BadLine)?;
     let (before, rest) = words.split_at(place);
     match rest {
         [_, after @ ..] => Ok((before, after)),
-        [] => Err(Stop::Unanswered(Unanswered::BadLine)),
+        [] => Err(Stop::BadLine),
     }
-}
-
-/// The words two by two. A word that is left alone makes a bad line.
-pub fn pairs<'a>(alloc: Global, words: &[&'a str]) -> Result<Vec<(&'a str, &'a str)>, Stop> {
-    let mut found = Vec::new(alloc);
-    for pair in words.chunks(2) {
-        match pair {
-            [first, second] => found.push((*first, *second))?,
-            _ => return bad_line(),
-        }
-    }
-    Ok(found)
 }
