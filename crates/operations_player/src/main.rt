@@ -3,17 +3,18 @@
 
 mod operations;
 mod spoken;
+mod store;
 mod updates;
 
-use case_lines::{Player, Unanswered, bytes, digits, play};
-use merkle_forest::codec::{Cursor, FixedBytes, RangeCfg};
+use case_lines::{Player, Unanswered, play};
+use merkle_forest::codec::{FixedBytes, RangeCfg};
 use merkle_forest::mmr::Family;
-use spoken::{Spoken, fault};
+use spoken::{Answer, Word, joined, shown};
+use state_ops::Operation;
 use state_ops::fixed::fixed_size;
 use state_ops::update::{FixedUpdate, Ordered, Unordered};
 use state_ops::value::{FixedEncoding, VariableEncoding};
 use state_ops::variable::operation_size;
-use state_ops::{Operation, OrderedOperation, OrderedUpdate, ordered};
 use std::alloc::Global;
 
 /// Keys of four bytes.
@@ -26,47 +27,81 @@ type Bytes = VariableEncoding<Vec<u8>>;
 
 type Number = FixedEncoding<u64>;
 
+/// How keys, and values of no fixed size, are read.
+type Limits = ((), RangeCfg);
+
 /// How many bytes a value of no fixed size may have.
 const GREATEST_VALUE: usize = 16;
 
-// The store's own calls: operations of 25 bytes.
-fn store_answer(alloc: Global, words: &[&str]) -> Result<String, Unanswered> {
-    match words {
-        ["encode", words @ ..] => {
-            let operation = operations::of_words::<OrderedUpdate<Long, u64>>(alloc, words)?;
-            digits(alloc, &ordered::encode(alloc, &operation)?)
-        }
-        ["decode", text] => {
-            let text = bytes(alloc, text)?;
-            let mut cursor = Cursor::new(&text);
-            let read: Result<OrderedOperation<Family, Long, u64>, _> = ordered::read(
-                alloc,
-                &mut cursor,
-            );
-            match read {
-                Ok(operation) => {
-                    let said = operations::say(alloc, &operation)?;
-                    Ok(format!(in alloc; "{said}, {} left", cursor.remaining())?)
-                }
-                Err(error) => fault(alloc, error),
-            }
-        }
-        words => operations::answer::<OrderedUpdate<Long, u64>>(alloc, &(), words),
-    }
-}
-
 // How many bytes an operation has that is of one size, and an update.
-fn sizes<S: FixedUpdate>(alloc: Global) -> Result<String, Unanswered> {
+fn sizes<S: FixedUpdate>(alloc: Global) -> Answer {
     let operation = fixed_size::<Short, u64, S>();
-    let update = S::update_size();
-    Ok(format!(in alloc; "{operation} {update}")?)
+    joined(
+        alloc,
+        shown(alloc, operation),
+        shown(alloc, S::update_size()),
+    )
 }
 
 // How many bytes a delete has that is of no fixed size.
-fn delete_size(alloc: Global, key: &str) -> Result<String, Unanswered> {
-    let key = Short::of_words(alloc, &[key])?;
+fn delete_size(alloc: Global, key: &str) -> Answer {
+    let key = Short::of_word(alloc, key)?;
     let delete: Operation<Family, Ordered<Short, Bytes>> = Operation::Delete(key);
-    Ok(operation_size(&delete).to_string(alloc)?)
+    shown(alloc, operation_size(&delete))
+}
+
+// The answer about ordered operations with numbers for values.
+fn ordered_fixed(alloc: Global, words: &[&str]) -> Answer {
+    match words {
+        ["size"] => sizes::<Ordered<Short, Number>>(alloc),
+        ["alone", words @ ..] => updates::answer::<Ordered<Short, Number>>(alloc, &(), words),
+        words => operations::answer::<Ordered<Short, Number>>(alloc, &(), words),
+    }
+}
+
+// The answer about unordered operations with numbers for values.
+fn unordered_fixed(alloc: Global, words: &[&str]) -> Answer {
+    match words {
+        ["size"] => sizes::<Unordered<Short, Number>>(alloc),
+        ["alone", words @ ..] => updates::answer::<Unordered<Short, Number>>(alloc, &(), words),
+        words => operations::answer::<Unordered<Short, Number>>(alloc, &(), words),
+    }
+}
+
+// The answer about ordered operations with bytes for values.
+fn ordered_variable(alloc: Global, limits: &Limits, words: &[&str]) -> Answer {
+    match words {
+        ["size", "delete", key] => delete_size(alloc, key),
+        ["alone", words @ ..] => updates::answer::<Ordered<Short, Bytes>>(alloc, limits, words),
+        words => operations::answer::<Ordered<Short, Bytes>>(alloc, limits, words),
+    }
+}
+
+// The answer about unordered operations with bytes for values.
+fn unordered_variable(alloc: Global, limits: &Limits, words: &[&str]) -> Answer {
+    match words {
+        ["alone", words @ ..] => updates::answer::<Unordered<Short, Bytes>>(alloc, limits, words),
+        words => operations::answer::<Unordered<Short, Bytes>>(alloc, limits, words),
+    }
+}
+
+// The answer about operations with bytes for values.
+fn variable(alloc: Global, order: &str, words: &[&str]) -> Answer {
+    let limits = ((), RangeCfg::new(0, GREATEST_VALUE));
+    match order {
+        "ordered" => ordered_variable(alloc, &limits, words),
+        "unordered" => unordered_variable(alloc, &limits, words),
+        _ => Err(Unanswered::BadLine),
+    }
+}
+
+// The answer about operations with numbers for values.
+fn fixed(alloc: Global, order: &str, words: &[&str]) -> Answer {
+    match order {
+        "ordered" => ordered_fixed(alloc, words),
+        "unordered" => unordered_fixed(alloc, words),
+        _ => Err(Unanswered::BadLine),
+    }
 }
 
 /// Plays the cases of operations. It keeps nothing from one line to the next.
@@ -79,36 +114,10 @@ impl Player for OperationsPlayer {
     }
 
     fn answer(&mut self, alloc: Global, words: &[&str]) -> Result<String, Unanswered> {
-        let limits = ((), RangeCfg::new(0, GREATEST_VALUE));
         match words {
-            ["store", words @ ..] => store_answer(alloc, words),
-            ["ordered", "fixed", "size"] => sizes::<Ordered<Short, Number>>(alloc),
-            ["unordered", "fixed", "size"] => sizes::<Unordered<Short, Number>>(alloc),
-            ["ordered", "variable", "size", "delete", key] => delete_size(alloc, key),
-            ["ordered", "fixed", "alone", words @ ..] => {
-                updates::answer::<Ordered<Short, Number>>(alloc, &(), words)
-            }
-            ["unordered", "fixed", "alone", words @ ..] => {
-                updates::answer::<Unordered<Short, Number>>(alloc, &(), words)
-            }
-            ["ordered", "variable", "alone", words @ ..] => {
-                updates::answer::<Ordered<Short, Bytes>>(alloc, &limits, words)
-            }
-            ["unordered", "variable", "alone", words @ ..] => {
-                updates::answer::<Unordered<Short, Bytes>>(alloc, &limits, words)
-            }
-            ["ordered", "fixed", words @ ..] => {
-                operations::answer::<Ordered<Short, Number>>(alloc, &(), words)
-            }
-            ["unordered", "fixed", words @ ..] => {
-                operations::answer::<Unordered<Short, Number>>(alloc, &(), words)
-            }
-            ["ordered", "variable", words @ ..] => {
-                operations::answer::<Ordered<Short, Bytes>>(alloc, &limits, words)
-            }
-            ["unordered", "variable", words @ ..] => {
-                operations::answer::<Unordered<Short, Bytes>>(alloc, &limits, words)
-            }
+            ["store", words @ ..] => store::answer(alloc, words),
+            [order, "fixed", words @ ..] => fixed(alloc, order, words),
+            [order, "variable", words @ ..] => variable(alloc, order, words),
             _ => Err(Unanswered::BadLine),
         }
     }
