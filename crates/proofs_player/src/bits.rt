@@ -2,7 +2,9 @@
 
 ghost use Rattle.state_bitmap.specs.Bits.{IsChunkWidth};
 
-use crate::arguments::{Answer, array_digits, bit, bits, done, number, truth};
+use crate::arguments::{
+    Answer, Line, array_digits, bit, bit_told, bits, chunk_told, done, done_if, number, truth,
+};
 use case_lines::{Unanswered, bytes, digits};
 use state_bitmap::Prunable;
 use std::alloc::Global;
@@ -52,10 +54,20 @@ impl Bits {
 
     /// The answer to a line about a list of bits.
     pub(crate) fn answer(&mut self, alloc: Global, words: &[&str]) -> Answer {
-        if let ["new", width, chunks] = words {
-            *self = Bits::of_words(alloc, width, chunks.parse()?)?;
-            return done(alloc);
+        match words {
+            ["new", width, chunks] => self.begin(alloc, width, chunks.parse()?),
+            words => self.of_width(alloc, words),
         }
+    }
+
+    // Begins anew.
+    fn begin(&mut self, alloc: Global, width: &str, chunks: u64) -> Answer {
+        *self = Bits::of_words(alloc, width, chunks)?;
+        done(alloc)
+    }
+
+    // The answer of the list, whatever the size of its chunks.
+    fn of_width(&mut self, alloc: Global, words: &[&str]) -> Answer {
         match self {
             Bits::One(list) => of_list(alloc, list, words),
             Bits::Two(list) => of_list(alloc, list, words),
@@ -68,15 +80,74 @@ fn of_list<const N: usize>(alloc: Global, list: &mut Prunable<N>, words: &[&str]
     requires { IsChunkWidth N }
 {
     match words {
-        ["chunk_size_bits"] => number(alloc, Prunable::<N>::chunk_size_bits()),
-        ["push", ..] | ["bytes", _] | ["set", ..] | ["prune", _] => changed(alloc, list, words),
-        ["get", _] | ["chunk", _] | ["chunk_with", _] => kept(alloc, list, words),
-        words => told(alloc, list, words),
+        [name] => told(alloc, list, name),
+        [name, word] => with_word(alloc, list, name, word),
+        [name, word, more] => done_if(alloc, changed_by_two(alloc, list, name, word, more)),
+        _ => Err(Unanswered::BadLine),
     }
 }
 
+// A call with one word behind its name.
+fn with_word<const N: usize>(
+    alloc: Global,
+    list: &mut Prunable<N>,
+    name: &str,
+    word: &str,
+) -> Answer
+    requires { IsChunkWidth N }
+{
+    match name {
+        "push" => done_if(alloc, push(alloc, list, word, word.len())),
+        "bytes" => done_if(alloc, push_bytes(alloc, list, word)),
+        name => with_number(alloc, list, name, word.parse()?),
+    }
+}
+
+// A call with one number behind its name.
+fn with_number<const N: usize>(
+    alloc: Global,
+    list: &mut Prunable<N>,
+    name: &str,
+    number: u64,
+) -> Answer
+    requires { IsChunkWidth N }
+{
+    match name {
+        "prune" => done_if(alloc, prune(list, number)),
+        "get" => bit_told(alloc, bit_at(list, number)),
+        "chunk" => bytes_told(alloc, full_chunk(list, number)),
+        "chunk_with" => chunk_told(alloc, chunk_with(list, number)),
+        _ => Err(Unanswered::BadLine),
+    }
+}
+
+// A change with two words behind its name.
+fn changed_by_two<const N: usize>(
+    alloc: Global,
+    list: &mut Prunable<N>,
+    name: &str,
+    word: &str,
+    more: &str,
+) -> Result<(), Unanswered> {
+    match name {
+        "push" => push(alloc, list, word, more.parse()?),
+        "set" => set(list, word.parse()?, bit(more)?),
+        _ => Err(Unanswered::BadLine),
+    }
+}
+
+// Appends so many bits, which repeat those of a word.
+fn push<const N: usize>(
+    alloc: Global,
+    list: &mut Prunable<N>,
+    pattern: &str,
+    count: usize,
+) -> Result<(), Unanswered> {
+    push_all(list, &bits(alloc, pattern, count)?)
+}
+
 // Appends bits.
-fn push<const N: usize>(list: &mut Prunable<N>, bits: &[bool]) -> Result<(), Unanswered> {
+fn push_all<const N: usize>(list: &mut Prunable<N>, bits: &[bool]) -> Result<(), Unanswered> {
     for bit in bits {
         if list.len() >= MOST {
             return Err(Unanswered::BadLine);
@@ -86,12 +157,17 @@ fn push<const N: usize>(list: &mut Prunable<N>, bits: &[bool]) -> Result<(), Una
     Ok(())
 }
 
-// Appends the bits of bytes, where those that are there fill theirs.
-fn push_bytes<const N: usize>(list: &mut Prunable<N>, bytes: &[u8]) -> Result<(), Unanswered> {
+// Appends the bits of the bytes of these digits, where those that are there fill theirs.
+fn push_bytes<const N: usize>(
+    alloc: Global,
+    list: &mut Prunable<N>,
+    digits: &str,
+) -> Result<(), Unanswered> {
+    let bytes = bytes(alloc, digits)?;
     if list.len() % 8 != 0 || list.len() >= MOST || bytes.len() as u64 >= MOST {
         return Err(Unanswered::BadLine);
     }
-    Ok(list.push_bytes(bytes)?)
+    Ok(list.push_bytes(&bytes)?)
 }
 
 // Sets or clears a bit that is kept.
@@ -110,19 +186,6 @@ fn prune<const N: usize>(list: &mut Prunable<N>, chunk: u64) -> Result<(), Unans
     }
     list.prune_to_chunk(chunk);
     Ok(())
-}
-
-// A call that changes the list.
-fn changed<const N: usize>(alloc: Global, list: &mut Prunable<N>, words: &[&str]) -> Answer {
-    match words {
-        ["push", pattern] => push(list, &bits(alloc, pattern, pattern.len())?)?,
-        ["push", pattern, count] => push(list, &bits(alloc, pattern, count.parse()?)?)?,
-        ["bytes", digits] => push_bytes(list, &bytes(alloc, digits)?)?,
-        ["set", at, value] => set(list, at.parse()?, bit(value)?)?,
-        ["prune", chunk] => prune(list, chunk.parse()?)?,
-        _ => return Err(Unanswered::BadLine),
-    }
-    done(alloc)
 }
 
 // Whether a bit that is kept is set.
@@ -149,24 +212,11 @@ fn full_chunk<const N: usize>(list: &Prunable<N>, chunk: u64) -> Option<&[u8]> {
     Some(list.get_chunk(chunk))
 }
 
-// A question about a bit or a chunk that is kept.
-fn kept<const N: usize>(alloc: Global, list: &Prunable<N>, words: &[&str]) -> Answer
-    requires { IsChunkWidth N }
-{
-    match words {
-        ["get", at] => match bit_at(list, at.parse()?) {
-            Some(bit) => truth(alloc, bit),
-            None => Err(Unanswered::BadLine),
-        },
-        ["chunk", chunk] => match full_chunk(list, chunk.parse()?) {
-            Some(chunk) => digits(alloc, chunk),
-            None => Err(Unanswered::BadLine),
-        },
-        ["chunk_with", at] => match chunk_with(list, at.parse()?) {
-            Some(chunk) => array_digits(alloc, chunk),
-            None => Err(Unanswered::BadLine),
-        },
-        _ => Err(Unanswered::BadLine),
+// The bytes of a chunk, if it is there.
+fn bytes_told(alloc: Global, chunk: Option<&[u8]>) -> Answer {
+    match chunk {
+        Some(chunk) => digits(alloc, chunk),
+        None => Err(Unanswered::BadLine),
     }
 }
 
@@ -175,22 +225,34 @@ fn last_chunk<const N: usize>(alloc: Global, list: &Prunable<N>) -> Answer
     requires { IsChunkWidth N }
 {
     let (chunk, count) = list.last_chunk();
-    let digits = array_digits(alloc, chunk)?;
-    Ok(format!(in alloc; "{digits} {count}")?)
+    let mut line = Line::new(alloc);
+    line.say(array_digits(alloc, chunk));
+    line.number(count);
+    line.text()
 }
 
 // A question about the whole list.
-fn told<const N: usize>(alloc: Global, list: &Prunable<N>, words: &[&str]) -> Answer
+fn told<const N: usize>(alloc: Global, list: &Prunable<N>, name: &str) -> Answer
     requires { IsChunkWidth N }
 {
-    match words {
-        ["len"] => number(alloc, list.len()),
-        ["is_empty"] => truth(alloc, list.is_empty()),
-        ["is_chunk_aligned"] => truth(alloc, list.is_chunk_aligned()),
-        ["complete_chunks"] => number(alloc, list.complete_chunks()),
-        ["pruned_chunks"] => number(alloc, list.pruned_chunks()),
-        ["pruned_bits"] => number(alloc, list.pruned_bits()),
-        ["last_chunk"] => last_chunk(alloc, list),
+    match name {
+        "len" => number(alloc, list.len()),
+        "is_empty" => truth(alloc, list.is_empty()),
+        "is_chunk_aligned" => truth(alloc, list.is_chunk_aligned()),
+        "last_chunk" => last_chunk(alloc, list),
+        name => counted(alloc, list, name),
+    }
+}
+
+// A count of the whole list.
+fn counted<const N: usize>(alloc: Global, list: &Prunable<N>, name: &str) -> Answer
+    requires { IsChunkWidth N }
+{
+    match name {
+        "chunk_size_bits" => number(alloc, Prunable::<N>::chunk_size_bits()),
+        "complete_chunks" => number(alloc, list.complete_chunks()),
+        "pruned_chunks" => number(alloc, list.pruned_chunks()),
+        "pruned_bits" => number(alloc, list.pruned_bits()),
         _ => Err(Unanswered::BadLine),
     }
 }

@@ -2,15 +2,15 @@
 
 ghost use Rattle.state_bitmap.specs.Bits.{IsChunkWidth};
 
-use crate::arguments::{Answer, Hash, append, array_digits, numbers, numbers_told, refused};
+use crate::arguments::{Answer, Hash, Line, array_digits, encoded, numbers, numbers_told, refused};
+use crate::grafted::both;
 use crate::kept_bits::{KeptBits, Numbers};
 use crate::refusals::{of_proof, of_tree};
 use crate::state::State;
-use case_lines::{Unanswered, digits};
+use case_lines::Unanswered;
 use merkle_core::{ElementPlan, RangePlan, Readable};
 use merkle_forest::codec::Encode;
 use merkle_forest::{ByteHash, Graftable, Location, PendingOf};
-use state_proofs::grafting::storage::Storage;
 use state_proofs::{Error, RangeProof, RangeProofSpec, operation};
 use std::alloc::Global;
 use std::num::NonZeroU64;
@@ -27,7 +27,7 @@ struct Source<'a, const N: usize> {
 // The encoding of a proof, or its refusal.
 fn told<F: Graftable, P: Encode>(alloc: Global, proof: Result<P, Error<F>>) -> Answer {
     match proof {
-        Ok(proof) => digits(alloc, &proof.encode(alloc)?),
+        Ok(proof) => encoded(alloc, &proof),
         Err(error) => refused(alloc, of_proof(error)),
     }
 }
@@ -115,23 +115,33 @@ fn ask<F: Graftable + PendingOf<Hash>, S: Readable<F, Digest = Hash>, const N: u
     let log = Numbers {
         numbers: source.log,
     };
-    match RangeProof::new_with_ops::<ByteHash, _, _, _, N>(
+    let answered = RangeProof::new_with_ops::<ByteHash, _, _, _, N>(
         alloc,
         &source.bits,
         nodes,
         &log,
         request,
-    ) {
-        Ok((proof, operations, chunks)) => {
-            let mut line = digits(alloc, &proof.encode(alloc)?)?;
-            append(&mut line, numbers_told(alloc, &operations)?.as_str())?;
-            for chunk in chunks.as_slice() {
-                append(&mut line, array_digits(alloc, *chunk)?.as_str())?;
-            }
-            Ok(line)
-        }
+    );
+    match answered {
+        Ok((proof, operations, chunks)) => asked(alloc, &proof, &operations, &chunks),
         Err(error) => refused(alloc, of_proof(error)),
     }
+}
+
+// Operations with their proof and their chunks.
+fn asked<P: Encode, const N: usize>(
+    alloc: Global,
+    proof: &P,
+    operations: &[u64],
+    chunks: &[[u8; N]],
+) -> Answer {
+    let mut line = Line::new(alloc);
+    line.say(encoded(alloc, proof));
+    line.say(numbers_told(alloc, operations));
+    for chunk in chunks {
+        line.say(array_digits(alloc, *chunk));
+    }
+    line.text()
 }
 
 // The proof over a range of a tree.
@@ -185,9 +195,8 @@ fn over<F: Graftable + PendingOf<Hash>, S: Readable<F, Digest = Hash>, const N: 
     requires { IsChunkWidth N }
 {
     match words {
-        ["range", start, stop] => new_range(alloc, source, nodes, start.parse()?, stop.parse()?),
         ["one", location] => new_one(alloc, source, nodes, location.parse()?),
-        ["ask", start, most] => ask(alloc, source, nodes, start.parse()?, most.parse()?),
+        [name, number, word] => over_by(alloc, source, nodes, name, number.parse()?, word),
         ["build_range", start, stop, list] => {
             let withheld = numbers(alloc, list)?;
             build_range(
@@ -199,10 +208,25 @@ fn over<F: Graftable + PendingOf<Hash>, S: Readable<F, Digest = Hash>, const N: 
                 &withheld,
             )
         }
-        ["build_one", location, list] => {
-            let withheld = numbers(alloc, list)?;
-            build_one(alloc, source, nodes, location.parse()?, &withheld)
-        }
+        _ => Err(Unanswered::BadLine),
+    }
+}
+
+// A line of this name about proofs, of a number and another word.
+fn over_by<F: Graftable + PendingOf<Hash>, S: Readable<F, Digest = Hash>, const N: usize>(
+    alloc: Global,
+    source: &Source<'_, N>,
+    nodes: &S,
+    name: &str,
+    number: u64,
+    word: &str,
+) -> Answer
+    requires { IsChunkWidth N }
+{
+    match name {
+        "range" => new_range(alloc, source, nodes, number, word.parse()?),
+        "ask" => ask(alloc, source, nodes, number, word.parse()?),
+        "build_one" => build_one(alloc, source, nodes, number, &numbers(alloc, word)?),
         _ => Err(Unanswered::BadLine),
     }
 }
@@ -226,14 +250,7 @@ fn of_width<F: Graftable + PendingOf<Hash>, const N: usize>(
         root,
     };
     match &state.chunks {
-        Some(chunks) => {
-            let storage: Storage<'_, F, ByteHash, _, _> = Storage::new(
-                &chunks.tree,
-                chunks.grafting_height,
-                &state.tree,
-            );
-            over(alloc, &source, &storage, words)
-        }
+        Some(chunks) => over(alloc, &source, &both(&state.tree, chunks), words),
         None => over(alloc, &source, &state.tree, words),
     }
 }

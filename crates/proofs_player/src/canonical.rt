@@ -1,9 +1,8 @@
 //! The roots of a state, and its honest proofs, by the plain program of their definition.
 
-use crate::arguments::{Answer, Hash, bytes_list, digest_or_none};
+use crate::arguments::{Answer, Hash, Line, bytes_list, digest_or_none, digest_told, encoded};
 use crate::state::State;
-use case_lines::{Unanswered, digits};
-use merkle_forest::codec::Encode;
+use case_lines::Unanswered;
 use merkle_forest::forest::grow;
 use merkle_forest::trees::locate;
 use merkle_forest::{ByteHash, Graftable, PendingOf};
@@ -43,19 +42,35 @@ fn parts_of<F: Graftable + PendingOf<Hash>>(
 // How many chunks are graftable, and how many first peaks are inactive and end at the border of a chunk.
 fn counts_told<F: Graftable>(alloc: Global, snapshot: &Snapshot<'_>) -> Answer {
     let trees = grow::<F>(alloc, snapshot.operations.len() as u64)?;
-    let graftable = graftable_count(snapshot.chunk_size, &trees);
     let peaks = locate(alloc, &trees)?;
+    let graftable = graftable_count(snapshot.chunk_size, &trees);
     let inactive = aligned_count_of(snapshot.chunk_size, snapshot.floor, &peaks);
     Ok(format!(in alloc; "{graftable} {inactive}")?)
 }
 
 // The parts in words.
 fn parts_told(alloc: Global, parts: &Parts) -> Answer {
-    let operations = hex::encode(alloc, parts.operations.as_bytes())?;
-    let grafted = hex::encode(alloc, parts.grafted.as_bytes())?;
-    let pending = digest_or_none(alloc, parts.pending)?;
-    let partial = digest_or_none(alloc, parts.partial)?;
-    Ok(format!(in alloc; "{operations} {grafted} {pending} {partial}")?)
+    let mut line = Line::new(alloc);
+    line.say(digest_told(alloc, &parts.operations));
+    line.say(digest_told(alloc, &parts.grafted));
+    line.say(digest_or_none(alloc, parts.pending));
+    line.say(digest_or_none(alloc, parts.partial));
+    line.text()
+}
+
+// The honest proof of an operation.
+fn honest<F: Graftable + PendingOf<Hash>>(
+    alloc: Global,
+    snapshot: &Snapshot<'_>,
+    location: u64,
+) -> Answer {
+    if location >= snapshot.operations.len() as u64 {
+        return Err(Unanswered::BadLine);
+    }
+    encoded(
+        alloc,
+        &honest_proof::<F, ByteHash>(alloc, snapshot, location)?,
+    )
 }
 
 /// Lines about the whole state: `canonical_root`, `parts`, `counts`, `chunks`, `honest LOCATION`.
@@ -74,21 +89,23 @@ pub(crate) fn told<F: Graftable + PendingOf<Hash>>(
         chunk_size: state.chunk_size,
     };
     match words {
-        ["canonical_root"] => {
-            let root = canonical_root::<F, ByteHash>(alloc, &snapshot)?;
-            digest_or_none(alloc, Some(root))
-        }
-        ["parts"] => parts_told(alloc, &parts_of::<F>(alloc, &snapshot)?),
-        ["counts"] => counts_told::<F>(alloc, &snapshot),
-        ["chunks"] => bytes_list(alloc, &chunks_of_state(alloc, &snapshot)?),
-        ["honest", location] => {
-            let location: u64 = location.parse()?;
-            if location >= state.operations.len() as u64 {
-                return Err(Unanswered::BadLine);
-            }
-            let proof = honest_proof::<F, ByteHash>(alloc, &snapshot, location)?;
-            digits(alloc, &proof.encode(alloc)?)
-        }
+        [name] => told_of::<F>(alloc, &snapshot, name),
+        ["honest", location] => honest::<F>(alloc, &snapshot, location.parse()?),
+        _ => Err(Unanswered::BadLine),
+    }
+}
+
+// What is told of a state by its definition.
+fn told_of<F: Graftable + PendingOf<Hash>>(
+    alloc: Global,
+    snapshot: &Snapshot<'_>,
+    name: &str,
+) -> Answer {
+    match name {
+        "canonical_root" => digest_told(alloc, &canonical_root::<F, ByteHash>(alloc, snapshot)?),
+        "parts" => parts_told(alloc, &parts_of::<F>(alloc, snapshot)?),
+        "counts" => counts_told::<F>(alloc, snapshot),
+        "chunks" => bytes_list(alloc, &chunks_of_state(alloc, snapshot)?),
         _ => Err(Unanswered::BadLine),
     }
 }

@@ -1,7 +1,8 @@
 //! The tree of the chunks, and the grafted tree that is read from it and from the tree of the operations.
 
 use crate::arguments::{
-    Answer, Hash, byte_lists, digest, digest_or_none, done, keep, lent, number, refused,
+    Answer, Hash, byte_lists, digest_or_none, digest_told, done, keep, lent, refused, shown,
+    two_digests,
 };
 use crate::refusals::of_tree;
 use case_lines::{Unanswered, bytes};
@@ -101,34 +102,39 @@ pub(crate) fn of_both<F: Graftable + PendingOf<Hash>>(
     words: &[&str],
 ) -> Answer {
     match words {
-        ["prune", leaves] => pruned(alloc, chunks.tree.prune(Location::new(leaves.parse()?))),
         ["prune_all"] => pruned(alloc, chunks.tree.prune_all()),
-        words => read(alloc, operations, chunks, words),
+        ["prune", leaves] => pruned(alloc, chunks.tree.prune(Location::new(leaves.parse()?))),
+        words => read(alloc, &both(operations, chunks), words),
     }
 }
 
-// What is told after a pruning.
-fn pruned<F: Graftable>(alloc: Global, answer: Result<(), TreeError<F>>) -> Answer {
+/// What is told after a pruning.
+pub(crate) fn pruned<F: Graftable>(alloc: Global, answer: Result<(), TreeError<F>>) -> Answer {
     match answer {
         Ok(()) => done(alloc),
         Err(error) => refused(alloc, of_tree(error)),
     }
 }
 
+/// Both trees, to be read.
+pub(crate) type Both<'a, F> = Storage<'a, F, ByteHash, Mem<F, Hash>, Mem<F, Hash>>;
+
+/// The tree of the chunks over that of the operations.
+pub(crate) fn both<'a, F: Graftable + PendingOf<Hash>>(
+    operations: &'a Mem<F, Hash>,
+    chunks: &'a Chunks<F>,
+) -> Both<'a, F> {
+    Storage::new(&chunks.tree, chunks.grafting_height, operations)
+}
+
 // What is read of both trees.
 fn read<F: Graftable + PendingOf<Hash>>(
     alloc: Global,
-    operations: &Mem<F, Hash>,
-    chunks: &Chunks<F>,
+    storage: &Both<'_, F>,
     words: &[&str],
 ) -> Answer {
-    let storage: Storage<'_, F, ByteHash, Mem<F, Hash>, Mem<F, Hash>> = Storage::new(
-        &chunks.tree,
-        chunks.grafting_height,
-        operations,
-    );
     match words {
-        ["size"] => number(alloc, storage.size().as_u64()),
+        ["size"] => shown(alloc, storage.size()),
         ["node", position] => {
             digest_or_none(alloc, storage.get_node(Position::new(position.parse()?)))
         }
@@ -140,37 +146,53 @@ fn read<F: Graftable + PendingOf<Hash>>(
 /// `joined HEIGHT FIRST GRAFTABLE CHUNKS POSITION LEFT RIGHT` as the check of a range does.
 pub(crate) fn hashed<F: Graftable + PendingOf<Hash>>(alloc: Global, words: &[&str]) -> Answer {
     match words {
-        ["branch", height, position, left, right] => {
+        ["branch", height, words @ ..] => {
             let inner: Standard<ByteHash> = Standard::new(Bagging::BackwardFold);
-            let hasher: GraftedHasher<F, Standard<ByteHash>> = GraftedHasher::new(
-                inner,
-                height.parse()?,
-            );
-            let (left, right) = (digest(left)?, digest(right)?);
-            let node = hasher.digest_of_branch(position.parse()?, &left, &right);
-            digest_or_none(alloc, Some(node))
+            let hasher: OfChunks<F> = GraftedHasher::new(inner, height.parse()?);
+            hashed_by::<F, OfChunks<F>>(alloc, &hasher, words)
         }
-        [
-            "joined",
-            height,
-            first,
-            graftable,
-            list,
-            position,
-            left,
-            right,
-        ] => {
+        ["joined", height, first, graftable, list, words @ ..] => {
             let chunks = byte_lists(alloc, list)?;
-            let chunks = lent(alloc, &chunks)?;
-            let verifier: Verifier<'_, F, ByteHash> = Verifier::new(
-                height.parse()?,
-                first.parse()?,
-                &chunks,
-                graftable.parse()?,
-            );
-            let (left, right) = (digest(left)?, digest(right)?);
-            let node = verifier.digest_of_branch(position.parse()?, &left, &right);
-            digest_or_none(alloc, Some(node))
+            joined::<F>(alloc, [*height, *first, *graftable], &chunks, words)
+        }
+        _ => Err(Unanswered::BadLine),
+    }
+}
+
+/// How the tree of the chunks hashes.
+type OfChunks<F> = GraftedHasher<F, Standard<ByteHash>>;
+
+// The branch of these words, as the check of a range with these chunks hashes it.
+fn joined<F: Graftable + PendingOf<Hash>>(
+    alloc: Global,
+    numbers: [&str; 3],
+    chunks: &[Vec<u8>],
+    words: &[&str],
+) -> Answer {
+    let [height, first, graftable] = numbers;
+    let chunks = lent(alloc, chunks)?;
+    let verifier: Verifier<'_, F, ByteHash> = Verifier::new(
+        height.parse()?,
+        first.parse()?,
+        &chunks,
+        graftable.parse()?,
+    );
+    hashed_by::<F, Verifier<'_, F, ByteHash>>(alloc, &verifier, words)
+}
+
+// The branch of these words: its position, and both nodes.
+fn hashed_by<F: Graftable, H: Hasher<F, Digest = Hash>>(
+    alloc: Global,
+    hasher: &H,
+    words: &[&str],
+) -> Answer {
+    match words {
+        [position, left, right] => {
+            let (left, right) = two_digests(left, right)?;
+            digest_told(
+                alloc,
+                &hasher.digest_of_branch(position.parse()?, &left, &right),
+            )
         }
         _ => Err(Unanswered::BadLine),
     }

@@ -17,7 +17,7 @@ mod refusals;
 mod state;
 mod state_lines;
 
-use arguments::{Answer, Hash, digest, done, numbers_told};
+use arguments::{Answer, Hash, Line, digest, done};
 use bits::Bits;
 use case_lines::{Player, Unanswered, bytes};
 use maps::Map;
@@ -47,8 +47,8 @@ struct ProofsPlayer {
 
 impl ProofsPlayer {
     // Begins a state without operations: `family NAME WIDTH`.
-    fn begun(&mut self, alloc: Global, name: &str, width: &str) -> Answer {
-        let Some(chunk_size) = ChunkSize::new(width.parse()?) else {
+    fn begun(&mut self, alloc: Global, name: &str, width: usize) -> Answer {
+        let Some(chunk_size) = ChunkSize::new(width) else {
             return Err(Unanswered::BadLine);
         };
         self.state = match name {
@@ -56,6 +56,18 @@ impl ProofsPlayer {
             "mmb" => Some(Family::Belt(State::empty(alloc, chunk_size))),
             _ => return Err(Unanswered::BadLine),
         };
+        done(alloc)
+    }
+
+    // Keeps a root.
+    fn keep_root(&mut self, alloc: Global, root: Hash) -> Answer {
+        self.root = root;
+        done(alloc)
+    }
+
+    // Keeps the bytes of a proof.
+    fn keep_proof(&mut self, alloc: Global, bytes: Vec<u8>) -> Answer {
+        self.proof = bytes;
         done(alloc)
     }
 
@@ -72,20 +84,36 @@ impl ProofsPlayer {
         }
     }
 
+    // Whether the answer to a line is `true`.
+    fn is_shown(&mut self, alloc: Global, words: &[&str]) -> Result<bool, Unanswered> {
+        Ok(self.of_state(alloc, words)?.as_str() == "true")
+    }
+
+    // Whether the answer to a line is `true` with a bit of the kept bytes changed.
+    fn is_shown_without(
+        &mut self,
+        alloc: Global,
+        words: &[&str],
+        index: usize,
+        bit: u8,
+    ) -> Result<bool, Unanswered> {
+        self.turn(index, bit);
+        let is_shown = self.is_shown(alloc, words);
+        self.turn(index, bit);
+        is_shown
+    }
+
     // The bits of the kept bytes that, changed singly, leave the answer to a line at `true`.
     fn spoilt(&mut self, alloc: Global, words: &[&str]) -> Answer {
-        let mut found = Vec::new(alloc);
+        let mut line = Line::new(alloc);
         for index in 0..self.proof.len() {
-            for bit in 0..8u8 {
-                self.turn(index, bit);
-                let told = self.of_state(alloc, words);
-                self.turn(index, bit);
-                if told?.as_str() == "true" {
-                    arguments::keep(&mut found, index as u64)?;
+            for bit in 0..8 {
+                if self.is_shown_without(alloc, words, index, bit)? {
+                    line.number(index as u64);
                 }
             }
         }
-        numbers_told(alloc, &found)
+        line.text_or_none()
     }
 
     // Turns a bit of the kept bytes.
@@ -97,16 +125,41 @@ impl ProofsPlayer {
 
     // The lengths to which the kept bytes, cut, leave the answer to a line at `true`.
     fn shortened(&mut self, alloc: Global, words: &[&str]) -> Answer {
-        let mut found = Vec::new(alloc);
         let all = self.proof.clone()?;
-        for length in 0..all.len() {
-            self.proof.truncate(all.len() - 1 - length);
-            if self.of_state(alloc, words)?.as_str() == "true" {
-                arguments::keep(&mut found, self.proof.len() as u64)?;
+        let told = self.shown_lengths(alloc, words);
+        self.proof = all;
+        told
+    }
+
+    // The lengths to which the kept bytes are cut, one by one, and at which the answer to a line is `true`.
+    fn shown_lengths(&mut self, alloc: Global, words: &[&str]) -> Answer {
+        let mut line = Line::new(alloc);
+        for length in (0..self.proof.len()).rev() {
+            self.proof.truncate(length);
+            if self.is_shown(alloc, words)? {
+                line.number(length as u64);
             }
         }
-        self.proof = all;
-        numbers_told(alloc, &found)
+        line.text_or_none()
+    }
+
+    // The answer to a line that keeps something, or asks for a state or a proof.
+    fn answer_more(&mut self, alloc: Global, words: &[&str]) -> Answer {
+        match words {
+            ["family", name, width] => self.begun(alloc, name, width.parse()?),
+            ["root", word] => self.keep_root(alloc, digest(word)?),
+            ["proof", digits] => self.keep_proof(alloc, bytes(alloc, digits)?),
+            words => self.answer_changed(alloc, words),
+        }
+    }
+
+    // The answer to a line that asks for a state or a proof, with other bytes kept perhaps.
+    fn answer_changed(&mut self, alloc: Global, words: &[&str]) -> Answer {
+        match words {
+            ["spoilt", words @ ..] => self.spoilt(alloc, words),
+            ["shortened", words @ ..] => self.shortened(alloc, words),
+            words => self.of_state(alloc, words),
+        }
     }
 }
 
@@ -127,18 +180,7 @@ impl Player for ProofsPlayer {
             ["map", words @ ..] => self.map.answer(alloc, words),
             ["chunk_size", words @ ..] => counts::of_sizes(alloc, words),
             ["chunk", words @ ..] => counts::of_chunks(alloc, words),
-            ["family", name, width] => self.begun(alloc, name, width),
-            ["root", word] => {
-                self.root = digest(word)?;
-                done(alloc)
-            }
-            ["proof", digits] => {
-                self.proof = bytes(alloc, digits)?;
-                done(alloc)
-            }
-            ["spoilt", words @ ..] => self.spoilt(alloc, words),
-            ["shortened", words @ ..] => self.shortened(alloc, words),
-            words => self.of_state(alloc, words),
+            words => self.answer_more(alloc, words),
         }
     }
 }

@@ -3,7 +3,8 @@
 ghost use Rattle.state_bitmap.specs.Bits.{IsChunkWidth};
 
 use crate::arguments::{
-    Answer, Hash, append, array, array_digits, digest, digest_list, digest_or_none, digests, truth,
+    Answer, Hash, Line, all_numbers, array, array_digits, digest, digest_list, digest_or_none,
+    digests, truth, truth_if,
 };
 use crate::maps::refused;
 use case_lines::Unanswered;
@@ -13,7 +14,7 @@ use merkle_forest::mmr::Family;
 use merkle_forest::{ByteHash, Location};
 use state_bitmap::MerkleizedBitMap;
 use state_bitmap::inclusion::root_of_bit;
-use std::alloc::Global;
+use std::alloc::{AllocError, Global};
 
 /// A proof of a bit, and the chunk with it.
 type Proven<const N: usize> = (Proof<Family, Hash>, [u8; N]);
@@ -29,20 +30,18 @@ pub(crate) fn bit_from_chunk<const N: usize>(alloc: Global, chunk: &str, bit: &s
     )
 }
 
-// The proof that four words spell: leaves, inactive peaks, digests and chunk.
-fn proven<const N: usize>(
+// The proof of these words: leaves, inactive peaks and digests.
+fn proof_of_words(
     alloc: Global,
     leaves: &str,
     inactive: &str,
     list: &str,
-    chunk: &str,
-) -> Result<Proven<N>, Unanswered> {
-    let proof = Proof {
+) -> Result<Proof<Family, Hash>, Unanswered> {
+    Ok(Proof {
         leaves: Location::new(leaves.parse()?),
         inactive_peaks: inactive.parse()?,
         digests: digests(alloc, list)?,
-    };
-    Ok((proof, array(chunk)?))
+    })
 }
 
 /// What a proof that is spelled shows: `shows LEAVES INACTIVE DIGESTS CHUNK BIT ROOT`, or the root that it leads to:
@@ -55,18 +54,49 @@ pub(crate) fn of_proof<const N: usize>(
     requires { IsChunkWidth N }
 {
     match words {
-        ["shows", leaves, inactive, list, chunk, bit, root] => {
-            let proven = proven(alloc, leaves, inactive, list, chunk)?;
-            let shown = shows::<N>(alloc, hasher, &proven, bit.parse()?, &digest(root)?)?;
-            truth(alloc, shown)
-        }
-        ["leads", leaves, inactive, list, chunk, bit] => {
-            let (proof, chunk): Proven<N> = proven(alloc, leaves, inactive, list, chunk)?;
-            let root = root_of_bit(alloc, hasher, &proof, &chunk, bit.parse()?)?;
-            digest_or_none(alloc, root)
+        [name, leaves, inactive, list, chunk, bit, root @ ..] => {
+            let proven: Proven<N> = (
+                proof_of_words(alloc, leaves, inactive, list)?,
+                array(chunk)?,
+            );
+            of_proven(alloc, hasher, &proven, bit.parse()?, name, root)
         }
         _ => Err(Unanswered::BadLine),
     }
+}
+
+// Whether the proof shows a bit under a root, or the root that it leads to.
+fn of_proven<const N: usize>(
+    alloc: Global,
+    hasher: &Standard<ByteHash>,
+    proven: &Proven<N>,
+    bit: u64,
+    name: &str,
+    root: &[&str],
+) -> Answer
+    requires { IsChunkWidth N }
+{
+    match root {
+        [root] if name == "shows" => truth_if(
+            alloc,
+            shows(alloc, hasher, proven, bit, &digest(root)?),
+        ),
+        [] if name == "leads" => led_to(alloc, hasher, proven, bit),
+        _ => Err(Unanswered::BadLine),
+    }
+}
+
+// The root that the proof leads to.
+fn led_to<const N: usize>(
+    alloc: Global,
+    hasher: &Standard<ByteHash>,
+    proven: &Proven<N>,
+    bit: u64,
+) -> Answer
+    requires { IsChunkWidth N }
+{
+    let (proof, chunk) = proven;
+    digest_or_none(alloc, root_of_bit(alloc, hasher, proof, chunk, bit)?)
 }
 
 // Whether the proof shows that its chunk is that of a bit.
@@ -76,17 +106,14 @@ fn shows<const N: usize>(
     proven: &Proven<N>,
     bit: u64,
     root: &Hash,
-) -> Result<bool, Unanswered>
+) -> Result<bool, AllocError>
     requires { IsChunkWidth N }
 {
     let (proof, chunk) = proven;
-    let shown = MerkleizedBitMap::<Hash, N>::verify_bit_inclusion(
-        alloc, hasher, proof, chunk, bit, root,
-    )?;
-    Ok(shown)
+    MerkleizedBitMap::<Hash, N>::verify_bit_inclusion(alloc, hasher, proof, chunk, bit, root)
 }
 
-/// Lines about proofs that a map makes.
+/// Lines about proofs that a map makes, with other leaves: `tails BIT TAIL COUNT..`, `lengths STEP MOST OTHER..`.
 pub(crate) fn of_map<const N: usize>(
     alloc: Global,
     hasher: &Standard<ByteHash>,
@@ -96,28 +123,45 @@ pub(crate) fn of_map<const N: usize>(
     requires { IsChunkWidth N }
 {
     match words {
-        ["proof", bit] => proof(alloc, hasher, map, bit.parse()?),
-        ["tails", bit, tail, counts @ ..] => {
-            tails(alloc, hasher, map, bit.parse()?, tail.parse()?, counts)
+        [name, words @ ..] => of_map_by(alloc, hasher, map, name, &all_numbers(alloc, words)?),
+        [] => Err(Unanswered::BadLine),
+    }
+}
+
+// The line of this name about such proofs.
+fn of_map_by<const N: usize>(
+    alloc: Global,
+    hasher: &Standard<ByteHash>,
+    map: &MerkleizedBitMap<Hash, N>,
+    name: &str,
+    numbers: &[u64],
+) -> Answer
+    requires { IsChunkWidth N }
+{
+    match numbers {
+        [bit, tail, counts @ ..] if name == "tails" => {
+            tails(alloc, hasher, map, *bit, *tail, counts)
         }
-        ["lengths", step, most, others @ ..] => {
-            lengths(alloc, hasher, map, step.parse()?, most.parse()?, others)
+        [step, most, others @ ..] if name == "lengths" => {
+            lengths(alloc, hasher, map, *step, *most, others)
         }
         _ => Err(Unanswered::BadLine),
     }
 }
 
 // A proof in words: leaves, inactive peaks, digests and chunk.
-fn spelled<const N: usize>(alloc: Global, proven: Proven<N>) -> Answer {
+fn spelled<const N: usize>(alloc: Global, proven: &Proven<N>) -> Answer {
     let (proof, chunk) = proven;
-    let (leaves, inactive) = (proof.leaves, proof.inactive_peaks);
-    let list = digest_list(alloc, &proof.digests)?;
-    let chunk = array_digits(alloc, chunk)?;
-    Ok(format!(in alloc; "{leaves} {inactive} {list} {chunk}")?)
+    let mut line = Line::new(alloc);
+    line.number(proof.leaves.as_u64());
+    line.number(proof.inactive_peaks);
+    line.say(digest_list(alloc, &proof.digests));
+    line.say(array_digits(alloc, *chunk));
+    line.text()
 }
 
-// The proof of a bit in words.
-fn proof<const N: usize>(
+/// The proof of a bit in words.
+pub(crate) fn proof<const N: usize>(
     alloc: Global,
     hasher: &Standard<ByteHash>,
     map: &MerkleizedBitMap<Hash, N>,
@@ -129,7 +173,7 @@ fn proof<const N: usize>(
         return Err(Unanswered::BadLine);
     }
     match map.proof(hasher, bit) {
-        Ok(proven) => spelled(alloc, proven),
+        Ok(proven) => spelled(alloc, &proven),
         Err(error) => refused(alloc, error),
     }
 }
@@ -162,19 +206,21 @@ fn shown_in_tail<const N: usize>(
 {
     let size = MerkleizedBitMap::<Hash, N>::chunk_size_bits();
     let start = full.wrapping_mul(size);
-    let mut line = String::new(alloc);
+    let mut line = Line::new(alloc);
     for chunk in 0..full {
         let bit = chunk.wrapping_mul(size);
-        if shows(alloc, hasher, proven, bit, root)? {
-            append(&mut line, format!(in alloc; "{bit}")?.as_str())?;
-        }
+        line.number_if(bit, shows(alloc, hasher, proven, bit, root));
     }
     for bit in start..start.wrapping_add(size) {
-        if shows(alloc, hasher, proven, bit, root)? {
-            append(&mut line, format!(in alloc; "{bit}")?.as_str())?;
-        }
+        line.number_if(bit, shows(alloc, hasher, proven, bit, root));
     }
-    Ok(line)
+    line.text()
+}
+
+// What is shown of something, in brackets behind it.
+fn bracketed(alloc: Global, of: u64, shown: Answer) -> Answer {
+    let shown = shown?;
+    Ok(format!(in alloc; "{of}:({shown})")?)
 }
 
 // The proof of a bit with its leaves put to a tail of so many bits after each of these counts of full chunks, and for
@@ -185,48 +231,43 @@ fn tails<const N: usize>(
     map: &MerkleizedBitMap<Hash, N>,
     bit: u64,
     tail: u64,
-    counts: &[&str],
+    counts: &[u64],
 ) -> Answer
     requires { IsChunkWidth N }
 {
     let mut proven = kept_proof(hasher, map, bit)?;
-    let mut line = String::new(alloc);
-    for count in counts {
-        let full: u64 = count.parse()?;
+    let mut line = Line::new(alloc);
+    for full in counts {
         let start = full.wrapping_mul(MerkleizedBitMap::<Hash, N>::chunk_size_bits());
         proven.0.leaves = Location::new(start.wrapping_add(tail));
-        let shown = shown_in_tail(alloc, hasher, &proven, full, &map.root())?;
-        append(&mut line, format!(in alloc; "{count}:({shown})")?.as_str())?;
+        let shown = shown_in_tail(alloc, hasher, &proven, *full, &map.root());
+        line.say(bracketed(alloc, *full, shown));
     }
-    Ok(line)
+    line.text()
 }
 
-// The leaves with which the proof shows its bit: of the lengths up to the most, and of these others.
+// The leaves with which the proof of a bit shows it: of the lengths up to the most, and of these others.
 fn shown_lengths<const N: usize>(
     alloc: Global,
     hasher: &Standard<ByteHash>,
     map: &MerkleizedBitMap<Hash, N>,
     bit: u64,
     most: u64,
-    others: &[&str],
+    others: &[u64],
 ) -> Answer
     requires { IsChunkWidth N }
 {
     let mut proven = kept_proof(hasher, map, bit)?;
-    let mut line = String::new(alloc);
+    let mut line = Line::new(alloc);
     for leaves in 0..most {
         proven.0.leaves = Location::new(leaves);
-        if shows(alloc, hasher, &proven, bit, &map.root())? {
-            append(&mut line, format!(in alloc; "{leaves}")?.as_str())?;
-        }
+        line.number_if(leaves, shows(alloc, hasher, &proven, bit, &map.root()));
     }
-    for other in others {
-        proven.0.leaves = Location::new(other.parse()?);
-        if shows(alloc, hasher, &proven, bit, &map.root())? {
-            append(&mut line, other)?;
-        }
+    for leaves in others {
+        proven.0.leaves = Location::new(*leaves);
+        line.number_if(*leaves, shows(alloc, hasher, &proven, bit, &map.root()));
     }
-    Ok(line)
+    line.text()
 }
 
 // For the first bit of every so many: the leaves with which its proof shows it, of those below the most and of others.
@@ -236,18 +277,17 @@ fn lengths<const N: usize>(
     map: &MerkleizedBitMap<Hash, N>,
     step: u64,
     most: u64,
-    others: &[&str],
+    others: &[u64],
 ) -> Answer
     requires { IsChunkWidth N }
 {
-    let mut line = String::new(alloc);
+    let mut line = Line::new(alloc);
     for count in 0..map.len() {
         let bit = count.wrapping_mul(step);
-        if bit < map.pruned_bits() || bit >= map.len() {
-            continue;
+        if bit >= map.pruned_bits() && bit < map.len() {
+            let shown = shown_lengths(alloc, hasher, map, bit, most, others);
+            line.say(bracketed(alloc, bit, shown));
         }
-        let shown = shown_lengths(alloc, hasher, map, bit, most, others)?;
-        append(&mut line, format!(in alloc; "{bit}:({shown})")?.as_str())?;
     }
-    Ok(line)
+    line.text()
 }

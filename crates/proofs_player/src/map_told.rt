@@ -2,7 +2,7 @@
 
 ghost use Rattle.state_bitmap.specs.Bits.{IsChunkWidth};
 
-use crate::arguments::{Answer, Hash, array_digits, number, truth};
+use crate::arguments::{Answer, Hash, Line, array_digits, bit_told, chunk_told, number, truth};
 use case_lines::Unanswered;
 use state_bitmap::BitMap;
 use state_bitmap::authenticated::State;
@@ -32,32 +32,42 @@ fn last_chunk<const N: usize, M: State<Hash>>(alloc: Global, map: &BitMap<Hash, 
     requires { IsChunkWidth N }
 {
     let (chunk, count) = map.last_chunk();
-    let digits = array_digits(alloc, chunk)?;
-    Ok(format!(in alloc; "{digits} {count}")?)
+    let mut line = Line::new(alloc);
+    line.say(array_digits(alloc, chunk));
+    line.number(count);
+    line.text()
 }
 
 /// A question that a map answers in both states.
 pub(crate) fn told<const N: usize, M: State<Hash>>(
     alloc: Global,
     map: &BitMap<Hash, N, M>,
-    words: &[&str],
+    name: &str,
 ) -> Answer
     requires { IsChunkWidth N }
 {
-    match words {
-        ["size"] => number(alloc, map.size().as_u64()),
-        ["len"] => number(alloc, map.len()),
-        ["is_empty"] => truth(alloc, map.is_empty()),
-        ["pruned_bits"] => number(alloc, map.pruned_bits()),
-        ["last_chunk"] => last_chunk(alloc, map),
-        ["get_bit", at] => match bit_at(map, at.parse()?) {
-            Some(bit) => truth(alloc, bit),
-            None => Err(Unanswered::BadLine),
-        },
-        ["get_chunk_containing", at] => match chunk_with(map, at.parse()?) {
-            Some(chunk) => array_digits(alloc, chunk),
-            None => Err(Unanswered::BadLine),
-        },
+    match name {
+        "size" => number(alloc, map.size().as_u64()),
+        "len" => number(alloc, map.len()),
+        "is_empty" => truth(alloc, map.is_empty()),
+        "pruned_bits" => number(alloc, map.pruned_bits()),
+        "last_chunk" => last_chunk(alloc, map),
+        _ => Err(Unanswered::BadLine),
+    }
+}
+
+/// A question about a bit that a map answers in both states.
+pub(crate) fn told_at<const N: usize, M: State<Hash>>(
+    alloc: Global,
+    map: &BitMap<Hash, N, M>,
+    name: &str,
+    at: u64,
+) -> Answer
+    requires { IsChunkWidth N }
+{
+    match name {
+        "get_bit" => bit_told(alloc, bit_at(map, at)),
+        "get_chunk_containing" => chunk_told(alloc, chunk_with(map, at)),
         _ => Err(Unanswered::BadLine),
     }
 }

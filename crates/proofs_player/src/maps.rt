@@ -3,13 +3,14 @@
 ghost use Rattle.state_bitmap.specs.Bits.{IsChunkWidth};
 
 use crate::arguments::{
-    Answer, Hash, bagging, bit, bits, digest_list, digest_or_none, digests, done, number,
+    Answer, Hash, Line, bagging, bit, bits, digest_list, digest_or_none, digest_told, digests,
+    done, done_if, number, shown,
 };
 use crate::map_proofs;
-use crate::map_told::told;
+use crate::map_told::{told, told_at};
 use case_lines::{Unanswered, bytes};
 use merkle_forest::hasher::Standard;
-use merkle_forest::{ByteHash, Position};
+use merkle_forest::{Bagging, ByteHash, Position};
 use state_bitmap::{Error, MerkleizedBitMap, UnmerkleizedBitMap};
 use std::alloc::Global;
 use std::mem;
@@ -49,40 +50,59 @@ pub(crate) struct Map {
 /// The answer to the refusal of a call.
 pub(crate) fn refused(alloc: Global, error: Error) -> Answer {
     match error {
-        Error::InvalidPinnedNodes => Ok("M12".to_string(alloc)?),
-        Error::DataCorrupted => Ok("M21".to_string(alloc)?),
-        Error::BitOutOfBounds(bit, length) => Ok(format!(in alloc; "M22 {bit} {length}")?),
-        Error::Memory => Ok("M23".to_string(alloc)?),
+        Error::InvalidPinnedNodes => shown(alloc, "M12"),
+        Error::DataCorrupted => shown(alloc, "M21"),
+        Error::BitOutOfBounds(bit, length) => out_of_bounds(alloc, bit, length),
+        Error::Memory => shown(alloc, "M23"),
     }
 }
 
-// A map without bits, whose peaks are folded as the word says.
-fn empty<const N: usize>(alloc: Global, fold: &str) -> Result<Hashed<N>, Unanswered>
+// The answer to the refusal of a bit that is past the end.
+fn out_of_bounds(alloc: Global, bit: u64, length: u64) -> Answer {
+    Ok(format!(in alloc; "M22 {bit} {length}")?)
+}
+
+// The answer of a call that has nothing to answer, or its refusal.
+fn changed(alloc: Global, changed: Result<(), Error>) -> Answer {
+    match changed {
+        Ok(()) => done(alloc),
+        Err(error) => refused(alloc, error),
+    }
+}
+
+// A map without bits, with this hasher.
+fn empty<const N: usize>(alloc: Global, hasher: Standard<ByteHash>) -> Hashed<N>
     requires { IsChunkWidth N }
 {
-    let hasher = Standard::new(bagging(fold)?);
     let stage = Stage::Merkleized(MerkleizedBitMap::new(alloc, &hasher));
-    Ok(Hashed { hasher, stage })
+    Hashed { hasher, stage }
 }
 
 impl<const N: usize> Hashed<N> {
-    // A call that leads to a map that knows its root, or takes that knowledge.
-    fn turned(&mut self, alloc: Global, words: &[&str]) -> Answer
-        requires { IsChunkWidth N }
-    {
-        match (mem::replace(&mut self.stage, Stage::GivenUp), words) {
-            (Stage::Merkleized(map), ["into_dirty"]) => {
+    // Takes from the map the knowledge of its root.
+    fn into_dirty(&mut self, alloc: Global) -> Answer {
+        match mem::replace(&mut self.stage, Stage::GivenUp) {
+            Stage::Merkleized(map) => {
                 self.stage = Stage::Changed(map.into_dirty());
                 done(alloc)
             }
-            (Stage::Changed(map), ["merkleize"]) => match map.merkleize(&self.hasher) {
-                Ok(map) => {
-                    self.stage = Stage::Merkleized(map);
-                    done(alloc)
-                }
-                Err(error) => refused(alloc, error),
-            },
-            (stage, _) => {
+            stage => {
+                self.stage = stage;
+                Err(Unanswered::BadLine)
+            }
+        }
+    }
+
+    // Leads to a map that knows its root.
+    fn merkleize(&mut self, alloc: Global) -> Answer
+        requires { IsChunkWidth N }
+    {
+        match mem::replace(&mut self.stage, Stage::GivenUp) {
+            Stage::Changed(map) => {
+                let made = map.merkleize(&self.hasher);
+                self.put(alloc, made)
+            }
+            stage => {
                 self.stage = stage;
                 Err(Unanswered::BadLine)
             }
@@ -90,11 +110,19 @@ impl<const N: usize> Hashed<N> {
     }
 
     // Makes the map of pruned parts, which stands in this one's place.
-    fn from_parts(&mut self, alloc: Global, chunks: &str, list: &str) -> Answer
+    fn from_parts(&mut self, alloc: Global, chunks: u64, list: &str) -> Answer
         requires { IsChunkWidth N }
     {
         let digests = digests(alloc, list)?;
-        match MerkleizedBitMap::from_pruned(alloc, &self.hasher, chunks.parse()?, &digests) {
+        match MerkleizedBitMap::from_pruned(alloc, &self.hasher, chunks, &digests) {
+            Ok(map) => self.put(alloc, Ok(map)),
+            Err(error) => refused(alloc, error),
+        }
+    }
+
+    // Puts a map in this one's place, if it could be made.
+    fn put(&mut self, alloc: Global, made: Result<MerkleizedBitMap<Hash, N>, Error>) -> Answer {
+        match made {
             Ok(map) => {
                 self.stage = Stage::Merkleized(map);
                 done(alloc)
@@ -108,19 +136,39 @@ impl<const N: usize> Hashed<N> {
         requires { IsChunkWidth N }
     {
         match words {
-            ["chunk_size_bits"] => {
-                return number(alloc, MerkleizedBitMap::<Hash, N>::chunk_size_bits());
-            }
-            ["into_dirty"] | ["merkleize"] => return self.turned(alloc, words),
-            ["from_pruned", chunks, list] => return self.from_parts(alloc, chunks, list),
-            ["bit_from_chunk", chunk, bit] => {
-                return map_proofs::bit_from_chunk::<N>(alloc, chunk, bit);
-            }
-            ["shows", ..] | ["leads", ..] => {
-                return map_proofs::of_proof::<N>(alloc, &self.hasher, words);
-            }
-            _ => {}
+            [name] => self.answer_alone(alloc, name, words),
+            ["from_pruned", chunks, list] => self.from_parts(alloc, chunks.parse()?, list),
+            words => self.answer_in_stage(alloc, words),
         }
+    }
+
+    // The answer to a line of one word.
+    fn answer_alone(&mut self, alloc: Global, name: &str, words: &[&str]) -> Answer
+        requires { IsChunkWidth N }
+    {
+        match name {
+            "chunk_size_bits" => number(alloc, MerkleizedBitMap::<Hash, N>::chunk_size_bits()),
+            "into_dirty" => self.into_dirty(alloc),
+            "merkleize" => self.merkleize(alloc),
+            _ => self.of_stage(alloc, words),
+        }
+    }
+
+    // The answer to a line that asks the map, or changes what it holds.
+    fn answer_in_stage(&mut self, alloc: Global, words: &[&str]) -> Answer
+        requires { IsChunkWidth N }
+    {
+        match words {
+            ["bit_from_chunk", chunk, bit] => map_proofs::bit_from_chunk::<N>(alloc, chunk, bit),
+            ["shows" | "leads", ..] => map_proofs::of_proof::<N>(alloc, &self.hasher, words),
+            words => self.of_stage(alloc, words),
+        }
+    }
+
+    // The answer to a line that asks the map, or changes its bits.
+    fn of_stage(&mut self, alloc: Global, words: &[&str]) -> Answer
+        requires { IsChunkWidth N }
+    {
         match &mut self.stage {
             Stage::Merkleized(map) => of_merkleized(alloc, &self.hasher, map, words),
             Stage::Changed(map) => of_changed(alloc, map, words),
@@ -132,8 +180,10 @@ impl<const N: usize> Hashed<N> {
 // How many chunks are pruned, and the digests that stay of them.
 fn pruned_parts<const N: usize>(alloc: Global, map: &MerkleizedBitMap<Hash, N>) -> Answer {
     let (chunks, digests) = map.pruned_parts()?;
-    let list = digest_list(alloc, &digests)?;
-    Ok(format!(in alloc; "{chunks} {list}")?)
+    let mut line = Line::new(alloc);
+    line.number(chunks);
+    line.say(digest_list(alloc, &digests));
+    line.text()
 }
 
 // Prunes the full chunks before that of a bit, which the bits reach.
@@ -145,10 +195,7 @@ fn prune_to_bit<const N: usize>(
     if bit > map.len() {
         return Err(Unanswered::BadLine);
     }
-    match map.prune_to_bit(bit) {
-        Ok(()) => done(alloc),
-        Err(error) => refused(alloc, error),
-    }
+    changed(alloc, map.prune_to_bit(bit))
 }
 
 // A call on a map that knows its root.
@@ -161,21 +208,57 @@ fn of_merkleized<const N: usize>(
     requires { IsChunkWidth N }
 {
     match words {
-        ["root"] => Ok(hex::encode(alloc, map.root().as_bytes())?),
-        ["get_node", position] => {
-            digest_or_none(alloc, map.get_node(Position::new(position.parse()?)))
-        }
-        ["pruned_parts"] => pruned_parts(alloc, map),
-        ["prune_to_bit", bit] => prune_to_bit(alloc, map, bit.parse()?),
-        ["proof", ..] | ["tails", ..] | ["lengths", ..] => {
-            map_proofs::of_map(alloc, hasher, map, words)
-        }
-        words => told(alloc, map, words),
+        [name] => of_merkleized_alone(alloc, map, name),
+        [name, at] => of_merkleized_at(alloc, hasher, map, name, at.parse()?),
+        words => map_proofs::of_map(alloc, hasher, map, words),
     }
 }
 
-// Appends bits.
+// A question with nothing behind its name to a map that knows its root.
+fn of_merkleized_alone<const N: usize>(
+    alloc: Global,
+    map: &MerkleizedBitMap<Hash, N>,
+    name: &str,
+) -> Answer
+    requires { IsChunkWidth N }
+{
+    match name {
+        "root" => digest_told(alloc, &map.root()),
+        "pruned_parts" => pruned_parts(alloc, map),
+        name => told(alloc, map, name),
+    }
+}
+
+// A call with a number on a map that knows its root.
+fn of_merkleized_at<const N: usize>(
+    alloc: Global,
+    hasher: &Standard<ByteHash>,
+    map: &mut MerkleizedBitMap<Hash, N>,
+    name: &str,
+    at: u64,
+) -> Answer
+    requires { IsChunkWidth N }
+{
+    match name {
+        "get_node" => digest_or_none(alloc, map.get_node(Position::new(at))),
+        "prune_to_bit" => prune_to_bit(alloc, map, at),
+        "proof" => map_proofs::proof(alloc, hasher, map, at),
+        name => told_at(alloc, map, name, at),
+    }
+}
+
+// Appends so many bits, which repeat those of a word.
 fn push<const N: usize>(
+    alloc: Global,
+    map: &mut UnmerkleizedBitMap<Hash, N>,
+    pattern: &str,
+    count: usize,
+) -> Result<(), Unanswered> {
+    push_all(map, &bits(alloc, pattern, count)?)
+}
+
+// Appends bits.
+fn push_all<const N: usize>(
     map: &mut UnmerkleizedBitMap<Hash, N>,
     bits: &[bool],
 ) -> Result<(), Unanswered> {
@@ -188,15 +271,17 @@ fn push<const N: usize>(
     Ok(())
 }
 
-// Appends the bits of bytes, where those that are there fill theirs.
+// Appends the bits of the bytes of these digits, where those that are there fill theirs.
 fn push_bytes<const N: usize>(
+    alloc: Global,
     map: &mut UnmerkleizedBitMap<Hash, N>,
-    bytes: &[u8],
+    digits: &str,
 ) -> Result<(), Unanswered> {
+    let bytes = bytes(alloc, digits)?;
     if map.len() % 8 != 0 || map.len() >= MOST || bytes.len() as u64 >= MOST {
         return Err(Unanswered::BadLine);
     }
-    Ok(map.push_bytes(bytes)?)
+    Ok(map.push_bytes(&bytes)?)
 }
 
 // Sets or clears a bit that is kept.
@@ -220,13 +305,42 @@ fn of_changed<const N: usize>(
     requires { IsChunkWidth N }
 {
     match words {
-        ["push", pattern] => push(map, &bits(alloc, pattern, pattern.len())?)?,
-        ["push", pattern, count] => push(map, &bits(alloc, pattern, count.parse()?)?)?,
-        ["push_bytes", digits] => push_bytes(map, &bytes(alloc, digits)?)?,
-        ["set_bit", at, value] => set_bit(map, at.parse()?, bit(value)?)?,
-        words => return told(alloc, map, words),
+        [name] => told(alloc, map, name),
+        [name, word] => of_changed_with(alloc, map, name, word),
+        [name, word, more] => done_if(alloc, changed_by_two(alloc, map, name, word, more)),
+        _ => Err(Unanswered::BadLine),
     }
-    done(alloc)
+}
+
+// A change of such a map with two words behind its name.
+fn changed_by_two<const N: usize>(
+    alloc: Global,
+    map: &mut UnmerkleizedBitMap<Hash, N>,
+    name: &str,
+    word: &str,
+    more: &str,
+) -> Result<(), Unanswered> {
+    match name {
+        "push" => push(alloc, map, word, more.parse()?),
+        "set_bit" => set_bit(map, word.parse()?, bit(more)?),
+        _ => Err(Unanswered::BadLine),
+    }
+}
+
+// A call with one word behind its name on such a map.
+fn of_changed_with<const N: usize>(
+    alloc: Global,
+    map: &mut UnmerkleizedBitMap<Hash, N>,
+    name: &str,
+    word: &str,
+) -> Answer
+    requires { IsChunkWidth N }
+{
+    match name {
+        "push" => done_if(alloc, push(alloc, map, word, word.len())),
+        "push_bytes" => done_if(alloc, push_bytes(alloc, map, word)),
+        name => told_at(alloc, map, name, word.parse()?),
+    }
 }
 
 impl Map {
@@ -236,11 +350,12 @@ impl Map {
     }
 
     // The map without bits of chunks of so many bytes.
-    fn begun(&mut self, alloc: Global, width: &str, fold: &str) -> Answer {
+    fn begun(&mut self, alloc: Global, width: &str, fold: Bagging) -> Answer {
+        let hasher = Standard::new(fold);
         self.of_width = match width {
-            "1" => Some(AnyWidth::One(empty(alloc, fold)?)),
-            "32" => Some(AnyWidth::ThirtyTwo(empty(alloc, fold)?)),
-            "64" => Some(AnyWidth::SixtyFour(empty(alloc, fold)?)),
+            "1" => Some(AnyWidth::One(empty(alloc, hasher))),
+            "32" => Some(AnyWidth::ThirtyTwo(empty(alloc, hasher))),
+            "64" => Some(AnyWidth::SixtyFour(empty(alloc, hasher))),
             _ => return Err(Unanswered::BadLine),
         };
         done(alloc)
@@ -248,9 +363,14 @@ impl Map {
 
     /// The answer to a line about a map.
     pub(crate) fn answer(&mut self, alloc: Global, words: &[&str]) -> Answer {
-        if let ["new", width, fold] = words {
-            return self.begun(alloc, width, fold);
+        match words {
+            ["new", width, fold] => self.begun(alloc, width, bagging(fold)?),
+            words => self.answer_of_width(alloc, words),
         }
+    }
+
+    // The answer of the map, whatever the size of its chunks.
+    fn answer_of_width(&mut self, alloc: Global, words: &[&str]) -> Answer {
         match &mut self.of_width {
             Some(AnyWidth::One(map)) => map.answer(alloc, words),
             Some(AnyWidth::ThirtyTwo(map)) => map.answer(alloc, words),

@@ -3,10 +3,11 @@
 ghost use Rattle.std.specs.Prelude.{◌<◌, ◌^◌};
 
 use crate::arguments::{
-    Answer, Hash, array, arrays, byte_lists, digest, digest_list, digest_or_none, lent, numbers,
-    refused, truth,
+    Answer, Hash, Line, array, arrays, byte_lists, digest, digest_list, digest_or_none,
+    digest_told, lent, numbers, refused, truth, truth_if,
 };
-use crate::refusals::{of_bytes, of_extraction};
+use crate::log_proofs::extracted;
+use crate::refusals::of_bytes;
 use case_lines::{Unanswered, digits};
 use merkle_forest::codec::{Decode, Encode, EncodeSize, FixedBytes};
 use merkle_forest::{ByteHash, Graftable, Location, PendingOf};
@@ -30,9 +31,10 @@ pub(crate) struct Shown<'a> {
 // What was read, written again: its size, and its bytes.
 fn written<T: Encode + EncodeSize>(alloc: Global, value: &T) -> Answer {
     let bytes = value.encode(alloc)?;
-    let size = value.encode_size();
-    let digits = digits(alloc, &bytes)?;
-    Ok(format!(in alloc; "{size} {digits}")?)
+    let mut line = Line::new(alloc);
+    line.number(value.encode_size() as u64);
+    line.say(digits(alloc, &bytes));
+    line.text()
 }
 
 // A key.
@@ -46,12 +48,14 @@ fn range_parts<F: Graftable + PendingOf<Hash>>(
     alloc: Global,
     proof: &RangeProof<F, Hash>,
 ) -> Answer {
-    let (leaves, inactive) = (proof.proof.leaves, proof.proof.inactive_peaks);
-    let list = digest_list(alloc, &proof.proof.digests)?;
-    let pending = digest_or_none(alloc, F::digest_of(&proof.pending_chunk_digest))?;
-    let partial = digest_or_none(alloc, proof.partial_chunk_digest)?;
-    let root = digest_or_none(alloc, Some(proof.ops_root))?;
-    Ok(format!(in alloc; "{leaves} {inactive} {list} {pending} {partial} {root}")?)
+    let mut line = Line::new(alloc);
+    line.number(proof.proof.leaves.as_u64());
+    line.number(proof.proof.inactive_peaks);
+    line.say(digest_list(alloc, &proof.proof.digests));
+    line.say(digest_or_none(alloc, F::digest_of(&proof.pending_chunk_digest)));
+    line.say(digest_or_none(alloc, proof.partial_chunk_digest));
+    line.say(digest_told(alloc, &proof.ops_root));
+    line.text()
 }
 
 /// A proof of an operation: what is read, `parts`, or whether it shows an operation, `shows OPERATION`.
@@ -61,24 +65,41 @@ pub(crate) fn operation<F: Graftable + PendingOf<Hash>, C: ChunkForm>(
     limits: &C::Limits,
     words: &[&str],
 ) -> Answer {
-    let proof: Proof<F, Hash, C> = match Proof::decode_cfg(alloc, shown.bytes, limits) {
-        Ok(proof) => proof,
-        Err(error) => return refused(alloc, of_bytes(error)),
-    };
+    let read: Result<Proof<F, Hash, C>, _> = Proof::decode_cfg(alloc, shown.bytes, limits);
+    match read {
+        Ok(proof) => operation_told(alloc, &proof, shown.root, words),
+        Err(error) => refused(alloc, of_bytes(error)),
+    }
+}
+
+// What a proof of an operation tells.
+fn operation_told<F: Graftable + PendingOf<Hash>, C: ChunkForm>(
+    alloc: Global,
+    proof: &Proof<F, Hash, C>,
+    root: &Hash,
+    words: &[&str],
+) -> Answer {
     match words {
-        ["written"] => written(alloc, &proof),
-        ["parts"] => {
-            let location = proof.loc;
-            let chunk = digits(alloc, proof.chunk.as_slice())?;
-            let parts = range_parts(alloc, &proof.range_proof)?;
-            Ok(format!(in alloc; "{location} {chunk} {parts}")?)
-        }
+        ["written"] => written(alloc, proof),
+        ["parts"] => operation_parts(alloc, proof),
         ["shows", operation] => {
             let operation = case_lines::bytes(alloc, operation)?;
-            truth(alloc, proof.verify::<ByteHash>(shown.root, &operation))
+            truth(alloc, proof.verify::<ByteHash>(root, &operation))
         }
         _ => Err(Unanswered::BadLine),
     }
+}
+
+// The parts of a proof of an operation: its location, its chunk, and those of a range proof.
+fn operation_parts<F: Graftable + PendingOf<Hash>, C: ChunkForm>(
+    alloc: Global,
+    proof: &Proof<F, Hash, C>,
+) -> Answer {
+    let mut line = Line::new(alloc);
+    line.number(proof.loc.as_u64());
+    line.say(digits(alloc, proof.chunk.as_slice()));
+    line.say(range_parts(alloc, &proof.range_proof));
+    line.text()
 }
 
 /// A proof of a value: `written`, `next_key`, or `shows KEY VALUE`.
@@ -88,24 +109,46 @@ pub(crate) fn value<F: Graftable + PendingOf<Hash>, C: ChunkForm>(
     limits: &(C::Limits, ()),
     words: &[&str],
 ) -> Answer {
-    let proof: KeyValueProof<F, Key, Hash, C> = match KeyValueProof::decode_cfg(
+    let read: Result<KeyValueProof<F, Key, Hash, C>, _> = KeyValueProof::decode_cfg(
         alloc,
         shown.bytes,
         limits,
-    ) {
-        Ok(proof) => proof,
-        Err(error) => return refused(alloc, of_bytes(error)),
-    };
+    );
+    match read {
+        Ok(proof) => value_told(alloc, &proof, shown.root, words),
+        Err(error) => refused(alloc, of_bytes(error)),
+    }
+}
+
+// What a proof of a value tells.
+fn value_told<F: Graftable + PendingOf<Hash>, C: ChunkForm>(
+    alloc: Global,
+    proof: &KeyValueProof<F, Key, Hash, C>,
+    root: &Hash,
+    words: &[&str],
+) -> Answer {
     match words {
-        ["written"] => written(alloc, &proof),
+        ["written"] => written(alloc, proof),
         ["next_key"] => digits(alloc, proof.next_key.as_bytes()),
         ["shows", key_digits, value] => {
-            let (key, value): (Key, u64) = (key(key_digits)?, value.parse()?);
-            let yes = proof.verify::<ByteHash, u64>(alloc, shown.root, &key, &value)?;
-            truth(alloc, yes)
+            shows_value(alloc, proof, root, &key(key_digits)?, value.parse()?)
         }
         _ => Err(Unanswered::BadLine),
     }
+}
+
+// Whether a proof shows that a key has a value.
+fn shows_value<F: Graftable + PendingOf<Hash>, C: ChunkForm>(
+    alloc: Global,
+    proof: &KeyValueProof<F, Key, Hash, C>,
+    root: &Hash,
+    key: &Key,
+    value: u64,
+) -> Answer {
+    truth_if(
+        alloc,
+        proof.verify::<ByteHash, u64>(alloc, root, key, &value),
+    )
 }
 
 /// A proof of absence: `written`, or `shows KEY`.
@@ -115,20 +158,27 @@ pub(crate) fn absence<F: Graftable + PendingOf<Hash>, C: ChunkForm>(
     limits: &(C::Limits, (), ()),
     words: &[&str],
 ) -> Answer {
-    let proof: ExclusionProof<F, Key, u64, Hash, C> = match ExclusionProof::decode_cfg(
+    let read: Result<ExclusionProof<F, Key, u64, Hash, C>, _> = ExclusionProof::decode_cfg(
         alloc,
         shown.bytes,
         limits,
-    ) {
-        Ok(proof) => proof,
-        Err(error) => return refused(alloc, of_bytes(error)),
-    };
+    );
+    match read {
+        Ok(proof) => absence_told(alloc, &proof, shown.root, words),
+        Err(error) => refused(alloc, of_bytes(error)),
+    }
+}
+
+// What a proof of absence tells.
+fn absence_told<F: Graftable + PendingOf<Hash>, C: ChunkForm>(
+    alloc: Global,
+    proof: &ExclusionProof<F, Key, u64, Hash, C>,
+    root: &Hash,
+    words: &[&str],
+) -> Answer {
     match words {
-        ["written"] => written(alloc, &proof),
-        ["shows", asked] => {
-            let yes = proof.verify::<ByteHash>(alloc, shown.root, &key(asked)?)?;
-            truth(alloc, yes)
-        }
+        ["written"] => written(alloc, proof),
+        ["shows", asked] => { truth_if(alloc, proof.verify::<ByteHash>(alloc, root, &key(asked)?)) }
         _ => Err(Unanswered::BadLine),
     }
 }
@@ -139,36 +189,72 @@ pub(crate) fn witness<F: Graftable + PendingOf<Hash>>(
     shown: Shown<'_>,
     words: &[&str],
 ) -> Answer {
-    let witness: OpsRootWitness<F, Hash> = match OpsRootWitness::decode_cfg(
+    let read: Result<OpsRootWitness<F, Hash>, _> = OpsRootWitness::decode_cfg(
         alloc,
         shown.bytes,
         &(),
-    ) {
-        Ok(witness) => witness,
-        Err(error) => return refused(alloc, of_bytes(error)),
-    };
+    );
+    match read {
+        Ok(witness) => witness_told(alloc, &witness, shown.root, words),
+        Err(error) => refused(alloc, of_bytes(error)),
+    }
+}
+
+// What a witness tells.
+fn witness_told<F: Graftable + PendingOf<Hash>>(
+    alloc: Global,
+    witness: &OpsRootWitness<F, Hash>,
+    root: &Hash,
+    words: &[&str],
+) -> Answer {
     match words {
-        ["written"] => written(alloc, &witness),
-        ["parts"] => {
-            let grafted = digest_or_none(alloc, Some(witness.grafted_root))?;
-            let pending = digest_or_none(alloc, F::digest_of(&witness.pending_chunk_digest))?;
-            match &witness.partial_chunk {
-                Some((next, digest)) => {
-                    let partial = digest_or_none(alloc, Some(*digest))?;
-                    Ok(format!(in alloc; "{grafted} {pending} {next} {partial}")?)
-                }
-                None => Ok(format!(in alloc; "{grafted} {pending} none")?),
-            }
+        ["written"] => written(alloc, witness),
+        ["parts"] => witness_parts(alloc, witness),
+        [question, operations] => {
+            witness_under(alloc, witness, root, question, &digest(operations)?)
         }
-        ["root", operations] => {
-            let root = witness.root::<ByteHash>(&digest(operations)?);
-            digest_or_none(alloc, Some(root))
-        }
-        ["shows", operations] => truth(
-            alloc,
-            witness.verify::<ByteHash>(&digest(operations)?, shown.root),
-        ),
         _ => Err(Unanswered::BadLine),
+    }
+}
+
+// What a witness tells of a root of the operations.
+fn witness_under<F: Graftable + PendingOf<Hash>>(
+    alloc: Global,
+    witness: &OpsRootWitness<F, Hash>,
+    root: &Hash,
+    question: &str,
+    operations: &Hash,
+) -> Answer {
+    match question {
+        "root" => digest_told(alloc, &witness.root::<ByteHash>(operations)),
+        "shows" => truth(alloc, witness.verify::<ByteHash>(operations, root)),
+        _ => Err(Unanswered::BadLine),
+    }
+}
+
+// The parts of a witness: the root of the grafted tree, the pending digest, and behind the number of bits in it that of
+// the partial chunk.
+fn witness_parts<F: Graftable + PendingOf<Hash>>(
+    alloc: Global,
+    witness: &OpsRootWitness<F, Hash>,
+) -> Answer {
+    let mut line = Line::new(alloc);
+    line.say(digest_told(alloc, &witness.grafted_root));
+    line.say(digest_or_none(alloc, F::digest_of(&witness.pending_chunk_digest)));
+    line.say(partial_told(alloc, witness.partial_chunk));
+    line.text()
+}
+
+// The number of bits in a partial chunk, and its digest.
+fn partial_told(alloc: Global, partial: Option<(u64, Hash)>) -> Answer {
+    match partial {
+        Some((next, digest)) => {
+            let mut line = Line::new(alloc);
+            line.number(next);
+            line.say(digest_told(alloc, &digest));
+            line.text()
+        }
+        None => Ok("none".to_string(alloc)?),
     }
 }
 
@@ -180,45 +266,89 @@ pub(crate) fn range<F: Graftable + PendingOf<Hash>>(
     most: usize,
     words: &[&str],
 ) -> Answer {
-    let proof: RangeProof<F, Hash> = match RangeProof::decode_cfg(alloc, shown.bytes, &most) {
-        Ok(proof) => proof,
-        Err(error) => return refused(alloc, of_bytes(error)),
-    };
+    let read: Result<RangeProof<F, Hash>, _> = RangeProof::decode_cfg(alloc, shown.bytes, &most);
+    match read {
+        Ok(proof) => range_told(alloc, &proof, shown.root, words),
+        Err(error) => refused(alloc, of_bytes(error)),
+    }
+}
+
+// What a proof over a range tells.
+fn range_told<F: Graftable + PendingOf<Hash>>(
+    alloc: Global,
+    proof: &RangeProof<F, Hash>,
+    root: &Hash,
+    words: &[&str],
+) -> Answer {
     match words {
-        ["written"] => written(alloc, &proof),
-        ["parts"] => range_parts(alloc, &proof),
-        ["shows", start, operations, chunks, width] => {
-            let operations = byte_lists(alloc, operations)?;
-            let chunks = byte_lists(alloc, chunks)?;
-            let yes = proof.verify_with_chunk_size::<ByteHash>(
-                Location::new(start.parse()?),
-                &lent(alloc, &operations)?,
-                &lent(alloc, &chunks)?,
-                width.parse()?,
-                shown.root,
-            );
-            truth(alloc, yes)
-        }
-        ["shows_arrays", start, operations, chunks, width] => {
+        ["written"] => written(alloc, proof),
+        ["parts"] => range_parts(alloc, proof),
+        [question, start, list, chunks, width] => {
             let start = Location::new(start.parse()?);
-            let operations = byte_lists(alloc, operations)?;
-            let words = [*chunks, *width];
-            arrays_shown(alloc, &proof, start, &operations, words, shown.root)
-        }
-        ["digests", start, list, chunks, width] => {
-            let start = Location::new(start.parse()?);
-            let numbers = numbers(alloc, list)?;
-            digests_told(
-                alloc,
-                &proof,
-                start,
-                &numbers,
-                [*chunks, *width],
-                shown.root,
-            )
+            range_shown(alloc, proof, root, question, start, list, [*chunks, *width])
         }
         _ => Err(Unanswered::BadLine),
     }
+}
+
+// What a proof over a range shows of a list from a location on, with chunks of so many bytes.
+fn range_shown<F: Graftable + PendingOf<Hash>>(
+    alloc: Global,
+    proof: &RangeProof<F, Hash>,
+    root: &Hash,
+    question: &str,
+    start: Location<F>,
+    list: &str,
+    chunks: [&str; 2],
+) -> Answer {
+    match question {
+        "shows" => slices_shown(alloc, proof, start, &byte_lists(alloc, list)?, chunks, root),
+        "shows_arrays" => {
+            arrays_shown(alloc, proof, start, &byte_lists(alloc, list)?, chunks, root)
+        }
+        "digests" => digests_told(alloc, proof, start, &numbers(alloc, list)?, chunks, root),
+        _ => Err(Unanswered::BadLine),
+    }
+}
+
+// Whether the proof shows operations with chunks that are lists of bytes.
+fn slices_shown<F: Graftable + PendingOf<Hash>>(
+    alloc: Global,
+    proof: &RangeProof<F, Hash>,
+    start: Location<F>,
+    operations: &[Vec<u8>],
+    words: [&str; 2],
+    root: &Hash,
+) -> Answer {
+    let [chunks, width] = words;
+    let chunks = byte_lists(alloc, chunks)?;
+    slices_shown_of(
+        alloc,
+        proof,
+        start,
+        operations,
+        &chunks,
+        width.parse()?,
+        root,
+    )
+}
+
+// Whether the proof shows operations with these chunks.
+fn slices_shown_of<F: Graftable + PendingOf<Hash>>(
+    alloc: Global,
+    proof: &RangeProof<F, Hash>,
+    start: Location<F>,
+    operations: &[Vec<u8>],
+    chunks: &[Vec<u8>],
+    width: usize,
+    root: &Hash,
+) -> Answer {
+    let operations = lent(alloc, operations)?;
+    let chunks = lent(alloc, chunks)?;
+    truth(
+        alloc,
+        proof.verify_with_chunk_size::<ByteHash>(start, &operations, &chunks, width, root),
+    )
 }
 
 // Whether the proof shows operations with chunks of N bytes.
@@ -275,10 +405,7 @@ fn digests_with<F: Graftable + PendingOf<Hash>, const N: usize>(
     let told = verify_proof_and_extract_digests::<F, ByteHash, u64, N>(
         alloc, proof, start, numbers, &chunks, root,
     );
-    match told {
-        Ok(nodes) => crate::log_proofs::nodes_told(alloc, &nodes),
-        Err(error) => refused(alloc, of_extraction(error)),
-    }
+    extracted(alloc, told)
 }
 
 // The nodes that the proof tells of numbers with chunks that are arrays.

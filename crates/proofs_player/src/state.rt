@@ -1,10 +1,10 @@
 //! A state: operations, whether each is active, and a floor; its trees, its roots, and what is read of them.
 
 use crate::arguments::{
-    Answer, Hash, bits, byte_lists, digest_or_none, done, keep, number, numbers as numbers_of,
-    refused,
+    Answer, Hash, bits, byte_lists, digest_or_none, digest_told, done, keep, numbers as numbers_of,
+    refused, shown,
 };
-use crate::grafted::Chunks;
+use crate::grafted::{Chunks, pruned};
 use crate::refusals::of_tree;
 use case_lines::Unanswered;
 use merkle_core::Mem;
@@ -73,29 +73,48 @@ impl<F: Graftable + PendingOf<Hash>> State<F> {
         done(alloc)
     }
 
-    // Prunes the tree of the operations.
-    fn prune(&mut self, alloc: Global, location: &str) -> Answer {
-        match self.tree.prune(Location::new(location.parse()?)) {
-            Ok(()) => done(alloc),
-            Err(error) => refused(alloc, of_tree(error)),
-        }
+    // Takes so many bits, which repeat those of a word.
+    fn set_bits(&mut self, alloc: Global, pattern: &str, count: usize) -> Answer {
+        self.bits = bits(alloc, pattern, count)?;
+        done(alloc)
+    }
+
+    // Takes the numbers of a log.
+    fn set_log(&mut self, alloc: Global, list: &str) -> Answer {
+        self.log = numbers_of(alloc, list)?;
+        done(alloc)
     }
 
     /// Lines that make a state: `add OPERATIONS`, `numbers FIRST LAST`, `bits PATTERN [COUNT]`, `floor LOCATION`,
     /// `pruned CHUNKS`, `log NUMBERS`, `prune LOCATION`.
     pub(crate) fn made(&mut self, alloc: Global, words: &[&str]) -> Answer {
         match words {
-            ["add", list] => return self.add(alloc, byte_lists(alloc, list)?),
+            [name, word] => self.made_of(alloc, name, word),
+            ["bits", pattern, count] => self.set_bits(alloc, pattern, count.parse()?),
             ["numbers", first, last] => {
                 let list = encoded_numbers(alloc, first.parse()?, last.parse()?)?;
-                return self.add(alloc, list);
+                self.add(alloc, list)
             }
-            ["bits", pattern] => self.bits = bits(alloc, pattern, pattern.len())?,
-            ["bits", pattern, count] => self.bits = bits(alloc, pattern, count.parse()?)?,
-            ["floor", location] => self.floor = location.parse()?,
-            ["pruned", chunks] => self.pruned = chunks.parse()?,
-            ["log", list] => self.log = numbers_of(alloc, list)?,
-            ["prune", location] => return self.prune(alloc, location),
+            _ => Err(Unanswered::BadLine),
+        }
+    }
+
+    // A line that makes a state, of one word.
+    fn made_of(&mut self, alloc: Global, name: &str, word: &str) -> Answer {
+        match name {
+            "add" => self.add(alloc, byte_lists(alloc, word)?),
+            "bits" => self.set_bits(alloc, word, word.len()),
+            "log" => self.set_log(alloc, word),
+            name => self.put(alloc, name, word.parse()?),
+        }
+    }
+
+    // A line that makes a state, of one number.
+    fn put(&mut self, alloc: Global, name: &str, number: u64) -> Answer {
+        match name {
+            "floor" => self.floor = number,
+            "pruned" => self.pruned = number,
+            "prune" => return pruned(alloc, self.tree.prune(Location::new(number))),
             _ => return Err(Unanswered::BadLine),
         }
         done(alloc)
@@ -104,18 +123,21 @@ impl<F: Graftable + PendingOf<Hash>> State<F> {
     /// Lines about the tree of the operations: `leaves`, `node POSITION`, `operations_root INACTIVE`.
     pub(crate) fn tree_told(&self, alloc: Global, words: &[&str]) -> Answer {
         match words {
-            ["leaves"] => number(alloc, self.tree.leaves().as_u64()),
+            ["leaves"] => shown(alloc, self.tree.leaves()),
             ["node", position] => {
                 digest_or_none(alloc, self.tree.get_node(Position::new(position.parse()?)))
             }
-            ["operations_root", inactive] => {
-                let hasher: Standard<ByteHash> = Standard::new(Bagging::BackwardFold);
-                match self.tree.root(&hasher, inactive.parse()?) {
-                    Ok(root) => digest_or_none(alloc, Some(root)),
-                    Err(error) => refused(alloc, of_tree(error)),
-                }
-            }
+            ["operations_root", inactive] => self.operations_root(alloc, inactive.parse()?),
             _ => Err(Unanswered::BadLine),
+        }
+    }
+
+    // The root of the tree of the operations.
+    fn operations_root(&self, alloc: Global, inactive: usize) -> Answer {
+        let hasher: Standard<ByteHash> = Standard::new(Bagging::BackwardFold);
+        match self.tree.root(&hasher, inactive) {
+            Ok(root) => digest_told(alloc, &root),
+            Err(error) => refused(alloc, of_tree(error)),
         }
     }
 }

@@ -1,5 +1,5 @@
 use Rattle.std.proofs.Common.{arith, refl}
-use Rattle.proofs_player.proofs.maps.Map.answer.Goals as goal
+use Rattle.proofs_player.proofs.maps.Map.answer_of_width.Goals as goal
 
 pub answer-requires : goal.answer-requires
 answer-requires c = (omega arith, (3, refl, omega arith))

@@ -1,5 +1,5 @@
 use Rattle.std.proofs.Common.{arith, refl}
-use Rattle.proofs_player.proofs.bits.Bits.answer.Goals as goal
+use Rattle.proofs_player.proofs.bits.Bits.of_width.Goals as goal
 
 pub of_list-requires : goal.of_list-requires
 of_list-requires c = (omega arith, (3, refl, omega arith))
