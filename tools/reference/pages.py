@@ -243,6 +243,7 @@ class Writer(Reads):
         self.synced = len(self.content)
         self.flushed = len(self.content) - len(self.content) % self.room
         self.kept = Kept(most_kept)
+        self.durable = Pages(pages.content, list(pages.slots))
 
     def append(self, piece):
         if len(self.content) - self.flushed + len(piece) > self.capacity:
@@ -251,7 +252,7 @@ class Writer(Reads):
         else:
             self.content += piece
 
-    def flush(self, end):
+    def put(self, end):
         """Puts the content up to an end on its pages: a page that has a durable slot gets the other one."""
         for page in range(self.flushed // self.room, -(-end // self.room)):
             length = min(self.room, end - page * self.room)
@@ -259,22 +260,48 @@ class Writer(Reads):
                 self.slots.append((length, 0))
             elif self.slots[page][0] != length:
                 self.slots[page] = (length, self.slots[page][0])
-            if length == self.room:
-                self.kept.keep(page)
+
+    def let_go(self, end):
+        """Has the content in memory no longer but for its last page, if that is not whole."""
+        for page in range(self.flushed // self.room, end // self.room):
+            self.kept.keep(page)
         self.flushed = end - end % self.room
 
+    def flush(self, end):
+        self.put(end)
+        self.let_go(end)
+
+    def pages(self):
+        """What stands on its pages."""
+        return Pages(self.content[: sum(it[0] for it in self.slots)], list(self.slots))
+
+    def start_sync(self):
+        """All is on its pages and durable, but the writer counts it as that only when it has waited."""
+        self.put(len(self.content))
+        self.durable = self.pages()
+        return len(self.content)
+
+    def wait_for_sync(self, size):
+        self.let_go(size)
+        self.synced = size
+
     def sync(self):
-        self.flush(len(self.content))
-        self.synced = len(self.content)
+        self.wait_for_sync(self.start_sync())
+
+    def try_append(self, piece):
+        if len(self.content) - self.flushed + len(piece) > self.capacity:
+            return "none"
+        self.content += piece
+        return str(len(self.content) - len(piece))
 
 
 class Case:
     def __init__(self):
-        self.file, self.pages = b"", None
+        self.file, self.pages, self.durable = b"", None, None
         self.size, self.capacity, self.room, self.calls = 64, 128, 8, 0
         self.tip = (0, 64, b"")
         self.cache = (4, 2, 0, [])
-        self.disk, self.record = b"", 0
+        self.disk, self.record, self.started = b"", 0, {}
 
     def pages_now(self):
         """The pages of what is recovered of the file."""
@@ -311,8 +338,40 @@ class Case:
         while words:
             words = self.step(writer, words, told)
         # bytes that are in the writer's buffer are gone with it
-        self.pages = Pages(writer.content[: sum(it[0] for it in writer.slots)], writer.slots)
+        self.pages, self.durable = writer.pages(), writer.durable
         return ", ".join(told) or "ok"
+
+    def start(self, first, words, is_refused):
+        """Appends a piece, starts a sync, and makes the calls of a line before it is waited for and after."""
+        writer, told = Writer(self.cut_pages(1 << 64), self.size, self.capacity, self.room), []
+        told.append(str(len(writer.content)))
+        writer.append(first)
+        durable, is_refused = writer.durable, is_refused and writer.synced < len(writer.content)
+        size = writer.start_sync()
+        if is_refused:
+            writer.durable = durable
+        while words:
+            match words:
+                case ["wait", *_] if is_refused:
+                    told.append("F6 sync")
+                    break
+                case ["wait", *words]:
+                    writer.wait_for_sync(size)
+                    told.append("ok")
+                    while words:
+                        words = self.step(writer, words, told)
+                case ["covered", *words]:
+                    told.append(str(size))
+                case ["try-append", text, *words]:
+                    told.append(writer.try_append(unhex(text)))
+                case ["view", offset, count, *words]:
+                    told.append(writer.read(number(offset), number(count)))
+                case ["try" | "size" | "needs-sync" | "kept" | "try-snapshot", *_]:
+                    words = self.step(writer, words, told)
+                case _:
+                    raise Bad
+        self.pages, self.durable = writer.pages(), writer.durable
+        return ", ".join(told)
 
     def sealed(self, first, more, play):
         """What is told of the list that is sealed after a first piece, while its writer goes on by more bytes and a sync."""
@@ -323,7 +382,7 @@ class Case:
         writer.append(more)
         writer.sync()
         told = play(sealed)
-        self.pages = Pages(writer.content[: sum(it[0] for it in writer.slots)], writer.slots)
+        self.pages, self.durable = writer.pages(), writer.durable
         return told
 
     def try_write(self, words):
@@ -336,12 +395,8 @@ class Case:
                     piece = number(value).to_bytes(8, "big")
                 case _:
                     raise Bad
-            if len(writer.content) - writer.flushed + len(piece) > writer.capacity:
-                told.append("none")
-            else:
-                told.append(str(len(writer.content)))
-                writer.content += piece
-        self.pages = Pages(writer.content[: sum(it[0] for it in writer.slots)], writer.slots)
+            told.append(writer.try_append(piece))
+        self.pages, self.durable = writer.pages(), writer.durable
         return ", ".join([*told, str(len(writer.content))])
 
     def step(self, writer, words, told):
@@ -388,6 +443,12 @@ class Case:
             case ["write", *words]:
                 self.check_sizes()
                 return self.play(self.cut_pages(1 << 64), words, [])
+            case ["start", first, *words]:
+                self.check_sizes()
+                return self.start(unhex(first), words, False)
+            case ["fault", first, *words]:
+                self.check_sizes()
+                return self.start(unhex(first), words, True)
             case ["try-write", *words]:
                 self.check_sizes()
                 return self.try_write(words)
@@ -427,6 +488,8 @@ class Case:
                 self.file, self.pages = spelled(words), None
             case ["page", first, second]:
                 self.file, self.pages = self.file + page_of(number(first), number(second)), None
+            case ["crash"] if self.durable:
+                self.pages = self.durable
             case ["length"]:
                 return str(len(self.pages.slots) * self.size if self.pages else len(self.file))
             case ["calls"]:
@@ -538,6 +601,14 @@ class Case:
             case ["read-many", *ranges] if len(ranges) % 2 == 0:
                 pairs = zip(ranges[::2], ranges[1::2])
                 return ", ".join(self.read(number(offset), number(count)) for offset, count in pairs) or "ok"
+            case ["start", "reads", *words] if len(words) % 2 == 0:
+                # they are of what is there now, and their refusal is told of when they are finished
+                self.started["reads"] = self.of_disk(["read-many", *words])
+                return "ok"
+            case ["start", "sync"]:
+                self.started["sync"] = "ok"
+            case ["finish", word] if word in self.started:
+                return self.started.pop(word)
             case ["write", offset, text, "plain" | "sync"]:
                 offset, piece = number(offset), unhex(text)
                 if offset + len(piece) >= 1 << 64:

@@ -3,7 +3,7 @@
 use crate::told::{Told, number};
 use case_lines::{Unanswered, bytes, digits};
 use paged_blob::bench::MemoryDisk;
-use paged_blob::{Blob, CacheRef, Error, WriteMode};
+use paged_blob::{Blob, CacheRef, Error, StartedReads, StartedSync, WriteMode};
 use paged_format::TipBuffer;
 use std::alloc::Global;
 
@@ -13,6 +13,8 @@ pub struct Kept {
     tip: TipBuffer,
     cache: CacheRef,
     disk: MemoryDisk,
+    reads: Option<StartedReads>,
+    sync: Option<StartedSync>,
 }
 
 // `ok`, or the refusal.
@@ -23,6 +25,32 @@ fn done(alloc: Global, answer: Result<(), Error>) -> Result<String, Unanswered> 
     }
 }
 
+// Ranges, each an offset and a count.
+fn ranges(alloc: Global, words: &[&str]) -> Result<Vec<(u64, usize)>, Unanswered> {
+    let mut ranges = Vec::new(alloc);
+    for pair in words.chunks(2) {
+        let [offset, count] = pair else {
+            return Err(Unanswered::BadLine);
+        };
+        ranges.push((offset.parse::<u64>()?, count.parse::<usize>()?))?;
+    }
+    Ok(ranges)
+}
+
+// Tells what was read, or the refusal.
+fn told_many(alloc: Global, answer: Result<Vec<Vec<u8>>, Error>) -> Result<String, Unanswered> {
+    let mut told = Told::new(alloc);
+    match answer {
+        Ok(pieces) => {
+            for piece in pieces.iter() {
+                told.push(digits(alloc, piece)?.as_str())?;
+            }
+        }
+        Err(error) => told.push(number(error))?,
+    }
+    told.finish(alloc)
+}
+
 impl Kept {
     /// Nothing is kept yet.
     pub fn new(alloc: Global) -> Kept {
@@ -30,6 +58,8 @@ impl Kept {
             tip: TipBuffer::new(alloc, 0, 64),
             cache: CacheRef::new(alloc, 4, 2),
             disk: MemoryDisk::new(alloc),
+            reads: None,
+            sync: None,
         }
     }
 
@@ -119,25 +149,32 @@ impl Kept {
         }
     }
 
-    // Reads ranges at once.
-    fn read_many(&mut self, alloc: Global, words: &[&str]) -> Result<String, Unanswered> {
-        let mut ranges = Vec::new(alloc);
-        for pair in words.chunks(2) {
-            let [offset, count] = pair else {
-                return Err(Unanswered::BadLine);
-            };
-            ranges.push((offset.parse::<u64>()?, count.parse::<usize>()?))?;
-        }
-        let mut told = Told::new(alloc);
-        match self.disk.read_many(alloc, &ranges) {
-            Ok(pieces) => {
-                for piece in pieces.iter() {
-                    told.push(digits(alloc, piece)?.as_str())?;
-                }
+    // Starts a call of the blob.
+    fn start(&mut self, alloc: Global, words: &[&str]) -> Result<String, Unanswered> {
+        match words {
+            ["reads", words @ ..] => {
+                let ranges = ranges(alloc, words)?;
+                self.reads = Some(self.disk.start_read_many(alloc, &ranges));
             }
-            Err(error) => told.push(number(error))?,
+            ["sync"] => self.sync = Some(self.disk.start_sync()),
+            _ => return Err(Unanswered::BadLine),
         }
-        told.finish(alloc)
+        Ok("ok".to_string(alloc)?)
+    }
+
+    // Finishes the call that was started last of its kind.
+    fn finish(&mut self, alloc: Global, word: &str) -> Result<String, Unanswered> {
+        match word {
+            "reads" => match self.reads.take() {
+                Some(reads) => told_many(alloc, reads.finish()),
+                None => Err(Unanswered::BadLine),
+            },
+            "sync" => match self.sync.take() {
+                Some(sync) => done(alloc, sync.finish()),
+                None => Err(Unanswered::BadLine),
+            },
+            _ => Err(Unanswered::BadLine),
+        }
     }
 
     /// Makes a call of the blob.
@@ -153,7 +190,11 @@ impl Kept {
                 told.push_bytes(alloc, read)?;
                 told.finish(alloc)
             }
-            ["read-many", words @ ..] => self.read_many(alloc, words),
+            ["read-many", words @ ..] => {
+                told_many(alloc, self.disk.read_many(alloc, &ranges(alloc, words)?))
+            }
+            ["start", words @ ..] => self.start(alloc, words),
+            ["finish", word] => self.finish(alloc, word),
             ["write", offset, text, mode] => {
                 let mode = match *mode {
                     "plain" => WriteMode::Plain,

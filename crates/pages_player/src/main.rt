@@ -4,31 +4,35 @@
 ghost use Rattle.std.specs.Prelude.{◌≡◌, ◌+◌, [], IfOk};
 ghost use Rattle.paged_format.specs.Footers.{IsPageSize};
 
+mod faulty;
 mod formats;
 mod keeping;
 mod many;
 mod sealing;
+mod syncing;
 mod told;
 mod writers;
 
 use case_lines::{Player, Unanswered, bytes, digits, play};
 use fault_storage::Crc32;
+use faulty::FaultyDisk;
 use formats::{page, prefix, slot_lengths, spelled};
 use keeping::Kept;
 use paged_blob::bench::MemoryDisk;
 use paged_blob::{
-    CacheRef, Error, Recovery, Writer, cut_blob, prefix_of_blob, prefix_of_blob_at_most,
+    CacheRef, Error, Recorded, Recovery, Writer, cut_blob, prefix_of_blob, prefix_of_blob_at_most,
 };
 use paged_format::is_page_size;
 use std::alloc::Global;
 use told::{Told, number};
 use writers::End;
 
-/// The file of a case, in pages of so many bytes, with the buffer of its writers, how many pages their cache has room for, how
+/// The file of a case and what of it a crash cannot take, in pages of so many bytes, with the buffer of its writers, how many pages their cache has room for, how
 /// many calls the last one made, and what else is kept.
 #[derive(Drop)]
 struct PagesPlayer {
     file: Vec<u8>,
+    durable: Vec<u8>,
     page_size: u32,
     capacity: usize,
     room: usize,
@@ -43,6 +47,16 @@ fn ended(end: Result<(), End>, told: &mut Told) -> Result<(), Unanswered> {
         Err(End::Refused(error)) => told.push(number(error)),
         Err(End::Unanswered(unanswered)) => Err(unanswered),
     }
+}
+
+// What the last sync of a record made durable, or its opening showed.
+fn durable(alloc: Global, record: &[Recorded]) -> Result<Vec<u8>, Unanswered> {
+    for call in record.iter().rev() {
+        if let Recorded::Opened(bytes) | Recorded::Synced(bytes, true) = call {
+            return Ok(bytes.to_vec(alloc)?);
+        }
+    }
+    Ok(Vec::new(alloc))
 }
 
 impl PagesPlayer {
@@ -61,6 +75,7 @@ impl PagesPlayer {
     // Keeps what a line left of the file.
     fn keep(&mut self, alloc: Global, disk: &MemoryDisk) -> Result<(), Unanswered> {
         self.file = disk.as_bytes().to_vec(alloc)?;
+        self.durable = durable(alloc, disk.record())?;
         self.calls = disk.record().len();
         Ok(())
     }
@@ -85,6 +100,34 @@ impl PagesPlayer {
             Err(error) => told.push(number(error))?,
         }
         self.keep(alloc, &disk)?;
+        told.finish(alloc)
+    }
+
+    // Starts a sync of a writer over the file behind some bytes, and makes the calls of a line.
+    fn start(&mut self, alloc: Global, first: &str, words: &[&str]) -> Result<String, Unanswered> {
+        let mut cache = self.cache(alloc)?;
+        let mut told = Told::new(alloc);
+        let mut disk = MemoryDisk::showing(alloc, self.file.to_vec(alloc)?)?;
+        let (size, room) = (disk.as_bytes().len() as u64, self.capacity);
+        let end = syncing::start(
+            alloc, &mut disk, &mut cache, size, room, first, words, &mut told,
+        );
+        ended(end, &mut told)?;
+        self.keep(alloc, &disk)?;
+        told.finish(alloc)
+    }
+
+    // So it does where this sync is refused by a fault; that of the opening is not.
+    fn fault(&mut self, alloc: Global, first: &str, words: &[&str]) -> Result<String, Unanswered> {
+        let mut cache = self.cache(alloc)?;
+        let mut told = Told::new(alloc);
+        let mut disk = FaultyDisk::showing(alloc, self.file.to_vec(alloc)?, 1)?;
+        let (size, room) = (self.file.len() as u64, self.capacity);
+        let end = syncing::start(
+            alloc, &mut disk, &mut cache, size, room, first, words, &mut told,
+        );
+        ended(end, &mut told)?;
+        self.keep(alloc, disk.disk())?;
         told.finish(alloc)
     }
 
@@ -319,6 +362,7 @@ impl PagesPlayer {
                 self.file.extend_from_slice(&page)?;
             }
             ["show"] => return digits(alloc, &self.file),
+            ["crash"] => self.file = self.durable.to_vec(alloc)?,
             ["length"] => return Ok(self.file.len().to_string(alloc)?),
             ["calls"] => return Ok(self.calls.to_string(alloc)?),
             ["slots"] => return self.slots(alloc),
@@ -352,6 +396,7 @@ impl Player for PagesPlayer {
     fn begin(alloc: Global) -> Result<Self, Unanswered> {
         Ok(PagesPlayer {
             file: Vec::new(alloc),
+            durable: Vec::new(alloc),
             page_size: 64,
             capacity: 128,
             room: 8,
@@ -367,6 +412,8 @@ impl Player for PagesPlayer {
             ["cache", words @ ..] => self.kept.cache_answer(alloc, words),
             ["disk", words @ ..] => self.kept.disk_answer(alloc, words),
             ["write", words @ ..] => self.write(alloc, words),
+            ["start", first, words @ ..] => self.start(alloc, first, words),
+            ["fault", first, words @ ..] => self.fault(alloc, first, words),
             ["try-write", words @ ..] => self.try_write(alloc, words),
             ["recover", cut, words @ ..] => self.recover(alloc, cut.parse()?, words),
             ["snapshot", first, more, words @ ..] => {

@@ -167,8 +167,8 @@ fn read_many<B: Blob, C: Checksum>(
     }
 }
 
-// Reads by one of the forms that make no call of the blob.
-fn try_read<C: Checksum>(
+/// Reads by one of the forms that make no call of the blob.
+pub fn try_read<C: Checksum>(
     alloc: Global,
     writer: &Writer<C>,
     cache: &CacheRef,
@@ -196,8 +196,8 @@ fn try_read<C: Checksum>(
     told_tried(alloc, told, is_served, &out)
 }
 
-// Appends bytes, lent or given away.
-fn append<B: Blob, C: Checksum>(
+/// Appends bytes, lent or given away.
+pub fn append<B: Blob, C: Checksum>(
     alloc: Global,
     writer: Writer<C>,
     blob: &mut B,
@@ -243,8 +243,8 @@ fn sync<B: Blob, C: Checksum>(
     Ok(writer)
 }
 
-// Tells what takes no call of the blob.
-fn tell<C: Checksum>(
+/// Tells what takes no call of the blob.
+pub fn tell<C: Checksum>(
     alloc: Global,
     writer: &Writer<C>,
     cache: &CacheRef,
