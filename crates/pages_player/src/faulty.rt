@@ -9,7 +9,8 @@ use paged_blob::bench::MemoryDisk;
 use paged_blob::{Blob, CallKind, Error, WriteMode};
 use std::alloc::{AllocError, Global};
 
-/// A blob in memory that spares so many syncs. The next is refused by a fault, and each call after that for want of memory.
+/// A blob in memory that spares so many syncs. The next is refused by a fault, and each call after that for want of
+/// memory.
 #[derive(Drop)]
 pub struct FaultyDisk {
     disk: MemoryDisk,

@@ -71,8 +71,8 @@ fn sum(page: &[u8], length: u16) -> u32 {
     }
 }
 
-/// A page of 64 bytes with the content 0, 1, 2 and so on, whose slots say these lengths, each with its checksum; 0 stands for a
-/// slot of zeros.
+/// A page of 64 bytes with the content 0, 1, 2 and so on, whose slots say these lengths, each with its checksum; 0
+/// stands for a slot of zeros.
 pub fn page(alloc: Global, first: u16, second: u16) -> Result<Vec<u8>, Unanswered> {
     let mut page = Vec::new(alloc);
     for byte in 0..52 {

@@ -27,8 +27,8 @@ use std::alloc::Global;
 use told::{Told, number};
 use writers::End;
 
-/// The file of a case and what of it a crash cannot take, in pages of so many bytes, with the buffer of its writers, how many pages their cache has room for, how
-/// many calls the last one made, and what else is kept.
+/// The file of a case and what of it a crash cannot take, in pages of so many bytes, with the buffer of its writers,
+/// how many pages their cache has room for, how many calls the last one made, and what else is kept.
 #[derive(Drop)]
 struct PagesPlayer {
     file: Vec<u8>,

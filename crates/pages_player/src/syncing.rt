@@ -48,7 +48,8 @@ fn take<B: Blob, C: Checksum>(
     requires under_way { IsUnderWay C.checksum_of (B.calls _blob.now) writer _sync.now }
     requires cached { HoldsPagesOf (written C.checksum_of (B.calls _blob.now) writer) _cache.now writer.blob_id }
     ensures under_way { IfOk result (λ w. IsUnderWay C.checksum_of (B.calls _blob.now) w _sync.now) }
-    ensures cached { IfOk result (λ w. HoldsPagesOf (written C.checksum_of (B.calls _blob.now) w) _cache.now w.blob_id) }
+    ensures cached { IfOk result (λ w. HoldsPagesOf (written C.checksum_of (B.calls _blob.now) w) _cache.now
+        w.blob_id) }
     ensures size { IfOk result (λ w. w.page_size ≡ writer.page_size) }
 {
     let mut writer = writer;
