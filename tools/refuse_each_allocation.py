@@ -78,7 +78,7 @@ def without(lines, at):
 
 
 # the lines that ask the store
-ASKS = re.compile(r"(commit( \d+)?|(get|prove) [0-9A-Fa-f]{16}|root|floor|len)$")
+ASKS = re.compile(r"(commit( \d+)?|(get|prove) [0-9A-Fa-f]{16}|prune \d+|root|floor|len)$")
 
 
 def failed(lines, at, program, shim):
@@ -135,7 +135,7 @@ REOPEN = [("close",), ("crash",), ("open",)]
 STEPS = [("open",)]
 STEPS += [("commit", (("put", A, model.number(1)), ("put", B, model.number(2))))]
 STEPS += [("commit", (("put", C, model.number(3)),))]
-STEPS += [*REOPEN, ("commit", (("delete", A),)), ("get", B), ("get", A), ("prove", C), ("root",)]
+STEPS += [*REOPEN, ("commit", (("delete", A),)), ("get", B), ("get", A), ("prove", C), ("prove", A), ("prune", 4), ("root",)]
 STEPS += [*REOPEN, ("get", C), ("commits",), ("floor",), ("len",), ("close",), ("openings",), ("by chance",)]
 
 
@@ -202,13 +202,15 @@ def outcomes(old, step):
     if kind in ("get", "prove"):
         yield from (("error S4", new) for new in refusals)
         value = int.from_bytes(state[of[0]], "big") if of[0] in state else None
-        if value is None:
-            yield ("none" if kind == "get" else "absent"), old
-        elif kind == "get":
-            yield f"value {value}", old
+        if kind == "get":
+            yield ("none" if value is None else f"value {value}"), old
         else:
-            yield f"present {value} {'yes' if old.root == root else 'no' if old.root else 'no root'}", old
-            yield from ((f"present {value} out of memory", new) for new in refusals)
+            found = "absent" if value is None else f"present {value}"
+            yield f"{found} {'yes' if old.root == root else 'no' if old.root else 'no root'}", old
+            yield from ((f"{found} out of memory", new) for new in refusals)
+    elif kind == "prune":
+        # Fewer operations than a chunk has stand before each floor that there is.
+        yield ("pruned 0" if of[0] <= floor else "error S7"), old
     elif kind == "root":
         yield f"root {root}", old._replace(root=root)
     else:

@@ -240,13 +240,9 @@ class Snapshot:
         self.grafted_root = tree_root(len(log), [self.forest.digest(p, True) for p in peaks], self.aligned)
         self.root = canonical(self.ops_root, self.grafted_root, self.forest.pending(), self.forest.partial())
 
-    def proof(self, key):
-        """The value of a key and its honest proof, or None."""
-        at = place_of(self.log, key)
-        if at is None:
-            return None
+    def operation_proof(self, at):
+        """The honest bytes that prove the operation at a place."""
         forest = self.forest
-        _, _, value, following = self.log[at]
         joined = lambda node: forest.digest(node, True)
         before = [peak for peak in forest.peaks if peak.stop <= at]
         behind = [peak for peak in forest.peaks if peak.first > at]
@@ -267,7 +263,37 @@ class Snapshot:
         if forest.family == "mmb":
             said += b"\0" if pending is None else b"\1" + pending
         said += b"\0" if partial is None else b"\1" + partial[1]
-        return value, said + self.ops_root + following
+        return said + self.ops_root
+
+    def proof(self, key):
+        """The value of a key, or None where it is absent, and the honest bytes that prove it."""
+        at = place_of(self.log, key)
+        if at is not None:
+            _, _, value, following = self.log[at]
+            return value, self.operation_proof(at) + following
+        present = state_after(self.log)
+        if not present:
+            at = len(self.log) - 1
+            _, metadata, _ = self.log[at]
+            said = b"\0" if metadata is None else b"\1" + metadata
+            return None, b"\2" + self.operation_proof(at) + said
+        at = place_of(self.log, max((k for k in present if k < key), default=max(present)))
+        return None, b"\1" + self.operation_proof(at) + b"".join(self.log[at][1:])
+
+    def is_settled(self, chunks):
+        """Whether each peak of the forest of so many chunks, raised by the height of a chunk, is a node of the forest."""
+        across = self.forest.across
+        spans = {(node.first, node.stop) for node in self.forest.nodes}
+        return all((peak.first * across, peak.stop * across) in spans
+                   for peak in grow(self.forest.family, chunks).peaks)
+
+    def settled_up_to(self, before, location):
+        """The greatest settled number of chunks that end by a location, and none less than so many."""
+        return max(before, *filter(self.is_settled, range(location // self.forest.across + 1)))
+
+    def pruned(self, before, location):
+        """How many chunks are pruned after pruning up to a location, of which so many were; None past the floor."""
+        return None if location > self.floor else self.settled_up_to(before, location)
 
 
 def maximal_without(node, leaf):
@@ -316,28 +342,66 @@ class Cursor:
             raise Bad
         return value
 
-    def option(self):
+    def option(self, count):
         tag = self.take(1)[0]
         if tag > 1:
             raise Bad
-        return self.take(32) if tag else None
+        return self.take(count) if tag else None
 
 
 def is_shown(family, width, root, key, value, data):
-    """Whether bytes prove under a root that the key has the value."""
+    """Whether bytes prove under a root that the key has the value, or that it is absent where the value is None."""
+    claimed = has_value if value is not None else is_absent
     try:
-        return rebuilt(family, width, key, value, Cursor(data)) == root
+        return rebuilt(family, width, Cursor(data), key, value, claimed) == root
     except Bad:
         return False
 
 
-def rebuilt(family, width, key, value, cursor):
+class Proof:
+    """The fields of an operation's proof, read from the front of bytes."""
+
+    def __init__(self, family, width, cursor):
+        self.at, self.chunk = cursor.varint(2**62), cursor.take(width)
+        self.leaves, self.inactive, count = cursor.varint(2**62), cursor.varint(2**64), cursor.varint(122)
+        self.digests = [cursor.take(32) for _ in range(count)]
+        self.pending = cursor.option(32) if family == "mmb" else None
+        self.partial, self.ops_root = cursor.option(32), cursor.take(32)
+
+
+def has_value(family, width, cursor, key, value):
+    """The proof, and the update that it has to be of."""
+    proof = Proof(family, width, cursor)
+    return proof, ("update", key, value, cursor.take(8))
+
+
+def is_between(first, key, last):
+    """Whether a key stands between two in the circle of all keys, the first one counted and the last one not."""
+    if first < last:
+        return first <= key < last
+    return first == last or key >= first or key < last
+
+
+def is_absent(family, width, cursor, key, _):
+    """The proof, and the operation that it has to be of: an update with a key and a next one around this key, or the
+    commit that says that there is no key."""
+    tag = cursor.take(1)[0]
+    if tag not in (1, 2):
+        raise Bad
+    proof = Proof(family, width, cursor)
+    if tag == 2:
+        return proof, ("commit", cursor.option(8), proof.at)
+    name, value, following = cursor.take(8), cursor.take(8), cursor.take(8)
+    if name == key or not is_between(name, key, following):
+        raise Bad
+    return proof, ("update", name, value, following)
+
+
+def rebuilt(family, width, cursor, key, value, claimed):
     """The root that is rebuilt of a proof's bytes."""
-    at, chunk = cursor.varint(2**62), cursor.take(width)
-    leaves, inactive, count = cursor.varint(2**62), cursor.varint(2**64), cursor.varint(122)
-    digests = [cursor.take(32) for _ in range(count)]
-    pending = cursor.option() if family == "mmb" else None
-    partial, ops_root, following = cursor.option(), cursor.take(32), cursor.take(8)
+    proof, operation = claimed(family, width, cursor, key, value)
+    at, chunk, leaves, inactive = proof.at, proof.chunk, proof.leaves, proof.inactive
+    pending, partial, ops_root = proof.pending, proof.partial, proof.ops_root
     across = 8 * width
     if cursor.at != len(cursor.data) or at >= leaves or leaves > 1 << 18:
         raise Bad
@@ -354,7 +418,7 @@ def rebuilt(family, width, key, value, cursor):
         raise Bad
     if graftable <= at // across < whole and pending != digest(chunk):
         raise Bad
-    given = iter(digests)
+    given = iter(proof.digests)
 
     def take():
         found = next(given, None)
@@ -380,7 +444,7 @@ def rebuilt(family, width, key, value, cursor):
         if node.left:
             found = digest(number(node.position), made(node.left), made(node.right))
         else:
-            found = digest(number(node.position), encoded(("update", key, value, following)))
+            found = digest(number(node.position), encoded(operation))
         return digest(chunk, found) if node.height == forest.height and any(chunk) else found
 
     mine = made(own)

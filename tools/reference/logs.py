@@ -332,8 +332,11 @@ class Ledger:
             case ["location", name]:
                 return or_none(histories.place_of(self.log(), key(name)))
             case ["prove", name]:
-                found = self.snapshot().proof(key(name))
-                return "none" if found is None else f"{int.from_bytes(found[0], 'big')} {found[1].hex()}"
+                value, proof = self.snapshot().proof(key(name))
+                said = "absent" if value is None else int.from_bytes(value, "big")
+                return f"{said} {proof.hex()}"
+            case ["prune", before, location]:
+                return str(self.snapshot().settled_up_to(number(before), number(location)))
             case ["same", name]:
                 key(name)
                 return "true"
@@ -368,7 +371,8 @@ def parsed_line(line):
     words = line.split(" ")
     shapes = {
         "put": ("put", parsed_key, parsed_number), "del": ("del", parsed_key), "get": ("get", parsed_key),
-        "prove": ("prove", parsed_key), "check value": ("check", parsed_key, parsed_number), "cut": ("cut", parsed_number),
+        "prove": ("prove", parsed_key), "check value": ("check value", parsed_key, parsed_number),
+        "check absent": ("check absent", parsed_key), "prune": ("prune", parsed_number), "cut": ("cut", parsed_number),
     }
     shapes |= {f"new {family}": (f"new {family}", parsed_number) for family in ("mmr", "mmb")}
     shapes |= {f"fault {kind}": (f"fault {kind}", parsed_number, parsed_number) for kind in FAULTS}
@@ -384,7 +388,7 @@ def parsed_line(line):
     return None
 
 
-REFUSALS = {"S6": "S6: the store has failed", "memory": "out of memory", "read": "the script cannot be read"}
+REFUSALS = {"S6": "S6: the store has failed", "S7": "S7: past the floor", "memory": "out of memory", "read": "the script cannot be read"}
 
 
 def of_text(words):
@@ -405,7 +409,7 @@ def of_text(words):
 def report(words):
     """The line that the script prints."""
     match words:
-        case ["new" | "none" | "yes" | "no" | "ok" | "closed" | "crashed" as word]:
+        case ["new" | "none" | "absent" | "yes" | "no" | "ok" | "closed" | "crashed" as word]:
             return word
         case ["error", code]:
             return f"error {code}"
@@ -413,7 +417,7 @@ def report(words):
             return f"{word} {digits(data).hex()}"
         case ["bad", count]:
             return f"bad line {number(count)}"
-        case ["open" | "commit" | "value" | "present" | "floor" | "len" as word, count]:
+        case ["open" | "commit" | "value" | "present" | "floor" | "len" | "pruned" as word, count]:
             return f"{word} {number(count)}"
     raise BadLine
 

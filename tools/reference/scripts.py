@@ -58,11 +58,9 @@ class Script:
         answer, is_refused = self.ask("prove", name)
         if is_refused:
             return answer
-        if answer == "none":
-            raise BadLine
         value, proof = answer.split()
         self.kept = bytes.fromhex(proof), bytes.fromhex(self.ask("root")[0])
-        return f"present {value}"
+        return value if value == "absent" else f"present {value}"
 
     def check(self, name, value):
         if self.kept is None:
@@ -89,12 +87,16 @@ class Script:
                 return answer if is_refused or answer == "none" else f"value {answer}"
             case ["root" | "floor" | "len" as word]:
                 return self.said([word], word)
+            case ["prune", location]:
+                return self.said(["prune", number(location)], "pruned")
             case ["prove", name]:
                 return self.prove(key(name))
             case ["proof"] if self.kept:
                 return f"proof {self.kept[0].hex()}"
             case ["check", "value", name, value]:
                 return self.check(key(name), encoded_number(number(value)))
+            case ["check", "absent", name]:
+                return self.check(key(name), None)
             case ["cut", calls]:
                 self.ask("cut", number(calls))
                 return "ok"

@@ -383,11 +383,17 @@ def of_device(refused):
     return StoreRefused("S5")
 
 
+def proof_text(value, proof):
+    """What is told of a proof of a key: of its value, or of its absence."""
+    said = "absent" if value is None else int.from_bytes(value, "big")
+    return f"{said} {proof.hex()}"
+
+
 class Store:
     """A log of a history on an open device. A store that has failed has none."""
 
     def __init__(self, form, disk, cache, capacity):
-        self.form, self.disk = form, disk
+        self.form, self.disk, self.pruned = form, disk, 0
         try:
             self.writer, data = opened(disk, cache, capacity)
         except Refused as refused:
@@ -426,8 +432,14 @@ class Store:
         return str(int.from_bytes(fields[1], "big"))
 
     def prove(self, name):
-        found = self.snapshot().proof(name)
-        return "none" if found is None else f"{int.from_bytes(found[0], 'big')} {found[1].hex()}"
+        return proof_text(*self.snapshot().proof(name))
+
+    def prune(self, location):
+        chunks = self.snapshot().pruned(self.pruned, location)
+        if chunks is None:
+            raise StoreRefused("S7")
+        self.pruned = chunks
+        return str(chunks)
 
     def answer(self, step):
         """The answer to a step that a store takes, open or failed."""
@@ -445,6 +457,8 @@ class Store:
                     return str(self.log()[-1][2])
                 case ["len"]:
                     return str(len(self.log()))
+                case ["prune", location]:
+                    return self.prune(location)
                 case ["prove", name]:
                     return self.prove(name)
         except Refused as refused:
@@ -606,6 +620,8 @@ class Stores:
                 return ["commit", batch, metadata]
             case ["get" | "prove" as word, name]:
                 return [word, key(name)]
+            case ["prune", location]:
+                return ["prune", number(location)]
             case ["cut", calls]:
                 return ["cut", number(calls)]
             case ["fault" | "keep" | "mode", *_]:
@@ -677,7 +693,8 @@ def turned(proof):
 def of_client(words):
     match words:
         case [call, "mmr" | "mmb" as family, "1" | "32" as width, root, name, value, proof]:
-            root, name, value, proof = digits(root), key(name), encoded_number(number(value)), digits(proof)
+            root, name, proof = digits(root), key(name), digits(proof)
+            value = None if value == "absent" else encoded_number(number(value))
         case _:
             raise BadLine
     if len(root) != 32:

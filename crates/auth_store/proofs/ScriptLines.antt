@@ -10,6 +10,7 @@ use Rattle.rand_pcg.specs.Lcg.{Lcg}
 use Rattle.fault_storage_parts.specs.declared.config.Config as settings
 use Rattle.paged_blob.specs.Moments.{Grows}
 use Rattle.auth_store_parts.specs.Report.{reported}
+use Rattle.auth_store_ledger.specs.Proving.{KeyAnswer}
 use Rattle.auth_store_session.specs.declared.session.Answer as code
 use Rattle.auth_store_session.specs.declared.session.Answer.TheVariants as answers
 use Rattle.auth_store_session.specs.declared.session.Step.{Step}
@@ -18,7 +19,7 @@ use Rattle.auth_store_session.specs.Machine.{Machine, Request, Answer, machine, 
 use Rattle.auth_store_session.specs.MachineCode.{config_after, meaning_of, request_of}
 use Rattle.auth_store_session.specs.Standing.{SessionState, Steps, Runs, calls_in, config_in, page_size_in}
 use Rattle.auth_store_session.proofs.Runs.{runs_go_on}
-use Rattle.auth_store.specs.ScriptLines.{Exchange, Checks, Does, asked, answered, answer_line, bytes_of, value_of, checked_line, kept_after, present_line, settings_after, pending_of, rule_of, script_format, script_machine}
+use Rattle.auth_store.specs.ScriptLines.{Exchange, Checks, Does, asked, answered, answer_line, bytes_of, value_of, checked_line, found_line, kept_after, settings_after, pending_of, rule_of, script_format, script_machine}
 use Rattle.auth_store.specs.ScriptCode.{DoesLine, Goes, Handled, HasRun, Now, exchange_of, settings_in}
 use Rattle.auth_store_parts.specs.declared.script.line.Line.{Line}
 use Rattle.auth_store_parts.specs.declared.script.words.TreeFamily.{TreeFamily}
@@ -74,6 +75,7 @@ set_by steps.Root now = refl
 set_by steps.Commits now = refl
 set_by steps.Floor now = refl
 set_by steps.Len now = refl
+set_by (steps.Prune location) now = refl
 set_by (steps.ProveKey key) now = refl
 set_by steps.Close now = refl
 set_by steps.Crash now = refl
@@ -136,6 +138,7 @@ module _ {D V : Type 0} (digest : D → List ℕ) (encoding : V → List ℕ) wh
   not_opened (answers.Commits n) not = refl
   not_opened (answers.Floor n) not = refl
   not_opened (answers.Len n) not = refl
+  not_opened (answers.Pruned n) not = refl
   not_opened (answers.Proof p) not = refl
   not_opened answers.Closed not = refl
   not_opened answers.Crashed not = refl
@@ -153,6 +156,7 @@ module _ {D V : Type 0} (digest : D → List ℕ) (encoding : V → List ℕ) wh
   not_committed (answers.Commits n) not = refl
   not_committed (answers.Floor n) not = refl
   not_committed (answers.Len n) not = refl
+  not_committed (answers.Pruned n) not = refl
   not_committed (answers.Proof p) not = refl
   not_committed answers.Closed not = refl
   not_committed answers.Crashed not = refl
@@ -162,24 +166,25 @@ module _ {D V : Type 0} (digest : D → List ℕ) (encoding : V → List ℕ) wh
   not_committed answers.StillOpen not = refl
 
   -- an answer that is no root says itself, and nothing is kept
-  pub not_root : (answer : code.Answer D V) (bytes : List ℕ) (kept : Option (List ℕ × List ℕ))
+  pub not_root : (answer : code.Answer D V) (found : KeyAnswer) (bytes : List ℕ) (kept : Option (List ℕ × List ℕ))
       → ((d : D) → answer ≡ answers.Root d → ⊥)
       → (kept_after bytes (meaning_of digest encoding answer) kept ≡ kept)
-      × (present_line bytes (meaning_of digest encoding answer) ≡ answer_line (meaning_of digest encoding answer))
-  not_root (answers.Root d) bytes kept not = absurd (not d refl)
-  not_root answers.Opened bytes kept not = (refl, refl)
-  not_root (answers.Committed d) bytes kept not = (refl, refl)
-  not_root (answers.Value v) bytes kept not = (refl, refl)
-  not_root (answers.Commits n) bytes kept not = (refl, refl)
-  not_root (answers.Floor n) bytes kept not = (refl, refl)
-  not_root (answers.Len n) bytes kept not = (refl, refl)
-  not_root (answers.Proof p) bytes kept not = (refl, refl)
-  not_root answers.Closed bytes kept not = (refl, refl)
-  not_root answers.Crashed bytes kept not = (refl, refl)
-  not_root answers.Set bytes kept not = (refl, refl)
-  not_root (answers.Refused e) bytes kept not = (refl, refl)
-  not_root answers.NotOpen bytes kept not = (refl, refl)
-  not_root answers.StillOpen bytes kept not = (refl, refl)
+      × (found_line found (meaning_of digest encoding answer) ≡ answer_line (meaning_of digest encoding answer))
+  not_root (answers.Root d) found bytes kept not = absurd (not d refl)
+  not_root answers.Opened found bytes kept not = (refl, refl)
+  not_root (answers.Committed d) found bytes kept not = (refl, refl)
+  not_root (answers.Value v) found bytes kept not = (refl, refl)
+  not_root (answers.Commits n) found bytes kept not = (refl, refl)
+  not_root (answers.Floor n) found bytes kept not = (refl, refl)
+  not_root (answers.Len n) found bytes kept not = (refl, refl)
+  not_root (answers.Pruned n) found bytes kept not = (refl, refl)
+  not_root (answers.Proof p) found bytes kept not = (refl, refl)
+  not_root answers.Closed found bytes kept not = (refl, refl)
+  not_root answers.Crashed found bytes kept not = (refl, refl)
+  not_root answers.Set found bytes kept not = (refl, refl)
+  not_root (answers.Refused e) found bytes kept not = (refl, refl)
+  not_root answers.NotOpen found bytes kept not = (refl, refl)
+  not_root answers.StillOpen found bytes kept not = (refl, refl)
 
 -- ---- checking
 

@@ -12,7 +12,7 @@ use Rattle.auth_store_parts.specs.Line.{line_of}
 use Rattle.auth_store_parts.specs.Report.{reported}
 use Rattle.auth_store_device.specs.Settings.{IsNew}
 use Rattle.auth_store_parts.specs.declared.script.line.Line.{Line}
-use Rattle.auth_store_parts.specs.declared.script.line.Line.TheVariants.{Empty, New, Open, Put, Delete, Commit, Get, Root, Floor, Len, Prove, Proof, CheckValue, Cut, Mode, Fault, Close, Crash}
+use Rattle.auth_store_parts.specs.declared.script.line.Line.TheVariants.{Empty, New, Open, Put, Delete, Commit, Get, Root, Floor, Len, Prune, Prove, Proof, CheckValue, CheckAbsent, Cut, Mode, Fault, Close, Crash}
 use Rattle.auth_store_parts.specs.declared.script.words.TreeFamily.{TreeFamily}
 use Rattle.auth_store_session.specs.Standing.{SessionState}
 use Rattle.auth_store_session.proofs.Runs.{runs_none}
@@ -131,9 +131,11 @@ other_line (Get key) empty begins = (refl, refl, refl)
 other_line Root empty begins = (refl, refl, refl)
 other_line Floor empty begins = (refl, refl, refl)
 other_line Len empty begins = (refl, refl, refl)
+other_line (Prune location) empty begins = (refl, refl, refl)
 other_line (Prove key) empty begins = (refl, refl, refl)
 other_line Proof empty begins = (refl, refl, refl)
 other_line (CheckValue key number) empty begins = (refl, refl, refl)
+other_line (CheckAbsent key) empty begins = (refl, refl, refl)
 other_line (Cut calls) empty begins = (refl, refl, refl)
 other_line (Mode mode) empty begins = (refl, refl, refl)
 other_line (Fault kind n d) empty begins = (refl, refl, refl)
@@ -159,10 +161,12 @@ same_seed now (Get key) exchanges printed next does = ap (λ (p : Progress). p.s
 same_seed now Root exchanges printed next does = ap (λ (p : Progress). p.seed) does.1
 same_seed now Floor exchanges printed next does = ap (λ (p : Progress). p.seed) does.1
 same_seed now Len exchanges printed next does = ap (λ (p : Progress). p.seed) does.1
+same_seed now (Prune location) exchanges printed next does = ap (λ (p : Progress). p.seed) does.1
 same_seed now (Prove key) exchanges printed next (inl (answer, none, asks, same, says)) = ap (λ (p : Progress). p.seed) same
-same_seed now (Prove key) exchanges printed next (inr (bytes, proved, answer, asks, same, says)) = ap (λ (p : Progress). p.seed) same
+same_seed now (Prove key) exchanges printed next (inr (found, answer, asks, same, says)) = ap (λ (p : Progress). p.seed) same
 same_seed now Proof exchanges printed next does = ap (λ (p : Progress). p.seed) does.2
 same_seed now (CheckValue key number) exchanges printed next does = ap (λ (p : Progress). p.seed) does.1
+same_seed now (CheckAbsent key) exchanges printed next does = ap (λ (p : Progress). p.seed) does.1
 same_seed now (Cut calls) exchanges printed next does = ap (λ (p : Progress). p.seed) does.1
 same_seed now (Mode mode) exchanges printed next does = ap (λ (p : Progress). p.seed) does.1
 same_seed now (Fault kind n d) exchanges printed next (inl (rate, first, second, sets)) = ap (λ (p : Progress). p.seed) sets.1
@@ -182,10 +186,12 @@ same_family now (Get key) exchanges printed next does = ap (λ (p : Progress). p
 same_family now Root exchanges printed next does = ap (λ (p : Progress). p.family) does.1
 same_family now Floor exchanges printed next does = ap (λ (p : Progress). p.family) does.1
 same_family now Len exchanges printed next does = ap (λ (p : Progress). p.family) does.1
+same_family now (Prune location) exchanges printed next does = ap (λ (p : Progress). p.family) does.1
 same_family now (Prove key) exchanges printed next (inl (answer, none, asks, same, says)) = ap (λ (p : Progress). p.family) same
-same_family now (Prove key) exchanges printed next (inr (bytes, proved, answer, asks, same, says)) = ap (λ (p : Progress). p.family) same
+same_family now (Prove key) exchanges printed next (inr (found, answer, asks, same, says)) = ap (λ (p : Progress). p.family) same
 same_family now Proof exchanges printed next does = ap (λ (p : Progress). p.family) does.2
 same_family now (CheckValue key number) exchanges printed next does = ap (λ (p : Progress). p.family) does.1
+same_family now (CheckAbsent key) exchanges printed next does = ap (λ (p : Progress). p.family) does.1
 same_family now (Cut calls) exchanges printed next does = ap (λ (p : Progress). p.family) does.1
 same_family now (Mode mode) exchanges printed next does = ap (λ (p : Progress). p.family) does.1
 same_family now (Fault kind n d) exchanges printed next (inl (rate, first, second, sets)) = ap (λ (p : Progress). p.family) sets.1

@@ -10,12 +10,13 @@ use Rattle.auth_store_parts.specs.Batch.{meanings}
 use Rattle.auth_store_parts.specs.declared.script.line.Line.{Line}
 use Rattle.auth_store_parts.specs.declared.script.words.TreeFamily.{TreeFamily}
 use Rattle.auth_store_parts.specs.declared.script.words.TreeFamily.TheVariants as families
+use Rattle.auth_store_client.specs.Claims.{Claim}
 use Rattle.auth_store_session.specs.Machine.{Answer}
 use Rattle.auth_store_session.specs.MachineCode.{request_of}
 use Rattle.auth_store_session.specs.Standing.{SessionState, Runs, config_in, page_size_in}
 use Rattle.auth_store_session.specs.declared.session.Step.{Step}
 use Rattle.auth_store_session.specs.declared.session.Step.TheVariants.{Config}
-use Rattle.auth_store.specs.ScriptLines.{Exchange, Progress, AsksStep, Sets, Does, IsQuiet, asked, answered, settings_after, bytes_of, value_of, script_machine, script_format}
+use Rattle.auth_store.specs.ScriptLines.{Exchange, Progress, AsksStep, ChecksClaim, Sets, Does, IsQuiet, asked, answered, settings_after, bytes_of, value_of, script_machine, script_format}
 use Rattle.auth_store.specs.ScriptRun.{LineDoes, script_cache, seeded_by}
 use Rattle.auth_store.specs.declared.script.end.End.{End}
 use Rattle.auth_store.specs.declared.script.end.End.TheVariants.{BadLine, Memory, Io}
@@ -112,6 +113,12 @@ abbrev pub SetsTo : {F P : Type 0} → TreeFamily → code.Progress F P → sett
 SetsTo family old config new printed exchanges =
     Sets config (progress_of family old) exchanges printed (progress_of family new)
     × Goes family old.session exchanges new.session
+
+-- the kept bytes are checked, and all stays
+abbrev pub ChecksKept : {F P : Type 0} → TreeFamily → code.Progress F P → Claim → Option (List ℕ) → List Exchange → Type 0
+ChecksKept family now claim printed exchanges =
+    ChecksClaim (progress_of family now) claim exchanges printed (progress_of family now)
+    × Goes family now.session exchanges now.session
 
 -- ---- a run
 

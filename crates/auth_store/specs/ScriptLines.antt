@@ -14,7 +14,7 @@ use Rattle.fault_storage_parts.specs.declared.probability.Probability.{Probabili
 use Rattle.auth_store_parts.specs.Batch.{Word, put, delete}
 use Rattle.auth_store_parts.specs.Report.{reported}
 use Rattle.auth_store_parts.specs.declared.script.line.Line.{Line}
-use Rattle.auth_store_parts.specs.declared.script.line.Line.TheVariants.{Empty, New, Open, Put, Delete, Commit, Get, Root, Floor, Len, Prove, Proof, CheckValue, Cut, Mode, Fault, Close, Crash}
+use Rattle.auth_store_parts.specs.declared.script.line.Line.TheVariants.{Empty, New, Open, Put, Delete, Commit, Get, Root, Floor, Len, Prune, Prove, Proof, CheckValue, CheckAbsent, Cut, Mode, Fault, Close, Crash}
 use Rattle.auth_store_parts.specs.declared.script.words.FaultKind.{FaultKind}
 use Rattle.auth_store_parts.specs.declared.script.words.FaultKind.TheVariants as kinds
 use Rattle.auth_store_parts.specs.declared.script.words.TornMode.{TornMode}
@@ -22,11 +22,12 @@ use Rattle.auth_store_parts.specs.declared.script.words.TornMode.TheVariants.{Pr
 use Rattle.auth_store_parts.specs.declared.script.words.TreeFamily.{TreeFamily}
 use Rattle.auth_store_parts.specs.declared.script.words.TreeFamily.TheVariants.{Mmr, Mmb}
 use Rattle.auth_store_log.specs.Records.{Format, format_of}
-use Rattle.auth_store_ledger.specs.Claims.{Terms, Shows, terms, has_value}
+use Rattle.auth_store_client.specs.Claims.{Claim, Terms, Shows, terms, has_value, is_absent}
+use Rattle.auth_store_ledger.specs.Proving.{KeyAnswer, proved_value, proved_absent}
 use Rattle.auth_store_session.specs.Machine.{Machine, Request, Answer, machine, is_opened, is_root_of_commit}
-use Rattle.auth_store_session.specs.Machine.{ask_open, ask_commit, ask_get, ask_root, ask_commits, ask_floor, ask_len, ask_proof}
+use Rattle.auth_store_session.specs.Machine.{ask_open, ask_commit, ask_get, ask_root, ask_commits, ask_floor, ask_len, ask_prune, ask_proof}
 use Rattle.auth_store_session.specs.Machine.{ask_close, ask_crash, ask_config, ask_cut}
-use Rattle.auth_store_session.specs.Machine.{value, root_is, commits_are, floor_is, len_is, proof, has_closed, has_crashed, is_set, refused}
+use Rattle.auth_store_session.specs.Machine.{value, root_is, commits_are, floor_is, len_is, pruned_to, proof, has_closed, has_crashed, is_set, refused}
 use Rattle.auth_store_session.specs.Refusals.{number_of}
 use Rattle.auth_store_session.specs.declared.error.StoreError.{StoreError}
 use Rattle.auth_store_session.specs.declared.error.StoreError.TheVariants.{Memory}
@@ -111,7 +112,7 @@ script_format = format_of (after_fixed 8) (after_fixed 8) 8 8
 -- the terms of its proofs
 abbrev pub script_terms : TreeFamily → Terms
 script_terms family =
-    terms (rule_of family) sha256 1 32 (IsPendingOf family) (pending_of family) (λ key. after_fixed 8 key ≡ Ok []) 8 8
+    terms (rule_of family) sha256 1 32 (IsPendingOf family) (pending_of family) (after_fixed 8) (after_fixed 8) 8 8
 
 -- ---- what is kept
 
@@ -160,6 +161,9 @@ floor_line location = codes "floor " ++ decimal location
 abbrev pub len_line : ℕ → List ℕ
 len_line count = codes "len " ++ decimal count
 
+abbrev pub pruned_line : ℕ → List ℕ
+pruned_line chunks = codes "pruned " ++ decimal chunks
+
 abbrev pub refusal_line : StoreError → List ℕ
 refusal_line error = codes "error " ++ number_of error
 
@@ -169,6 +173,7 @@ answer_line (value found) = Some (value_line found)
 answer_line (root_is digest) = Some (root_line digest)
 answer_line (floor_is location) = Some (floor_line location)
 answer_line (len_is count) = Some (len_line count)
+answer_line (pruned_to chunks) = Some (pruned_line chunks)
 answer_line has_closed = Some (codes "closed")
 answer_line has_crashed = Some (codes "crashed")
 answer_line is_set = Some (codes "ok")
@@ -180,19 +185,29 @@ abbrev pub count_line : List ℕ → Answer → Option (List ℕ)
 count_line word (commits_are count) = Some (word ++ decimal count)
 count_line word answer = answer_line answer
 
--- the same where a proof of this value waits for the root
-abbrev pub present_line : List ℕ → Answer → Option (List ℕ)
-present_line bytes (root_is digest) = Some (codes "present " ++ spelled bytes)
-present_line bytes answer = answer_line answer
+-- what a proof says of its key
+abbrev pub proved_line : KeyAnswer → List ℕ
+proved_line (proved_value bytes shown) = codes "present " ++ spelled bytes
+proved_line (proved_absent shown) = codes "absent"
 
--- that proof is kept with the root, where the root is answered
+-- the bytes of a proof
+abbrev pub proof_bytes : KeyAnswer → List ℕ
+proof_bytes (proved_value bytes shown) = shown
+proof_bytes (proved_absent shown) = shown
+
+-- the same where a proof waits for the root
+abbrev pub found_line : KeyAnswer → Answer → Option (List ℕ)
+found_line found (root_is digest) = Some (proved_line found)
+found_line found answer = answer_line answer
+
+-- its bytes are kept with the root, where the root is answered
 abbrev pub kept_after : List ℕ → Answer → Option (List ℕ × List ℕ) → Option (List ℕ × List ℕ)
 kept_after bytes (root_is digest) kept = Some (bytes, digest)
 kept_after bytes answer kept = kept
 
--- the value and the proof in an answer
-abbrev pub proof_in : Answer → Option (List ℕ × List ℕ)
-proof_in (proof found) = found
+-- the proof in an answer
+abbrev pub proof_in : Answer → Option KeyAnswer
+proof_in (proof found) = Some found
 proof_in _ = None
 
 -- the line that says what a check answers: it is only refused where it is out of memory
@@ -238,15 +253,22 @@ Counts request is_done word exchanges printed =
     ⊎ ((done answer : Answer) × (is_done done ≡ true) × (exchanges ≡ exchange request done ∷ exchange ask_commits answer ∷ [])
     × (printed ≡ option_map reported (count_line word answer)))
 
--- A proof is asked for, and where there is one the root besides, with which it is kept.
+-- A proof is asked for, of the key's value or of its absence, and where it is answered the root besides, with which it is kept.
 abbrev pub Proves : Progress → List ℕ → List Exchange → Option (List ℕ) → Progress → Type 0
 Proves now key exchanges printed next =
     ((answer : Answer) × (proof_in answer ≡ None) × (exchanges ≡ exchange (ask_proof key) answer ∷ []) × (next ≡ now)
     × (printed ≡ option_map reported (answer_line answer)))
-    ⊎ ((bytes proved : List ℕ) × (answer : Answer)
-    × (exchanges ≡ exchange (ask_proof key) (proof (Some (bytes, proved))) ∷ exchange ask_root answer ∷ [])
-    × (next ≡ with_kept (kept_after proved answer now.kept) now)
-    × (printed ≡ option_map reported (present_line bytes answer)))
+    ⊎ ((found : KeyAnswer) × (answer : Answer)
+    × (exchanges ≡ exchange (ask_proof key) (proof found) ∷ exchange ask_root answer ∷ [])
+    × (next ≡ with_kept (kept_after (proof_bytes found) answer now.kept) now)
+    × (printed ≡ option_map reported (found_line found answer)))
+
+-- The kept bytes are checked against the kept root: before any were kept the line is out of place.
+abbrev pub ChecksClaim : Progress → Claim → List Exchange → Option (List ℕ) → Progress → Type 0
+ChecksClaim now claim exchanges printed next =
+    IsQuiet exchanges × (next ≡ now) × MatchOption now.kept (printed ≡ None)
+    (λ kept. (text : List ℕ) × (printed ≡ Some text)
+    × Checks (Shows (script_terms now.family) claim kept.1 kept.0) text)
 
 -- What a line asks, what it prints, and what is kept after it. A line that prints nothing at all, not even an empty text, is out of
 -- place.
@@ -266,14 +288,13 @@ Does now (Get key) exchanges printed next = Asks (ask_get key.bytes) exchanges p
 Does now Root exchanges printed next = Asks ask_root exchanges printed × (next ≡ now)
 Does now Floor exchanges printed next = Asks ask_floor exchanges printed × (next ≡ now)
 Does now Len exchanges printed next = Asks ask_len exchanges printed × (next ≡ now)
+Does now (Prune location) exchanges printed next = Asks (ask_prune location) exchanges printed × (next ≡ now)
 Does now (Prove key) exchanges printed next = Proves now key.bytes exchanges printed next
 Does now Proof exchanges printed next =
     IsQuiet exchanges × (printed ≡ option_map (λ kept. reported (codes "proof " ++ encode_lower kept.0)) now.kept) × (next ≡ now)
 Does now (CheckValue key number) exchanges printed next =
-    let claim = has_value key.bytes (value_of number) in
-    IsQuiet exchanges × (next ≡ now) × MatchOption now.kept (printed ≡ None)
-    (λ kept. (text : List ℕ) × (printed ≡ Some text)
-    × Checks (Shows (script_terms now.family) claim kept.1 kept.0) text)
+    ChecksClaim now (has_value key.bytes (value_of number)) exchanges printed next
+Does now (CheckAbsent key) exchanges printed next = ChecksClaim now (is_absent key.bytes) exchanges printed next
 Does now (Cut calls) exchanges printed next = Asks (ask_cut calls) exchanges printed × (next ≡ now)
 Does now (Mode mode) exchanges printed next = Sets (with_mode mode now.settings) now exchanges printed next
 Does now (Fault kind numerator denominator) exchanges printed next =

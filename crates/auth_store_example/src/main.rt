@@ -1,7 +1,7 @@
 //! A first use of the library: a store is opened on a device, a key is put and proved, and the proof is checked.
 #![tactic(auto)]
 
-use anyhow::{Context, Result};
+use anyhow::Result;
 use auth_store::{
     Batch, ByteHash, CacheRef, Claim, FixedBytes, KeyProof, Pcg32, Sizes, Store, check, mmr,
     new_device,
@@ -31,10 +31,11 @@ fn put(alloc: Global, store: &mut Small, key: Name, value: u64) -> Result<Root> 
     Ok(store.commit(batch, None)?)
 }
 
-// The proof of the value at the key.
+// The proof of the value at the key, or that it is absent.
 fn prove(store: &mut Small, key: &Name) -> Result<Vec<u8>> {
-    let KeyProof::Value(_, proof) = store.prove_key(key)?.context("the key is there")?;
-    Ok(proof)
+    match store.prove_key(key)? {
+        KeyProof::Value(_, proof) | KeyProof::Absent(proof) => Ok(proof),
+    }
 }
 
 // Whether the proof shows, under the root, that the key has the value. It needs no store.

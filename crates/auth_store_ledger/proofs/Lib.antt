@@ -1,7 +1,6 @@
 pub mod Proofs
 pub mod Stores
-pub mod Honest
-pub mod Widths
-pub mod Sound
 pub mod Places
 pub mod Written
+pub mod Absences
+pub mod Pruning

@@ -4,9 +4,9 @@ use Rattle.state_ops.specs.Operation.{Operation}
 use Rattle.state_proofs.specs.Canonical.{Setting, State}
 use Rattle.state_proofs.specs.Honest.{key_value_proof}
 use Rattle.auth_store_ledger.specs.Map.{Map, value_at, next_key, entry_of}
-use Rattle.auth_store_ledger.specs.History.{latest_map, log_of, history_of, active_location, active_update}
+use Rattle.auth_store_ledger.specs.History.{History, latest_map, log_of, history_of, active_location, active_update}
 use Rattle.auth_store_ledger.specs.Store.{state_of_log, Keeps}
-use Rattle.auth_store_ledger.specs.Proving.{honest_proof}
+use Rattle.auth_store_client.specs.Proving.{honest_proof}
 use Rattle.auth_store_parts.specs.Laws.Actives.{active_update-log_of}
 use Rattle.std.specs.Prelude.{IfSome, unwrap_or}
 
@@ -54,29 +54,41 @@ honest_found pending setting key_size value_size log count last digest q keeps =
     each None = refl
     each (Some v) = refl
 
--- what holds of the next key that the active update names holds of the key's next key
-pub of_next_key : {X Y : Type 0} (R : List ℕ → Type 0) (parts : X → Y) (shown_as : List ℕ × List ℕ → Y)
-    (found : Option X) (u : Option (List ℕ × List ℕ)) (state : Map) (q : List ℕ)
-    → u ≡ entry_of state q → option_map parts found ≡ option_map shown_as u → IfSome found (λ _. IfSome u (λ x. R x.1))
-    → IfSome found (λ _. R (next_key state q))
-of_next_key R parts shown_as None u state q is same holds = tt
-of_next_key {X} {Y} R parts shown_as (Some p) u state q is same holds = there (value_at state q) is
-  where
-    there : (at : Option (List ℕ)) → u ≡ option_map (λ value. (value, next_key state q)) at → R (next_key state q)
-    there None none = let gone : Some (parts p) ≡ None = same ∙ ap (option_map shown_as) none in absurd (cc)
-    there (Some v) some = subst (λ x. IfSome x (λ y. R y.1)) some holds
+-- so of what was found in the log of a history
+pub found_in_history : (pending : Option (List ℕ) → List ℕ) (setting : Setting) (key_size value_size : ℕ)
+    (log : List Operation) (count last : ℕ) (digest q : List ℕ) (history : History) (found : Option (List ℕ × List ℕ))
+    → Keeps setting key_size value_size log count last digest → history_of log ≡ history
+    → found ≡ option_map (shown pending setting key_size value_size q log) (active_update q log)
+    → found ≡ option_map {U = List ℕ × List ℕ} (λ value. (value, honest_proof pending setting key_size value_size history q))
+    (value_at (latest_map history) q)
+found_in_history pending setting key_size value_size log count last digest q history found keeps is there =
+    there ∙ (honest_found pending setting key_size value_size log count last digest q keeps
+    ∙ ap (λ (h : History). option_map {U = List ℕ × List ℕ} (λ value. (
+      value,
+      honest_proof pending setting key_size value_size h q,
+    )) (value_at (latest_map h) q)) is)
 
--- what is shown of each value that is there, with one proof, is shown of what was found
-pub shown_all : {X : Type 0} (parts : X → List ℕ × List ℕ) (found : Option X) (at : Option (List ℕ)) (proof : List ℕ)
-    (R : Type 0) (Shows : List ℕ → List ℕ → Type 0)
-    → IfSome found (λ _. R) → option_map parts found ≡ option_map {U = List ℕ × List ℕ} (λ value. (value, proof)) at
-    → ((value : List ℕ) → at ≡ Some value → R → Shows value proof)
-    → IfSome (option_map parts found) (λ p. Shows p.0 p.1)
-shown_all parts None at proof R Shows holds is each = tt
-shown_all parts (Some p) None proof R Shows holds is each = let gone : Some (parts p) ≡ None = is in absurd cc
-shown_all parts (Some p) (Some value) proof R Shows holds is each =
-    let same : parts p ≡ (value, proof) = ap (λ (o : Option (List ℕ × List ℕ)). unwrap_or o (parts p)) is in
-    subst (λ (q : List ℕ × List ℕ). Shows q.0 q.1) (sym same) (each value refl holds)
+-- what holds of the next key that the active update names holds of the key's next key
+pub of_next_key : (R : List ℕ → Type 0) (state : Map) (q value : List ℕ) (named : Option (List ℕ × List ℕ))
+    → named ≡ entry_of state q → value_at state q ≡ Some value → IfSome named (λ x. R x.1) → R (next_key state q)
+of_next_key R state q value named is there holds =
+    subst (λ (x : Option (List ℕ × List ℕ)). IfSome x (λ y. R y.1))
+    (is ∙ ap (option_map {U = List ℕ × List ℕ} (λ v. (v, next_key state q))) there) holds
+
+-- a value that was found with its proof is the one that is there
+pub found_entry : (proof value bytes : List ℕ) (at : Option (List ℕ))
+    → ◌≡◌ {A = Option (List ℕ × List ℕ)} (Some (value, bytes)) (option_map (λ v. (v, proof)) at) → (at ≡ Some value) × (bytes ≡ proof)
+found_entry proof value bytes None is = absurd (let gone : ◌≡◌ {A = Option (List ℕ × List ℕ)} (Some (value, bytes)) None = is in cc)
+found_entry proof value bytes (Some v) is =
+    let same : ◌≡◌ {A = Option (List ℕ × List ℕ)} (Some (value, bytes)) (Some (v, proof)) = is in (
+      ap (λ (o : Option (List ℕ × List ℕ)). Some (unwrap_or o (value, bytes)).0) (sym same),
+      ap (λ (o : Option (List ℕ × List ℕ)). (unwrap_or o (value, bytes)).1) same,
+    )
+
+-- where none was found, none is there
+pub missing_entry : (proof : List ℕ) (at : Option (List ℕ)) → ◌≡◌ {A = Option (List ℕ × List ℕ)} None (option_map (λ v. (v, proof)) at) → at ≡ None
+missing_entry proof None is = refl
+missing_entry proof (Some v) is = absurd (let gone : ◌≡◌ {A = Option (List ℕ × List ℕ)} None (Some (v, proof)) = is in cc)
 
 -- a state, part by part
 pub same_state : (operations encoded : List (List ℕ)) (bits signs : List Bool) (floor last : ℕ) → operations ≡ encoded

@@ -4,6 +4,3 @@ pub use Rattle.auth_store_parts.specs.History
 pub mod Store
 pub mod Proving
 pub mod ProvingCode
-pub mod Claims
-pub mod ClaimsCode
-pub mod Soundness

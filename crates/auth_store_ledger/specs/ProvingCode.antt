@@ -1,8 +1,10 @@
 -- What an answered proof says, as the code holds it.
 use Rattle.std.specs.Prelude.{ℕ, List}
+use Rattle.auth_store_ledger.specs.Proving.{KeyAnswer, proved_value, proved_absent}
 use Rattle.auth_store_ledger.specs.declared.ledger.prove.KeyProof.{KeyProof}
-use Rattle.auth_store_ledger.specs.declared.ledger.prove.KeyProof.TheVariants.{Value}
+use Rattle.auth_store_ledger.specs.declared.ledger.prove.KeyProof.TheVariants.{Value, Absent}
 
--- the value's encoding and the bytes that prove it
-abbrev pub parts_of : {V : Type 0} → (V → List ℕ) → KeyProof V → List ℕ × List ℕ
-parts_of encoding (Value value bytes) = (encoding value, bytes.items)
+-- given how a value is encoded
+abbrev pub key_answer_of : {V : Type 0} → (V → List ℕ) → KeyProof V → KeyAnswer
+key_answer_of encoding (Value value bytes) = proved_value (encoding value) bytes.items
+key_answer_of encoding (Absent bytes) = proved_absent bytes.items

@@ -1,68 +1,22 @@
--- The store of a history: the state that is hashed for it, and its root.
-use Rattle.std.specs.Prelude.{◌≡◌, ℕ, ◌*◌, ◌^◌, ◌≤◌, ◌==◌, ◌+◌, ⊤, Bool, IsTrue, if◌then◌else◌, List, [], ◌∷◌, length, map, slice_get, Option, Some}
-use Rattle.std.specs.Int.{w64, trailing_zeros}
-use Rattle.std.specs.List.{list_any}
-use Rattle.merkle_forest.specs.Forest.{Rule}
-use Rattle.merkle_forest.specs.Hashing.{Hash}
-use Rattle.state_ops.specs.Operation.{Operation, update, ordered, fixed_encoding}
-use Rattle.state_proofs.specs.Canonical.{Setting, State, canonical_root}
+-- What a ledger keeps of a history, and what of it may be pruned.
+use Rattle.std.specs.Prelude.{◌≡◌, ℕ, ◌*◌, ◌/◌, ◌^◌, ◌≤◌, ◌+◌, ⊤, if◌then◌else◌, List, [], ◌∷◌, length, slice_get, Some}
+use Rattle.state_ops.specs.Operation.{Operation, update, ordered}
+use Rattle.state_proofs.specs.Canonical.{Setting, canonical_root}
+use Rattle.state_current.specs.Settled.{IsSettled, IsGreatestSettled}
 use Rattle.auth_store_log.specs.Records.{Format, FloorFits, IsRecorded}
-use Rattle.auth_store_ledger.specs.Batch.{Word, map_after}
 use Rattle.auth_store_ledger.specs.Map.{value_at}
-use Rattle.auth_store_ledger.specs.History.{History, AreStates, is_commit, latest_map, last_floor, activity_bits, log_of, history_of}
+use Rattle.auth_store_ledger.specs.History.{History, AreStates, is_commit, latest_map, last_floor, log_of, history_of}
+pub use Rattle.auth_store_client.specs.States.{is_chunk_width, IsChunkWidth, grafting_height, setting_of_width, encodings, state_of_log, floor_of, state_of_history, root_of_history, commit_after}
 
--- whether a chunk may have so many bytes: one of the powers of two from 1 to 4096
-abbrev pub is_chunk_width : ℕ → Bool
-is_chunk_width width =
-    list_any (λ power. width == power) (1 ∷ 2 ∷ 4 ∷ 8 ∷ 16 ∷ 32 ∷ 64 ∷ 128 ∷ 256 ∷ 512 ∷ 1024 ∷ 2048 ∷ 4096 ∷ [])
+-- so many chunks of a history's log are settled: its trees may be pruned of them
+abbrev pub IsPrunable : Setting → History → ℕ → Type 0
+IsPrunable setting history chunks = IsSettled setting.rule setting.grafting_height (length (log_of history)) chunks
 
--- a chunk may have so many bytes
-abbrev pub IsChunkWidth : ℕ → Type 0
-IsChunkWidth width = IsTrue (is_chunk_width width)
-
--- the height of a tree over as many operations as a chunk of so many bytes has bits
-abbrev pub grafting_height : ℕ → ℕ
-grafting_height width = trailing_zeros w64 (8 * width)
-
--- the setting of chunks of this width: 8 times the width is 2 to the grafting height
-abbrev pub setting_of_width : Rule → Hash → ℕ → Setting
-setting_of_width rule hash width = record {
-  rule = rule;
-  hash = hash;
-  width = width;
-  grafting_height = grafting_height
-      width;
-}
-
--- the fixed encodings of a log's operations, from the sizes of keys and of values
-abbrev pub encodings : ℕ → ℕ → List Operation → List (List ℕ)
-encodings key value log = map (fixed_encoding key value) log
-
--- what is hashed of a log
-abbrev pub state_of_log : ℕ → ℕ → List Operation → State
-state_of_log key value log = record {
-  operations = encodings key value log;
-  bits = activity_bits log;
-  floor = last_floor
-      log;
-}
-
--- the floor that the last commit of the history's log records
-abbrev pub floor_of : History → ℕ
-floor_of history = last_floor (log_of history)
-
--- what is hashed of a history
-abbrev pub state_of_history : ℕ → ℕ → History → State
-state_of_history key value history = state_of_log key value (log_of history)
-
--- the root of a history
-abbrev pub root_of_history : Setting → ℕ → ℕ → History → List ℕ
-root_of_history setting key value history = canonical_root setting (state_of_history key value history)
-
--- the history with the commit of a batch
-abbrev pub commit_after : List Word → Option (List ℕ) → History → History
-commit_after words metadata history = record { map = map_after words (latest_map history); metadata = metadata } ∷
-    history
+-- so many chunks are pruned after pruning up to a location, of which so many were before: the greatest settled number of chunks that
+-- end by the location, but none comes back
+abbrev pub IsPrunedUpTo : Setting → History → ℕ → ℕ → ℕ → Type 0
+IsPrunedUpTo setting history before location after =
+    IsGreatestSettled setting.rule setting.grafting_height (length (log_of history)) before (location / (8 * setting.width)) after
 
 -- what a ledger keeps of a history: its log, the number of commits, the last floor and the root
 pub record Keeps (setting : Setting) (key value : ℕ) (log : List Operation) (count last : ℕ) (digest : List ℕ) :

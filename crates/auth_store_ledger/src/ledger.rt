@@ -1,7 +1,7 @@
 //! What a store knows of its history, in memory.
 
-ghost use Rattle.std.specs.Prelude.{◌≡◌, ◌<◌, ◌≤◌, ◌^◌, ◌↔◌, ◌⊎◌, ◌++◌, length, option_map, slice_get, Ok, Some, None};
-ghost use Rattle.std.specs.Prelude.{IfOk, IsOkAnd, IsTrue, IfErr, OnOk, OnErr, MatchOption};
+ghost use Rattle.std.specs.Prelude.{◌≡◌, ◌<◌, ◌≤◌, ◌^◌, ◌⊎◌, ◌++◌, length, option_map, slice_get, Ok, Some, None};
+ghost use Rattle.std.specs.Prelude.{IfOk, IsOkAnd, IfErr, OnOk, OnErr, MatchOption};
 ghost use Rattle.state_ops.specs.Operation.{meaning_of};
 ghost use Rattle.auth_store_ledger.specs.Batch as words;
 ghost use Rattle.auth_store_ledger.specs.History as spec;
@@ -11,10 +11,12 @@ ghost use Rattle.auth_store_log.specs.Records.{format_of, log_bytes, AreRecorded
 ghost use Rattle.auth_store_ledger.specs.Store.{IsChunkWidth, Keeps, AreWritten, HasValueAt, commit_count};
 ghost use Rattle.auth_store_ledger.specs.Store.{setting_of_width, floor_of, root_of_history, commit_after};
 
+mod absence;
 pub mod commit;
 pub mod laws;
 pub mod log;
 pub mod prove;
+mod pruning;
 pub mod root;
 
 use crate::batch::Batch;
@@ -55,16 +57,6 @@ impl<F: Family, H: HashFunction, K: FixedKey, V: FixedValue, const N: usize> Mod
     ghost invariant = { λ s. IsChunkWidth N × Keeps (setting_of_width F.merge_rule H.hash_of N) K.SIZE V.SIZE
         s.log s.commits s.floor (H.Digest.encoding s.root)
         × AreWritten (format_of (K.after tt) (V.after tt) K.SIZE V.SIZE) s.log };
-}
-
-/// Whether a chunk may have this many bytes: a power of two from 1 to 4096.
-pub fn is_chunk_width(n: usize) -> bool
-    ensures { IsTrue result ↔ IsChunkWidth n }
-{
-    matches!(
-        n,
-        1 | 2 | 4 | 8 | 16 | 32 | 64 | 128 | 256 | 512 | 1024 | 2048 | 4096
-    )
 }
 
 // Whether the operation is a commit.

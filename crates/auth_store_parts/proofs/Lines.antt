@@ -1,5 +1,5 @@
 -- Keys, numbers and words of a line.
-use Rattle.std.proofs.Common.{◌≡◌, ◌≢◌, ℕ, ◌^◌, ltb, Bool, true, false, cond, ◌&&◌, List, [], ◌∷◌, ◌++◌, length, Option, None, Some, MatchOption, Result, Ok, Err, Bor, refl, ◌∙◌, ap, arith}
+use Rattle.std.proofs.Common.{◌≡◌, ◌≢◌, codes, ℕ, ◌^◌, ltb, Bool, true, false, cond, ◌&&◌, List, [], ◌∷◌, ◌++◌, length, Option, None, Some, MatchOption, Result, Ok, Err, Bor, refl, ◌∙◌, ap, arith}
 use Rattle.std.specs.Char.{is_ascii_digit}
 use Rattle.std.proofs.lemmas.Bool.Decides.{Decides-eqb}
 use Rattle.std.proofs.lemmas.List.Sums.{AllPass-from_list_all, list_all-from_AllPass}
@@ -10,7 +10,9 @@ use Rattle.hex.specs.declared.error.FromHexError.{FromHexError}
 use Rattle.hex.proofs.HexLemmas.{decode_of-ok}
 use Rattle.merkle_forest_parts.specs.declared.codec.fixed_bytes.FixedBytes.{FixedBytes}
 use Rattle.auth_store_parts.specs.Script.{IsKey, IsNumber, decimal_value}
-use Rattle.auth_store_parts.specs.Line.{key_from, key_of, is_number, number_of, after}
+use Rattle.auth_store_parts.specs.Line.{◌>>=◌, key_from, key_of, is_number, number_of, after, begins, device_line, proof_line}
+use Rattle.auth_store_parts.specs.declared.script.line.Line.{Line}
+use Rattle.auth_store_parts.specs.declared.script.line.Line.TheVariants.{CheckAbsent}
 
 otherwise : (b : Bool) → (b ≡ true → ⊥) → b ≡ false
 otherwise true h = absurd (h refl)
@@ -94,3 +96,28 @@ pub after_is : (words text : List ℕ) (r : Option (Bor (List ℕ)))
     → MatchOption r (after words text ≡ None) (λ x. after words text ≡ Some x.now)
 after_is words text None h = after-none words text h
 after_is words text (Some x) h = ap (after words) h ∙ after-append words x.now
+
+-- ---- a line that checks an absence
+
+before_absent : (text : List ℕ) (o : Option (List ℕ)) → after (codes "prove ") text ≡ None → after (codes "check value ") text ≡ None
+    → after (codes "check absent ") text ≡ o
+    → proof_line text ≡ begins o (λ key. key_of key >>= λ k. Some (CheckAbsent k)) (device_line text)
+before_absent text o proves values absences = rw (proves, values, absences) refl
+
+-- it is read as such a line where a key stands behind its words
+pub absent_line : (text rest : List ℕ) (key : FixedBytes 8) → after (codes "prove ") text ≡ None
+    → after (codes "check value ") text ≡ None → after (codes "check absent ") text ≡ Some rest → key_of rest ≡ Some key
+    → proof_line text ≡ Some (CheckAbsent key)
+absent_line text rest key proves values absences is =
+    before_absent text (Some rest) proves values absences ∙ ap (λ (o : Option (FixedBytes 8)). o >>= λ k. Some (CheckAbsent k)) is
+
+-- and as no line where none does
+pub absent_none : (text rest : List ℕ) → after (codes "prove ") text ≡ None → after (codes "check value ") text ≡ None
+    → after (codes "check absent ") text ≡ Some rest → key_of rest ≡ None → proof_line text ≡ None
+absent_none text rest proves values absences is =
+    before_absent text (Some rest) proves values absences ∙ ap (λ (o : Option (FixedBytes 8)). o >>= λ k. Some (CheckAbsent k)) is
+
+-- a line that neither makes a proof nor checks one is for the device
+pub no_proof_line : (text : List ℕ) → after (codes "prove ") text ≡ None → after (codes "check value ") text ≡ None
+    → after (codes "check absent ") text ≡ None → proof_line text ≡ device_line text
+no_proof_line text proves values absences = before_absent text None proves values absences

@@ -15,14 +15,14 @@ use Rattle.hex.proofs.HexLemmas.{decode_of-ok}
 use Rattle.hex.specs.declared.error.FromHexError.{FromHexError}
 use Rattle.merkle_forest_parts.specs.declared.codec.fixed_bytes.FixedBytes.{FixedBytes}
 use Rattle.auth_store_parts.specs.declared.script.line.Line.{Line}
-use Rattle.auth_store_parts.specs.declared.script.line.Line.TheVariants.{Empty, New, Open, Put, Delete, Commit, Get, Root, Floor, Len, Prove, Proof, CheckValue, Cut, Mode, Fault, Close, Crash}
+use Rattle.auth_store_parts.specs.declared.script.line.Line.TheVariants.{Empty, New, Open, Put, Delete, Commit, Get, Root, Floor, Len, Prune, Prove, Proof, CheckValue, CheckAbsent, Cut, Mode, Fault, Close, Crash}
 use Rattle.auth_store_parts.specs.declared.script.words.FaultKind.{FaultKind}
 use Rattle.auth_store_parts.specs.declared.script.words.FaultKind.TheVariants as kinds
 use Rattle.auth_store_parts.specs.declared.script.words.TornMode.{TornMode}
 use Rattle.auth_store_parts.specs.declared.script.words.TornMode.TheVariants.{Prefix, Subset}
 use Rattle.auth_store_parts.specs.declared.script.words.TreeFamily.TheVariants.{Mmr, Mmb}
 use Rattle.auth_store_parts.specs.Script.{IsNumber, decimal_value}
-use Rattle.auth_store_parts.specs.Line.{◌>>=◌, key_from, key_of, is_number, number_of, after, key_and_number, first_word, two_numbers, kind_of, fault_of, mode_of, begins, is_all, line_of, line_with_words, device_line}
+use Rattle.auth_store_parts.specs.Line.{◌>>=◌, key_from, key_of, is_number, number_of, after, key_and_number, first_word, two_numbers, kind_of, fault_of, mode_of, begins, is_all, line_of, line_with_words, proof_line, device_line}
 use Rattle.auth_store_parts.specs.Spelling.{SpellsKey, SpellsNumber, SpellsBoth, SpellsTwo, Spells, word_of_kind, word_of_mode}
 use Rattle.auth_store_parts.proofs.Lines.{number_some, passes_number, key_some, after-append, after-some}
 
@@ -161,10 +161,12 @@ spelled_is_read (Get key) text h = ap line_of h.1 ∙ ap (λ o. o >>= λ k. Some
 spelled_is_read Root text h = ap line_of h
 spelled_is_read Floor text h = ap line_of h
 spelled_is_read Len text h = ap line_of h
+spelled_is_read (Prune location) text h = ap line_of h.1 ∙ ap (λ o. o >>= λ n. Some (Prune n)) (number_read location h.0 h.2)
 spelled_is_read (Prove key) text h = ap line_of h.1 ∙ ap (λ o. o >>= λ k. Some (Prove k)) (key_read key h.0 h.2)
 spelled_is_read Proof text h = ap line_of h
 spelled_is_read (CheckValue key value) text h = ap line_of h.1
     ∙ ap (λ o. o >>= λ p. Some (CheckValue p.0 p.1)) (both_read key value h.0 h.2)
+spelled_is_read (CheckAbsent key) text h = ap line_of h.1 ∙ ap (λ o. o >>= λ k. Some (CheckAbsent k)) (key_read key h.0 h.2)
 spelled_is_read (Cut calls) text h = ap line_of h.1 ∙ ap (λ o. o >>= λ n. Some (Cut n)) (number_read calls h.0 h.2)
 spelled_is_read (Mode Prefix) text h = ap line_of h
 spelled_is_read (Mode Subset) text h = ap line_of h
@@ -347,6 +349,14 @@ device_line_spelled text asked =
     (λ rest f e is. let parts = fault_spelled rest f is in (parts.0, e ∙ ap (λ r. codes "fault " ++ r) parts.1, parts.2))
     (λ h. absurd (cc h))))
 
+proof_line_spelled : (text : List ℕ) (asked : Line) → proof_line text ≡ Some asked → Spells asked text
+proof_line_spelled text asked =
+    begins_found (codes "prove ") text asked key_of Prove _ (λ rest k e f. (rest, e, key_spelled k rest f))
+    (begins_found (codes "check value ") text asked key_and_number (λ p. CheckValue p.0 p.1) _
+    (λ rest p e f. (rest, e, both_spelled p rest f))
+    (begins_found (codes "check absent ") text asked key_of CheckAbsent _ (λ rest k e f. (rest, e, key_spelled k rest f))
+    (device_line_spelled text asked)))
+
 words_spelled : (text : List ℕ) (asked : Line) → line_with_words text ≡ Some asked → Spells asked text
 words_spelled text asked =
     begins_found (codes "new mmr ") text asked number_of (New Mmr) _ (λ rest n e f. (rest, e, number_spelled n rest f))
@@ -357,10 +367,8 @@ words_spelled text asked =
     (begins_found (codes "commit ") text asked number_of (λ n. Commit (Some n)) _
     (λ rest n e f. (rest, e, number_spelled n rest f))
     (begins_found (codes "get ") text asked key_of Get _ (λ rest k e f. (rest, e, key_spelled k rest f))
-    (begins_found (codes "prove ") text asked key_of Prove _ (λ rest k e f. (rest, e, key_spelled k rest f))
-    (begins_found (codes "check value ") text asked key_and_number (λ p. CheckValue p.0 p.1) _
-    (λ rest p e f. (rest, e, both_spelled p rest f))
-    (device_line_spelled text asked))))))))
+    (begins_found (codes "prune ") text asked number_of Prune _ (λ rest n e f. (rest, e, number_spelled n rest f))
+    (proof_line_spelled text asked)))))))
 
 pub read_is_spelled : (text : List ℕ) (asked : Line) → line_of text ≡ Some asked → Spells asked text
 read_is_spelled text asked =

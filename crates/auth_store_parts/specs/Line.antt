@@ -8,7 +8,7 @@ use Rattle.hex.specs.declared.error.FromHexError.{FromHexError}
 use Rattle.merkle_forest_parts.specs.declared.codec.fixed_bytes.FixedBytes.{FixedBytes}
 use Rattle.auth_store_parts.specs.Script.{decimal_value}
 use Rattle.auth_store_parts.specs.declared.script.line.Line.{Line}
-use Rattle.auth_store_parts.specs.declared.script.line.Line.TheVariants.{Empty, New, Open, Put, Delete, Commit, Get, Root, Floor, Len, Prove, Proof, CheckValue, Cut, Mode, Fault, Close, Crash}
+use Rattle.auth_store_parts.specs.declared.script.line.Line.TheVariants.{Empty, New, Open, Put, Delete, Commit, Get, Root, Floor, Len, Prune, Prove, Proof, CheckValue, CheckAbsent, Cut, Mode, Fault, Close, Crash}
 use Rattle.auth_store_parts.specs.declared.script.words.FaultKind.{FaultKind}
 use Rattle.auth_store_parts.specs.declared.script.words.FaultKind.TheVariants as kinds
 use Rattle.auth_store_parts.specs.declared.script.words.TornMode.{TornMode}
@@ -103,6 +103,14 @@ device_line text =
     begins (after (codes "fault ") text) (λ words. fault_of words >>= λ f. Some (Fault f.0 f.1.0 f.1.1))
     None))
 
+-- a line of more than one word that makes a proof or checks it, or is for the device
+abbrev pub proof_line : List ℕ → Option Line
+proof_line text =
+    begins (after (codes "prove ") text) (λ key. key_of key >>= λ k. Some (Prove k)) (
+    begins (after (codes "check value ") text) (λ words. key_and_number words >>= λ p. Some (CheckValue p.0 p.1)) (
+    begins (after (codes "check absent ") text) (λ key. key_of key >>= λ k. Some (CheckAbsent k)) (
+    device_line text)))
+
 -- a line of more than one word
 abbrev pub line_with_words : List ℕ → Option Line
 line_with_words text =
@@ -112,9 +120,8 @@ line_with_words text =
     begins (after (codes "del ") text) (λ key. key_of key >>= λ k. Some (Delete k)) (
     begins (after (codes "commit ") text) (λ metadata. number_of metadata >>= λ n. Some (Commit (Some n))) (
     begins (after (codes "get ") text) (λ key. key_of key >>= λ k. Some (Get k)) (
-    begins (after (codes "prove ") text) (λ key. key_of key >>= λ k. Some (Prove k)) (
-    begins (after (codes "check value ") text) (λ words. key_and_number words >>= λ p. Some (CheckValue p.0 p.1)) (
-    device_line text))))))))
+    begins (after (codes "prune ") text) (λ location. number_of location >>= λ n. Some (Prune n)) (
+    proof_line text)))))))
 
 -- the line that a text spells
 abbrev pub line_of : List ℕ → Option Line

@@ -4,7 +4,7 @@ use Rattle.hex.specs.Hex.{decode_of}
 use Rattle.merkle_forest_parts.specs.declared.codec.fixed_bytes.FixedBytes.{FixedBytes}
 use Rattle.auth_store_parts.specs.Script.{IsKey, IsNumber, decimal_value}
 use Rattle.auth_store_parts.specs.declared.script.line.Line.{Line}
-use Rattle.auth_store_parts.specs.declared.script.line.Line.TheVariants.{Empty, New, Open, Put, Delete, Commit, Get, Root, Floor, Len, Prove, Proof, CheckValue, Cut, Mode, Fault, Close, Crash}
+use Rattle.auth_store_parts.specs.declared.script.line.Line.TheVariants.{Empty, New, Open, Put, Delete, Commit, Get, Root, Floor, Len, Prune, Prove, Proof, CheckValue, CheckAbsent, Cut, Mode, Fault, Close, Crash}
 use Rattle.auth_store_parts.specs.declared.script.words.FaultKind.{FaultKind}
 use Rattle.auth_store_parts.specs.declared.script.words.FaultKind.TheVariants as kinds
 use Rattle.auth_store_parts.specs.declared.script.words.TornMode.{TornMode}
@@ -64,9 +64,11 @@ Spells (Get key) text = Begins (codes "get ") (SpellsKey key) text
 Spells Root text = text ≡ codes "root"
 Spells Floor text = text ≡ codes "floor"
 Spells Len text = text ≡ codes "len"
+Spells (Prune location) text = Begins (codes "prune ") (SpellsNumber location) text
 Spells (Prove key) text = Begins (codes "prove ") (SpellsKey key) text
 Spells Proof text = text ≡ codes "proof"
 Spells (CheckValue key value) text = Begins (codes "check value ") (SpellsBoth key value) text
+Spells (CheckAbsent key) text = Begins (codes "check absent ") (SpellsKey key) text
 Spells (Cut calls) text = Begins (codes "cut ") (SpellsNumber calls) text
 Spells (Mode mode) text = text ≡ codes "mode " ++ word_of_mode mode
 Spells (Fault kind numerator denominator) text =

@@ -17,6 +17,8 @@ type Name = FixedBytes<8>;
 
 type Root = FixedBytes<32>;
 
+type Said = Claim<mmr::Family, Name, u64>;
+
 type Small = Session<Pcg32, mmr::Family, ByteHash, Name, u64, 1>;
 
 const A: Name = FixedBytes {
@@ -78,20 +80,19 @@ fn print_root(rt: &HostRuntime, word: &str, root: &Root) -> io::Result<()> {
 }
 
 impl User {
-    // What the client says of a proof of c's value, under the root that was answered last.
-    fn checked(&self, value: u64, proof: &[u8]) -> &'static str {
+    // What the client says of a claim and its proof, under the root that was answered last.
+    fn checked(&self, claim: &Said, proof: &[u8]) -> &'static str {
         let Some(root) = &self.root else {
             return "no root";
         };
-        let claim = Claim::Value { key: C, value };
-        match check::<mmr::Family, ByteHash, Name, u64, 1>(self.alloc, root, &claim, proof) {
+        match check::<mmr::Family, ByteHash, Name, u64, 1>(self.alloc, root, claim, proof) {
             Ok(true) => "yes",
             Ok(false) => "no",
             Err(_) => "out of memory",
         }
     }
 
-    // Takes a step, prints its answer, and keeps the root in it. c alone is proved.
+    // Takes a step, prints its answer, and keeps the root in it. The value of c alone is proved, and the absence of a.
     fn take(&mut self, rt: &HostRuntime, step: Step<Name, u64>) -> io::Result<()> {
         match self.session.step(step) {
             Answer::Opened => println!(rt; "opened"),
@@ -108,11 +109,15 @@ impl User {
             Answer::Commits(count) => println!(rt; "commits {count}"),
             Answer::Floor(location) => println!(rt; "floor {location}"),
             Answer::Len(count) => println!(rt; "len {count}"),
-            Answer::Proof(Some(KeyProof::Value(value, proof))) => {
-                let checked = self.checked(value, &proof);
+            Answer::Pruned(chunks) => println!(rt; "pruned {chunks}"),
+            Answer::Proof(KeyProof::Value(value, proof)) => {
+                let checked = self.checked(&Claim::Value { key: C, value }, &proof);
                 println!(rt; "present {value} {checked}")
             }
-            Answer::Proof(None) => println!(rt; "absent"),
+            Answer::Proof(KeyProof::Absent(proof)) => {
+                let checked = self.checked(&Claim::Absent { key: A }, &proof);
+                println!(rt; "absent {checked}")
+            }
             Answer::Closed => println!(rt; "closed"),
             Answer::Crashed => println!(rt; "crashed"),
             Answer::Set => println!(rt; "set"),
@@ -151,6 +156,8 @@ impl User {
         self.take(rt, Step::Get(B))?;
         self.take(rt, Step::Get(A))?;
         self.take(rt, Step::ProveKey(C))?;
+        self.take(rt, Step::ProveKey(A))?;
+        self.take(rt, Step::Prune(4))?;
         self.take(rt, Step::Root)?;
         self.reopen(rt)?;
         self.take(rt, Step::Get(C))?;

@@ -8,7 +8,7 @@ use Rattle.auth_store_parts.specs.History.{History, Commit, latest_map, log_of}
 use Rattle.auth_store_parts.specs.Laws.Logs.{IsState-map_after, IsState-latest_map}
 use Rattle.auth_store_client.specs.Fields.{IsSound}
 use Rattle.auth_store_client.specs.Laws.Fields.{HasWord, own_commit}
-use Rattle.auth_store_session.specs.Machine.{Machine, Power, State, closed, live, failed, doubtful, Request, ask_open, ask_commit, ask_get, ask_root, ask_commits, ask_floor, ask_len, ask_proof, ask_close, ask_crash, ask_config, ask_cut, Answer, opened, committed, value, root_is, commits_are, floor_is, len_is, proof, has_closed, has_crashed, is_set, refused, not_open, still_open, IsStep, IsRun, IsShownOf, commit_of}
+use Rattle.auth_store_session.specs.Machine.{Machine, Power, State, closed, live, failed, doubtful, Request, ask_open, ask_commit, ask_get, ask_root, ask_commits, ask_floor, ask_len, ask_prune, ask_proof, ask_close, ask_crash, ask_config, ask_cut, Answer, opened, committed, value, root_is, commits_are, floor_is, len_is, pruned_to, proof, has_closed, has_crashed, is_set, refused, not_open, still_open, IsStep, IsRun, IsShownOf, commit_of}
 use Rattle.auth_store_run.specs.Roots.{IsAskedOf, IsRootOfSound, IsSoundState, IsWordOf, TellsRootOfSound}
 
 module _ (m : Machine) (IsKey IsValue : List ℕ → Type 0) where
@@ -52,7 +52,7 @@ module _ (m : Machine) (IsKey IsValue : List ℕ → Type 0) where
   step_leaves before after (doubtful history) request answer next sound asked step = absurd sound
   step_leaves before after (closed history pending) ask_open answer next sound asked step = ⊎_elim
       (λ opens. let (now, is, same) = opens.2 in
-      plain answer opened next (live now) opens.0 tt same (shown history now pending sound is))
+      plain answer opened next (live now 0) opens.0 tt same (shown history now pending sound is))
       (λ refuses. plain answer (refused refuses.0) next (closed history pending) refuses.1 tt refuses.2 sound)
       step
   step_leaves before after (closed history pending) ask_crash answer next sound asked step =
@@ -77,42 +77,48 @@ module _ (m : Machine) (IsKey IsValue : List ℕ → Type 0) where
       plain answer not_open next (closed history pending) step.0 tt step.1 sound
   step_leaves before after (closed history pending) ask_len answer next sound asked step =
       plain answer not_open next (closed history pending) step.0 tt step.1 sound
-  step_leaves before after (live history) ask_open answer next sound asked step =
-      plain answer still_open next (live history) step.0 tt step.1 sound
-  step_leaves before after (live history) ask_crash answer next sound asked step =
-      plain answer still_open next (live history) step.0 tt step.1 sound
-  step_leaves before after (live history) ask_config answer next sound asked step =
-      plain answer is_set next (live history) step.0 tt step.1 sound
-  step_leaves before after (live history) (ask_cut calls) answer next sound asked step =
-      plain answer is_set next (live history) step.0 tt step.1 sound
-  step_leaves before after (live history) ask_close answer next sound asked step =
+  step_leaves before after (closed history pending) (ask_prune location) answer next sound asked step =
+      plain answer not_open next (closed history pending) step.0 tt step.1 sound
+  step_leaves before after (live history pruned) ask_open answer next sound asked step =
+      plain answer still_open next (live history pruned) step.0 tt step.1 sound
+  step_leaves before after (live history pruned) ask_crash answer next sound asked step =
+      plain answer still_open next (live history pruned) step.0 tt step.1 sound
+  step_leaves before after (live history pruned) ask_config answer next sound asked step =
+      plain answer is_set next (live history pruned) step.0 tt step.1 sound
+  step_leaves before after (live history pruned) (ask_cut calls) answer next sound asked step =
+      plain answer is_set next (live history pruned) step.0 tt step.1 sound
+  step_leaves before after (live history pruned) ask_close answer next sound asked step =
       plain answer has_closed next (closed history None) step.0 tt step.1 sound
-  step_leaves before after (live history) (ask_commit words metadata) answer next sound asked step = ⊎_elim
+  step_leaves before after (live history pruned) (ask_commit words metadata) answer next sound asked step = ⊎_elim
       (λ commits. let later = sound_after history words metadata sound asked.0 asked.1 commits.2 in
-      plain answer (committed _) next (live (commit_of words metadata history ∷ history)) commits.0
+      plain answer (committed _) next (live (commit_of words metadata history ∷ history) pruned) commits.0
       (commit_of words metadata history ∷ history, refl, later) commits.1 later)
       (λ refuses. ⊎_elim
-      (λ is. plain answer (refused refuses.0) next (live history) refuses.1 tt is sound)
+      (λ is. plain answer (refused refuses.0) next (live history pruned) refuses.1 tt is sound)
       (λ is. plain answer (refused refuses.0) next (failed history (commit_of words metadata history)) refuses.1 tt is.0
       (sound, sound_after history words metadata sound asked.0 asked.1 is.1))
       refuses.3)
       step
-  step_leaves before after (live history) (ask_get key) answer next sound asked step = ⊎_elim
-      (λ said. plain answer (value _) next (live history) said tt step.0 sound)
-      (λ refuses. plain answer (refused refuses.0) next (live history) refuses.1 tt step.0 sound)
+  step_leaves before after (live history pruned) (ask_get key) answer next sound asked step = ⊎_elim
+      (λ said. plain answer (value _) next (live history pruned) said tt step.0 sound)
+      (λ refuses. plain answer (refused refuses.0) next (live history pruned) refuses.1 tt step.0 sound)
       step.1
-  step_leaves before after (live history) (ask_proof key) answer next sound asked step = ⊎_elim
-      (λ said. plain answer (proof _) next (live history) said tt step.0 sound)
-      (λ lacks. plain answer (refused _) next (live history) lacks tt step.0 sound)
+  step_leaves before after (live history pruned) (ask_proof key) answer next sound asked step = ⊎_elim
+      (λ said. plain answer (proof _) next (live history pruned) said tt step.0 sound)
+      (λ lacks. plain answer (refused _) next (live history pruned) lacks tt step.0 sound)
       step.1
-  step_leaves before after (live history) ask_root answer next sound asked step =
-      plain answer (root_is _) next (live history) step.0 (history, refl, sound) step.1 sound
-  step_leaves before after (live history) ask_commits answer next sound asked step =
-      plain answer (commits_are _) next (live history) step.0 tt step.1 sound
-  step_leaves before after (live history) ask_floor answer next sound asked step =
-      plain answer (floor_is _) next (live history) step.0 tt step.1 sound
-  step_leaves before after (live history) ask_len answer next sound asked step =
-      plain answer (len_is _) next (live history) step.0 tt step.1 sound
+  step_leaves before after (live history pruned) ask_root answer next sound asked step =
+      plain answer (root_is _) next (live history pruned) step.0 (history, refl, sound) step.1 sound
+  step_leaves before after (live history pruned) ask_commits answer next sound asked step =
+      plain answer (commits_are _) next (live history pruned) step.0 tt step.1 sound
+  step_leaves before after (live history pruned) ask_floor answer next sound asked step =
+      plain answer (floor_is _) next (live history pruned) step.0 tt step.1 sound
+  step_leaves before after (live history pruned) ask_len answer next sound asked step =
+      plain answer (len_is _) next (live history pruned) step.0 tt step.1 sound
+  step_leaves before after (live history pruned) (ask_prune location) answer next sound asked step = ⊎_elim
+      (λ done. plain answer (pruned_to _) next (live history done.0) done.1 tt done.2 sound)
+      (λ past. plain answer (refused _) next (live history pruned) past.0 tt past.1 sound)
+      step.0
   step_leaves before after (failed history commit) ask_open answer next sound asked step =
       plain answer still_open next (failed history commit) step.0 tt step.1 sound
   step_leaves before after (failed history commit) ask_crash answer next sound asked step =
@@ -136,6 +142,8 @@ module _ (m : Machine) (IsKey IsValue : List ℕ → Type 0) where
   step_leaves before after (failed history commit) ask_floor answer next sound asked step =
       plain answer (refused _) next (failed history commit) step.0 tt step.1 sound
   step_leaves before after (failed history commit) ask_len answer next sound asked step =
+      plain answer (refused _) next (failed history commit) step.0 tt step.1 sound
+  step_leaves before after (failed history commit) (ask_prune location) answer next sound asked step =
       plain answer (refused _) next (failed history commit) step.0 tt step.1 sound
 
   -- a run

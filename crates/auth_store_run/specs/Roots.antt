@@ -22,7 +22,7 @@ IsAskedOf IsKey IsValue _ = ⊤
 abbrev pub IsSoundState : (List ℕ → Type 0) → (List ℕ → Type 0) → State → Type 0
 IsSoundState IsKey IsValue (closed history None) = IsSound IsKey IsValue history
 IsSoundState IsKey IsValue (closed history (Some commit)) = IsSound IsKey IsValue history × IsSound IsKey IsValue (commit ∷ history)
-IsSoundState IsKey IsValue (live history) = IsSound IsKey IsValue history
+IsSoundState IsKey IsValue (live history pruned) = IsSound IsKey IsValue history
 IsSoundState IsKey IsValue (failed history commit) = IsSound IsKey IsValue history × IsSound IsKey IsValue (commit ∷ history)
 IsSoundState IsKey IsValue (doubtful history) = ⊥
 

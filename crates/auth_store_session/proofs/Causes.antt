@@ -4,9 +4,9 @@ use Rattle.std.specs.Prelude.{⊤, IsTrue}
 use Rattle.auth_store_parts.specs.History.{History}
 use Rattle.auth_store_ledger.specs.Store.{commit_after}
 use Rattle.auth_store_session.specs.declared.error.StoreError.{StoreError}
-use Rattle.auth_store_session.specs.declared.error.StoreError.TheVariants.{Fault, PowerCut, NumberEnded, Memory, Corrupt, Failed, Header}
+use Rattle.auth_store_session.specs.declared.error.StoreError.TheVariants.{Fault, PowerCut, NumberEnded, Memory, Corrupt, Failed, PastFloor, Header}
 use Rattle.auth_store_device.specs.Devices.{is_cut}
-use Rattle.auth_store_session.specs.Machine.{Machine, Power, State, closed, live, failed, doubtful, Request, ask_open, ask_commit, ask_get, ask_root, ask_commits, ask_floor, ask_len, ask_proof, ask_close, ask_crash, ask_config, ask_cut, Answer, opened, committed, value, root_is, commits_are, floor_is, len_is, proof, has_closed, has_crashed, is_set, refused, not_open, still_open, MayRefuseRead, MayRefuseOpening, MayRefuseCommit, IsStep, IsRun, IsSpent, Passes, turned, refusal_in, faults_in, faults_told, AskNoCut, TellNoCut}
+use Rattle.auth_store_session.specs.Machine.{Machine, Power, State, closed, live, failed, doubtful, Request, ask_open, ask_commit, ask_get, ask_root, ask_commits, ask_floor, ask_len, ask_prune, ask_proof, ask_close, ask_crash, ask_config, ask_cut, Answer, opened, committed, value, root_is, commits_are, floor_is, len_is, pruned_to, proof, has_closed, has_crashed, is_set, refused, not_open, still_open, MayRefuseRead, MayRefuseOpening, MayRefuseCommit, IsStep, IsRun, IsSpent, Passes, turned, refusal_in, faults_in, faults_told, AskNoCut, TellNoCut}
 
 -- what a refusal tells of the power
 abbrev Why : Power → Power → StoreError → Type 0
@@ -16,6 +16,7 @@ Why before after NumberEnded = ⊤
 Why before after Memory = ⊤
 Why before after Corrupt = ⊤
 Why before after Failed = ⊤
+Why before after PastFloor = ⊤
 Why before after (Header fault) = ⊤
 
 read_why : (before after : Power) (e : StoreError) → MayRefuseRead before after e → Why before after e
@@ -25,6 +26,7 @@ read_why before after NumberEnded cause = tt
 read_why before after Memory cause = tt
 read_why before after Corrupt cause = tt
 read_why before after Failed cause = tt
+read_why before after PastFloor cause = tt
 read_why before after (Header fault) cause = tt
 
 opening_why : (m : Machine) (before after : Power) (e : StoreError) → MayRefuseOpening m before after e → Why before after e
@@ -34,6 +36,7 @@ opening_why m before after NumberEnded cause = tt
 opening_why m before after Memory cause = tt
 opening_why m before after Corrupt cause = tt
 opening_why m before after Failed cause = tt
+opening_why m before after PastFloor cause = tt
 opening_why m before after (Header fault) cause = tt
 
 commit_why : (m : Machine) (before after : Power) (next : History) (e : StoreError) → MayRefuseCommit m before after next e
@@ -44,6 +47,7 @@ commit_why m before after next NumberEnded cause = tt
 commit_why m before after next Memory cause = tt
 commit_why m before after next Corrupt cause = tt
 commit_why m before after next Failed cause = tt
+commit_why m before after next PastFloor cause = tt
 commit_why m before after next (Header fault) cause = tt
 
 -- an answer that is no refusal
@@ -55,6 +59,7 @@ is_refusal (root_is root) = false
 is_refusal (commits_are count) = false
 is_refusal (floor_is location) = false
 is_refusal (len_is count) = false
+is_refusal (pruned_to chunks) = false
 is_refusal (proof found) = false
 is_refusal has_closed = false
 is_refusal has_crashed = false
@@ -87,6 +92,7 @@ step_why m before after (closed history pending) ask_root e next step = plain e 
 step_why m before after (closed history pending) ask_commits e next step = plain e not_open step.0 refl
 step_why m before after (closed history pending) ask_floor e next step = plain e not_open step.0 refl
 step_why m before after (closed history pending) ask_len e next step = plain e not_open step.0 refl
+step_why m before after (closed history pending) (ask_prune location) e next step = plain e not_open step.0 refl
 step_why m before after (closed history pending) (ask_proof key) e next step = plain e not_open step.0 refl
 step_why m before after (closed history pending) ask_close e next step = plain e not_open step.0 refl
 step_why m before after (closed history pending) ask_crash e next step = plain e has_crashed step.0 refl
@@ -105,32 +111,37 @@ step_why m before after (doubtful history) ask_root e next step = plain e not_op
 step_why m before after (doubtful history) ask_commits e next step = plain e not_open step.0 refl
 step_why m before after (doubtful history) ask_floor e next step = plain e not_open step.0 refl
 step_why m before after (doubtful history) ask_len e next step = plain e not_open step.0 refl
+step_why m before after (doubtful history) (ask_prune location) e next step = plain e not_open step.0 refl
 step_why m before after (doubtful history) (ask_proof key) e next step = plain e not_open step.0 refl
 step_why m before after (doubtful history) ask_close e next step = plain e not_open step.0 refl
 step_why m before after (doubtful history) ask_crash e next step = plain e has_crashed step.0 refl
 step_why m before after (doubtful history) ask_config e next step = plain e is_set step.0 refl
 step_why m before after (doubtful history) (ask_cut calls) e next step = plain e is_set step.0 refl
-step_why m before after (live history) ask_open e next step = plain e still_open step.0 refl
-step_why m before after (live history) (ask_commit words metadata) e next step = ⊎_elim
+step_why m before after (live history pruned) ask_open e next step = plain e still_open step.0 refl
+step_why m before after (live history pruned) (ask_commit words metadata) e next step = ⊎_elim
     (λ commits. plain e (committed _) commits.0 refl)
     (λ refuses. let (error, is, cause, left) = refuses in why_of before after e error is (commit_why m before after (commit_after words metadata history) error cause))
     step
-step_why m before after (live history) (ask_get key) e next step = ⊎_elim
+step_why m before after (live history pruned) (ask_get key) e next step = ⊎_elim
     (λ said. plain e (value _) said refl)
     (λ refuses. let (error, is, cause) = refuses in why_of before after e error is (read_why before after error cause))
     step.1
-step_why m before after (live history) ask_root e next step = plain e (root_is _) step.0 refl
-step_why m before after (live history) ask_commits e next step = plain e (commits_are _) step.0 refl
-step_why m before after (live history) ask_floor e next step = plain e (floor_is _) step.0 refl
-step_why m before after (live history) ask_len e next step = plain e (len_is _) step.0 refl
-step_why m before after (live history) (ask_proof key) e next step = ⊎_elim
+step_why m before after (live history pruned) ask_root e next step = plain e (root_is _) step.0 refl
+step_why m before after (live history pruned) ask_commits e next step = plain e (commits_are _) step.0 refl
+step_why m before after (live history pruned) ask_floor e next step = plain e (floor_is _) step.0 refl
+step_why m before after (live history pruned) ask_len e next step = plain e (len_is _) step.0 refl
+step_why m before after (live history pruned) (ask_prune location) e next step = ⊎_elim
+    (λ done. plain e (pruned_to _) done.1 refl)
+    (λ past. why_of before after e PastFloor past.0 tt)
+    step.0
+step_why m before after (live history pruned) (ask_proof key) e next step = ⊎_elim
     (λ said. plain e (proof _) said refl)
     (λ lacks. why_of before after e Memory lacks tt)
     step.1
-step_why m before after (live history) ask_close e next step = plain e has_closed step.0 refl
-step_why m before after (live history) ask_crash e next step = plain e still_open step.0 refl
-step_why m before after (live history) ask_config e next step = plain e is_set step.0 refl
-step_why m before after (live history) (ask_cut calls) e next step = plain e is_set step.0 refl
+step_why m before after (live history pruned) ask_close e next step = plain e has_closed step.0 refl
+step_why m before after (live history pruned) ask_crash e next step = plain e still_open step.0 refl
+step_why m before after (live history pruned) ask_config e next step = plain e is_set step.0 refl
+step_why m before after (live history pruned) (ask_cut calls) e next step = plain e is_set step.0 refl
 step_why m before after (failed history commit) ask_open e next step = plain e still_open step.0 refl
 step_why m before after (failed history commit) (ask_commit words metadata) e next step = why_of before after e Failed step.0 tt
 step_why m before after (failed history commit) (ask_get key) e next step = why_of before after e Failed step.0 tt
@@ -138,6 +149,7 @@ step_why m before after (failed history commit) ask_root e next step = why_of be
 step_why m before after (failed history commit) ask_commits e next step = why_of before after e Failed step.0 tt
 step_why m before after (failed history commit) ask_floor e next step = why_of before after e Failed step.0 tt
 step_why m before after (failed history commit) ask_len e next step = why_of before after e Failed step.0 tt
+step_why m before after (failed history commit) (ask_prune location) e next step = why_of before after e Failed step.0 tt
 step_why m before after (failed history commit) (ask_proof key) e next step = why_of before after e Failed step.0 tt
 step_why m before after (failed history commit) ask_close e next step = plain e has_closed step.0 refl
 step_why m before after (failed history commit) ask_crash e next step = plain e still_open step.0 refl
@@ -153,6 +165,7 @@ turned_injected ask_root answer power = refl
 turned_injected ask_commits answer power = refl
 turned_injected ask_floor answer power = refl
 turned_injected ask_len answer power = refl
+turned_injected (ask_prune location) answer power = refl
 turned_injected (ask_proof key) answer power = refl
 turned_injected ask_close answer power = refl
 turned_injected ask_config answer power = refl
@@ -164,6 +177,7 @@ turned_injected ask_crash (root_is root) power = refl
 turned_injected ask_crash (commits_are count) power = refl
 turned_injected ask_crash (floor_is location) power = refl
 turned_injected ask_crash (len_is count) power = refl
+turned_injected ask_crash (pruned_to chunks) power = refl
 turned_injected ask_crash (proof found) power = refl
 turned_injected ask_crash has_closed power = refl
 turned_injected ask_crash has_crashed power = refl
@@ -182,6 +196,7 @@ turned_asked ask_root answer power requests none is = is
 turned_asked ask_commits answer power requests none is = is
 turned_asked ask_floor answer power requests none is = is
 turned_asked ask_len answer power requests none is = is
+turned_asked (ask_prune location) answer power requests none is = is
 turned_asked (ask_proof key) answer power requests none is = is
 turned_asked ask_close answer power requests none is = is
 turned_asked ask_config answer power requests none is = is
@@ -193,6 +208,7 @@ turned_asked ask_crash (root_is root) power requests none is = is
 turned_asked ask_crash (commits_are count) power requests none is = is
 turned_asked ask_crash (floor_is location) power requests none is = is
 turned_asked ask_crash (len_is count) power requests none is = is
+turned_asked ask_crash (pruned_to chunks) power requests none is = is
 turned_asked ask_crash (proof found) power requests none is = is
 turned_asked ask_crash has_closed power requests none is = is
 turned_asked ask_crash has_crashed power requests none is = refl
@@ -209,6 +225,7 @@ fewer_asked ask_root requests none = none
 fewer_asked ask_commits requests none = none
 fewer_asked ask_floor requests none = none
 fewer_asked ask_len requests none = none
+fewer_asked (ask_prune location) requests none = none
 fewer_asked (ask_proof key) requests none = none
 fewer_asked ask_close requests none = none
 fewer_asked ask_crash requests none = none
@@ -242,6 +259,7 @@ uncut_told m before after state request (root_is root) next answers step uncut r
 uncut_told m before after state request (commits_are count) next answers step uncut rest = rest
 uncut_told m before after state request (floor_is location) next answers step uncut rest = rest
 uncut_told m before after state request (len_is count) next answers step uncut rest = rest
+uncut_told m before after state request (pruned_to chunks) next answers step uncut rest = rest
 uncut_told m before after state request (proof found) next answers step uncut rest = rest
 uncut_told m before after state request has_closed next answers step uncut rest = rest
 uncut_told m before after state request has_crashed next answers step uncut rest = rest
@@ -253,6 +271,7 @@ uncut_told m before after state request (refused NumberEnded) next answers step 
 uncut_told m before after state request (refused Memory) next answers step uncut rest = rest
 uncut_told m before after state request (refused Corrupt) next answers step uncut rest = rest
 uncut_told m before after state request (refused Failed) next answers step uncut rest = rest
+uncut_told m before after state request (refused PastFloor) next answers step uncut rest = rest
 uncut_told m before after state request (refused (Header fault)) next answers step uncut rest = rest
 uncut_told m before after state request not_open next answers step uncut rest = rest
 uncut_told m before after state request still_open next answers step uncut rest = rest

@@ -1,8 +1,8 @@
 -- What has to stay does, whatever openings show.
-use Rattle.std.proofs.Common.{◌≡◌, List, [], ◌∷◌, ◌++◌, Some, None, refl, sym, subst, ◌∙◌, ap, ⊎_elim, append_assoc}
+use Rattle.std.proofs.Common.{◌≡◌, ℕ, List, [], ◌∷◌, ◌++◌, Some, None, refl, sym, subst, ◌∙◌, ap, ⊎_elim, append_assoc}
 use Rattle.std.proofs.lemmas.List.{append-nil}
 use Rattle.auth_store_parts.specs.History.{History, Commit, latest_map, log_of, appended}
-use Rattle.auth_store_session.specs.Machine.{Machine, Power, State, closed, live, failed, doubtful, Request, ask_open, ask_commit, ask_get, ask_root, ask_commits, ask_floor, ask_len, ask_proof, ask_close, ask_crash, ask_config, ask_cut, Answer, IsStep, IsStepInDoubt, IsStepLive, IsStepFailed, IsRunInDoubt, in_doubt, kept_history, Begins, commit_of}
+use Rattle.auth_store_session.specs.Machine.{Machine, Power, State, closed, live, failed, doubtful, Request, ask_open, ask_commit, ask_get, ask_root, ask_commits, ask_floor, ask_len, ask_prune, ask_proof, ask_close, ask_crash, ask_config, ask_cut, Answer, IsStep, IsStepInDoubt, IsStepLive, IsStepFailed, IsRunInDoubt, in_doubt, kept_history, Begins, commit_of}
 
 -- a log begins itself
 begins_same : (history : History) → Begins history history
@@ -32,6 +32,7 @@ keeps_in_doubt m before after history ask_root answer next step = stays_at histo
 keeps_in_doubt m before after history ask_commits answer next step = stays_at history (doubtful history) next step.1 refl
 keeps_in_doubt m before after history ask_floor answer next step = stays_at history (doubtful history) next step.1 refl
 keeps_in_doubt m before after history ask_len answer next step = stays_at history (doubtful history) next step.1 refl
+keeps_in_doubt m before after history (ask_prune location) answer next step = stays_at history (doubtful history) next step.1 refl
 keeps_in_doubt m before after history (ask_proof key) answer next step = stays_at history (doubtful history) next step.1 refl
 keeps_in_doubt m before after history ask_close answer next step = stays_at history (doubtful history) next step.1 refl
 
@@ -39,27 +40,31 @@ keeps_in_doubt m before after history ask_close answer next step = stays_at hist
 begins_next : (history : History) (commit : Commit) → Begins history (commit ∷ history)
 begins_next history commit = (appended (log_of history) (latest_map history) commit.map commit.metadata, refl)
 
-keeps_live : (m : Machine) (before after : Power) (history : History) (request : Request) (answer : Answer) (next : State)
-    → IsStepLive m before after history request answer next → Begins history (kept_history next)
-keeps_live m before after history (ask_commit words metadata) answer next step = ⊎_elim
+keeps_live : (m : Machine) (before after : Power) (history : History) (pruned : ℕ) (request : Request) (answer : Answer) (next : State)
+    → IsStepLive m before after history pruned request answer next → Begins history (kept_history next)
+keeps_live m before after history pruned (ask_commit words metadata) answer next step = ⊎_elim
     (λ commits. subst (λ s. Begins history (kept_history s)) (sym commits.1)
     (begins_next history (commit_of words metadata history)))
     (λ refuses. ⊎_elim
-    (λ is. stays_at history (live history) next is refl)
+    (λ is. stays_at history (live history pruned) next is refl)
     (λ is. stays_at history (failed history (commit_of words metadata history)) next is.0 refl)
     refuses.3)
     step
-keeps_live m before after history ask_open answer next step = stays_at history (live history) next step.1 refl
-keeps_live m before after history ask_crash answer next step = stays_at history (live history) next step.1 refl
-keeps_live m before after history ask_config answer next step = stays_at history (live history) next step.1 refl
-keeps_live m before after history (ask_cut calls) answer next step = stays_at history (live history) next step.1 refl
-keeps_live m before after history ask_close answer next step = stays_at history (closed history None) next step.1 refl
-keeps_live m before after history (ask_get key) answer next step = stays_at history (live history) next step.0 refl
-keeps_live m before after history (ask_proof key) answer next step = stays_at history (live history) next step.0 refl
-keeps_live m before after history ask_root answer next step = stays_at history (live history) next step.1 refl
-keeps_live m before after history ask_commits answer next step = stays_at history (live history) next step.1 refl
-keeps_live m before after history ask_floor answer next step = stays_at history (live history) next step.1 refl
-keeps_live m before after history ask_len answer next step = stays_at history (live history) next step.1 refl
+keeps_live m before after history pruned ask_open answer next step = stays_at history (live history pruned) next step.1 refl
+keeps_live m before after history pruned ask_crash answer next step = stays_at history (live history pruned) next step.1 refl
+keeps_live m before after history pruned ask_config answer next step = stays_at history (live history pruned) next step.1 refl
+keeps_live m before after history pruned (ask_cut calls) answer next step = stays_at history (live history pruned) next step.1 refl
+keeps_live m before after history pruned ask_close answer next step = stays_at history (closed history None) next step.1 refl
+keeps_live m before after history pruned (ask_get key) answer next step = stays_at history (live history pruned) next step.0 refl
+keeps_live m before after history pruned (ask_proof key) answer next step = stays_at history (live history pruned) next step.0 refl
+keeps_live m before after history pruned ask_root answer next step = stays_at history (live history pruned) next step.1 refl
+keeps_live m before after history pruned ask_commits answer next step = stays_at history (live history pruned) next step.1 refl
+keeps_live m before after history pruned ask_floor answer next step = stays_at history (live history pruned) next step.1 refl
+keeps_live m before after history pruned ask_len answer next step = stays_at history (live history pruned) next step.1 refl
+keeps_live m before after history pruned (ask_prune location) answer next step = ⊎_elim
+    (λ done. stays_at history (live history done.0) next done.2 refl)
+    (λ past. stays_at history (live history pruned) next past.1 refl)
+    step.0
 
 keeps_failed : (before after : Power) (history : History) (commit : Commit) (request : Request) (answer : Answer) (next : State)
     → IsStepFailed before after history commit request answer next → Begins history (kept_history next)
@@ -75,6 +80,7 @@ keeps_failed before after history commit ask_root answer next step = stays_at hi
 keeps_failed before after history commit ask_commits answer next step = stays_at history (failed history commit) next step.1 refl
 keeps_failed before after history commit ask_floor answer next step = stays_at history (failed history commit) next step.1 refl
 keeps_failed before after history commit ask_len answer next step = stays_at history (failed history commit) next step.1 refl
+keeps_failed before after history commit (ask_prune location) answer next step = stays_at history (failed history commit) next step.1 refl
 
 -- one step
 pub step_keeps : (m : Machine) (before after : Power) (state : State) (request : Request) (answer : Answer) (next : State)
@@ -83,7 +89,7 @@ step_keeps m before after (closed history pending) request answer next step =
     keeps_in_doubt m before after history request answer next step
 step_keeps m before after (doubtful history) request answer next step =
     keeps_in_doubt m before after history request answer next step
-step_keeps m before after (live history) request answer next step = keeps_live m before after history request answer next step
+step_keeps m before after (live history pruned) request answer next step = keeps_live m before after history pruned request answer next step
 step_keeps m before after (failed history commit) request answer next step = keeps_failed before after history commit request answer next step
 
 -- a run

@@ -14,3 +14,6 @@ pub mod Grown
 pub mod Steps
 pub mod Rests
 pub mod OnDevice
+pub mod Pruned
+pub mod AtRest
+pub mod Unpruned

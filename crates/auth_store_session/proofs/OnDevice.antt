@@ -23,7 +23,7 @@ use Rattle.auth_store_ledger.specs.Store.{commit_after, root_of_history}
 use Rattle.auth_store_log.specs.Records.{Format, recovered_log, history_bytes, log_bytes, AreRecorded}
 use Rattle.auth_store_log.specs.Shown.{MayShow, IsKeptThrough}
 use Rattle.auth_store_session.specs.declared.error.StoreError.{StoreError}
-use Rattle.auth_store_session.specs.declared.error.StoreError.TheVariants.{Fault, PowerCut, NumberEnded, Memory, Corrupt, Failed, Header}
+use Rattle.auth_store_session.specs.declared.error.StoreError.TheVariants.{Fault, PowerCut, NumberEnded, Memory, Corrupt, Failed, PastFloor, Header}
 use Rattle.auth_store_session.specs.Refusals.{of_opening}
 use Rattle.auth_store_session.specs.Machine.{Machine, IsEndingOpening, MayRefuseRead, MayRefuseCommit, PassesLimit, commit_of}
 use Rattle.auth_store_session.specs.Stores.{StoreState, LiveState, IsStore, IsLive, IsLiveAt, IsNoHistory, Shows, IsReadRefusal, IsOpenRefusal, IsCommitRefusal, EndsDisk, EndsOpening}
@@ -98,6 +98,7 @@ module _ {R : Type 0} (m : Machine) (format : Format) (old mid new : DeviceState
     recovery_on_device Corrupt injected refused shown law through cause =
         (subst (λ bytes. IsNoHistory format (recovered_log format crc32 m.page_size bytes)) shown cause, through)
     recovery_on_device Failed injected refused shown law through cause = absurd cause
+    recovery_on_device PastFloor injected refused shown law through cause = absurd cause
     recovery_on_device (Header fault) injected refused shown law through cause = absurd cause
 
 -- a read that is refused
@@ -113,6 +114,7 @@ module _ {R : Type 0} (old new : DeviceState R) (cache now : Cache)
     read_on_device Memory law cause = tt
     read_on_device Corrupt law cause = absurd cause
     read_on_device Failed law cause = absurd cause
+    read_on_device PastFloor law cause = absurd cause
     read_on_device (Header fault) law cause = absurd cause
 
     -- and a commit
@@ -129,6 +131,7 @@ module _ {R : Type 0} (old new : DeviceState R) (cache now : Cache)
     commit_on_device m next Memory law cause = tt
     commit_on_device m next Corrupt law cause = absurd cause
     commit_on_device m next Failed law cause = absurd cause
+    commit_on_device m next PastFloor law cause = absurd cause
     commit_on_device m next (Header fault) law cause = absurd cause
 
 -- a store of which this is true has not failed
@@ -172,18 +175,18 @@ module _ {R : Type 0} (m : Machine) (format : Format) (words : List Word) (metad
         (subst (λ (l : Option LiveState). IfSome l (λ was. CommitsHere encoding result was.history)) is all))
 
 -- a store of these parts
-abbrev pub store_of : {R : Type 0} → DeviceState R → Cache → Option LiveState → StoreState R
-store_of device cache live = record { device = device; cache = cache; live = live }
+abbrev pub store_of : {R : Type 0} → DeviceState R → Cache → Option LiveState → ℕ → StoreState R
+store_of device cache live pruned = record { device = device; cache = cache; live = live; pruned = pruned }
 
-pub same_store : {R : Type 0} (device other : DeviceState R) (cache names : Cache) (live now : Option LiveState) → device ≡ other → cache ≡ names
-    → live ≡ now → store_of device cache live ≡ store_of other names now
-same_store device other cache names live now d k l =
-    ap (λ x. store_of x cache live) d ∙ (ap (λ x. store_of other x live) k ∙ ap (store_of other names) l)
+pub same_store : {R : Type 0} (device other : DeviceState R) (cache names : Cache) (live now : Option LiveState) (pruned : ℕ)
+    → device ≡ other → cache ≡ names → live ≡ now → store_of device cache live pruned ≡ store_of other names now pruned
+same_store device other cache names live now pruned d k l =
+    ap (λ x. store_of x cache live pruned) d ∙ (ap (λ x. store_of other x live pruned) k ∙ ap (λ x. store_of other names x pruned) l)
 
 -- the history of a live store is that of what it has
-pub one_history : {R : Type 0} (device : DeviceState R) (cache : Cache) (live : Option LiveState) (at : StoreState R) (now : LiveState)
-    (history : History) → store_of device cache live ≡ at → live ≡ Some now → IsLiveAt at history → now.history ≡ history
-one_history {R = R} device cache live at now history view is (other, stands, same) =
+pub one_history : {R : Type 0} (device : DeviceState R) (cache : Cache) (live : Option LiveState) (pruned : ℕ) (at : StoreState R)
+    (now : LiveState) (history : History) → store_of device cache live pruned ≡ at → live ≡ Some now → IsLiveAt at history → now.history ≡ history
+one_history {R = R} device cache live pruned at now history view is (other, stands, same) =
     let all : Some now ≡ Some other = sym is ∙ (ap (λ (s : StoreState R). s.live) view ∙ stands) in
     let one : now ≡ other = cc in ap (λ (l : LiveState). l.history) one ∙ same
 
@@ -205,16 +208,16 @@ live_shows format calls cache now keeps whole states is =
     }
 
 -- what the parts of an open store show
-pub parts_show : {R : Type 0} (format : Format) (device : DeviceState R) (cache : Cache) (live : Option LiveState) (at : StoreState R)
-    (history : History) → store_of device cache live ≡ at → IsStore format (store_of device cache live)
+pub parts_show : {R : Type 0} (format : Format) (device : DeviceState R) (cache : Cache) (live : Option LiveState) (pruned : ℕ)
+    (at : StoreState R) (history : History) → store_of device cache live pruned ≡ at → IsStore format (store_of device cache live pruned)
     → IfSome live (λ now. (calls : List Call) (cache : Cache) → IsLive format calls cache now
     → Shows format (cache.page_size + 12) now.history None calls)
     → IsLiveAt at history → Shows format (at.cache.page_size + 12) history None at.device.calls
-parts_show {R = R} format device cache (Some now) at history view is shown live =
+parts_show {R = R} format device cache (Some now) pruned at history view is shown live =
     subst (λ (s : StoreState R). Shows format (s.cache.page_size + 12) history None s.device.calls) view
     (subst (λ h. Shows format (cache.page_size + 12) h None device.calls)
-    (one_history device cache (Some now) at now history view refl live) (shown device.calls cache is.live))
-parts_show {R = R} format device cache None at history view is shown (now, stands, same) =
+    (one_history device cache (Some now) pruned at now history view refl live) (shown device.calls cache is.live))
+parts_show {R = R} format device cache None pruned at history view is shown (now, stands, same) =
     let all : None ≡ Some now = ap (λ (s : StoreState R). s.live) view ∙ stands in absurd (cc)
 
 -- what was live stays so
@@ -245,4 +248,5 @@ refused_closed m format old new cache now NumberEnded why = why
 refused_closed m format old new cache now Memory why = why
 refused_closed m format old new cache now Corrupt why = why
 refused_closed m format old new cache now Failed why = why
+refused_closed m format old new cache now PastFloor why = why
 refused_closed m format old new cache now (Header fault) why = why

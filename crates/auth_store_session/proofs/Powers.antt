@@ -139,6 +139,14 @@ leaves_unproved e device cache (inl is) =
     (leaves_none (Some refusals.Memory) device cache refl refl)
 leaves_unproved e device cache (inr is) = leaves_failed e device cache is
 
+-- nor of a store that refuses to be pruned
+pub leaves_unpruned : {R : Type 0} (e : StoreError) (device : DeviceState R) (cache : Cache)
+    → (e ≡ refusals.PastFloor) ⊎ (e ≡ refusals.Failed) → Leaves 0 (Some e) (power_of device cache) (power_of device cache)
+leaves_unpruned e device cache (inl is) =
+    subst (λ x. Leaves 0 (Some x) (power_of device cache) (power_of device cache)) (sym is)
+    (leaves_none (Some refusals.PastFloor) device cache refl refl)
+leaves_unpruned e device cache (inr is) = leaves_failed e device cache is
+
 -- what is equal has the same power
 pub leaves_same : {R : Type 0} (old new : DeviceState R) (cache now : Cache) → power_of new now ≡ power_of old cache
     → Leaves 0 None (power_of old cache) (power_of new now)

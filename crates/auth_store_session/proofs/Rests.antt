@@ -14,7 +14,7 @@ use Rattle.std.specs.Prelude.{IsFalse, IfSome}
 use Rattle.fault_storage.specs.Stores.{Store}
 use Rattle.auth_store_device.specs.Logs.{HasOwnHeader}
 use Rattle.auth_store_session.specs.declared.error.StoreError.{StoreError}
-use Rattle.auth_store_session.specs.declared.error.StoreError.TheVariants.{Fault, PowerCut, NumberEnded, Memory, Corrupt, Failed, Header}
+use Rattle.auth_store_session.specs.declared.error.StoreError.TheVariants.{Fault, PowerCut, NumberEnded, Memory, Corrupt, Failed, PastFloor, Header}
 use Rattle.auth_store_session.specs.Machine as machine
 use Rattle.auth_store_session.specs.Machine.{Machine, Power, State, closed, live, failed, doubtful, Request, ask_open, Answer, refused, at_rest, IsShownOf, IsStep, IsStepClosed, IsStepInDoubt, IsAnswerTo, IsSaid, is_open_after, MayRefuseOpening}
 use Rattle.auth_store_session.specs.MachineCode.{request_of, config_after, config_after_all, IsLeftBy}
@@ -22,7 +22,7 @@ use Rattle.auth_store_session.specs.declared.session.Step.{Step}
 use Rattle.auth_store_session.specs.declared.session.Step.TheVariants as steps
 use Rattle.auth_store_session.specs.declared.sizes.Sizes.{Sizes}
 use Rattle.fault_storage_parts.specs.declared.config.Config.{Config}
-use Rattle.auth_store_session.specs.Standing.{StandsFor, Moves, Steps, StepsOpen, SessionState, IsSession, IsLeftOpen, calls_in, closed_at, page_size_in, IsOpenedThrough, IsShownThrough, IsRecovered, IsOpenError, power_of, shown_of}
+use Rattle.auth_store_session.specs.Standing.{StandsFor, Moves, Steps, StepsOpen, SessionState, IsSession, IsAtRest, IsLeftOpen, calls_in, closed_at, page_size_in, IsOpenedThrough, IsShownThrough, IsRecovered, IsOpenError, power_of, shown_of}
 use Rattle.auth_store_session.specs.Stores.{StoreState, IsCache, IsLiveAt, IsNoHistory, IsWritten, IsKept, Shows}
 use Rattle.auth_store_session.proofs.Kept.{begun_same, some_bytes, opened_keeps, opening_begins}
 use Rattle.auth_store_session.proofs.Opens.{fewer, opening_shows, still_shows, grown, behind}
@@ -40,14 +40,14 @@ open_at store = record { parts = None; store = Some store }
 
 -- an opening
 pub opens_in : {R : Type 0} (m : Machine) (format : Format) (device : DeviceState R) (cache : Cache) (store : StoreState R)
-    → ShowsWhatStood → store.cache.page_size ≡ cache.page_size → IsFalse (is_cut device.left)
+    → ShowsWhatStood → store.cache.page_size ≡ cache.page_size → IsFalse (is_cut device.left) → store.pruned ≡ 0
     → ((history : History) × IsLiveAt store history × IsRecovered format (cache.page_size + 12) (shown_of device) history)
     → IsShownThrough format (cache.page_size + 12) (shown_of device) device.calls store.device.calls
     → Moves m format (closed_at device cache) ask_open machine.opened (open_at store)
-opens_in m format device cache store law sized uncut recovered shown (closed history pending) none stands =
+opens_in m format device cache store law sized uncut whole recovered shown (closed history pending) none stands =
     let size = cache.page_size + 12 in
     let now = subst (λ s. NoneByChance crc32 (s + 12) store.device.calls) sized none in (
-      live recovered.0,
+      live recovered.0 0,
       inl (
         refl,
         uncut,
@@ -58,11 +58,11 @@ opens_in m format device cache store law sized uncut recovered shown (closed his
           refl,
         ),
       ),
-      recovered.1,
+      (recovered.1, whole),
     )
-opens_in m format device cache store law sized uncut recovered shown (doubtful history) none stands =
+opens_in m format device cache store law sized uncut whole recovered shown (doubtful history) none stands =
     let size = cache.page_size + 12 in (
-      live recovered.0,
+      live recovered.0 0,
       inl (
         refl,
         uncut,
@@ -72,10 +72,10 @@ opens_in m format device cache store law sized uncut recovered shown (doubtful h
           refl,
         ),
       ),
-      recovered.1,
+      (recovered.1, whole),
     )
-opens_in m format device cache store law sized uncut recovered shown (live history) none stands = absurd stands
-opens_in m format device cache store law sized uncut recovered shown (failed history commit) none stands = absurd stands
+opens_in m format device cache store law sized uncut whole recovered shown (live history pruned) none stands = absurd stands
+opens_in m format device cache store law sized uncut whole recovered shown (failed history commit) none stands = absurd stands
 
 -- what an opening shows is the log of a history
 shown_has : (format : Format) (history : History) (pending : Option Commit) (log : List ℕ) → IsWritten format history
@@ -108,6 +108,7 @@ refuses_for m format device new cache now history pending PowerCut shows own non
 refuses_for m format device new cache now history pending NumberEnded shows own none cause = cause
 refuses_for m format device new cache now history pending Memory shows own none cause = cause
 refuses_for m format device new cache now history pending Failed shows own none cause = cause
+refuses_for m format device new cache now history pending PastFloor shows own none cause = cause
 
 -- and in doubt
 doubts_for : {R : Type 0} (m : Machine) (format : Format) (device new : DeviceState R) (cache now : Cache) (e : StoreError)
@@ -120,6 +121,7 @@ doubts_for m format device new cache now PowerCut own cause = inr cause
 doubts_for m format device new cache now NumberEnded own cause = inr cause
 doubts_for m format device new cache now Memory own cause = inr cause
 doubts_for m format device new cache now Failed own cause = inr cause
+doubts_for m format device new cache now PastFloor own cause = inr cause
 
 -- an opening that is refused
 pub refused_in : {R : Type 0} (m : Machine) (format : Format) (device new : DeviceState R) (cache now : Cache) (e : StoreError)
@@ -148,7 +150,7 @@ refused_in m format device new cache now e paged sized moments header cause (dou
       inr (e, refl, refl, doubts_for m format device new cache now e stands.2 cause),
       (stands.0, subst (λ s. IsKept format (s + 12) history new.calls) (sym sized) kept, header stands.2),
     )
-refused_in m format device new cache now e paged sized moments header cause (live history) none stands = absurd stands
+refused_in m format device new cache now e paged sized moments header cause (live history pruned) none stands = absurd stands
 refused_in m format device new cache now e paged sized moments header cause (failed history commit) none stands = absurd stands
 
 -- a closed session that stays as it is
@@ -169,7 +171,7 @@ rests_in m format device new cache request answer calls header steps doubts (dou
   doubts history,
   (stands.0, subst (IsKept format (cache.page_size + 12) history) (sym calls) stands.1, header stands.2),
 )
-rests_in m format device new cache request answer calls header steps doubts (live history) none stands = absurd stands
+rests_in m format device new cache request answer calls header steps doubts (live history pruned) none stands = absurd stands
 rests_in m format device new cache request answer calls header steps doubts (failed history commit) none stands = absurd stands
 
 -- what a store that is closed stands for
@@ -177,8 +179,8 @@ pub rests_at : {R : Type 0} (format : Format) (store : StoreState R) (device : D
     → cache ≡ store.cache → device.calls ≡ store.device.calls → HasOwnHeader device.storage.inner
     → ((history : History) → IsLiveAt store history → Shows format (store.cache.page_size + 12) history None device.calls)
     → StandsFor format None (Some store) state → StandsFor format (Some (device, cache)) None (at_rest state)
-rests_at format store device cache (live history) is calls header shows stands =
-    (subst (λ c. Shows format (c.page_size + 12) history None device.calls) (sym is) (shows history stands), header)
+rests_at format store device cache (live history pruned) is calls header shows stands =
+    (subst (λ c. Shows format (c.page_size + 12) history None device.calls) (sym is) (shows history stands.0), header)
 rests_at format store device cache (failed history commit) is calls header shows stands = (
   subst (λ c. Shows format (c.page_size + 12) history (Some commit) device.calls) (sym is)
       (subst (Shows format (store.cache.page_size + 12) history (Some commit)) (sym calls) stands.1),
@@ -192,8 +194,8 @@ pub closes_in : {R : Type 0} (m : Machine) (format : Format) (store : StoreState
     → power_of device cache ≡ power_of store.device store.cache → cache ≡ store.cache → device.calls ≡ store.device.calls → HasOwnHeader device.storage.inner
     → ((history : History) → IsLiveAt store history → Shows format (store.cache.page_size + 12) history None device.calls)
     → Moves m format (open_at store) machine.ask_close machine.has_closed (closed_at device cache)
-closes_in m format store device cache same is calls header shows (live history) none stands =
-    (closed history None, (refl, refl, same), rests_at format store device cache (live history) is calls header shows stands)
+closes_in m format store device cache same is calls header shows (live history pruned) none stands =
+    (closed history None, (refl, refl, same), rests_at format store device cache (live history pruned) is calls header shows stands)
 closes_in m format store device cache same is calls header shows (failed history commit) none stands =
     (closed history (Some commit), (refl, refl, same), rests_at format store device cache (failed history commit) is calls header shows stands)
 closes_in m format store device cache same is calls header shows (closed history pending) none stands = absurd stands
@@ -254,22 +256,6 @@ pub grows_more : {R : Type 0} (was old : SessionState R) (calls : List Call) →
     → Grows (calls_in old.parts old.store) calls
 grows_more was old calls is more = subst (λ (s : SessionState _). Grows (calls_in s.parts s.store) calls) is more
 
--- a closed session of which another thing is asked
-pub rest_same : {R : Type 0} (m : Machine) (format : Format) (parts : Option (DeviceState R × Cache)) (store : Option (StoreState R))
-    (request : Request) (answer : Answer) → store ≡ None
-    → ((power : Power) (history : History) (pending : Option Commit)
-    → IsStepClosed m power power history pending request answer (closed history pending))
-    → ((power : Power) (history : History) → IsStepInDoubt m power power history request answer (doubtful history))
-    → Moves m format (record { parts = parts; store = store }) request answer (record { parts = parts; store = store })
-rest_same m format (Some parts) None request answer at steps doubts (closed history pending) none stands =
-    (closed history pending, steps (power_of parts.0 parts.1) history pending, stands)
-rest_same m format (Some parts) None request answer at steps doubts (doubtful history) none stands =
-    (doubtful history, doubts (power_of parts.0 parts.1) history, stands)
-rest_same m format (Some parts) None request answer at steps doubts (live history) none stands = absurd stands
-rest_same m format (Some parts) None request answer at steps doubts (failed history commit) none stands = absurd stands
-rest_same m format None None request answer at steps doubts state none stands = absurd stands
-rest_same m format parts (Some store) request answer at steps doubts state none stands = absurd (cc)
-
 -- what a closed session does not do
 pub record IsRefusedClosed (request : Request) : Type 0 where
   pub steps : (m : Machine) (power : Power) (history : History) (pending : Option Commit)
@@ -280,27 +266,29 @@ pub record IsRefusedClosed (request : Request) : Type 0 where
   pub turned : (power : Power) → machine.turned request machine.not_open power ≡ power
 
 pub is_refused_closed : {K V : Type 0} (key : K → List ℕ) (value : V → List ℕ) (step : Step K V)
-    → ((sizes : Sizes) → step ≡ steps.Open sizes → ⊥) → (step ≡ steps.Crash → ⊥) → ((config : Config) → step ≡ steps.Config config → ⊥)
+    → IsAtRest (request_of key value step) → (step ≡ steps.Crash → ⊥) → ((config : Config) → step ≡ steps.Config config → ⊥)
     → ((calls : ℕ) → step ≡ steps.CutAfter calls → ⊥) → IsRefusedClosed (request_of key value step)
-is_refused_closed key value (steps.Open sizes) a b c d = absurd (a sizes refl)
-is_refused_closed key value steps.Crash a b c d = absurd (b refl)
-is_refused_closed key value (steps.Config config) a b c d = absurd (c config refl)
-is_refused_closed key value (steps.CutAfter calls) a b c d = absurd (d calls refl)
-is_refused_closed key value (steps.Commit batch metadata) a b c d =
+is_refused_closed key value (steps.Open sizes) rest b c d = absurd rest
+is_refused_closed key value steps.Crash rest b c d = absurd (b refl)
+is_refused_closed key value (steps.Config config) rest b c d = absurd (c config refl)
+is_refused_closed key value (steps.CutAfter calls) rest b c d = absurd (d calls refl)
+is_refused_closed key value (steps.Commit batch metadata) rest b c d =
     record { steps = λ m power h p. (refl, refl, refl); doubts = λ m power h. (refl, refl, refl); kind = refl; turned = λ power. refl }
-is_refused_closed key value (steps.Get k) a b c d =
+is_refused_closed key value (steps.Get k) rest b c d =
     record { steps = λ m power h p. (refl, refl, refl); doubts = λ m power h. (refl, refl, refl); kind = refl; turned = λ power. refl }
-is_refused_closed key value steps.Root a b c d =
+is_refused_closed key value steps.Root rest b c d =
     record { steps = λ m power h p. (refl, refl, refl); doubts = λ m power h. (refl, refl, refl); kind = refl; turned = λ power. refl }
-is_refused_closed key value steps.Commits a b c d =
+is_refused_closed key value steps.Commits rest b c d =
     record { steps = λ m power h p. (refl, refl, refl); doubts = λ m power h. (refl, refl, refl); kind = refl; turned = λ power. refl }
-is_refused_closed key value steps.Floor a b c d =
+is_refused_closed key value steps.Floor rest b c d =
     record { steps = λ m power h p. (refl, refl, refl); doubts = λ m power h. (refl, refl, refl); kind = refl; turned = λ power. refl }
-is_refused_closed key value steps.Len a b c d =
+is_refused_closed key value steps.Len rest b c d =
     record { steps = λ m power h p. (refl, refl, refl); doubts = λ m power h. (refl, refl, refl); kind = refl; turned = λ power. refl }
-is_refused_closed key value (steps.ProveKey k) a b c d =
+is_refused_closed key value (steps.Prune location) rest b c d =
     record { steps = λ m power h p. (refl, refl, refl); doubts = λ m power h. (refl, refl, refl); kind = refl; turned = λ power. refl }
-is_refused_closed key value steps.Close a b c d =
+is_refused_closed key value (steps.ProveKey k) rest b c d =
+    record { steps = λ m power h p. (refl, refl, refl); doubts = λ m power h. (refl, refl, refl); kind = refl; turned = λ power. refl }
+is_refused_closed key value steps.Close rest b c d =
     record { steps = λ m power h p. (refl, refl, refl); doubts = λ m power h. (refl, refl, refl); kind = refl; turned = λ power. refl }
 
 -- where a store is open, a session has nothing beside it
@@ -333,7 +321,7 @@ closed_rests format parts store is old state view at session stands =
         → IsSession (Some is) store → StandsFor format (Some is) store state → StandsFor format (Some is) None (at_rest state)
     at_closed format is None (closed history pending) session stands = stands
     at_closed format is None (doubtful history) session stands = stands
-    at_closed format is None (live history) session stands = absurd stands
+    at_closed format is None (live history pruned) session stands = absurd stands
     at_closed format is None (failed history commit) session stands = absurd stands
     at_closed format is (Some store) state session stands = absurd session
 
@@ -388,6 +376,7 @@ config_kept steps.Root other before = refl
 config_kept steps.Commits other before = refl
 config_kept steps.Floor other before = refl
 config_kept steps.Len other before = refl
+config_kept (steps.Prune location) other before = refl
 config_kept (steps.ProveKey k) other before = refl
 config_kept steps.Close other before = refl
 config_kept steps.Crash other before = refl
@@ -406,6 +395,7 @@ left_kept steps.Root other before = refl
 left_kept steps.Commits other before = refl
 left_kept steps.Floor other before = refl
 left_kept steps.Len other before = refl
+left_kept (steps.Prune location) other before = refl
 left_kept (steps.ProveKey k) other before = refl
 left_kept steps.Close other before = refl
 
@@ -434,6 +424,7 @@ said_open is_kind (machine.root_is root) not_closed said = refl
 said_open is_kind (machine.commits_are count) not_closed said = refl
 said_open is_kind (machine.floor_is location) not_closed said = refl
 said_open is_kind (machine.len_is count) not_closed said = refl
+said_open is_kind (machine.pruned_to chunks) not_closed said = refl
 said_open is_kind (machine.proof found) not_closed said = refl
 said_open is_kind machine.has_crashed not_closed said = refl
 said_open is_kind machine.is_set not_closed said = refl
@@ -455,4 +446,5 @@ stays_open machine.ask_root answer left kind = said_open machine.is_root answer 
 stays_open machine.ask_commits answer left kind = said_open machine.is_commits answer refl kind
 stays_open machine.ask_floor answer left kind = said_open machine.is_floor answer refl kind
 stays_open machine.ask_len answer left kind = said_open machine.is_len answer refl kind
+stays_open (machine.ask_prune location) answer left kind = said_open machine.is_pruned answer refl kind
 stays_open (machine.ask_proof key) answer left kind = said_open machine.is_proof answer refl kind

@@ -52,21 +52,21 @@ one_more_in_doubt m before first (r ∷ requests) [] at now request answer after
 -- where no opening is by chance, none is from any state
 sure_of : (size : ℕ) (calls : List Call) (state : State) → NoneByChance crc32 size calls → IsSure size calls state
 sure_of size calls (closed history pending) none = none
-sure_of size calls (live history) none = tt
+sure_of size calls (live history pruned) none = tt
 sure_of size calls (failed history commit) none = tt
 sure_of size calls (doubtful history) none = tt
 
 -- in doubt each opening may be
 sure_in_doubt : (size : ℕ) (calls : List Call) (state : State) → IsSure size calls (in_doubt state)
 sure_in_doubt size calls (closed history pending) = tt
-sure_in_doubt size calls (live history) = tt
+sure_in_doubt size calls (live history pruned) = tt
 sure_in_doubt size calls (failed history commit) = tt
 sure_in_doubt size calls (doubtful history) = tt
 
 -- what stands for a state stands for it in doubt
 pub stands_in_doubt : {R : Type 0} (format : Format) (parts : Option (DeviceState R × Cache)) (store : Option (StoreState R))
     (state : State) → StandsFor format parts store state → StandsFor format parts store (in_doubt state)
-stands_in_doubt format parts store (live history) stands = stands
+stands_in_doubt format parts store (live history pruned) stands = stands
 stands_in_doubt format parts store (failed history commit) stands = stands
 stands_in_doubt format parts store (doubtful history) stands = stands
 stands_in_doubt format (Some parts) None (closed history pending) stands = (stands.0.written, stands.0.kept, stands.1)

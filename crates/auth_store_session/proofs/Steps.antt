@@ -1,16 +1,17 @@
 -- A call of an open store is a step of the machine.
-use Rattle.std.proofs.Common.{◌≡◌, ◌+◌, ℕ, List, ◌⊎◌, Option, Some, None, refl, sym, ◌∙◌, subst, ap, inl, inr, ⊎_elim}
-use Rattle.std.specs.Prelude.{Result, Ok, Err, IfOk, IfErr, option_map}
+use Rattle.std.proofs.Common.{◌≡◌, ◌+◌, ◌<◌, ◌≤◌, ℕ, List, ◌⊎◌, Option, Some, None, refl, sym, ◌∙◌, subst, ap, inl, inr, ⊎_elim}
+use Rattle.std.specs.Prelude.{Result, Ok, Err, IfOk, IfErr, OnErr, option_map}
 use Rattle.paged_blob.specs.Calls.{Call}
 use Rattle.paged_blob.specs.Moments.{Grows, here}
 use Rattle.auth_store_parts.specs.Batch.{Word}
 use Rattle.auth_store_parts.specs.History.{History, Commit, latest_map}
 use Rattle.auth_store_parts.specs.Map.{value_at}
 use Rattle.auth_store_log.specs.Records.{Format}
-use Rattle.auth_store_ledger.specs.Store.{commit_after}
+use Rattle.auth_store_ledger.specs.Proving.{KeyAnswer}
+use Rattle.auth_store_ledger.specs.Store.{commit_after, floor_of, IsPrunedUpTo}
 use Rattle.auth_store_session.specs.declared.error.StoreError.{StoreError}
-use Rattle.auth_store_session.specs.declared.error.StoreError.TheVariants.{Failed, Memory}
-use Rattle.auth_store_session.specs.Machine.{Machine, Power, State, closed, live, failed, doubtful, Request, ask_open, ask_crash, ask_commit, ask_get, ask_proof, Answer, still_open, committed, value, proof, refused, IsStep, IsStepLive, IsStepFailed, MayRefuseRead, commit_of, proof_of}
+use Rattle.auth_store_session.specs.declared.error.StoreError.TheVariants.{Failed, Memory, PastFloor}
+use Rattle.auth_store_session.specs.Machine.{Machine, Power, State, closed, live, failed, doubtful, Request, ask_open, ask_crash, ask_commit, ask_get, ask_prune, ask_proof, Answer, still_open, committed, value, pruned_to, proof, refused, IsStep, IsStepLive, IsStepFailed, MayRefuseRead, commit_of, proof_of}
 use Rattle.auth_store_session.specs.MachineCode.{answer_of, request_of}
 use Rattle.auth_store_session.specs.declared.session.Step.{Step}
 use Rattle.auth_store_session.specs.declared.session.Step.TheVariants as steps
@@ -41,28 +42,28 @@ stays_failed m format old new request said result history commit lost is stands 
 
 -- a commit
 pub commits_in : {R D : Type 0} (m : Machine) (format : Format) (encoding : D → List ℕ) (words : List Word) (metadata : Option (List ℕ))
-    (old new : StoreState R) (result : Result D StoreError) → m.page_size ≡ new.cache.page_size + 12
+    (old new : StoreState R) (result : Result D StoreError) → m.page_size ≡ new.cache.page_size + 12 → new.pruned ≡ old.pruned
     → ((history : History) → IsLiveAt old history → Commits m format words metadata history old (result_of encoding result) new)
     → (old.live ≡ None → (result ≡ Err Failed) × (new ≡ old))
     → MovesOpen m format old (ask_commit words metadata) (answer_of (λ root. committed (encoding root)) result) new
-commits_in m format encoding words metadata old new (Ok root) sized commits lost (live history) stands =
-    let c = commits history stands in
-    (live (commit_after words metadata history), inl (ap committed c.0, refl, c.2, c.3), c.1)
-commits_in m format encoding words metadata old new (Err e) sized commits lost (live history) stands =
-    let c = commits history stands in
+commits_in m format encoding words metadata old new (Ok root) sized kept commits lost (live history pruned) stands =
+    let c = commits history stands.0 in
+    (live (commit_after words metadata history) pruned, inl (ap committed c.0, refl, c.2, c.3), (c.1, kept ∙ stands.1))
+commits_in m format encoding words metadata old new (Err e) sized kept commits lost (live history pruned) stands =
+    let c = commits history stands.0 in
     ⊎_elim
-    (λ at. (live history, inr (e, refl, c.0, inl refl), at))
+    (λ at. (live history pruned, inr (e, refl, c.0, inl refl), (at, kept ∙ stands.1)))
     (λ gone. (
       failed history (commit_of words metadata history),
       inr (e, refl, c.0, inr (refl, gone.1)),
       (gone.0, subst (λ size. Shows format size history (Some (commit_of words metadata history)) new.device.calls) sized gone.2),
     ))
     c.1
-commits_in m format encoding words metadata old new result sized commits lost (failed history commit) stands =
+commits_in m format encoding words metadata old new result sized kept commits lost (failed history commit) stands =
     stays_failed m format old new (ask_commit words metadata) (λ root. committed (encoding root)) result history commit (lost stands.0)
     (λ power h c answer is. (is, refl, refl)) stands
-commits_in m format encoding words metadata old new result sized commits lost (closed history pending) stands = absurd stands
-commits_in m format encoding words metadata old new result sized commits lost (doubtful history) stands = absurd stands
+commits_in m format encoding words metadata old new result sized kept commits lost (closed history pending) stands = absurd stands
+commits_in m format encoding words metadata old new result sized kept commits lost (doubtful history) stands = absurd stands
 
 -- a value that is read
 pub gets_in : {R V : Type 0} (m : Machine) (format : Format) (encoding : V → List ℕ) (key : List ℕ) (old new : StoreState R)
@@ -71,52 +72,86 @@ pub gets_in : {R V : Type 0} (m : Machine) (format : Format) (encoding : V → L
     → IfOk result (λ found. option_map encoding found ≡ value_at (latest_map history) key))
     → ((history : History) → IsLiveAt old history
     → IfErr result (MayRefuseRead (power_of old.device old.cache) (power_of new.device new.cache)))
-    → ((history : History) → IsLiveAt old history → IsLiveAt new history)
+    → ((history : History) → IsLiveAt old history → IsLiveAt new history) → new.pruned ≡ old.pruned
     → (old.live ≡ None → (result ≡ Err Failed) × (new ≡ old))
     → MovesOpen m format old (ask_get key) (answer_of (λ found. value (option_map encoding found)) result) new
-gets_in m format encoding key old new (Ok found) is refuses stays lost (live history) stands =
-    (live history, (refl, inl (ap value (is history stands))), stays history stands)
-gets_in m format encoding key old new (Err e) is refuses stays lost (live history) stands =
-    (live history, (refl, inr (e, refl, refuses history stands)), stays history stands)
-gets_in m format encoding key old new result is refuses stays lost (failed history commit) stands =
+gets_in m format encoding key old new (Ok found) is refuses stays kept lost (live history pruned) stands =
+    (live history pruned, (refl, inl (ap value (is history stands.0))), (stays history stands.0, kept ∙ stands.1))
+gets_in m format encoding key old new (Err e) is refuses stays kept lost (live history pruned) stands =
+    (live history pruned, (refl, inr (e, refl, refuses history stands.0)), (stays history stands.0, kept ∙ stands.1))
+gets_in m format encoding key old new result is refuses stays kept lost (failed history commit) stands =
     stays_failed m format old new (ask_get key) (λ found. value (option_map encoding found)) result history commit (lost stands.0)
     (λ power h c answer at. (at, refl, refl)) stands
-gets_in m format encoding key old new result is refuses stays lost (closed history pending) stands = absurd stands
-gets_in m format encoding key old new result is refuses stays lost (doubtful history) stands = absurd stands
+gets_in m format encoding key old new result is refuses stays kept lost (closed history pending) stands = absurd stands
+gets_in m format encoding key old new result is refuses stays kept lost (doubtful history) stands = absurd stands
 
 -- a proof that is made
-pub proves_in : {R P : Type 0} (m : Machine) (format : Format) (parts : P → List ℕ × List ℕ) (key : List ℕ) (store : StoreState R)
-    (result : Result (Option P) StoreError)
-    → ((history : History) → IsLiveAt store history → IfOk result (λ found. option_map parts found ≡ proof_of m history key))
+pub proves_in : {R P : Type 0} (m : Machine) (format : Format) (said : P → KeyAnswer) (key : List ℕ) (store : StoreState R)
+    (result : Result P StoreError)
+    → ((history : History) → IsLiveAt store history → IfOk result (λ found. said found ≡ proof_of m history key))
     → ((history : History) → IsLiveAt store history → IfErr result (λ e. e ≡ Memory))
     → (store.live ≡ None → result ≡ Err Failed)
-    → MovesOpen m format store (ask_proof key) (answer_of (λ found. proof (option_map parts found)) result) store
-proves_in m format parts key store (Ok found) is refuses lost (live history) stands =
-    (live history, (refl, inl (ap proof (is history stands)), refl), stands)
-proves_in m format parts key store (Err e) is refuses lost (live history) stands = (
-  live history,
-  (refl, inr (ap refused (refuses history stands)), refl),
+    → MovesOpen m format store (ask_proof key) (answer_of (λ found. proof (said found)) result) store
+proves_in m format said key store (Ok found) is refuses lost (live history pruned) stands =
+    (live history pruned, (refl, inl (ap proof (is history stands.0)), refl), stands)
+proves_in m format said key store (Err e) is refuses lost (live history pruned) stands = (
+  live history pruned,
+  (refl, inr (ap refused (refuses history stands.0)), refl),
   stands,
 )
-proves_in m format parts key store result is refuses lost (failed history commit) stands =
-    stays_failed m format store store (ask_proof key) (λ found. proof (option_map parts found)) result history commit
+proves_in m format said key store result is refuses lost (failed history commit) stands =
+    stays_failed m format store store (ask_proof key) (λ found. proof (said found)) result history commit
     (lost stands.0, refl) (λ power h c answer at. (at, refl, refl)) stands
-proves_in m format parts key store result is refuses lost (closed history pending) stands = absurd stands
-proves_in m format parts key store result is refuses lost (doubtful history) stands = absurd stands
+proves_in m format said key store result is refuses lost (closed history pending) stands = absurd stands
+proves_in m format said key store result is refuses lost (doubtful history) stands = absurd stands
+
+-- a store that is pruned
+pub prunes_in : {R : Type 0} (m : Machine) (format : Format) (location : ℕ) (old new : StoreState R) (result : Result ℕ StoreError)
+    → new ≡ record old { pruned = new.pruned }
+    → ((history : History) → IsLiveAt old history → IfOk result (λ chunks. (new.pruned ≡ chunks) × (location ≤ floor_of history)
+    × IsPrunedUpTo m.setting history old.pruned location chunks))
+    → ((history : History) → IsLiveAt old history → IfErr result (λ e. (e ≡ PastFloor) × (floor_of history < location)))
+    → OnErr result (new ≡ old) → (old.live ≡ None → result ≡ Err Failed)
+    → MovesOpen m format old (ask_prune location) (answer_of pruned_to result) new
+prunes_in {R = R} m format location old new (Ok chunks) rest done past same lost (live history pruned) stands =
+    let d = done history stands.0 in (
+      live history chunks,
+      (
+        inl (chunks, refl, refl, d.1, subst (λ n. IsPrunedUpTo m.setting history n location chunks) stands.1 d.2),
+        ap (λ (s : StoreState R). power_of s.device s.cache) rest,
+      ),
+      ((stands.0.0, ap (λ (s : StoreState R). s.live) rest ∙ stands.0.1, stands.0.2), d.0),
+    )
+prunes_in {R = R} m format location old new (Err e) rest done past same lost (live history pruned) stands =
+    let p = past history stands.0 in (
+      live history pruned,
+      (inr (ap refused p.0, refl, p.1), ap (λ (s : StoreState R). power_of s.device s.cache) same),
+      subst (λ (s : StoreState R). StandsFor format None (Some s) (live history pruned)) (sym same) stands,
+    )
+prunes_in {R = R} m format location old new (Ok chunks) rest done past same lost (failed history commit) stands =
+    absurd (ok_err chunks Failed (lost stands.0))
+  where
+    ok_err : (n : ℕ) (e : StoreError) → Ok n ≡ Err e → ⊥
+    ok_err n e is = cc
+prunes_in {R = R} m format location old new (Err e) rest done past same lost (failed history commit) stands =
+    stays_failed m format old new (ask_prune location) pruned_to (Err e) history commit (lost stands.0, same)
+    (λ power h c answer at. (at, refl, refl)) stands
+prunes_in m format location old new result rest done past same lost (closed history pending) stands = absurd stands
+prunes_in m format location old new result rest done past same lost (doubtful history) stands = absurd stands
 
 -- what an open store tells of itself
 pub tells_in : {R T : Type 0} (m : Machine) (format : Format) (store : StoreState R) (request : Request) (said : T → Answer)
     (told : History → T) (result : Result T StoreError)
     → ((history : History) → IsLiveAt store history → result ≡ Ok (told history))
     → (store.live ≡ None → result ≡ Err Failed)
-    → ((power : Power) (history : History) (answer : Answer) → answer ≡ said (told history)
-    → IsStepLive m power power history request answer (live history))
+    → ((power : Power) (history : History) (pruned : ℕ) (answer : Answer) → answer ≡ said (told history)
+    → IsStepLive m power power history pruned request answer (live history pruned))
     → IsRefusedOnceFailed request
     → MovesOpen m format store request (answer_of said result) store
-tells_in m format store request said told result is lost steps fails (live history) stands = (
-  live history,
-  steps (power_of store.device store.cache) history (answer_of said result)
-      (ap (answer_of said) (is history stands)),
+tells_in m format store request said told result is lost steps fails (live history pruned) stands = (
+  live history pruned,
+  steps (power_of store.device store.cache) history pruned (answer_of said result)
+      (ap (answer_of said) (is history stands.0)),
   stands,
 )
 tells_in m format store request said told result is lost steps fails (failed history commit) stands =
@@ -126,17 +161,18 @@ tells_in m format store request said told result is lost steps fails (doubtful h
 
 -- a store that stays as it is
 pub stays_in : {R : Type 0} (m : Machine) (format : Format) (old new : StoreState R) (request : Request) (answer : Answer)
-    → new.cache ≡ old.cache → new.live ≡ old.live → new.device.calls ≡ old.device.calls
-    → ((history : History) → IsStepLive m (power_of old.device old.cache) (power_of new.device new.cache) history request answer (live history))
+    → new.cache ≡ old.cache → new.live ≡ old.live → new.pruned ≡ old.pruned → new.device.calls ≡ old.device.calls
+    → ((history : History) (pruned : ℕ)
+    → IsStepLive m (power_of old.device old.cache) (power_of new.device new.cache) history pruned request answer (live history pruned))
     → ((history : History) (commit : Commit) → IsStepFailed (power_of old.device old.cache) (power_of new.device new.cache) history commit
     request answer (failed history commit))
     → MovesOpen m format old request answer new
-stays_in m format old new request answer cache alive calls steps fails (live history) stands = (
-  live history,
-  steps history,
-  (stands.0, alive ∙ stands.1, stands.2),
+stays_in m format old new request answer cache alive kept calls steps fails (live history pruned) stands = (
+  live history pruned,
+  steps history pruned,
+  ((stands.0.0, alive ∙ stands.0.1, stands.0.2), kept ∙ stands.1),
 )
-stays_in m format old new request answer cache alive calls steps fails (failed history commit) stands = (
+stays_in m format old new request answer cache alive kept calls steps fails (failed history commit) stands = (
   failed history commit,
   fails history commit,
   (
@@ -145,8 +181,8 @@ stays_in m format old new request answer cache alive calls steps fails (failed h
         (subst (Shows format (old.cache.page_size + 12) history (Some commit)) (sym calls) stands.1),
   ),
 )
-stays_in m format old new request answer cache alive calls steps fails (closed history pending) stands = absurd stands
-stays_in m format old new request answer cache alive calls steps fails (doubtful history) stands = absurd stands
+stays_in m format old new request answer cache alive kept calls steps fails (closed history pending) stands = absurd stands
+stays_in m format old new request answer cache alive kept calls steps fails (doubtful history) stands = absurd stands
 
 pub same_grows : (old new : List Call) → new ≡ old → Grows old new
 same_grows old new is = subst (Grows old) (sym is) (here tt)
@@ -158,11 +194,11 @@ pub still_open_in : {R K V : Type 0} (m : Machine) (format : Format) (keys : K �
 still_open_in m format keys values step store (inl is) left =
     subst (λ s. StepsOpen m format store (request_of keys values s) still_open store) (sym is.1) (
       stays 3 None (power_of store.device store.cache) refl refl,
-      stays_in m format store store ask_open still_open refl refl refl (λ history. (refl, refl, refl)) (λ history commit. (refl, refl, refl)),
+      stays_in m format store store ask_open still_open refl refl refl refl (λ history pruned. (refl, refl, refl)) (λ history commit. (refl, refl, refl)),
     )
 still_open_in m format keys values step store (inr (inl is)) left =
     subst (λ s. StepsOpen m format store (request_of keys values s) still_open store) (sym is) (
       leaves_none None store.device store.cache refl refl,
-      stays_in m format store store ask_crash still_open refl refl refl (λ history. (refl, refl, refl)) (λ history commit. (refl, refl, refl)),
+      stays_in m format store store ask_crash still_open refl refl refl refl (λ history pruned. (refl, refl, refl)) (λ history commit. (refl, refl, refl)),
     )
 still_open_in m format keys values step store (inr (inr is)) left = absurd (subst (λ s. IsLeftOpen (request_of keys values s)) is left)

@@ -9,9 +9,9 @@ use Rattle.auth_store_parts.specs.Batch.{Word, map_after}
 use Rattle.auth_store_parts.specs.Map.{value_at}
 use Rattle.auth_store_device.specs.Devices.{after_asking, is_cut}
 use Rattle.auth_store_parts.specs.History.{History, Commit, latest_map, log_of}
-use Rattle.auth_store_ledger.specs.Store.{setting_of_width, floor_of, root_of_history, commit_after}
+use Rattle.auth_store_ledger.specs.Store.{setting_of_width, floor_of, root_of_history, commit_after, IsPrunedUpTo}
 use Rattle.auth_store_log.specs.Records.{log_bytes}
-use Rattle.auth_store_ledger.specs.Proving.{honest_proof}
+use Rattle.auth_store_ledger.specs.Proving.{KeyAnswer, honest_answer}
 use Rattle.auth_store_session.specs.declared.error.StoreError.{StoreError}
 use Rattle.auth_store_session.specs.declared.error.StoreError.TheVariants as refusals
 use Rattle.auth_store_session.specs.Refusals.{IsOfChange, IsOfRead}
@@ -35,32 +35,32 @@ machine rule hash pending width key value page = record {
 }
 
 -- Where a session stands: closed, with the history that the next opening shows, perhaps with the commit that is pending; open
--- with a history; open and failed, with the commit that failed, which the next opening shows or not; or closed in doubt, where the
+-- with a history, of which so many chunks are pruned; open and failed, with the commit that failed, which the next opening shows or not; or closed in doubt, where the
 -- next opening may show by chance what was never written, but behind the log of this history.
 pub data State : Type 0 where
   closed : History → Option Commit → State
-  live : History → State
+  live : History → ℕ → State
   failed : History → Commit → State
   doubtful : History → State
 
 -- the state after the store is closed, where one is open
 abbrev pub at_rest : State → State
 at_rest (closed history pending) = closed history pending
-at_rest (live history) = closed history None
+at_rest (live history pruned) = closed history None
 at_rest (failed history commit) = closed history (Some commit)
 at_rest (doubtful history) = doubtful history
 
 -- the state where the next opening may be by chance
 abbrev pub in_doubt : State → State
 in_doubt (closed history pending) = doubtful history
-in_doubt (live history) = live history
+in_doubt (live history pruned) = live history pruned
 in_doubt (failed history commit) = failed history commit
 in_doubt (doubtful history) = doubtful history
 
 -- the history that has to stay: its last commit was acknowledged, or shown by an opening
 abbrev pub kept_history : State → History
 kept_history (closed history pending) = history
-kept_history (live history) = history
+kept_history (live history pruned) = history
 kept_history (failed history commit) = history
 kept_history (doubtful history) = history
 
@@ -86,6 +86,7 @@ pub data Request : Type 0 where
   ask_commits : Request
   ask_floor : Request
   ask_len : Request
+  ask_prune : ℕ → Request
   ask_proof : List ℕ → Request
   ask_close : Request
   ask_crash : Request
@@ -101,7 +102,8 @@ pub data Answer : Type 0 where
   commits_are : ℕ → Answer
   floor_is : ℕ → Answer
   len_is : ℕ → Answer
-  proof : Option (List ℕ × List ℕ) → Answer
+  pruned_to : ℕ → Answer
+  proof : KeyAnswer → Answer
   has_closed : Answer
   has_crashed : Answer
   is_set : Answer
@@ -168,10 +170,9 @@ abbrev pub IsEndingOpening : Power → Type 0
 IsEndingOpening power =
     IsEnding power ⊎ (2 ^ 64 ≤ power.names + 3) ⊎ (2 ^ 64 ≤ power.size + 4096) ⊎ (2 ^ 64 ≤ power.files + 1)
 
--- the key's value with its honest proof, where the latest map has the key
-abbrev pub proof_of : Machine → History → List ℕ → Option (List ℕ × List ℕ)
-proof_of m history key = option_map (λ v. (v, honest_proof m.pending m.setting m.key_size m.value_size history key))
-    (value_at (latest_map history) key)
+-- the key's value with its honest proof, or the honest proof that it is absent
+abbrev pub proof_of : Machine → History → List ℕ → KeyAnswer
+proof_of m history key = honest_answer m.pending m.setting m.key_size m.value_size history key
 
 -- the history, or the history with the pending commit
 abbrev pub IsShownOf : History → Option Commit → History → Type 0
@@ -226,7 +227,7 @@ MayRefuseCommit m before after next error = MayRefuse before after error
 abbrev pub IsOpening : Machine → Power → Power → History → Option Commit → Answer → State → Type 0
 IsOpening m before after history pending answer next =
     ((answer ≡ opened) × IsFalse (is_cut before.left)
-    × ((shown : History) × IsShownOf history pending shown × (next ≡ live shown)))
+    × ((shown : History) × IsShownOf history pending shown × (next ≡ live shown 0)))
     ⊎ ((error : StoreError) × (answer ≡ refused error) × (next ≡ closed history pending)
     × MayRefuseOpening m before after error)
 
@@ -247,7 +248,7 @@ IsStepClosed m before after history pending _ answer next =
 abbrev pub IsOpeningInDoubt : Machine → Power → Power → History → Answer → State → Type 0
 IsOpeningInDoubt m before after history answer next =
     ((answer ≡ opened) × IsFalse (is_cut before.left)
-    × ((shown : History) × Begins history shown × (next ≡ live shown)))
+    × ((shown : History) × Begins history shown × (next ≡ live shown 0)))
     ⊎ ((error : StoreError) × (answer ≡ refused error) × (next ≡ doubtful history)
     × ((error ≡ refusals.Corrupt) ⊎ MayRefuseOpening m before after error))
 
@@ -264,40 +265,49 @@ IsStepInDoubt m before after history _ answer next = (answer ≡ not_open) × (n
 
 -- A commit is in, with the root of the history with it, and no cut stood before; or it is refused, and the store is as it was or has
 -- failed. Where the log would pass 2^62 operations it stays as it was.
-abbrev pub IsCommitting : Machine → Power → Power → History → List Word → Option (List ℕ) → Answer → State → Type 0
-IsCommitting m before after history words metadata answer next =
+abbrev pub IsCommitting : Machine → Power → Power → History → ℕ → List Word → Option (List ℕ) → Answer → State → Type 0
+IsCommitting m before after history pruned words metadata answer next =
     let later = commit_after words metadata history in
-    ((answer ≡ committed (root_of_history m.setting m.key_size m.value_size later)) × (next ≡ live later)
+    ((answer ≡ committed (root_of_history m.setting m.key_size m.value_size later)) × (next ≡ live later pruned)
     × (length (log_of later) ≤ 2 ^ 62) × IsFalse (is_cut before.left))
     ⊎ ((error : StoreError) × (answer ≡ refused error) × MayRefuseCommit m before after later error
-    × ((next ≡ live history) ⊎ ((next ≡ failed history (commit_of words metadata history)) × (length (log_of later) ≤ 2 ^ 62))))
+    × ((next ≡ live history pruned) ⊎ ((next ≡ failed history (commit_of words metadata history)) × (length (log_of later) ≤ 2 ^ 62))))
+
+-- Pruning up to a location keeps all but the chunks that are settled before it, and changes nothing else; past the floor it is refused.
+abbrev pub IsPruning : Machine → History → ℕ → ℕ → Answer → State → Type 0
+IsPruning m history pruned location answer next =
+    ((chunks : ℕ) × (answer ≡ pruned_to chunks) × (next ≡ live history chunks) × (location ≤ floor_of history)
+    × IsPrunedUpTo m.setting history pruned location chunks)
+    ⊎ ((answer ≡ refused refusals.PastFloor) × (next ≡ live history pruned) × (floor_of history < location))
 
 -- a step of an open store that has not failed
-abbrev pub IsStepLive : Machine → Power → Power → History → Request → Answer → State → Type 0
-IsStepLive m before after history ask_open answer next = (answer ≡ still_open) × (next ≡ live history) × (after ≡ before)
-IsStepLive m before after history ask_crash answer next = (answer ≡ still_open) × (next ≡ live history) × (after ≡ before)
-IsStepLive m before after history ask_config answer next = (answer ≡ is_set) × (next ≡ live history) × (after ≡ before)
-IsStepLive m before after history (ask_cut calls) answer next =
-    (answer ≡ is_set) × (next ≡ live history) × (after ≡ asked_to_cut calls before)
-IsStepLive m before after history ask_close answer next =
+abbrev pub IsStepLive : Machine → Power → Power → History → ℕ → Request → Answer → State → Type 0
+IsStepLive m before after history pruned ask_open answer next = (answer ≡ still_open) × (next ≡ live history pruned) × (after ≡ before)
+IsStepLive m before after history pruned ask_crash answer next = (answer ≡ still_open) × (next ≡ live history pruned) × (after ≡ before)
+IsStepLive m before after history pruned ask_config answer next = (answer ≡ is_set) × (next ≡ live history pruned) × (after ≡ before)
+IsStepLive m before after history pruned (ask_cut calls) answer next =
+    (answer ≡ is_set) × (next ≡ live history pruned) × (after ≡ asked_to_cut calls before)
+IsStepLive m before after history pruned ask_close answer next =
     (answer ≡ has_closed) × (next ≡ closed history None) × (after ≡ before)
-IsStepLive m before after history (ask_commit words metadata) answer next =
-    IsCommitting m before after history words metadata answer next
-IsStepLive m before after history (ask_get key) answer next =
-    (next ≡ live history)
+IsStepLive m before after history pruned (ask_commit words metadata) answer next =
+    IsCommitting m before after history pruned words metadata answer next
+IsStepLive m before after history pruned (ask_get key) answer next =
+    (next ≡ live history pruned)
     × ((answer ≡ value (value_at (latest_map history) key))
     ⊎ ((error : StoreError) × (answer ≡ refused error) × MayRefuseRead before after error))
-IsStepLive m before after history (ask_proof key) answer next =
-    (next ≡ live history) × ((answer ≡ proof (proof_of m history key)) ⊎ (answer ≡ refused refusals.Memory))
+IsStepLive m before after history pruned (ask_proof key) answer next =
+    (next ≡ live history pruned) × ((answer ≡ proof (proof_of m history key)) ⊎ (answer ≡ refused refusals.Memory))
     × (after ≡ before)
-IsStepLive m before after history ask_root answer next =
-    (answer ≡ root_is (root_of_history m.setting m.key_size m.value_size history)) × (next ≡ live history) × (after ≡ before)
-IsStepLive m before after history ask_commits answer next =
-    (answer ≡ commits_are (length history)) × (next ≡ live history) × (after ≡ before)
-IsStepLive m before after history ask_floor answer next =
-    (answer ≡ floor_is (floor_of history)) × (next ≡ live history) × (after ≡ before)
-IsStepLive m before after history ask_len answer next =
-    (answer ≡ len_is (length (log_of history))) × (next ≡ live history) × (after ≡ before)
+IsStepLive m before after history pruned (ask_prune location) answer next =
+    IsPruning m history pruned location answer next × (after ≡ before)
+IsStepLive m before after history pruned ask_root answer next =
+    (answer ≡ root_is (root_of_history m.setting m.key_size m.value_size history)) × (next ≡ live history pruned) × (after ≡ before)
+IsStepLive m before after history pruned ask_commits answer next =
+    (answer ≡ commits_are (length history)) × (next ≡ live history pruned) × (after ≡ before)
+IsStepLive m before after history pruned ask_floor answer next =
+    (answer ≡ floor_is (floor_of history)) × (next ≡ live history pruned) × (after ≡ before)
+IsStepLive m before after history pruned ask_len answer next =
+    (answer ≡ len_is (length (log_of history))) × (next ≡ live history pruned) × (after ≡ before)
 
 -- a failed store can only be closed
 abbrev pub IsStepFailed : Power → Power → History → Commit → Request → Answer → State → Type 0
@@ -318,7 +328,7 @@ IsStepFailed before after history commit _ answer next =
 abbrev pub IsStep : Machine → Power → Power → State → Request → Answer → State → Type 0
 IsStep m before after (closed history pending) request answer next =
     IsStepClosed m before after history pending request answer next
-IsStep m before after (live history) request answer next = IsStepLive m before after history request answer next
+IsStep m before after (live history pruned) request answer next = IsStepLive m before after history pruned request answer next
 IsStep m before after (failed history commit) request answer next =
     IsStepFailed before after history commit request answer next
 IsStep m before after (doubtful history) request answer next = IsStepInDoubt m before after history request answer next
@@ -381,6 +391,11 @@ AskNoCrash [] = ⊤
 AskNoCrash (ask_crash ∷ requests) = ⊥
 AskNoCrash (request ∷ requests) = AskNoCrash requests
 
+-- the request is not to prune
+abbrev pub AsksNoPrune : Request → Type 0
+AsksNoPrune (ask_prune location) = ⊥
+AsksNoPrune _ = ⊤
+
 -- an opening or a commit has succeeded
 abbrev pub acknowledges : Answer → Bool
 acknowledges opened = true
@@ -425,6 +440,10 @@ abbrev pub is_len : Answer → Bool
 is_len (len_is count) = true
 is_len _ = false
 
+abbrev pub is_pruned : Answer → Bool
+is_pruned (pruned_to chunks) = true
+is_pruned _ = false
+
 abbrev pub is_proof : Answer → Bool
 is_proof (proof found) = true
 is_proof _ = false
@@ -445,6 +464,7 @@ IsAnswerTo true ask_root answer = IsSaid is_root answer
 IsAnswerTo true ask_commits answer = IsSaid is_commits answer
 IsAnswerTo true ask_floor answer = IsSaid is_floor answer
 IsAnswerTo true ask_len answer = IsSaid is_len answer
+IsAnswerTo true (ask_prune location) answer = IsSaid is_pruned answer
 IsAnswerTo true (ask_proof key) answer = IsSaid is_proof answer
 
 -- whether a session has an open store after an answer, by whether it had one before

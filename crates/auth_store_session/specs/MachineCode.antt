@@ -3,13 +3,13 @@ use Rattle.std.specs.Prelude.{◌≡◌, ⊤, ℕ, List, [], ◌∷◌, map, Opt
 use Rattle.fault_storage_parts.specs.declared.config.Config as settings
 use Rattle.auth_store_device.specs.Devices.{after_asking}
 use Rattle.auth_store_parts.specs.Batch.{meanings}
-use Rattle.auth_store_ledger.specs.ProvingCode.{parts_of}
+use Rattle.auth_store_ledger.specs.ProvingCode.{key_answer_of}
 use Rattle.auth_store_session.specs.declared.error.StoreError.{StoreError}
 use Rattle.auth_store_session.specs.declared.session.Step.{Step}
-use Rattle.auth_store_session.specs.declared.session.Step.TheVariants.{Open, Commit, Get, Root, Commits, Floor, Len, ProveKey, Close, Crash, Config, CutAfter}
+use Rattle.auth_store_session.specs.declared.session.Step.TheVariants.{Open, Commit, Get, Root, Commits, Floor, Len, Prune, ProveKey, Close, Crash, Config, CutAfter}
 use Rattle.auth_store_session.specs.declared.session.Answer.{Answer}
 use Rattle.auth_store_session.specs.declared.session.Answer.TheVariants as answers
-use Rattle.auth_store_session.specs.Machine.{Request, ask_open, ask_commit, ask_get, ask_root, ask_commits, ask_floor, ask_len, ask_proof, ask_close, ask_crash, ask_config, ask_cut}
+use Rattle.auth_store_session.specs.Machine.{Request, ask_open, ask_commit, ask_get, ask_root, ask_commits, ask_floor, ask_len, ask_prune, ask_proof, ask_close, ask_crash, ask_config, ask_cut}
 use Rattle.auth_store_session.specs.Machine as machine
 
 -- what a step asks, given how keys and values are encoded
@@ -21,6 +21,7 @@ request_of key value Root = ask_root
 request_of key value Commits = ask_commits
 request_of key value Floor = ask_floor
 request_of key value Len = ask_len
+request_of key value (Prune location) = ask_prune location
 request_of key value (ProveKey k) = ask_proof (key k)
 request_of key value Close = ask_close
 request_of key value Crash = ask_crash
@@ -36,7 +37,8 @@ meaning_of digest value (answers.Root root) = machine.root_is (digest root)
 meaning_of digest value (answers.Commits count) = machine.commits_are count
 meaning_of digest value (answers.Floor location) = machine.floor_is location
 meaning_of digest value (answers.Len count) = machine.len_is count
-meaning_of digest value (answers.Proof found) = machine.proof (option_map (parts_of value) found)
+meaning_of digest value (answers.Pruned chunks) = machine.pruned_to chunks
+meaning_of digest value (answers.Proof found) = machine.proof (key_answer_of value found)
 meaning_of digest value answers.Closed = machine.has_closed
 meaning_of digest value answers.Crashed = machine.has_crashed
 meaning_of digest value answers.Set = machine.is_set

@@ -11,7 +11,7 @@ use Rattle.auth_store_log.specs.declared.error.LogError.TheVariants as logs
 use Rattle.auth_store_ledger.specs.declared.error.LedgerError.{LedgerError}
 use Rattle.auth_store_ledger.specs.declared.error.LedgerError.TheVariants as ledgers
 use Rattle.auth_store_session.specs.declared.error.StoreError.{StoreError}
-use Rattle.auth_store_session.specs.declared.error.StoreError.TheVariants.{Fault, PowerCut, NumberEnded, Memory, Corrupt, Failed, Header}
+use Rattle.auth_store_session.specs.declared.error.StoreError.TheVariants.{Fault, PowerCut, NumberEnded, Memory, Corrupt, Failed, PastFloor, Header}
 
 abbrev pub number_of : StoreError → List ℕ
 number_of (Fault kind) = codes "S1"
@@ -20,6 +20,7 @@ number_of NumberEnded = codes "S3"
 number_of Memory = codes "S4"
 number_of Corrupt = codes "S5"
 number_of Failed = codes "S6"
+number_of PastFloor = codes "S7"
 number_of (Header fault) = codes "S12"
 
 -- what a ledger refuses

@@ -16,7 +16,7 @@ use Rattle.auth_store_log.specs.Shown.{IsKeptThrough}
 use Rattle.auth_store_ledger.specs.Store.{commit_after, root_of_history}
 use Rattle.auth_store_session.specs.declared.error.StoreError.{StoreError}
 use Rattle.auth_store_session.specs.declared.error.StoreError.TheVariants as refusals
-use Rattle.auth_store_session.specs.Machine.{Machine, Power, State, closed, live, failed, doubtful, Request, ask_close, Answer, at_rest, IsStep, IsRun, IsRunInDoubt, AreAnswersTo, Passes, MayRefuseOpening, MayRefuseCommit, commit_of}
+use Rattle.auth_store_session.specs.Machine.{Machine, Power, State, closed, live, failed, doubtful, Request, ask_open, ask_close, Answer, at_rest, IsStep, IsRun, IsRunInDoubt, AreAnswersTo, Passes, MayRefuseOpening, MayRefuseCommit, commit_of}
 use Rattle.auth_store_session.specs.Stores.{StoreState, IsCache, IsLiveAt, IsNoHistory, IsWritten, IsKept, Shows}
 
 -- a session: the device and the cache while no store is open, or the store
@@ -124,7 +124,7 @@ StandsFor format (Some parts) None (closed history pending) =
     Shows format (parts.1.page_size + 12) history pending parts.0.calls × HasOwnHeader parts.0.storage.inner
 StandsFor format (Some parts) None (doubtful history) =
     IsWritten format history × IsKept format (parts.1.page_size + 12) history parts.0.calls × HasOwnHeader parts.0.storage.inner
-StandsFor format None (Some store) (live history) = IsLiveAt store history
+StandsFor format None (Some store) (live history pruned) = IsLiveAt store history × (store.pruned ≡ pruned)
 StandsFor format None (Some store) (failed history commit) =
     (store.live ≡ None) × Shows format (store.cache.page_size + 12) history (Some commit) store.device.calls
 StandsFor format _ _ _ = ⊥
@@ -162,6 +162,11 @@ StepsOpen m format old request answer new =
 abbrev pub IsLeftOpen : Request → Type 0
 IsLeftOpen ask_close = ⊥
 IsLeftOpen _ = ⊤
+
+-- the request opens no store
+abbrev pub IsAtRest : Request → Type 0
+IsAtRest ask_open = ⊥
+IsAtRest _ = ⊤
 
 -- so many steps, one after the other
 abbrev pub Runs : {R : Type 0} → Machine → Format → SessionState R → List Request → List Answer → SessionState R → Type 0

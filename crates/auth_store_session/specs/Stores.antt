@@ -6,10 +6,13 @@ use Rattle.paged_blob.specs.Answers.{Failures, HaveEnded}
 use Rattle.paged_blob.specs.Caches.{Cache}
 use Rattle.paged_blob.specs.CachedContent.{HoldsPagesOf}
 use Rattle.paged_blob.specs.Calls.{Call}
+use Rattle.merkle_forest.specs.Forest.{Rule}
+use Rattle.state_current.specs.Settled.{IsSettled}
 use Rattle.state_ops.specs.Operation.{fixed_size}
 use Rattle.paged_blob.specs.Flushes.{physical_size}
 use Rattle.paged_blob.specs.Writers.{WriterState, IsWriter, written}
 use Rattle.auth_store_parts.specs.History.{History, Commit, AreStates, log_of}
+use Rattle.auth_store_ledger.specs.Store.{grafting_height}
 use Rattle.auth_store_device.specs.Devices.{DeviceState}
 use Rattle.auth_store_log.specs.Records.{Format, AreRecorded, begun, history_bytes}
 use Rattle.auth_store_log.specs.Causes.{AreNamed}
@@ -24,11 +27,12 @@ pub record LiveState : Type 0 where
   pub history : History
   pub writer : WriterState
 
--- an open store: its device and its cache, and what it has while it has not failed
+-- an open store: its device and its cache, what it has while it has not failed, and how many chunks are pruned
 pub record StoreState (R : Type 0) : Type 0 where
   pub device : DeviceState R
   pub cache : Cache
   pub live : Option LiveState
+  pub pruned : ℕ
 
 -- the cache has pages of a size that may be, under names that it has given
 pub record IsCache (cache : Cache) : Type 0 where
@@ -50,6 +54,10 @@ pub record IsStore {R : Type 0} (format : Format) (state : StoreState R) : Type 
   pub opened : is_some state.device.log ≡ true
   pub cache : IsCache state.cache
   pub live : IfSome state.live (IsLive format state.device.calls state.cache)
+
+-- the chunks that are pruned of a store that has not failed are settled
+pub record IsPruned (rule : Rule) (width : ℕ) (live : Option LiveState) (pruned : ℕ) : Type 0 where
+  pub settled : IfSome live (λ now. IsSettled rule (grafting_height width) (length (log_of now.history)) pruned)
 
 -- What the calls of a request leave of what has refused calls, of which the last was refused for that, or none: an injected fault and a
 -- call that a cut refuses are counted, and none asks for a cut.

@@ -32,13 +32,16 @@ pub enum StoreError {
     /// S6: the store failed before.
     #[error("S6: the store has failed")]
     Failed,
+    /// S7: pruning past the floor.
+    #[error("S7: past the floor")]
+    PastFloor,
     /// S12: the log's header is refused.
     #[error("S12: {0}")]
     Header(HeaderError),
 }
 
 impl StoreError {
-    /// The refusal's number: `"S1"` to `"S6"`, or `"S12"`.
+    /// The refusal's number: `"S1"` to `"S7"`, or `"S12"`.
     pub fn number(&self) -> &'static str
         ensures { result.now ≡ number_of self.now }
     {
@@ -49,6 +52,7 @@ impl StoreError {
             StoreError::Memory => "S4",
             StoreError::Corrupt => "S5",
             StoreError::Failed => "S6",
+            StoreError::PastFloor => "S7",
             StoreError::Header(_) => "S12",
         }
     }

@@ -12,18 +12,19 @@
 
 ghost use Rattle.std.specs.Prelude.{◌≡◌, ◌+◌, ℕ, Option, None, Some, is_some, option_map, true, false};
 ghost use Rattle.fault_storage_parts.specs.declared.config.Config as settings;
+ghost use Rattle.paged_blob.specs.Caches.{Cache};
 ghost use Rattle.paged_blob.specs.Moments.{Grows};
 ghost use Rattle.auth_store_ledger.specs.Store.{IsChunkWidth};
-ghost use Rattle.auth_store_log.specs.Records.{format_of};
-ghost use Rattle.auth_store_session.specs.Machine.{machine, State, at_rest, IsAnswerTo, is_open_after};
+ghost use Rattle.auth_store_log.specs.Records.{Format, format_of};
+ghost use Rattle.auth_store_session.specs.Machine.{machine, Machine, State, at_rest, IsAnswerTo, is_open_after};
 ghost use Rattle.auth_store_parts.specs.Batch as words;
 ghost use Rattle.auth_store_session.specs.Machine.{ask_open, ask_crash, ask_config, ask_cut, ask_close, ask_commit};
-ghost use Rattle.auth_store_session.specs.Machine.{ask_get, ask_root, ask_commits, ask_floor, ask_len, ask_proof};
+ghost use Rattle.auth_store_session.specs.Machine.{ask_get, ask_root, ask_commits, ask_floor, ask_len, ask_prune, ask_proof};
 ghost use Rattle.auth_store_session.specs.Machine.{IsSaid, is_root_of_commit, is_value, is_root, is_commits, is_floor};
-ghost use Rattle.auth_store_session.specs.Machine.{is_len, is_proof, is_set};
+ghost use Rattle.auth_store_session.specs.Machine.{is_len, is_pruned, is_proof, is_set};
 ghost use Rattle.auth_store_device.specs.Devices.{after_asking};
 ghost use Rattle.auth_store_session.specs.MachineCode.{meaning_of, request_of, config_after, IsLeftBy};
-ghost use Rattle.auth_store_session.specs.Standing.{IsLeftOpen, StandsFor, Steps, StepsOpen};
+ghost use Rattle.auth_store_session.specs.Standing.{IsAtRest, IsLeftOpen, StandsFor, Steps, StepsOpen, closed_at};
 ghost use Rattle.auth_store_session.specs.Standing.{calls_in, config_in, left_in, page_size_in, power_in, power_of};
 ghost use Rattle.auth_store_session.specs.Stores.{IsCache};
 
@@ -58,7 +59,9 @@ pub enum Step<K, V> {
     Floor,
     /// Asks for the number of operations.
     Len,
-    /// Asks for the value of a key and its proof.
+    /// Prunes up to a location.
+    Prune(u64),
+    /// Asks for the value of a key, or that it is absent, and its proof.
     ProveKey(K),
     /// Closes the store.
     Close,
@@ -87,8 +90,10 @@ pub enum Answer<D, V> {
     Floor(u64),
     /// How many operations there are.
     Len(u64),
-    /// The key's value and its proof, if it is there.
-    Proof(Option<KeyProof<V>>),
+    /// How many chunks are pruned.
+    Pruned(u64),
+    /// The key's value, or that it is absent, and its proof.
+    Proof(KeyProof<V>),
     /// The store is closed.
     Closed,
     /// The device has crashed.
@@ -238,7 +243,34 @@ where
     }
 }
 
-// Asks an open store for the value of a key and its proof.
+// Prunes an open store up to a location.
+fn prune<R, F, H, K, V, const N: usize>(
+    store: &mut Store<R, F, H, K, V, N>,
+    location: u64,
+) -> Answer<H::Digest, V>
+where
+    R: Rng + Drop,
+    F: Graftable + PendingOf<H::Digest>,
+    H: HashFunction,
+    K: FixedKey,
+    V: FixedValue,
+    ensures steps { let format = format_of (K.after tt) (V.after tt) K.SIZE V.SIZE in
+        let size = store.old.cache.page_size + 12 in
+        let m = machine F.merge_rule H.hash_of F.pending_encoding N K.SIZE V.SIZE size in
+        StepsOpen m format store.old (ask_prune location) (meaning_of H.Digest.encoding V.encoding result) store.new }
+    ensures kind { IsSaid is_pruned (meaning_of H.Digest.encoding V.encoding result) }
+    ensures page_size { store.new.cache.page_size ≡ store.old.cache.page_size }
+    ensures grows { Grows store.old.device.calls store.new.device.calls }
+    ensures settings { store.new.device.storage.config ≡ store.old.device.storage.config }
+    ensures left { store.new.device.left ≡ store.old.device.left }
+{
+    match store.prune(location) {
+        Ok(chunks) => Answer::Pruned(chunks),
+        Err(error) => Answer::Refused(error),
+    }
+}
+
+// Asks an open store for the value of a key, or that it is absent, and its proof.
 fn prove<R, F, H, K, V, const N: usize>(
     store: &Store<R, F, H, K, V, N>,
     key: &K,
@@ -322,6 +354,24 @@ fn is_close<K: FixedKey, V: FixedValue>(step: &Step<K, V>) -> bool
     matches!(step, Step::Close)
 }
 
+// Whether the step opens a store.
+fn is_opening<K: FixedKey, V: FixedValue>(step: &Step<K, V>) -> bool
+    ensures yes { result ≡ true → request_of K.encoding V.encoding step.now ≡ ask_open }
+    ensures no { result ≡ false → IsAtRest (request_of K.encoding V.encoding step.now) }
+    ensures settings { result ≡ true → (before : Option settings.Config) → config_after step.now before ≡ before }
+    ensures left { result ≡ true → (before after : Option ℕ) → IsLeftBy step.now before after }
+{
+    matches!(step, Step::Open(_))
+}
+
+// The sizes with which the step opens a store; of any other step nothing is said.
+fn sizes_of<K: FixedKey, V: FixedValue>(step: &Step<K, V>) -> Sizes {
+    match step {
+        Step::Open(sizes) => *sizes,
+        _ => Sizes::default(),
+    }
+}
+
 // What an open store answers to a step. One that would close it leaves it open.
 fn step_open<R, F, H, K, V, const N: usize>(
     store: &mut Store<R, F, H, K, V, N>,
@@ -354,9 +404,46 @@ where
         Step::Commits => commits(store),
         Step::Floor => floor(store),
         Step::Len => len(store),
+        Step::Prune(location) => prune(store, location),
         Step::ProveKey(key) => prove(store, &key),
         Step::Config(config) => configure(store, config),
         Step::CutAfter(calls) => cut(store, calls),
+    }
+}
+
+// What a closed device makes of a step that opens no store. One that wants a store finds none.
+fn step_device<R, H, K, V>(device: &mut Device<R>, step: Step<K, V>) -> Answer<H::Digest, V>
+where
+    R: Rng + Drop,
+    H: HashFunction,
+    K: FixedKey,
+    V: FixedValue,
+    requires { device.old.log ≡ None }
+    ensures steps { let request = request_of K.encoding V.encoding step in IsAtRest request
+        → (m : Machine) (format : Format) (cache : Cache) → Steps m format (closed_at device.old cache) request
+        (meaning_of H.Digest.encoding V.encoding result) (closed_at device.new cache) }
+    ensures kind { let request = request_of K.encoding V.encoding step in
+        IsAtRest request → IsAnswerTo false request (meaning_of H.Digest.encoding V.encoding result) }
+    ensures closed { device.new.log ≡ None }
+    ensures open { is_open_after false (meaning_of H.Digest.encoding V.encoding result) ≡ false }
+    ensures grows { Grows device.old.calls device.new.calls }
+    ensures settings { Some device.new.storage.config ≡ config_after step (Some device.old.storage.config) }
+    ensures left { IsLeftBy step device.old.left device.new.left }
+{
+    match step {
+        Step::Crash => {
+            device.crash();
+            Answer::Crashed
+        }
+        Step::Config(config) => {
+            device.set_config(config);
+            Answer::Set
+        }
+        Step::CutAfter(calls) => {
+            device.cut_after(calls);
+            Answer::Set
+        }
+        _ => Answer::NotOpen,
     }
 }
 
@@ -440,73 +527,33 @@ where
         }
     }
 
-    // Crashes the device, which is closed.
-    fn crash(&mut self) -> Answer<H::Digest, V>
+    // Takes a step of a closed session that opens no store.
+    fn step_at_rest(&mut self, step: Step<K, V>) -> Answer<H::Digest, V>
         requires { self.old.store ≡ None }
         ensures steps { let format = format_of (K.after tt) (V.after tt) K.SIZE V.SIZE in
             let m = machine F.merge_rule H.hash_of F.pending_encoding N K.SIZE V.SIZE
             (page_size_in self.old.parts self.old.store) in
-            Steps m format self.old ask_crash (meaning_of H.Digest.encoding V.encoding result) self.new }
-        ensures kind { IsAnswerTo false ask_crash (meaning_of H.Digest.encoding V.encoding result) }
-        ensures closed { self.new.store ≡ None }
+            let request = request_of K.encoding V.encoding step in
+            IsAtRest request → Steps m format self.old request (meaning_of H.Digest.encoding V.encoding result)
+            self.new }
+        ensures kind { let request = request_of K.encoding V.encoding step in
+            IsAtRest request → IsAnswerTo false request (meaning_of H.Digest.encoding V.encoding result) }
+        ensures open { is_some self.new.store
+            ≡ is_open_after false (meaning_of H.Digest.encoding V.encoding result) }
         ensures page_size { page_size_in self.new.parts self.new.store
             ≡ page_size_in self.old.parts self.old.store }
         ensures grows { Grows (calls_in self.old.parts self.old.store) (calls_in self.new.parts self.new.store) }
-        ensures settings { config_in self.new.parts self.new.store ≡ config_in self.old.parts self.old.store }
+        ensures settings { config_in self.new.parts self.new.store
+            ≡ config_after step (config_in self.old.parts self.old.store) }
+        ensures left { IsLeftBy step (left_in self.old.parts self.old.store)
+            (left_in self.new.parts self.new.store) }
     {
         let Some((mut device, cache)) = self.parts.take() else {
             unreachable!();
         };
-        device.crash();
+        let answer = step_device::<R, H, K, V>(&mut device, step);
         self.parts = Some((device, cache));
-        Answer::Crashed
-    }
-
-    // Puts settings in place of the device, which is closed.
-    fn set_config(&mut self, config: Config) -> Answer<H::Digest, V>
-        requires { self.old.store ≡ None }
-        ensures steps { let format = format_of (K.after tt) (V.after tt) K.SIZE V.SIZE in
-            let m = machine F.merge_rule H.hash_of F.pending_encoding N K.SIZE V.SIZE
-            (page_size_in self.old.parts self.old.store) in
-            Steps m format self.old ask_config (meaning_of H.Digest.encoding V.encoding result) self.new }
-        ensures kind { IsAnswerTo false ask_config (meaning_of H.Digest.encoding V.encoding result) }
-        ensures closed { self.new.store ≡ None }
-        ensures page_size { page_size_in self.new.parts self.new.store
-            ≡ page_size_in self.old.parts self.old.store }
-        ensures grows { Grows (calls_in self.old.parts self.old.store) (calls_in self.new.parts self.new.store) }
-        ensures settings { config_in self.new.parts self.new.store ≡ Some config }
-        ensures left { left_in self.new.parts self.new.store ≡ left_in self.old.parts self.old.store }
-    {
-        let Some((mut device, cache)) = self.parts.take() else {
-            unreachable!();
-        };
-        device.set_config(config);
-        self.parts = Some((device, cache));
-        Answer::Set
-    }
-
-    // Has the power of the device cut after so many calls, which is closed.
-    fn cut_after(&mut self, calls: u64) -> Answer<H::Digest, V>
-        requires { self.old.store ≡ None }
-        ensures steps { let format = format_of (K.after tt) (V.after tt) K.SIZE V.SIZE in
-            let m = machine F.merge_rule H.hash_of F.pending_encoding N K.SIZE V.SIZE
-            (page_size_in self.old.parts self.old.store) in
-            Steps m format self.old (ask_cut calls) (meaning_of H.Digest.encoding V.encoding result) self.new }
-        ensures kind { IsAnswerTo false (ask_cut calls) (meaning_of H.Digest.encoding V.encoding result) }
-        ensures closed { self.new.store ≡ None }
-        ensures page_size { page_size_in self.new.parts self.new.store
-            ≡ page_size_in self.old.parts self.old.store }
-        ensures grows { Grows (calls_in self.old.parts self.old.store) (calls_in self.new.parts self.new.store) }
-        ensures settings { config_in self.new.parts self.new.store ≡ config_in self.old.parts self.old.store }
-        ensures left { left_in self.new.parts self.new.store ≡ after_asking calls
-            (left_in self.old.parts self.old.store) }
-    {
-        let Some((mut device, cache)) = self.parts.take() else {
-            unreachable!();
-        };
-        device.cut_after(calls);
-        self.parts = Some((device, cache));
-        Answer::Set
+        answer
     }
 
     // Takes a step of a closed session.
@@ -529,13 +576,10 @@ where
         ensures left { IsLeftBy step (left_in self.old.parts self.old.store)
             (left_in self.new.parts self.new.store) }
     {
-        match step {
-            Step::Open(sizes) => self.open(sizes),
-            Step::Crash => self.crash(),
-            Step::Config(config) => self.set_config(config),
-            Step::CutAfter(calls) => self.cut_after(calls),
-            _ => Answer::NotOpen,
+        if is_opening(&step) {
+            return self.open(sizes_of(&step));
         }
+        self.step_at_rest(step)
     }
 
     // Closes the store, which is open.

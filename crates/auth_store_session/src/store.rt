@@ -1,14 +1,14 @@
 //! A store on a disk that fails.
 
-ghost use Rattle.std.specs.Prelude.{◌≡◌, ◌⊎◌, ◌+◌, length, option_map, Ok, Err, None, Some, true, is_some, IfOk, IfErr, OnOk, IsFalse, MatchResult};
+ghost use Rattle.std.specs.Prelude.{◌≡◌, ◌⊎◌, ◌+◌, ◌≤◌, ◌<◌, length, option_map, Ok, Err, None, Some, true, is_some, IfOk, IfErr, OnOk, OnErr, IsFalse, MatchResult};
 ghost use Rattle.paged_blob.specs.Moments.{Grows};
 ghost use Rattle.auth_store_parts.specs.Batch as words;
 ghost use Rattle.auth_store_parts.specs.History.{History, latest_map, log_of};
 ghost use Rattle.auth_store_parts.specs.Map.{value_at};
 ghost use Rattle.auth_store_device.specs.Devices.{after_asking, is_cut, log_fault};
 ghost use Rattle.auth_store_device.specs.Logs.{has_log, HasOwnHeader};
-ghost use Rattle.auth_store_ledger.specs.ProvingCode.{parts_of};
-ghost use Rattle.auth_store_ledger.specs.Store.{IsChunkWidth, floor_of, root_of_history};
+ghost use Rattle.auth_store_ledger.specs.ProvingCode.{key_answer_of};
+ghost use Rattle.auth_store_ledger.specs.Store.{IsChunkWidth, IsPrunedUpTo, floor_of, root_of_history, setting_of_width};
 ghost use Rattle.auth_store_log.specs.Records.{format_of};
 ghost use Rattle.auth_store_session.specs.Machine.{machine, proof_of, refusal_of, Leaves, MayRefuseRead};
 ghost use Rattle.auth_store_session.specs.Standing.{Commits, IsOpenError, IsOpenedThrough, IsRecovered, IsShownThrough};
@@ -24,6 +24,7 @@ use fault_storage::Config;
 use merkle_forest::{Family, Graftable, HashFunction, PendingOf};
 use paged_blob::CacheRef;
 use rand_core::Rng;
+use state_current::laws::settled_chunks_stay_settled;
 use state_ops::{FixedKey, FixedValue};
 use std::alloc::Global;
 use std::marker::Model;
@@ -37,20 +38,22 @@ pub struct Store<R: Rng, F: Family, H: HashFunction, K: FixedKey, V: FixedValue,
     device: Device<R>,
     cache: CacheRef,
     live: Option<Live<F, H, K, V, N>>,
+    pruned: u64,
 }
 
 impl<R: Rng, F: Family, H: HashFunction, K: FixedKey, V: FixedValue, const N: usize> Model
     for Store<R, F, H, K, V, N> {
     ghost use Rattle.auth_store_ledger.specs.Store.{IsChunkWidth};
     ghost use Rattle.auth_store_log.specs.Records.{format_of};
-    ghost use Rattle.auth_store_session.specs.Stores.{StoreState, IsStore};
+    ghost use Rattle.auth_store_session.specs.Stores.{StoreState, IsStore, IsPruned};
 
     ghost Value = { StoreState R };
 
-    ghost view = { λ s. record { device = s.device; cache = s.cache; live = s.live } };
+    ghost view = { λ s. record { device = s.device; cache = s.cache; live = s.live; pruned = s.pruned } };
 
     ghost invariant = { λ s. IsChunkWidth N × IsStore (format_of (K.after tt) (V.after tt) K.SIZE V.SIZE)
-        (record { device = s.device; cache = s.cache; live = s.live }) };
+        (record { device = s.device; cache = s.cache; live = s.live; pruned = s.pruned })
+        × IsPruned F.merge_rule N s.live s.pruned };
 }
 
 /// A store that was not opened: why, and the device, closed, and the cache (own).
@@ -135,6 +138,7 @@ where
         ensures recovers { let format = format_of (K.after tt) (V.after tt) K.SIZE V.SIZE in
             IfOk result (λ store. (history : History) × IsLiveAt store history
             × IsRecovered format (cache.page_size + 12) (shown_of device) history) }
+        ensures whole { IfOk result (λ store. store.pruned ≡ 0) }
         ensures shown { let format = format_of (K.after tt) (V.after tt) K.SIZE V.SIZE in
             IfOk result (λ store. IsShownThrough format (cache.page_size + 12) (shown_of device) device.calls
             store.device.calls) }
@@ -160,12 +164,14 @@ where
     {
         let mut device = device;
         let mut cache = cache;
+        settled_chunks_stay_settled::<F>();
         match open_live(alloc, &mut device, &mut cache, sizes.write_buffer) {
             Ok(live) => Ok(Store {
                 alloc,
                 device,
                 cache,
                 live: Some(live),
+                pruned: 0,
             }),
             Err(error) => {
                 device.close();
@@ -195,12 +201,14 @@ where
             → Commits m format said (option_map V.encoding metadata) history self.old
             (result_of H.Digest.encoding result) self.new }
         ensures failed { self.old.live ≡ None → (result ≡ Err StoreError.Failed) × (self.new ≡ self.old) }
+        ensures pruned { self.new.pruned ≡ self.old.pruned }
         ensures page_size { self.new.cache.page_size ≡ self.old.cache.page_size }
         ensures settings { self.new.device.storage.config ≡ self.old.device.storage.config }
         ensures leaves { Leaves 0 (refusal_of result) (power_of self.old.device self.old.cache)
             (power_of self.new.device self.new.cache) }
         ensures grows { Grows self.old.device.calls self.new.device.calls }
     {
+        settled_chunks_stay_settled::<F>();
         let answer = commit_live(
             &mut self.live,
             &mut self.device,
@@ -222,6 +230,7 @@ where
             (power_of self.old.device self.old.cache) (power_of self.new.device self.new.cache)) }
         ensures stays { (history : History) → IsLiveAt self.old history → IsLiveAt self.new history }
         ensures failed { self.old.live ≡ None → (result ≡ Err StoreError.Failed) × (self.new ≡ self.old) }
+        ensures pruned { self.new.pruned ≡ self.old.pruned }
         ensures page_size { self.new.cache.page_size ≡ self.old.cache.page_size }
         ensures settings { self.new.device.storage.config ≡ self.old.device.storage.config }
         ensures leaves { Leaves 0 (refusal_of result) (power_of self.old.device self.old.cache)
@@ -279,13 +288,36 @@ where
         Ok(live.ledger.len())
     }
 
-    /// The value of the key, and the honest bytes that prove it under the root of this moment. None: the key isn't
-    /// there. S4: out of memory. S6: the store has failed.
-    pub fn prove_key(&self, key: &K) -> Result<Option<KeyProof<V>>, StoreError>
+    /// Prunes the chunks that are settled and end by the location, and answers how many are pruned then: no fewer than
+    /// before. Root, values and proofs of keys stay as they were. S6: the store has failed. S7: the location stands past
+    /// the floor.
+    pub fn prune(&mut self, location: u64) -> Result<u64, StoreError>
+        ensures ok { let setting = setting_of_width F.merge_rule H.hash_of N in
+            (history : History) → IsLiveAt self.old history → IfOk result (λ chunks. (self.new.pruned ≡ chunks)
+            × (location ≤ floor_of history) × IsPrunedUpTo setting history self.old.pruned location chunks) }
+        ensures past { (history : History) → IsLiveAt self.old history
+            → IfErr result (λ e. (e ≡ StoreError.PastFloor) × (floor_of history < location)) }
+        ensures failed { self.old.live ≡ None → result ≡ Err StoreError.Failed }
+        ensures rest { self.new ≡ record self.old { pruned = self.new.pruned } }
+        ensures kept { OnErr result (self.new ≡ self.old) }
+        ensures err { IfErr result (λ e. (e ≡ StoreError.PastFloor) ⊎ (e ≡ StoreError.Failed)) }
+    {
+        let live = self.live.as_ref().ok_or(StoreError::Failed)?;
+        if live.ledger.floor() < location {
+            return Err(StoreError::PastFloor);
+        }
+        let chunks = live.ledger.settled_up_to(self.pruned, location);
+        self.pruned = chunks;
+        Ok(chunks)
+    }
+
+    /// The value of the key, or that it is absent, and the honest bytes that prove it under the root of this moment. S4:
+    /// out of memory. S6: the store has failed.
+    pub fn prove_key(&self, key: &K) -> Result<KeyProof<V>, StoreError>
         ensures proof { let size = self.now.cache.page_size + 12 in
             let m = machine F.merge_rule H.hash_of F.pending_encoding N K.SIZE V.SIZE size in
             (history : History) → IsLiveAt self.now history → IfOk result (λ found.
-            option_map (parts_of V.encoding) found ≡ proof_of m history (K.encoding key.now)) }
+            key_answer_of V.encoding found ≡ proof_of m history (K.encoding key.now)) }
         ensures refused { (history : History) → IsLiveAt self.now history
             → IfErr result (λ e. e ≡ StoreError.Memory) }
         ensures failed { self.now.live ≡ None → result ≡ Err StoreError.Failed }
@@ -314,6 +346,7 @@ where
         ensures device { let storage = record self.old.device.storage { config = config } in
             self.new.device ≡ record self.old.device { storage = storage } }
         ensures rest { (self.new.cache ≡ self.old.cache) × (self.new.live ≡ self.old.live) }
+        ensures pruned { self.new.pruned ≡ self.old.pruned }
     {
         self.device.set_config(config);
     }
@@ -323,6 +356,7 @@ where
     pub fn cut_after(&mut self, calls: u64)
         ensures device { self.new.device ≡ record self.old.device { left = after_asking calls self.old.device.left } }
         ensures rest { (self.new.cache ≡ self.old.cache) × (self.new.live ≡ self.old.live) }
+        ensures pruned { self.new.pruned ≡ self.old.pruned }
     {
         self.device.cut_after(calls);
     }
@@ -341,6 +375,7 @@ where
             mut device,
             cache,
             live,
+            pruned: _,
         } = self;
         device.open_log_has_own_header();
         device.close();

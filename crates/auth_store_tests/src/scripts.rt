@@ -1,5 +1,8 @@
 //! Whole scripts, and what a run of each prints.
 
+mod absences;
+mod prunes;
+
 use auth_store::script::run::{BAD_LINE, DONE, run_script};
 use std::alloc::Global;
 use std::test::Fail;
@@ -12,7 +15,7 @@ struct Script {
     status: u8,
 }
 
-static SCRIPTS: [Script; 37] = [
+static SCRIPTS: [Script; 36] = [
     Script {
         name: "puts, commits, proves and checks",
         lines: "new mmr 0\n\
@@ -75,16 +78,6 @@ static SCRIPTS: [Script; 37] = [
         lines: "new mmr 0\n\
          open\n\
          proof\n",
-        printed: "new\n\
-         open 0\n\
-         bad line 3\n",
-        status: BAD_LINE,
-    },
-    Script {
-        name: "a key that is absent is not proved",
-        lines: "new mmr 0\n\
-         open\n\
-         prove 0000000000000061\n",
         printed: "new\n\
          open 0\n\
          bad line 3\n",

@@ -82,14 +82,17 @@ fn read<F: Graftable + PendingOf<Root>, const N: usize>(
     }
 }
 
-// The value of a key and its proof; `none` where it is not there.
-fn proof(alloc: Global, proof: Option<KeyProof<u64>>) -> Result<String, AllocError> {
+// The value of a key, or that it is absent, and the proof.
+fn proof(alloc: Global, proof: KeyProof<u64>) -> Result<String, AllocError> {
     match proof {
-        Some(KeyProof::Value(value, bytes)) => {
+        KeyProof::Value(value, bytes) => {
             let digits = hex::encode(alloc, bytes.as_slice())?;
             format!(in alloc; "{value} {digits}")
         }
-        None => "none".to_string(alloc),
+        KeyProof::Absent(bytes) => {
+            let digits = hex::encode(alloc, bytes.as_slice())?;
+            format!(in alloc; "absent {digits}")
+        }
     }
 }
 
@@ -109,7 +112,7 @@ fn operations<F: Graftable + PendingOf<Root>, const N: usize>(
     Ok(line)
 }
 
-// What is asked of a key.
+// What is asked of a key, of places or of all operations.
 fn of_key<F: Graftable + PendingOf<Root>, const N: usize>(
     alloc: Global,
     ledger: &Small<F, N>,
@@ -130,6 +133,10 @@ fn of_key<F: Graftable + PendingOf<Root>, const N: usize>(
             let key = key(digits)?;
             let is_same = same_root_and_proof(ledger, ledger, &key).map_err(refusals::of_ledger)?;
             Ok(format!(in alloc; "{is_same}")?)
+        }
+        ["prune", pruned, location] => {
+            let chunks = ledger.settled_up_to(pruned.parse()?, location.parse()?);
+            Ok(format!(in alloc; "{chunks}")?)
         }
         ["operations"] => Ok(operations(alloc, ledger)?),
         _ => Err(Unanswered::BadLine),

@@ -1,9 +1,9 @@
 //! What the script prints, as the digits of its bytes.
 
 use auth_store_parts::script::report::{
-    report_bad_line, report_check, report_closed, report_commit, report_crashed, report_error,
-    report_floor, report_len, report_new, report_none, report_ok, report_open, report_present,
-    report_proof, report_root, report_value,
+    report_absent, report_bad_line, report_check, report_closed, report_commit, report_crashed,
+    report_error, report_floor, report_len, report_new, report_none, report_ok, report_open,
+    report_present, report_proof, report_pruned, report_root, report_value,
 };
 use case_lines::{Unanswered, bytes, digits};
 use std::alloc::Global;
@@ -18,6 +18,7 @@ fn number(out: &mut Vec<u8>, name: &str, number: u64) -> Result<io::Result<()>, 
         "present" => Ok(report_present(out, number)),
         "floor" => Ok(report_floor(out, number)),
         "len" => Ok(report_len(out, number)),
+        "pruned" => Ok(report_pruned(out, number)),
         "bad" => Ok(report_bad_line(out, number)),
         _ => Err(Unanswered::BadLine),
     }
@@ -28,6 +29,7 @@ fn print(alloc: Global, out: &mut Vec<u8>, words: &[&str]) -> Result<io::Result<
     match words {
         ["new"] => Ok(report_new(out)),
         ["none"] => Ok(report_none(out)),
+        ["absent"] => Ok(report_absent(out)),
         ["yes"] => Ok(report_check(out, true)),
         ["no"] => Ok(report_check(out, false)),
         ["ok"] => Ok(report_ok(out)),

@@ -90,9 +90,11 @@ fn of_line(alloc: Global, line: Line) -> Result<String, AllocError> {
         Line::Root => "root".to_string(alloc),
         Line::Floor => "floor".to_string(alloc),
         Line::Len => "len".to_string(alloc),
+        Line::Prune { location } => format!(in alloc; "prune {location}"),
         Line::Prove { key } => of_key(alloc, "prove", key, None),
         Line::Proof => "proof".to_string(alloc),
-        Line::CheckValue { key, value } => of_key(alloc, "check", key, Some(value)),
+        Line::CheckValue { key, value } => of_key(alloc, "check value", key, Some(value)),
+        Line::CheckAbsent { key } => of_key(alloc, "check absent", key, None),
         Line::Cut { calls } => format!(in alloc; "cut {calls}"),
         Line::Mode { mode } => {
             let word = of_mode(mode);
@@ -115,6 +117,7 @@ fn of_line(alloc: Global, line: Line) -> Result<String, AllocError> {
 fn of_refusal(alloc: Global, name: &str) -> Result<String, Unanswered> {
     match name {
         "S6" => Ok(format!(in alloc; "{}", StoreError::Failed)?),
+        "S7" => Ok(format!(in alloc; "{}", StoreError::PastFloor)?),
         "memory" => Ok(format!(in alloc; "{}", InputError::Memory)?),
         "read" => Ok(format!(in alloc; "{}", InputError::Read)?),
         _ => Err(Unanswered::BadLine),

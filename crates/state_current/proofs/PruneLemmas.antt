@@ -178,3 +178,11 @@ greatest_of rule l m n o b c i j a d level leaves before limit after it = rw (sy
 pub on_ok : {A E : Type 0} (P Q : Type 0) → (P → Q) → (r : Result A E) → OnOk r P → OnOk r Q
 on_ok P Q each (Ok a) is = each is
 on_ok P Q each (Err e) is = tt
+
+-- chunks that are settled are so for who reads the counts
+pub settled_as_read : (rule : Rule) (level read_level leaves operations pruned chunks : ℕ) → level ≡ read_level → operations ≡ leaves
+    → chunks ≡ pruned → IsSettled rule level leaves pruned → IsSettled rule read_level operations chunks
+settled_as_read rule level read_level leaves operations pruned chunks same_level same_leaves same_chunks settled =
+    subst (λ n. IsSettled rule read_level n chunks) (sym same_leaves)
+    (subst (λ p. IsSettled rule read_level leaves p) (sym same_chunks)
+    (subst (λ l. IsSettled rule l leaves pruned) same_level settled))

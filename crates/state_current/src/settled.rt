@@ -26,14 +26,15 @@ pub fn is_settled<F: Graftable>(operations: u64, chunks: u64, height: u32) -> bo
     true
 }
 
-/// The greatest number of chunks up to a limit that is settled, but no fewer than those that are pruned, which are (own).
+/// The greatest number of chunks up to a limit that is settled, but no fewer than those that are pruned, where these
+/// are settled (own).
 pub fn greatest_settled<F: Graftable>(operations: u64, pruned: u64, limit: u64, height: u32) -> u64
     requires few { operations ≤ MAX_LEAVES }
     requires low { height ≤ 62 }
-    requires settled { IsSettled F.merge_rule height operations pruned }
-    ensures { IsGreatestSettled F.merge_rule height operations pruned limit result }
+    ensures { IsSettled F.merge_rule height operations pruned
+        → IsGreatestSettled F.merge_rule height operations pruned limit result }
 {
-    let mut chunks = limit;
+    let mut chunks = limit.min(operations >> height);
     while pruned < chunks {
         if is_settled::<F>(operations, chunks, height) {
             return chunks;

@@ -162,6 +162,7 @@ impl Asked {
                 Ok(self.commit(alloc, Some(metadata)))
             }
             ["get", digits] => Ok(Step::Get(key(digits)?)),
+            ["prune", location] => Ok(Step::Prune(location.parse()?)),
             ["prove", digits] => Ok(Step::ProveKey(key(digits)?)),
             ["root"] => Ok(Step::Root),
             ["commits"] => Ok(Step::Commits),

@@ -2,18 +2,19 @@
 
 use crate::any::{Kind, kind_of};
 use crate::asked::{Name, Root, key};
-use auth_store_ledger::{Claim, check};
+use auth_store_client::{Claim, check};
 use case_lines::{Unanswered, bytes};
 use merkle_forest::codec::FixedBytes;
-use merkle_forest::{ByteHash, mmb, mmr};
+use merkle_forest::{ByteHash, Graftable, PendingOf, mmb, mmr};
 use std::alloc::{AllocError, Global};
 
-/// A claim under a root, of a store of this kind.
+/// Whether a key has a value, or is absent where there is none, under a root of a store of this kind.
 #[derive(Drop)]
 struct Question {
     kind: Kind,
     root: Root,
-    claim: Claim<Name, u64>,
+    key: Name,
+    value: Option<u64>,
 }
 
 // The root of these digits.
@@ -30,19 +31,38 @@ fn turn(bytes: &mut [u8], index: usize, bit: u8) {
     }
 }
 
+// The value of these digits; none where it says that there is none.
+fn value(word: &str) -> Result<Option<u64>, Unanswered> {
+    match word {
+        "absent" => Ok(None),
+        digits => Ok(Some(digits.parse()?)),
+    }
+}
+
 impl Question {
+    // Whether the client says yes to the claim, over trees of a family and in chunks of a width.
+    fn is_shown_in<F: Graftable + PendingOf<Root>, const N: usize>(
+        &self,
+        alloc: Global,
+        proof: &[u8],
+    ) -> Result<bool, AllocError> {
+        let claim = match self.value {
+            Some(value) => Claim::Value {
+                key: self.key,
+                value,
+            },
+            None => Claim::Absent { key: self.key },
+        };
+        check::<F, ByteHash, Name, u64, N>(alloc, &self.root, &claim, proof)
+    }
+
     // Whether the client says yes to the claim.
     fn is_shown(&self, alloc: Global, proof: &[u8]) -> Result<bool, AllocError> {
-        let (root, claim) = (&self.root, &self.claim);
         match self.kind {
-            Kind::Range => check::<mmr::Family, ByteHash, Name, u64, 1>(alloc, root, claim, proof),
-            Kind::WideRange => {
-                check::<mmr::Family, ByteHash, Name, u64, 32>(alloc, root, claim, proof)
-            }
-            Kind::Belt => check::<mmb::Family, ByteHash, Name, u64, 1>(alloc, root, claim, proof),
-            Kind::WideBelt => {
-                check::<mmb::Family, ByteHash, Name, u64, 32>(alloc, root, claim, proof)
-            }
+            Kind::Range => self.is_shown_in::<mmr::Family, 1>(alloc, proof),
+            Kind::WideRange => self.is_shown_in::<mmr::Family, 32>(alloc, proof),
+            Kind::Belt => self.is_shown_in::<mmb::Family, 1>(alloc, proof),
+            Kind::WideBelt => self.is_shown_in::<mmb::Family, 32>(alloc, proof),
         }
     }
 
@@ -75,16 +95,14 @@ impl Question {
 
 /// What is answered of claims and proofs.
 pub fn answer(alloc: Global, words: &[&str]) -> Result<String, Unanswered> {
-    let [call, family, width, of_root, digits, value, proof] = words else {
+    let [call, family, width, of_root, digits, of_value, proof] = words else {
         return Err(Unanswered::BadLine);
     };
     let question = Question {
         kind: kind_of(family, width)?,
         root: root(of_root)?,
-        claim: Claim::Value {
-            key: key(digits)?,
-            value: value.parse()?,
-        },
+        key: key(digits)?,
+        value: value(of_value)?,
     };
     let mut proof = bytes(alloc, proof)?;
     match *call {

@@ -75,6 +75,7 @@ fn asked_of<F: Graftable + PendingOf<Root>, const N: usize>(
         Step::Commits => Ok(Answer::Commits(store.commits()?)),
         Step::Floor => Ok(Answer::Floor(store.floor()?)),
         Step::Len => Ok(Answer::Len(store.len()?)),
+        Step::Prune(location) => Ok(Answer::Pruned(store.prune(location)?)),
         Step::ProveKey(key) => Ok(Answer::Proof(store.prove_key(&key)?)),
         Step::Config(settings) => {
             store.set_config(settings);

@@ -17,7 +17,7 @@ pub fn told(alloc: Global, answer: &Answer<Root, u64>) -> Result<String, Unanswe
         Answer::Set => "set",
         Answer::NotOpen => "not open",
         Answer::StillOpen => "still open",
-        Answer::Value(None) | Answer::Proof(None) => "none",
+        Answer::Value(None) => "none",
         answer => return carrying(alloc, answer),
     };
     Ok(word.to_string(alloc)?)
@@ -30,10 +30,15 @@ fn carrying(alloc: Global, answer: &Answer<Root, u64>) -> Result<String, Unanswe
         Answer::Value(Some(number))
         | Answer::Commits(number)
         | Answer::Floor(number)
-        | Answer::Len(number) => Ok(format!(in alloc; "{number}")?),
-        Answer::Proof(Some(KeyProof::Value(value, proof))) => {
+        | Answer::Len(number)
+        | Answer::Pruned(number) => Ok(format!(in alloc; "{number}")?),
+        Answer::Proof(KeyProof::Value(value, proof)) => {
             let digits = hex::encode(alloc, proof.as_slice())?;
             Ok(format!(in alloc; "{value} {digits}")?)
+        }
+        Answer::Proof(KeyProof::Absent(proof)) => {
+            let digits = hex::encode(alloc, proof.as_slice())?;
+            Ok(format!(in alloc; "absent {digits}")?)
         }
         Answer::Refused(error) => refusals::of_store(alloc, *error),
         _ => Err(Unanswered::BadLine),

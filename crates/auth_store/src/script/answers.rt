@@ -9,7 +9,7 @@ ghost use Rattle.auth_store.specs.ScriptLines.{answer_line, count_line, checked_
 use super::end::End;
 use auth_store_parts::script::report::{
     report_check, report_closed, report_commit, report_crashed, report_error, report_floor,
-    report_len, report_none, report_ok, report_open, report_root, report_value,
+    report_len, report_none, report_ok, report_open, report_pruned, report_root, report_value,
 };
 use auth_store_session::{Answer, StoreError};
 use merkle_forest::codec::FixedBytes;
@@ -33,6 +33,7 @@ pub(crate) fn report<W: Write>(alloc: Global, out: &mut W, answer: ScriptAnswer)
         Answer::Root(root) => Ok(report_root(alloc, out, root.as_bytes())?),
         Answer::Floor(location) => Ok(report_floor(out, location)?),
         Answer::Len(count) => Ok(report_len(out, count)?),
+        Answer::Pruned(chunks) => Ok(report_pruned(out, chunks)?),
         Answer::Closed => Ok(report_closed(out)?),
         Answer::Crashed => Ok(report_crashed(out)?),
         Answer::Set => Ok(report_ok(out)?),

@@ -1,9 +1,9 @@
 //! The families of trees that a script names.
 
-ghost use Rattle.std.specs.Prelude.{◌≡◌, ◌↔◌, ℕ, List, [], Ok, refl};
+ghost use Rattle.std.specs.Prelude.{◌≡◌, ◌↔◌, ℕ, List, refl};
 ghost use Rattle.sha2.specs.Sha256.{sha256};
 ghost use Rattle.merkle_forest.specs.Codec.{after_fixed};
-ghost use Rattle.auth_store_ledger.specs.Claims.{Claim, Shows, terms};
+ghost use Rattle.auth_store_client.specs.Claims.{Claim, Shows, terms};
 ghost use Rattle.auth_store_parts.specs.declared.script.words.TreeFamily.{TreeFamily};
 ghost use Rattle.auth_store_parts.specs.declared.script.words.TreeFamily.TheVariants.{Mmr, Mmb};
 ghost use Rattle.auth_store.specs.ScriptLines.{pending_of, rule_of, script_terms};
@@ -24,8 +24,8 @@ pub(crate) trait Named: Graftable + PendingOf<FixedBytes<32>> {
 
     /// Its proofs show what theirs do.
     ghost shows: { (claim : Claim) (root bytes : List ℕ)
-        → Shows (terms Self.merge_rule sha256 1 32 Self.is_pending Self.pending_encoding
-        (λ key. after_fixed 8 key ≡ Ok []) 8 8) claim root bytes ↔ Shows (script_terms family) claim root bytes };
+        → Shows (terms Self.merge_rule sha256 1 32 Self.is_pending Self.pending_encoding (after_fixed 8) (after_fixed 8)
+        8 8) claim root bytes ↔ Shows (script_terms family) claim root bytes };
 }
 
 impl Named for mmr::Family {

@@ -5,26 +5,29 @@
 //! ```text
 //!   open    Open ---Opened---> Commits         prove        ProveKey ---a proof---> Root ---> keeps both
 //!   commit  Commit ---Committed---> Commits    mode, fault  Config, with the settings that are kept
-//!   get, root, floor, len, cut, close, crash: the step of that name
+//!   get, root, floor, len, prune, cut, close, crash: the step of that name
 //!   put, del, proof, check: no step
 //! ```
 
-ghost use Rattle.std.specs.Prelude.{◌≡◌, ◌<◌, ◌^◌, ◌++◌, ◌∷◌, [], None, Some};
+ghost use Rattle.std.specs.Prelude.{◌≡◌, ◌++◌, ◌∷◌, [], None, Some};
 ghost use Rattle.std.specs.Prelude.{IfOk, IfErr, Option, List, ℕ};
+ghost use Rattle.auth_store_client.specs.ClaimsCode.{claim_of};
+ghost use Rattle.auth_store_ledger.specs.ProvingCode.{key_answer_of};
 ghost use Rattle.auth_store_session.specs.Machine.{proof};
 ghost use Rattle.auth_store_session.specs.MachineCode.{meaning_of};
 ghost use Rattle.auth_store.specs.ScriptLines.{proof_in, Exchange, bytes_of, value_of, new_progress};
 ghost use Rattle.auth_store.specs.ScriptRun.{IsRunOf};
-ghost use Rattle.auth_store.specs.ScriptCode.{Goes, Handled, IsRunning, Says, SetsTo, TakesLine};
+ghost use Rattle.auth_store.specs.ScriptCode.{ChecksKept, Goes, Handled, IsRunning, Says, SetsTo, TakesLine};
 ghost use Rattle.auth_store.specs.ScriptCode.{exchange_of, now_of, progress_of};
 
 use super::answers::{ScriptAnswer, report, report_checked, report_committed, report_opened};
 use super::end::End;
 use super::family::Named;
 use super::settings::{with_mode, with_rate};
+use auth_store_client::{Claim, check};
 use auth_store_device::Device;
-use auth_store_ledger::{Batch, Claim, KeyProof, check};
-use auth_store_parts::script::report::{report_present, report_proof};
+use auth_store_ledger::{Batch, KeyProof};
+use auth_store_parts::script::report::{report_absent, report_present, report_proof};
 use auth_store_parts::script::{FaultKind, Line, TornMode};
 use auth_store_session::{Answer, Session, Sizes, Step};
 use fault_storage::{Config, Probability};
@@ -77,15 +80,15 @@ fn ask<F: Named>(session: &mut ScriptSession<F>, step: Step<Keys, u64>) -> Scrip
     session.step(step)
 }
 
-// The value of a key that is there and the bytes of its proof, or the other answer.
-fn value_and_proof(answer: ScriptAnswer) -> Result<(u64, Vec<u8>), ScriptAnswer>
-    ensures proved { IfOk result (λ proved. (proved.0 < 2 ^ 64)
-        × (meaning_of bytes_of value_of answer ≡ proof (Some (value_of proved.0, proved.1.items)))) }
+// The proof in an answer, or the other answer.
+fn proof_of(answer: ScriptAnswer) -> Result<KeyProof<u64>, ScriptAnswer>
+    ensures proved { IfOk result (λ found.
+        meaning_of bytes_of value_of answer ≡ proof (key_answer_of value_of found)) }
     ensures other { IfErr result (λ other. (meaning_of bytes_of value_of other ≡ meaning_of bytes_of value_of answer)
         × (proof_in (meaning_of bytes_of value_of answer) ≡ None)) }
 {
     match answer {
-        Answer::Proof(Some(KeyProof::Value(value, bytes))) => Ok((value, bytes)),
+        Answer::Proof(found) => Ok(found),
         other => Err(other),
     }
 }
@@ -203,21 +206,31 @@ impl<F: Named> Progress<F> {
         self.set(out, settings)
     }
 
-    // Proves a key that is there, and keeps the bytes and the root of now. A refused proof keeps the former ones.
+    // Proves the value of a key, or that it is absent, and keeps the bytes and the root of now. A refused proof keeps the
+    // former ones.
     fn prove<W: Write>(&mut self, out: &mut W, key: Keys) -> Result<(), End>
         ensures { Handled (TakesLine F.family self.old (Line.Prove key) self.new) (W.contents out.old)
             (W.contents out.new) result }
     {
         let answer = ask(&mut self.session, Step::ProveKey(key));
-        let (value, bytes) = match value_and_proof(answer) {
-            Ok(proved) => proved,
+        let found = match proof_of(answer) {
+            Ok(found) => found,
             Err(other) => return report(self.alloc, out, other),
         };
-        match ask(&mut self.session, Step::Root) {
-            Answer::Root(root) => self.kept = Some(Kept { bytes, root }),
+        let root = match ask(&mut self.session, Step::Root) {
+            Answer::Root(root) => root,
             other => return report(self.alloc, out, other),
+        };
+        match found {
+            KeyProof::Value(value, bytes) => {
+                self.kept = Some(Kept { bytes, root });
+                Ok(report_present(out, value)?)
+            }
+            KeyProof::Absent(bytes) => {
+                self.kept = Some(Kept { bytes, root });
+                Ok(report_absent(out)?)
+            }
         }
-        Ok(report_present(out, value)?)
     }
 
     // Answers the kept bytes.
@@ -232,18 +245,17 @@ impl<F: Named> Progress<F> {
     }
 
     // Checks the kept bytes against the kept root.
-    fn check_value<W: Write>(&self, out: &mut W, key: Keys, value: u64) -> Result<(), End>
-        ensures { Handled (TakesLine F.family self.now (Line.CheckValue key value) self.now) (W.contents out.old)
+    fn check_kept<W: Write>(&self, out: &mut W, claim: &Claim<F, Keys, u64>) -> Result<(), End>
+        ensures { Handled (ChecksKept F.family self.now (claim_of bytes_of value_of claim.now)) (W.contents out.old)
             (W.contents out.new) result }
     {
         let Some(kept) = &self.kept else {
             return Err(End::BadLine);
         };
-        let claim = Claim::Value { key, value };
         let checked = check::<F, ByteHash, Keys, u64, 1>(
             self.alloc,
             &kept.root,
-            &claim,
+            claim,
             &kept.bytes,
         );
         Ok(report_checked(out, checked)?)
@@ -264,9 +276,13 @@ impl<F: Named> Progress<F> {
             Line::Root => self.say(out, Step::Root),
             Line::Floor => self.say(out, Step::Floor),
             Line::Len => self.say(out, Step::Len),
+            Line::Prune { location } => self.say(out, Step::Prune(location)),
             Line::Prove { key } => self.prove(out, key),
             Line::Proof => self.proof(out),
-            Line::CheckValue { key, value } => self.check_value(out, key, value),
+            Line::CheckValue { key, value } => {
+                self.check_kept(out, &Claim::Value { key, value })
+            }
+            Line::CheckAbsent { key } => self.check_kept(out, &Claim::Absent { key }),
             Line::Cut { calls } => self.say(out, Step::CutAfter(calls)),
             Line::Mode { mode } => self.set_mode(out, mode),
             Line::Fault {

@@ -8,9 +8,8 @@ use crate::error::LedgerError;
 use merkle_forest::{Graftable, HashFunction, PendingOf};
 use state_ops::{FixedKey, FixedValue};
 
-/// Whether two ledgers answer the same root, and the same proof of the key or none. They do where their histories are
-/// equal. It fails only when out of
-/// memory.
+/// Whether two ledgers answer the same root, and of the key the same bytes, of its value or of its absence. They do
+/// where their histories are equal. It fails only when out of memory.
 pub fn same_root_and_proof<F, H, K, V, const N: usize>(
     one: &Ledger<F, H, K, V, N>,
     other: &Ledger<F, H, K, V, N>,
@@ -28,8 +27,10 @@ where
         return Ok(false);
     }
     match (one.prove_key(key)?, other.prove_key(key)?) {
-        (None, None) => Ok(true),
-        (Some(KeyProof::Value(_, first)), Some(KeyProof::Value(_, second))) => {
+        (KeyProof::Value(_, first), KeyProof::Value(_, second)) => {
+            Ok(first.as_slice() == second.as_slice())
+        }
+        (KeyProof::Absent(first), KeyProof::Absent(second)) => {
             Ok(first.as_slice() == second.as_slice())
         }
         _ => Ok(false),

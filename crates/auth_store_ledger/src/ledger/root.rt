@@ -15,6 +15,15 @@ use state_proofs::chunk_size::ChunkSize;
 use state_proofs::snapshot::Snapshot;
 use std::alloc::{AllocError, Global};
 
+/// How many bits a chunk of `N` bytes has.
+pub fn chunk_size<const N: usize>() -> ChunkSize
+    requires { IsChunkWidth N }
+    ensures width { result.width ≡ N }
+    ensures height { result.grafting_height ≡ grafting_height N }
+{
+    ChunkSize::new(N).unwrap()
+}
+
 /// The encoded operations with their activity bits and the last floor, in chunks of `N` bytes.
 pub fn snapshot_of<'a, const N: usize>(
     operations: &'a [Vec<u8>],
@@ -33,7 +42,7 @@ pub fn snapshot_of<'a, const N: usize>(
         operations,
         bits,
         floor,
-        chunk_size: ChunkSize::new(N).unwrap(),
+        chunk_size: chunk_size::<N>(),
     }
 }
 

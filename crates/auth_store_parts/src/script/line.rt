@@ -1,7 +1,7 @@
 //! The lines of a script.
 
 ghost use Rattle.std.specs.Prelude.{◌≡◌, ◌==◌, MatchOption, IfSome, position};
-ghost use Rattle.auth_store_parts.specs.Line.{line_of, line_with_words, device_line, after, first_word};
+ghost use Rattle.auth_store_parts.specs.Line.{line_of, line_with_words, proof_line, device_line, after, first_word};
 ghost use Rattle.auth_store_parts.specs.Line.{key_and_number, two_numbers, kind_of, fault_of, mode_of};
 ghost use Rattle.auth_store_parts.specs.Spelling.{Spells};
 ghost use Rattle.auth_store_parts.specs.declared.script.line.Line.{Line};
@@ -46,7 +46,11 @@ pub enum Line {
     Floor,
     /// `len`: how many operations there are.
     Len,
-    /// `prove KEY`: makes a proof of a key's value.
+    /// `prune LOC`: gives up what stands before a place, as far as it is settled.
+    Prune {
+        location: u64,
+    },
+    /// `prove KEY`: makes a proof of a key's value, or that it is absent.
     Prove {
         key: FixedBytes<8>,
     },
@@ -56,6 +60,10 @@ pub enum Line {
     CheckValue {
         key: FixedBytes<8>,
         value: u64,
+    },
+    /// `check absent KEY`: whether the proof shows that the key is absent.
+    CheckAbsent {
+        key: FixedBytes<8>,
     },
     /// `cut N`: lets so many calls of the device through, and cuts its power then.
     Cut {
@@ -136,12 +144,28 @@ fn parse_words(line: &[u8]) -> Option<Line>
     } else if let Some(key) = strip_words(line, b"get ") {
         let key = parse_key(key)?;
         Some(Line::Get { key })
-    } else if let Some(key) = strip_words(line, b"prove ") {
+    } else if let Some(location) = strip_words(line, b"prune ") {
+        let location = parse_number(location)?;
+        Some(Line::Prune { location })
+    } else {
+        parse_proof_line(line)
+    }
+}
+
+/// A line of more than one word that makes a proof or checks it, or is for the device.
+#[tactic(auto, using(crate::proofs::Lines::key_some, crate::proofs::Lines::key_none))]
+fn parse_proof_line(line: &[u8]) -> Option<Line>
+    ensures { result ≡ proof_line line.now }
+{
+    if let Some(key) = strip_words(line, b"prove ") {
         let key = parse_key(key)?;
         Some(Line::Prove { key })
     } else if let Some(words) = strip_words(line, b"check value ") {
         let (key, value) = parse_key_and_number(words)?;
         Some(Line::CheckValue { key, value })
+    } else if let Some(key) = strip_words(line, b"check absent ") {
+        let key = parse_key(key)?;
+        Some(Line::CheckAbsent { key })
     } else {
         parse_device_line(line)
     }

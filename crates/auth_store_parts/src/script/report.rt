@@ -73,6 +73,14 @@ pub fn report_len<W: Write>(out: &mut W, count: u64) -> io::Result<()>
     writeln!(out, "len {count}")
 }
 
+/// Prints `pruned Q`.
+pub fn report_pruned<W: Write>(out: &mut W, chunks: u64) -> io::Result<()>
+    ensures { OnOk result (Appends (W.contents out.old) (W.contents out.new)
+        (reported (codes "pruned " ++ decimal chunks))) }
+{
+    writeln!(out, "pruned {chunks}")
+}
+
 /// Prints `ok`.
 pub fn report_ok<W: Write>(out: &mut W) -> io::Result<()>
     ensures { OnOk result (Appends (W.contents out.old) (W.contents out.new) (reported (codes "ok"))) }
@@ -100,6 +108,13 @@ pub fn report_present<W: Write>(out: &mut W, value: u64) -> io::Result<()>
         (reported (codes "present " ++ decimal value))) }
 {
     writeln!(out, "present {value}")
+}
+
+/// Prints `absent`.
+pub fn report_absent<W: Write>(out: &mut W) -> io::Result<()>
+    ensures { OnOk result (Appends (W.contents out.old) (W.contents out.new) (reported (codes "absent"))) }
+{
+    out.write_all(b"absent\n")
 }
 
 /// Prints `proof HEX`, with the proof's bytes in lower case. Out of memory for the digits fails too.

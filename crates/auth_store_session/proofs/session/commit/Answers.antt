@@ -14,7 +14,7 @@ returns-in-Ok-clause-steps g c = (
       (c.args.store.now.cache.page_size + 12))
       (format_of (g.K.Read.after (tt {0})) (g.V.Read.after (tt {0})) g.K.FixedSize.SIZE g.V.FixedSize.SIZE) g.H.Digest.Write.encoding
       (words.meanings g.K.Write.encoding g.V.Write.encoding c.args.batch.words.items) (option_map g.V.Write.encoding c.args.metadata)
-      c.args.store.now c.commit.new.self (Ok c.in-Ok.root) (ap (λ n. n + 12) (sym c.in-Ok.ensures.page_size)) c.in-Ok.ensures.commits
+      c.args.store.now c.commit.new.self (Ok c.in-Ok.root) (ap (λ n. n + 12) (sym c.in-Ok.ensures.page_size)) c.in-Ok.ensures.pruned c.in-Ok.ensures.commits
       c.in-Ok.ensures.failed,
 )
 
@@ -26,6 +26,6 @@ returns-in-Err-clause-steps g c = (
       (c.args.store.now.cache.page_size + 12))
       (format_of (g.K.Read.after (tt {0})) (g.V.Read.after (tt {0})) g.K.FixedSize.SIZE g.V.FixedSize.SIZE) g.H.Digest.Write.encoding
       (words.meanings g.K.Write.encoding g.V.Write.encoding c.args.batch.words.items) (option_map g.V.Write.encoding c.args.metadata)
-      c.args.store.now c.commit.new.self (Err c.in-Err.error) (ap (λ n. n + 12) (sym c.in-Err.ensures.page_size)) c.in-Err.ensures.commits
+      c.args.store.now c.commit.new.self (Err c.in-Err.error) (ap (λ n. n + 12) (sym c.in-Err.ensures.page_size)) c.in-Err.ensures.pruned c.in-Err.ensures.commits
       c.in-Err.ensures.failed,
 )

@@ -13,7 +13,7 @@ returns-in-Ok-clause-steps g c = (
       (machine g.F.Family.merge_rule g.H.HashFunction.hash_of g.F.PendingOf.pending_encoding g.row.N g.K.FixedSize.SIZE g.V.FixedSize.SIZE
       (c.args.store.now.cache.page_size + 12))
       (format_of (g.K.Read.after (tt {0})) (g.V.Read.after (tt {0})) g.K.FixedSize.SIZE g.V.FixedSize.SIZE) c.args.store.now ask_commits commits_are
-      length (Ok c.in-Ok.count) c.in-Ok.ensures.count c.in-Ok.ensures.failed (λ power history answer is. (is, refl, refl)) (λ power history commit answer is. (is, refl, refl)),
+      length (Ok c.in-Ok.count) c.in-Ok.ensures.count c.in-Ok.ensures.failed (λ power history pruned answer is. (is, refl, refl)) (λ power history commit answer is. (is, refl, refl)),
 )
 
 pub returns-in-Err-clause-steps : goal.returns-in-Err-clause-steps
@@ -23,5 +23,5 @@ returns-in-Err-clause-steps g c = (
       (machine g.F.Family.merge_rule g.H.HashFunction.hash_of g.F.PendingOf.pending_encoding g.row.N g.K.FixedSize.SIZE g.V.FixedSize.SIZE
       (c.args.store.now.cache.page_size + 12))
       (format_of (g.K.Read.after (tt {0})) (g.V.Read.after (tt {0})) g.K.FixedSize.SIZE g.V.FixedSize.SIZE) c.args.store.now ask_commits commits_are
-      length (Err c.in-Err.error) c.in-Err.ensures.count c.in-Err.ensures.failed (λ power history answer is. (is, refl, refl)) (λ power history commit answer is. (is, refl, refl)),
+      length (Err c.in-Err.error) c.in-Err.ensures.count c.in-Err.ensures.failed (λ power history pruned answer is. (is, refl, refl)) (λ power history commit answer is. (is, refl, refl)),
 )

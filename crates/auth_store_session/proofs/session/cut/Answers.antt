@@ -19,8 +19,8 @@ returns-clause-steps g c =
           (machine g.F.Family.merge_rule g.H.HashFunction.hash_of g.F.PendingOf.pending_encoding g.row.N g.K.FixedSize.SIZE g.V.FixedSize.SIZE
           (c.args.store.now.cache.page_size + 12))
           (format_of (g.K.Read.after (tt {0})) (g.V.Read.after (tt {0})) g.K.FixedSize.SIZE g.V.FixedSize.SIZE) c.args.store.now c.cut_after.new.self (ask_cut c.args.calls) is_set
-          c.cut_after.ensures.rest.0 c.cut_after.ensures.rest.1 (ap (λ (d : DeviceState _). d.calls) c.cut_after.ensures.device)
-          (λ history. (refl, refl, same)) (λ history commit. (refl, refl, same)),
+          c.cut_after.ensures.rest.0 c.cut_after.ensures.rest.1 c.cut_after.ensures.pruned (ap (λ (d : DeviceState _). d.calls) c.cut_after.ensures.device)
+          (λ history pruned. (refl, refl, same)) (λ history commit. (refl, refl, same)),
     )
 
 pub returns-clause-grows : goal.returns-clause-grows

@@ -15,7 +15,7 @@ returns-in-Ok-clause-steps g c = (
       (machine g.F.Family.merge_rule g.H.HashFunction.hash_of g.F.PendingOf.pending_encoding g.row.N g.K.FixedSize.SIZE g.V.FixedSize.SIZE
       (c.args.store.now.cache.page_size + 12))
       (format_of (g.K.Read.after (tt {0})) (g.V.Read.after (tt {0})) g.K.FixedSize.SIZE g.V.FixedSize.SIZE) c.args.store.now ask_root root_is
-      (λ history. root_of_history (setting_of_width g.F.Family.merge_rule g.H.HashFunction.hash_of g.row.N) g.K.FixedSize.SIZE g.V.FixedSize.SIZE history) (Ok (g.H.Digest.Write.encoding c.in-Ok.root)) c.in-Ok.ensures.root (λ none. ap (result_of g.H.Digest.Write.encoding) (c.in-Ok.ensures.failed none)) (λ power history answer is. (is, refl, refl)) (λ power history commit answer is. (is, refl, refl)),
+      (λ history. root_of_history (setting_of_width g.F.Family.merge_rule g.H.HashFunction.hash_of g.row.N) g.K.FixedSize.SIZE g.V.FixedSize.SIZE history) (Ok (g.H.Digest.Write.encoding c.in-Ok.root)) c.in-Ok.ensures.root (λ none. ap (result_of g.H.Digest.Write.encoding) (c.in-Ok.ensures.failed none)) (λ power history pruned answer is. (is, refl, refl)) (λ power history commit answer is. (is, refl, refl)),
 )
 
 pub returns-in-Err-clause-steps : goal.returns-in-Err-clause-steps
@@ -25,5 +25,5 @@ returns-in-Err-clause-steps g c = (
       (machine g.F.Family.merge_rule g.H.HashFunction.hash_of g.F.PendingOf.pending_encoding g.row.N g.K.FixedSize.SIZE g.V.FixedSize.SIZE
       (c.args.store.now.cache.page_size + 12))
       (format_of (g.K.Read.after (tt {0})) (g.V.Read.after (tt {0})) g.K.FixedSize.SIZE g.V.FixedSize.SIZE) c.args.store.now ask_root root_is
-      (λ history. root_of_history (setting_of_width g.F.Family.merge_rule g.H.HashFunction.hash_of g.row.N) g.K.FixedSize.SIZE g.V.FixedSize.SIZE history) (Err c.in-Err.error) c.in-Err.ensures.root (λ none. ap (result_of g.H.Digest.Write.encoding) (c.in-Err.ensures.failed none)) (λ power history answer is. (is, refl, refl)) (λ power history commit answer is. (is, refl, refl)),
+      (λ history. root_of_history (setting_of_width g.F.Family.merge_rule g.H.HashFunction.hash_of g.row.N) g.K.FixedSize.SIZE g.V.FixedSize.SIZE history) (Err c.in-Err.error) c.in-Err.ensures.root (λ none. ap (result_of g.H.Digest.Write.encoding) (c.in-Err.ensures.failed none)) (λ power history pruned answer is. (is, refl, refl)) (λ power history commit answer is. (is, refl, refl)),
 )

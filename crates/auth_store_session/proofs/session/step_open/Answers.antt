@@ -35,3 +35,24 @@ returns-in-Open-clause-steps g c = λ left. still_open_in
     (c.args.store.now.cache.page_size + 12))
     (format_of (g.K.Read.after (tt {0})) (g.V.Read.after (tt {0})) g.K.FixedSize.SIZE g.V.FixedSize.SIZE) g.K.Write.encoding
     g.V.Write.encoding c.args.step c.args.store.now c.in-Open.is left
+
+pub returns-in-Root-clause-steps : goal.returns-in-Root-clause-steps
+returns-in-Root-clause-steps g c = rw c.in-Root.is (λ left. c.root.ensures.steps)
+
+pub returns-in-Commits-clause-steps : goal.returns-in-Commits-clause-steps
+returns-in-Commits-clause-steps g c = rw c.in-Commits.is (λ left. c.commits.ensures.steps)
+
+pub returns-in-Floor-clause-steps : goal.returns-in-Floor-clause-steps
+returns-in-Floor-clause-steps g c = rw c.in-Floor.is (λ left. c.floor.ensures.steps)
+
+pub returns-in-Len-clause-steps : goal.returns-in-Len-clause-steps
+returns-in-Len-clause-steps g c = rw c.in-Len.is (λ left. c.len.ensures.steps)
+
+pub returns-in-Prune-clause-steps : goal.returns-in-Prune-clause-steps
+returns-in-Prune-clause-steps g c = rw c.in-Prune.is (λ left. c.prune.ensures.steps)
+
+pub returns-in-ProveKey-clause-steps : goal.returns-in-ProveKey-clause-steps
+returns-in-ProveKey-clause-steps g c = rw c.in-ProveKey.is (λ left. c.prove.ensures.steps)
+
+pub returns-in-CutAfter-clause-steps : goal.returns-in-CutAfter-clause-steps
+returns-in-CutAfter-clause-steps g c = rw (c.in-CutAfter.is, c.cut.ensures.set) (λ left. c.cut.ensures.steps)

@@ -1,10 +1,8 @@
-use Rattle.std.proofs.Common.{◌≡◌, ◌∙◌, ◌++◌, List, ℕ, [], map, ap, sym, append-nil}
+use Rattle.std.proofs.Common.{◌∙◌, ◌++◌, List, ℕ, [], ap, sym, append-nil}
 use Rattle.state_proofs.specs.Canonical.{Setting, State}
 use Rattle.state_proofs.specs.Encoded.{key_value_proof_encoding}
 use Rattle.state_proofs.specs.Honest.{honest_parts}
 use Rattle.state_proofs.specs.ProofsCode.{parts_of}
-use Rattle.state_proofs.specs.Snapshot.{setting_of, state_of}
-use Rattle.auth_store_ledger.proofs.Proofs.{same_state}
 use Rattle.auth_store_ledger.specs.Store.{setting_of_width, state_of_log}
 use Rattle.auth_store_ledger.proofs.ledger.prove.proof_at.Goals as goal
 
@@ -18,24 +16,14 @@ returns-clause-next g c =
 
 pub returns-clause-bytes : goal.returns-clause-bytes
 returns-clause-bytes g c =
-    let snapshot = c.snapshot_of-snapshot.result in
     let key : List ℕ = g.K.Write.encoding c.in_ok-clone.field-0 in
     let copied = g.met.K.Faithful.copied c.args.next_key.now c.in_ok-clone.field-0 c.in_ok-clone.ensures.cases in
     let pending = g.F.PendingOf.pending_encoding in
-    let wanted : Setting = setting_of_width g.F.Family.merge_rule g.H.HashFunction.hash_of g.row.N in
+    let setting : Setting = setting_of_width g.F.Family.merge_rule g.H.HashFunction.hash_of g.row.N in
     let logged : State = state_of_log g.K.FixedSize.SIZE g.V.FixedSize.SIZE c.args.log.now in
-    let setting : setting_of g.F.Family.merge_rule g.H.HashFunction.hash_of snapshot ≡ wanted = cc in
-    let seen = c.snapshot_of-snapshot.ensures in
-    let state : state_of snapshot ≡ logged = same_state _ _ _ _ _ _
-    (ap (map (λ e. e.items)) (seen.operations ∙ c.deref.ensures.value) ∙ c.in_ok-encodings.ensures.encoded)
-    (seen.bits ∙ (c.deref-2.ensures.value ∙ c.in_ok-bits.ensures))
-    (seen.floor ∙ c.requires.last) in
     c.in_ok-write.ensures.ok
     ∙ (ap (λ start. start ++ key_value_proof_encoding pending
-    (parts_of g.H.Digest.Write.encoding g.F.PendingOf.held c.in_ok-honest_proof.field-0) key)
+    (parts_of g.H.Digest.Write.encoding g.F.PendingOf.held c.in_ok-operation_proof.field-0) key)
     c.new-bytes.ensures.items
-    ∙ (ap (λ parts. key_value_proof_encoding pending parts key) c.in_ok-honest_proof.ensures
-    ∙ (ap (λ (s : Setting). key_value_proof_encoding pending (honest_parts s (state_of snapshot) c.args.location) key)
-    setting
-    ∙ (ap (λ (s : State). key_value_proof_encoding pending (honest_parts wanted s c.args.location) key) state
-    ∙ ap (λ (k : List ℕ). key_value_proof_encoding pending (honest_parts wanted logged c.args.location) k) copied))))
+    ∙ (ap (λ parts. key_value_proof_encoding pending parts key) c.in_ok-operation_proof.ensures
+    ∙ ap (λ (k : List ℕ). key_value_proof_encoding pending (honest_parts setting logged c.args.location) k) copied))

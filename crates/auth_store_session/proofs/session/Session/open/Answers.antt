@@ -19,7 +19,7 @@ returns-in-Ok-clause-steps g c =
     (ap (λ p. record { parts = p; store = Some store }) (sym c.take.ensures.after)) (
       c.in-Ok.ensures.leaves,
       opens_in m format c.in-Some.device c.in-Some.cache store c.an_opening_shows_what_stood.ensures c.in-Ok.ensures.page_size
-          c.in-Ok.ensures.uncut c.in-Ok.ensures.recovers c.in-Ok.ensures.shown,
+          c.in-Ok.ensures.uncut c.in-Ok.ensures.whole c.in-Ok.ensures.recovers c.in-Ok.ensures.shown,
     )
 
 pub returns-in-Ok-clause-page_size : goal.returns-in-Ok-clause-page_size

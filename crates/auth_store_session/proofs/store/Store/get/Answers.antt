@@ -23,13 +23,14 @@ invariant_of-self g c =
         live = live_stays format c.get_live-answer.new.blob.calls c.get_live-answer.new.cache c.self.inside.live c.in-Some.live
             c.in-Some.is c.get_live-answer.ensures.live;
       },
+      c.self.invariant.2,
     )
 
 pub returns-clause-found : goal.returns-clause-found
 returns-clause-found g c = λ history live.
     subst (λ (h : History). IfOk c.get_live-answer.result (λ found. option_map g.V.Write.encoding found
     ≡ value_at (latest_map h) (g.K.Write.encoding c.args.key.now)))
-    (one_history c.self.inside.device c.self.inside.cache c.self.inside.live c.args.self.now c.in-Some.live history c.self.view_is c.in-Some.is live)
+    (one_history c.self.inside.device c.self.inside.cache c.self.inside.live c.self.inside.pruned c.args.self.now c.in-Some.live history c.self.view_is c.in-Some.is live)
     c.get_live-answer.ensures.ok
 
 pub returns-clause-refused : goal.returns-clause-refused

@@ -10,8 +10,11 @@ use Rattle.auth_store_session.specs.Standing.{power_of}
 use Rattle.auth_store_session.proofs.store.Store.open.Goals as goal
 
 pub invariant_of-result : goal.invariant_of-result
-invariant_of-result g c =
-    (c.requires.width, record { opened = c.in-Ok.ensures.is_open; cache = c.open_live.ensures.cache; live = c.in-Ok.ensures.live })
+invariant_of-result g c = (
+  c.requires.width,
+  record { opened = c.in-Ok.ensures.is_open; cache = c.open_live.ensures.cache; live = c.in-Ok.ensures.live },
+  record { settled = c.settled_chunks_stay_settled.ensures.none _ _ },
+)
 
 pub returns-in-Ok-clause-recovers : goal.returns-in-Ok-clause-recovers
 returns-in-Ok-clause-recovers g c = (c.in-Ok.live.history, (c.in-Ok.live, refl, refl), c.in-Ok.ensures.recovers)

@@ -1,0 +1,13 @@
+use Rattle.auth_store_session.proofs.Unpruned.{with_pruned, keeps_history, steps_unpruned, prune_leaves}
+use Rattle.auth_store_session.proofs.laws.pruning_changes_no_answer.Goals as goal
+
+pub returns-clause-history : goal.returns-clause-history
+returns-clause-history c m before after history pruned location answer next step =
+    prune_leaves m before after history pruned location answer next step
+
+pub returns-clause-answers : goal.returns-clause-answers
+returns-clause-answers c m before after history pruned other request answer next asked step = (
+  with_pruned other next,
+  steps_unpruned m before after history pruned other request answer next asked step,
+  keeps_history other next,
+)
