@@ -4,7 +4,9 @@
 //! ```text
 //! mmr                          the family of the trees: mmr or mmb
 //! root 4c11c3..                the root
-//! value 0000000000000061 1     the claim: this, `absent KEY`, or `active LOCATION OPERATION`, its bytes in hex digits
+//! value 0000000000000061 1     the claim: this, `absent KEY`, `active LOCATION OPERATION`, its bytes in hex digits,
+//!                              `range START OPERATIONS BITS`, these joined by commas, a 1 or 0 each, or
+//!                              `slice START OPERATIONS`
 //! proof 0338..                 the bytes of the proof
 //! ```
 //!
@@ -113,6 +115,31 @@ fn operation<F: Graftable>(
     }
 }
 
+// The operations that these digits encode, joined by commas.
+fn operations<F: Graftable>(
+    alloc: Global,
+    words: &str,
+) -> Result<Vec<OrderedOperation<F, Name, u64>>, Fault> {
+    let mut found = Vec::new(alloc);
+    for digits in words.split(',') {
+        found.push(operation(alloc, digits)?)?;
+    }
+    Ok(found)
+}
+
+// The bits of these digits, 1 or 0 each.
+fn bits(alloc: Global, digits: &str) -> Result<Vec<bool>, Fault> {
+    let mut found = Vec::new(alloc);
+    for digit in digits.chars() {
+        match digit {
+            '0' => found.push(false)?,
+            '1' => found.push(true)?,
+            _ => return Err(Fault::Malformed),
+        }
+    }
+    Ok(found)
+}
+
 // The claim of a line.
 fn claim_of<F: Graftable>(alloc: Global, line: &str) -> Result<Claim<F, Name, u64>, Fault> {
     let words: Vec<&str> = line.split(' ').collect(alloc)?;
@@ -125,6 +152,15 @@ fn claim_of<F: Graftable>(alloc: Global, line: &str) -> Result<Claim<F, Name, u6
         ["active", location, encoding] => Ok(Claim::Active {
             location: location.parse()?,
             operation: operation(alloc, encoding)?,
+        }),
+        ["range", start, encodings, active] => Ok(Claim::Range {
+            start: start.parse()?,
+            operations: operations(alloc, encodings)?,
+            active: bits(alloc, active)?,
+        }),
+        ["slice", start, encodings] => Ok(Claim::Slice {
+            start: start.parse()?,
+            operations: operations(alloc, encodings)?,
         }),
         _ => Err(Fault::Malformed),
     }

@@ -1,7 +1,10 @@
 pub mod States
 pub mod Claims
+pub mod Slices
 pub mod ClaimsCode
+pub mod SlicesCode
 pub mod Proving
+pub mod MadeSlices
 pub mod Soundness
 pub mod Fields
 pub mod Laws

@@ -1,6 +1,6 @@
 -- What a client's yes means: which strings are hashed for a history, and which are rebuilt from a claim and the proof that
 -- the bytes encode.
-use Rattle.std.specs.Prelude.{◌≡◌, ℕ, List, [], Ok, length}
+use Rattle.std.specs.Prelude.{◌≡◌, ℕ, List, [], Ok, length, map}
 use Rattle.std.specs.List.{AllByRecursion}
 use Rattle.merkle_forest.specs.Codec.{Outcome}
 use Rattle.merkle_forest.specs.Made.{Strings}
@@ -11,7 +11,8 @@ use Rattle.state_proofs.specs.Exclusion.{proof_of, operation_of}
 use Rattle.state_proofs.specs.MadeRanges as ranges
 use Rattle.state_proofs.specs.MadeStates as states
 use Rattle.auth_store_parts.specs.History.{History, Commit}
-use Rattle.auth_store_client.specs.Claims.{Claim, has_value, is_absent, is_active, Terms, encoded, Shows}
+use Rattle.auth_store_client.specs.Claims.{Claim, has_value, is_absent, is_active, has_range, has_slice, Terms, encoded, shown_of, Shows}
+use Rattle.auth_store_client.specs.MadeSlices.{slice_strings}
 use Rattle.auth_store_client.specs.States.{state_of_history}
 
 -- each key and each value of the history has its size
@@ -32,9 +33,10 @@ AreReadAgain key value key_size value_size log = AllByRecursion (IsReadAgain key
 abbrev pub hashed_strings : Setting → ℕ → ℕ → History → Strings
 hashed_strings setting key value history = states.hashed_strings setting (state_of_history key value history)
 
--- The strings that are hashed when the canonical root is rebuilt from the proof that the bytes encode and from the operation that it is
--- of: the update that the claim says, with the next key in the bytes; the operation in the bytes that leaves a key out; or the one that is
--- claimed to be active.
+-- The strings that are hashed when the canonical root is rebuilt from the proof that the bytes encode and from the
+-- operation that it is of: the update that the claim says, with the next key in the bytes; the operation in the bytes that
+-- leaves a key out; or the one that is claimed to be active. Where several are claimed it is rebuilt from these, with the
+-- chunks over them or with the witness.
 abbrev pub rebuilt_strings : Setting → (terms : Terms) → (claim : Claim) → (root bytes : List ℕ) → Shows terms claim root bytes → Strings
 rebuilt_strings setting terms (has_value key value) root bytes shown =
     ranges.rebuilt_strings setting shown.proof (encoded terms (update (ordered key value shown.next_key)))
@@ -42,3 +44,7 @@ rebuilt_strings setting terms (is_absent key) root bytes shown =
     ranges.rebuilt_strings setting (proof_of shown.proof) (operation_of terms.key_size terms.value_size shown.proof)
 rebuilt_strings setting terms (is_active location operation) root bytes shown =
     ranges.rebuilt_strings setting shown.shown.proof (encoded terms operation)
+rebuilt_strings setting terms (has_range start operations active) root bytes shown =
+    ranges.range_strings setting shown.proof (shown_of terms start operations shown.chunks)
+rebuilt_strings setting terms (has_slice start operations) root bytes shown =
+    slice_strings setting shown.slice start (map (encoded terms) operations)

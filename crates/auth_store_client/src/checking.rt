@@ -6,7 +6,9 @@ ghost use Rattle.auth_store_client.specs.Claims.{terms, Shows, ShowsAbsence, Sho
 ghost use Rattle.auth_store_client.specs.ClaimsCode.{claim_of};
 
 use crate::claim::Claim;
+use crate::range::shows_range;
 use crate::reading::{read_exclusion, read_operation};
+use crate::slice::shows_slice;
 use merkle_forest::{Graftable, HashFunction, PendingOf};
 use state_ops::ordered::encode;
 use state_ops::{FixedKey, FixedValue, OrderedOperation};
@@ -93,5 +95,13 @@ where
             location,
             operation,
         } => shows_active::<F, H, K, V>(alloc, N, root, *location, operation, bytes),
+        Claim::Range {
+            start,
+            operations,
+            active,
+        } => shows_range::<F, H, K, V>(alloc, N, root, *start, operations, active, bytes),
+        Claim::Slice { start, operations } => {
+            shows_slice::<F, H, K, V>(alloc, N, root, *start, operations, bytes)
+        }
     }
 }

@@ -20,4 +20,15 @@ pub enum Claim<F: Family, K: FixedKey, V: FixedValue> {
         location: u64,
         operation: OrderedOperation<F, K, V>,
     },
+    /// The operations stand from the location on, at least one, and each is active as its bit says.
+    Range {
+        start: u64,
+        operations: Vec<OrderedOperation<F, K, V>>,
+        active: Vec<bool>,
+    },
+    /// The operations stand from the location on, at least one.
+    Slice {
+        start: u64,
+        operations: Vec<OrderedOperation<F, K, V>>,
+    },
 }

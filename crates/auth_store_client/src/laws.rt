@@ -1,23 +1,27 @@
 //! What holds of all proofs.
 
-ghost use Rattle.std.specs.Prelude.{◌≡◌, ◌≤◌, ◌^◌, ◌⊎◌, ℕ, List, [], length, Ok, Some};
+ghost use Rattle.std.specs.Prelude.{◌≡◌, ◌<◌, ◌≤◌, ◌-◌, ◌^◌, ◌⊎◌, ℕ, Bool, true, List, [], length, take, drop, slice_get, Ok, Some};
 ghost use Rattle.merkle_forest.specs.Made.{Collision};
 ghost use Rattle.state_ops.specs.Operation.{Operation};
-ghost use Rattle.auth_store_client.specs.Claims.{Claim, has_value, is_absent, is_active, IsTrueOf, Shows, terms};
-ghost use Rattle.auth_store_parts.specs.History.{History, AreStates, latest_map, log_of};
+ghost use Rattle.auth_store_client.specs.Claims.{Claim, has_value, is_absent, is_active, has_range, has_slice, IsTrueOf, Shows, terms};
+ghost use Rattle.auth_store_parts.specs.History.{History, AreStates, activity_bits, latest_map, log_of};
 ghost use Rattle.auth_store_parts.specs.Map.{next_key, value_at};
 ghost use Rattle.state_ops.specs.Reading.{IsField};
 ghost use Rattle.auth_store_client.specs.Fields.{IsSound};
-ghost use Rattle.auth_store_client.specs.Proving.{honest_proof};
+ghost use Rattle.auth_store_client.specs.Proving.{honest_proof, honest_operation, honest_range_bytes, honest_slice_bytes};
 ghost use Rattle.auth_store_client.specs.Soundness.{HasSizes, IsReadAgain, AreReadAgain, hashed_strings, rebuilt_strings};
 ghost use Rattle.auth_store_client.specs.States.{IsChunkWidth, setting_of_width, root_of_history};
 
+use merkle_core::laws::{built_proofs_lead_to_the_root, honest_digests_are_few};
 use merkle_forest::{Graftable, HashFunction, PendingOf};
 use state_ops::ordered::laws::encoded_is_read_again;
 use state_ops::{FixedKey, FixedValue};
 use state_proofs::laws::{
-    honest_bytes_show_the_update, verified_absences_are_the_states_or_strings_collide,
+    honest_bytes_show_the_operation, honest_bytes_show_the_update, honest_ranges_verify,
+    honest_witnesses_lead_to_the_root, verified_absences_are_the_states_or_strings_collide,
     verified_operations_are_active_or_strings_collide,
+    verified_ranges_are_the_states_or_strings_collide,
+    witnessed_roots_are_the_states_or_strings_collide,
 };
 
 /// The honest proof of a key's value shows it under the root of the history, where the next key is one that is read: so
@@ -38,6 +42,69 @@ where
         (honest_proof F.pending_encoding setting K.SIZE V.SIZE history key)) }
 {
     honest_bytes_show_the_update::<F, H, K>();
+}
+
+/// The honest proof of an operation that is active shows it under the root of the history: so `check` says yes to it.
+pub fn honest_operations_are_shown<F, H, K, V, const N: usize>()
+where
+    F: Graftable + PendingOf<H::Digest>,
+    H: HashFunction,
+    K: FixedKey,
+    V: FixedValue,
+    ensures { (history : History) (location : ℕ) (operation : Operation) → IsChunkWidth N
+        → length (log_of history) ≤ 2 ^ 62 → slice_get (log_of history) location ≡ Some operation
+        → slice_get (activity_bits (log_of history)) location ≡ Some true
+        → (let setting = setting_of_width F.merge_rule H.hash_of N in
+        let terms = terms F.merge_rule H.hash_of N H.Digest.SIZE F.is_pending F.pending_encoding (K.after tt)
+        (V.after tt) K.SIZE V.SIZE in
+        Shows terms (is_active location operation) (root_of_history setting K.SIZE V.SIZE history)
+        (honest_operation F.pending_encoding setting K.SIZE V.SIZE history location)) }
+{
+    honest_bytes_show_the_operation::<F, H, K>();
+}
+
+/// The honest proof over operations of the log, with the chunks over them, shows them with their bits under the root of
+/// the history: so `check` says yes to it.
+pub fn honest_ranges_are_shown<F, H, K, V, const N: usize>()
+where
+    F: Graftable + PendingOf<H::Digest>,
+    H: HashFunction,
+    K: FixedKey,
+    V: FixedValue,
+    ensures { (history : History) (start stop : ℕ) → IsChunkWidth N → length (log_of history) ≤ 2 ^ 62 → start < stop
+        → stop ≤ length (log_of history)
+        → (let setting = setting_of_width F.merge_rule H.hash_of N in
+        let terms = terms F.merge_rule H.hash_of N H.Digest.SIZE F.is_pending F.pending_encoding (K.after tt)
+        (V.after tt) K.SIZE V.SIZE in
+        let operations = take (stop - start) (drop start (log_of history)) in
+        let active = take (stop - start) (drop start (activity_bits (log_of history))) in
+        Shows terms (has_range start operations active) (root_of_history setting K.SIZE V.SIZE history)
+        (honest_range_bytes F.pending_encoding setting K.SIZE V.SIZE history start stop)) }
+{
+    honest_digests_are_few::<F>();
+    honest_ranges_verify::<F>();
+}
+
+/// The honest witness with the honest proof of operations of the log shows them under the root of the history: so
+/// `check` says yes to it.
+pub fn honest_slices_are_shown<F, H, K, V, const N: usize>()
+where
+    F: Graftable + PendingOf<H::Digest>,
+    H: HashFunction,
+    K: FixedKey,
+    V: FixedValue,
+    ensures { (history : History) (start stop : ℕ) → IsChunkWidth N → length (log_of history) ≤ 2 ^ 62 → start < stop
+        → stop ≤ length (log_of history)
+        → (let setting = setting_of_width F.merge_rule H.hash_of N in
+        let terms = terms F.merge_rule H.hash_of N H.Digest.SIZE F.is_pending F.pending_encoding (K.after tt)
+        (V.after tt) K.SIZE V.SIZE in
+        let operations = take (stop - start) (drop start (log_of history)) in
+        Shows terms (has_slice start operations) (root_of_history setting K.SIZE V.SIZE history)
+        (honest_slice_bytes F.pending_encoding setting K.SIZE V.SIZE history start stop)) }
+{
+    honest_digests_are_few::<F>();
+    built_proofs_lead_to_the_root::<F>();
+    honest_witnesses_lead_to_the_root();
 }
 
 /// Where bytes show a key's value under the root of a history, the key has it in the latest state, or the strings hashed
@@ -110,6 +177,69 @@ where
 {
     verified_operations_are_active_or_strings_collide::<F>();
 }
+
+/// Where bytes show under the root of a history that operations stand from a location on and are active as these bits
+/// say, they stand there in the log and are so, or strings collide.
+pub fn shown_ranges_are_true_or_strings_collide<F, H, K, V, const N: usize>()
+where
+    F: Graftable + PendingOf<H::Digest>,
+    H: HashFunction,
+    K: FixedKey,
+    V: FixedValue,
+    ensures { (history : History) (start : ℕ) (operations : List Operation) (active : List Bool) (bytes : List ℕ)
+        → H.Digest.SIZE ≡ 32 → IsChunkWidth N → AreReadAgain (K.after tt) (V.after tt) K.SIZE V.SIZE (log_of history)
+        → AreReadAgain (K.after tt) (V.after tt) K.SIZE V.SIZE operations → length (log_of history) ≤ 2 ^ 62
+        → (let setting = setting_of_width F.merge_rule H.hash_of N in
+        let terms = terms F.merge_rule H.hash_of N H.Digest.SIZE F.is_pending F.pending_encoding (K.after tt)
+        (V.after tt) K.SIZE V.SIZE in
+        let claim = has_range start operations active in
+        let root = root_of_history setting K.SIZE V.SIZE history in
+        (shown : Shows terms claim root bytes) → IsTrueOf claim history
+        ⊎ Collision H.hash_of (hashed_strings setting K.SIZE V.SIZE history)
+        (rebuilt_strings setting terms claim root bytes shown)) }
+{
+    verified_ranges_are_the_states_or_strings_collide::<F>();
+}
+
+/// Where bytes show under the root of a history that operations stand from a location on, they stand there in the log,
+/// or strings collide.
+pub fn shown_slices_are_true_or_strings_collide<F, H, K, V, const N: usize>()
+where
+    F: Graftable + PendingOf<H::Digest>,
+    H: HashFunction,
+    K: FixedKey,
+    V: FixedValue,
+    ensures { (history : History) (start : ℕ) (operations : List Operation) (bytes : List ℕ) → H.Digest.SIZE ≡ 32
+        → AreReadAgain (K.after tt) (V.after tt) K.SIZE V.SIZE (log_of history)
+        → AreReadAgain (K.after tt) (V.after tt) K.SIZE V.SIZE operations → length (log_of history) ≤ 2 ^ 62
+        → (let setting = setting_of_width F.merge_rule H.hash_of N in
+        let terms = terms F.merge_rule H.hash_of N H.Digest.SIZE F.is_pending F.pending_encoding (K.after tt)
+        (V.after tt) K.SIZE V.SIZE in
+        let claim = has_slice start operations in
+        let root = root_of_history setting K.SIZE V.SIZE history in
+        (shown : Shows terms claim root bytes) → IsTrueOf claim history
+        ⊎ Collision H.hash_of (hashed_strings setting K.SIZE V.SIZE history)
+        (rebuilt_strings setting terms claim root bytes shown)) }
+{
+    witnessed_roots_are_the_states_or_strings_collide();
+}
+
+/// No bytes show a claim of a range or of a slice that names no operation: so `check` says no to it.
+pub fn claims_without_operations_are_not_shown<F, H, K, V, const N: usize>()
+where
+    F: Graftable + PendingOf<H::Digest>,
+    H: HashFunction,
+    K: FixedKey,
+    V: FixedValue,
+    ensures range { (start : ℕ) (active : List Bool) (root bytes : List ℕ)
+        → (let terms = terms F.merge_rule H.hash_of N H.Digest.SIZE F.is_pending F.pending_encoding (K.after tt)
+        (V.after tt) K.SIZE V.SIZE in
+        Shows terms (has_range start [] active) root bytes → ⊥) }
+    ensures slice { (start : ℕ) (root bytes : List ℕ)
+        → (let terms = terms F.merge_rule H.hash_of N H.Digest.SIZE F.is_pending F.pending_encoding (K.after tt)
+        (V.after tt) K.SIZE V.SIZE in
+        Shows terms (has_slice start []) root bytes → ⊥) }
+{}
 
 /// Bytes that show a key's value under two roots are rebuilt to the same strings: the bytes and the claim tell which.
 pub fn rebuilt_strings_are_of_the_bytes<F, H, K, V, const N: usize>()

@@ -4,8 +4,11 @@
 
 pub mod checking;
 pub mod claim;
+mod encoded;
 pub mod laws;
+mod range;
 mod reading;
+mod slice;
 pub mod width;
 
 pub use checking::check;

@@ -17,7 +17,7 @@ use state_proofs::operation::Proof;
 use std::alloc::{AllocError, Global};
 
 // That bytes are no proof is known, where they were not read, unless it was out of memory.
-fn unread(e: Error) -> Result<(), AllocError>
+pub(crate) fn unread(e: Error) -> Result<(), AllocError>
     ensures ok { OnOk result (e ≡ Error.Memory → ⊥) }
     ensures err { IsErr result ↔ (e ≡ Error.Memory) }
 {

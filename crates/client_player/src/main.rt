@@ -36,6 +36,37 @@ fn operation<F: Graftable>(
     }
 }
 
+// The operations that these digits encode, joined by commas, or none (`-`).
+fn operations<F: Graftable>(
+    alloc: Global,
+    words: &str,
+) -> Result<Vec<OrderedOperation<F, Name, u64>>, Unanswered> {
+    let mut found = Vec::new(alloc);
+    if words == "-" {
+        return Ok(found);
+    }
+    for digits in words.split(',') {
+        found.push(operation(alloc, digits)?)?;
+    }
+    Ok(found)
+}
+
+// The bits of these digits, 1 or 0 each, or none (`-`).
+fn bits(alloc: Global, digits: &str) -> Result<Vec<bool>, Unanswered> {
+    let mut found = Vec::new(alloc);
+    if digits == "-" {
+        return Ok(found);
+    }
+    for digit in digits.chars() {
+        match digit {
+            '0' => found.push(false)?,
+            '1' => found.push(true)?,
+            _ => return Err(Unanswered::BadLine),
+        }
+    }
+    Ok(found)
+}
+
 // The claim of these words.
 fn claim<F: Graftable>(alloc: Global, words: &[&str]) -> Result<Claim<F, Name, u64>, Unanswered> {
     match words {
@@ -47,6 +78,15 @@ fn claim<F: Graftable>(alloc: Global, words: &[&str]) -> Result<Claim<F, Name, u
         ["active", location, encoding] => Ok(Claim::Active {
             location: location.parse()?,
             operation: operation(alloc, encoding)?,
+        }),
+        ["range", start, encodings, active] => Ok(Claim::Range {
+            start: start.parse()?,
+            operations: operations(alloc, encodings)?,
+            active: bits(alloc, active)?,
+        }),
+        ["slice", start, encodings] => Ok(Claim::Slice {
+            start: start.parse()?,
+            operations: operations(alloc, encodings)?,
         }),
         _ => Err(Unanswered::BadLine),
     }

@@ -3,7 +3,7 @@ use Rattle.std.specs.List.{AllByRecursion}
 use Rattle.merkle_forest.specs.Codec.{Outcome}
 use Rattle.state_ops.specs.Operation.{Operation, delete, update, ordered, commit_floor, fixed_encoding}
 use Rattle.state_ops.specs.Reading.{HasEncoding, IsField, operation_at}
-use Rattle.auth_store_parts.specs.History.{Commit, History, log_of}
+use Rattle.auth_store_parts.specs.History.{History, log_of}
 use Rattle.auth_store_client.specs.Fields.{HasEntries, HasFields}
 use Rattle.auth_store_client.specs.Laws.Fields.{HasOwn, own_log}
 use Rattle.auth_store_client.specs.Soundness.{AreReadAgain, HasSizes}

@@ -1,0 +1,160 @@
+-- The parts of an honest proof over several operations are within the limits of one.
+use Rattle.std.proofs.Common.{◌≡◌, ℕ, suc, ◌+◌, ◌-◌, ◌*◌, ◌/◌, ◌^◌, ◌<◌, ◌≤◌, eqb, ltb, cond, Bool, true, false, List, [], ◌++◌, length, take, drop, Option, Some, None, refl, subst, arith}
+use Rattle.std.specs.Prelude.{IfSome, slice_index_or}
+use Rattle.std.proofs.lemmas.Bool.{ltb-true}
+use Rattle.merkle_forest.specs.declared.bagging.Bagging.{Bagging}
+use Rattle.merkle_forest.specs.declared.bagging.Bagging.TheVariants.{BackwardFold}
+use Rattle.merkle_forest.specs.Forest.{leaf, branch, height, leaf_count, Rule, forest_of}
+use Rattle.merkle_forest.specs.Laws.ForestGrowth.{size-twice, leaves-forest_of}
+use Rattle.merkle_forest.specs.Hashing.{Hash, node_string, root_of}
+use Rattle.merkle_forest.specs.Nodes.{nodes_of_height}
+use Rattle.merkle_forest.specs.Perfect.{IsPairing}
+use Rattle.merkle_forest.specs.Trees.{located, tree_root}
+use Rattle.merkle_core.specs.Ranges.{Digests, range_digests}
+use Rattle.merkle_core.specs.Laws.Sized.{AreSized, IsSized, Gives, range_sized}
+use Rattle.state_proofs.specs.Bits.{is_zero}
+use Rattle.state_proofs.specs.Canonical.{Setting, State, chunk_bits, full_chunks, next_bit, chunk, forest, peaks, grafted_digests, grafted_inactive, operations_root, pending_digest, partial_digest}
+use Rattle.state_proofs.specs.Grafting.{grafted, grafted_digest}
+use Rattle.state_proofs.specs.Honest.{grafted_range, honest_range}
+use Rattle.state_proofs.specs.Encoded.{FitsRange}
+use Rattle.state_proofs.specs.Laws.ChunkCounts.{inactive-few}
+use Rattle.state_proofs.specs.Laws.Heights.{some_height}
+use Rattle.auth_store_client.proofs.FewDigests.{range_few}
+
+graft_sized : (size : ℕ) (hash : Hash) (chunk own : List ℕ) (test : Bool) → IsSized size hash → length own ≡ size
+    → length (cond test own (hash (chunk ++ own))) ≡ size
+graft_sized size hash chunk own true sized is = is
+graft_sized size hash chunk own false sized is = sized (chunk ++ own)
+
+level_sized : (size : ℕ) (hash : Hash) (chunk own : List ℕ) (test : Bool) → IsSized size hash → length own ≡ size
+    → length (cond test (grafted hash chunk own) own) ≡ size
+level_sized size hash chunk own true sized is = graft_sized size hash chunk own (is_zero chunk) sized is
+level_sized size hash chunk own false sized is = is
+
+grafted_sized : (size : ℕ) (hash : Hash) (grafting_height bits : ℕ) (chunks elements : List (List ℕ))
+    → IsSized size hash → Gives size (grafted_digest hash grafting_height bits chunks elements)
+grafted_sized size hash grafting_height bits chunks elements sized at (leaf p) = sized _
+grafted_sized size hash grafting_height bits chunks elements sized at (branch p left right) =
+    let own : List ℕ = hash (node_string p (grafted_digest hash grafting_height bits chunks elements at left)
+    (grafted_digest hash grafting_height bits chunks elements (at + leaf_count left) right)) in
+    level_sized size hash (slice_index_or chunks (at / bits) []) own (eqb (suc (height left)) grafting_height) sized
+    (sized _)
+
+pub range_of_size : (size : ℕ) (setting : Setting) (state : State) (start stop : ℕ) → IsSized size setting.hash
+    → AreSized size (grafted_range setting state start stop)
+unfolding grafted_range grafted_digests
+range_of_size size setting state start stop sized =
+    range_sized size setting.hash (grafted_digests setting state) BackwardFold start stop
+    (take (grafted_inactive setting state) (peaks setting state))
+    (drop (grafted_inactive setting state) (peaks setting state)) sized
+    (grafted_sized size setting.hash setting.grafting_height (chunk_bits setting) _ state.operations sized)
+
+pub root_of_size : (size : ℕ) (setting : Setting) (state : State) → IsSized size setting.hash
+    → length (operations_root setting state) ≡ size
+unfolding operations_root tree_root root_of
+root_of_size size setting state sized = sized _
+
+partial_case : (size : ℕ) (hash : Hash) (bytes : List ℕ) (test : Bool) → IsSized size hash
+    → IfSome (cond test None (Some (hash bytes))) (λ digest. length digest ≡ size)
+partial_case size hash bytes true sized = tt
+partial_case size hash bytes false sized = sized bytes
+
+pub partial_of_size : (size : ℕ) (setting : Setting) (state : State) → IsSized size setting.hash
+    → IfSome (partial_digest setting state) (λ digest. length digest ≡ size)
+unfolding partial_digest
+partial_of_size size setting state sized =
+    partial_case size setting.hash (chunk setting state (full_chunks setting state))
+    (eqb (next_bit setting state) 0) sized
+
+pending_case : (P : Option (List ℕ) → Type 0) (size : ℕ) (hash : Hash) (bytes : List ℕ) (Fewer : Type 0) (test : Bool)
+    → IsSized size hash → (test ≡ true → Fewer) → P None
+    → ((digest : List ℕ) → length digest ≡ size → Fewer → P (Some digest))
+    → P (cond test (Some (hash bytes)) None)
+pending_case P size hash bytes Fewer true sized fewer none some = some (hash bytes) (sized bytes) (fewer refl)
+pending_case P size hash bytes Fewer false sized fewer none some = none
+
+-- what holds of no digest, and of any digest where some full chunk has no node, holds of the pending digest
+pub pending_holds : (P : Option (List ℕ) → Type 0) (size : ℕ) (setting : Setting) (state : State)
+    → IsSized size setting.hash → P None
+    → ((digest : List ℕ) → length digest ≡ size
+    → nodes_of_height setting.grafting_height (forest setting state) < full_chunks setting state → P (Some digest))
+    → P (pending_digest setting state)
+unfolding pending_digest
+pending_holds P size setting state sized none some =
+    let graftable : ℕ = nodes_of_height setting.grafting_height (forest setting state) in
+    pending_case P size setting.hash (chunk setting state graftable) (graftable < full_chunks setting state)
+    (ltb graftable (full_chunks setting state)) sized (ltb-true graftable (full_chunks setting state)) none some
+
+pub inactive_fits : (setting : Setting) (state : State) → IsPairing setting.rule → length state.operations ≤ 2 ^ 62
+    → grafted_inactive setting state < 2 ^ 64
+inactive_fits setting state pairs few =
+    omega (
+      arith,
+      inactive-few setting state,
+      size-twice (forest setting state),
+      leaves-forest_of setting.rule pairs
+          (length state.operations),
+      few,
+    )
+
+-- the law that honest digests are few
+abbrev pub AreFew : Rule → Type 0
+AreFew rule = (hash : Hash) (bagging : Bagging) (digest : Digests) (leaf_total inactive location : ℕ)
+    → leaf_total ≤ 2 ^ 62 → location < leaf_total → inactive ≤ length (forest_of rule leaf_total)
+    → length (range_digests hash digest bagging location (location + 1)
+    (take inactive (located (forest_of rule leaf_total))) (drop inactive (located (forest_of rule leaf_total)))) ≤ 122
+
+pub range_is_few : (setting : Setting) (state : State) (start stop : ℕ) → AreFew setting.rule
+    → length state.operations ≤ 2 ^ 62 → start < stop → stop ≤ length state.operations
+    → length (grafted_range setting state start stop) ≤ 244
+unfolding grafted_range
+range_is_few setting state start stop law few some within =
+    let inactive : ℕ = grafted_inactive setting state in
+    let total : ℕ = length state.operations in
+    let last : ℕ = stop - 1 in
+    let end : last + 1 ≡ stop = omega (arith, some) in
+    omega (
+      arith,
+      range_few (grafted_digests setting state) setting.hash start stop (take inactive (peaks setting state))
+          (drop inactive (peaks setting state)) some,
+      law setting.hash BackwardFold (grafted_digests setting state) total inactive start few (omega (arith, some, within)) (inactive-few setting state),
+      subst (λ (n : ℕ). length (range_digests setting.hash (grafted_digests setting state) BackwardFold last n
+          (take inactive (peaks setting state)) (drop inactive (peaks setting state))) ≤ 122) end
+          (law setting.hash BackwardFold (grafted_digests setting state) total inactive last few (omega (arith, some, within)) (inactive-few setting state)),
+    )
+
+-- the law that a proof may hold a digest where some full chunk has no node
+abbrev pub MayHold : Rule → (Option (List ℕ) → Type 0) → ℕ → Type 0
+MayHold rule IsPending size = (leaf_total height : ℕ) (digest : List ℕ) → leaf_total ≤ 2 ^ 62 → 0 < height → height ≤ 62
+    → nodes_of_height height (forest_of rule leaf_total) < leaf_total / 2 ^ height → length digest ≡ size
+    → IsPending (Some digest)
+
+-- so a proof may hold the pending digest
+pub may_hold : (setting : Setting) (state : State) (size : ℕ) (IsPending : Option (List ℕ) → Type 0)
+    → IsSized size setting.hash
+    → IsPending None → MayHold setting.rule IsPending size → 8 * setting.width ≡ 2 ^ setting.grafting_height
+    → setting.grafting_height ≤ 62
+    → length state.operations ≤ 2 ^ 62 → IsPending (pending_digest setting state)
+may_hold setting state size IsPending sized none held whole low few =
+    pending_holds IsPending size setting state sized none (λ digest is more.
+    held (length state.operations) setting.grafting_height digest few
+    (some_height setting.width setting.grafting_height whole) low
+    (subst (λ (bits : ℕ). nodes_of_height setting.grafting_height
+    (forest setting state) < length state.operations / bits) whole more) is)
+
+-- the honest parts are within the limits of a proof over several operations
+pub honest_fits : (setting : Setting) (state : State) (start stop size : ℕ) (IsPending : Option (List ℕ) → Type 0)
+    → IsPairing setting.rule
+    → IsSized size setting.hash → AreFew setting.rule → IsPending None → MayHold setting.rule IsPending size
+    → 8 * setting.width ≡ 2 ^ setting.grafting_height → setting.grafting_height ≤ 62
+    → length state.operations ≤ 2 ^ 62 → start < stop → stop ≤ length state.operations
+    → FitsRange IsPending size 244 (honest_range setting state start stop)
+honest_fits setting state start stop size IsPending pairs sized law none held whole low few some within = record {
+  leaves = few;
+  inactive = inactive_fits setting state pairs few;
+  few = range_is_few setting state start stop law few some within;
+  digests = range_of_size size setting state start stop sized;
+  pending = may_hold setting state size IsPending sized none held whole low few;
+  partial = partial_of_size size setting state sized;
+  operations_root = root_of_size size setting state sized;
+}
