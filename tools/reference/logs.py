@@ -388,7 +388,9 @@ def parsed_line(line):
     return None
 
 
-REFUSALS = {"S6": "S6: the store has failed", "S7": "S7: past the floor", "memory": "out of memory", "read": "the script cannot be read"}
+REFUSALS = {"S6": "S6: the store has failed", "S7": "S7: past the floor", "S8": "S8: the operation is not active",
+            "S9": "S9: past the end of the log", "S10": "S10: before the pruned chunks", "S11": "S11: the range is empty",
+            "memory": "out of memory", "read": "the script cannot be read"}
 
 
 def of_text(words):

@@ -4,7 +4,7 @@ proofs that are made and checked against it, and what builders of proofs refuse.
 import forest
 from forest import sha256
 from proof_bitmaps import chunk_of
-from proof_codec import Merkle, Operation, Range
+from proof_codec import Merkle, Operation, Range, option, varint
 from proof_trees import Malformed, Rebuilt, peaks_of, plain_branch, plain_leaf, planned, range_digests
 
 MAX_LEAVES = forest.MAX_LEAVES
@@ -159,13 +159,36 @@ class State:
         operations, grafted, pending, partial = self.parts()
         return sealed(operations, grafted, pending, len(self.operations) % (8 * self.width), partial)
 
-    def honest(self, location):
+    def honest_range(self, start, stop):
+        """The proof over a range."""
         operations, _, pending, partial = self.parts()
         count = len(self.operations)
         peaks = peaks_of(self.family, count)
-        digests = range_digests(peaks, self.joined, location, location + 1, self.aligned(), "backward")
-        proof = Range(Merkle(count, self.aligned(), digests), pending, partial, operations)
-        return Operation(location, self.chunks()[location // (8 * self.width)], proof)
+        digests = range_digests(peaks, self.joined, start, stop, self.aligned(), "backward")
+        return Range(Merkle(count, self.aligned(), digests), pending, partial, operations)
+
+    def honest(self, location):
+        """The proof of the operation at a location."""
+        return Operation(location, self.chunks()[location // (8 * self.width)], self.honest_range(location, location + 1))
+
+    def range_bytes(self, start, stop):
+        """The bytes that prove the operations of a range and their bits: the proof, and the chunks over them."""
+        bits = 8 * self.width
+        chunks = self.chunks()[start // bits : (stop - 1) // bits + 1]
+        return self.honest_range(start, stop).written(self.family) + b"".join(chunks)
+
+    def witness(self):
+        """What leads from the root of the operations to the canonical one, as bytes."""
+        _, grafted, pending, partial = self.parts()
+        said = grafted + (option(pending) if self.family == "mmb" else b"")
+        return said + (b"\0" if partial is None else b"\1" + varint(len(self.operations) % (8 * self.width)) + partial)
+
+    def slice_bytes(self, start, stop):
+        """The bytes that prove that the log has the operations of a range: the witness, and the proof in their tree."""
+        count, tree = len(self.operations), self.tree()
+        inactive = forest.inactive_peaks(forest.grow(self.family, count), self.floor)
+        digests = range_digests(peaks_of(self.family, count), tree.digest, start, stop, inactive, "backward")
+        return self.witness() + Merkle(count, inactive, digests).written()
 
     # Both trees.
 

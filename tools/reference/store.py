@@ -12,6 +12,7 @@ from copy import deepcopy
 from zlib import crc32
 
 import histories
+from proof_states import State
 from devices import PIECE, Device, Refused, Settings, recovered
 from histories import RECORD, number as encoded_number
 
@@ -434,6 +435,27 @@ class Store:
     def prove(self, name):
         return proof_text(*self.snapshot().proof(name))
 
+    def proved(self, question):
+        """What is told of operations by their locations, with the bytes that prove it."""
+        kind, start, stop = question
+        log, (family, width) = self.log(), self.form
+        if start >= stop:
+            raise StoreRefused("S11")
+        if stop > len(log):
+            raise StoreRefused("S9")
+        if start < 8 * width * self.pruned:
+            raise StoreRefused("S10")
+        state = State(family, width)
+        state.operations, state.bits = [histories.encoded(operation) for operation in log], histories.bits(log)
+        state.floor = log[-1][2]
+        if kind == "operation" and not state.bits[start]:
+            raise StoreRefused("S8")
+        told = [", ".join(map(histories.text, log[start:stop]))]
+        if kind == "range":
+            told.append("".join(str(int(bit)) for bit in state.bits[start:stop]))
+        made = {"operation": lambda *_: state.honest(start).written(family), "range": state.range_bytes, "log": state.slice_bytes}
+        return "; ".join([*told, made[kind](start, stop).hex()])
+
     def prune(self, location):
         chunks = self.snapshot().pruned(self.pruned, location)
         if chunks is None:
@@ -461,6 +483,8 @@ class Store:
                     return self.prune(location)
                 case ["prove", name]:
                     return self.prove(name)
+                case ["prove", *question]:
+                    return self.proved(question)
         except Refused as refused:
             raise of_device(refused) from None
         raise AssertionError(step)
@@ -620,6 +644,10 @@ class Stores:
                 return ["commit", batch, metadata]
             case ["get" | "prove" as word, name]:
                 return [word, key(name)]
+            case ["prove", "operation", at]:
+                return ["prove", "operation", number(at), number(at) + 1]
+            case ["prove", "range" | "log" as kind, start, stop]:
+                return ["prove", kind, number(start), number(stop)]
             case ["prune", location]:
                 return ["prune", number(location)]
             case ["cut", calls]:

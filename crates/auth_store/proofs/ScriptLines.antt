@@ -77,6 +77,9 @@ set_by steps.Floor now = refl
 set_by steps.Len now = refl
 set_by (steps.Prune location) now = refl
 set_by (steps.ProveKey key) now = refl
+set_by (steps.ProveOperation location) now = refl
+set_by (steps.ProveRange start stop) now = refl
+set_by (steps.ProveLog start stop) now = refl
 set_by steps.Close now = refl
 set_by steps.Crash now = refl
 set_by (steps.Config config) now = refl
@@ -129,8 +132,8 @@ goes_by family rule pending merges encodes old new step answer stepped sized gro
 
 -- ---- what the code answers
 
-module _ {D V : Type 0} (digest : D → List ℕ) (encoding : V → List ℕ) where
-  pub not_opened : (answer : code.Answer D V) → (answer ≡ answers.Opened → ⊥) → is_opened (meaning_of digest encoding answer) ≡ false
+module _ {F D K V : Type 0} (digest : D → List ℕ) (key : K → List ℕ) (encoding : V → List ℕ) where
+  pub not_opened : (answer : code.Answer F D K V) → (answer ≡ answers.Opened → ⊥) → is_opened (meaning_of digest key encoding answer) ≡ false
   not_opened answers.Opened not = absurd (not refl)
   not_opened (answers.Committed d) not = refl
   not_opened (answers.Value v) not = refl
@@ -140,6 +143,9 @@ module _ {D V : Type 0} (digest : D → List ℕ) (encoding : V → List ℕ) wh
   not_opened (answers.Len n) not = refl
   not_opened (answers.Pruned n) not = refl
   not_opened (answers.Proof p) not = refl
+  not_opened (answers.Operation p) not = refl
+  not_opened (answers.Range p) not = refl
+  not_opened (answers.Slice p) not = refl
   not_opened answers.Closed not = refl
   not_opened answers.Crashed not = refl
   not_opened answers.Set not = refl
@@ -147,8 +153,8 @@ module _ {D V : Type 0} (digest : D → List ℕ) (encoding : V → List ℕ) wh
   not_opened answers.NotOpen not = refl
   not_opened answers.StillOpen not = refl
 
-  pub not_committed : (answer : code.Answer D V) → ((d : D) → answer ≡ answers.Committed d → ⊥)
-      → is_root_of_commit (meaning_of digest encoding answer) ≡ false
+  pub not_committed : (answer : code.Answer F D K V) → ((d : D) → answer ≡ answers.Committed d → ⊥)
+      → is_root_of_commit (meaning_of digest key encoding answer) ≡ false
   not_committed answers.Opened not = refl
   not_committed (answers.Committed d) not = absurd (not d refl)
   not_committed (answers.Value v) not = refl
@@ -158,6 +164,9 @@ module _ {D V : Type 0} (digest : D → List ℕ) (encoding : V → List ℕ) wh
   not_committed (answers.Len n) not = refl
   not_committed (answers.Pruned n) not = refl
   not_committed (answers.Proof p) not = refl
+  not_committed (answers.Operation p) not = refl
+  not_committed (answers.Range p) not = refl
+  not_committed (answers.Slice p) not = refl
   not_committed answers.Closed not = refl
   not_committed answers.Crashed not = refl
   not_committed answers.Set not = refl
@@ -166,10 +175,10 @@ module _ {D V : Type 0} (digest : D → List ℕ) (encoding : V → List ℕ) wh
   not_committed answers.StillOpen not = refl
 
   -- an answer that is no root says itself, and nothing is kept
-  pub not_root : (answer : code.Answer D V) (found : KeyAnswer) (bytes : List ℕ) (kept : Option (List ℕ × List ℕ))
+  pub not_root : (answer : code.Answer F D K V) (found : KeyAnswer) (bytes : List ℕ) (kept : Option (List ℕ × List ℕ))
       → ((d : D) → answer ≡ answers.Root d → ⊥)
-      → (kept_after bytes (meaning_of digest encoding answer) kept ≡ kept)
-      × (found_line found (meaning_of digest encoding answer) ≡ answer_line (meaning_of digest encoding answer))
+      → (kept_after bytes (meaning_of digest key encoding answer) kept ≡ kept)
+      × (found_line found (meaning_of digest key encoding answer) ≡ answer_line (meaning_of digest key encoding answer))
   not_root (answers.Root d) found bytes kept not = absurd (not d refl)
   not_root answers.Opened found bytes kept not = (refl, refl)
   not_root (answers.Committed d) found bytes kept not = (refl, refl)
@@ -179,6 +188,9 @@ module _ {D V : Type 0} (digest : D → List ℕ) (encoding : V → List ℕ) wh
   not_root (answers.Len n) found bytes kept not = (refl, refl)
   not_root (answers.Pruned n) found bytes kept not = (refl, refl)
   not_root (answers.Proof p) found bytes kept not = (refl, refl)
+  not_root (answers.Operation p) found bytes kept not = (refl, refl)
+  not_root (answers.Range p) found bytes kept not = (refl, refl)
+  not_root (answers.Slice p) found bytes kept not = (refl, refl)
   not_root answers.Closed found bytes kept not = (refl, refl)
   not_root answers.Crashed found bytes kept not = (refl, refl)
   not_root answers.Set found bytes kept not = (refl, refl)

@@ -25,7 +25,7 @@ use Rattle.auth_store_log.specs.Records.{Format, format_of}
 use Rattle.auth_store_client.specs.Claims.{Claim, Terms, Shows, terms, has_value, is_absent}
 use Rattle.auth_store_ledger.specs.Proving.{KeyAnswer, proved_value, proved_absent}
 use Rattle.auth_store_session.specs.Machine.{Machine, Request, Answer, machine, is_opened, is_root_of_commit}
-use Rattle.auth_store_session.specs.Machine.{ask_open, ask_commit, ask_get, ask_root, ask_commits, ask_floor, ask_len, ask_prune, ask_proof}
+use Rattle.auth_store_session.specs.Machine.{ask_open, ask_commit, ask_get, ask_root, ask_commits, ask_floor, ask_len, ask_prune, ask_proof, of_key, key_is}
 use Rattle.auth_store_session.specs.Machine.{ask_close, ask_crash, ask_config, ask_cut}
 use Rattle.auth_store_session.specs.Machine.{value, root_is, commits_are, floor_is, len_is, pruned_to, proof, has_closed, has_crashed, is_set, refused}
 use Rattle.auth_store_session.specs.Refusals.{number_of}
@@ -205,9 +205,9 @@ abbrev pub kept_after : List ℕ → Answer → Option (List ℕ × List ℕ) �
 kept_after bytes (root_is digest) kept = Some (bytes, digest)
 kept_after bytes answer kept = kept
 
--- the proof in an answer
+-- the proof of a key in an answer
 abbrev pub proof_in : Answer → Option KeyAnswer
-proof_in (proof found) = Some found
+proof_in (proof (key_is found)) = Some found
 proof_in _ = None
 
 -- the line that says what a check answers: it is only refused where it is out of memory
@@ -256,10 +256,10 @@ Counts request is_done word exchanges printed =
 -- A proof is asked for, of the key's value or of its absence, and where it is answered the root besides, with which it is kept.
 abbrev pub Proves : Progress → List ℕ → List Exchange → Option (List ℕ) → Progress → Type 0
 Proves now key exchanges printed next =
-    ((answer : Answer) × (proof_in answer ≡ None) × (exchanges ≡ exchange (ask_proof key) answer ∷ []) × (next ≡ now)
+    ((answer : Answer) × (proof_in answer ≡ None) × (exchanges ≡ exchange (ask_proof (of_key key)) answer ∷ []) × (next ≡ now)
     × (printed ≡ option_map reported (answer_line answer)))
     ⊎ ((found : KeyAnswer) × (answer : Answer)
-    × (exchanges ≡ exchange (ask_proof key) (proof found) ∷ exchange ask_root answer ∷ [])
+    × (exchanges ≡ exchange (ask_proof (of_key key)) (proof (key_is found)) ∷ exchange ask_root answer ∷ [])
     × (next ≡ with_kept (kept_after (proof_bytes found) answer now.kept) now)
     × (printed ≡ option_map reported (found_line found answer)))
 

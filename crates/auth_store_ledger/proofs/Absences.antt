@@ -1,6 +1,7 @@
 -- What a store's proof of absence holds.
-use Rattle.std.proofs.Common.{◌≡◌, ℕ, ◌-◌, List, [], ◌∷◌, map, Option, None, Some, option_map, length, refl, ap, sym, ◌∙◌}
-use Rattle.std.proofs.lemmas.Option.{slice_get-map}
+use Rattle.std.proofs.Common.{◌≡◌, ℕ, ◌-◌, ◌<◌, inl, inr, List, [], ◌∷◌, map, Option, None, Some, option_map, length, refl, ap, sym, ◌∙◌}
+use Rattle.std.proofs.lemmas.Option.{slice_get-map, slice_get_past}
+use Rattle.std.proofs.lemmas.Bool.{cases_lt}
 use Rattle.std.specs.Prelude.{IsSome, slice_get, unwrap_or}
 use Rattle.state_ops.specs.Operation.{Operation}
 use Rattle.state_proofs.specs.Canonical.{Setting}
@@ -45,6 +46,14 @@ pub is_found : {X : Type 0} (fields : X → List ℕ × List ℕ) (found : Optio
     → option_map fields found ≡ there → (there ≡ None → ⊥) → IsSome found
 is_found fields None there is some = absurd (some (sym is))
 is_found fields (Some update) there is some = refl
+
+-- an update is found in the log
+pub update_within : (log : List Operation) (place : ℕ) (fields : List ℕ × List ℕ) → update_fields (slice_get log place) ≡ Some fields
+    → place < length log
+update_within log place fields is = elim (cases_lt place (length log)) [
+  | inl lt ↦ lt
+  | inr le ↦ absurd (let gone : ◌≡◌ {A = Option (List ℕ × List ℕ)} None (Some fields) = sym (ap update_fields (slice_get_past log place le)) ∙ is in cc)
+]
 
 -- with these fields
 pub fields_found : (value next other end : List ℕ) → ◌≡◌ {A = Option (List ℕ × List ℕ)} (Some (value, next)) (Some (other, end))

@@ -4,3 +4,7 @@ pub mod Places
 pub mod Written
 pub mod Absences
 pub mod Pruning
+pub mod Kept
+pub mod Commits
+pub mod Appends
+pub mod Ranges

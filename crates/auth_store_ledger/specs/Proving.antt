@@ -1,11 +1,16 @@
--- What a store answers where it is asked to prove a key, and when the client accepts it.
-use Rattle.std.specs.Prelude.{ℕ, List, Option, None, Some}
+-- What a store answers where it is asked for a proof, and when the client accepts what it answers of a key.
+use Rattle.std.specs.Prelude.{◌≡◌, ⊤, ℕ, ◌-◌, ◌*◌, nat_le, nat_lt, Bool, false, if◌then◌else◌, List, length, take, drop, slice_get, slice_index_or, Option, None, Some, Result, Ok, Err}
 use Rattle.state_proofs.specs.Canonical.{Setting}
 use Rattle.auth_store_parts.specs.Map.{value_at}
-use Rattle.auth_store_parts.specs.History.{History, latest_map}
+use Rattle.auth_store_parts.specs.History.{History, activity_bits, latest_map, log_of}
+use Rattle.state_ops.specs.Operation.{Operation}
 use Rattle.auth_store_client.specs.Claims.{Terms, Shows, has_value, is_absent}
-use Rattle.auth_store_client.specs.Proving.{honest_proof}
+use Rattle.auth_store_client.specs.Proving.{honest_proof, honest_operation, honest_range_bytes, honest_slice_bytes}
 use Rattle.auth_store_absence.specs.Absence.{honest_absence}
+use Rattle.auth_store_ledger.specs.declared.error.ProofError.{ProofError}
+use Rattle.auth_store_ledger.specs.declared.error.ProofError.TheVariants.{Unprovable as NoProof, Memory}
+use Rattle.auth_store_ledger.specs.declared.error.Unprovable.{Unprovable}
+use Rattle.auth_store_ledger.specs.declared.error.Unprovable.TheVariants.{EmptyRange, OutOfRange, Pruned, Inactive}
 
 -- a key's value with the bytes that prove it, or the bytes that prove that it is absent
 pub data KeyAnswer : Type 0 where
@@ -29,3 +34,94 @@ honest_answer pending setting key_size value_size history key =
 abbrev pub IsAccepted : Terms → List ℕ → List ℕ → KeyAnswer → Type 0
 IsAccepted terms root key (proved_value value bytes) = Shows terms (has_value key value) root bytes
 IsAccepted terms root key (proved_absent bytes) = Shows terms (is_absent key) root bytes
+
+-- ---- operations
+
+-- an operation with the bytes that prove it active
+pub record OperationAnswer : Type 0 where
+  pub operation : Operation
+  pub bytes : List ℕ
+
+-- operations with their activity bits, and the bytes that prove both
+pub record RangeAnswer : Type 0 where
+  pub operations : List Operation
+  pub active : List Bool
+  pub bytes : List ℕ
+
+-- operations with the bytes that prove that the log has them
+pub record SliceAnswer : Type 0 where
+  pub operations : List Operation
+  pub bytes : List ℕ
+
+-- what stands in a list from one place up to another
+abbrev pub between : {A : Type 0} → ℕ → ℕ → List A → List A
+between start stop list = take (stop - start) (drop start list)
+
+-- whether a location stands before so many chunks
+abbrev pub is_before_chunks : Setting → ℕ → ℕ → Bool
+is_before_chunks setting chunks location = nat_lt location (8 * setting.width * chunks)
+
+-- The answer where this operation stands at the location, or none, and so many chunks are pruned.
+abbrev pub answer_of_found : (Option (List ℕ) → List ℕ) → Setting → ℕ → ℕ → History → ℕ → ℕ → Option Operation
+    → Result OperationAnswer Unprovable
+answer_of_found pending setting key_size value_size history pruned location None = Err OutOfRange
+answer_of_found pending setting key_size value_size history pruned location (Some operation) =
+    if is_before_chunks setting pruned location then Err Pruned
+    else if slice_index_or (activity_bits (log_of history)) location false then Ok (record {
+      operation = operation;
+      bytes = honest_operation pending setting key_size value_size history location;
+    })
+    else Err Inactive
+
+-- The operation at a location of the log with its honest proof: past the log it is refused, then where its chunk is pruned, then where the
+-- operation is not active.
+abbrev pub answer_of_operation : (Option (List ℕ) → List ℕ) → Setting → ℕ → ℕ → History → ℕ → ℕ
+    → Result OperationAnswer Unprovable
+answer_of_operation pending setting key_size value_size history pruned location =
+    answer_of_found pending setting key_size value_size history pruned location (slice_get (log_of history) location)
+
+-- Why the operations from `start` up to `stop` are not proved: there are none, the log does not have them all, or so many pruned chunks are
+-- over the first.
+abbrev pub range_refusal : Setting → History → ℕ → ℕ → ℕ → Option Unprovable
+range_refusal setting history pruned start stop =
+    if nat_le stop start then Some EmptyRange
+    else if nat_lt (length (log_of history)) stop then Some OutOfRange
+    else if is_before_chunks setting pruned start then Some Pruned
+    else None
+
+-- this, or the refusal that there is
+abbrev pub unless_refused : {A : Type 0} → Option Unprovable → A → Result A Unprovable
+unless_refused None answer = Ok answer
+unless_refused (Some error) answer = Err error
+
+-- the operations from `start` up to `stop` with their activity bits and their honest proof
+abbrev pub range_answer : (Option (List ℕ) → List ℕ) → Setting → ℕ → ℕ → History → ℕ → ℕ → RangeAnswer
+range_answer pending setting key_size value_size history start stop = record {
+  operations = between start stop (log_of history);
+  active = between start stop (activity_bits (log_of history));
+  bytes = honest_range_bytes pending setting key_size value_size history start stop;
+}
+
+-- it, or why there is none
+abbrev pub answer_of_range : (Option (List ℕ) → List ℕ) → Setting → ℕ → ℕ → History → ℕ → ℕ → ℕ → Result RangeAnswer Unprovable
+answer_of_range pending setting key_size value_size history pruned start stop =
+    unless_refused (range_refusal setting history pruned start stop)
+    (range_answer pending setting key_size value_size history start stop)
+
+-- those operations with the honest proof that the log has them
+abbrev pub slice_answer : (Option (List ℕ) → List ℕ) → Setting → ℕ → ℕ → History → ℕ → ℕ → SliceAnswer
+slice_answer pending setting key_size value_size history start stop = record {
+  operations = between start stop (log_of history);
+  bytes = honest_slice_bytes pending setting key_size value_size history start stop;
+}
+
+-- it, or why there is none
+abbrev pub answer_of_slice : (Option (List ℕ) → List ℕ) → Setting → ℕ → ℕ → History → ℕ → ℕ → ℕ → Result SliceAnswer Unprovable
+answer_of_slice pending setting key_size value_size history pruned start stop =
+    unless_refused (range_refusal setting history pruned start stop)
+    (slice_answer pending setting key_size value_size history start stop)
+
+-- why there is no proof where this is the answer: it is that refusal, or memory was lacking
+abbrev pub IsUnproved : {A : Type 0} → Result A Unprovable → ProofError → Type 0
+IsUnproved answer (NoProof why) = answer ≡ Err why
+IsUnproved answer Memory = ⊤

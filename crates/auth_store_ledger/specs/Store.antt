@@ -1,11 +1,12 @@
 -- What a ledger keeps of a history, and what of it may be pruned.
 use Rattle.std.specs.Prelude.{◌≡◌, ℕ, ◌*◌, ◌/◌, ◌^◌, ◌≤◌, ◌+◌, ⊤, if◌then◌else◌, List, [], ◌∷◌, length, slice_get, Some}
 use Rattle.state_ops.specs.Operation.{Operation, update, ordered}
-use Rattle.state_proofs.specs.Canonical.{Setting, canonical_root}
+use Rattle.state_proofs.specs.Canonical.{Setting}
+use Rattle.state_current.specs.Kept.{Kept, StandsFor}
 use Rattle.state_current.specs.Settled.{IsSettled, IsGreatestSettled}
 use Rattle.auth_store_log.specs.Records.{Format, FloorFits, IsRecorded}
-use Rattle.auth_store_ledger.specs.Map.{value_at}
-use Rattle.auth_store_ledger.specs.History.{History, AreStates, is_commit, latest_map, last_floor, log_of, history_of}
+use Rattle.auth_store_ledger.specs.Map.{Map, value_at}
+use Rattle.auth_store_ledger.specs.History.{History, AreStates, IsState, batch_operations, history_of, is_commit, latest_map, log_of, replayed}
 pub use Rattle.auth_store_client.specs.States.{is_chunk_width, IsChunkWidth, grafting_height, setting_of_width, encodings, state_of_log, floor_of, state_of_history, root_of_history, commit_after}
 
 -- so many chunks of a history's log are settled: its trees may be pruned of them
@@ -18,15 +19,25 @@ abbrev pub IsPrunedUpTo : Setting → History → ℕ → ℕ → ℕ → Type 0
 IsPrunedUpTo setting history before location after =
     IsGreatestSettled setting.rule setting.grafting_height (length (log_of history)) before (location / (8 * setting.width)) after
 
--- what a ledger keeps of a history: its log, the number of commits, the last floor and the root
-pub record Keeps (setting : Setting) (key value : ℕ) (log : List Operation) (count last : ℕ) (digest : List ℕ) :
-    Type 0 where
+-- what is kept of a log beside its operations stands for the log's state, and nothing of it is pruned
+pub record IsKept (setting : Setting) (key value : ℕ) (log : List Operation) (kept : Kept) : Type 0 where
+  pub leaves : kept.operations.leaves ≡ length log
+  pub unpruned : kept.bits.pruned ≡ 0
+  pub stands : StandsFor setting (state_of_log key value log) kept
+
+-- what a ledger keeps of a history: its log, the number of commits, and what is kept of the log
+pub record Keeps (setting : Setting) (key value : ℕ) (log : List Operation) (count : ℕ) (kept : Kept) : Type 0 where
   pub states : AreStates (history_of log)
   pub whole : log ≡ log_of (history_of log)
   pub commits : count ≡ length (history_of log)
-  pub floor : last ≡ last_floor log
   pub few : length log ≤ 2 ^ 62
-  pub root : digest ≡ canonical_root setting (state_of_log key value log)
+  pub current : IsKept setting key value log kept
+
+-- the operations lead from the state that a log leads to to another one, as those of a batch do
+pub record IsBatch (log operations : List Operation) : Type 0 where
+  pub after : Map
+  pub state : IsState after
+  pub are : operations ≡ batch_operations (replayed [] log) after
 
 -- The update that gives the key its value in the latest state stands at this place of the history's log.
 pub record HasValueAt (key : List ℕ) (history : History) (index : ℕ) : Type 0 where

@@ -1,6 +1,6 @@
 //! What a store knows of its history, in memory.
 
-ghost use Rattle.std.specs.Prelude.{◌≡◌, ◌<◌, ◌≤◌, ◌^◌, ◌⊎◌, ◌++◌, length, option_map, slice_get, Ok, Some, None};
+ghost use Rattle.std.specs.Prelude.{◌≡◌, ◌+◌, ◌<◌, ◌≤◌, ◌^◌, ◌⊎◌, ◌++◌, length, option_map, slice_get, Ok, Some, None};
 ghost use Rattle.std.specs.Prelude.{IfOk, IsOkAnd, IfErr, OnOk, OnErr, MatchOption};
 ghost use Rattle.state_ops.specs.Operation.{meaning_of};
 ghost use Rattle.auth_store_ledger.specs.Batch as words;
@@ -8,54 +8,55 @@ ghost use Rattle.auth_store_ledger.specs.History as spec;
 ghost use Rattle.auth_store_ledger.specs.Map.{value_at};
 ghost use Rattle.auth_store_parts.specs.Places.{places_of};
 ghost use Rattle.auth_store_log.specs.Records.{format_of, log_bytes, AreRecorded};
-ghost use Rattle.auth_store_ledger.specs.Store.{IsChunkWidth, Keeps, AreWritten, HasValueAt, commit_count};
+ghost use Rattle.auth_store_ledger.specs.Store.{IsChunkWidth, IsKept, Keeps, AreWritten, HasValueAt, commit_count};
 ghost use Rattle.auth_store_ledger.specs.Store.{setting_of_width, floor_of, root_of_history, commit_after};
 
 mod absence;
+mod between;
 pub mod commit;
+pub mod kept;
 pub mod laws;
 pub mod log;
 pub mod prove;
 mod pruning;
-pub mod root;
+pub mod ranges;
 
 use crate::batch::Batch;
 use crate::error::LedgerError;
-use crate::history;
 use auth_store_log::PlacedLog;
 use auth_store_log::laws::a_log_has_floors_within;
-use commit::{Committed, append_commit};
-use log::Log;
-use merkle_forest::{Family, HashFunction};
+use commit::{Appended, as_locations, bits_of, changes_of, next_floor, places_taken};
+use kept::{grown_by, joined, kept_of_log};
+use log::{Log, encodings_of};
+use merkle_forest::{Family, Graftable, HashFunction, Location};
 use prove::update_at;
-use root::root_of_log;
+use state_current::Current;
 use state_ops::{FixedKey, FixedValue, Operation, OrderedOperation};
 use std::alloc::Global;
-use std::marker::{Model, PhantomData};
+use std::marker::Model;
 
 /// The greatest number of operations in a log: 2^62.
 pub const MAX_OPERATIONS: u64 = 0x4000_0000_0000_0000;
 
 /// A history of a store of keys `K` and values `V`, whose root is hashed by `H` over trees of the family `F` and over
-/// chunks of `N` bytes. Its contracts see it as the history (own).
+/// chunks of `N` bytes. Trees, bits and floor are kept in step with the log, so that a commit takes what its batch takes,
+/// and no root or proof is made of the whole log anew. Its contracts see it as the history (own).
 #[derive(Drop)]
-pub struct Ledger<F: Family, H: HashFunction, K: FixedKey, V: FixedValue, const N: usize> {
+pub struct Ledger<F: Graftable, H: HashFunction, K: FixedKey, V: FixedValue, const N: usize> {
     alloc: Global,
     log: Log<F, K, V>,
     commits: u64,
-    floor: u64,
-    root: H::Digest,
-    family: PhantomData<F>,
+    current: Current<F, H, N>,
 }
 
-impl<F: Family, H: HashFunction, K: FixedKey, V: FixedValue, const N: usize> Model
+impl<F: Graftable, H: HashFunction, K: FixedKey, V: FixedValue, const N: usize> Model
     for Ledger<F, H, K, V, N> {
     ghost Value = { spec.History };
 
     ghost view = { λ s. spec.history_of s.log };
 
-    ghost invariant = { λ s. IsChunkWidth N × Keeps (setting_of_width F.merge_rule H.hash_of N) K.SIZE V.SIZE
-        s.log s.commits s.floor (H.Digest.encoding s.root)
+    ghost invariant = { λ s. IsChunkWidth N
+        × Keeps (setting_of_width F.merge_rule H.hash_of N) K.SIZE V.SIZE s.log s.commits s.current
         × AreWritten (format_of (K.after tt) (V.after tt) K.SIZE V.SIZE) s.log };
 }
 
@@ -110,7 +111,13 @@ fn floor_of<F: Family, K: FixedKey, V: FixedValue>(operations: &[OrderedOperatio
     floor
 }
 
-impl<F: Family, H: HashFunction, K: FixedKey, V: FixedValue, const N: usize> Ledger<F, H, K, V, N> {
+impl<F: Graftable, H: HashFunction, K: FixedKey, V: FixedValue, const N: usize> Ledger<
+    F,
+    H,
+    K,
+    V,
+    N,
+> {
     /// The history whose log this is. It is refused where the log has more than 2^62 operations, or out of memory.
     pub fn of(alloc: Global, log: PlacedLog<F, K, V>) -> Result<Ledger<F, H, K, V, N>, LedgerError>
         requires width { IsChunkWidth N }
@@ -129,14 +136,54 @@ impl<F: Family, H: HashFunction, K: FixedKey, V: FixedValue, const N: usize> Led
         let commits = commits_of(&operations);
         let floor = floor_of(&operations);
         let log = Log::of(alloc, operations, places);
-        let root = root_of_log::<F, H, K, V, N>(alloc, &log, floor)?;
+        let current = kept_of_log::<F, H, K, V, N>(alloc, &log, floor)?;
         Ok(Ledger {
             alloc,
             log,
             commits,
-            floor,
-            root,
-            family: PhantomData,
+            current,
+        })
+    }
+
+    // What the batch with its commit appends to the log. It is refused where the log would pass 2^62 operations, or out of
+    // memory.
+    fn next_commit(
+        &self,
+        batch: &Batch<K, V>,
+        metadata: Option<V>,
+    ) -> Result<Appended<F, H, K, V, N>, LedgerError>
+        ensures operations { let said = words.meanings K.encoding V.encoding batch.now.words.items in
+            IfOk result (λ next. spec.log_of self.now ++ spec.meanings K.encoding V.encoding next.operations.items
+            ≡ spec.log_of (commit_after said (option_map V.encoding metadata) self.now)) }
+        ensures kept { IfOk result (λ next. IsKept (setting_of_width F.merge_rule H.hash_of N) K.SIZE V.SIZE
+            (spec.log_of self.now ++ spec.meanings K.encoding V.encoding next.operations.items) next.current) }
+        ensures bytes { IfOk result (λ next. next.bytes.items
+            ≡ log_bytes K.SIZE V.SIZE (spec.meanings K.encoding V.encoding next.operations.items)) }
+        ensures written { IfOk result (λ next. AreWritten (format_of (K.after tt) (V.after tt) K.SIZE V.SIZE)
+            (spec.meanings K.encoding V.encoding next.operations.items)) }
+        ensures few { IfOk result (λ next. length (spec.log_of self.now) + length next.operations.items ≤ 2 ^ 62) }
+        ensures refused { let said = words.meanings K.encoding V.encoding batch.now.words.items in
+            let next = commit_after said (option_map V.encoding metadata) self.now in
+            IfErr result (λ e. (e ≡ LedgerError.Memory) ⊎ ((e ≡ LedgerError.NumberEnded)
+            × (2 ^ 62 < length (spec.log_of next)))) }
+    {
+        let changes = changes_of(self.alloc, &self.log, batch)?;
+        if changes.len() as u64 >= MAX_OPERATIONS - self.log.len() as u64 {
+            return Err(LedgerError::NumberEnded);
+        }
+        let bits = bits_of(self.alloc, &changes)?;
+        let places = places_taken(self.alloc, &self.log, &changes)?;
+        let floor = next_floor(self.alloc, &self.current, &bits, &places)?;
+        let mut operations = changes;
+        operations.push(Operation::CommitFloor(metadata, Location::new(floor)))?;
+        let encodings = encodings_of(self.alloc, &operations)?;
+        let locations = as_locations(self.alloc, &places)?;
+        let current = grown_by(&self.current, &encodings, &bits, &locations, floor)?;
+        let bytes = joined(self.alloc, &encodings)?;
+        Ok(Appended {
+            operations,
+            current,
+            bytes,
         })
     }
 
@@ -158,19 +205,14 @@ impl<F: Family, H: HashFunction, K: FixedKey, V: FixedValue, const N: usize> Led
             IfErr result (λ e. (e ≡ LedgerError.Memory) ⊎ ((e ≡ LedgerError.NumberEnded)
             × (2 ^ 62 < length (spec.log_of next)))) }
     {
-        let changes = history::changes_of(self.alloc, self.log.operations(), &batch)?;
-        if changes.len() as u64 >= MAX_OPERATIONS - self.log.len() as u64 {
-            return Err(LedgerError::NumberEnded);
-        }
-        let Committed { floor, root, bytes } = append_commit::<F, H, K, V, N>(
-            self.alloc,
-            &mut self.log,
-            changes,
-            metadata,
-        )?;
+        let Appended {
+            operations,
+            current,
+            bytes,
+        } = self.next_commit(&batch, metadata)?;
+        self.log.append(operations)?;
         self.commits += 1;
-        self.floor = floor;
-        self.root = root;
+        self.current = current;
         Ok(bytes)
     }
 
@@ -198,7 +240,7 @@ impl<F: Family, H: HashFunction, K: FixedKey, V: FixedValue, const N: usize> Led
         ensures { H.Digest.encoding result ≡ root_of_history
             (setting_of_width F.merge_rule H.hash_of N) K.SIZE V.SIZE self.now }
     {
-        self.root
+        self.current.root()
     }
 
     /// How many commits the history has.
@@ -212,7 +254,7 @@ impl<F: Family, H: HashFunction, K: FixedKey, V: FixedValue, const N: usize> Led
     pub fn floor(&self) -> u64
         ensures { result ≡ floor_of self.now }
     {
-        self.floor
+        self.current.floor().as_u64()
     }
 
     /// How many operations the log has.

@@ -7,6 +7,7 @@ pub mod ledger;
 
 pub use auth_store_client::is_chunk_width;
 pub use auth_store_parts::{Batch, Word, batch, history, state};
-pub use error::LedgerError;
+pub use error::{LedgerError, ProofError, Unprovable};
 pub use ledger::Ledger;
 pub use ledger::prove::KeyProof;
+pub use ledger::ranges::{ProvedOperation, ProvedRange, ProvedSlice};

@@ -1,6 +1,6 @@
 //! A log that is recovered of a blob.
 
-ghost use Rattle.std.specs.Prelude.{◌≡◌, ◌+◌, ◌<◌, ◌≤◌, [], take, length, IsFalse, IfOk, IfErr, OnOk};
+ghost use Rattle.std.specs.Prelude.{◌≡◌, ◌+◌, ◌<◌, ◌≤◌, [], max, take, length, IsFalse, IfOk, IfErr, OnOk};
 ghost use Rattle.paged_format.specs.Footers.{IsPageSize};
 ghost use Rattle.paged_format.specs.Pages.{recovered};
 ghost use Rattle.paged_blob.specs.Calls.{content, file_of};
@@ -43,6 +43,7 @@ fn settle<B: Blob, C: Checksum>(
     ensures again { OnOk result (IsCut C.checksum_of (cache.old.page_size + 12)
         (recovered C.checksum_of (cache.old.page_size + 12) (content (B.calls blob.old))) (B.calls blob.new)) }
     ensures page_size { IfOk result (λ w. w.page_size ≡ cache.old.page_size + 12) }
+    ensures capacity { IfOk result (λ w. w.tip.capacity ≡ max capacity (cache.old.page_size + 12)) }
     ensures name { IfOk result (λ w. w.blob_id + 1 ≡ cache.new.next_id) }
     ensures cache { OnOk result (cache.new ≡ record cache.old { next_id = cache.old.next_id + 2 }) }
     ensures pages { cache.new.pages ≡ cache.old.pages }
@@ -81,6 +82,7 @@ fn cut_behind<B: Blob, C: Checksum>(
         ≡ take count (written C.checksum_of (B.calls blob.old) recovery)) }
     ensures synced { IfOk result (λ w. w.synced ≡ count) }
     ensures page_size { IfOk result (λ w. w.page_size ≡ recovery.page_size) }
+    ensures capacity { IfOk result (λ w. w.tip.capacity ≡ recovery.tip.capacity) }
     ensures name { IfOk result (λ w. (cache.old.next_id ≤ w.blob_id) × (w.blob_id < cache.new.next_id)) }
     ensures pages { cache.new.pages ≡ cache.old.pages }
     ensures given { (cache.new ≡ record cache.old { next_id = cache.new.next_id })
@@ -117,6 +119,7 @@ fn keep_front<B: Blob, C: Checksum>(
         ≡ take count (written C.checksum_of (B.calls blob.old) recovery)) }
     ensures synced { IfOk result (λ w. w.synced ≡ count) }
     ensures page_size { IfOk result (λ w. w.page_size ≡ recovery.page_size) }
+    ensures capacity { IfOk result (λ w. w.tip.capacity ≡ recovery.tip.capacity) }
     ensures name { IfOk result (λ w. (recovery.blob_id ≤ w.blob_id) × (w.blob_id < cache.new.next_id)) }
     ensures named { AreNamed cache.new }
     ensures given { (cache.new ≡ record cache.old { next_id = cache.new.next_id })
@@ -166,6 +169,7 @@ where
         (content (B.calls blob.old))) }
     ensures synced { IfOk result (λ r. r.0.synced ≡ length r.1.items) }
     ensures page_size { IfOk result (λ r. r.0.page_size ≡ cache.old.page_size + 12) }
+    ensures capacity { IfOk result (λ r. r.0.tip.capacity ≡ max capacity (cache.old.page_size + 12)) }
     ensures name { IfOk result (λ r. (cache.old.next_id ≤ r.0.blob_id) × (r.0.blob_id < cache.new.next_id)) }
     ensures named { AreNamed cache.new }
     ensures same { cache.new ≡ record cache.old { next_id = cache.new.next_id; pages = cache.new.pages } }
@@ -203,8 +207,9 @@ fn first_bytes<F: Family, K: FixedKey, V: FixedValue>(alloc: Global) -> Result<V
 /// there is no commit it begins with that of nothing. Answers the writer that goes on behind it, and its bytes, all
 /// durable. It is refused where a call of the blob, of its writer or of the cache is, never because the blob is too
 /// short or does not verify. At each moment what a crash shows is the log that was recovered, or where there was none,
-/// none or the empty one. That the blob was opened and nothing was done since, that it has so many bytes, and that the
-/// cache gave each name of its pages before is on the caller.
+/// none or the empty one. The writer's buffer has so many bytes, `capacity`, and a page's at least. That the blob was
+/// opened and nothing was done since, that it has so many bytes, and that the cache gave each name of its pages before is
+/// on the caller.
 pub fn recover<F, K, V, B, C>(
     alloc: Global,
     blob: &mut B,
@@ -230,6 +235,7 @@ where
         (content (B.calls blob.old)))) }
     ensures synced { IfOk result (λ r. r.0.synced ≡ length r.1.items) }
     ensures page_size { IfOk result (λ r. r.0.page_size ≡ cache.old.page_size + 12) }
+    ensures capacity { IfOk result (λ r. r.0.tip.capacity ≡ max capacity (cache.old.page_size + 12)) }
     ensures cause { IfErr result (IsLogCause (B.failures blob.old) (cache.old.next_id + 3)
         (log_reach (format_of (K.after tt) (V.after tt) K.SIZE V.SIZE) (cache.old.page_size + 12)
         (content (B.calls blob.old)))) }

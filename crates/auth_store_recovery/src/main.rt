@@ -118,6 +118,9 @@ impl User {
                 let checked = self.checked(&Claim::Absent { key: A }, &proof);
                 println!(rt; "absent {checked}")
             }
+            Answer::Operation(_) => println!(rt; "operation"),
+            Answer::Range(_) => println!(rt; "range"),
+            Answer::Slice(_) => println!(rt; "slice"),
             Answer::Closed => println!(rt; "closed"),
             Answer::Crashed => println!(rt; "crashed"),
             Answer::Set => println!(rt; "set"),

@@ -1,14 +1,15 @@
 -- Each root that a run answers is of a sound history.
 use Rattle.std.proofs.Common.{◌≡◌, ◌≤◌, ◌^◌, ℕ, length, List, [], ◌∷◌, Option, Some, None, refl, sym, subst, ⊎_elim}
-use Rattle.std.specs.Prelude.{IfSome}
+use Rattle.std.specs.Prelude.{IfSome, Result, Ok, Err}
 use Rattle.std.specs.List.{AllByRecursion}
 use Rattle.auth_store_parts.specs.Batch as batch
 use Rattle.auth_store_parts.specs.Batch.{Word, map_after}
 use Rattle.auth_store_parts.specs.History.{History, Commit, latest_map, log_of}
 use Rattle.auth_store_parts.specs.Laws.Logs.{IsState-map_after, IsState-latest_map}
 use Rattle.auth_store_client.specs.Fields.{IsSound}
+use Rattle.auth_store_ledger.specs.declared.error.Unprovable.{Unprovable as NoProof}
 use Rattle.auth_store_client.specs.Laws.Fields.{HasWord, own_commit}
-use Rattle.auth_store_session.specs.Machine.{Machine, Power, State, closed, live, failed, doubtful, Request, ask_open, ask_commit, ask_get, ask_root, ask_commits, ask_floor, ask_len, ask_prune, ask_proof, ask_close, ask_crash, ask_config, ask_cut, Answer, opened, committed, value, root_is, commits_are, floor_is, len_is, pruned_to, proof, has_closed, has_crashed, is_set, refused, not_open, still_open, IsStep, IsRun, IsShownOf, commit_of}
+use Rattle.auth_store_session.specs.Machine.{Machine, Power, State, closed, live, failed, doubtful, Request, ask_open, ask_commit, ask_get, ask_root, ask_commits, ask_floor, ask_len, ask_prune, ask_proof, ask_close, ask_crash, ask_config, ask_cut, Answer, Proved, proof_of, told_proof, opened, committed, value, root_is, commits_are, floor_is, len_is, pruned_to, proof, has_closed, has_crashed, is_set, refused, not_open, still_open, IsStep, IsRun, IsShownOf, commit_of}
 use Rattle.auth_store_run.specs.Roots.{IsAskedOf, IsRootOfSound, IsSoundState, IsWordOf, TellsRootOfSound}
 
 module _ (m : Machine) (IsKey IsValue : List ℕ → Type 0) where
@@ -46,6 +47,10 @@ module _ (m : Machine) (IsKey IsValue : List ℕ → Type 0) where
       (λ with. subst (IsSound IsKey IsValue) (sym with) sound.1)
       is
 
+  no_root : (found : Result Proved NoProof) → TellsRootOfSound m IsKey IsValue (told_proof found)
+  no_root (Ok proved) = tt
+  no_root (Err why) = tt
+
   step_leaves : (before after : Power) (state : State) (request : Request) (answer : Answer) (next : State)
       → IsSoundState IsKey IsValue state → IsAskedOf IsKey IsValue request → IsStep m before after state request answer next
       → Leaves answer next
@@ -67,7 +72,7 @@ module _ (m : Machine) (IsKey IsValue : List ℕ → Type 0) where
       plain answer not_open next (closed history pending) step.0 tt step.1 sound
   step_leaves before after (closed history pending) (ask_get key) answer next sound asked step =
       plain answer not_open next (closed history pending) step.0 tt step.1 sound
-  step_leaves before after (closed history pending) (ask_proof key) answer next sound asked step =
+  step_leaves before after (closed history pending) (ask_proof question) answer next sound asked step =
       plain answer not_open next (closed history pending) step.0 tt step.1 sound
   step_leaves before after (closed history pending) ask_root answer next sound asked step =
       plain answer not_open next (closed history pending) step.0 tt step.1 sound
@@ -103,8 +108,9 @@ module _ (m : Machine) (IsKey IsValue : List ℕ → Type 0) where
       (λ said. plain answer (value _) next (live history pruned) said tt step.0 sound)
       (λ refuses. plain answer (refused refuses.0) next (live history pruned) refuses.1 tt step.0 sound)
       step.1
-  step_leaves before after (live history pruned) (ask_proof key) answer next sound asked step = ⊎_elim
-      (λ said. plain answer (proof _) next (live history pruned) said tt step.0 sound)
+  step_leaves before after (live history pruned) (ask_proof question) answer next sound asked step = ⊎_elim
+      (λ said. plain answer (told_proof (proof_of m history pruned question)) next (live history pruned) said
+      (no_root (proof_of m history pruned question)) step.0 sound)
       (λ lacks. plain answer (refused _) next (live history pruned) lacks tt step.0 sound)
       step.1
   step_leaves before after (live history pruned) ask_root answer next sound asked step =
@@ -133,7 +139,7 @@ module _ (m : Machine) (IsKey IsValue : List ℕ → Type 0) where
       plain answer (refused _) next (failed history commit) step.0 tt step.1 sound
   step_leaves before after (failed history commit) (ask_get key) answer next sound asked step =
       plain answer (refused _) next (failed history commit) step.0 tt step.1 sound
-  step_leaves before after (failed history commit) (ask_proof key) answer next sound asked step =
+  step_leaves before after (failed history commit) (ask_proof question) answer next sound asked step =
       plain answer (refused _) next (failed history commit) step.0 tt step.1 sound
   step_leaves before after (failed history commit) ask_root answer next sound asked step =
       plain answer (refused _) next (failed history commit) step.0 tt step.1 sound

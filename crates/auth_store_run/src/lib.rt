@@ -30,9 +30,9 @@ use std::alloc::{AllocError, Global};
 
 /// What a whole run has answered, and the device, closed, and the cache that it leaves (own).
 #[derive(Drop)]
-pub struct Ran<R: Rng, D, V> {
+pub struct Ran<R: Rng, F: Family, D, K: FixedKey, V: FixedValue> {
     /// An answer for each step.
-    pub answers: Vec<Answer<D, V>>,
+    pub answers: Vec<Answer<F, D, K, V>>,
     /// The device, which is closed.
     pub device: Device<R>,
     /// The cache.
@@ -54,7 +54,7 @@ fn note<T: Drop>(answers: &mut Vec<T>, answer: T)
 fn take_all<R, F, H, K, V, const N: usize>(
     session: &mut Session<R, F, H, K, V, N>,
     steps: Vec<Step<K, V>>,
-    answers: &mut Vec<Answer<H::Digest, V>>,
+    answers: &mut Vec<Answer<F, H::Digest, K, V>>,
 )
 where
     R: Rng + Drop,
@@ -66,16 +66,16 @@ where
         let m = machine F.merge_rule H.hash_of F.pending_encoding N K.SIZE V.SIZE
         (page_size_in session.old.parts session.old.store) in
         HasRoom answers.old (vec_len steps) → Runs m format session.old (requests_of K.encoding V.encoding steps.items)
-        (meanings_of H.Digest.encoding V.encoding answers.new.items) session.new }
+        (meanings_of H.Digest.encoding K.encoding V.encoding answers.new.items) session.new }
     ensures kept { let format = format_of (K.after tt) (V.after tt) K.SIZE V.SIZE in
         let m = machine F.merge_rule H.hash_of F.pending_encoding N K.SIZE V.SIZE
         (page_size_in session.old.parts session.old.store) in
         HasRoom answers.old (vec_len steps)
         → RunsInDoubt m format session.old (requests_of K.encoding V.encoding steps.items)
-        (meanings_of H.Digest.encoding V.encoding answers.new.items) session.new }
+        (meanings_of H.Digest.encoding K.encoding V.encoding answers.new.items) session.new }
     ensures kinds { HasRoom answers.old (vec_len steps)
         → AreAnswersTo (is_some session.old.store) (requests_of K.encoding V.encoding steps.items)
-        (meanings_of H.Digest.encoding V.encoding answers.new.items) }
+        (meanings_of H.Digest.encoding K.encoding V.encoding answers.new.items) }
     ensures page_size { HasRoom answers.old (vec_len steps)
         → page_size_in session.new.parts session.new.store ≡ page_size_in session.old.parts session.old.store }
     ensures grows { HasRoom answers.old (vec_len steps)
@@ -94,8 +94,8 @@ where
 fn run_within<R, F, H, K, V, const N: usize>(
     session: Session<R, F, H, K, V, N>,
     steps: Vec<Step<K, V>>,
-    answers: Vec<Answer<H::Digest, V>>,
-) -> Ran<R, H::Digest, V>
+    answers: Vec<Answer<F, H::Digest, K, V>>,
+) -> Ran<R, F, H::Digest, K, V>
 where
     R: Rng + Drop,
     F: Graftable + PendingOf<H::Digest>,
@@ -107,7 +107,7 @@ where
         (page_size_in session.parts session.store) in
         HasRoom answers (vec_len steps)
         → HasRunToRest m format session (requests_of K.encoding V.encoding steps.items)
-        (meanings_of H.Digest.encoding V.encoding result.answers.items) result.device result.cache }
+        (meanings_of H.Digest.encoding K.encoding V.encoding result.answers.items) result.device result.cache }
     ensures settings { Some result.device.storage.config
         ≡ config_after_all steps.items (config_in session.parts session.store) }
 {
@@ -123,7 +123,7 @@ where
 }
 
 // Room for so many answers. It fails only when out of memory.
-fn room<D, V>(alloc: Global, count: usize) -> Result<Vec<Answer<D, V>>, AllocError>
+fn room<T>(alloc: Global, count: usize) -> Result<Vec<T>, AllocError>
     ensures { IfOk result (λ answers. HasRoom answers count) }
 {
     Ok(Vec::with_capacity(alloc, count)?)
@@ -136,7 +136,7 @@ pub fn run_session<R, F, H, K, V, const N: usize>(
     alloc: Global,
     session: Session<R, F, H, K, V, N>,
     steps: Vec<Step<K, V>>,
-) -> Result<Ran<R, H::Digest, V>, Session<R, F, H, K, V, N>>
+) -> Result<Ran<R, F, H::Digest, K, V>, Session<R, F, H, K, V, N>>
 where
     R: Rng + Drop,
     F: Graftable + PendingOf<H::Digest>,
@@ -147,7 +147,7 @@ where
         let m = machine F.merge_rule H.hash_of F.pending_encoding N K.SIZE V.SIZE
         (page_size_in session.parts session.store) in
         IfOk result (λ ran. HasRunToRest m format session (requests_of K.encoding V.encoding steps.items)
-        (meanings_of H.Digest.encoding V.encoding ran.answers.items) ran.device ran.cache) }
+        (meanings_of H.Digest.encoding K.encoding V.encoding ran.answers.items) ran.device ran.cache) }
     ensures settings { IfOk result (λ ran. Some ran.device.storage.config
         ≡ config_after_all steps.items (config_in session.parts session.store)) }
     ensures unchanged { IfErr result (λ begun. begun ≡ session) }
@@ -172,7 +172,7 @@ pub fn run<R, F, H, K, V, const N: usize>(
     device: Device<R>,
     cache: CacheRef,
     steps: Vec<Step<K, V>>,
-) -> Result<Ran<R, H::Digest, V>, Session<R, F, H, K, V, N>>
+) -> Result<Ran<R, F, H::Digest, K, V>, Session<R, F, H, K, V, N>>
 where
     R: Rng + Drop,
     F: Graftable + PendingOf<H::Digest>,
@@ -186,7 +186,7 @@ where
         let m = machine F.merge_rule H.hash_of F.pending_encoding N K.SIZE V.SIZE (cache.page_size + 12) in
         IfOk result (λ ran. HasRunToRest m format (closed_at device cache)
         (requests_of K.encoding V.encoding steps.items)
-        (meanings_of H.Digest.encoding V.encoding ran.answers.items) ran.device ran.cache) }
+        (meanings_of H.Digest.encoding K.encoding V.encoding ran.answers.items) ran.device ran.cache) }
     ensures settings { IfOk result (λ ran. Some ran.device.storage.config
         ≡ config_after_all steps.items (Some device.storage.config)) }
     ensures unchanged { IfErr result (λ begun. begun ≡ closed_at device cache) }

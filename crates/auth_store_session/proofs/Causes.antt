@@ -1,12 +1,13 @@
 -- What a run tells of causes: they were there.
 use Rattle.std.proofs.Common.{◌≡◌, ◌+◌, ◌<◌, ℕ, Bool, true, false, List, [], ◌∷◌, Option, None, refl, sym, ◌∙◌, ap, subst, ⊎_elim, arith}
-use Rattle.std.specs.Prelude.{⊤, IsTrue}
+use Rattle.std.specs.Prelude.{⊤, IsTrue, Result, Ok, Err}
 use Rattle.auth_store_parts.specs.History.{History}
 use Rattle.auth_store_ledger.specs.Store.{commit_after}
+use Rattle.auth_store_ledger.specs.declared.error.Unprovable.{Unprovable as NoProof}
 use Rattle.auth_store_session.specs.declared.error.StoreError.{StoreError}
-use Rattle.auth_store_session.specs.declared.error.StoreError.TheVariants.{Fault, PowerCut, NumberEnded, Memory, Corrupt, Failed, PastFloor, Header}
+use Rattle.auth_store_session.specs.declared.error.StoreError.TheVariants.{Fault, PowerCut, NumberEnded, Memory, Corrupt, Failed, PastFloor, Unprovable, Header}
 use Rattle.auth_store_device.specs.Devices.{is_cut}
-use Rattle.auth_store_session.specs.Machine.{Machine, Power, State, closed, live, failed, doubtful, Request, ask_open, ask_commit, ask_get, ask_root, ask_commits, ask_floor, ask_len, ask_prune, ask_proof, ask_close, ask_crash, ask_config, ask_cut, Answer, opened, committed, value, root_is, commits_are, floor_is, len_is, pruned_to, proof, has_closed, has_crashed, is_set, refused, not_open, still_open, MayRefuseRead, MayRefuseOpening, MayRefuseCommit, IsStep, IsRun, IsSpent, Passes, turned, refusal_in, faults_in, faults_told, AskNoCut, TellNoCut}
+use Rattle.auth_store_session.specs.Machine.{Machine, Power, State, closed, live, failed, doubtful, Request, ask_open, ask_commit, ask_get, ask_root, ask_commits, ask_floor, ask_len, ask_prune, ask_proof, ask_close, ask_crash, ask_config, ask_cut, Answer, Proved, proof_of, told_proof, opened, committed, value, root_is, commits_are, floor_is, len_is, pruned_to, proof, has_closed, has_crashed, is_set, refused, not_open, still_open, MayRefuseRead, MayRefuseOpening, MayRefuseCommit, IsStep, IsRun, IsSpent, Passes, turned, refusal_in, faults_in, faults_told, AskNoCut, TellNoCut}
 
 -- what a refusal tells of the power
 abbrev Why : Power → Power → StoreError → Type 0
@@ -17,6 +18,7 @@ Why before after Memory = ⊤
 Why before after Corrupt = ⊤
 Why before after Failed = ⊤
 Why before after PastFloor = ⊤
+Why before after (Unprovable why) = ⊤
 Why before after (Header fault) = ⊤
 
 read_why : (before after : Power) (e : StoreError) → MayRefuseRead before after e → Why before after e
@@ -27,6 +29,7 @@ read_why before after Memory cause = tt
 read_why before after Corrupt cause = tt
 read_why before after Failed cause = tt
 read_why before after PastFloor cause = tt
+read_why before after (Unprovable why) cause = tt
 read_why before after (Header fault) cause = tt
 
 opening_why : (m : Machine) (before after : Power) (e : StoreError) → MayRefuseOpening m before after e → Why before after e
@@ -37,6 +40,7 @@ opening_why m before after Memory cause = tt
 opening_why m before after Corrupt cause = tt
 opening_why m before after Failed cause = tt
 opening_why m before after PastFloor cause = tt
+opening_why m before after (Unprovable why) cause = tt
 opening_why m before after (Header fault) cause = tt
 
 commit_why : (m : Machine) (before after : Power) (next : History) (e : StoreError) → MayRefuseCommit m before after next e
@@ -48,6 +52,7 @@ commit_why m before after next Memory cause = tt
 commit_why m before after next Corrupt cause = tt
 commit_why m before after next Failed cause = tt
 commit_why m before after next PastFloor cause = tt
+commit_why m before after next (Unprovable why) cause = tt
 commit_why m before after next (Header fault) cause = tt
 
 -- an answer that is no refusal
@@ -79,6 +84,10 @@ same_refusal e error is = cc
 why_of : (before after : Power) (e error : StoreError) → refused e ≡ refused error → Why before after error → Why before after e
 why_of before after e error is why = subst (Why before after) (sym (same_refusal e error is)) why
 
+told_why : (before after : Power) (e : StoreError) (found : Result Proved NoProof) → refused e ≡ told_proof found → Why before after e
+told_why before after e (Ok proved) is = plain e (proof proved) is refl
+told_why before after e (Err why) is = why_of before after e (Unprovable why) is tt
+
 -- what a step tells
 step_why : (m : Machine) (before after : Power) (state : State) (request : Request) (e : StoreError) (next : State)
     → IsStep m before after state request (refused e) next → Why before after e
@@ -93,7 +102,7 @@ step_why m before after (closed history pending) ask_commits e next step = plain
 step_why m before after (closed history pending) ask_floor e next step = plain e not_open step.0 refl
 step_why m before after (closed history pending) ask_len e next step = plain e not_open step.0 refl
 step_why m before after (closed history pending) (ask_prune location) e next step = plain e not_open step.0 refl
-step_why m before after (closed history pending) (ask_proof key) e next step = plain e not_open step.0 refl
+step_why m before after (closed history pending) (ask_proof question) e next step = plain e not_open step.0 refl
 step_why m before after (closed history pending) ask_close e next step = plain e not_open step.0 refl
 step_why m before after (closed history pending) ask_crash e next step = plain e has_crashed step.0 refl
 step_why m before after (closed history pending) ask_config e next step = plain e is_set step.0 refl
@@ -112,7 +121,7 @@ step_why m before after (doubtful history) ask_commits e next step = plain e not
 step_why m before after (doubtful history) ask_floor e next step = plain e not_open step.0 refl
 step_why m before after (doubtful history) ask_len e next step = plain e not_open step.0 refl
 step_why m before after (doubtful history) (ask_prune location) e next step = plain e not_open step.0 refl
-step_why m before after (doubtful history) (ask_proof key) e next step = plain e not_open step.0 refl
+step_why m before after (doubtful history) (ask_proof question) e next step = plain e not_open step.0 refl
 step_why m before after (doubtful history) ask_close e next step = plain e not_open step.0 refl
 step_why m before after (doubtful history) ask_crash e next step = plain e has_crashed step.0 refl
 step_why m before after (doubtful history) ask_config e next step = plain e is_set step.0 refl
@@ -134,8 +143,8 @@ step_why m before after (live history pruned) (ask_prune location) e next step =
     (λ done. plain e (pruned_to _) done.1 refl)
     (λ past. why_of before after e PastFloor past.0 tt)
     step.0
-step_why m before after (live history pruned) (ask_proof key) e next step = ⊎_elim
-    (λ said. plain e (proof _) said refl)
+step_why m before after (live history pruned) (ask_proof question) e next step = ⊎_elim
+    (λ said. told_why before after e (proof_of m history pruned question) said)
     (λ lacks. why_of before after e Memory lacks tt)
     step.1
 step_why m before after (live history pruned) ask_close e next step = plain e has_closed step.0 refl
@@ -150,7 +159,7 @@ step_why m before after (failed history commit) ask_commits e next step = why_of
 step_why m before after (failed history commit) ask_floor e next step = why_of before after e Failed step.0 tt
 step_why m before after (failed history commit) ask_len e next step = why_of before after e Failed step.0 tt
 step_why m before after (failed history commit) (ask_prune location) e next step = why_of before after e Failed step.0 tt
-step_why m before after (failed history commit) (ask_proof key) e next step = why_of before after e Failed step.0 tt
+step_why m before after (failed history commit) (ask_proof question) e next step = why_of before after e Failed step.0 tt
 step_why m before after (failed history commit) ask_close e next step = plain e has_closed step.0 refl
 step_why m before after (failed history commit) ask_crash e next step = plain e still_open step.0 refl
 step_why m before after (failed history commit) ask_config e next step = plain e is_set step.0 refl
@@ -166,7 +175,7 @@ turned_injected ask_commits answer power = refl
 turned_injected ask_floor answer power = refl
 turned_injected ask_len answer power = refl
 turned_injected (ask_prune location) answer power = refl
-turned_injected (ask_proof key) answer power = refl
+turned_injected (ask_proof question) answer power = refl
 turned_injected ask_close answer power = refl
 turned_injected ask_config answer power = refl
 turned_injected (ask_cut calls) answer power = refl
@@ -197,7 +206,7 @@ turned_asked ask_commits answer power requests none is = is
 turned_asked ask_floor answer power requests none is = is
 turned_asked ask_len answer power requests none is = is
 turned_asked (ask_prune location) answer power requests none is = is
-turned_asked (ask_proof key) answer power requests none is = is
+turned_asked (ask_proof question) answer power requests none is = is
 turned_asked ask_close answer power requests none is = is
 turned_asked ask_config answer power requests none is = is
 turned_asked (ask_cut calls) answer power requests none is = absurd none
@@ -226,7 +235,7 @@ fewer_asked ask_commits requests none = none
 fewer_asked ask_floor requests none = none
 fewer_asked ask_len requests none = none
 fewer_asked (ask_prune location) requests none = none
-fewer_asked (ask_proof key) requests none = none
+fewer_asked (ask_proof question) requests none = none
 fewer_asked ask_close requests none = none
 fewer_asked ask_crash requests none = none
 fewer_asked ask_config requests none = none
@@ -272,6 +281,7 @@ uncut_told m before after state request (refused Memory) next answers step uncut
 uncut_told m before after state request (refused Corrupt) next answers step uncut rest = rest
 uncut_told m before after state request (refused Failed) next answers step uncut rest = rest
 uncut_told m before after state request (refused PastFloor) next answers step uncut rest = rest
+uncut_told m before after state request (refused (Unprovable why)) next answers step uncut rest = rest
 uncut_told m before after state request (refused (Header fault)) next answers step uncut rest = rest
 uncut_told m before after state request not_open next answers step uncut rest = rest
 uncut_told m before after state request still_open next answers step uncut rest = rest

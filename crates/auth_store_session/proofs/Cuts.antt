@@ -1,13 +1,18 @@
 -- A cut of the power that stands: nothing is acknowledged under it, and it stays until a crash is asked for.
 use Rattle.std.proofs.Common.{◌≡◌, ◌≤◌, ℕ, Bool, true, false, List, [], ◌∷◌, Some, refl, sym, ◌∙◌, ap, subst, ⊎_elim, arith}
-use Rattle.std.specs.Prelude.{IsFalse}
+use Rattle.std.specs.Prelude.{IsFalse, Result, Ok, Err}
 use Rattle.std.proofs.lemmas.Bool.{false_from_ne_true}
 use Rattle.auth_store_session.specs.declared.error.StoreError.TheVariants.{Failed, Memory, PastFloor}
+use Rattle.auth_store_ledger.specs.declared.error.Unprovable.{Unprovable as NoProof}
 use Rattle.auth_store_device.specs.Devices.{after_asking, is_cut}
-use Rattle.auth_store_session.specs.Machine.{Machine, Power, State, closed, live, failed, doubtful, Request, ask_open, ask_commit, ask_get, ask_root, ask_commits, ask_floor, ask_len, ask_prune, ask_proof, ask_close, ask_crash, ask_config, ask_cut, Answer, value, root_is, commits_are, floor_is, len_is, pruned_to, proof, has_closed, has_crashed, is_set, refused, not_open, still_open, IsStep, IsRun, IsSpent, Passes, turned, AskNoCrash, acknowledges, AcknowledgeNone}
+use Rattle.auth_store_session.specs.Machine.{Machine, Power, State, closed, live, failed, doubtful, Request, ask_open, ask_commit, ask_get, ask_root, ask_commits, ask_floor, ask_len, ask_prune, ask_proof, ask_close, ask_crash, ask_config, ask_cut, Answer, Proved, proof_of, told_proof, value, root_is, commits_are, floor_is, len_is, pruned_to, proof, has_closed, has_crashed, is_set, refused, not_open, still_open, IsStep, IsRun, IsSpent, Passes, turned, AskNoCrash, acknowledges, AcknowledgeNone}
 
 plain : {A : Type 0} (answer said : Answer) → acknowledges answer ≡ true → answer ≡ said → acknowledges said ≡ false → A
 plain answer said ack is none = let bad : true ≡ false = sym ack ∙ (ap acknowledges is ∙ none) in absurd (cc)
+
+told_no_commit : (found : Result Proved NoProof) → acknowledges (told_proof found) ≡ false
+told_no_commit (Ok proved) = refl
+told_no_commit (Err why) = refl
 
 -- what a step acknowledges was under no cut
 uncut : (m : Machine) (before after : Power) (state : State) (request : Request) (answer : Answer) (next : State)
@@ -23,7 +28,7 @@ uncut m before after (closed history pending) ask_commits answer next step ack =
 uncut m before after (closed history pending) ask_floor answer next step ack = plain answer not_open ack step.0 refl
 uncut m before after (closed history pending) ask_len answer next step ack = plain answer not_open ack step.0 refl
 uncut m before after (closed history pending) (ask_prune location) answer next step ack = plain answer not_open ack step.0 refl
-uncut m before after (closed history pending) (ask_proof key) answer next step ack = plain answer not_open ack step.0 refl
+uncut m before after (closed history pending) (ask_proof question) answer next step ack = plain answer not_open ack step.0 refl
 uncut m before after (closed history pending) ask_close answer next step ack = plain answer not_open ack step.0 refl
 uncut m before after (closed history pending) ask_crash answer next step ack = plain answer has_crashed ack step.0 refl
 uncut m before after (closed history pending) ask_config answer next step ack = plain answer is_set ack step.0 refl
@@ -39,7 +44,7 @@ uncut m before after (doubtful history) ask_commits answer next step ack = plain
 uncut m before after (doubtful history) ask_floor answer next step ack = plain answer not_open ack step.0 refl
 uncut m before after (doubtful history) ask_len answer next step ack = plain answer not_open ack step.0 refl
 uncut m before after (doubtful history) (ask_prune location) answer next step ack = plain answer not_open ack step.0 refl
-uncut m before after (doubtful history) (ask_proof key) answer next step ack = plain answer not_open ack step.0 refl
+uncut m before after (doubtful history) (ask_proof question) answer next step ack = plain answer not_open ack step.0 refl
 uncut m before after (doubtful history) ask_close answer next step ack = plain answer not_open ack step.0 refl
 uncut m before after (doubtful history) ask_crash answer next step ack = plain answer has_crashed ack step.0 refl
 uncut m before after (doubtful history) ask_config answer next step ack = plain answer is_set ack step.0 refl
@@ -61,8 +66,9 @@ uncut m before after (live history pruned) (ask_prune location) answer next step
     (λ done. plain answer (pruned_to _) ack done.1 refl)
     (λ past. plain answer (refused PastFloor) ack past.0 refl)
     step.0
-uncut m before after (live history pruned) (ask_proof key) answer next step ack = ⊎_elim
-    (λ said. plain answer (proof _) ack said refl)
+uncut m before after (live history pruned) (ask_proof question) answer next step ack = ⊎_elim
+    (λ said. plain answer (told_proof (proof_of m history pruned question)) ack said
+    (told_no_commit (proof_of m history pruned question)))
     (λ lacks. plain answer (refused Memory) ack lacks refl)
     step.1
 uncut m before after (live history pruned) ask_close answer next step ack = plain answer has_closed ack step.0 refl
@@ -77,7 +83,7 @@ uncut m before after (failed history commit) ask_commits answer next step ack = 
 uncut m before after (failed history commit) ask_floor answer next step ack = plain answer (refused Failed) ack step.0 refl
 uncut m before after (failed history commit) ask_len answer next step ack = plain answer (refused Failed) ack step.0 refl
 uncut m before after (failed history commit) (ask_prune location) answer next step ack = plain answer (refused Failed) ack step.0 refl
-uncut m before after (failed history commit) (ask_proof key) answer next step ack = plain answer (refused Failed) ack step.0 refl
+uncut m before after (failed history commit) (ask_proof question) answer next step ack = plain answer (refused Failed) ack step.0 refl
 uncut m before after (failed history commit) ask_close answer next step ack = plain answer has_closed ack step.0 refl
 uncut m before after (failed history commit) ask_crash answer next step ack = plain answer still_open ack step.0 refl
 uncut m before after (failed history commit) ask_config answer next step ack = plain answer is_set ack step.0 refl
@@ -94,7 +100,7 @@ stands_turned ask_commits answer power requests none is = is
 stands_turned ask_floor answer power requests none is = is
 stands_turned ask_len answer power requests none is = is
 stands_turned (ask_prune location) answer power requests none is = is
-stands_turned (ask_proof key) answer power requests none is = is
+stands_turned (ask_proof question) answer power requests none is = is
 stands_turned ask_close answer power requests none is = is
 stands_turned ask_crash answer power requests none is = absurd none
 stands_turned ask_config answer power requests none is = is
@@ -109,7 +115,7 @@ fewer_crashes ask_commits requests none = none
 fewer_crashes ask_floor requests none = none
 fewer_crashes ask_len requests none = none
 fewer_crashes (ask_prune location) requests none = none
-fewer_crashes (ask_proof key) requests none = none
+fewer_crashes (ask_proof question) requests none = none
 fewer_crashes ask_close requests none = none
 fewer_crashes ask_crash requests none = absurd none
 fewer_crashes ask_config requests none = none

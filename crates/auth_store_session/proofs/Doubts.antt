@@ -33,7 +33,7 @@ keeps_in_doubt m before after history ask_commits answer next step = stays_at hi
 keeps_in_doubt m before after history ask_floor answer next step = stays_at history (doubtful history) next step.1 refl
 keeps_in_doubt m before after history ask_len answer next step = stays_at history (doubtful history) next step.1 refl
 keeps_in_doubt m before after history (ask_prune location) answer next step = stays_at history (doubtful history) next step.1 refl
-keeps_in_doubt m before after history (ask_proof key) answer next step = stays_at history (doubtful history) next step.1 refl
+keeps_in_doubt m before after history (ask_proof question) answer next step = stays_at history (doubtful history) next step.1 refl
 keeps_in_doubt m before after history ask_close answer next step = stays_at history (doubtful history) next step.1 refl
 
 -- the log of a history begins that with a commit more
@@ -56,7 +56,7 @@ keeps_live m before after history pruned ask_config answer next step = stays_at 
 keeps_live m before after history pruned (ask_cut calls) answer next step = stays_at history (live history pruned) next step.1 refl
 keeps_live m before after history pruned ask_close answer next step = stays_at history (closed history None) next step.1 refl
 keeps_live m before after history pruned (ask_get key) answer next step = stays_at history (live history pruned) next step.0 refl
-keeps_live m before after history pruned (ask_proof key) answer next step = stays_at history (live history pruned) next step.0 refl
+keeps_live m before after history pruned (ask_proof question) answer next step = stays_at history (live history pruned) next step.0 refl
 keeps_live m before after history pruned ask_root answer next step = stays_at history (live history pruned) next step.1 refl
 keeps_live m before after history pruned ask_commits answer next step = stays_at history (live history pruned) next step.1 refl
 keeps_live m before after history pruned ask_floor answer next step = stays_at history (live history pruned) next step.1 refl
@@ -75,7 +75,7 @@ keeps_failed before after history commit ask_config answer next step = stays_at 
 keeps_failed before after history commit (ask_cut calls) answer next step = stays_at history (failed history commit) next step.1 refl
 keeps_failed before after history commit (ask_commit words metadata) answer next step = stays_at history (failed history commit) next step.1 refl
 keeps_failed before after history commit (ask_get key) answer next step = stays_at history (failed history commit) next step.1 refl
-keeps_failed before after history commit (ask_proof key) answer next step = stays_at history (failed history commit) next step.1 refl
+keeps_failed before after history commit (ask_proof question) answer next step = stays_at history (failed history commit) next step.1 refl
 keeps_failed before after history commit ask_root answer next step = stays_at history (failed history commit) next step.1 refl
 keeps_failed before after history commit ask_commits answer next step = stays_at history (failed history commit) next step.1 refl
 keeps_failed before after history commit ask_floor answer next step = stays_at history (failed history commit) next step.1 refl

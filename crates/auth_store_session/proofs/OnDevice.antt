@@ -23,7 +23,7 @@ use Rattle.auth_store_ledger.specs.Store.{commit_after, root_of_history}
 use Rattle.auth_store_log.specs.Records.{Format, recovered_log, history_bytes, log_bytes, AreRecorded}
 use Rattle.auth_store_log.specs.Shown.{MayShow, IsKeptThrough}
 use Rattle.auth_store_session.specs.declared.error.StoreError.{StoreError}
-use Rattle.auth_store_session.specs.declared.error.StoreError.TheVariants.{Fault, PowerCut, NumberEnded, Memory, Corrupt, Failed, PastFloor, Header}
+use Rattle.auth_store_session.specs.declared.error.StoreError.TheVariants.{Fault, PowerCut, NumberEnded, Memory, Corrupt, Failed, PastFloor, Unprovable, Header}
 use Rattle.auth_store_session.specs.Refusals.{of_opening}
 use Rattle.auth_store_session.specs.Machine.{Machine, IsEndingOpening, MayRefuseRead, MayRefuseCommit, PassesLimit, commit_of}
 use Rattle.auth_store_session.specs.Stores.{StoreState, LiveState, IsStore, IsLive, IsLiveAt, IsNoHistory, Shows, IsReadRefusal, IsOpenRefusal, IsCommitRefusal, EndsDisk, EndsOpening}
@@ -99,6 +99,7 @@ module _ {R : Type 0} (m : Machine) (format : Format) (old mid new : DeviceState
         (subst (λ bytes. IsNoHistory format (recovered_log format crc32 m.page_size bytes)) shown cause, through)
     recovery_on_device Failed injected refused shown law through cause = absurd cause
     recovery_on_device PastFloor injected refused shown law through cause = absurd cause
+    recovery_on_device (Unprovable why) injected refused shown law through cause = absurd cause
     recovery_on_device (Header fault) injected refused shown law through cause = absurd cause
 
 -- a read that is refused
@@ -115,6 +116,7 @@ module _ {R : Type 0} (old new : DeviceState R) (cache now : Cache)
     read_on_device Corrupt law cause = absurd cause
     read_on_device Failed law cause = absurd cause
     read_on_device PastFloor law cause = absurd cause
+    read_on_device (Unprovable why) law cause = absurd cause
     read_on_device (Header fault) law cause = absurd cause
 
     -- and a commit
@@ -132,6 +134,7 @@ module _ {R : Type 0} (old new : DeviceState R) (cache now : Cache)
     commit_on_device m next Corrupt law cause = absurd cause
     commit_on_device m next Failed law cause = absurd cause
     commit_on_device m next PastFloor law cause = absurd cause
+    commit_on_device m next (Unprovable why) law cause = absurd cause
     commit_on_device m next (Header fault) law cause = absurd cause
 
 -- a store of which this is true has not failed
@@ -249,4 +252,5 @@ refused_closed m format old new cache now Memory why = why
 refused_closed m format old new cache now Corrupt why = why
 refused_closed m format old new cache now Failed why = why
 refused_closed m format old new cache now PastFloor why = why
+refused_closed m format old new cache now (Unprovable which) why = why
 refused_closed m format old new cache now (Header fault) why = why

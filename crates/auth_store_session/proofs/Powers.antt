@@ -13,7 +13,7 @@ use Rattle.auth_store_log.specs.Causes.{failures_after_reading}
 use Rattle.auth_store_log.specs.declared.error.LogError.{LogError}
 use Rattle.auth_store_log.specs.declared.error.LogError.TheVariants.{Corrupt, Refused}
 use Rattle.auth_store_session.specs.Machine.{Power, Leaves, Passes, IsCrash, IsSpent, asked_to_cut, faults_in, cuts_in, ask_cut, ask_crash, is_set, has_crashed}
-use Rattle.auth_store_session.specs.Refusals.{of_blob, of_ledger, of_log, of_opening}
+use Rattle.auth_store_session.specs.Refusals.{IsOfProof, of_blob, of_ledger, of_log, of_opening}
 use Rattle.auth_store_session.specs.declared.error.StoreError.{StoreError}
 use Rattle.auth_store_session.specs.declared.error.StoreError.TheVariants as refusals
 use Rattle.auth_store_session.specs.Standing.{power_of, power_in}
@@ -138,6 +138,18 @@ leaves_unproved e device cache (inl is) =
     subst (λ x. Leaves 0 (Some x) (power_of device cache) (power_of device cache)) (sym is)
     (leaves_none (Some refusals.Memory) device cache refl refl)
 leaves_unproved e device cache (inr is) = leaves_failed e device cache is
+
+pub leaves_of_proof : {R : Type 0} (e : StoreError) (device : DeviceState R) (cache : Cache) → IsOfProof e
+    → Leaves 0 (Some e) (power_of device cache) (power_of device cache)
+leaves_of_proof (refusals.Unprovable why) device cache is = leaves_none (Some (refusals.Unprovable why)) device cache refl refl
+leaves_of_proof refusals.Memory device cache is = leaves_none (Some refusals.Memory) device cache refl refl
+leaves_of_proof refusals.Failed device cache is = leaves_none (Some refusals.Failed) device cache refl refl
+leaves_of_proof (refusals.Fault kind) device cache is = absurd is
+leaves_of_proof refusals.PowerCut device cache is = absurd is
+leaves_of_proof refusals.NumberEnded device cache is = absurd is
+leaves_of_proof refusals.Corrupt device cache is = absurd is
+leaves_of_proof refusals.PastFloor device cache is = absurd is
+leaves_of_proof (refusals.Header fault) device cache is = absurd is
 
 -- nor of a store that refuses to be pruned
 pub leaves_unpruned : {R : Type 0} (e : StoreError) (device : DeviceState R) (cache : Cache)

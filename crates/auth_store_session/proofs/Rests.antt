@@ -14,7 +14,7 @@ use Rattle.std.specs.Prelude.{IsFalse, IfSome}
 use Rattle.fault_storage.specs.Stores.{Store}
 use Rattle.auth_store_device.specs.Logs.{HasOwnHeader}
 use Rattle.auth_store_session.specs.declared.error.StoreError.{StoreError}
-use Rattle.auth_store_session.specs.declared.error.StoreError.TheVariants.{Fault, PowerCut, NumberEnded, Memory, Corrupt, Failed, PastFloor, Header}
+use Rattle.auth_store_session.specs.declared.error.StoreError.TheVariants.{Fault, PowerCut, NumberEnded, Memory, Corrupt, Failed, PastFloor, Unprovable, Header}
 use Rattle.auth_store_session.specs.Machine as machine
 use Rattle.auth_store_session.specs.Machine.{Machine, Power, State, closed, live, failed, doubtful, Request, ask_open, Answer, refused, at_rest, IsShownOf, IsStep, IsStepClosed, IsStepInDoubt, IsAnswerTo, IsSaid, is_open_after, MayRefuseOpening}
 use Rattle.auth_store_session.specs.MachineCode.{request_of, config_after, config_after_all, IsLeftBy}
@@ -109,6 +109,7 @@ refuses_for m format device new cache now history pending NumberEnded shows own 
 refuses_for m format device new cache now history pending Memory shows own none cause = cause
 refuses_for m format device new cache now history pending Failed shows own none cause = cause
 refuses_for m format device new cache now history pending PastFloor shows own none cause = cause
+refuses_for m format device new cache now history pending (Unprovable why) shows own none cause = cause
 
 -- and in doubt
 doubts_for : {R : Type 0} (m : Machine) (format : Format) (device new : DeviceState R) (cache now : Cache) (e : StoreError)
@@ -122,6 +123,7 @@ doubts_for m format device new cache now NumberEnded own cause = inr cause
 doubts_for m format device new cache now Memory own cause = inr cause
 doubts_for m format device new cache now Failed own cause = inr cause
 doubts_for m format device new cache now PastFloor own cause = inr cause
+doubts_for m format device new cache now (Unprovable why) own cause = inr cause
 
 -- an opening that is refused
 pub refused_in : {R : Type 0} (m : Machine) (format : Format) (device new : DeviceState R) (cache now : Cache) (e : StoreError)
@@ -288,6 +290,12 @@ is_refused_closed key value (steps.Prune location) rest b c d =
     record { steps = λ m power h p. (refl, refl, refl); doubts = λ m power h. (refl, refl, refl); kind = refl; turned = λ power. refl }
 is_refused_closed key value (steps.ProveKey k) rest b c d =
     record { steps = λ m power h p. (refl, refl, refl); doubts = λ m power h. (refl, refl, refl); kind = refl; turned = λ power. refl }
+is_refused_closed key value (steps.ProveOperation location) rest b c d =
+    record { steps = λ m power h p. (refl, refl, refl); doubts = λ m power h. (refl, refl, refl); kind = refl; turned = λ power. refl }
+is_refused_closed key value (steps.ProveRange start stop) rest b c d =
+    record { steps = λ m power h p. (refl, refl, refl); doubts = λ m power h. (refl, refl, refl); kind = refl; turned = λ power. refl }
+is_refused_closed key value (steps.ProveLog start stop) rest b c d =
+    record { steps = λ m power h p. (refl, refl, refl); doubts = λ m power h. (refl, refl, refl); kind = refl; turned = λ power. refl }
 is_refused_closed key value steps.Close rest b c d =
     record { steps = λ m power h p. (refl, refl, refl); doubts = λ m power h. (refl, refl, refl); kind = refl; turned = λ power. refl }
 
@@ -378,6 +386,9 @@ config_kept steps.Floor other before = refl
 config_kept steps.Len other before = refl
 config_kept (steps.Prune location) other before = refl
 config_kept (steps.ProveKey k) other before = refl
+config_kept (steps.ProveOperation location) other before = refl
+config_kept (steps.ProveRange start stop) other before = refl
+config_kept (steps.ProveLog start stop) other before = refl
 config_kept steps.Close other before = refl
 config_kept steps.Crash other before = refl
 config_kept (steps.CutAfter calls) other before = refl
@@ -397,6 +408,9 @@ left_kept steps.Floor other before = refl
 left_kept steps.Len other before = refl
 left_kept (steps.Prune location) other before = refl
 left_kept (steps.ProveKey k) other before = refl
+left_kept (steps.ProveOperation location) other before = refl
+left_kept (steps.ProveRange start stop) other before = refl
+left_kept (steps.ProveLog start stop) other before = refl
 left_kept steps.Close other before = refl
 
 -- one step of several is taken

@@ -7,17 +7,17 @@ use Rattle.auth_store_parts.specs.Batch.{Word}
 use Rattle.auth_store_parts.specs.History.{History, Commit, latest_map}
 use Rattle.auth_store_parts.specs.Map.{value_at}
 use Rattle.auth_store_log.specs.Records.{Format}
-use Rattle.auth_store_ledger.specs.Proving.{KeyAnswer}
 use Rattle.auth_store_ledger.specs.Store.{commit_after, floor_of, IsPrunedUpTo}
+use Rattle.auth_store_ledger.specs.declared.error.Unprovable.{Unprovable as NoProof}
 use Rattle.auth_store_session.specs.declared.error.StoreError.{StoreError}
-use Rattle.auth_store_session.specs.declared.error.StoreError.TheVariants.{Failed, Memory, PastFloor}
-use Rattle.auth_store_session.specs.Machine.{Machine, Power, State, closed, live, failed, doubtful, Request, ask_open, ask_crash, ask_commit, ask_get, ask_prune, ask_proof, Answer, still_open, committed, value, pruned_to, proof, refused, IsStep, IsStepLive, IsStepFailed, MayRefuseRead, commit_of, proof_of}
+use Rattle.auth_store_session.specs.declared.error.StoreError.TheVariants.{Fault, PowerCut, NumberEnded, Memory, Corrupt, Failed, PastFloor, Unprovable, Header}
+use Rattle.auth_store_session.specs.Machine.{Machine, Power, State, closed, live, failed, doubtful, Request, ask_open, ask_crash, ask_commit, ask_get, ask_prune, ask_proof, Answer, still_open, committed, value, pruned_to, proof, refused, IsStep, IsStepLive, IsStepFailed, MayRefuseRead, commit_of, Question, Proved, proof_of, told_proof}
 use Rattle.auth_store_session.specs.MachineCode.{answer_of, request_of}
 use Rattle.auth_store_session.specs.declared.session.Step.{Step}
 use Rattle.auth_store_session.specs.declared.session.Step.TheVariants as steps
 use Rattle.auth_store_session.specs.declared.sizes.Sizes.{Sizes}
 use Rattle.auth_store_session.proofs.Powers.{leaves_none, stays}
-use Rattle.auth_store_session.specs.Standing.{Commits, IsLeftOpen, StandsFor, MovesOpen, StepsOpen, power_of, result_of}
+use Rattle.auth_store_session.specs.Standing.{AnswersProof, Commits, IsLeftOpen, StandsFor, MovesOpen, StepsOpen, power_of, result_of}
 use Rattle.auth_store_session.specs.Stores.{StoreState, IsLiveAt, Shows}
 
 -- what a failed store answers to a request
@@ -85,25 +85,44 @@ gets_in m format encoding key old new result is refuses stays kept lost (failed 
 gets_in m format encoding key old new result is refuses stays kept lost (closed history pending) stands = absurd stands
 gets_in m format encoding key old new result is refuses stays kept lost (doubtful history) stands = absurd stands
 
+-- memory may lack for any proof
+pub lacks_memory : {A : Type 0} (said : A → Proved) (expected : Result Proved NoProof) (e : StoreError) → e ≡ Memory
+    → AnswersProof said expected (Err e)
+lacks_memory said expected e is = subst (λ x. AnswersProof said expected (Err x)) (sym is) tt
+
 -- a proof that is made
-pub proves_in : {R P : Type 0} (m : Machine) (format : Format) (said : P → KeyAnswer) (key : List ℕ) (store : StoreState R)
+pub proves_in : {R P : Type 0} (m : Machine) (format : Format) (said : P → Proved) (question : Question) (store : StoreState R)
     (result : Result P StoreError)
-    → ((history : History) → IsLiveAt store history → IfOk result (λ found. said found ≡ proof_of m history key))
-    → ((history : History) → IsLiveAt store history → IfErr result (λ e. e ≡ Memory))
+    → ((history : History) → IsLiveAt store history → AnswersProof said (proof_of m history store.pruned question) result)
     → (store.live ≡ None → result ≡ Err Failed)
-    → MovesOpen m format store (ask_proof key) (answer_of (λ found. proof (said found)) result) store
-proves_in m format said key store (Ok found) is refuses lost (live history pruned) stands =
-    (live history pruned, (refl, inl (ap proof (is history stands.0)), refl), stands)
-proves_in m format said key store (Err e) is refuses lost (live history pruned) stands = (
+    → MovesOpen m format store (ask_proof question) (answer_of (λ found. proof (said found)) result) store
+proves_in m format said question store (Ok found) is lost (live history pruned) stands = (
   live history pruned,
-  (refl, inr (ap refused (refuses history stands.0)), refl),
+  (refl, inl (sym (ap told_proof (ap (λ (n : ℕ). proof_of m history n question) (sym stands.1) ∙ is history stands.0))), refl),
   stands,
 )
-proves_in m format said key store result is refuses lost (failed history commit) stands =
-    stays_failed m format store store (ask_proof key) (λ found. proof (said found)) result history commit
+proves_in m format said question store (Err (Unprovable why)) is lost (live history pruned) stands = (
+  live history pruned,
+  (refl, inl (sym (ap told_proof (ap (λ (n : ℕ). proof_of m history n question) (sym stands.1) ∙ is history stands.0))), refl),
+  stands,
+)
+proves_in m format said question store (Err Memory) is lost (live history pruned) stands = (
+  live history pruned,
+  (refl, inr refl, refl),
+  stands,
+)
+proves_in m format said question store (Err (Fault kind)) is lost (live history pruned) stands = absurd (is history stands.0)
+proves_in m format said question store (Err PowerCut) is lost (live history pruned) stands = absurd (is history stands.0)
+proves_in m format said question store (Err NumberEnded) is lost (live history pruned) stands = absurd (is history stands.0)
+proves_in m format said question store (Err Corrupt) is lost (live history pruned) stands = absurd (is history stands.0)
+proves_in m format said question store (Err Failed) is lost (live history pruned) stands = absurd (is history stands.0)
+proves_in m format said question store (Err PastFloor) is lost (live history pruned) stands = absurd (is history stands.0)
+proves_in m format said question store (Err (Header fault)) is lost (live history pruned) stands = absurd (is history stands.0)
+proves_in m format said question store result is lost (failed history commit) stands =
+    stays_failed m format store store (ask_proof question) (λ found. proof (said found)) result history commit
     (lost stands.0, refl) (λ power h c answer at. (at, refl, refl)) stands
-proves_in m format said key store result is refuses lost (closed history pending) stands = absurd stands
-proves_in m format said key store result is refuses lost (doubtful history) stands = absurd stands
+proves_in m format said question store result is lost (closed history pending) stands = absurd stands
+proves_in m format said question store result is lost (doubtful history) stands = absurd stands
 
 -- a store that is pruned
 pub prunes_in : {R : Type 0} (m : Machine) (format : Format) (location : ℕ) (old new : StoreState R) (result : Result ℕ StoreError)

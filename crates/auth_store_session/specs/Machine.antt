@@ -11,7 +11,8 @@ use Rattle.auth_store_device.specs.Devices.{after_asking, is_cut}
 use Rattle.auth_store_parts.specs.History.{History, Commit, latest_map, log_of}
 use Rattle.auth_store_ledger.specs.Store.{setting_of_width, floor_of, root_of_history, commit_after, IsPrunedUpTo}
 use Rattle.auth_store_log.specs.Records.{log_bytes}
-use Rattle.auth_store_ledger.specs.Proving.{KeyAnswer, honest_answer}
+use Rattle.auth_store_ledger.specs.Proving.{KeyAnswer, OperationAnswer, RangeAnswer, SliceAnswer, honest_answer, answer_of_operation, answer_of_range, answer_of_slice, is_before_chunks}
+use Rattle.auth_store_ledger.specs.declared.error.Unprovable.{Unprovable}
 use Rattle.auth_store_session.specs.declared.error.StoreError.{StoreError}
 use Rattle.auth_store_session.specs.declared.error.StoreError.TheVariants as refusals
 use Rattle.auth_store_session.specs.Refusals.{IsOfChange, IsOfRead}
@@ -77,6 +78,21 @@ IsCertain _ = ⊤
 abbrev pub GoesOn : History → History → Type 0
 GoesOn history later = (more : History) × (later ≡ more ++ history)
 
+-- of what a session is asked for a proof: of a key's value or its absence, that the operation at a location is active, and of the
+-- operations from one location up to another, with their activity bits or without
+pub data Question : Type 0 where
+  of_key : List ℕ → Question
+  of_operation : ℕ → Question
+  of_range : ℕ → ℕ → Question
+  of_slice : ℕ → ℕ → Question
+
+-- what is proved, with the bytes of the proof
+pub data Proved : Type 0 where
+  key_is : KeyAnswer → Proved
+  operation_is : OperationAnswer → Proved
+  range_is : RangeAnswer → Proved
+  slice_is : SliceAnswer → Proved
+
 -- what a session is asked
 pub data Request : Type 0 where
   ask_open : Request
@@ -87,7 +103,7 @@ pub data Request : Type 0 where
   ask_floor : Request
   ask_len : Request
   ask_prune : ℕ → Request
-  ask_proof : List ℕ → Request
+  ask_proof : Question → Request
   ask_close : Request
   ask_crash : Request
   ask_config : Request
@@ -103,7 +119,7 @@ pub data Answer : Type 0 where
   floor_is : ℕ → Answer
   len_is : ℕ → Answer
   pruned_to : ℕ → Answer
-  proof : KeyAnswer → Answer
+  proof : Proved → Answer
   has_closed : Answer
   has_crashed : Answer
   is_set : Answer
@@ -170,9 +186,26 @@ abbrev pub IsEndingOpening : Power → Type 0
 IsEndingOpening power =
     IsEnding power ⊎ (2 ^ 64 ≤ power.names + 3) ⊎ (2 ^ 64 ≤ power.size + 4096) ⊎ (2 ^ 64 ≤ power.files + 1)
 
--- the key's value with its honest proof, or the honest proof that it is absent
-abbrev pub proof_of : Machine → History → List ℕ → KeyAnswer
-proof_of m history key = honest_answer m.pending m.setting m.key_size m.value_size history key
+-- what there is, as this
+abbrev pub as_proved : {A : Type 0} → (A → Proved) → Result A Unprovable → Result Proved Unprovable
+as_proved said (Ok answer) = Ok (said answer)
+as_proved said (Err why) = Err why
+
+-- The honest proof of what is asked, where so many chunks are pruned, or why there is none. Of a key there is always one: of its value, or
+-- that it is absent.
+abbrev pub proof_of : Machine → History → ℕ → Question → Result Proved Unprovable
+proof_of m history pruned (of_key key) = Ok (key_is (honest_answer m.pending m.setting m.key_size m.value_size history key))
+proof_of m history pruned (of_operation location) =
+    as_proved operation_is (answer_of_operation m.pending m.setting m.key_size m.value_size history pruned location)
+proof_of m history pruned (of_range start stop) =
+    as_proved range_is (answer_of_range m.pending m.setting m.key_size m.value_size history pruned start stop)
+proof_of m history pruned (of_slice start stop) =
+    as_proved slice_is (answer_of_slice m.pending m.setting m.key_size m.value_size history pruned start stop)
+
+-- the answer that tells it
+abbrev pub told_proof : Result Proved Unprovable → Answer
+told_proof (Ok proved) = proof proved
+told_proof (Err why) = refused (refusals.Unprovable why)
 
 -- the history, or the history with the pending commit
 abbrev pub IsShownOf : History → Option Commit → History → Type 0
@@ -295,8 +328,9 @@ IsStepLive m before after history pruned (ask_get key) answer next =
     (next ≡ live history pruned)
     × ((answer ≡ value (value_at (latest_map history) key))
     ⊎ ((error : StoreError) × (answer ≡ refused error) × MayRefuseRead before after error))
-IsStepLive m before after history pruned (ask_proof key) answer next =
-    (next ≡ live history pruned) × ((answer ≡ proof (proof_of m history key)) ⊎ (answer ≡ refused refusals.Memory))
+IsStepLive m before after history pruned (ask_proof question) answer next =
+    (next ≡ live history pruned)
+    × ((answer ≡ told_proof (proof_of m history pruned question)) ⊎ (answer ≡ refused refusals.Memory))
     × (after ≡ before)
 IsStepLive m before after history pruned (ask_prune location) answer next =
     IsPruning m history pruned location answer next × (after ≡ before)
@@ -396,6 +430,13 @@ abbrev pub AsksNoPrune : Request → Type 0
 AsksNoPrune (ask_prune location) = ⊥
 AsksNoPrune _ = ⊤
 
+-- what it asks a proof of does not stand before so many chunks
+abbrev pub IsBehind : Machine → ℕ → Request → Type 0
+IsBehind m pruned (ask_proof (of_operation location)) = IsFalse (is_before_chunks m.setting pruned location)
+IsBehind m pruned (ask_proof (of_range start stop)) = IsFalse (is_before_chunks m.setting pruned start)
+IsBehind m pruned (ask_proof (of_slice start stop)) = IsFalse (is_before_chunks m.setting pruned start)
+IsBehind m pruned _ = ⊤
+
 -- an opening or a commit has succeeded
 abbrev pub acknowledges : Answer → Bool
 acknowledges opened = true
@@ -465,7 +506,7 @@ IsAnswerTo true ask_commits answer = IsSaid is_commits answer
 IsAnswerTo true ask_floor answer = IsSaid is_floor answer
 IsAnswerTo true ask_len answer = IsSaid is_len answer
 IsAnswerTo true (ask_prune location) answer = IsSaid is_pruned answer
-IsAnswerTo true (ask_proof key) answer = IsSaid is_proof answer
+IsAnswerTo true (ask_proof question) answer = IsSaid is_proof answer
 
 -- whether a session has an open store after an answer, by whether it had one before
 abbrev pub is_open_after : Bool → Answer → Bool

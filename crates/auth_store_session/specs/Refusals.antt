@@ -1,5 +1,5 @@
 -- The refusals of a store by their numbers, and from those of what it stands on.
-use Rattle.std.specs.Prelude.{◌≡◌, ◌⊎◌, ℕ, List, codes, Option, Some, None}
+use Rattle.std.specs.Prelude.{◌≡◌, ◌⊎◌, ⊤, ℕ, List, codes, Option, Some, None}
 use Rattle.paged_blob.specs.declared.error.CallKind.{CallKind}
 use Rattle.paged_blob.specs.declared.error.CallKind.TheVariants.{Read, Write, Sync}
 use Rattle.paged_blob.specs.declared.error.Error.{Error}
@@ -10,8 +10,19 @@ use Rattle.auth_store_log.specs.declared.error.LogError.{LogError}
 use Rattle.auth_store_log.specs.declared.error.LogError.TheVariants as logs
 use Rattle.auth_store_ledger.specs.declared.error.LedgerError.{LedgerError}
 use Rattle.auth_store_ledger.specs.declared.error.LedgerError.TheVariants as ledgers
+use Rattle.auth_store_ledger.specs.declared.error.ProofError.{ProofError}
+use Rattle.auth_store_ledger.specs.declared.error.ProofError.TheVariants as proofs
+use Rattle.auth_store_ledger.specs.declared.error.Unprovable.{Unprovable as Why}
+use Rattle.auth_store_ledger.specs.declared.error.Unprovable.TheVariants.{EmptyRange, OutOfRange, Pruned, Inactive}
 use Rattle.auth_store_session.specs.declared.error.StoreError.{StoreError}
-use Rattle.auth_store_session.specs.declared.error.StoreError.TheVariants.{Fault, PowerCut, NumberEnded, Memory, Corrupt, Failed, PastFloor, Header}
+use Rattle.auth_store_session.specs.declared.error.StoreError.TheVariants.{Fault, PowerCut, NumberEnded, Memory, Corrupt, Failed, PastFloor, Unprovable, Header}
+
+-- of there being no proof
+abbrev pub number_of_proof : Why → List ℕ
+number_of_proof Inactive = codes "S8"
+number_of_proof OutOfRange = codes "S9"
+number_of_proof Pruned = codes "S10"
+number_of_proof EmptyRange = codes "S11"
 
 abbrev pub number_of : StoreError → List ℕ
 number_of (Fault kind) = codes "S1"
@@ -21,12 +32,25 @@ number_of Memory = codes "S4"
 number_of Corrupt = codes "S5"
 number_of Failed = codes "S6"
 number_of PastFloor = codes "S7"
+number_of (Unprovable why) = number_of_proof why
 number_of (Header fault) = codes "S12"
 
 -- what a ledger refuses
 abbrev pub of_ledger : LedgerError → StoreError
 of_ledger ledgers.NumberEnded = NumberEnded
 of_ledger ledgers.Memory = Memory
+
+-- what it refuses where it is asked for a proof
+abbrev pub of_proof : ProofError → StoreError
+of_proof (proofs.Unprovable why) = Unprovable why
+of_proof proofs.Memory = Memory
+
+-- why a call that is asked for a proof may refuse: there is none, memory was lacking, or the store had failed
+abbrev pub IsOfProof : StoreError → Type 0
+IsOfProof (Unprovable why) = ⊤
+IsOfProof Memory = ⊤
+IsOfProof Failed = ⊤
+IsOfProof _ = ⊥
 
 -- what a call of the open log, or over it, refuses
 abbrev pub of_blob : Error → StoreError

@@ -14,9 +14,10 @@ use Rattle.auth_store_device.specs.Logs.{behind_header, durable_log, HasOwnHeade
 use Rattle.auth_store_log.specs.Records.{Format, begun, history_bytes, recovered_log}
 use Rattle.auth_store_log.specs.Shown.{IsKeptThrough}
 use Rattle.auth_store_ledger.specs.Store.{commit_after, root_of_history}
+use Rattle.auth_store_ledger.specs.declared.error.Unprovable.{Unprovable}
 use Rattle.auth_store_session.specs.declared.error.StoreError.{StoreError}
 use Rattle.auth_store_session.specs.declared.error.StoreError.TheVariants as refusals
-use Rattle.auth_store_session.specs.Machine.{Machine, Power, State, closed, live, failed, doubtful, Request, ask_open, ask_close, Answer, at_rest, IsStep, IsRun, IsRunInDoubt, AreAnswersTo, Passes, MayRefuseOpening, MayRefuseCommit, commit_of}
+use Rattle.auth_store_session.specs.Machine.{Machine, Power, State, closed, live, failed, doubtful, Request, ask_open, ask_close, Answer, at_rest, Proved, IsStep, IsRun, IsRunInDoubt, AreAnswersTo, Passes, MayRefuseOpening, MayRefuseCommit, commit_of}
 use Rattle.auth_store_session.specs.Stores.{StoreState, IsCache, IsLiveAt, IsNoHistory, IsWritten, IsKept, Shows}
 
 -- a session: the device and the cache while no store is open, or the store
@@ -43,6 +44,13 @@ power_of device cache = record {
 abbrev pub result_of : {D E : Type 0} → (D → List ℕ) → Result D E → Result (List ℕ) E
 result_of encoding (Ok root) = Ok (encoding root)
 result_of encoding (Err e) = Err e
+
+-- what a call answers that is asked for a proof, where this is the proof, or why there is none: that, or memory was lacking
+abbrev pub AnswersProof : {A : Type 0} → (A → Proved) → Result Proved Unprovable → Result A StoreError → Type 0
+AnswersProof said expected (Ok found) = expected ≡ Ok (said found)
+AnswersProof said expected (Err (refusals.Unprovable why)) = expected ≡ Err why
+AnswersProof said expected (Err refusals.Memory) = ⊤
+AnswersProof said expected (Err error) = ⊥
 
 -- a commit of a batch: it is in, with the root of the history with it, and no cut stood before; or it is refused, and the store is as
 -- it was, or has failed, and openings show it or not

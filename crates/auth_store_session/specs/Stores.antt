@@ -124,3 +124,7 @@ IsCommitRefusal before after Ends error = IsRefusal before after Ends error
 -- the store has not failed, and this is its history
 abbrev pub IsLiveAt : {R : Type 0} → StoreState R → History → Type 0
 IsLiveAt store history = (now : LiveState) × (store.live ≡ Some now) × (now.history ≡ history)
+
+-- while it has not failed, so many bytes wait in its writer at most
+abbrev pub HasBuffer : {R : Type 0} → ℕ → StoreState R → Type 0
+HasBuffer bytes store = IfSome store.live (λ live. live.writer.tip.capacity ≡ bytes)

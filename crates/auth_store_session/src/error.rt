@@ -2,10 +2,11 @@
 
 ghost use Rattle.std.specs.Prelude.{◌≡◌, codes};
 ghost use Rattle.auth_store_session.specs.declared.error.StoreError.TheVariants.{Memory};
-ghost use Rattle.auth_store_session.specs.Refusals.{number_of, of_blob, of_ledger, of_log, of_opening};
+ghost use Rattle.auth_store_session.specs.Refusals.{number_of, number_of_proof, of_blob, of_ledger, of_log, of_opening};
+ghost use Rattle.auth_store_session.specs.Refusals.{of_proof};
 
 use auth_store_device::OpenError;
-use auth_store_ledger::LedgerError;
+use auth_store_ledger::{LedgerError, ProofError, Unprovable};
 use auth_store_log::LogError;
 use fault_storage::HeaderError;
 use paged_blob::{CallKind, Error};
@@ -35,13 +36,28 @@ pub enum StoreError {
     /// S7: pruning past the floor.
     #[error("S7: past the floor")]
     PastFloor,
+    /// S8 to S11: there is no proof of what was asked for.
+    #[error("{0}")]
+    Unprovable(Unprovable),
     /// S12: the log's header is refused.
     #[error("S12: {0}")]
     Header(HeaderError),
 }
 
+// The number of the refusal: `"S8"` to `"S11"`.
+fn number_of_proof(why: Unprovable) -> &'static str
+    ensures { result.now ≡ number_of_proof why }
+{
+    match why {
+        Unprovable::Inactive => "S8",
+        Unprovable::OutOfRange => "S9",
+        Unprovable::Pruned => "S10",
+        Unprovable::EmptyRange => "S11",
+    }
+}
+
 impl StoreError {
-    /// The refusal's number: `"S1"` to `"S7"`, or `"S12"`.
+    /// The refusal's number: `"S1"` to `"S12"`.
     pub fn number(&self) -> &'static str
         ensures { result.now ≡ number_of self.now }
     {
@@ -53,6 +69,7 @@ impl StoreError {
             StoreError::Corrupt => "S5",
             StoreError::Failed => "S6",
             StoreError::PastFloor => "S7",
+            StoreError::Unprovable(why) => number_of_proof(*why),
             StoreError::Header(_) => "S12",
         }
     }
@@ -81,6 +98,17 @@ impl From<LedgerError> for StoreError {
         match refused {
             LedgerError::NumberEnded => StoreError::NumberEnded,
             LedgerError::Memory => StoreError::Memory,
+        }
+    }
+}
+
+impl From<ProofError> for StoreError {
+    ghost from_gives = { λ refused e. e ≡ of_proof refused };
+
+    fn from(refused: ProofError) -> StoreError {
+        match refused {
+            ProofError::Unprovable(why) => StoreError::Unprovable(why),
+            ProofError::Memory => StoreError::Memory,
         }
     }
 }

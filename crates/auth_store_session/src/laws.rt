@@ -12,7 +12,7 @@ ghost use Rattle.auth_store_device.specs.Devices.{DeviceState};
 ghost use Rattle.auth_store_device.specs.Settings.{IsNew};
 ghost use Rattle.auth_store_log.specs.Records.{Format, begun, history_bytes, recovered_log};
 ghost use Rattle.auth_store_session.specs.Machine.{Machine, Power, State, Request, Answer, IsShownOf, IsStep, IsRun, Passes};
-ghost use Rattle.auth_store_session.specs.Machine.{AsksNoPrune, ask_prune, live};
+ghost use Rattle.auth_store_session.specs.Machine.{AsksNoPrune, IsBehind, ask_prune, live};
 ghost use Rattle.auth_store_session.specs.Machine.{AskNoCut, TellNoCut, faults_told, AskNoCrash, AcknowledgeNone};
 ghost use Rattle.auth_store_session.specs.Machine.{closed, in_doubt, kept_history, Begins, GoesOn, IsCertain, IsRunInDoubt};
 ghost use Rattle.auth_store_session.specs.Standing.{IsOpenedThrough, StandsFor};
@@ -105,14 +105,15 @@ pub fn what_is_kept_stays_in_doubt()
         → Begins (kept_history first) (kept_history last) }
 {}
 
-/// Pruning changes no root, no value and no proof: a prune leaves the history, and to each other request a live store
-/// answers what it answers with any other number of chunks pruned, and has the same history after it.
+/// Pruning changes no root, no value and no proof that is still answered: a prune leaves the history, and to each other
+/// request a live store answers what it answers with any other number of chunks pruned, and has the same history after it;
+/// but a proof of operations is to be asked from what is pruned in neither on.
 pub fn pruning_changes_no_answer()
     ensures history { (m : Machine) (before after : Power) (history : History) (pruned location : ℕ) (answer : Answer)
         (next : State) → IsStep m before after (live history pruned) (ask_prune location) answer next
         → (chunks : ℕ) × (next ≡ live history chunks) }
     ensures answers { (m : Machine) (before after : Power) (history : History) (pruned other : ℕ) (request : Request)
-        (answer : Answer) (next : State) → AsksNoPrune request
+        (answer : Answer) (next : State) → AsksNoPrune request → IsBehind m pruned request → IsBehind m other request
         → IsStep m before after (live history pruned) request answer next
         → (later : State) × IsStep m before after (live history other) request answer later
         × (kept_history later ≡ kept_history next) }

@@ -1,6 +1,6 @@
 //! What an open store has while it has not failed, over a blob of any make.
 
-ghost use Rattle.std.specs.Prelude.{◌≡◌, ◌⊎◌, ◌+◌, ◌++◌, ◌≤◌, ◌<◌, ◌^◌, [], length, true, false, IsFalse, IfOk, IfErr, OnOk, OnErr, IfSome};
+ghost use Rattle.std.specs.Prelude.{◌≡◌, ◌⊎◌, ◌+◌, ◌++◌, ◌≤◌, ◌<◌, ◌^◌, [], max, length, true, false, IsFalse, IfOk, IfErr, OnOk, OnErr, IfSome};
 ghost use Rattle.std.specs.Prelude.{List, option_map, Some, None, Err, MatchResult, IsSomeAnd};
 ghost use Rattle.fault_storage_parts.specs.Crc32.{crc32};
 ghost use Rattle.paged_blob.specs.Answers.{IsPowerOff};
@@ -23,7 +23,7 @@ use auth_store_ledger::{Batch, Ledger};
 use auth_store_log::laws::a_kept_log_is_shown;
 use auth_store_log::{append_batch, operations_of, read_operation, recover};
 use fault_storage::Crc32;
-use merkle_forest::{Family, HashFunction};
+use merkle_forest::{Graftable, HashFunction};
 use paged_blob::laws::each_image_keeps_what_is_durable;
 use paged_blob::{Blob, CacheRef, Writer};
 use state_ops::{FixedKey, FixedValue, Operation};
@@ -32,14 +32,14 @@ use std::marker::Model;
 
 /// The history in memory, and the writer of its log.
 #[derive(Drop)]
-pub struct Live<F: Family, H: HashFunction, K: FixedKey, V: FixedValue, const N: usize> {
+pub struct Live<F: Graftable, H: HashFunction, K: FixedKey, V: FixedValue, const N: usize> {
     /// The history.
     pub ledger: Ledger<F, H, K, V, N>,
     /// The writer of its log.
     pub writer: Writer<Crc32>,
 }
 
-impl<F: Family, H: HashFunction, K: FixedKey, V: FixedValue, const N: usize> Model
+impl<F: Graftable, H: HashFunction, K: FixedKey, V: FixedValue, const N: usize> Model
     for Live<F, H, K, V, N> {
     ghost use Rattle.auth_store_session.specs.Stores.{LiveState};
 
@@ -48,7 +48,13 @@ impl<F: Family, H: HashFunction, K: FixedKey, V: FixedValue, const N: usize> Mod
     ghost view = { λ l. record { history = l.ledger; writer = l.writer } };
 }
 
-impl<F: Family, H: HashFunction, K: FixedKey, V: FixedValue, const N: usize> Live<F, H, K, V, N> {
+impl<F: Graftable, H: HashFunction, K: FixedKey, V: FixedValue, const N: usize> Live<
+    F,
+    H,
+    K,
+    V,
+    N,
+> {
     /// The law that openings show the history of a live store, while nothing else is called of its blob (own).
     pub(crate) fn is_shown(&self)
         ensures { let format = format_of (K.after tt) (V.after tt) K.SIZE V.SIZE in (calls : List Call) (cache : Cache)
@@ -72,7 +78,7 @@ pub fn recover_live<B, F, H, K, V, const N: usize>(
 ) -> Result<Live<F, H, K, V, N>, StoreError>
 where
     B: Blob,
-    F: Family,
+    F: Graftable,
     H: HashFunction,
     K: FixedKey,
     V: FixedValue,
@@ -88,6 +94,7 @@ where
         live.history ≡ begun (format_of (K.after tt) (V.after tt) K.SIZE V.SIZE)
         (recovered_log (format_of (K.after tt) (V.after tt) K.SIZE V.SIZE) crc32 (cache.old.page_size + 12)
         (content (B.calls blob.old)))) }
+    ensures capacity { IfOk result (λ live. live.writer.tip.capacity ≡ max capacity (cache.old.page_size + 12)) }
     ensures any_moment { Through (IsKeptThrough (format_of (K.after tt) (V.after tt) K.SIZE V.SIZE) crc32
         (cache.old.page_size + 12) (recovered_log (format_of (K.after tt) (V.after tt) K.SIZE V.SIZE) crc32
         (cache.old.page_size + 12) (content (B.calls blob.old)))) (B.calls blob.old) (B.calls blob.new) }
@@ -121,7 +128,7 @@ fn append_live<B, F, H, K, V, const N: usize>(
 ) -> Result<Live<F, H, K, V, N>, StoreError>
 where
     B: Blob,
-    F: Family,
+    F: Graftable,
     H: HashFunction,
     K: FixedKey,
     V: FixedValue,
@@ -172,7 +179,7 @@ fn grow_live<B, F, H, K, V, const N: usize>(
 ) -> Result<Live<F, H, K, V, N>, (Option<Live<F, H, K, V, N>>, StoreError)>
 where
     B: Blob,
-    F: Family,
+    F: Graftable,
     H: HashFunction,
     K: FixedKey,
     V: FixedValue,
@@ -235,7 +242,7 @@ pub fn commit_live<B, F, H, K, V, const N: usize>(
 ) -> Result<H::Digest, StoreError>
 where
     B: Blob,
-    F: Family,
+    F: Graftable,
     H: HashFunction,
     K: FixedKey,
     V: FixedValue,
@@ -296,7 +303,7 @@ pub fn get_live<B, F, H, K, V, const N: usize>(
 ) -> Result<Option<V>, StoreError>
 where
     B: Blob,
-    F: Family,
+    F: Graftable,
     H: HashFunction,
     K: FixedKey,
     V: FixedValue,

@@ -10,7 +10,7 @@
 //!     +--- Close ------------+--------------------- Close ----------------------+
 //! ```
 
-ghost use Rattle.std.specs.Prelude.{◌≡◌, ◌+◌, ℕ, Option, None, Some, is_some, option_map, true, false};
+ghost use Rattle.std.specs.Prelude.{◌≡◌, ◌+◌, ℕ, max, Option, None, Some, IfSome, is_some, option_map, true, false};
 ghost use Rattle.fault_storage_parts.specs.declared.config.Config as settings;
 ghost use Rattle.paged_blob.specs.Caches.{Cache};
 ghost use Rattle.paged_blob.specs.Moments.{Grows};
@@ -21,19 +21,20 @@ ghost use Rattle.auth_store_parts.specs.Batch as words;
 ghost use Rattle.auth_store_session.specs.Machine.{ask_open, ask_crash, ask_config, ask_cut, ask_close, ask_commit};
 ghost use Rattle.auth_store_session.specs.Machine.{ask_get, ask_root, ask_commits, ask_floor, ask_len, ask_prune, ask_proof};
 ghost use Rattle.auth_store_session.specs.Machine.{IsSaid, is_root_of_commit, is_value, is_root, is_commits, is_floor};
-ghost use Rattle.auth_store_session.specs.Machine.{is_len, is_pruned, is_proof, is_set};
+ghost use Rattle.auth_store_session.specs.Machine.{is_len, is_pruned, is_proof, is_set, of_key, of_operation, of_range, of_slice};
 ghost use Rattle.auth_store_device.specs.Devices.{after_asking};
 ghost use Rattle.auth_store_session.specs.MachineCode.{meaning_of, request_of, config_after, IsLeftBy};
 ghost use Rattle.auth_store_session.specs.Standing.{IsAtRest, IsLeftOpen, StandsFor, Steps, StepsOpen, closed_at};
+ghost use Rattle.auth_store_session.specs.declared.sizes.Sizes as buffers;
 ghost use Rattle.auth_store_session.specs.Standing.{calls_in, config_in, left_in, page_size_in, power_in, power_of};
-ghost use Rattle.auth_store_session.specs.Stores.{IsCache};
+ghost use Rattle.auth_store_session.specs.Stores.{HasBuffer, IsCache};
 
 use crate::error::StoreError;
 use crate::laws::an_opening_shows_what_stood;
 use crate::sizes::Sizes;
 use crate::store::{NotOpened, Store};
 use auth_store_device::Device;
-use auth_store_ledger::{Batch, KeyProof};
+use auth_store_ledger::{Batch, KeyProof, ProvedOperation, ProvedRange, ProvedSlice};
 use fault_storage::Config;
 use merkle_forest::{Family, Graftable, HashFunction, PendingOf};
 use paged_blob::CacheRef;
@@ -63,6 +64,12 @@ pub enum Step<K, V> {
     Prune(u64),
     /// Asks for the value of a key, or that it is absent, and its proof.
     ProveKey(K),
+    /// Asks for the operation at a location and the proof that it is active.
+    ProveOperation(u64),
+    /// Asks for the operations from a location up to another, their activity bits and the proof of both.
+    ProveRange(u64, u64),
+    /// Asks for the operations from a location up to another and the proof that the log has them.
+    ProveLog(u64, u64),
     /// Closes the store.
     Close,
     /// Crashes the device.
@@ -75,7 +82,7 @@ pub enum Step<K, V> {
 
 /// What a session answers to a step: what the store's call answers, or why there was none.
 #[derive(Debug, Drop)]
-pub enum Answer<D, V> {
+pub enum Answer<F: Family, D, K: FixedKey, V: FixedValue> {
     /// The store is open.
     Opened,
     /// The batch is committed; the new root.
@@ -94,6 +101,12 @@ pub enum Answer<D, V> {
     Pruned(u64),
     /// The key's value, or that it is absent, and its proof.
     Proof(KeyProof<V>),
+    /// An active operation and its proof.
+    Operation(ProvedOperation<F, K, V>),
+    /// Operations with their activity bits and the proof of both.
+    Range(ProvedRange<F, K, V>),
+    /// Operations and the proof that the log has them.
+    Slice(ProvedSlice<F, K, V>),
     /// The store is closed.
     Closed,
     /// The device has crashed.
@@ -113,7 +126,7 @@ fn commit<R, F, H, K, V, const N: usize>(
     store: &mut Store<R, F, H, K, V, N>,
     batch: Batch<K, V>,
     metadata: Option<V>,
-) -> Answer<H::Digest, V>
+) -> Answer<F, H::Digest, K, V>
 where
     R: Rng + Drop,
     F: Graftable + PendingOf<H::Digest>,
@@ -124,8 +137,8 @@ where
         let size = store.old.cache.page_size + 12 in
         let m = machine F.merge_rule H.hash_of F.pending_encoding N K.SIZE V.SIZE size in
         StepsOpen m format store.old (ask_commit (words.meanings K.encoding V.encoding batch.words.items)
-        (option_map V.encoding metadata)) (meaning_of H.Digest.encoding V.encoding result) store.new }
-    ensures kind { IsSaid is_root_of_commit (meaning_of H.Digest.encoding V.encoding result) }
+        (option_map V.encoding metadata)) (meaning_of H.Digest.encoding K.encoding V.encoding result) store.new }
+    ensures kind { IsSaid is_root_of_commit (meaning_of H.Digest.encoding K.encoding V.encoding result) }
     ensures page_size { store.new.cache.page_size ≡ store.old.cache.page_size }
     ensures grows { Grows store.old.device.calls store.new.device.calls }
     ensures settings { store.new.device.storage.config ≡ store.old.device.storage.config }
@@ -140,7 +153,7 @@ where
 fn get<R, F, H, K, V, const N: usize>(
     store: &mut Store<R, F, H, K, V, N>,
     key: &K,
-) -> Answer<H::Digest, V>
+) -> Answer<F, H::Digest, K, V>
 where
     R: Rng + Drop,
     F: Graftable + PendingOf<H::Digest>,
@@ -151,8 +164,8 @@ where
         let size = store.old.cache.page_size + 12 in
         let m = machine F.merge_rule H.hash_of F.pending_encoding N K.SIZE V.SIZE size in
         StepsOpen m format store.old (ask_get (K.encoding key.now))
-        (meaning_of H.Digest.encoding V.encoding result) store.new }
-    ensures kind { IsSaid is_value (meaning_of H.Digest.encoding V.encoding result) }
+        (meaning_of H.Digest.encoding K.encoding V.encoding result) store.new }
+    ensures kind { IsSaid is_value (meaning_of H.Digest.encoding K.encoding V.encoding result) }
     ensures page_size { store.new.cache.page_size ≡ store.old.cache.page_size }
     ensures grows { Grows store.old.device.calls store.new.device.calls }
     ensures settings { store.new.device.storage.config ≡ store.old.device.storage.config }
@@ -164,7 +177,9 @@ where
 }
 
 // Asks an open store for its root.
-fn root<R, F, H, K, V, const N: usize>(store: &Store<R, F, H, K, V, N>) -> Answer<H::Digest, V>
+fn root<R, F, H, K, V, const N: usize>(
+    store: &Store<R, F, H, K, V, N>,
+) -> Answer<F, H::Digest, K, V>
 where
     R: Rng + Drop,
     F: Graftable + PendingOf<H::Digest>,
@@ -174,8 +189,8 @@ where
     ensures steps { let format = format_of (K.after tt) (V.after tt) K.SIZE V.SIZE in
         let size = store.now.cache.page_size + 12 in
         let m = machine F.merge_rule H.hash_of F.pending_encoding N K.SIZE V.SIZE size in
-        StepsOpen m format store.now ask_root (meaning_of H.Digest.encoding V.encoding result) store.now }
-    ensures kind { IsSaid is_root (meaning_of H.Digest.encoding V.encoding result) }
+        StepsOpen m format store.now ask_root (meaning_of H.Digest.encoding K.encoding V.encoding result) store.now }
+    ensures kind { IsSaid is_root (meaning_of H.Digest.encoding K.encoding V.encoding result) }
 {
     match store.root() {
         Ok(root) => Answer::Root(root),
@@ -184,7 +199,9 @@ where
 }
 
 // Asks an open store for the number of its commits.
-fn commits<R, F, H, K, V, const N: usize>(store: &Store<R, F, H, K, V, N>) -> Answer<H::Digest, V>
+fn commits<R, F, H, K, V, const N: usize>(
+    store: &Store<R, F, H, K, V, N>,
+) -> Answer<F, H::Digest, K, V>
 where
     R: Rng + Drop,
     F: Graftable + PendingOf<H::Digest>,
@@ -194,8 +211,8 @@ where
     ensures steps { let format = format_of (K.after tt) (V.after tt) K.SIZE V.SIZE in
         let size = store.now.cache.page_size + 12 in
         let m = machine F.merge_rule H.hash_of F.pending_encoding N K.SIZE V.SIZE size in
-        StepsOpen m format store.now ask_commits (meaning_of H.Digest.encoding V.encoding result) store.now }
-    ensures kind { IsSaid is_commits (meaning_of H.Digest.encoding V.encoding result) }
+        StepsOpen m format store.now ask_commits (meaning_of H.Digest.encoding K.encoding V.encoding result) store.now }
+    ensures kind { IsSaid is_commits (meaning_of H.Digest.encoding K.encoding V.encoding result) }
 {
     match store.commits() {
         Ok(count) => Answer::Commits(count),
@@ -204,7 +221,9 @@ where
 }
 
 // Asks an open store for its last floor.
-fn floor<R, F, H, K, V, const N: usize>(store: &Store<R, F, H, K, V, N>) -> Answer<H::Digest, V>
+fn floor<R, F, H, K, V, const N: usize>(
+    store: &Store<R, F, H, K, V, N>,
+) -> Answer<F, H::Digest, K, V>
 where
     R: Rng + Drop,
     F: Graftable + PendingOf<H::Digest>,
@@ -214,8 +233,8 @@ where
     ensures steps { let format = format_of (K.after tt) (V.after tt) K.SIZE V.SIZE in
         let size = store.now.cache.page_size + 12 in
         let m = machine F.merge_rule H.hash_of F.pending_encoding N K.SIZE V.SIZE size in
-        StepsOpen m format store.now ask_floor (meaning_of H.Digest.encoding V.encoding result) store.now }
-    ensures kind { IsSaid is_floor (meaning_of H.Digest.encoding V.encoding result) }
+        StepsOpen m format store.now ask_floor (meaning_of H.Digest.encoding K.encoding V.encoding result) store.now }
+    ensures kind { IsSaid is_floor (meaning_of H.Digest.encoding K.encoding V.encoding result) }
 {
     match store.floor() {
         Ok(location) => Answer::Floor(location),
@@ -224,7 +243,7 @@ where
 }
 
 // Asks an open store for the number of its operations.
-fn len<R, F, H, K, V, const N: usize>(store: &Store<R, F, H, K, V, N>) -> Answer<H::Digest, V>
+fn len<R, F, H, K, V, const N: usize>(store: &Store<R, F, H, K, V, N>) -> Answer<F, H::Digest, K, V>
 where
     R: Rng + Drop,
     F: Graftable + PendingOf<H::Digest>,
@@ -234,8 +253,8 @@ where
     ensures steps { let format = format_of (K.after tt) (V.after tt) K.SIZE V.SIZE in
         let size = store.now.cache.page_size + 12 in
         let m = machine F.merge_rule H.hash_of F.pending_encoding N K.SIZE V.SIZE size in
-        StepsOpen m format store.now ask_len (meaning_of H.Digest.encoding V.encoding result) store.now }
-    ensures kind { IsSaid is_len (meaning_of H.Digest.encoding V.encoding result) }
+        StepsOpen m format store.now ask_len (meaning_of H.Digest.encoding K.encoding V.encoding result) store.now }
+    ensures kind { IsSaid is_len (meaning_of H.Digest.encoding K.encoding V.encoding result) }
 {
     match store.len() {
         Ok(count) => Answer::Len(count),
@@ -247,7 +266,7 @@ where
 fn prune<R, F, H, K, V, const N: usize>(
     store: &mut Store<R, F, H, K, V, N>,
     location: u64,
-) -> Answer<H::Digest, V>
+) -> Answer<F, H::Digest, K, V>
 where
     R: Rng + Drop,
     F: Graftable + PendingOf<H::Digest>,
@@ -257,8 +276,8 @@ where
     ensures steps { let format = format_of (K.after tt) (V.after tt) K.SIZE V.SIZE in
         let size = store.old.cache.page_size + 12 in
         let m = machine F.merge_rule H.hash_of F.pending_encoding N K.SIZE V.SIZE size in
-        StepsOpen m format store.old (ask_prune location) (meaning_of H.Digest.encoding V.encoding result) store.new }
-    ensures kind { IsSaid is_pruned (meaning_of H.Digest.encoding V.encoding result) }
+        StepsOpen m format store.old (ask_prune location) (meaning_of H.Digest.encoding K.encoding V.encoding result) store.new }
+    ensures kind { IsSaid is_pruned (meaning_of H.Digest.encoding K.encoding V.encoding result) }
     ensures page_size { store.new.cache.page_size ≡ store.old.cache.page_size }
     ensures grows { Grows store.old.device.calls store.new.device.calls }
     ensures settings { store.new.device.storage.config ≡ store.old.device.storage.config }
@@ -274,7 +293,7 @@ where
 fn prove<R, F, H, K, V, const N: usize>(
     store: &Store<R, F, H, K, V, N>,
     key: &K,
-) -> Answer<H::Digest, V>
+) -> Answer<F, H::Digest, K, V>
 where
     R: Rng + Drop,
     F: Graftable + PendingOf<H::Digest>,
@@ -284,12 +303,86 @@ where
     ensures steps { let format = format_of (K.after tt) (V.after tt) K.SIZE V.SIZE in
         let size = store.now.cache.page_size + 12 in
         let m = machine F.merge_rule H.hash_of F.pending_encoding N K.SIZE V.SIZE size in
-        StepsOpen m format store.now (ask_proof (K.encoding key.now))
-        (meaning_of H.Digest.encoding V.encoding result) store.now }
-    ensures kind { IsSaid is_proof (meaning_of H.Digest.encoding V.encoding result) }
+        StepsOpen m format store.now (ask_proof (of_key (K.encoding key.now)))
+        (meaning_of H.Digest.encoding K.encoding V.encoding result) store.now }
+    ensures kind { IsSaid is_proof (meaning_of H.Digest.encoding K.encoding V.encoding result) }
 {
     match store.prove_key(key) {
         Ok(found) => Answer::Proof(found),
+        Err(error) => Answer::Refused(error),
+    }
+}
+
+// Asks an open store for the operation at a location and the proof that it is active.
+fn prove_operation<R, F, H, K, V, const N: usize>(
+    store: &Store<R, F, H, K, V, N>,
+    location: u64,
+) -> Answer<F, H::Digest, K, V>
+where
+    R: Rng + Drop,
+    F: Graftable + PendingOf<H::Digest>,
+    H: HashFunction,
+    K: FixedKey,
+    V: FixedValue,
+    ensures steps { let format = format_of (K.after tt) (V.after tt) K.SIZE V.SIZE in
+        let size = store.now.cache.page_size + 12 in
+        let m = machine F.merge_rule H.hash_of F.pending_encoding N K.SIZE V.SIZE size in
+        StepsOpen m format store.now (ask_proof (of_operation location))
+        (meaning_of H.Digest.encoding K.encoding V.encoding result) store.now }
+    ensures kind { IsSaid is_proof (meaning_of H.Digest.encoding K.encoding V.encoding result) }
+{
+    match store.prove_operation(location) {
+        Ok(proved) => Answer::Operation(proved),
+        Err(error) => Answer::Refused(error),
+    }
+}
+
+// Asks an open store for the operations from a location up to another, their activity bits and the proof of both.
+fn prove_range<R, F, H, K, V, const N: usize>(
+    store: &Store<R, F, H, K, V, N>,
+    start: u64,
+    stop: u64,
+) -> Answer<F, H::Digest, K, V>
+where
+    R: Rng + Drop,
+    F: Graftable + PendingOf<H::Digest>,
+    H: HashFunction,
+    K: FixedKey,
+    V: FixedValue,
+    ensures steps { let format = format_of (K.after tt) (V.after tt) K.SIZE V.SIZE in
+        let size = store.now.cache.page_size + 12 in
+        let m = machine F.merge_rule H.hash_of F.pending_encoding N K.SIZE V.SIZE size in
+        StepsOpen m format store.now (ask_proof (of_range start stop))
+        (meaning_of H.Digest.encoding K.encoding V.encoding result) store.now }
+    ensures kind { IsSaid is_proof (meaning_of H.Digest.encoding K.encoding V.encoding result) }
+{
+    match store.prove_range(start, stop) {
+        Ok(proved) => Answer::Range(proved),
+        Err(error) => Answer::Refused(error),
+    }
+}
+
+// Asks an open store for the operations from a location up to another and the proof that the log has them.
+fn prove_log<R, F, H, K, V, const N: usize>(
+    store: &Store<R, F, H, K, V, N>,
+    start: u64,
+    stop: u64,
+) -> Answer<F, H::Digest, K, V>
+where
+    R: Rng + Drop,
+    F: Graftable + PendingOf<H::Digest>,
+    H: HashFunction,
+    K: FixedKey,
+    V: FixedValue,
+    ensures steps { let format = format_of (K.after tt) (V.after tt) K.SIZE V.SIZE in
+        let size = store.now.cache.page_size + 12 in
+        let m = machine F.merge_rule H.hash_of F.pending_encoding N K.SIZE V.SIZE size in
+        StepsOpen m format store.now (ask_proof (of_slice start stop))
+        (meaning_of H.Digest.encoding K.encoding V.encoding result) store.now }
+    ensures kind { IsSaid is_proof (meaning_of H.Digest.encoding K.encoding V.encoding result) }
+{
+    match store.prove_log(start, stop) {
+        Ok(proved) => Answer::Slice(proved),
         Err(error) => Answer::Refused(error),
     }
 }
@@ -298,7 +391,7 @@ where
 fn configure<R, F, H, K, V, const N: usize>(
     store: &mut Store<R, F, H, K, V, N>,
     config: Config,
-) -> Answer<H::Digest, V>
+) -> Answer<F, H::Digest, K, V>
 where
     R: Rng + Drop,
     F: Graftable + PendingOf<H::Digest>,
@@ -323,7 +416,7 @@ where
 fn cut<R, F, H, K, V, const N: usize>(
     store: &mut Store<R, F, H, K, V, N>,
     calls: u64,
-) -> Answer<H::Digest, V>
+) -> Answer<F, H::Digest, K, V>
 where
     R: Rng + Drop,
     F: Graftable + PendingOf<H::Digest>,
@@ -360,12 +453,15 @@ fn is_opening<K: FixedKey, V: FixedValue>(step: &Step<K, V>) -> bool
     ensures no { result ≡ false → IsAtRest (request_of K.encoding V.encoding step.now) }
     ensures settings { result ≡ true → (before : Option settings.Config) → config_after step.now before ≡ before }
     ensures left { result ≡ true → (before after : Option ℕ) → IsLeftBy step.now before after }
+    ensures sizes { result ≡ false → (sizes : buffers.Sizes) → step.now ≡ Step.Open sizes → ⊥ }
 {
     matches!(step, Step::Open(_))
 }
 
 // The sizes with which the step opens a store; of any other step nothing is said.
-fn sizes_of<K: FixedKey, V: FixedValue>(step: &Step<K, V>) -> Sizes {
+fn sizes_of<K: FixedKey, V: FixedValue>(step: &Step<K, V>) -> Sizes
+    ensures { (sizes : buffers.Sizes) → step.now ≡ Step.Open sizes → result ≡ sizes }
+{
     match step {
         Step::Open(sizes) => *sizes,
         _ => Sizes::default(),
@@ -376,7 +472,7 @@ fn sizes_of<K: FixedKey, V: FixedValue>(step: &Step<K, V>) -> Sizes {
 fn step_open<R, F, H, K, V, const N: usize>(
     store: &mut Store<R, F, H, K, V, N>,
     step: Step<K, V>,
-) -> Answer<H::Digest, V>
+) -> Answer<F, H::Digest, K, V>
 where
     R: Rng + Drop,
     F: Graftable + PendingOf<H::Digest>,
@@ -387,10 +483,10 @@ where
         let size = store.old.cache.page_size + 12 in
         let m = machine F.merge_rule H.hash_of F.pending_encoding N K.SIZE V.SIZE size in
         let request = request_of K.encoding V.encoding step in
-        IsLeftOpen request → StepsOpen m format store.old request (meaning_of H.Digest.encoding V.encoding result)
+        IsLeftOpen request → StepsOpen m format store.old request (meaning_of H.Digest.encoding K.encoding V.encoding result)
         store.new }
     ensures kind { let request = request_of K.encoding V.encoding step in
-        IsLeftOpen request → IsAnswerTo true request (meaning_of H.Digest.encoding V.encoding result) }
+        IsLeftOpen request → IsAnswerTo true request (meaning_of H.Digest.encoding K.encoding V.encoding result) }
     ensures page_size { store.new.cache.page_size ≡ store.old.cache.page_size }
     ensures grows { Grows store.old.device.calls store.new.device.calls }
     ensures settings { Some store.new.device.storage.config ≡ config_after step (Some store.old.device.storage.config) }
@@ -406,26 +502,33 @@ where
         Step::Len => len(store),
         Step::Prune(location) => prune(store, location),
         Step::ProveKey(key) => prove(store, &key),
+        Step::ProveOperation(location) => prove_operation(store, location),
+        Step::ProveRange(start, stop) => prove_range(store, start, stop),
+        Step::ProveLog(start, stop) => prove_log(store, start, stop),
         Step::Config(config) => configure(store, config),
         Step::CutAfter(calls) => cut(store, calls),
     }
 }
 
 // What a closed device makes of a step that opens no store. One that wants a store finds none.
-fn step_device<R, H, K, V>(device: &mut Device<R>, step: Step<K, V>) -> Answer<H::Digest, V>
+fn step_device<R, F, H, K, V>(
+    device: &mut Device<R>,
+    step: Step<K, V>,
+) -> Answer<F, H::Digest, K, V>
 where
     R: Rng + Drop,
+    F: Family,
     H: HashFunction,
     K: FixedKey,
     V: FixedValue,
     requires { device.old.log ≡ None }
     ensures steps { let request = request_of K.encoding V.encoding step in IsAtRest request
         → (m : Machine) (format : Format) (cache : Cache) → Steps m format (closed_at device.old cache) request
-        (meaning_of H.Digest.encoding V.encoding result) (closed_at device.new cache) }
+        (meaning_of H.Digest.encoding K.encoding V.encoding result) (closed_at device.new cache) }
     ensures kind { let request = request_of K.encoding V.encoding step in
-        IsAtRest request → IsAnswerTo false request (meaning_of H.Digest.encoding V.encoding result) }
+        IsAtRest request → IsAnswerTo false request (meaning_of H.Digest.encoding K.encoding V.encoding result) }
     ensures closed { device.new.log ≡ None }
-    ensures open { is_open_after false (meaning_of H.Digest.encoding V.encoding result) ≡ false }
+    ensures open { is_open_after false (meaning_of H.Digest.encoding K.encoding V.encoding result) ≡ false }
     ensures grows { Grows device.old.calls device.new.calls }
     ensures settings { Some device.new.storage.config ≡ config_after step (Some device.old.storage.config) }
     ensures left { IsLeftBy step device.old.left device.new.left }
@@ -450,13 +553,20 @@ where
 /// A closed device with a cache, or the open store on them. Its contracts see which it has; that a session stands for a
 /// state of the machine is said of what it has (own).
 #[derive(Drop)]
-pub struct Session<R: Rng, F: Family, H: HashFunction, K: FixedKey, V: FixedValue, const N: usize> {
+pub struct Session<
+    R: Rng,
+    F: Graftable,
+    H: HashFunction,
+    K: FixedKey,
+    V: FixedValue,
+    const N: usize,
+> {
     alloc: Global,
     parts: Option<(Device<R>, CacheRef)>,
     store: Option<Store<R, F, H, K, V, N>>,
 }
 
-impl<R: Rng, F: Family, H: HashFunction, K: FixedKey, V: FixedValue, const N: usize> Model
+impl<R: Rng, F: Graftable, H: HashFunction, K: FixedKey, V: FixedValue, const N: usize> Model
     for Session<R, F, H, K, V, N> {
     ghost use Rattle.auth_store_ledger.specs.Store.{IsChunkWidth};
     ghost use Rattle.auth_store_session.specs.Standing.{SessionState, IsSession};
@@ -491,17 +601,19 @@ where
     }
 
     // Opens the store, which is closed.
-    fn open(&mut self, sizes: Sizes) -> Answer<H::Digest, V>
+    fn open(&mut self, sizes: Sizes) -> Answer<F, H::Digest, K, V>
         requires { self.old.store ≡ None }
         ensures steps { let format = format_of (K.after tt) (V.after tt) K.SIZE V.SIZE in
             let m = machine F.merge_rule H.hash_of F.pending_encoding N K.SIZE V.SIZE
             (page_size_in self.old.parts self.old.store) in
-            Steps m format self.old ask_open (meaning_of H.Digest.encoding V.encoding result) self.new }
-        ensures kind { IsAnswerTo false ask_open (meaning_of H.Digest.encoding V.encoding result) }
+            Steps m format self.old ask_open (meaning_of H.Digest.encoding K.encoding V.encoding result) self.new }
+        ensures kind { IsAnswerTo false ask_open (meaning_of H.Digest.encoding K.encoding V.encoding result) }
         ensures open { is_some self.new.store
-            ≡ is_open_after false (meaning_of H.Digest.encoding V.encoding result) }
+            ≡ is_open_after false (meaning_of H.Digest.encoding K.encoding V.encoding result) }
         ensures page_size { page_size_in self.new.parts self.new.store
             ≡ page_size_in self.old.parts self.old.store }
+        ensures buffer { IfSome self.new.store (HasBuffer (max sizes.write_buffer
+            (page_size_in self.old.parts self.old.store))) }
         ensures grows { Grows (calls_in self.old.parts self.old.store) (calls_in self.new.parts self.new.store) }
         ensures settings { config_in self.new.parts self.new.store ≡ config_in self.old.parts self.old.store }
     {
@@ -528,18 +640,18 @@ where
     }
 
     // Takes a step of a closed session that opens no store.
-    fn step_at_rest(&mut self, step: Step<K, V>) -> Answer<H::Digest, V>
+    fn step_at_rest(&mut self, step: Step<K, V>) -> Answer<F, H::Digest, K, V>
         requires { self.old.store ≡ None }
         ensures steps { let format = format_of (K.after tt) (V.after tt) K.SIZE V.SIZE in
             let m = machine F.merge_rule H.hash_of F.pending_encoding N K.SIZE V.SIZE
             (page_size_in self.old.parts self.old.store) in
             let request = request_of K.encoding V.encoding step in
-            IsAtRest request → Steps m format self.old request (meaning_of H.Digest.encoding V.encoding result)
+            IsAtRest request → Steps m format self.old request (meaning_of H.Digest.encoding K.encoding V.encoding result)
             self.new }
         ensures kind { let request = request_of K.encoding V.encoding step in
-            IsAtRest request → IsAnswerTo false request (meaning_of H.Digest.encoding V.encoding result) }
+            IsAtRest request → IsAnswerTo false request (meaning_of H.Digest.encoding K.encoding V.encoding result) }
         ensures open { is_some self.new.store
-            ≡ is_open_after false (meaning_of H.Digest.encoding V.encoding result) }
+            ≡ is_open_after false (meaning_of H.Digest.encoding K.encoding V.encoding result) }
         ensures page_size { page_size_in self.new.parts self.new.store
             ≡ page_size_in self.old.parts self.old.store }
         ensures grows { Grows (calls_in self.old.parts self.old.store) (calls_in self.new.parts self.new.store) }
@@ -551,23 +663,25 @@ where
         let Some((mut device, cache)) = self.parts.take() else {
             unreachable!();
         };
-        let answer = step_device::<R, H, K, V>(&mut device, step);
+        let answer = step_device::<R, F, H, K, V>(&mut device, step);
         self.parts = Some((device, cache));
         answer
     }
 
     // Takes a step of a closed session.
-    fn step_closed(&mut self, step: Step<K, V>) -> Answer<H::Digest, V>
+    fn step_closed(&mut self, step: Step<K, V>) -> Answer<F, H::Digest, K, V>
         requires { self.old.store ≡ None }
         ensures steps { let format = format_of (K.after tt) (V.after tt) K.SIZE V.SIZE in
             let m = machine F.merge_rule H.hash_of F.pending_encoding N K.SIZE V.SIZE
             (page_size_in self.old.parts self.old.store) in
             Steps m format self.old (request_of K.encoding V.encoding step)
-            (meaning_of H.Digest.encoding V.encoding result) self.new }
+            (meaning_of H.Digest.encoding K.encoding V.encoding result) self.new }
         ensures kind { IsAnswerTo false (request_of K.encoding V.encoding step)
-            (meaning_of H.Digest.encoding V.encoding result) }
+            (meaning_of H.Digest.encoding K.encoding V.encoding result) }
         ensures open { is_some self.new.store
-            ≡ is_open_after false (meaning_of H.Digest.encoding V.encoding result) }
+            ≡ is_open_after false (meaning_of H.Digest.encoding K.encoding V.encoding result) }
+        ensures buffer { self.old.store ≡ None → (sizes : buffers.Sizes) → step ≡ Step.Open sizes
+            → IfSome self.new.store (HasBuffer (max sizes.write_buffer (page_size_in self.old.parts self.old.store))) }
         ensures page_size { page_size_in self.new.parts self.new.store
             ≡ page_size_in self.old.parts self.old.store }
         ensures grows { Grows (calls_in self.old.parts self.old.store) (calls_in self.new.parts self.new.store) }
@@ -583,13 +697,13 @@ where
     }
 
     // Closes the store, which is open.
-    fn close(&mut self) -> Answer<H::Digest, V>
+    fn close(&mut self) -> Answer<F, H::Digest, K, V>
         requires { is_some self.old.store ≡ true }
         ensures steps { let format = format_of (K.after tt) (V.after tt) K.SIZE V.SIZE in
             let m = machine F.merge_rule H.hash_of F.pending_encoding N K.SIZE V.SIZE
             (page_size_in self.old.parts self.old.store) in
-            Steps m format self.old ask_close (meaning_of H.Digest.encoding V.encoding result) self.new }
-        ensures kind { IsAnswerTo true ask_close (meaning_of H.Digest.encoding V.encoding result) }
+            Steps m format self.old ask_close (meaning_of H.Digest.encoding K.encoding V.encoding result) self.new }
+        ensures kind { IsAnswerTo true ask_close (meaning_of H.Digest.encoding K.encoding V.encoding result) }
         ensures closed { self.new.store ≡ None }
         ensures page_size { page_size_in self.new.parts self.new.store
             ≡ page_size_in self.old.parts self.old.store }
@@ -605,18 +719,18 @@ where
     }
 
     // Takes a step of an open session that leaves it open.
-    fn step_within(&mut self, step: Step<K, V>) -> Answer<H::Digest, V>
+    fn step_within(&mut self, step: Step<K, V>) -> Answer<F, H::Digest, K, V>
         requires some { is_some self.old.store ≡ true }
         requires left { IsLeftOpen (request_of K.encoding V.encoding step) }
         ensures steps { let format = format_of (K.after tt) (V.after tt) K.SIZE V.SIZE in
             let m = machine F.merge_rule H.hash_of F.pending_encoding N K.SIZE V.SIZE
             (page_size_in self.old.parts self.old.store) in
             Steps m format self.old (request_of K.encoding V.encoding step)
-            (meaning_of H.Digest.encoding V.encoding result) self.new }
+            (meaning_of H.Digest.encoding K.encoding V.encoding result) self.new }
         ensures kind { IsAnswerTo true (request_of K.encoding V.encoding step)
-            (meaning_of H.Digest.encoding V.encoding result) }
+            (meaning_of H.Digest.encoding K.encoding V.encoding result) }
         ensures open { is_some self.new.store
-            ≡ is_open_after true (meaning_of H.Digest.encoding V.encoding result) }
+            ≡ is_open_after true (meaning_of H.Digest.encoding K.encoding V.encoding result) }
         ensures page_size { page_size_in self.new.parts self.new.store
             ≡ page_size_in self.old.parts self.old.store }
         ensures grows { Grows (calls_in self.old.parts self.old.store) (calls_in self.new.parts self.new.store) }
@@ -632,17 +746,17 @@ where
     }
 
     // Takes a step of an open session.
-    fn step_opened(&mut self, step: Step<K, V>) -> Answer<H::Digest, V>
+    fn step_opened(&mut self, step: Step<K, V>) -> Answer<F, H::Digest, K, V>
         requires { is_some self.old.store ≡ true }
         ensures steps { let format = format_of (K.after tt) (V.after tt) K.SIZE V.SIZE in
             let m = machine F.merge_rule H.hash_of F.pending_encoding N K.SIZE V.SIZE
             (page_size_in self.old.parts self.old.store) in
             Steps m format self.old (request_of K.encoding V.encoding step)
-            (meaning_of H.Digest.encoding V.encoding result) self.new }
+            (meaning_of H.Digest.encoding K.encoding V.encoding result) self.new }
         ensures kind { IsAnswerTo true (request_of K.encoding V.encoding step)
-            (meaning_of H.Digest.encoding V.encoding result) }
+            (meaning_of H.Digest.encoding K.encoding V.encoding result) }
         ensures open { is_some self.new.store
-            ≡ is_open_after true (meaning_of H.Digest.encoding V.encoding result) }
+            ≡ is_open_after true (meaning_of H.Digest.encoding K.encoding V.encoding result) }
         ensures page_size { page_size_in self.new.parts self.new.store
             ≡ page_size_in self.old.parts self.old.store }
         ensures grows { Grows (calls_in self.old.parts self.old.store) (calls_in self.new.parts self.new.store) }
@@ -671,17 +785,19 @@ where
     /// Takes one step and answers it: a step of the machine, from each state that the session stood for, where no
     /// opening of the device is by chance, or in doubt; and an answer of the step's kind, by chance or not, which tells
     /// whether a store is open then. The device has the settings of the last step that had some, and lets through as many
-    /// calls as a step says, also while a store is open.
-    pub fn step(&mut self, step: Step<K, V>) -> Answer<H::Digest, V>
+    /// calls as a step says, also while a store is open; a store that it opens has the buffer that it says.
+    pub fn step(&mut self, step: Step<K, V>) -> Answer<F, H::Digest, K, V>
         ensures steps { let format = format_of (K.after tt) (V.after tt) K.SIZE V.SIZE in
             let m = machine F.merge_rule H.hash_of F.pending_encoding N K.SIZE V.SIZE
             (page_size_in self.old.parts self.old.store) in
             Steps m format self.old (request_of K.encoding V.encoding step)
-            (meaning_of H.Digest.encoding V.encoding result) self.new }
+            (meaning_of H.Digest.encoding K.encoding V.encoding result) self.new }
         ensures kind { IsAnswerTo (is_some self.old.store) (request_of K.encoding V.encoding step)
-            (meaning_of H.Digest.encoding V.encoding result) }
+            (meaning_of H.Digest.encoding K.encoding V.encoding result) }
         ensures open { is_some self.new.store
-            ≡ is_open_after (is_some self.old.store) (meaning_of H.Digest.encoding V.encoding result) }
+            ≡ is_open_after (is_some self.old.store) (meaning_of H.Digest.encoding K.encoding V.encoding result) }
+        ensures buffer { self.old.store ≡ None → (sizes : buffers.Sizes) → step ≡ Step.Open sizes
+            → IfSome self.new.store (HasBuffer (max sizes.write_buffer (page_size_in self.old.parts self.old.store))) }
         ensures page_size { page_size_in self.new.parts self.new.store
             ≡ page_size_in self.old.parts self.old.store }
         ensures grows { Grows (calls_in self.old.parts self.old.store) (calls_in self.new.parts self.new.store) }

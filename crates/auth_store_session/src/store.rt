@@ -1,27 +1,31 @@
 //! A store on a disk that fails.
 
-ghost use Rattle.std.specs.Prelude.{◌≡◌, ◌⊎◌, ◌+◌, ◌≤◌, ◌<◌, length, option_map, Ok, Err, None, Some, true, is_some, IfOk, IfErr, OnOk, OnErr, IsFalse, MatchResult};
+ghost use Rattle.std.specs.Prelude.{◌≡◌, ◌⊎◌, ◌+◌, ◌≤◌, ◌<◌, max, length, option_map, Ok, Err, None, Some, true, is_some, IfOk, IfErr, OnOk, OnErr, IsFalse, MatchResult};
 ghost use Rattle.paged_blob.specs.Moments.{Grows};
 ghost use Rattle.auth_store_parts.specs.Batch as words;
 ghost use Rattle.auth_store_parts.specs.History.{History, latest_map, log_of};
 ghost use Rattle.auth_store_parts.specs.Map.{value_at};
 ghost use Rattle.auth_store_device.specs.Devices.{after_asking, is_cut, log_fault};
 ghost use Rattle.auth_store_device.specs.Logs.{has_log, HasOwnHeader};
-ghost use Rattle.auth_store_ledger.specs.ProvingCode.{key_answer_of};
+ghost use Rattle.auth_store_client.specs.Claims.{terms};
+ghost use Rattle.auth_store_ledger.specs.Proving.{IsAccepted, honest_answer};
+ghost use Rattle.auth_store_ledger.specs.ProvingCode.{key_answer_of, operation_answer_of, range_answer_of, slice_answer_of};
 ghost use Rattle.auth_store_ledger.specs.Store.{IsChunkWidth, IsPrunedUpTo, floor_of, root_of_history, setting_of_width};
 ghost use Rattle.auth_store_log.specs.Records.{format_of};
 ghost use Rattle.auth_store_session.specs.Machine.{machine, proof_of, refusal_of, Leaves, MayRefuseRead};
-ghost use Rattle.auth_store_session.specs.Standing.{Commits, IsOpenError, IsOpenedThrough, IsRecovered, IsShownThrough};
+ghost use Rattle.auth_store_session.specs.Machine.{of_operation, of_range, of_slice, operation_is, range_is, slice_is};
+ghost use Rattle.auth_store_session.specs.Refusals.{IsOfProof};
+ghost use Rattle.auth_store_session.specs.Standing.{AnswersProof, Commits, IsOpenError, IsOpenedThrough, IsRecovered, IsShownThrough};
 ghost use Rattle.auth_store_session.specs.Standing.{power_of, result_of, shown_of};
-ghost use Rattle.auth_store_session.specs.Stores.{IsCache, IsLive, IsLiveAt, Shows};
+ghost use Rattle.auth_store_session.specs.Stores.{HasBuffer, IsCache, IsLive, IsLiveAt, Shows};
 
 use crate::error::StoreError;
 use crate::live::{Live, commit_live, get_live, recover_live};
 use crate::sizes::Sizes;
 use auth_store_device::Device;
-use auth_store_ledger::{Batch, KeyProof};
+use auth_store_ledger::{Batch, KeyProof, ProvedOperation, ProvedRange, ProvedSlice};
 use fault_storage::Config;
-use merkle_forest::{Family, Graftable, HashFunction, PendingOf};
+use merkle_forest::{Graftable, HashFunction, PendingOf};
 use paged_blob::CacheRef;
 use rand_core::Rng;
 use state_current::laws::settled_chunks_stay_settled;
@@ -33,7 +37,14 @@ use std::marker::Model;
 /// history's log; a failed one can only be taken apart. Its type names the generator that the device draws of, the
 /// tree's family, the hash function, the types of keys and values, and how many bytes a chunk has (own).
 #[derive(Drop)]
-pub struct Store<R: Rng, F: Family, H: HashFunction, K: FixedKey, V: FixedValue, const N: usize> {
+pub struct Store<
+    R: Rng,
+    F: Graftable,
+    H: HashFunction,
+    K: FixedKey,
+    V: FixedValue,
+    const N: usize,
+> {
     alloc: Global,
     device: Device<R>,
     cache: CacheRef,
@@ -41,7 +52,7 @@ pub struct Store<R: Rng, F: Family, H: HashFunction, K: FixedKey, V: FixedValue,
     pruned: u64,
 }
 
-impl<R: Rng, F: Family, H: HashFunction, K: FixedKey, V: FixedValue, const N: usize> Model
+impl<R: Rng, F: Graftable, H: HashFunction, K: FixedKey, V: FixedValue, const N: usize> Model
     for Store<R, F, H, K, V, N> {
     ghost use Rattle.auth_store_ledger.specs.Store.{IsChunkWidth};
     ghost use Rattle.auth_store_log.specs.Records.{format_of};
@@ -87,6 +98,7 @@ where
         IfOk result (IsLive format device.new.calls cache.new) }
     ensures recovers { let format = format_of (K.after tt) (V.after tt) K.SIZE V.SIZE in
         IfOk result (λ live. IsRecovered format (cache.old.page_size + 12) (shown_of device.old) live.history) }
+    ensures capacity { IfOk result (λ live. live.writer.tip.capacity ≡ max capacity (cache.old.page_size + 12)) }
     ensures shown { let format = format_of (K.after tt) (V.after tt) K.SIZE V.SIZE in
         OnOk result (IsShownThrough format (cache.old.page_size + 12) (shown_of device.old) device.old.calls
         device.new.calls) }
@@ -125,7 +137,8 @@ where
 {
     /// Opens the log of a closed device, recovers it, and takes the history whose log it is; an empty log is begun.
     /// S12: the log's header is refused. S5: what is recovered is the log of no history. S1 to S4 where a fault was
-    /// injected, a cut stands, a number ends, or out of memory; device and cache are then given back.
+    /// injected, a cut stands, a number ends, or out of memory; device and cache are then given back. So many bytes as
+    /// `sizes` says wait to be written at most, a page's at least.
     pub fn open(
         alloc: Global,
         device: Device<R>,
@@ -139,6 +152,7 @@ where
             IfOk result (λ store. (history : History) × IsLiveAt store history
             × IsRecovered format (cache.page_size + 12) (shown_of device) history) }
         ensures whole { IfOk result (λ store. store.pruned ≡ 0) }
+        ensures buffer { IfOk result (λ store. HasBuffer (max sizes.write_buffer (cache.page_size + 12)) store) }
         ensures shown { let format = format_of (K.after tt) (V.after tt) K.SIZE V.SIZE in
             IfOk result (λ store. IsShownThrough format (cache.page_size + 12) (shown_of device) device.calls
             store.device.calls) }
@@ -311,13 +325,19 @@ where
         Ok(chunks)
     }
 
-    /// The value of the key, or that it is absent, and the honest bytes that prove it under the root of this moment. S4:
-    /// out of memory. S6: the store has failed.
+    /// The value of the key, or that it is absent, and the honest bytes that prove it under the root of this moment: the
+    /// client accepts them. S4: out of memory. S6: the store has failed.
     pub fn prove_key(&self, key: &K) -> Result<KeyProof<V>, StoreError>
         ensures proof { let size = self.now.cache.page_size + 12 in
             let m = machine F.merge_rule H.hash_of F.pending_encoding N K.SIZE V.SIZE size in
             (history : History) → IsLiveAt self.now history → IfOk result (λ found.
-            key_answer_of V.encoding found ≡ proof_of m history (K.encoding key.now)) }
+            key_answer_of V.encoding found
+            ≡ honest_answer m.pending m.setting K.SIZE V.SIZE history (K.encoding key.now)) }
+        ensures shown { let terms = terms F.merge_rule H.hash_of N H.Digest.SIZE F.is_pending F.pending_encoding
+            (K.after tt) (V.after tt) K.SIZE V.SIZE in
+            let setting = setting_of_width F.merge_rule H.hash_of N in
+            (history : History) → IsLiveAt self.now history → IfOk result (λ found. IsAccepted terms
+            (root_of_history setting K.SIZE V.SIZE history) (K.encoding key.now) (key_answer_of V.encoding found)) }
         ensures refused { (history : History) → IsLiveAt self.now history
             → IfErr result (λ e. e ≡ StoreError.Memory) }
         ensures failed { self.now.live ≡ None → result ≡ Err StoreError.Failed }
@@ -325,6 +345,52 @@ where
     {
         let live = self.live.as_ref().ok_or(StoreError::Failed)?;
         Ok(live.ledger.prove_key(key)?)
+    }
+
+    /// The operation at a location, and the honest bytes that prove it active under the root of this moment. S9: the log
+    /// has no such operation. S10: its chunk is pruned. S8: it is not active. S4: out of memory. S6: the store has failed.
+    pub fn prove_operation(&self, location: u64) -> Result<ProvedOperation<F, K, V>, StoreError>
+        ensures proof { let size = self.now.cache.page_size + 12 in
+            let m = machine F.merge_rule H.hash_of F.pending_encoding N K.SIZE V.SIZE size in
+            (history : History) → IsLiveAt self.now history
+            → AnswersProof (λ proved. operation_is (operation_answer_of K.encoding V.encoding proved))
+            (proof_of m history self.now.pruned (of_operation location)) result }
+        ensures failed { self.now.live ≡ None → result ≡ Err StoreError.Failed }
+        ensures err { IfErr result IsOfProof }
+    {
+        let live = self.live.as_ref().ok_or(StoreError::Failed)?;
+        Ok(live.ledger.prove_operation(self.pruned, location)?)
+    }
+
+    /// The operations from `start` up to `stop` with a bit for each that says whether it is active, and the honest bytes
+    /// that prove both under the root of this moment. S11: the range is empty. S9: it ends past the log. S10: it starts
+    /// before the pruned chunks. S4: out of memory. S6: the store has failed.
+    pub fn prove_range(&self, start: u64, stop: u64) -> Result<ProvedRange<F, K, V>, StoreError>
+        ensures proof { let size = self.now.cache.page_size + 12 in
+            let m = machine F.merge_rule H.hash_of F.pending_encoding N K.SIZE V.SIZE size in
+            (history : History) → IsLiveAt self.now history
+            → AnswersProof (λ proved. range_is (range_answer_of K.encoding V.encoding proved))
+            (proof_of m history self.now.pruned (of_range start stop)) result }
+        ensures failed { self.now.live ≡ None → result ≡ Err StoreError.Failed }
+        ensures err { IfErr result IsOfProof }
+    {
+        let live = self.live.as_ref().ok_or(StoreError::Failed)?;
+        Ok(live.ledger.prove_range(self.pruned, start, stop)?)
+    }
+
+    /// The operations from `start` up to `stop`, and the honest bytes that prove under the root of this moment that the
+    /// log has them. It is refused as `prove_range` is.
+    pub fn prove_log(&self, start: u64, stop: u64) -> Result<ProvedSlice<F, K, V>, StoreError>
+        ensures proof { let size = self.now.cache.page_size + 12 in
+            let m = machine F.merge_rule H.hash_of F.pending_encoding N K.SIZE V.SIZE size in
+            (history : History) → IsLiveAt self.now history
+            → AnswersProof (λ proved. slice_is (slice_answer_of K.encoding V.encoding proved))
+            (proof_of m history self.now.pruned (of_slice start stop)) result }
+        ensures failed { self.now.live ≡ None → result ≡ Err StoreError.Failed }
+        ensures err { IfErr result IsOfProof }
+    {
+        let live = self.live.as_ref().ok_or(StoreError::Failed)?;
+        Ok(live.ledger.prove_log(self.pruned, start, stop)?)
     }
 
     /// The settings by which the device fails, also of a store that has failed.

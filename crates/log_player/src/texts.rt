@@ -3,7 +3,7 @@
 //! A text is one word. In it `~` stands for a space, `!` for a carriage return and `^` for a tab; `-` alone is the
 //! empty text.
 
-use auth_store_ledger::is_chunk_width;
+use auth_store_ledger::{Unprovable, is_chunk_width};
 use auth_store_parts::script::{
     FaultKind, InputError, Line, TornMode, TreeFamily, parse_key, parse_line, parse_number,
 };
@@ -113,6 +113,17 @@ fn of_line(alloc: Global, line: Line) -> Result<String, AllocError> {
     }
 }
 
+// The reason of this name why there is no proof.
+fn unprovable(name: &str) -> Result<Unprovable, Unanswered> {
+    match name {
+        "S8" => Ok(Unprovable::Inactive),
+        "S9" => Ok(Unprovable::OutOfRange),
+        "S10" => Ok(Unprovable::Pruned),
+        "S11" => Ok(Unprovable::EmptyRange),
+        _ => Err(Unanswered::BadLine),
+    }
+}
+
 // The text of a refusal of this name.
 fn of_refusal(alloc: Global, name: &str) -> Result<String, Unanswered> {
     match name {
@@ -120,7 +131,7 @@ fn of_refusal(alloc: Global, name: &str) -> Result<String, Unanswered> {
         "S7" => Ok(format!(in alloc; "{}", StoreError::PastFloor)?),
         "memory" => Ok(format!(in alloc; "{}", InputError::Memory)?),
         "read" => Ok(format!(in alloc; "{}", InputError::Read)?),
-        _ => Err(Unanswered::BadLine),
+        name => Ok(format!(in alloc; "{}", StoreError::Unprovable(unprovable(name)?))?),
     }
 }
 

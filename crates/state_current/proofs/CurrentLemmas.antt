@@ -28,7 +28,7 @@ use Rattle.state_proofs.specs.Laws.Heights.{same_power, some_height}
 use Rattle.state_proofs.specs.Laws.Roots.{is_grafted_root}
 use Rattle.state_proofs.specs.Laws.SameNodes.{AreBorn}
 use Rattle.state_current.specs.Settled.{IsSettled}
-use Rattle.state_current.specs.Kept.{Kept, AreTogether, StandsFor}
+use Rattle.state_current.specs.Kept.{Kept, AreTogether, StandsFor, IsPendingAmong}
 use Rattle.state_current.proofs.PrunedLemmas.{peaks_above}
 use Rattle.state_current.proofs.ReadLemmas.{node_kept, node_read}
 
@@ -163,7 +163,7 @@ module _ (setting : Setting) (state : State) (kept : Kept) (facts : IsGraftable 
     graftable_are : kept.chunks.leaves ≡ nodes_of_height level (forest setting state)
     graftable_are = together.leaves ∙ ap₂ (λ l n. nodes_of_height l (forest_of rule n)) same_level all_are
 
-    chunk_is : (index : ℕ) → kept.bits.pruned ≤ index → chunk_bits setting * index < count
+    pub chunk_is : (index : ℕ) → kept.bits.pruned ≤ index → chunk_bits setting * index < count
         → kept_chunk setting.width kept.bits.kept (index - kept.bits.pruned) ≡ chunk setting state index
     chunk_is index le lt =
         kept_is setting.width index kept.bits le ∙ ap (λ bs. chunk_of setting.width (drop (8 * setting.width * index) bs)) (sym stands.bits)
@@ -258,6 +258,22 @@ may_get width index bits le lt =
       sym (mul-add (8 * width) bits.pruned (index - bits.pruned)),
       ap (λ k. 8 * width * k) sum,
     )
+
+-- where fewer chunks have their node than are full, the digest of one is pending
+pub pending_among : (rule : Rule) (width : ℕ) (kept : Kept) → AreTogether rule width kept → (graftable full size : ℕ) (digest : List ℕ)
+    → graftable ≡ kept.chunks.leaves → full ≡ bit_count width kept.bits / (8 * width) → graftable < full → length digest ≡ size
+    → IsPendingAmong rule width kept.operations.leaves size digest
+pending_among rule width kept together graftable full size digest graftable_is full_is lt sized = record {
+  sized = sized;
+  behind = λ height whole.
+      let leaves : ℕ = kept.operations.leaves in
+      let same : together.level ≡ height = same_power together.level height (sym together.whole ∙ whole) in
+      let nodes : graftable ≡ nodes_of_height height (forest_of rule leaves) =
+      graftable_is ∙ together.leaves ∙ ap (λ l. nodes_of_height l (forest_of rule leaves)) same in
+      let all : full ≡ leaves / 2 ^ height =
+      full_is ∙ ap (λ n. n / (8 * width)) together.bits ∙ ap (λ size. leaves / size) whole in
+      omega (arith, nodes, all, lt);
+}
 
 -- ---- counts
 pub inactive_low : (floor : ℕ) (ps : List Located) → inactive_peaks floor ps ≤ length ps

@@ -1,4 +1,5 @@
 pub mod AnsweredLemmas
+pub mod BitLemmas
 pub mod ChunkLemmas
 pub mod CurrentLemmas
 pub mod GrownLemmas
@@ -11,3 +12,4 @@ pub mod ReadLemmas
 pub mod SettledLemmas
 pub mod SettledNodes
 pub mod TreeLemmas
+pub mod WitnessLemmas

@@ -1,5 +1,5 @@
 -- What is kept of a state: two trees, bits and the floor.
-use Rattle.std.specs.Prelude.{◌≡◌, ℕ, ◌*◌, ◌^◌, ◌<◌, ◌≤◌, false, List, slice_index_or}
+use Rattle.std.specs.Prelude.{◌≡◌, ℕ, ◌*◌, ◌/◌, ◌^◌, ◌<◌, ◌≤◌, false, List, length, slice_index_or}
 use Rattle.merkle_forest.specs.Forest.{Rule, forest_of}
 use Rattle.merkle_forest.specs.Hashing.{Hash}
 use Rattle.merkle_forest.specs.Nodes.{nodes_of_height}
@@ -38,6 +38,12 @@ pub record StandsFor (setting : Setting) (state : State) (kept : Kept) : Type 0 
   pub chunks : AreNodesOf (chunks_node setting.hash setting.rule setting.grafting_height) setting.rule leaf_digests kept.chunks
   pub bits : state.bits ≡ all_bits setting.width kept.bits
   pub floor : kept.floor ≡ state.floor
+
+-- of so many operations a full chunk has no node yet; the digest of one has this size
+pub record IsPendingAmong (rule : Rule) (width operations size : ℕ) (digest : List ℕ) : Type 0 where
+  pub sized : length digest ≡ size
+  pub behind : (height : ℕ) → 8 * width ≡ 2 ^ height
+      → nodes_of_height height (forest_of rule operations) < operations / 2 ^ height
 
 -- no bit before a location is set
 abbrev pub AreClearBefore : ℕ → Bits → ℕ → Type 0

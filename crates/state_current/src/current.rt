@@ -1,8 +1,9 @@
 //! The state that is kept.
 
-ghost use Rattle.std.specs.Prelude.{◌≡◌, ◌≤◌, ◌*◌, ◌^◌, [], ℕ};
-ghost use Rattle.state_bitmap.specs.Bits.{IsChunkWidth};
+ghost use Rattle.std.specs.Prelude.{◌≡◌, ◌<◌, ◌≤◌, ◌*◌, ◌^◌, [], ℕ, Some, slice_get};
+ghost use Rattle.state_bitmap.specs.Bits.{IsChunkWidth, all_bits, bit_count};
 ghost use Rattle.state_proofs.specs.BuiltCode.{setting_with};
+ghost use Rattle.state_proofs.specs.Canonical.{State, chunk};
 ghost use Rattle.state_current.specs.Kept.{StandsFor};
 
 use merkle_core::Mem;
@@ -60,6 +61,7 @@ impl<F: Graftable, H: HashFunction, const N: usize> Current<F, H, N> {
     /// How many operations there are, with those that are pruned (own).
     pub fn leaves(&self) -> Location<F>
         ensures leaves { result ≡ self.now.operations.leaves }
+        ensures bits { result ≡ bit_count N self.now.bits }
         ensures few { result ≤ 2 ^ 62 }
     {
         self.operations.leaves()
@@ -78,6 +80,28 @@ impl<F: Graftable, H: HashFunction, const N: usize> Current<F, H, N> {
         ensures { result ≡ self.now.floor }
     {
         Location::new(self.floor)
+    }
+
+    /// Whether the operation at a location is active, whose chunk is not pruned (own).
+    pub fn bit(&self, location: u64) -> bool
+        requires kept { 8 * N * self.now.bits.pruned ≤ location }
+        requires there { location < self.now.operations.leaves }
+        ensures { slice_get (all_bits N self.now.bits) location ≡ Some result }
+    {
+        let _floor = self.floor;
+        self.bits.get_bit(location)
+    }
+
+    /// The bytes of a chunk, of which there are bits, and that is not pruned: zeros stand for the bits that are not there
+    /// (own).
+    pub fn chunk(&self, index: u64) -> &[u8]
+        requires kept { self.now.bits.pruned ≤ index }
+        requires there { 8 * N * index < self.now.operations.leaves }
+        ensures { (height : ℕ) (state : State) → let setting = setting_with F.merge_rule H.hash_of N height in
+            StandsFor setting state self.now → result.now ≡ chunk setting state index }
+    {
+        let _leaves = self.operations.leaves();
+        self.bits.get_chunk(index)
     }
 
     // How many bits a chunk has.

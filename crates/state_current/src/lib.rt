@@ -20,6 +20,7 @@ mod pruning;
 mod roots;
 pub mod settled;
 mod trees;
+mod witness;
 
 pub use current::Current;
 pub use settled::{greatest_settled, is_settled};

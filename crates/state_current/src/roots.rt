@@ -1,10 +1,10 @@
 //! Roots of what is kept: of the operations' tree, of the grafted tree, and the canonical one over both.
 
-ghost use Rattle.std.specs.Prelude.{◌≡◌, ℕ, option_map};
+ghost use Rattle.std.specs.Prelude.{◌≡◌, ℕ, option_map, IfSome};
 ghost use Rattle.merkle_forest.specs.declared.bagging.Bagging.TheVariants.{BackwardFold};
 ghost use Rattle.state_proofs.specs.BuiltCode.{setting_with};
 ghost use Rattle.state_proofs.specs.Canonical.{State, canonical_root, operations_root, grafted_root, pending_digest, partial_digest};
-ghost use Rattle.state_current.specs.Kept.{StandsFor};
+ghost use Rattle.state_current.specs.Kept.{StandsFor, IsPendingAmong};
 
 use crate::current::Current;
 use crate::peaks::root_over_peaks;
@@ -60,8 +60,10 @@ impl<F: Graftable, H: HashFunction, const N: usize> Current<F, H, N> {
 
     /// The digest of the full chunk that has no node yet, if any. It takes no memory (own).
     pub fn pending_digest(&self) -> Option<H::Digest>
-        ensures { (height : ℕ) (state : State) → let setting = setting_with F.merge_rule H.hash_of N height in
+        ensures digest { (height : ℕ) (state : State) → let setting = setting_with F.merge_rule H.hash_of N height in
             StandsFor setting state self.now → option_map H.Digest.encoding result ≡ pending_digest setting state }
+        ensures some { IfSome result (λ digest. IsPendingAmong F.merge_rule N self.now.operations.leaves H.Digest.SIZE
+            (H.Digest.encoding digest)) }
     {
         let full = self.chunk_size().full_chunks(self.bits.len());
         let graftable = self.chunks.leaves().as_u64();

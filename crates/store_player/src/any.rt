@@ -153,37 +153,34 @@ impl Any {
 
     /// What is answered to a step.
     pub fn step(&mut self, alloc: Global, step: Asking) -> Result<String, Unanswered> {
-        let answer = match self.taken {
-            Some(Kind::Range) => self.range.step(step)?,
-            Some(Kind::WideRange) => self.wide_range.step(step)?,
-            Some(Kind::Belt) => self.belt.step(step)?,
-            Some(Kind::WideBelt) => self.wide_belt.step(step)?,
-            None => return Err(Unanswered::BadLine),
-        };
-        told(alloc, &answer)
+        match self.taken {
+            Some(Kind::Range) => told(alloc, &self.range.step(step)?),
+            Some(Kind::WideRange) => told(alloc, &self.wide_range.step(step)?),
+            Some(Kind::Belt) => told(alloc, &self.belt.step(step)?),
+            Some(Kind::WideBelt) => told(alloc, &self.wide_belt.step(step)?),
+            None => Err(Unanswered::BadLine),
+        }
     }
 
     /// What is answered to steps that are taken as one run of a session, which is closed then.
     pub fn run(&mut self, alloc: Global, steps: Vec<Asking>) -> Result<String, Unanswered> {
-        let answers = match self.taken {
-            Some(Kind::Range) => self.range.run(alloc, steps)?,
-            Some(Kind::WideRange) => self.wide_range.run(alloc, steps)?,
-            Some(Kind::Belt) => self.belt.run(alloc, steps)?,
-            Some(Kind::WideBelt) => self.wide_belt.run(alloc, steps)?,
-            None => return Err(Unanswered::BadLine),
-        };
-        all_told(alloc, &answers)
+        match self.taken {
+            Some(Kind::Range) => all_told(alloc, &self.range.run(alloc, steps)?),
+            Some(Kind::WideRange) => all_told(alloc, &self.wide_range.run(alloc, steps)?),
+            Some(Kind::Belt) => all_told(alloc, &self.belt.run(alloc, steps)?),
+            Some(Kind::WideBelt) => all_told(alloc, &self.wide_belt.run(alloc, steps)?),
+            None => Err(Unanswered::BadLine),
+        }
     }
 
     /// What is answered to steps that are taken as one run over the device of a session.
     pub fn run_whole(&mut self, alloc: Global, steps: Vec<Asking>) -> Result<String, Unanswered> {
-        let answers = match self.taken {
-            Some(Kind::Range) => self.range.run_whole(alloc, steps)?,
-            Some(Kind::WideRange) => self.wide_range.run_whole(alloc, steps)?,
-            Some(Kind::Belt) => self.belt.run_whole(alloc, steps)?,
-            Some(Kind::WideBelt) => self.wide_belt.run_whole(alloc, steps)?,
-            None => return Err(Unanswered::BadLine),
-        };
-        all_told(alloc, &answers)
+        match self.taken {
+            Some(Kind::Range) => all_told(alloc, &self.range.run_whole(alloc, steps)?),
+            Some(Kind::WideRange) => all_told(alloc, &self.wide_range.run_whole(alloc, steps)?),
+            Some(Kind::Belt) => all_told(alloc, &self.belt.run_whole(alloc, steps)?),
+            Some(Kind::WideBelt) => all_told(alloc, &self.wide_belt.run_whole(alloc, steps)?),
+            None => Err(Unanswered::BadLine),
+        }
     }
 }

@@ -100,6 +100,17 @@ fn with_mode(settings: Config, mode: &str) -> Result<Config, Unanswered> {
     Ok(settings.write(write))
 }
 
+// The step that asks for a proof: of a key, of the operation at a location, or of those from a location up to another.
+fn proof(words: &[&str]) -> Result<Asking, Unanswered> {
+    match words {
+        [digits] => Ok(Step::ProveKey(key(digits)?)),
+        ["operation", location] => Ok(Step::ProveOperation(location.parse()?)),
+        ["range", start, stop] => Ok(Step::ProveRange(start.parse()?, stop.parse()?)),
+        ["log", start, stop] => Ok(Step::ProveLog(start.parse()?, stop.parse()?)),
+        _ => Err(Unanswered::BadLine),
+    }
+}
+
 impl Asked {
     /// Nothing yet.
     pub fn nothing(alloc: Global) -> Asked {
@@ -163,7 +174,7 @@ impl Asked {
             }
             ["get", digits] => Ok(Step::Get(key(digits)?)),
             ["prune", location] => Ok(Step::Prune(location.parse()?)),
-            ["prove", digits] => Ok(Step::ProveKey(key(digits)?)),
+            ["prove", rest @ ..] => proof(rest),
             ["root"] => Ok(Step::Root),
             ["commits"] => Ok(Step::Commits),
             ["floor"] => Ok(Step::Floor),

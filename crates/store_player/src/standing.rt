@@ -17,7 +17,7 @@ use std::alloc::{AllocError, Global};
 use std::mem;
 
 /// What a session, or a store, answers.
-pub type Told = Answer<Root, u64>;
+pub type Told<F> = Answer<F, Root, Name, u64>;
 
 type Alone<F, const N: usize> = Store<Pcg32, F, ByteHash, Name, u64, N>;
 
@@ -67,7 +67,7 @@ fn is_of_store(step: &Asking) -> bool {
 fn asked_of<F: Graftable + PendingOf<Root>, const N: usize>(
     store: &mut Alone<F, N>,
     step: Asking,
-) -> Result<Told, StoreError> {
+) -> Result<Told<F>, StoreError> {
     match step {
         Step::Commit(batch, metadata) => Ok(Answer::Committed(store.commit(batch, metadata)?)),
         Step::Get(key) => Ok(Answer::Value(store.get(&key)?)),
@@ -77,6 +77,9 @@ fn asked_of<F: Graftable + PendingOf<Root>, const N: usize>(
         Step::Len => Ok(Answer::Len(store.len()?)),
         Step::Prune(location) => Ok(Answer::Pruned(store.prune(location)?)),
         Step::ProveKey(key) => Ok(Answer::Proof(store.prove_key(&key)?)),
+        Step::ProveOperation(location) => Ok(Answer::Operation(store.prove_operation(location)?)),
+        Step::ProveRange(start, stop) => Ok(Answer::Range(store.prove_range(start, stop)?)),
+        Step::ProveLog(start, stop) => Ok(Answer::Slice(store.prove_log(start, stop)?)),
         Step::Config(settings) => {
             store.set_config(settings);
             Ok(Answer::Set)
@@ -92,8 +95,8 @@ fn asked_of<F: Graftable + PendingOf<Root>, const N: usize>(
 // What a run has answered, and a session over the device and the cache that it leaves.
 fn begun_again<F: Graftable + PendingOf<Root>, const N: usize>(
     alloc: Global,
-    ran: Ran<Pcg32, Root, u64>,
-) -> (Vec<Told>, Talk<F, N>)
+    ran: Ran<Pcg32, F, Root, Name, u64>,
+) -> (Vec<Told<F>>, Talk<F, N>)
     requires width { IsChunkWidth N }
     requires closed { ran.device.log ≡ None }
     requires cache { IsCache ran.cache }
@@ -111,7 +114,7 @@ fn run_on<F: Graftable + PendingOf<Root>, const N: usize>(
     alloc: Global,
     session: Talk<F, N>,
     steps: Vec<Asking>,
-) -> Result<(Vec<Told>, Talk<F, N>), AllocError>
+) -> Result<(Vec<Told<F>>, Talk<F, N>), AllocError>
     requires { IsChunkWidth N }
 {
     match run_session(alloc, session, steps) {
@@ -125,7 +128,7 @@ fn run_anew<F: Graftable + PendingOf<Root>, const N: usize>(
     alloc: Global,
     session: Talk<F, N>,
     steps: Vec<Asking>,
-) -> Result<(Vec<Told>, Talk<F, N>), AllocError>
+) -> Result<(Vec<Told<F>>, Talk<F, N>), AllocError>
     requires { IsChunkWidth N }
 {
     let (device, cache) = session.into_parts();
@@ -188,7 +191,7 @@ impl<F: Graftable + PendingOf<Root>, const N: usize> Standing<F, N> {
     }
 
     /// What is answered to a step.
-    pub fn step(&mut self, step: Asking) -> Result<Told, Unanswered> {
+    pub fn step(&mut self, step: Asking) -> Result<Told<F>, Unanswered> {
         match self {
             Standing::Session(session) => Ok(session.step(step)),
             Standing::Store(store) if is_of_store(&step) => match asked_of(store, step) {
@@ -200,7 +203,7 @@ impl<F: Graftable + PendingOf<Root>, const N: usize> Standing<F, N> {
     }
 
     /// What is answered to steps that are taken as one run of the session, which is closed then.
-    pub fn run(&mut self, alloc: Global, steps: Vec<Asking>) -> Result<Vec<Told>, Unanswered>
+    pub fn run(&mut self, alloc: Global, steps: Vec<Asking>) -> Result<Vec<Told<F>>, Unanswered>
         requires { IsChunkWidth N }
     {
         let Standing::Session(session) = mem::replace(self, Standing::Nothing) else {
@@ -212,7 +215,11 @@ impl<F: Graftable + PendingOf<Root>, const N: usize> Standing<F, N> {
     }
 
     /// What is answered to steps that are taken as one run over the device and the cache of the session.
-    pub fn run_whole(&mut self, alloc: Global, steps: Vec<Asking>) -> Result<Vec<Told>, Unanswered>
+    pub fn run_whole(
+        &mut self,
+        alloc: Global,
+        steps: Vec<Asking>,
+    ) -> Result<Vec<Told<F>>, Unanswered>
         requires { IsChunkWidth N }
     {
         let Standing::Session(session) = mem::replace(self, Standing::Nothing) else {

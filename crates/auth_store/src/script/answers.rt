@@ -12,19 +12,26 @@ use auth_store_parts::script::report::{
     report_len, report_none, report_ok, report_open, report_pruned, report_root, report_value,
 };
 use auth_store_session::{Answer, StoreError};
+use merkle_forest::Family;
 use merkle_forest::codec::FixedBytes;
 use merkle_forest::digest::Digest;
 use std::alloc::{AllocError, Global};
 use std::io;
 use std::io::Write;
 
-pub(crate) type ScriptAnswer = Answer<FixedBytes<32>, u64>;
+pub(crate) type Keys = FixedBytes<8>;
+
+pub(crate) type ScriptAnswer<F> = Answer<F, FixedBytes<32>, Keys, u64>;
 
 // Prints an answer. One that has no line of its own came to a line out of place.
-pub(crate) fn report<W: Write>(alloc: Global, out: &mut W, answer: ScriptAnswer) -> Result<(), End>
-    ensures line { OnOk result (IsSomeAnd (answer_line (meaning_of bytes_of value_of answer))
+pub(crate) fn report<F: Family, W: Write>(
+    alloc: Global,
+    out: &mut W,
+    answer: ScriptAnswer<F>,
+) -> Result<(), End>
+    ensures line { OnOk result (IsSomeAnd (answer_line (meaning_of bytes_of bytes_of value_of answer))
         (λ line. Appends (W.contents out.old) (W.contents out.new) (reported line))) }
-    ensures bad { result ≡ Err End.BadLine ↔ (answer_line (meaning_of bytes_of value_of answer) ≡ None) }
+    ensures bad { result ≡ Err End.BadLine ↔ (answer_line (meaning_of bytes_of bytes_of value_of answer) ≡ None) }
     ensures quiet { result ≡ Err End.BadLine → Appends (W.contents out.old) (W.contents out.new) [] }
 {
     match answer {
@@ -43,15 +50,15 @@ pub(crate) fn report<W: Write>(alloc: Global, out: &mut W, answer: ScriptAnswer)
 }
 
 // Prints how many commits an opened store has, or what else was answered.
-pub(crate) fn report_opened<W: Write>(
+pub(crate) fn report_opened<F: Family, W: Write>(
     alloc: Global,
     out: &mut W,
-    answer: ScriptAnswer,
+    answer: ScriptAnswer<F>,
 ) -> Result<(), End>
-    ensures line { OnOk result (IsSomeAnd (count_line (codes "open ") (meaning_of bytes_of value_of answer))
+    ensures line { OnOk result (IsSomeAnd (count_line (codes "open ") (meaning_of bytes_of bytes_of value_of answer))
         (λ line. Appends (W.contents out.old) (W.contents out.new) (reported line))) }
     ensures bad { result ≡ Err End.BadLine
-        ↔ (count_line (codes "open ") (meaning_of bytes_of value_of answer) ≡ None) }
+        ↔ (count_line (codes "open ") (meaning_of bytes_of bytes_of value_of answer) ≡ None) }
     ensures quiet { result ≡ Err End.BadLine → Appends (W.contents out.old) (W.contents out.new) [] }
 {
     match answer {
@@ -61,15 +68,15 @@ pub(crate) fn report_opened<W: Write>(
 }
 
 // Prints how many commits there are after one, or what else was answered.
-pub(crate) fn report_committed<W: Write>(
+pub(crate) fn report_committed<F: Family, W: Write>(
     alloc: Global,
     out: &mut W,
-    answer: ScriptAnswer,
+    answer: ScriptAnswer<F>,
 ) -> Result<(), End>
-    ensures line { OnOk result (IsSomeAnd (count_line (codes "commit ") (meaning_of bytes_of value_of answer))
+    ensures line { OnOk result (IsSomeAnd (count_line (codes "commit ") (meaning_of bytes_of bytes_of value_of answer))
         (λ line. Appends (W.contents out.old) (W.contents out.new) (reported line))) }
     ensures bad { result ≡ Err End.BadLine
-        ↔ (count_line (codes "commit ") (meaning_of bytes_of value_of answer) ≡ None) }
+        ↔ (count_line (codes "commit ") (meaning_of bytes_of bytes_of value_of answer) ≡ None) }
     ensures quiet { result ≡ Err End.BadLine → Appends (W.contents out.old) (W.contents out.new) [] }
 {
     match answer {

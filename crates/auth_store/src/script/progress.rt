@@ -13,14 +13,14 @@ ghost use Rattle.std.specs.Prelude.{◌≡◌, ◌++◌, ◌∷◌, [], None, So
 ghost use Rattle.std.specs.Prelude.{IfOk, IfErr, Option, List, ℕ};
 ghost use Rattle.auth_store_client.specs.ClaimsCode.{claim_of};
 ghost use Rattle.auth_store_ledger.specs.ProvingCode.{key_answer_of};
-ghost use Rattle.auth_store_session.specs.Machine.{proof};
+ghost use Rattle.auth_store_session.specs.Machine.{proof, key_is};
 ghost use Rattle.auth_store_session.specs.MachineCode.{meaning_of};
 ghost use Rattle.auth_store.specs.ScriptLines.{proof_in, Exchange, bytes_of, value_of, new_progress};
 ghost use Rattle.auth_store.specs.ScriptRun.{IsRunOf};
 ghost use Rattle.auth_store.specs.ScriptCode.{ChecksKept, Goes, Handled, IsRunning, Says, SetsTo, TakesLine};
 ghost use Rattle.auth_store.specs.ScriptCode.{exchange_of, now_of, progress_of};
 
-use super::answers::{ScriptAnswer, report, report_checked, report_committed, report_opened};
+use super::answers::{Keys, ScriptAnswer, report, report_checked, report_committed, report_opened};
 use super::end::End;
 use super::family::Named;
 use super::settings::{with_mode, with_rate};
@@ -37,8 +37,6 @@ use paged_blob::CacheRef;
 use rand_pcg::Pcg32;
 use std::alloc::Global;
 use std::io::Write;
-
-pub(crate) type Keys = FixedBytes<8>;
 
 pub(crate) type ScriptSession<F> = Session<Pcg32, F, ByteHash, Keys, u64, 1>;
 
@@ -74,18 +72,18 @@ pub(crate) struct Progress<F: Named> {
 }
 
 // Takes a step of the session.
-fn ask<F: Named>(session: &mut ScriptSession<F>, step: Step<Keys, u64>) -> ScriptAnswer
-    ensures { Goes F.family session.old (exchange_of step (meaning_of bytes_of value_of result) ∷ []) session.new }
+fn ask<F: Named>(session: &mut ScriptSession<F>, step: Step<Keys, u64>) -> ScriptAnswer<F>
+    ensures { Goes F.family session.old (exchange_of step (meaning_of bytes_of bytes_of value_of result) ∷ []) session.new }
 {
     session.step(step)
 }
 
-// The proof in an answer, or the other answer.
-fn proof_of(answer: ScriptAnswer) -> Result<KeyProof<u64>, ScriptAnswer>
+// The proof of a key in an answer, or the other answer.
+fn proof_of<F: Named>(answer: ScriptAnswer<F>) -> Result<KeyProof<u64>, ScriptAnswer<F>>
     ensures proved { IfOk result (λ found.
-        meaning_of bytes_of value_of answer ≡ proof (key_answer_of value_of found)) }
-    ensures other { IfErr result (λ other. (meaning_of bytes_of value_of other ≡ meaning_of bytes_of value_of answer)
-        × (proof_in (meaning_of bytes_of value_of answer) ≡ None)) }
+        meaning_of bytes_of bytes_of value_of answer ≡ proof (key_is (key_answer_of value_of found))) }
+    ensures other { IfErr result (λ other. (meaning_of bytes_of bytes_of value_of other ≡ meaning_of bytes_of bytes_of value_of answer)
+        × (proof_in (meaning_of bytes_of bytes_of value_of answer) ≡ None)) }
 {
     match answer {
         Answer::Proof(found) => Ok(found),

@@ -7,24 +7,26 @@
 //!
 //! Of a log whose state has no key the last commit proves each key absent: its floor is its own place.
 
-ghost use Rattle.std.specs.Prelude.{◌≡◌, ◌<◌, ◌≤◌, ◌^◌, ◌-◌, ℕ, List, None, Some, IfOk, OnOk};
+ghost use Rattle.std.specs.Prelude.{◌≡◌, ◌<◌, ◌-◌, ℕ, List, None, Some, IfOk, OnOk};
 ghost use Rattle.std.specs.Prelude.{length, option_map, slice_get, unwrap_or};
 ghost use Rattle.auth_store_absence.specs.Absence.{NamesFields, honest_absence, honest_absence_parts, metadata_in};
-ghost use Rattle.auth_store_ledger.specs.History.{AreStates, history_of, last_floor, log_of, meanings, update_fields};
-ghost use Rattle.auth_store_ledger.specs.Store.{IsChunkWidth, setting_of_width, state_of_log};
+ghost use Rattle.auth_store_ledger.specs.History.{AreStates, history_of, log_of, meanings, update_fields};
+ghost use Rattle.auth_store_ledger.specs.Store.{IsKept, setting_of_width};
 ghost use Rattle.state_ops.specs.Reading.{IsField};
 ghost use Rattle.state_proofs.specs.Exclusion.{by_commit, by_update};
 ghost use Rattle.state_proofs.specs.ExclusionCode.{form_exclusion_of};
-ghost use Rattle.state_proofs.specs.Honest.{honest_parts};
+ghost use Rattle.state_proofs.specs.ProofsCode.{parts_of};
 
 use super::log::Log;
 use super::prove::{operation_proof, update_at};
 use auth_store_index::near::entry_before;
 use merkle_forest::codec::Write;
-use merkle_forest::{Family, Graftable, HashFunction, PendingOf};
+use merkle_forest::{Digest, Family, Graftable, HashFunction, PendingOf};
+use state_current::Current;
 use state_ops::update::Ordered;
 use state_ops::{FixedKey, FixedValue, Operation, OrderedOperation};
 use state_proofs::exclusion::ExclusionProof;
+use state_proofs::operation::Proof;
 use std::alloc::{AllocError, Global};
 
 // A copy of the metadata of the commit that ends the log, or none where no commit does. It fails only when out of
@@ -44,53 +46,39 @@ fn last_metadata<F: Family, K: FixedKey, V: FixedValue>(
     }
 }
 
-// The honest proof by the last commit of the log, which records this floor. It fails only when out of memory.
-fn proof_by_commit<F, H, K: FixedKey, V: FixedValue, const N: usize>(
-    alloc: Global,
+// The proof by the last commit of the log, where this is the one that it is active. It fails only when out of memory.
+fn proof_by_commit<F, D, K: FixedKey, V: FixedValue>(
     log: &Log<F, K, V>,
-    floor: u64,
-) -> Result<ExclusionProof<F, K, V, H::Digest>, AllocError>
+    proof: Proof<F, D>,
+) -> Result<ExclusionProof<F, K, V, D>, AllocError>
 where
-    F: Graftable + PendingOf<H::Digest>,
-    H: HashFunction,
-    requires width { IsChunkWidth N }
-    requires few { length log.now ≤ 2 ^ 62 }
-    requires last { floor ≡ last_floor log.now }
-    requires some { 0 < length log.now }
-    ensures { IfOk result (λ proof.
-        form_exclusion_of (λ chunk. chunk.items) K.encoding V.encoding H.Digest.encoding F.held proof
-        ≡ by_commit (honest_parts (setting_of_width F.merge_rule H.hash_of N) (state_of_log K.SIZE V.SIZE log.now)
-        (length log.now - 1)) (unwrap_or (metadata_in (slice_get log.now (length log.now - 1))) None)) }
+    F: Graftable + PendingOf<D>,
+    D: Digest,
+    ensures { IfOk result (λ by. form_exclusion_of (λ chunk. chunk.items) K.encoding V.encoding D.encoding F.held by
+        ≡ by_commit (parts_of D.encoding F.held proof)
+        (unwrap_or (metadata_in (slice_get log.now (length log.now - 1))) None)) }
 {
-    let proof = operation_proof::<F, H, K, V, N>(alloc, log, floor, log.len() - 1)?;
     let metadata = last_metadata(log.operations())?;
     Ok(ExclusionProof::Commit(proof, metadata))
 }
 
-// The honest proof by the update of this key, which stands at the location of the log. It fails only when out of
-// memory.
-fn proof_by_update<F, H, K: FixedKey, V: FixedValue, const N: usize>(
-    alloc: Global,
+// The proof by the update of this key, which stands at the location of the log, where this is the one that it is active.
+// It fails only when out of memory.
+fn proof_by_update<F, D, K: FixedKey, V: FixedValue>(
     log: &Log<F, K, V>,
-    floor: u64,
+    proof: Proof<F, D>,
     key: &K,
     location: usize,
-) -> Result<ExclusionProof<F, K, V, H::Digest>, AllocError>
+) -> Result<ExclusionProof<F, K, V, D>, AllocError>
 where
-    F: Graftable + PendingOf<H::Digest>,
-    H: HashFunction,
-    requires width { IsChunkWidth N }
-    requires few { length log.now ≤ 2 ^ 62 }
-    requires last { floor ≡ last_floor log.now }
-    requires stands { update_fields (slice_get log.now location) ≡ None → ⊥ }
+    F: Graftable + PendingOf<D>,
+    D: Digest,
+    requires { update_fields (slice_get log.now location) ≡ None → ⊥ }
     ensures { (value next : List ℕ) → update_fields (slice_get log.now location) ≡ Some (value, next)
-        → IfOk result (λ proof.
-        form_exclusion_of (λ chunk. chunk.items) K.encoding V.encoding H.Digest.encoding F.held proof
-        ≡ by_update (honest_parts (setting_of_width F.merge_rule H.hash_of N) (state_of_log K.SIZE V.SIZE log.now)
-        location) (K.encoding key.now) value next) }
+        → IfOk result (λ by. form_exclusion_of (λ chunk. chunk.items) K.encoding V.encoding D.encoding F.held by
+        ≡ by_update (parts_of D.encoding F.held proof) (K.encoding key.now) value next) }
 {
     let update = update_at(log.operations(), location).unwrap();
-    let proof = operation_proof::<F, H, K, V, N>(alloc, log, floor, location)?;
     let key = key.clone()?;
     let value = update.value.clone()?;
     let next_key = update.next_key.clone()?;
@@ -108,15 +96,13 @@ where
 fn exclusion_proof<F, H, K: FixedKey, V: FixedValue, const N: usize>(
     alloc: Global,
     log: &Log<F, K, V>,
-    floor: u64,
+    current: &Current<F, H, N>,
     key: &K,
 ) -> Result<ExclusionProof<F, K, V, H::Digest>, AllocError>
 where
     F: Graftable + PendingOf<H::Digest>,
     H: HashFunction,
-    requires width { IsChunkWidth N }
-    requires few { length log.now ≤ 2 ^ 62 }
-    requires last { floor ≡ last_floor log.now }
+    requires kept { IsKept (setting_of_width F.merge_rule H.hash_of N) K.SIZE V.SIZE log.now current.now }
     requires states { AreStates (history_of log.now) }
     requires whole { log.now ≡ log_of (history_of log.now) }
     ensures { IfOk result (λ proof.
@@ -126,9 +112,13 @@ where
 {
     match entry_before(log.places().locations(), key) {
         Some((before, location)) => {
-            proof_by_update::<F, H, K, V, N>(alloc, log, floor, before, *location)
+            let proof = operation_proof(alloc, current, *location)?;
+            proof_by_update(log, proof, before, *location)
         }
-        None => proof_by_commit::<F, H, K, V, N>(alloc, log, floor),
+        None => {
+            let proof = operation_proof(alloc, current, log.len() - 1)?;
+            proof_by_commit(log, proof)
+        }
     }
 }
 
@@ -137,15 +127,13 @@ where
 pub(super) fn prove_absence<F, H, K: FixedKey, V: FixedValue, const N: usize>(
     alloc: Global,
     log: &Log<F, K, V>,
-    floor: u64,
+    current: &Current<F, H, N>,
     key: &K,
 ) -> Result<Vec<u8>, AllocError>
 where
     F: Graftable + PendingOf<H::Digest>,
     H: HashFunction,
-    requires width { IsChunkWidth N }
-    requires few { length log.now ≤ 2 ^ 62 }
-    requires last { floor ≡ last_floor log.now }
+    requires kept { IsKept (setting_of_width F.merge_rule H.hash_of N) K.SIZE V.SIZE log.now current.now }
     requires states { AreStates (history_of log.now) }
     requires whole { log.now ≡ log_of (history_of log.now) }
     ensures bytes { IfOk result (λ bytes. bytes.items
@@ -155,7 +143,7 @@ where
         (honest_absence_parts (setting_of_width F.merge_rule H.hash_of N) K.SIZE V.SIZE (history_of log.now)
         (K.encoding key.now))) }
 {
-    let proof = exclusion_proof::<F, H, K, V, N>(alloc, log, floor, key)?;
+    let proof = exclusion_proof(alloc, log, current, key)?;
     let mut bytes = Vec::new(alloc);
     proof.write(&mut bytes)?;
     Ok(bytes)

@@ -1,82 +1,145 @@
-//! The one place where a commit is made.
+//! The one place where a commit is made: what it appends to a log, and what is then kept, before anything is appended.
 
-ghost use Rattle.std.specs.Prelude.{◌≡◌, ◌+◌, ◌<◌, ◌≤◌, ◌^◌, ◌++◌, take, length, option_map, IfOk, OnOk, OnErr};
-ghost use Rattle.auth_store_ledger.specs.History.{meanings, with_commit, last_floor};
-ghost use Rattle.auth_store_log.specs.Records.{format_of, log_bytes};
-ghost use Rattle.auth_store_ledger.specs.Store.{IsChunkWidth, AreWritten, setting_of_width, state_of_log};
-ghost use Rattle.state_proofs.specs.Canonical.{canonical_root};
+ghost use Rattle.std.specs.Prelude.{◌≡◌, ◌+◌, ◌-◌, ◌*◌, ◌<◌, ◌≤◌, ◌^◌, ◌++◌, ◌∷◌, [], true, map, drop, length, option_map, IfOk, OnOk};
+ghost use Rattle.auth_store_index.specs.Growth.{cleared, first_set, taken};
+ghost use Rattle.auth_store_index.specs.Touched.{is_no_delete};
+ghost use Rattle.auth_store_ledger.specs.Batch as words;
+ghost use Rattle.auth_store_ledger.specs.Batch.{map_after};
+ghost use Rattle.auth_store_ledger.specs.History.{batch_operations, meanings, replayed};
+ghost use Rattle.auth_store_parts.specs.Places.{places_of};
+ghost use Rattle.state_bitmap.specs.Bits.{all_bits};
+ghost use Rattle.state_ops.specs.Operation.{meaning_of};
 
 use super::log::Log;
-use super::root::root_of_log;
-use crate::history;
-use merkle_forest::{Family, HashFunction, Location};
+use crate::batch::Batch;
+use auth_store_index::{Listed, ReadableBits, changes_near, first_set_from, taken_places};
+use merkle_forest::{Family, Graftable, HashFunction};
+use state_current::Current;
 use state_ops::{FixedKey, FixedValue, Operation, OrderedOperation};
 use std::alloc::{AllocError, Global};
 
-/// What follows from a log with a commit at its end.
+/// What a batch with its commit appends to a log, and what follows from it.
 #[derive(Drop)]
-pub struct Committed<D> {
-    /// The floor that the commit records.
-    pub floor: u64,
-    /// The root.
-    pub root: D,
-    /// The encodings of what was appended, one after the other.
+pub struct Appended<F: Graftable, H: HashFunction, K: FixedKey, V: FixedValue, const N: usize> {
+    /// The operations, the commit behind the others.
+    pub operations: Vec<OrderedOperation<F, K, V>>,
+    /// What is kept of the log with them.
+    pub current: Current<F, H, N>,
+    /// Their encodings, one after the other.
     pub bytes: Vec<u8>,
 }
 
-// Does what `append_commit` says; out of memory, something may have been appended to the log.
-fn try_commit<F: Family, H: HashFunction, K: FixedKey, V: FixedValue, const N: usize>(
+/// The operations that a batch adds to the log, without the commit. They are told by the keys near those that it names. It
+/// fails only when out of memory.
+pub fn changes_of<F: Family, K: FixedKey, V: FixedValue>(
     alloc: Global,
-    log: &mut Log<F, K, V>,
-    changes: Vec<OrderedOperation<F, K, V>>,
-    metadata: Option<V>,
-) -> Result<Committed<H::Digest>, AllocError>
-    requires width { IsChunkWidth N }
-    requires few { length log.old + length changes.items < 2 ^ 62 }
-    ensures log { OnOk result (log.new ≡ log.old
-        ++ with_commit log.old (meanings K.encoding V.encoding changes.items) (option_map V.encoding metadata)) }
-    ensures floor { IfOk result (λ committed. committed.floor ≡ last_floor log.new) }
-    ensures root { IfOk result (λ committed. H.Digest.encoding committed.root
-        ≡ canonical_root (setting_of_width F.merge_rule H.hash_of N) (state_of_log K.SIZE V.SIZE log.new)) }
-    ensures bytes { IfOk result (λ committed. committed.bytes.items ≡ log_bytes K.SIZE V.SIZE
-        (with_commit log.old (meanings K.encoding V.encoding changes.items) (option_map V.encoding metadata))) }
-    ensures written { OnOk result (AreWritten (format_of (K.after tt) (V.after tt) K.SIZE V.SIZE) log.new) }
-    ensures front { OnErr result (take (length log.old) log.new ≡ log.old) }
+    log: &Log<F, K, V>,
+    batch: &Batch<K, V>,
+) -> Result<Vec<OrderedOperation<F, K, V>>, AllocError>
+    ensures { let state = replayed [] log.now in let said = words.meanings K.encoding V.encoding batch.now.words.items in
+        IfOk result (λ changes. meanings K.encoding V.encoding changes.items
+        ≡ batch_operations state (map_after said state)) }
 {
-    let start = log.len();
-    log.append(changes)?;
-    let floor = history::inactivity_floor(log.operations());
-    log.push(Operation::CommitFloor(metadata, Location::new(floor)))?;
-    let root = root_of_log::<F, H, K, V, N>(alloc, log, floor)?;
-    let bytes = log.bytes_after(start)?;
-    Ok(Committed { floor, root, bytes })
+    let mut listed = Listed {
+        operations: log.operations(),
+    };
+    match changes_near(alloc, &mut listed, log.places(), batch) {
+        Ok(changes) => Ok(changes),
+        Err(_) => Err(AllocError),
+    }
 }
 
-/// Appends the changes and a commit after them to the log, and answers their fixed encodings. It fails only when out of
-/// memory, and the log then stays as it was.
-pub fn append_commit<F: Family, H: HashFunction, K: FixedKey, V: FixedValue, const N: usize>(
-    alloc: Global,
-    log: &mut Log<F, K, V>,
-    changes: Vec<OrderedOperation<F, K, V>>,
-    metadata: Option<V>,
-) -> Result<Committed<H::Digest>, AllocError>
-    requires width { IsChunkWidth N }
-    requires few { length log.old + length changes.items < 2 ^ 62 }
-    ensures log { OnOk result (log.new ≡ log.old
-        ++ with_commit log.old (meanings K.encoding V.encoding changes.items) (option_map V.encoding metadata)) }
-    ensures floor { IfOk result (λ committed. committed.floor ≡ last_floor log.new) }
-    ensures root { IfOk result (λ committed. H.Digest.encoding committed.root
-        ≡ canonical_root (setting_of_width F.merge_rule H.hash_of N) (state_of_log K.SIZE V.SIZE log.new)) }
-    ensures bytes { IfOk result (λ committed. committed.bytes.items ≡ log_bytes K.SIZE V.SIZE
-        (with_commit log.old (meanings K.encoding V.encoding changes.items) (option_map V.encoding metadata))) }
-    ensures written { OnOk result (AreWritten (format_of (K.after tt) (V.after tt) K.SIZE V.SIZE) log.new) }
-    ensures kept { OnErr result (log.new ≡ log.old) }
+// Whether the operation counts in its batch: it is no delete.
+fn counts<F: Family, K: FixedKey, V: FixedValue>(operation: &OrderedOperation<F, K, V>) -> bool
+    ensures { result ≡ is_no_delete (meaning_of K.encoding V.encoding operation.now) }
 {
-    let start = log.len();
-    let places = log.places().try_copy()?;
-    let committed = try_commit::<F, H, K, V, N>(alloc, log, changes, metadata);
-    if committed.is_err() {
-        log.go_back(start, places);
+    match operation {
+        Operation::Delete(_) => false,
+        Operation::Update(_) => true,
+        Operation::CommitFloor(_, _) => true,
     }
-    committed
+}
+
+// A bit for each of the changes and for the commit behind them, set but for deletes. It fails only when out of memory.
+pub(super) fn bits_of<F: Family, K: FixedKey, V: FixedValue>(
+    alloc: Global,
+    changes: &[OrderedOperation<F, K, V>],
+) -> Result<Vec<bool>, AllocError>
+    ensures { IfOk result (λ bits. bits.items
+        ≡ map is_no_delete (meanings K.encoding V.encoding changes.now) ++ true ∷ []) }
+{
+    let mut bits = Vec::new(alloc);
+    for operation in changes {
+        bits.push(counts(operation))?;
+    }
+    bits.push(true)?;
+    Ok(bits)
+}
+
+// The places of the log whose operations the changes and the commit behind them take out. It fails only when out of
+// memory.
+pub(super) fn places_taken<F: Family, K: FixedKey, V: FixedValue>(
+    alloc: Global,
+    log: &Log<F, K, V>,
+    changes: &[OrderedOperation<F, K, V>],
+) -> Result<Vec<usize>, AllocError>
+    requires { 0 < length log.now }
+    ensures { let last = length log.now - 1 in IfOk result (λ places. places.items
+        ≡ taken (places_of log.now) last (meanings K.encoding V.encoding changes.now) ++ last ∷ []) }
+{
+    let last = log.len() - 1;
+    let mut places = taken_places(alloc, log.places(), last, changes)?;
+    places.push(last)?;
+    Ok(places)
+}
+
+// The bits that are kept of a log, by the locations of its operations.
+#[derive(Drop)]
+struct KeptBits<'a, F: Graftable + 'a, H: HashFunction + 'a, const N: usize> {
+    current: &'a Current<F, H, N>,
+}
+
+impl<'a, F: Graftable + 'a, H: HashFunction + 'a, const N: usize> ReadableBits
+    for KeptBits<'a, F, H, N> {
+    ghost bits = { λ kept. all_bits N kept.current.now.bits };
+
+    ghost kept_from = { λ kept. 8 * N * kept.current.now.bits.pruned };
+
+    fn len(&self) -> u64 {
+        self.current.leaves().as_u64()
+    }
+
+    fn bit(&self, at: u64) -> bool {
+        let _leaves = self.current.leaves();
+        self.current.bit(at)
+    }
+}
+
+// The floor that the commit records behind the log with these bits, of which those at the places are cleared. It is looked
+// for from the floor before on. It fails only when out of memory.
+pub(super) fn next_floor<F: Graftable, H: HashFunction, const N: usize>(
+    alloc: Global,
+    current: &Current<F, H, N>,
+    more: &[bool],
+    places: &[usize],
+) -> Result<u64, AllocError>
+    requires few { current.now.operations.leaves + length more.now ≤ 2 ^ 62 }
+    requires unpruned { current.now.bits.pruned ≡ 0 }
+    ensures { IfOk result (λ next. next ≡ current.now.floor
+        + first_set (drop current.now.floor (cleared (all_bits N current.now.bits ++ more.now) places.now))) }
+{
+    let _leaves = current.leaves();
+    let floor = current.floor().as_u64();
+    first_set_from(alloc, &KeptBits { current }, more, places, floor)
+}
+
+// Places as numbers of the log's length. It fails only when out of memory.
+pub(super) fn as_locations(alloc: Global, places: &[usize]) -> Result<Vec<u64>, AllocError>
+    ensures { IfOk result (λ locations. locations.items ≡ places.now) }
+{
+    let mut locations = Vec::new(alloc);
+    for place in places {
+        locations.push(*place as u64)?;
+    }
+    Ok(locations)
 }

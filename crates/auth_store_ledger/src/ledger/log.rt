@@ -1,23 +1,22 @@
 //! The log of a store: its operations, with the place of each key's update.
 
-ghost use Rattle.std.specs.Prelude.{◌≡◌, ◌+◌, ◌≤◌, ◌^◌, ◌++◌, ◌∷◌, [], List, map, take, drop, length, IfOk, OnOk, OnErr};
+ghost use Rattle.std.specs.Prelude.{◌≡◌, ◌+◌, ◌≤◌, ◌^◌, ◌++◌, List, map, length, IfOk, OnOk, OnErr};
 ghost use Rattle.state_ops.specs.Operation as meaning;
 ghost use Rattle.auth_store_ledger.specs.History.{meanings, active_location, activity_bits};
 ghost use Rattle.auth_store_parts.specs.Places.{places_of};
-ghost use Rattle.auth_store_log.specs.Records.{format_of, log_bytes};
+ghost use Rattle.auth_store_log.specs.Records.{format_of};
 ghost use Rattle.auth_store_ledger.specs.Store as spec;
 
 use crate::history;
 use crate::history::Places;
-use auth_store_log::encoding::{bytes_of, record_bytes};
+use auth_store_log::encoding::record_bytes;
 use merkle_forest::Family;
 use state_ops::{FixedKey, FixedValue, OrderedOperation};
 use std::alloc::{AllocError, Global};
 use std::marker::Model;
 
-/// Operations with the place of each key's update. Their encodings are not kept beside them: they are made where a root
-/// or a proof is made of the whole log, so that no second copy of it is kept. Its contracts see it as what the operations
-/// say.
+/// Operations with the place of each key's update. Their encodings are not kept beside them, so that no second copy of
+/// the log is. Its contracts see it as what the operations say.
 #[derive(Drop)]
 pub struct Log<F: Family, K: FixedKey, V: FixedValue> {
     alloc: Global,
@@ -33,8 +32,8 @@ impl<F: Family, K: FixedKey, V: FixedValue> Model for Log<F, K, V> {
     ghost invariant = { λ log. log.places ≡ places_of (meanings K.encoding V.encoding log.operations.items) };
 }
 
-// The fixed encodings of the operations. It fails only when out of memory.
-fn encodings_of<F: Family, K: FixedKey, V: FixedValue>(
+/// The fixed encodings of the operations. It fails only when out of memory.
+pub fn encodings_of<F: Family, K: FixedKey, V: FixedValue>(
     alloc: Global,
     operations: &[OrderedOperation<F, K, V>],
 ) -> Result<Vec<Vec<u8>>, AllocError>
@@ -116,16 +115,6 @@ impl<F: Family, K: FixedKey, V: FixedValue> Log<F, K, V> {
         history::activity_bits(self.alloc, &self.operations, &self.places)
     }
 
-    /// Appends an operation. It fails only when out of memory, and the log then stays as it was.
-    pub fn push(&mut self, operation: OrderedOperation<F, K, V>) -> Result<(), AllocError>
-        ensures ok { OnOk result (self.new ≡ self.old ++ meaning.meaning_of K.encoding V.encoding operation ∷ []) }
-        ensures err { OnErr result (self.new ≡ self.old) }
-    {
-        self.operations.reserve(1)?;
-        self.places.follow(self.operations.len(), &operation)?;
-        Ok(self.operations.push(operation)?)
-    }
-
     /// Appends operations. It fails only when out of memory, and the log then stays as it was.
     pub fn append(&mut self, operations: Vec<OrderedOperation<F, K, V>>) -> Result<(), AllocError>
         requires { length self.old + length operations.items ≤ 2 ^ 62 }
@@ -139,23 +128,5 @@ impl<F: Family, K: FixedKey, V: FixedValue> Log<F, K, V> {
         self.operations.append(&mut operations)?;
         self.places = places;
         Ok(())
-    }
-
-    /// Leaves the first `count` operations, whose places these are.
-    pub fn go_back(&mut self, count: usize, places: Places<K>)
-        requires { places ≡ places_of (take count self.old) }
-        ensures { self.new ≡ take count self.old }
-    {
-        self.operations.truncate(count);
-        self.places = places;
-    }
-
-    /// The fixed encodings of the operations after the first `count`, one after the other. It fails only when out of
-    /// memory.
-    pub fn bytes_after(&self, count: usize) -> Result<Vec<u8>, AllocError>
-        requires { count ≤ length self.now }
-        ensures { IfOk result (λ bytes. bytes.items ≡ log_bytes K.SIZE V.SIZE (drop count self.now)) }
-    {
-        bytes_of(self.alloc, &self.operations[count..])
     }
 }

@@ -1,29 +1,30 @@
 //! Proofs that a store answers.
 
-ghost use Rattle.std.specs.Prelude.{◌≡◌, ◌<◌, ◌≤◌, ◌^◌, ℕ, List, [], Ok, IfOk, IfErr, IfSome};
+ghost use Rattle.std.specs.Prelude.{◌≡◌, ◌<◌, ℕ, List, [], Ok, IfOk, IfErr, IfSome};
 ghost use Rattle.std.specs.Prelude.{length, option_map, slice_get};
 ghost use Rattle.auth_store_ledger.specs.History as spec;
-ghost use Rattle.auth_store_ledger.specs.History.{active_location, active_update, update_fields, last_floor};
+ghost use Rattle.auth_store_ledger.specs.History.{active_location, active_update, update_fields};
 ghost use Rattle.auth_store_client.specs.Claims.{terms};
 ghost use Rattle.auth_store_ledger.specs.Proving.{IsAccepted, honest_answer};
 ghost use Rattle.auth_store_ledger.specs.ProvingCode.{key_answer_of};
-ghost use Rattle.auth_store_ledger.specs.Store.{IsChunkWidth, setting_of_width, state_of_log, root_of_history};
+ghost use Rattle.auth_store_ledger.specs.Store.{IsKept, setting_of_width, state_of_log, root_of_history};
+ghost use Rattle.state_ops.specs.Operation as meaning;
 ghost use Rattle.state_proofs.specs.Honest.{honest_parts, key_value_proof};
 ghost use Rattle.state_proofs.specs.ProofsCode.{parts_of};
 
 use super::Ledger;
 use super::absence::prove_absence;
 use super::log::Log;
-use super::root::snapshot_of;
 use crate::error::LedgerError;
 use auth_store_absence::laws::honest_proofs_show_absence;
 use auth_store_client::laws::honest_proofs_show_true_values;
 use merkle_forest::codec::Write;
-use merkle_forest::{Family, Graftable, HashFunction, PendingOf};
+use merkle_forest::{Family, Graftable, HashFunction, Location, PendingOf};
+use state_current::Current;
 use state_ops::{FixedKey, FixedValue, Operation, OrderedOperation, OrderedUpdate};
+use state_proofs::Error;
 use state_proofs::operation::Proof;
 use state_proofs::ordered::KeyValueProof;
-use state_proofs::snapshot::building::honest_proof;
 use std::alloc::{AllocError, Global};
 
 /// What a store answers of a key, with the bytes that prove it under the root of that moment.
@@ -52,44 +53,49 @@ pub(super) fn update_at<F: Family, K: FixedKey, V: FixedValue>(
     }
 }
 
-// The honest proof of the operation at a location of the log, whose last floor this is. It fails only when out of
-// memory.
-pub(super) fn operation_proof<F, H, K: FixedKey, V: FixedValue, const N: usize>(
+// Want of memory for a proof.
+pub(super) fn out_of_memory<F: Graftable>(error: Error<F>) -> AllocError
+    requires { error ≡ Error.Memory }
+{
+    match error {
+        Error::Memory => AllocError,
+        _ => unreachable!(),
+    }
+}
+
+// The honest proof of the operation at a location, of what is kept of a log. It fails only when out of memory.
+pub(super) fn operation_proof<F, H, const N: usize>(
     alloc: Global,
-    log: &Log<F, K, V>,
-    floor: u64,
+    current: &Current<F, H, N>,
     location: usize,
 ) -> Result<Proof<F, H::Digest>, AllocError>
 where
     F: Graftable + PendingOf<H::Digest>,
     H: HashFunction,
-    requires width { IsChunkWidth N }
-    requires few { length log.now ≤ 2 ^ 62 }
-    requires last { floor ≡ last_floor log.now }
-    requires within { location < length log.now }
-    ensures { IfOk result (λ proof. parts_of H.Digest.encoding F.held proof
-        ≡ honest_parts (setting_of_width F.merge_rule H.hash_of N) (state_of_log K.SIZE V.SIZE log.now) location) }
+    requires unpruned { current.now.bits.pruned ≡ 0 }
+    requires within { location < current.now.operations.leaves }
+    ensures { (key value : ℕ) (log : List meaning.Operation) → let setting = setting_of_width F.merge_rule H.hash_of N in
+        IsKept setting key value log current.now → IfOk result (λ proof. parts_of H.Digest.encoding F.held proof
+        ≡ honest_parts setting (state_of_log key value log) location) }
 {
-    let bits = log.activity_bits()?;
-    let encodings = log.encodings()?;
-    let snapshot = snapshot_of::<N>(&encodings, &bits, floor);
-    honest_proof::<F, H>(alloc, &snapshot, location as u64)
+    match current.operation_proof(alloc, Location::new(location as u64)) {
+        Ok(proof) => Ok(proof),
+        Err(error) => Err(out_of_memory(error)),
+    }
 }
 
 // The honest bytes that prove the update at a location of the log, which names this next key.
 fn proof_at<F, H, K: FixedKey, V: FixedValue, const N: usize>(
     alloc: Global,
     log: &Log<F, K, V>,
-    floor: u64,
+    current: &Current<F, H, N>,
     location: usize,
     next_key: &K,
 ) -> Result<Vec<u8>, AllocError>
 where
     F: Graftable + PendingOf<H::Digest>,
     H: HashFunction,
-    requires width { IsChunkWidth N }
-    requires few { length log.now ≤ 2 ^ 62 }
-    requires last { floor ≡ last_floor log.now }
+    requires kept { IsKept (setting_of_width F.merge_rule H.hash_of N) K.SIZE V.SIZE log.now current.now }
     requires within { location < length log.now }
     ensures next { IfOk result (λ _. K.after tt (K.encoding next_key.now) ≡ Ok []) }
     ensures bytes { IfOk result (λ bytes. bytes.items
@@ -97,7 +103,7 @@ where
         (state_of_log K.SIZE V.SIZE log.now) location (K.encoding next_key.now)) }
 {
     let proof = KeyValueProof::<F, K, H::Digest> {
-        proof: operation_proof::<F, H, K, V, N>(alloc, log, floor, location)?,
+        proof: operation_proof(alloc, current, location)?,
         next_key: next_key.clone()?,
     };
     let mut bytes = Vec::new(alloc);
@@ -110,15 +116,13 @@ where
 fn prove_value<F, H, K: FixedKey, V: FixedValue, const N: usize>(
     alloc: Global,
     log: &Log<F, K, V>,
-    floor: u64,
+    current: &Current<F, H, N>,
     key: &K,
 ) -> Result<Option<(V, Vec<u8>)>, AllocError>
 where
     F: Graftable + PendingOf<H::Digest>,
     H: HashFunction,
-    requires width { IsChunkWidth N }
-    requires few { length log.now ≤ 2 ^ 62 }
-    requires last { floor ≡ last_floor log.now }
+    requires kept { IsKept (setting_of_width F.merge_rule H.hash_of N) K.SIZE V.SIZE log.now current.now }
     ensures next { IfOk result (λ found. IfSome found (λ _.
         IfSome (active_update (K.encoding key.now) log.now) (λ update. K.after tt update.1 ≡ Ok []))) }
     ensures found { IfOk result (λ found.
@@ -133,7 +137,7 @@ where
     let Some(update) = update_at(log.operations(), location) else {
         return Ok(None);
     };
-    let bytes = proof_at::<F, H, K, V, N>(alloc, log, floor, location, &update.next_key)?;
+    let bytes = proof_at(alloc, log, current, location, &update.next_key)?;
     Ok(Some((update.value.clone()?, bytes)))
 }
 
@@ -158,11 +162,11 @@ impl<
     {
         honest_proofs_show_true_values::<F, H, K, V, N>();
         honest_proofs_show_absence::<F, H, K, V, N>();
-        let found = prove_value::<F, H, K, V, N>(self.alloc, &self.log, self.floor, key)?;
+        let found = prove_value(self.alloc, &self.log, &self.current, key)?;
         match found {
             Some((value, bytes)) => Ok(KeyProof::Value(value, bytes)),
             None => {
-                let bytes = prove_absence::<F, H, K, V, N>(self.alloc, &self.log, self.floor, key)?;
+                let bytes = prove_absence(self.alloc, &self.log, &self.current, key)?;
                 Ok(KeyProof::Absent(bytes))
             }
         }

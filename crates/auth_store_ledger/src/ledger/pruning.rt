@@ -3,7 +3,7 @@
 ghost use Rattle.auth_store_ledger.specs.Store.{IsPrunable, IsPrunedUpTo, setting_of_width};
 
 use super::Ledger;
-use super::root::chunk_size;
+use super::kept::chunk_size;
 use merkle_forest::{Graftable, HashFunction};
 use state_current::greatest_settled;
 use state_ops::{FixedKey, FixedValue};

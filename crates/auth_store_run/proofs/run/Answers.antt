@@ -15,7 +15,7 @@ returns-clause-runs g c =
     g.F.PendingOf.pending_encoding g.row.N g.K.FixedSize.SIZE g.V.FixedSize.SIZE (page_size_in session.parts session.store))
     (format_of (g.K.Read.after tt) (g.V.Read.after tt) g.K.FixedSize.SIZE g.V.FixedSize.SIZE) session
     (requests_of g.K.Write.encoding g.V.Write.encoding c.args.steps.items)
-    (meanings_of g.H.Digest.Write.encoding g.V.Write.encoding ran.answers.items) ran.device ran.cache)) c.new.ensures
+    (meanings_of g.H.Digest.Write.encoding g.K.Write.encoding g.V.Write.encoding ran.answers.items) ran.device ran.cache)) c.new.ensures
     c.run_session.ensures.runs
 
 pub returns-clause-settings : goal.returns-clause-settings

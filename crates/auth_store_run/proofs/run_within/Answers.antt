@@ -19,7 +19,7 @@ returns-clause-runs g c room =
     g.K.FixedSize.SIZE g.V.FixedSize.SIZE (page_size_in c.args.session.parts c.args.session.store) in
     let format : Format = format_of (g.K.Read.after tt) (g.V.Read.after tt) g.K.FixedSize.SIZE g.V.FixedSize.SIZE in
     let requests = requests_of g.K.Write.encoding g.V.Write.encoding c.args.steps.items in
-    let answers = meanings_of g.H.Digest.Write.encoding g.V.Write.encoding c.take_all.new.answers.items in
+    let answers = meanings_of g.H.Digest.Write.encoding g.K.Write.encoding g.V.Write.encoding c.take_all.new.answers.items in
     let taken = c.take_all.ensures in
     let apart = c.into_parts-device.ensures in
     record {

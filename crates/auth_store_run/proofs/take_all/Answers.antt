@@ -13,7 +13,7 @@ pub loop-step-init : goal.loop-step-init
 loop-step-init g c = (
   λ room. (
     taken_none _ _ _ _ _ _ (ap (requests_of g.K.Write.encoding g.V.Write.encoding) c.into_iter-steps.ensures.rest)
-        (ap (meanings_of g.H.Digest.Write.encoding g.V.Write.encoding) room.0),
+        (ap (meanings_of g.H.Digest.Write.encoding g.K.Write.encoding g.V.Write.encoding) room.0),
     omega (arith, c.into_iter-steps.ensures.len, room.1),
   ),
   ap (λ items. config_after_all items (config_in c.args.session.now.parts c.args.session.now.store)) c.into_iter-steps.ensures.rest,
@@ -30,8 +30,8 @@ loop-step-preserved g c =
                 _ _ _ _ _ _ _ _ _ _ before.0 (ap (requests_of g.K.Write.encoding g.V.Write.encoding)
                 c.in-Some.ensures.items) c.step.ensures.steps c.step.ensures.kind c.step.ensures.open c.step.ensures.grows
                 c.step.ensures.page_size
-                (ap (meanings_of g.H.Digest.Write.encoding g.V.Write.encoding) (c.note.ensures.items fits)
-                ∙ map-append (meaning_of g.H.Digest.Write.encoding g.V.Write.encoding) c.loop-step.answers.items _),
+                (ap (meanings_of g.H.Digest.Write.encoding g.K.Write.encoding g.V.Write.encoding) (c.note.ensures.items fits)
+                ∙ map-append (meaning_of g.H.Digest.Write.encoding g.K.Write.encoding g.V.Write.encoding) c.loop-step.answers.items _),
             omega (arith, c.in-Some.ensures.len, c.note.ensures.len fits, c.note.ensures.capacity, before.1),
           ),
       config_taken _ _ _ _ _ _ c.in-Some.ensures.items c.step.ensures.settings c.loop-step.invariant.1,

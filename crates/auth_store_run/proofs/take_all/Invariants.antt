@@ -17,7 +17,7 @@ invariant-loop-step g l =
     (format_of (g.K.Read.after tt) (g.V.Read.after tt) g.K.FixedSize.SIZE g.V.FixedSize.SIZE) l.fn.session
     (requests_of g.K.Write.encoding g.V.Write.encoding l.fn.steps.items)
     (requests_of g.K.Write.encoding g.V.Write.encoding (into_iter_items l.steps))
-    (meanings_of g.H.Digest.Write.encoding g.V.Write.encoding l.answers.items) l.session
+    (meanings_of g.H.Digest.Write.encoding g.K.Write.encoding g.V.Write.encoding l.answers.items) l.session
     × (vec_len l.answers + into_iter_len l.steps ≤ vec_capacity l.answers))
     × (config_after_all (into_iter_items l.steps) (config_in l.session.parts l.session.store)
     ≡ config_after_all l.fn.steps.items (config_in l.fn.session.parts l.fn.session.store))

@@ -6,8 +6,8 @@ returns-clause-history c m before after history pruned location answer next step
     prune_leaves m before after history pruned location answer next step
 
 pub returns-clause-answers : goal.returns-clause-answers
-returns-clause-answers c m before after history pruned other request answer next asked step = (
+returns-clause-answers c m before after history pruned other request answer next asked behind too step = (
   with_pruned other next,
-  steps_unpruned m before after history pruned other request answer next asked step,
+  steps_unpruned m before after history pruned other request answer next asked behind too step,
   keeps_history other next,
 )

@@ -1,9 +1,9 @@
-use Rattle.std.proofs.Common.{None, refl, ◌+◌}
+use Rattle.std.proofs.Common.{None, refl, ap, sym, ◌+◌}
 use Rattle.std.specs.Prelude.{Ok, Err}
 use Rattle.auth_store_log.specs.Records.{format_of}
-use Rattle.auth_store_session.specs.Machine.{machine}
+use Rattle.auth_store_session.specs.Machine.{machine, key_is, of_key}
 use Rattle.auth_store_ledger.specs.ProvingCode.{key_answer_of}
-use Rattle.auth_store_session.proofs.Steps.{proves_in}
+use Rattle.auth_store_session.proofs.Steps.{lacks_memory, proves_in}
 use Rattle.auth_store_session.proofs.Powers.{leaves_none, leaves_unproved}
 use Rattle.auth_store_session.proofs.session.prove.Goals as goal
 
@@ -13,9 +13,9 @@ returns-in-Ok-clause-steps g c = (
   proves_in
       (machine g.F.Family.merge_rule g.H.HashFunction.hash_of g.F.PendingOf.pending_encoding g.row.N g.K.FixedSize.SIZE g.V.FixedSize.SIZE
       (c.args.store.now.cache.page_size + 12))
-      (format_of (g.K.Read.after (tt {0})) (g.V.Read.after (tt {0})) g.K.FixedSize.SIZE g.V.FixedSize.SIZE) (key_answer_of g.V.Write.encoding)
-      (g.K.Write.encoding c.args.key.now) c.args.store.now (Ok c.in-Ok.found) c.in-Ok.ensures.proof c.in-Ok.ensures.refused
-      c.in-Ok.ensures.failed,
+      (format_of (g.K.Read.after (tt {0})) (g.V.Read.after (tt {0})) g.K.FixedSize.SIZE g.V.FixedSize.SIZE)
+      (λ found. key_is (key_answer_of g.V.Write.encoding found)) (of_key (g.K.Write.encoding c.args.key.now)) c.args.store.now
+      (Ok c.in-Ok.found) (λ history live. ap (λ answer. Ok (key_is answer)) (sym (c.in-Ok.ensures.proof history live))) c.in-Ok.ensures.failed,
 )
 
 pub returns-in-Err-clause-steps : goal.returns-in-Err-clause-steps
@@ -24,7 +24,8 @@ returns-in-Err-clause-steps g c = (
   proves_in
       (machine g.F.Family.merge_rule g.H.HashFunction.hash_of g.F.PendingOf.pending_encoding g.row.N g.K.FixedSize.SIZE g.V.FixedSize.SIZE
       (c.args.store.now.cache.page_size + 12))
-      (format_of (g.K.Read.after (tt {0})) (g.V.Read.after (tt {0})) g.K.FixedSize.SIZE g.V.FixedSize.SIZE) (key_answer_of g.V.Write.encoding)
-      (g.K.Write.encoding c.args.key.now) c.args.store.now (Err c.in-Err.error) c.in-Err.ensures.proof c.in-Err.ensures.refused
-      c.in-Err.ensures.failed,
+      (format_of (g.K.Read.after (tt {0})) (g.V.Read.after (tt {0})) g.K.FixedSize.SIZE g.V.FixedSize.SIZE)
+      (λ found. key_is (key_answer_of g.V.Write.encoding found)) (of_key (g.K.Write.encoding c.args.key.now)) c.args.store.now
+      (Err c.in-Err.error) (λ history live. lacks_memory (λ found. key_is (key_answer_of g.V.Write.encoding found)) _ c.in-Err.error
+      (c.in-Err.ensures.refused history live)) c.in-Err.ensures.failed,
 )

@@ -14,20 +14,20 @@ pub returns-clause-steps : goal.returns-clause-steps
 returns-clause-steps g c = elim c.match-step.branch [
   | in-Crash w ↦ λ rest m format cache. rests_as m format c.args.device.now w.crash.new.self _ cache _ _ _ _
       (ap (request_of g.K.Write.encoding g.V.Write.encoding) w.in-Crash.is)
-      (ap (meaning_of g.H.Digest.Write.encoding g.V.Write.encoding) w.result-is) w.device-is
+      (ap (meaning_of g.H.Digest.Write.encoding g.K.Write.encoding g.V.Write.encoding) w.result-is) w.device-is
       (crash_rests m format c.args.device.now w.crash.new.self cache w.crash.ensures.device.1 w.crash.ensures.header
       w.crash.ensures.rest.0 w.crash.ensures.device.3 w.crash.ensures.device.2
       (ap (λ (p : Store × Stream). p.0.next) w.crash.ensures.store))
   | in-Config w ↦ λ rest m format cache. rests_as m format c.args.device.now w.set_config.new.self _ cache _ _ _ _
       (ap (request_of g.K.Write.encoding g.V.Write.encoding) w.in-Config.is)
-      (ap (meaning_of g.H.Digest.Write.encoding g.V.Write.encoding) w.result-is) w.device-is
+      (ap (meaning_of g.H.Digest.Write.encoding g.K.Write.encoding g.V.Write.encoding) w.result-is) w.device-is
       (config_rests m format c.args.device.now w.set_config.new.self cache w.in-Config.config w.set_config.ensures)
   | in-CutAfter w ↦ λ rest m format cache. rests_as m format c.args.device.now w.cut_after.new.self _ cache _ _ _ _
       (ap (request_of g.K.Write.encoding g.V.Write.encoding) w.in-CutAfter.is)
-      (ap (meaning_of g.H.Digest.Write.encoding g.V.Write.encoding) w.result-is) w.device-is
+      (ap (meaning_of g.H.Digest.Write.encoding g.K.Write.encoding g.V.Write.encoding) w.result-is) w.device-is
       (cut_rests m format c.args.device.now w.cut_after.new.self cache w.in-CutAfter.calls w.cut_after.ensures)
   | in_default w ↦ λ rest m format cache. rests_as m format c.args.device.now c.args.device.now _ cache _ _ _ _ refl
-      (ap (meaning_of g.H.Digest.Write.encoding g.V.Write.encoding) w.result-is) w.device-is
+      (ap (meaning_of g.H.Digest.Write.encoding g.K.Write.encoding g.V.Write.encoding) w.result-is) w.device-is
       (refused_rests m format c.args.device.now cache (request_of g.K.Write.encoding g.V.Write.encoding c.args.step)
       (is_refused_closed g.K.Write.encoding g.V.Write.encoding c.args.step rest w.in_default.not-Crash
       w.in_default.not-Config w.in_default.not-CutAfter))

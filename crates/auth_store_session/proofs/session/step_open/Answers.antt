@@ -23,6 +23,15 @@ returns-in-Len-clause-grows g c = here tt
 pub returns-in-ProveKey-clause-grows : goal.returns-in-ProveKey-clause-grows
 returns-in-ProveKey-clause-grows g c = here tt
 
+pub returns-in-ProveOperation-clause-grows : goal.returns-in-ProveOperation-clause-grows
+returns-in-ProveOperation-clause-grows g c = here tt
+
+pub returns-in-ProveRange-clause-grows : goal.returns-in-ProveRange-clause-grows
+returns-in-ProveRange-clause-grows g c = here tt
+
+pub returns-in-ProveLog-clause-grows : goal.returns-in-ProveLog-clause-grows
+returns-in-ProveLog-clause-grows g c = here tt
+
 pub returns-in-Commit-clause-steps : goal.returns-in-Commit-clause-steps
 returns-in-Commit-clause-steps g c = rw c.in-Commit.is (λ left. c.commit.ensures.steps)
 
@@ -53,6 +62,15 @@ returns-in-Prune-clause-steps g c = rw c.in-Prune.is (λ left. c.prune.ensures.s
 
 pub returns-in-ProveKey-clause-steps : goal.returns-in-ProveKey-clause-steps
 returns-in-ProveKey-clause-steps g c = rw c.in-ProveKey.is (λ left. c.prove.ensures.steps)
+
+pub returns-in-ProveOperation-clause-steps : goal.returns-in-ProveOperation-clause-steps
+returns-in-ProveOperation-clause-steps g c = rw c.in-ProveOperation.is (λ left. c.prove_operation.ensures.steps)
+
+pub returns-in-ProveRange-clause-steps : goal.returns-in-ProveRange-clause-steps
+returns-in-ProveRange-clause-steps g c = rw c.in-ProveRange.is (λ left. c.prove_range.ensures.steps)
+
+pub returns-in-ProveLog-clause-steps : goal.returns-in-ProveLog-clause-steps
+returns-in-ProveLog-clause-steps g c = rw c.in-ProveLog.is (λ left. c.prove_log.ensures.steps)
 
 pub returns-in-CutAfter-clause-steps : goal.returns-in-CutAfter-clause-steps
 returns-in-CutAfter-clause-steps g c = rw (c.in-CutAfter.is, c.cut.ensures.set) (λ left. c.cut.ensures.steps)

@@ -14,9 +14,8 @@ invariant_of-result g c =
         states = AreStates-history_of c.of-log.result;
         whole = is ∙ (c.requires.log ∙ ap (λ l. log_of (history_of l)) (sym is));
         commits = cc (c.commits_of-commits.ensures, c.deref.ensures.value, is);
-        floor = cc (c.floor_of-floor.ensures, c.deref-2.ensures.value, is);
         few = omega (arith, ap length is, length-map c.args.log.operations.items (meaning_of g.K.Write.encoding g.V.Write.encoding));
-        root = c.in_ok-root.ensures.root;
+        current = c.in_ok-current.ensures.kept;
       },
-      c.in_ok-root.ensures.written,
+      c.in_ok-current.ensures.written,
     )

@@ -25,7 +25,7 @@ returns-in-Some-clause-ok g c =
     let value : List ℕ = g.V.Write.encoding c.in-Some.value in
     let found : (at ≡ Some value) × (c.in-Some.bytes.items ≡ proof) =
     found_entry proof value c.in-Some.bytes.items at
-    (found_in_history pending setting key_size value_size c.self.inside.log _ _ _ key c.args.self.now
+    (found_in_history pending setting key_size value_size c.self.inside.log _ _ key c.args.self.now
     (Some (value, c.in-Some.bytes.items)) keeps c.self.view_is
     (ap (option_map {U = List ℕ × List ℕ} (λ proved. (g.V.Write.encoding proved.0, proved.1.items))) (sym c.in-Some.is)
     ∙ c.in_ok-found.ensures.found)) in
@@ -44,7 +44,7 @@ returns-in-Some-clause-shown g c =
     let value : List ℕ = g.V.Write.encoding c.in-Some.value in
     let found : (at ≡ Some value) × (c.in-Some.bytes.items ≡ proof) =
     found_entry proof value c.in-Some.bytes.items at
-    (found_in_history pending setting key_size value_size c.self.inside.log _ _ _ key c.args.self.now
+    (found_in_history pending setting key_size value_size c.self.inside.log _ _ key c.args.self.now
     (Some (value, c.in-Some.bytes.items)) keeps c.self.view_is
     (ap (option_map {U = List ℕ × List ℕ} (λ proved. (g.V.Write.encoding proved.0, proved.1.items))) (sym c.in-Some.is)
     ∙ c.in_ok-found.ensures.found)) in
@@ -58,7 +58,7 @@ returns-in-Some-clause-shown g c =
     let named = subst (λ f. IfSome f (λ _. IfSome (active_update key c.self.inside.log) (λ u. IsRead u.1))) c.in-Some.is
     c.in_ok-found.ensures.next in
     let next = of_next_key IsRead (latest_map c.args.self.now) key value (active_update key c.self.inside.log)
-    (kept_entry _ _ _ _ _ _ _ key keeps ∙ ap (λ (h : History). entry_of (latest_map h) key) c.self.view_is) found.0 named in
+    (kept_entry _ _ _ _ _ _ key keeps ∙ ap (λ (h : History). entry_of (latest_map h) key) c.self.view_is) found.0 named in
     subst (λ (b : List ℕ). Shows those (has_value key value) root b) (sym found.1)
     (c.honest_proofs_show_true_values.ensures c.args.self.now key value c.self.invariant.0 states few found.0 next)
 
@@ -74,7 +74,7 @@ returns-in_ok-bytes-in-None-clause-ok g c =
     let proof : List ℕ = honest_proof pending setting key_size value_size c.args.self.now key in
     let none : at ≡ None =
     missing_entry proof at
-    (found_in_history pending setting key_size value_size c.self.inside.log _ _ _ key c.args.self.now None keeps c.self.view_is
+    (found_in_history pending setting key_size value_size c.self.inside.log _ _ key c.args.self.now None keeps c.self.view_is
     (ap (option_map {U = List ℕ × List ℕ} (λ proved. (g.V.Write.encoding proved.0, proved.1.items))) (sym c.in-None.is)
     ∙ c.in_ok-found.ensures.found)) in
     let bytes = c.in_ok-bytes-in-None.ensures.bytes
@@ -93,7 +93,7 @@ returns-in_ok-bytes-in-None-clause-shown g c =
     let proof : List ℕ = honest_proof pending setting key_size value_size c.args.self.now key in
     let none : at ≡ None =
     missing_entry proof at
-    (found_in_history pending setting key_size value_size c.self.inside.log _ _ _ key c.args.self.now None keeps c.self.view_is
+    (found_in_history pending setting key_size value_size c.self.inside.log _ _ key c.args.self.now None keeps c.self.view_is
     (ap (option_map {U = List ℕ × List ℕ} (λ proved. (g.V.Write.encoding proved.0, proved.1.items))) (sym c.in-None.is)
     ∙ c.in_ok-found.ensures.found)) in
     let bytes = c.in_ok-bytes-in-None.ensures.bytes

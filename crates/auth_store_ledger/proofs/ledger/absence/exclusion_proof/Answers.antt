@@ -1,4 +1,4 @@
-use Rattle.std.proofs.Common.{◌≡◌, ◌∙◌, ◌-◌, List, ℕ, [], ◌∷◌, Option, None, Some, length, ap, sym}
+use Rattle.std.proofs.Common.{◌≡◌, ◌∙◌, ◌-◌, List, ℕ, [], ◌∷◌, Option, None, Some, length, ap, sym, arith}
 use Rattle.std.specs.declared.alloc.Global.{Global}
 use Rattle.std.specs.declared.vec.Vec.{Vec}
 use Rattle.std.specs.Prelude.{slice_get, unwrap_or}
@@ -7,48 +7,62 @@ use Rattle.state_proofs.specs.Canonical.{Setting}
 use Rattle.state_proofs.specs.Exclusion.{ExclusionParts, by_commit, by_update}
 use Rattle.state_proofs.specs.ExclusionCode.{form_exclusion_of}
 use Rattle.state_proofs.specs.Honest.{honest_parts}
+use Rattle.state_proofs.specs.ProofsCode.{parts_of}
+use Rattle.state_proofs.specs.Verified.{Parts}
 use Rattle.auth_store_absence.specs.Absence.{honest_absence_parts, metadata_in}
 use Rattle.auth_store_absence.specs.Laws.Absent.{has_some}
 use Rattle.auth_store_ledger.specs.History.{history_of}
 use Rattle.auth_store_ledger.specs.Map.{state_of}
 use Rattle.auth_store_ledger.specs.Store.{setting_of_width, state_of_log}
-use Rattle.auth_store_ledger.proofs.Absences.{is_named, last_named}
+use Rattle.auth_store_ledger.proofs.Absences.{is_named, last_named, update_within}
 use Rattle.auth_store_ledger.proofs.ledger.absence.exclusion_proof.Goals as goal
 
-pub proof_by_update-requires-clause-stands : goal.proof_by_update-requires-clause-stands
-proof_by_update-requires-clause-stands g c none =
+pub operation_proof-requires : goal.operation_proof-requires
+operation_proof-requires g c =
+    let it = is_named (setting_of_width g.F.Family.merge_rule g.H.HashFunction.hash_of g.row.N) g.K.FixedSize.SIZE g.V.FixedSize.SIZE
+    c.args.log.now c.requires.states c.requires.whole g.K.Write.encoding c.locations.result.now.entries
+    (g.K.Write.encoding c.args.key.now) (g.K.Write.encoding c.in-Some.before.now) c.in-Some.location.now
+    (c.locations.ensures ∙ c.places.ensures) c.in-Some.ensures in
+    let within = update_within c.args.log.now c.in-Some.location.now (it.value, it.next) it.stands in
+    (omega arith, (c.requires.kept.unpruned, omega (arith, c.requires.kept.leaves, within)))
+
+pub proof_by_update-requires : goal.proof_by_update-requires
+proof_by_update-requires g c none =
     let it = is_named (setting_of_width g.F.Family.merge_rule g.H.HashFunction.hash_of g.row.N) g.K.FixedSize.SIZE g.V.FixedSize.SIZE
     c.args.log.now c.requires.states c.requires.whole g.K.Write.encoding c.locations.result.now.entries
     (g.K.Write.encoding c.args.key.now) (g.K.Write.encoding c.in-Some.before.now) c.in-Some.location.now
     (c.locations.ensures ∙ c.places.ensures) c.in-Some.ensures in
     absurd (let gone : ◌≡◌ {A = Option (List ℕ × List ℕ)} None (Some (it.value, it.next)) = sym none ∙ it.stands in cc)
 
-pub returns-in-Some : goal.returns-in-Some
-returns-in-Some g c =
+pub returns-in_ok-proof-in-Some : goal.returns-in_ok-proof-in-Some
+returns-in_ok-proof-in-Some g c =
     let setting : Setting = setting_of_width g.F.Family.merge_rule g.H.HashFunction.hash_of g.row.N in
     let before : List ℕ = g.K.Write.encoding c.in-Some.before.now in
     let it = is_named setting g.K.FixedSize.SIZE g.V.FixedSize.SIZE c.args.log.now c.requires.states c.requires.whole
     g.K.Write.encoding c.locations.result.now.entries (g.K.Write.encoding c.args.key.now) before c.in-Some.location.now
     (c.locations.ensures ∙ c.places.ensures) c.in-Some.ensures in
-    let named : ExclusionParts = by_update (honest_parts setting
-    (state_of_log g.K.FixedSize.SIZE g.V.FixedSize.SIZE c.args.log.now) c.in-Some.location.now) before it.value it.next in
     let wanted : ExclusionParts = honest_absence_parts setting g.K.FixedSize.SIZE g.V.FixedSize.SIZE (history_of c.args.log.now)
     (g.K.Write.encoding c.args.key.now) in
     IfOk-weaker c.proof_by_update.result
     (λ proof. form_exclusion_of (λ (chunk : Vec ℕ Global). chunk.items) g.K.Write.encoding g.V.Write.encoding g.H.Digest.Write.encoding
-    g.F.PendingOf.held proof ≡ named)
+    g.F.PendingOf.held proof
+    ≡ by_update (parts_of g.H.Digest.Write.encoding g.F.PendingOf.held c.in_ok-proof-in-Some.proof) before it.value it.next)
     (λ proof. form_exclusion_of (λ (chunk : Vec ℕ Global). chunk.items) g.K.Write.encoding g.V.Write.encoding g.H.Digest.Write.encoding
     g.F.PendingOf.held proof ≡ wanted)
-    (λ proof is. is ∙ sym it.parts) (c.proof_by_update.ensures it.value it.next it.stands)
+    (λ proof is. is ∙ (ap (λ (p : Parts). by_update p before it.value it.next)
+    (c.in_ok-proof-in-Some.ensures g.K.FixedSize.SIZE g.V.FixedSize.SIZE c.args.log.now c.requires.kept) ∙ sym it.parts))
+    (c.proof_by_update.ensures it.value it.next it.stands)
 
-pub proof_by_commit-requires-clause-some : goal.proof_by_commit-requires-clause-some
-proof_by_commit-requires-clause-some g c =
-    has_some (setting_of_width g.F.Family.merge_rule g.H.HashFunction.hash_of g.row.N) g.K.FixedSize.SIZE g.V.FixedSize.SIZE
-    c.args.log.now c.requires.states c.requires.whole
+pub operation_proof-requires-in-None : goal.operation_proof-requires-in-None
+operation_proof-requires-in-None g c =
+    let some = has_some (setting_of_width g.F.Family.merge_rule g.H.HashFunction.hash_of g.row.N) g.K.FixedSize.SIZE g.V.FixedSize.SIZE
+    c.args.log.now c.requires.states c.requires.whole in
+    (omega arith, (c.requires.kept.unpruned, omega (arith, c.requires.kept.leaves, c.len.ensures, some)))
 
-pub returns-in-None : goal.returns-in-None
-returns-in-None g c =
+pub returns-in_ok-proof-in-None : goal.returns-in_ok-proof-in-None
+returns-in_ok-proof-in-None g c =
     let setting : Setting = setting_of_width g.F.Family.merge_rule g.H.HashFunction.hash_of g.row.N in
+    let noted : Option (List ℕ) = unwrap_or (metadata_in (slice_get c.args.log.now (length c.args.log.now - 1))) None in
     let last : ExclusionParts = by_commit (honest_parts setting (state_of_log g.K.FixedSize.SIZE g.V.FixedSize.SIZE c.args.log.now)
     (length c.args.log.now - 1)) (unwrap_or (metadata_in (slice_get c.args.log.now (length c.args.log.now - 1))) None) in
     let wanted : ExclusionParts = honest_absence_parts setting g.K.FixedSize.SIZE g.V.FixedSize.SIZE (history_of c.args.log.now)
@@ -58,7 +72,11 @@ returns-in-None g c =
     (sym (c.locations.ensures ∙ c.places.ensures) ∙ ap (state_of g.K.Write.encoding (λ (n : ℕ). n ∷ [])) c.in-None.ensures) in
     IfOk-weaker c.proof_by_commit.result
     (λ proof. form_exclusion_of (λ (chunk : Vec ℕ Global). chunk.items) g.K.Write.encoding g.V.Write.encoding g.H.Digest.Write.encoding
-    g.F.PendingOf.held proof ≡ last)
+    g.F.PendingOf.held proof
+    ≡ by_commit (parts_of g.H.Digest.Write.encoding g.F.PendingOf.held c.in_ok-proof-in-None.proof) noted)
     (λ proof. form_exclusion_of (λ (chunk : Vec ℕ Global). chunk.items) g.K.Write.encoding g.V.Write.encoding g.H.Digest.Write.encoding
     g.F.PendingOf.held proof ≡ wanted)
-    (λ proof is. is ∙ is_last) c.proof_by_commit.ensures
+    (λ proof is. is ∙ (ap (λ (p : Parts). by_commit p noted)
+    (c.in_ok-proof-in-None.ensures g.K.FixedSize.SIZE g.V.FixedSize.SIZE c.args.log.now c.requires.kept
+    ∙ ap (λ (n : ℕ). honest_parts setting (state_of_log g.K.FixedSize.SIZE g.V.FixedSize.SIZE c.args.log.now) (n - 1)) c.len.ensures) ∙ is_last))
+    c.proof_by_commit.ensures

@@ -2,10 +2,9 @@ use Rattle.std.proofs.Common.{◌≡◌, ◌∙◌, List, ℕ, Option, Some, opt
 use Rattle.std.specs.Prelude.{slice_get}
 use Rattle.state_ops.specs.Operation.{Operation}
 use Rattle.state_proofs.specs.Exclusion.{by_update}
-use Rattle.state_proofs.specs.Honest.{honest_parts}
+use Rattle.state_proofs.specs.ProofsCode.{parts_of}
 use Rattle.state_proofs.specs.Verified.{Parts}
 use Rattle.auth_store_ledger.specs.History.{update_fields}
-use Rattle.auth_store_ledger.specs.Store.{setting_of_width, state_of_log}
 use Rattle.auth_store_ledger.proofs.Absences.{is_found, fields_found}
 use Rattle.auth_store_ledger.proofs.ledger.absence.proof_by_update.Goals as goal
 
@@ -13,12 +12,11 @@ pub unwrap-update-requires : goal.unwrap-update-requires
 unwrap-update-requires g c =
     is_found _ c.update_at.result _
     (c.update_at.ensures.update ∙ ap (λ (l : List Operation). update_fields (slice_get l c.args.location)) c.operations.ensures)
-    c.requires.stands
+    c.requires
 
 pub returns : goal.returns
 returns g c value next is =
-    let parts : Parts = honest_parts (setting_of_width g.F.Family.merge_rule g.H.HashFunction.hash_of g.row.N)
-    (state_of_log g.K.FixedSize.SIZE g.V.FixedSize.SIZE c.args.log.now) c.args.location in
+    let parts : Parts = parts_of g.D.Write.encoding g.F.PendingOf.held c.args.proof in
     let update = c.unwrap-update.result.now in
     let key : List ℕ = g.K.Write.encoding c.in_ok-key.key in
     let own : List ℕ = g.V.Write.encoding c.in_ok-value.value in
@@ -31,7 +29,6 @@ returns g c value next is =
     let key_copied = g.met.K.Faithful.copied c.args.key.now c.in_ok-key.key c.in_ok-key.ensures.cases in
     let value_copied = g.met.V.Faithful.copied update.value c.in_ok-value.value c.in_ok-value.ensures.cases ∙ fields.0 in
     let next_copied = g.met.K.Faithful.copied update.next_key c.in_ok-next_key.next_key c.in_ok-next_key.ensures.cases ∙ fields.1 in
-    ap (λ (p : Parts). by_update p key own end) c.in_ok-proof.ensures
-    ∙ (ap (λ (k : List ℕ). by_update parts k own end) key_copied
+    ap (λ (k : List ℕ). by_update parts k own end) key_copied
     ∙ (ap (λ (v : List ℕ). by_update parts (g.K.Write.encoding c.args.key.now) v end) value_copied
-    ∙ ap (λ (n : List ℕ). by_update parts (g.K.Write.encoding c.args.key.now) value n) next_copied))
+    ∙ ap (λ (n : List ℕ). by_update parts (g.K.Write.encoding c.args.key.now) value n) next_copied)

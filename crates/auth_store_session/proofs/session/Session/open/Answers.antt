@@ -1,7 +1,9 @@
-use Rattle.std.proofs.Common.{is_some, ◌+◌, Some, sym, ap, subst, ◌∙◌}
+use Rattle.std.specs.Prelude.{IfSome, Option}
+use Rattle.std.proofs.Common.{ℕ, max, is_some, ◌+◌, Some, sym, ap, subst, ◌∙◌}
 use Rattle.auth_store_log.specs.Records.{format_of}
 use Rattle.auth_store_session.specs.Machine.{machine, ask_open, opened, refused}
 use Rattle.auth_store_session.specs.Standing.{closed_at, SessionState, page_size_in, IsOpenError, config_in}
+use Rattle.auth_store_session.specs.Stores.{HasBuffer, StoreState}
 use Rattle.auth_store_session.proofs.Rests.{still_none, open_at, was_closed, now_closed, steps_from, grows_through, grows_more, opens_in, refused_in, page_from}
 use Rattle.auth_store_session.proofs.Opens.{opened_grows}
 use Rattle.auth_store_session.proofs.session.Session.open.Goals as goal
@@ -86,3 +88,16 @@ returns-in-Err-clause-settings g c =
 pub returns-in-Err-clause-open : goal.returns-in-Err-clause-open
 returns-in-Err-clause-open g c =
     ap is_some (still_none c.self.inside.parts c.self.inside.store c.args.self.now c.self.view_is c.requires)
+
+pub returns-in-Ok-clause-buffer : goal.returns-in-Ok-clause-buffer
+returns-in-Ok-clause-buffer g c =
+    let is = was_closed c.self.inside.parts c.self.inside.store c.in-Some.device c.in-Some.cache c.args.self.now c.self.view_is
+    c.in-Some.ensures.value c.requires in
+    subst (λ (n : ℕ). HasBuffer (max c.args.sizes.write_buffer n) c.in-Ok.store)
+    (ap (λ (s : SessionState _). page_size_in s.parts s.store) is) c.in-Ok.ensures.buffer
+
+pub returns-in-Err-clause-buffer : goal.returns-in-Err-clause-buffer
+returns-in-Err-clause-buffer g c = subst
+    (λ (store : Option (StoreState _)). IfSome store
+    (HasBuffer (max c.args.sizes.write_buffer (page_size_in c.args.self.now.parts c.args.self.now.store))))
+    (sym (still_none c.self.inside.parts c.self.inside.store c.args.self.now c.self.view_is c.requires)) tt

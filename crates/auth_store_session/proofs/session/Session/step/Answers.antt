@@ -1,3 +1,4 @@
+use Rattle.std.proofs.Common.{◌≡◌, true, false, is_some, sym, ap, ◌∙◌}
 use Rattle.auth_store_session.proofs.session.Session.step.Goals as goal
 
 pub returns-then-is_open-clause-steps : goal.returns-then-is_open-clause-steps
@@ -41,3 +42,10 @@ returns-then-is_open-clause-open g c = rw (c.is_open.ensures.yes c.if-is_open.tr
 
 pub returns-clause-open : goal.returns-clause-open
 returns-clause-open g c = rw (c.is_open.ensures.no c.if-is_open.false) c.step_closed.ensures.open
+
+pub returns-then-is_open-clause-buffer : goal.returns-then-is_open-clause-buffer
+returns-then-is_open-clause-buffer g c = λ none sizes is.
+    absurd (let bad : false ≡ true = sym (ap is_some none) ∙ c.is_open.ensures.yes c.if-is_open.true in cc)
+
+pub returns-clause-buffer : goal.returns-clause-buffer
+returns-clause-buffer g c = c.step_closed.ensures.buffer

@@ -33,7 +33,7 @@ returns-clause-steps g c = λ rest.
     steps_from m format was c.args.self.now (closed_at new c.in-Some.cache)
     (record { parts = Some (new, c.in-Some.cache); store = c.self.inside.store })
     (request_of g.K.Write.encoding g.V.Write.encoding c.args.step)
-    (meaning_of g.H.Digest.Write.encoding g.V.Write.encoding c.step_device-answer.result) is ends
+    (meaning_of g.H.Digest.Write.encoding g.K.Write.encoding g.V.Write.encoding c.step_device-answer.result) is ends
     (c.step_device-answer.ensures.steps rest m format c.in-Some.cache)
 
 pub returns-clause-open : goal.returns-clause-open

@@ -1,4 +1,8 @@
-use Rattle.std.proofs.Common.{sym, ◌∙◌}
+use Rattle.std.proofs.Common.{sym, ◌∙◌, max, subst}
+use Rattle.std.specs.Prelude.{IfSome}
+use Rattle.auth_store_session.specs.declared.sizes.Sizes.{Sizes}
+use Rattle.auth_store_session.specs.Standing.{page_size_in}
+use Rattle.auth_store_session.specs.Stores.{HasBuffer}
 use Rattle.auth_store_session.proofs.session.Session.step_closed.Goals as goal
 
 pub returns-then-is_opening-clause-steps : goal.returns-then-is_opening-clause-steps
@@ -43,3 +47,12 @@ returns-clause-settings g c = c.step_at_rest.ensures.settings
 
 pub returns-clause-left : goal.returns-clause-left
 returns-clause-left g c = c.step_at_rest.ensures.left
+
+pub returns-then-is_opening-clause-buffer : goal.returns-then-is_opening-clause-buffer
+returns-then-is_opening-clause-buffer g c = λ none sizes is. subst
+    (λ (said : Sizes). IfSome c.open.new.self.store
+    (HasBuffer (max said.write_buffer (page_size_in c.args.self.now.parts c.args.self.now.store))))
+    (c.sizes_of.ensures sizes is) c.open.ensures.buffer
+
+pub returns-clause-buffer : goal.returns-clause-buffer
+returns-clause-buffer g c = λ none sizes is. absurd (c.is_opening.ensures.sizes c.if-is_opening.false sizes is)

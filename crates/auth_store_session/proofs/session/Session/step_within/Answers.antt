@@ -20,7 +20,7 @@ returns-clause-steps g c =
     let m = (machine g.F.Family.merge_rule g.H.HashFunction.hash_of g.F.PendingOf.pending_encoding g.row.N g.K.FixedSize.SIZE g.V.FixedSize.SIZE
     (page_size_in c.args.self.now.parts c.args.self.now.store)) in
     let request = request_of g.K.Write.encoding g.V.Write.encoding c.args.step in
-    let answer = meaning_of g.H.Digest.Write.encoding g.V.Write.encoding c.step_open.result in
+    let answer = meaning_of g.H.Digest.Write.encoding g.K.Write.encoding g.V.Write.encoding c.step_open.result in
     let now = c.step_open.new.store in
     let is = was_open c.self.inside.parts c.self.inside.store c.in-Some.store c.args.self.now c.self.view_is (sym c.in-Some.is) c.self.invariant.1 in
     let sized = ap (λ (s : SessionState _). page_size_in s.parts s.store) is in
@@ -63,4 +63,4 @@ returns-clause-left g c =
 
 pub returns-clause-open : goal.returns-clause-open
 returns-clause-open g c = sym (stays_open (request_of g.K.Write.encoding g.V.Write.encoding c.args.step)
-    (meaning_of g.H.Digest.Write.encoding g.V.Write.encoding c.step_open.result) c.requires.left (c.step_open.ensures.kind c.requires.left))
+    (meaning_of g.H.Digest.Write.encoding g.K.Write.encoding g.V.Write.encoding c.step_open.result) c.requires.left (c.step_open.ensures.kind c.requires.left))

@@ -1,15 +1,15 @@
-use Rattle.std.proofs.Common.{◌*◌, ◌/◌, ◌<◌, ◌≤◌, sym, ◌∙◌, ap₂, subst, arith}
+use Rattle.std.proofs.Common.{◌≡◌, ◌*◌, ◌/◌, ◌<◌, ◌≤◌, [], ◌++◌, length, sym, ◌∙◌, ap, ap₂, subst, arith}
 use Rattle.std.proofs.lemmas.Nat.{pow_pos}
 use Rattle.state_proofs.specs.BuiltCode.{setting_with}
 use Rattle.state_proofs.specs.Canonical.{Setting}
 use Rattle.state_proofs.specs.Laws.SameNodes.{born}
-use Rattle.state_current.specs.Kept.{Kept, StandsFor}
+use Rattle.state_current.specs.Kept.{Kept, StandsFor, IsPendingAmong}
 use Rattle.state_bitmap.specs.Bits.{bit_count}
-use Rattle.state_current.proofs.CurrentLemmas.{IsGraftable, full_of_bits, may_get, pending_none, pending_some}
+use Rattle.state_current.proofs.CurrentLemmas.{IsGraftable, full_of_bits, may_get, pending_among, pending_none, pending_some}
 use Rattle.state_current.proofs.current.Current.pending_digest.Goals as goal
 
-pub returns-then-graftable-full : goal.returns-then-graftable-full
-returns-then-graftable-full g c height state stands =
+pub returns-then-graftable-full-clause-digest : goal.returns-then-graftable-full-clause-digest
+returns-then-graftable-full-clause-digest g c height state stands =
     let setting : Setting = setting_with g.F.Family.merge_rule g.H.HashFunction.hash_of g.row.N height in
     let facts : IsGraftable g.F.Family.merge_rule = record {
       root = g.F.Graftable.root_of;
@@ -45,8 +45,8 @@ get_chunk-requires g c =
       ),
     )
 
-pub returns : goal.returns
-returns g c height state stands =
+pub returns-clause-digest : goal.returns-clause-digest
+returns-clause-digest g c height state stands =
     let setting : Setting = setting_with g.F.Family.merge_rule g.H.HashFunction.hash_of g.row.N height in
     let facts : IsGraftable g.F.Family.merge_rule = record {
       root = g.F.Graftable.root_of;
@@ -70,3 +70,20 @@ returns g c height state stands =
     (c.full_chunks-full.ensures ∙ ap₂ (λ n w. n / (8 * w)) c.len.ensures.length c.chunk_size.ensures) c.if-graftable-full.false
     (omega (arith, c.pruning_boundary-boundary.ensures.within, c.pruning_boundary-boundary.ensures.boundary, c.self.invariant.pruned, c.as_u64-graftable.ensures, c.leaves.ensures.leaves))
     c.get_chunk.ensures c.hash.ensures
+
+pub returns-clause-some : goal.returns-clause-some
+returns-clause-some g c =
+    let rule = g.F.Family.merge_rule in
+    let kept : Kept = record {
+      operations = c.self.inside.operations;
+      chunks = c.self.inside.chunks;
+      bits = c.self.inside.bits;
+      floor = c.self.inside.floor;
+    } in
+    let digest = g.H.Digest.Write.encoding c.hash.result in
+    let sized : length digest ≡ g.H.Digest.FixedSize.SIZE =
+    ap length c.hash.ensures ∙ g.met.H.HashFunction.sized (c.get_chunk.result.now ++ []) in
+    let full = c.full_chunks-full.ensures ∙ ap₂ (λ n w. n / (8 * w)) c.len.ensures.length c.chunk_size.ensures in
+    subst (λ (k : Kept). IsPendingAmong rule g.row.N k.operations.leaves g.H.Digest.FixedSize.SIZE digest) c.self.view_is
+    (pending_among rule g.row.N kept c.self.invariant c.as_u64-graftable.result c.full_chunks-full.result g.H.Digest.FixedSize.SIZE digest
+    (c.as_u64-graftable.ensures ∙ c.leaves.ensures.leaves) full c.if-graftable-full.false sized)

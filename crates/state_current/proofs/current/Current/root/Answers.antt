@@ -28,4 +28,4 @@ returns g c height state stands =
     canonical_root_is setting state kept facts here c.self.invariant c.bit_of-next.result _ _ _ _ (g.H.Digest.Write.encoding c.seal.result)
     (c.bit_of-next.ensures.bit ∙ ap₂ (λ n w. n % (8 * w)) c.len.ensures.length c.chunk_size.ensures)
     (c.root_of_operations-operations.ensures height state stands) (c.root_of_grafted-grafted.ensures height state stands)
-    (c.pending_digest-pending.ensures height state stands) (c.partial_digest-partial.ensures height state stands) c.seal.ensures
+    (c.pending_digest-pending.ensures.digest height state stands) (c.partial_digest-partial.ensures height state stands) c.seal.ensures

@@ -17,8 +17,8 @@ returns-in-Committed g c =
       progress = with_words (meanings bytes_of value_of c.replace-batch.new.dest.words.items) old.progress;
       session = c.ask-count.new.session;
     } in
-    let done : Answer = meaning_of bytes_of value_of c.ask.result in
-    let answer : Answer = meaning_of bytes_of value_of c.ask-count.result in
+    let done : Answer = meaning_of bytes_of bytes_of value_of c.ask.result in
+    let answer : Answer = meaning_of bytes_of bytes_of value_of c.ask-count.result in
     let metadata = option_map value_of c.args.metadata in
     let now = old.progress in
     let one = exchange (ask_commit (meanings bytes_of value_of c.replace-batch.result.words.items) metadata) done ∷ [] in
@@ -29,7 +29,7 @@ returns-in-Committed g c =
       inr (
         done,
         answer,
-        ap (λ a. is_root_of_commit (meaning_of bytes_of value_of a)) c.in-Committed.is,
+        ap (λ a. is_root_of_commit (meaning_of bytes_of bytes_of value_of a)) c.in-Committed.is,
         ap (λ batch. exchange (ask_commit (meanings bytes_of value_of batch.words.items) metadata) done ∷ other)
             c.replace-batch.ensures.value,
         is,
@@ -48,7 +48,7 @@ returns-in_default g c =
       progress = with_words (meanings bytes_of value_of c.replace-batch.new.dest.words.items) old.progress;
       session = c.ask.new.session;
     } in
-    let answer : Answer = meaning_of bytes_of value_of c.ask.result in
+    let answer : Answer = meaning_of bytes_of bytes_of value_of c.ask.result in
     let metadata = option_map value_of c.args.metadata in
     let now = old.progress in
     handled_line old new (lines.Commit c.args.metadata) _ _ _ (answer_line answer)
@@ -56,7 +56,7 @@ returns-in_default g c =
     (λ printed is. (
       inl (
         answer,
-        not_committed bytes_of value_of c.ask.result c.in_default.not-Committed,
+        not_committed bytes_of bytes_of value_of c.ask.result c.in_default.not-Committed,
         ap (λ batch. exchange (ask_commit (meanings bytes_of value_of batch.words.items) metadata) answer ∷ [])
             c.replace-batch.ensures.value,
         is,

@@ -10,7 +10,7 @@ pub returns : goal.returns
 returns g c =
     let family = g.F.Named.family in
     let now = progress_of family c.args.self.now in
-    let answer : Answer = meaning_of bytes_of value_of c.ask-answer.result in
+    let answer : Answer = meaning_of bytes_of bytes_of value_of c.ask-answer.result in
     handled_by (λ printed exchanges. (AsksStep (exchange_of c.args.step) exchanges printed × (now ≡ now))
     × Goes family c.args.self.now.session exchanges c.ask-answer.new.session) _ _ _ (answer_line answer)
     (exchange_of c.args.step answer ∷ []) (λ printed is. (((answer, refl, is), refl), c.ask-answer.ensures))

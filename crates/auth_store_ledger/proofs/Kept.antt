@@ -1,0 +1,119 @@
+-- What is kept of a log stays in step with it as it grows.
+use Rattle.std.proofs.Common.{◌≡◌, ℕ, ◌+◌, ◌*◌, ◌^◌, ◌<◌, ◌≤◌, Bool, false, Result, Ok, Err, IfOk, inl, inr, List, [], ◌∷◌, ◌++◌, length, map, slice_set, refl, sym, ◌∙◌, ap, subst, arith, length-append}
+use Rattle.std.proofs.lemmas.Bool.{cases_lt}
+use Rattle.std.proofs.lemmas.List.{length-map, map-append}
+use Rattle.std.proofs.lemmas.Nat.{mul-le, pow_pos}
+use Rattle.std.specs.List.{AllByRecursion, flat_map}
+use Rattle.state_ops.specs.Operation.{Operation, fixed_encoding}
+use Rattle.state_bitmap.specs.Bits.{Bits, bit_count}
+use Rattle.state_bitmap.specs.Laws.Bits.{length-all}
+use Rattle.state_proofs.specs.Canonical.{Setting, State}
+use Rattle.state_current.specs.Growth as kept
+use Rattle.state_current.specs.Growth.{grown}
+use Rattle.state_current.specs.Kept.{Kept, StandsFor}
+use Rattle.auth_store_index.specs.Growth as logged
+use Rattle.auth_store_log.specs.Records.{log_bytes}
+use Rattle.auth_store_ledger.specs.History.{activity_bits, last_floor}
+use Rattle.auth_store_ledger.specs.Store.{IsKept, encodings, state_of_log}
+use Rattle.auth_store_ledger.proofs.Proofs.{same_state}
+
+-- bits are cleared alike in both words
+pub same_cleared : (bits : List Bool) (places : List ℕ) → kept.cleared bits places ≡ logged.cleared bits places
+same_cleared bits [] = refl
+same_cleared bits (place ∷ places) = same_cleared (slice_set bits place false) places
+
+none_pruned : (width height : ℕ) (bits : Bits) → 8 * width ≡ 2 ^ height → bit_count width bits ≡ 0 → bits.pruned ≡ 0
+none_pruned width height bits whole none = elim (cases_lt 0 bits.pruned) [
+  | inl some ↦ absurd (let more : 8 * width * 1 ≤ 8 * width * bits.pruned = mul-le (8 * width) 1 (8 * width) bits.pruned (omega arith) some in
+      omega (arith, more, whole, pow_pos height, none))
+  | inr none_there ↦ omega (arith, none_there)
+]
+
+-- as many are encoded as are said
+pub counted : {B : Type 0} (key value : ℕ) (bytes : B → List ℕ) (encoded : List B) (said : List Operation)
+    → map bytes encoded ≡ encodings key value said → length encoded ≡ length said
+counted key value bytes encoded said are =
+    sym (length-map encoded bytes) ∙ (ap length are ∙ length-map said (fixed_encoding key value))
+
+-- the encodings one after the other are the bytes of the operations
+pub joined_is : {B : Type 0} (key value : ℕ) (bytes : B → List ℕ) (encoded : List B) (said : List Operation)
+    → map bytes encoded ≡ encodings key value said → flat_map bytes encoded ≡ log_bytes key value said
+joined_is key value bytes encoded said are =
+    joined_map bytes encoded ∙ (ap (flat_map (λ part. part)) are ∙ sym (joined_map (fixed_encoding key value) said))
+  where
+    joined_map : {C : Type 0} (f : C → List ℕ) (xs : List C) → flat_map f xs ≡ flat_map (λ part. part) (map f xs)
+    joined_map f [] = refl
+    joined_map f (x ∷ xs) = ap (λ l. f x ++ l) (joined_map f xs)
+
+-- places stand behind what is pruned, where nothing is
+pub places_unpruned : (size pruned end : ℕ) (places : List ℕ) → pruned ≡ 0 → AllByRecursion (λ place. place < end) places
+    → AllByRecursion (λ place. (size * pruned ≤ place) × (place < end)) places
+places_unpruned size pruned end [] none all = tt
+places_unpruned size pruned end (place ∷ places) none all =
+    let start : size * pruned ≡ size * 0 = ap (λ n. size * n) none in
+    ((omega (arith, start), all.0), places_unpruned size pruned end places none all.1)
+
+pub places_within : (start end : ℕ) (places : List ℕ) → start ≤ end → AllByRecursion (λ place. place < start) places
+    → AllByRecursion (λ place. place < end) places
+places_within start end [] le all = tt
+places_within start end (place ∷ places) le all = let first = all.0 in (omega (arith, le, first), places_within start end places le all.1)
+
+-- what three clauses of an answer lead to
+pub all_ok : {A E : Type 0} (r : Result A E) (P Q R S : A → Type 0) → ((a : A) → P a → Q a → R a → S a) → IfOk r P → IfOk r Q → IfOk r R
+    → IfOk r S
+all_ok (Ok a) P Q R S leads p q r = leads a p q r
+all_ok (Err e) P Q R S leads p q r = tt
+
+-- what stands for no operations is kept of the empty log
+pub kept_of_nothing : (setting : Setting) (key value : ℕ) (kept : Kept)
+    → StandsFor setting (record { operations = []; bits = []; floor = 0 }) kept → IsKept setting key value [] kept
+kept_of_nothing setting key value kept stands =
+    let none : bit_count setting.width kept.bits ≡ 0 = sym (length-all setting.width kept.bits) ∙ sym (ap length stands.bits) in record {
+      leaves = stands.operations.counted;
+      unpruned = none_pruned setting.width setting.grafting_height kept.bits stands.whole none;
+      stands = stands;
+    }
+
+-- What is kept of a log with more operations at its end, from the encodings of these, a bit for each, the places that they clear and the floor
+-- then.
+pub kept_after : {B : Type 0} (setting : Setting) (key value : ℕ) (log said : List Operation) (before after : Kept) (bytes : B → List ℕ)
+    (encoded : List B) (bits : List Bool) (places : List ℕ) (floor : ℕ)
+    → IsKept setting key value log before
+    → map bytes encoded ≡ encodings key value said
+    → logged.cleared (activity_bits log ++ bits) places ≡ activity_bits (log ++ said)
+    → floor ≡ last_floor (log ++ said)
+    → after.operations.leaves ≡ before.operations.leaves + length encoded → after.bits.pruned ≡ 0
+    → StandsFor setting (grown (state_of_log key value log) (record {
+      operations = map bytes encoded;
+      bits = bits;
+      cleared = places;
+      floor = floor;
+    })) after
+    → IsKept setting key value (log ++ said) after
+kept_after setting key value log said before after bytes encoded bits places floor is are cleared_is floor_is leaves unpruned stands =
+    let encoding : Operation → List ℕ = fixed_encoding key value in
+    let operations : encodings key value log ++ map bytes encoded ≡ encodings key value (log ++ said) =
+    ap (λ l. encodings key value log ++ l) are ∙ sym (map-append encoding log said) in
+    let signs : kept.cleared (activity_bits log ++ bits) places ≡ activity_bits (log ++ said) =
+    same_cleared (activity_bits log ++ bits) places ∙ cleared_is in record {
+      leaves = omega (arith, leaves, is.leaves, length-append log said, length-map encoded bytes, ap length are, length-map said encoding);
+      unpruned = unpruned;
+      stands = subst (λ (s : State). StandsFor setting s after) (same_state _ _ _ _ _ _ operations signs floor_is) stands;
+    }
+
+-- what is kept of a log, made from nothing
+pub kept_of_all : {B : Type 0} (setting : Setting) (key value : ℕ) (log : List Operation) (empty after : Kept) (bytes : B → List ℕ)
+    (encoded : List B) (bits : List Bool) (floor : ℕ)
+    → StandsFor setting (record { operations = []; bits = []; floor = 0 }) empty
+    → map bytes encoded ≡ encodings key value log → bits ≡ activity_bits log → floor ≡ last_floor log
+    → after.operations.leaves ≡ empty.operations.leaves + length encoded → after.bits.pruned ≡ 0
+    → StandsFor setting (grown (record { operations = []; bits = []; floor = 0 }) (record {
+      operations = map bytes encoded;
+      bits = bits;
+      cleared = [];
+      floor = floor;
+    })) after
+    → IsKept setting key value log after
+kept_of_all setting key value log empty after bytes encoded bits floor none are bits_are floor_is leaves unpruned stands =
+    kept_after setting key value [] log empty after bytes encoded bits [] floor (kept_of_nothing setting key value empty none)
+    are bits_are floor_is leaves unpruned stands

@@ -1,0 +1,35 @@
+use Rattle.std.proofs.Common.{◌≡◌, ◌∙◌, ◌<◌, ◌≤◌, ℕ, length, Ok, ap, sym, arith}
+use Rattle.state_proofs.specs.Canonical.{Setting}
+use Rattle.auth_store_ledger.specs.History.{log_of}
+use Rattle.auth_store_ledger.specs.Proving.{slice_answer, range_refusal}
+use Rattle.auth_store_ledger.specs.Store.{setting_of_width}
+use Rattle.auth_store_ledger.proofs.Ranges.{not_refused, refused_empty, refused_past, refused_pruned, unless_none, unless_some}
+use Rattle.auth_store_ledger.proofs.ledger.Ledger.prove_log.Goals as goal
+
+pub returns-then-stop-start-clause-err : goal.returns-then-stop-start-clause-err
+returns-then-stop-start-clause-err g c =
+    let setting : Setting = setting_of_width g.F.Family.merge_rule g.H.HashFunction.hash_of g.row.N in
+    unless_some (range_refusal setting c.args.self.now c.args.pruned c.args.start c.args.stop) _ _
+    (refused_empty setting c.args.self.now c.args.pruned c.args.start c.args.stop (omega arith))
+
+pub returns-then-len-stop-clause-err : goal.returns-then-len-stop-clause-err
+returns-then-len-stop-clause-err g c =
+    let setting : Setting = setting_of_width g.F.Family.merge_rule g.H.HashFunction.hash_of g.row.N in
+    unless_some (range_refusal setting c.args.self.now c.args.pruned c.args.start c.args.stop) _ _
+    (refused_past setting c.args.self.now c.args.pruned c.args.start c.args.stop (omega arith) (omega (arith, c.len.ensures)))
+
+pub returns-then-is_before_chunks-clause-err : goal.returns-then-is_before_chunks-clause-err
+returns-then-is_before_chunks-clause-err g c =
+    let setting : Setting = setting_of_width g.F.Family.merge_rule g.H.HashFunction.hash_of g.row.N in
+    unless_some (range_refusal setting c.args.self.now c.args.pruned c.args.start c.args.stop) _ _
+    (refused_pruned setting c.args.self.now c.args.pruned c.args.start c.args.stop (omega arith) (omega (arith, c.len.ensures))
+    (sym c.is_before_chunks.ensures ∙ c.if-is_before_chunks.true))
+
+pub returns-in-Ok-clause-ok : goal.returns-in-Ok-clause-ok
+returns-in-Ok-clause-ok g c =
+    let setting : Setting = setting_of_width g.F.Family.merge_rule g.H.HashFunction.hash_of g.row.N in
+    ap (λ answer. Ok answer) c.in-Ok.ensures
+    ∙ unless_none (range_refusal setting c.args.self.now c.args.pruned c.args.start c.args.stop)
+    (slice_answer g.F.PendingOf.pending_encoding setting g.K.FixedSize.SIZE g.V.FixedSize.SIZE c.args.self.now c.args.start c.args.stop)
+    (not_refused setting c.args.self.now c.args.pruned c.args.start c.args.stop (omega arith) (omega (arith, c.len.ensures))
+    (sym c.is_before_chunks.ensures ∙ c.if-is_before_chunks.false))

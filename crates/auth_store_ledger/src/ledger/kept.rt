@@ -1,0 +1,98 @@
+//! What is kept of a log beside its operations: their tree, the tree of the chunks of their bits, the bits and the floor.
+
+ghost use Rattle.std.specs.Prelude.{◌≡◌, ◌<◌, ◌≤◌, ◌+◌, ◌^◌, map, length, IfOk, OnOk};
+ghost use Rattle.std.specs.List.{AllByRecursion, flat_map};
+ghost use Rattle.auth_store_ledger.specs.History.{last_floor};
+ghost use Rattle.auth_store_ledger.specs.Store.{IsChunkWidth, IsKept, AreWritten};
+ghost use Rattle.auth_store_ledger.specs.Store.{grafting_height, setting_of_width};
+ghost use Rattle.auth_store_log.specs.Records.{format_of};
+ghost use Rattle.state_current.specs.Growth.{grown};
+ghost use Rattle.state_current.specs.Kept.{StandsFor};
+ghost use Rattle.state_proofs.specs.Canonical.{State};
+
+use super::log::Log;
+use merkle_core::error::Error;
+use merkle_forest::{Family, Graftable, HashFunction};
+use state_current::Current;
+use state_ops::{FixedKey, FixedValue};
+use state_proofs::chunk_size::ChunkSize;
+use std::alloc::{AllocError, Global};
+
+/// How many bits a chunk of `N` bytes has.
+pub fn chunk_size<const N: usize>() -> ChunkSize
+    requires { IsChunkWidth N }
+    ensures width { result.width ≡ N }
+    ensures height { result.grafting_height ≡ grafting_height N }
+{
+    ChunkSize::new(N).unwrap()
+}
+
+// Want of memory for a tree.
+pub(super) fn out_of_memory<F: Family>(error: Error<F>) -> AllocError
+    requires { error ≡ Error.Memory }
+{
+    match error {
+        Error::Memory => AllocError,
+        _ => unreachable!(),
+    }
+}
+
+/// What is kept, of which nothing is pruned, with more operations and a bit for each, after which the bits at these places
+/// are cleared, and another floor. It fails only when out of memory.
+pub fn grown_by<F: Graftable, H: HashFunction, const N: usize>(
+    current: &Current<F, H, N>,
+    operations: &[Vec<u8>],
+    bits: &[bool],
+    cleared: &[u64],
+    floor: u64,
+) -> Result<Current<F, H, N>, AllocError>
+    requires few { current.now.operations.leaves + length operations.now ≤ 2 ^ 62 }
+    requires unpruned { current.now.bits.pruned ≡ 0 }
+    requires paired { length bits.now ≡ length operations.now }
+    requires there { AllByRecursion (λ at. at < current.now.operations.leaves + length operations.now) cleared.now }
+    ensures leaves { IfOk result (λ after. after.operations.leaves
+        ≡ current.now.operations.leaves + length operations.now) }
+    ensures unpruned { IfOk result (λ after. after.bits.pruned ≡ 0) }
+    ensures stands { (state : State) → let setting = setting_of_width F.merge_rule H.hash_of N in
+        StandsFor setting state current.now → IfOk result (λ after. StandsFor setting (grown state (record {
+          operations = map (λ e. e.items) operations.now;
+          bits = bits.now;
+          cleared = cleared.now;
+          floor = floor;
+        })) after) }
+{
+    match current.grown(operations, bits, cleared, floor) {
+        Ok(after) => Ok(after),
+        Err(error) => Err(out_of_memory(error)),
+    }
+}
+
+/// What is kept of a log, whose last floor this is, in chunks of `N` bytes: nothing of it is pruned. It fails only when
+/// out of memory.
+pub fn kept_of_log<F: Graftable, H: HashFunction, K: FixedKey, V: FixedValue, const N: usize>(
+    alloc: Global,
+    log: &Log<F, K, V>,
+    floor: u64,
+) -> Result<Current<F, H, N>, AllocError>
+    requires width { IsChunkWidth N }
+    requires few { length log.now ≤ 2 ^ 62 }
+    requires last { floor ≡ last_floor log.now }
+    ensures kept { IfOk result (IsKept (setting_of_width F.merge_rule H.hash_of N) K.SIZE V.SIZE log.now) }
+    ensures written { OnOk result (AreWritten (format_of (K.after tt) (V.after tt) K.SIZE V.SIZE) log.now) }
+{
+    let bits = log.activity_bits()?;
+    let encodings = log.encodings()?;
+    let empty: Current<F, H, N> = Current::new(alloc);
+    grown_by(&empty, &encodings, &bits, &[], floor)
+}
+
+// The bytes, one after the other. It fails only when out of memory.
+pub(super) fn joined(alloc: Global, parts: &[Vec<u8>]) -> Result<Vec<u8>, AllocError>
+    ensures { IfOk result (λ bytes. bytes.items ≡ flat_map (λ part. part.items) parts.now) }
+{
+    let mut bytes = Vec::new(alloc);
+    for part in parts {
+        bytes.extend_from_slice(part)?;
+    }
+    Ok(bytes)
+}

@@ -1,0 +1,51 @@
+//! The witness of what is kept: what leads from the root of the operations' tree to the canonical one.
+
+ghost use Rattle.std.specs.Prelude.{◌≡◌, ℕ, List, option_map};
+ghost use Rattle.state_proofs.specs.BuiltCode.{setting_with};
+ghost use Rattle.state_proofs.specs.Canonical.{State, next_bit, partial_digest, pending_digest};
+ghost use Rattle.state_proofs.specs.Witness.{honest_witness, witness_of};
+ghost use Rattle.state_current.specs.Kept.{StandsFor};
+
+use crate::current::Current;
+use merkle_forest::hasher::HashFunction;
+use merkle_forest::{Graftable, PendingOf};
+use state_proofs::OpsRootWitness;
+
+impl<F: Graftable + PendingOf<H::Digest>, H: HashFunction, const N: usize> Current<F, H, N> {
+    // What is held of the digest of the full chunk that has no node yet, or of its absence.
+    fn held_pending(&self) -> F::Pending
+        ensures { (height : ℕ) (state : State) → let setting = setting_with F.merge_rule H.hash_of N height in
+            StandsFor setting state self.now → F.held result ≡ pending_digest setting state }
+    {
+        let _few = self.leaves();
+        let _size = self.chunk_size();
+        let pending = self.pending_digest();
+        F::hold(pending).unwrap()
+    }
+
+    // The next bit and the digest of the chunk that the last bits fill in part, if any.
+    fn partial_chunk(&self) -> Option<(u64, H::Digest)>
+        ensures { (height : ℕ) (state : State) → let setting = setting_with F.merge_rule H.hash_of N height in
+            StandsFor setting state self.now → option_map {U = ℕ × List ℕ} (λ x. (x.0, H.Digest.encoding x.1)) result
+            ≡ option_map {U = ℕ × List ℕ} (λ digest. (next_bit setting state, digest)) (partial_digest setting state) }
+    {
+        let next = self.chunk_size().bit_of(self.leaves().as_u64());
+        match self.partial_digest() {
+            Some(digest) => Some((next, digest)),
+            None => None,
+        }
+    }
+
+    /// The witness of the root of the operations' tree: the other parts of the canonical string. It takes no memory (own).
+    pub fn witness(&self) -> OpsRootWitness<F, H::Digest>
+        ensures { (height : ℕ) (state : State) → let setting = setting_with F.merge_rule H.hash_of N height in
+            StandsFor setting state self.now
+            → witness_of H.Digest.encoding F.held result ≡ honest_witness setting state }
+    {
+        OpsRootWitness {
+            grafted_root: self.root_of_grafted(),
+            pending_chunk_digest: self.held_pending(),
+            partial_chunk: self.partial_chunk(),
+        }
+    }
+}
