@@ -1,6 +1,7 @@
 #!/usr/bin/env python3
 """Asks of every crate what `rt ci` asks before any proof: the layout, the words of contracts, that each file is read, that each
-text of an edit stands in its file once, and that each library which a path begins with is one of the crate's in crates.txt.
+text of an edit stands in its file once, and that each library which a path begins with is one of the crate's in crates.txt;
+and that the program which README.md shows is that of its crate.
 
     tools/before_a_commit.py        at the top of the repository; prints what is wrong, and ends with status 1 if anything is
 
@@ -71,6 +72,13 @@ def wrong_with(kit, crate, crates):
     return found
 
 
+def functions_shown(text):
+    """The functions that a document shows, in blocks indented by four."""
+    blocks = re.findall(r"(?:^ {4}.*\n|^\n)+", text, re.M)
+    blocks = [re.sub(r"^ {4}", "", it, flags=re.M).strip() for it in blocks]
+    return [it for it in blocks if re.search(r"^fn ", it, re.M)]
+
+
 def main():
     kit = load()
     crates = kit.rtlib.crates_below(os.getcwd())
@@ -79,6 +87,11 @@ def main():
         for it in wrong_with(kit, crate, crates):
             failed = True
             print(f"{crate.name}: {it}")
+    program = pathlib.Path("crates/auth_store_example/src/main.rt").read_text()
+    for shown in functions_shown(pathlib.Path("README.md").read_text()):
+        if shown not in program:
+            failed = True
+            print("README.md shows a program that is not that of crates/auth_store_example")
     print(f"{len(crates)} crates asked")
     return 1 if failed else 0
 

@@ -135,7 +135,8 @@ REOPEN = [("close",), ("crash",), ("open",)]
 STEPS = [("open",)]
 STEPS += [("commit", (("put", A, model.number(1)), ("put", B, model.number(2))))]
 STEPS += [("commit", (("put", C, model.number(3)),))]
-STEPS += [*REOPEN, ("commit", (("delete", A),)), ("get", B), ("get", A), ("prove", C), ("prove", A), ("prune", 4), ("root",)]
+STEPS += [*REOPEN, ("commit", (("delete", A),)), ("get", B), ("get", A), ("prove", C), ("prove", A)]
+STEPS += [("operation", 9, 10), ("range", 4, 10), ("slice", 0, 10), ("prune", 4), ("root",)]
 STEPS += [*REOPEN, ("get", C), ("commits",), ("floor",), ("len",), ("close",), ("openings",), ("by chance",)]
 
 
@@ -152,12 +153,12 @@ class State(NamedTuple):
 
 @lru_cache(maxsize=None)
 def told(batches):
-    """What a store answers whose history has these batches: map, root, floor and number of operations."""
+    """What a store answers whose history has these batches: map, root, floor, and whether each operation is active."""
     history = []
     for words in batches:
         history.append((model.after(history[-1][0] if history else {}, words), None))
     state = history[-1][0] if history else {}
-    return state, model.root(history, 1).hex(), model.floor(history), len(model.log_of(history))
+    return state, model.root(history, 1).hex(), model.floor(history), model.bits(model.log_of(history))
 
 
 def outcomes(old, step):
@@ -198,15 +199,25 @@ def outcomes(old, step):
             yield "error S4", new
             yield "error S4", new._replace(mode="failed", pending=(of[0],))
         return
-    state, root, floor, length = told(old.batches)
-    if kind in ("get", "prove"):
+    state, root, floor, active = told(old.batches)
+    checked = "yes" if old.root == root else "no" if old.root else "no root"
+    if kind in ("operation", "range", "slice"):  # no chunk is pruned
+        if len(active) < of[1]:
+            yield "error S9", old
+        elif kind == "operation" and not active[of[0]]:
+            yield "error S8", old
+        else:
+            yield f"{kind} {checked}", old
+            yield from ((f"{kind} out of memory", new) for new in refusals)
+            yield from (("error S4", new) for new in refusals)
+    elif kind in ("get", "prove"):
         yield from (("error S4", new) for new in refusals)
         value = int.from_bytes(state[of[0]], "big") if of[0] in state else None
         if kind == "get":
             yield ("none" if value is None else f"value {value}"), old
         else:
             found = "absent" if value is None else f"present {value}"
-            yield f"{found} {'yes' if old.root == root else 'no' if old.root else 'no root'}", old
+            yield f"{found} {checked}", old
             yield from ((f"{found} out of memory", new) for new in refusals)
     elif kind == "prune":
         # Fewer operations than a chunk has stand before each floor that there is.
@@ -214,7 +225,7 @@ def outcomes(old, step):
     elif kind == "root":
         yield f"root {root}", old._replace(root=root)
     else:
-        yield f"{kind} {({'commits': len(old.batches), 'floor': floor, 'len': length})[kind]}", old
+        yield f"{kind} {({'commits': len(old.batches), 'floor': floor, 'len': len(active)})[kind]}", old
 
 
 def not_explained(printed, is_refused):

@@ -16,7 +16,8 @@ use Rattle.auth_store_session.specs.MachineCode.{request_of}
 use Rattle.auth_store_session.specs.Standing.{SessionState, Runs, config_in, page_size_in}
 use Rattle.auth_store_session.specs.declared.session.Step.{Step}
 use Rattle.auth_store_session.specs.declared.session.Step.TheVariants.{Config}
-use Rattle.auth_store.specs.ScriptLines.{Exchange, Progress, AsksStep, ChecksClaim, Sets, Does, IsQuiet, asked, answered, settings_after, bytes_of, value_of, script_machine, script_format}
+use Rattle.auth_store.specs.ScriptLines.{Exchange, Progress, AsksStep, ChecksClaim, Sets, Does, IsQuiet, asked}
+use Rattle.auth_store.specs.ScriptLines.{answered, settings_after, bytes_of, value_of, script_machine, script_format}
 use Rattle.auth_store.specs.ScriptRun.{LineDoes, script_cache, seeded_by}
 use Rattle.auth_store.specs.declared.script.end.End.{End}
 use Rattle.auth_store.specs.declared.script.end.End.TheVariants.{BadLine, Memory, Io}
@@ -82,9 +83,10 @@ Goes family old exchanges new = (first : SessionState Lcg) (earlier : List Excha
 
 -- ---- what a line does
 
--- What was made of a line: it was taken, with what it prints behind what was printed; or it is out of place, and prints nothing; or
--- there was no memory, or writing failed.
-abbrev pub Handled : (Option (List ℕ) → List Exchange → Type 0) → Option (List ℕ) → Option (List ℕ) → Result Unit End → Type 0
+-- What was made of a line: it was taken, with what it prints behind what was printed; or it is out of place, and prints
+-- nothing; or there was no memory, or writing failed.
+abbrev pub Handled : (Option (List ℕ) → List Exchange → Type 0) → Option (List ℕ) → Option (List ℕ)
+    → Result Unit End → Type 0
 Handled Did before after (Ok _) =
     (exchanges : List Exchange) × (printed : List ℕ) × Did (Some printed) exchanges × Appends before after printed
 Handled Did before after (Err BadLine) = (exchanges : List Exchange) × Did None exchanges × Appends before after []
@@ -115,7 +117,8 @@ SetsTo family old config new printed exchanges =
     × Goes family old.session exchanges new.session
 
 -- the kept bytes are checked, and all stays
-abbrev pub ChecksKept : {F P : Type 0} → TreeFamily → code.Progress F P → Claim → Option (List ℕ) → List Exchange → Type 0
+abbrev pub ChecksKept : {F P : Type 0} → TreeFamily → code.Progress F P → Claim → Option (List ℕ)
+    → List Exchange → Type 0
 ChecksKept family now claim printed exchanges =
     ChecksClaim (progress_of family now) claim exchanges printed (progress_of family now)
     × Goes family now.session exchanges now.session

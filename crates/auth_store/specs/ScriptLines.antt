@@ -1,5 +1,7 @@
 -- What each line of a script asks of the store's session, what it prints, and what is kept after it.
-use Rattle.std.specs.Prelude.{◌≡◌, ◌<◌, ◌≤◌, ◌⊎◌, ℕ, ◌++◌, ◌∷◌, Bool, true, false, List, [], length, codes, map, MatchOption, Option, None, Some, IfSome, unwrap_or, Result, Ok, Err, option_map, if◌then◌else◌}
+use Rattle.std.specs.Prelude.{◌≡◌, ◌<◌, ◌≤◌, ◌⊎◌, ℕ, ◌++◌, ◌∷◌, Bool, true, false, List, [], length, codes, map}
+use Rattle.std.specs.Prelude.{MatchOption, Option, None, Some, IfSome, unwrap_or, Result, Ok, Err, option_map}
+use Rattle.std.specs.Prelude.{if◌then◌else◌}
 use Rattle.std.specs.Fmt.{decimal}
 use Rattle.std.specs.Int.{w64, to_be_bytes, from_be_bytes}
 use Rattle.hex.specs.Hex.{encode_lower}
@@ -14,7 +16,10 @@ use Rattle.fault_storage_parts.specs.declared.probability.Probability.{Probabili
 use Rattle.auth_store_parts.specs.Batch.{Word, put, delete}
 use Rattle.auth_store_parts.specs.Report.{reported}
 use Rattle.auth_store_parts.specs.declared.script.line.Line.{Line}
-use Rattle.auth_store_parts.specs.declared.script.line.Line.TheVariants.{Empty, New, Open, Put, Delete, Commit, Get, Root, Floor, Len, Prune, Prove, Proof, CheckValue, CheckAbsent, Cut, Mode, Fault, Close, Crash}
+use Rattle.auth_store_parts.specs.declared.script.line.Line.TheVariants.{Empty, New, Open, Put, Delete, Commit, Get}
+use Rattle.auth_store_parts.specs.declared.script.line.Line.TheVariants.{Root, Floor, Len, Prune, Prove, Proof}
+use Rattle.auth_store_parts.specs.declared.script.line.Line.TheVariants.{CheckValue, CheckAbsent, Cut, Mode, Fault}
+use Rattle.auth_store_parts.specs.declared.script.line.Line.TheVariants.{Close, Crash}
 use Rattle.auth_store_parts.specs.declared.script.words.FaultKind.{FaultKind}
 use Rattle.auth_store_parts.specs.declared.script.words.FaultKind.TheVariants as kinds
 use Rattle.auth_store_parts.specs.declared.script.words.TornMode.{TornMode}
@@ -25,9 +30,11 @@ use Rattle.auth_store_log.specs.Records.{Format, format_of}
 use Rattle.auth_store_client.specs.Claims.{Claim, Terms, Shows, terms, has_value, is_absent}
 use Rattle.auth_store_ledger.specs.Proving.{KeyAnswer, proved_value, proved_absent}
 use Rattle.auth_store_session.specs.Machine.{Machine, Request, Answer, machine, is_opened, is_root_of_commit}
-use Rattle.auth_store_session.specs.Machine.{ask_open, ask_commit, ask_get, ask_root, ask_commits, ask_floor, ask_len, ask_prune, ask_proof, of_key, key_is}
+use Rattle.auth_store_session.specs.Machine.{ask_open, ask_commit, ask_get, ask_root, ask_commits, ask_floor, ask_len}
+use Rattle.auth_store_session.specs.Machine.{ask_prune, ask_proof, of_key, key_is}
 use Rattle.auth_store_session.specs.Machine.{ask_close, ask_crash, ask_config, ask_cut}
-use Rattle.auth_store_session.specs.Machine.{value, root_is, commits_are, floor_is, len_is, pruned_to, proof, has_closed, has_crashed, is_set, refused}
+use Rattle.auth_store_session.specs.Machine.{value, root_is, commits_are, floor_is, len_is, pruned_to, proof}
+use Rattle.auth_store_session.specs.Machine.{has_closed, has_crashed, is_set, refused}
 use Rattle.auth_store_session.specs.Refusals.{number_of}
 use Rattle.auth_store_session.specs.declared.error.StoreError.{StoreError}
 use Rattle.auth_store_session.specs.declared.error.StoreError.TheVariants.{Memory}
@@ -250,13 +257,16 @@ abbrev pub Counts : Request → (Answer → Bool) → List ℕ → List Exchange
 Counts request is_done word exchanges printed =
     ((answer : Answer) × (is_done answer ≡ false) × (exchanges ≡ exchange request answer ∷ [])
     × (printed ≡ option_map reported (answer_line answer)))
-    ⊎ ((done answer : Answer) × (is_done done ≡ true) × (exchanges ≡ exchange request done ∷ exchange ask_commits answer ∷ [])
+    ⊎ ((done answer : Answer) × (is_done done ≡ true) × (exchanges
+    ≡ exchange request done ∷ exchange ask_commits answer ∷ [])
     × (printed ≡ option_map reported (count_line word answer)))
 
--- A proof is asked for, of the key's value or of its absence, and where it is answered the root besides, with which it is kept.
+-- A proof is asked for, of the key's value or of its absence, and where it is answered the root besides, with which it
+-- is kept.
 abbrev pub Proves : Progress → List ℕ → List Exchange → Option (List ℕ) → Progress → Type 0
 Proves now key exchanges printed next =
-    ((answer : Answer) × (proof_in answer ≡ None) × (exchanges ≡ exchange (ask_proof (of_key key)) answer ∷ []) × (next ≡ now)
+    ((answer : Answer) × (proof_in answer ≡ None) × (exchanges ≡ exchange (ask_proof (of_key key)) answer ∷ [])
+    × (next ≡ now)
     × (printed ≡ option_map reported (answer_line answer)))
     ⊎ ((found : KeyAnswer) × (answer : Answer)
     × (exchanges ≡ exchange (ask_proof (of_key key)) (proof (key_is found)) ∷ exchange ask_root answer ∷ [])
@@ -270,8 +280,8 @@ ChecksClaim now claim exchanges printed next =
     (λ kept. (text : List ℕ) × (printed ≡ Some text)
     × Checks (Shows (script_terms now.family) claim kept.1 kept.0) text)
 
--- What a line asks, what it prints, and what is kept after it. A line that prints nothing at all, not even an empty text, is out of
--- place.
+-- What a line asks, what it prints, and what is kept after it. A line that prints nothing at all, not even an empty
+-- text, is out of place.
 abbrev pub Does : Progress → Line → List Exchange → Option (List ℕ) → Progress → Type 0
 Does now Empty exchanges printed next = IsQuiet exchanges × (printed ≡ Some []) × (next ≡ now)
 Does now (New family seed) exchanges printed next = IsQuiet exchanges × (printed ≡ None) × (next ≡ now)
@@ -291,7 +301,8 @@ Does now Len exchanges printed next = Asks ask_len exchanges printed × (next �
 Does now (Prune location) exchanges printed next = Asks (ask_prune location) exchanges printed × (next ≡ now)
 Does now (Prove key) exchanges printed next = Proves now key.bytes exchanges printed next
 Does now Proof exchanges printed next =
-    IsQuiet exchanges × (printed ≡ option_map (λ kept. reported (codes "proof " ++ encode_lower kept.0)) now.kept) × (next ≡ now)
+    IsQuiet exchanges × (printed ≡ option_map (λ kept. reported (codes "proof " ++ encode_lower kept.0)) now.kept)
+    × (next ≡ now)
 Does now (CheckValue key number) exchanges printed next =
     ChecksClaim now (has_value key.bytes (value_of number)) exchanges printed next
 Does now (CheckAbsent key) exchanges printed next = ChecksClaim now (is_absent key.bytes) exchanges printed next

@@ -15,10 +15,11 @@ use Rattle.auth_store_parts.specs.Report.{reported}
 use Rattle.auth_store_parts.specs.declared.script.line.Line.{Line}
 use Rattle.auth_store_parts.specs.declared.script.line.Line.TheVariants.{Empty, New}
 use Rattle.auth_store_session.specs.Standing.{RunsWhole}
-use Rattle.auth_store.specs.ScriptLines.{Exchange, Progress, Does, IsQuiet, asked, answered, settings_after, new_progress, script_machine, script_format}
+use Rattle.auth_store.specs.ScriptLines.{Exchange, Progress, Does, IsQuiet, asked, answered, settings_after}
+use Rattle.auth_store.specs.ScriptLines.{new_progress, script_machine, script_format}
 
--- What a line does in a run. The first that isn't empty begins it, with the settings of a new device. A text that spells
--- no line is out of place, and so is before the run begins each line but an empty one or `new`.
+-- What a line does in a run. The first that isn't empty begins it, with the settings of a new device. A text that
+-- spells no line is out of place, and so is before the run begins each line but an empty one or `new`.
 abbrev pub LineDoes : Option Progress → Option Line → List Exchange → Option (List ℕ) → Option Progress → Type 0
 LineDoes now None exchanges printed next = IsQuiet exchanges × (printed ≡ None) × (next ≡ now)
 LineDoes (Some now) (Some line) exchanges printed next =
@@ -42,7 +43,8 @@ abbrev pub lines_of : List ℕ → List (List ℕ)
 lines_of script = slice_split (λ byte. byte == 10) script
 
 -- some lines are taken, and the next is out of place: its number is printed last, counted from 1
-pub record StopsAt (script : List ℕ) (exchanges : List Exchange) (printed : List ℕ) (last : Option Progress) : Type 0 where
+pub record StopsAt (script : List ℕ) (exchanges : List Exchange) (printed : List ℕ)
+    (last : Option Progress) : Type 0 where
   pub before : List (List ℕ)
   pub text : List ℕ
   pub later : List (List ℕ)

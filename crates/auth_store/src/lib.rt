@@ -1,5 +1,5 @@
-//! An authenticated store on a device that fails, with its sessions, its light client and its script: all that a user of the
-//! store names, and the script that runs it.
+//! An authenticated store on a device that fails, with its sessions, its light client and its script: all that a user
+//! of the store names, and the script that runs it.
 #![tactic(auto)]
 
 pub mod script;

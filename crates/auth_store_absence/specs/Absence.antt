@@ -18,14 +18,16 @@ last_metadata (commit ∷ history) = commit.metadata
 abbrev pub last_location : History → ℕ
 last_location history = length (log_of history) - 1
 
--- What the honest proof holds that a key is not in the latest state, which has these entries: the update of the key before it, in whose
--- span the key is; of an empty state the last commit.
+-- What the honest proof holds that a key is not in the latest state, which has these entries: the update of the key
+-- before it, in whose span the key is; of an empty state the last commit.
 abbrev pub absence_in : Setting → ℕ → ℕ → History → List ℕ → Map → ExclusionParts
 absence_in setting key_size value_size history key [] =
-    by_commit (honest_parts setting (state_of_history key_size value_size history) (last_location history)) (last_metadata history)
+    by_commit (honest_parts setting (state_of_history key_size value_size history) (last_location history))
+    (last_metadata history)
 absence_in setting key_size value_size history key (entry ∷ entries) =
     let before = prev_key (latest_map history) key in
-    by_update (honest_parts setting (state_of_history key_size value_size history) (active_location before (log_of history))) before
+    by_update (honest_parts setting (state_of_history key_size value_size history)
+    (active_location before (log_of history))) before
     (unwrap_or (value_at (latest_map history) before) []) (next_key (latest_map history) before)
 
 -- so of the latest state

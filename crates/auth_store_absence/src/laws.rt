@@ -12,8 +12,8 @@ use merkle_forest::{Graftable, HashFunction, PendingOf};
 use state_ops::{FixedKey, FixedValue};
 use state_proofs::laws::honest_bytes_show_the_operation;
 
-/// The honest proof that a key is absent shows it under the root of the history, where what it names are keys and values:
-/// so `check` says yes to it.
+/// The honest proof that a key is absent shows it under the root of the history, where what it names are keys and
+/// values: so `check` says yes to it.
 pub fn honest_proofs_show_absence<F, H, K, V, const N: usize>()
 where
     F: Graftable + PendingOf<H::Digest>,

@@ -10,7 +10,7 @@ use Rattle.state_proofs.specs.MadeRanges.{HasActive}
 use Rattle.auth_store_parts.specs.History.{History, AreStates, latest_map, log_of}
 use Rattle.auth_store_parts.specs.Map.{value_at}
 use Rattle.auth_store_client.specs.Claims.{Terms, FitsExclusion}
-use Rattle.auth_store_client.specs.Laws.Standing.{stands, no_room, no_room_at_all}
+use Rattle.auth_store_client.specs.Laws.Standing.{alone_in, stands, no_room, no_room_at_all}
 use Rattle.auth_store_client.specs.Soundness.{IsReadAgain, AreReadAgain}
 use Rattle.auth_store_client.specs.States.{state_of_history}
 
@@ -44,13 +44,15 @@ module _ (key value : List ℕ → Outcome) (key_size value_size : ℕ) where
       → LeavesOut proof asked → value_at (latest_map history) asked ≡ None
   absent again history asked states all (by_update proof k v n) fields there leaves =
       no_room history proof.location k v n asked states
-      (stands key value key_size value_size (log_of history) proof.location (update (ordered k v n)) all
-      (again_alone again (update (ordered k v n)) fields) there.stands)
+      (stands key_size value_size (log_of history) proof.location (update (ordered k v n))
+      (alone_in key value key_size value_size (log_of history) (update (ordered k v n)) all
+      (again_alone again (update (ordered k v n)) fields)) there.stands)
       there.active leaves.0 leaves.1
   absent again history asked states all (by_commit proof metadata) fields there leaves =
       no_room_at_all history proof.location metadata asked states
-      (stands key value key_size value_size (log_of history) proof.location (commit_floor metadata proof.location) all
-      (again_alone again (commit_floor metadata proof.location) fields) there.stands)
+      (stands key_size value_size (log_of history) proof.location (commit_floor metadata proof.location)
+      (alone_in key value key_size value_size (log_of history) (commit_floor metadata proof.location) all
+      (again_alone again (commit_floor metadata proof.location) fields)) there.stands)
       there.active
 
   pub fields_of : (terms : Terms) → ((k : List ℕ) → terms.IsKey k → IsField key key_size k)

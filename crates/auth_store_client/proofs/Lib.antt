@@ -1,4 +1,5 @@
 pub mod Absent
+pub mod Alone
 pub mod Bits
 pub mod Chunks
 pub mod Decoding
@@ -16,3 +17,4 @@ pub mod ShownSlices
 pub mod Slices
 pub mod SoundRanges
 pub mod SoundSlices
+pub mod Yes

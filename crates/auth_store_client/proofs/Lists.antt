@@ -1,7 +1,8 @@
 -- Parts of lists.
-use Rattle.std.proofs.Common.{◌≡◌, ℕ, zero, suc, ◌+◌, ◌<◌, List, [], ◌∷◌, length, map, take, drop, Option, Some, None, refl, ◌∙◌, ap, arith}
+use Rattle.std.proofs.Common.{◌≡◌, ℕ, zero, suc, ◌+◌, ◌<◌, List, [], ◌∷◌, ◌++◌, length, map, take, drop, Option, Some, None, refl, sym, ◌∙◌, ap, arith}
+use Rattle.std.proofs.lemmas.List.{map-append}
 use Rattle.std.specs.Prelude.{slice_get}
-use Rattle.std.specs.List.{range_with_len}
+use Rattle.std.specs.List.{AllByRecursion, range_with_len}
 use Rattle.auth_store_client.specs.Claims.{StandFrom}
 
 -- the list from a location on begins with what stands there
@@ -54,3 +55,20 @@ by_values f (x ∷ list) start each =
     ap (λ y. y ∷ list) (first ∙ ap f (omega arith))
     ∙ ap (λ xs. f start ∷ xs) (by_values f list (start + 1)
     (λ i lt. each (suc i) (omega (arith, lt)) ∙ ap (λ n. Some (f n)) (omega arith)))
+
+-- ---- what holds of each
+
+pub each_so : {A : Type 0} (P Q : A → Type 0) → ((x : A) → P x → Q x) → (list : List A) → AllByRecursion P list → AllByRecursion Q list
+each_so P Q so [] all = tt
+each_so P Q so (x ∷ list) all = (so x all.0, each_so P Q so list all.1)
+
+pub each_more : {A : Type 0} (P : A → Type 0) (list : List A) (x : A) → AllByRecursion P list → P x → AllByRecursion P (list ++ x ∷ [])
+each_more P [] x all one = (one, tt)
+each_more P (y ∷ list) x all one = (all.0, each_more P list x all.1 one)
+
+-- what is made of each, of one more
+pub made_more : {A B C : Type 0} (f : A → C) (g : B → C) (xs : List A) (x : A) (ys : List B) (y : B) → map f xs ≡ map g ys → f x ≡ g y
+    → map f (xs ++ x ∷ []) ≡ map g (ys ++ y ∷ [])
+made_more f g xs x ys y same last =
+    map-append f xs (x ∷ []) ∙ (ap (λ zs. zs ++ f x ∷ []) same
+    ∙ (ap (λ z. map g ys ++ z ∷ []) last ∙ sym (map-append g ys (y ∷ []))))

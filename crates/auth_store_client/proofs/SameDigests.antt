@@ -64,7 +64,8 @@ module _ (one other : Digests) (forest : List Tree) (same : (first : ℕ) (tree 
       ap (λ d. d ∷ singly one peaks) (same peak.0 peak.1 stand.0) ∙ ap (λ ds. other peak.0 peak.1 ∷ ds) (singly_same peaks stand.1)
 
   flat_same : (start stop : ℕ) (peaks : List Located) → Stand peaks
-      → flat_map (λ (peak : Located). siblings one start stop peak.0 peak.1) peaks ≡ flat_map (λ (peak : Located). siblings other start stop peak.0 peak.1) peaks
+      → flat_map (λ (peak : Located). siblings one start stop peak.0 peak.1) peaks ≡ flat_map
+      (λ (peak : Located). siblings other start stop peak.0 peak.1) peaks
   flat_same start stop [] stand = refl
   flat_same start stop (peak ∷ peaks) stand =
       flat_map-cons (λ (x : Located). siblings one start stop x.0 x.1) peak peaks

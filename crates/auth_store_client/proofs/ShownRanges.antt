@@ -1,5 +1,5 @@
 -- What bytes show of operations with their bits, from the proof and the chunks that were read of them.
-use Rattle.std.proofs.Common.{◌≡◌, ℕ, Bool, ◌^◌, ◌<◌, List, [], ◌∷◌, ◌++◌, ◌-◌, length, map, take, drop, Option, refl, sym, ◌∙◌, ap, subst, arith, length-append}
+use Rattle.std.proofs.Common.{◌≡◌, ℕ, Bool, ◌^◌, ◌<◌, List, ◌++◌, ◌-◌, length, take, drop, Option, refl, sym, ◌∙◌, ap, subst, arith, length-append}
 use Rattle.std.proofs.lemmas.List.{drop_at, take_rest}
 use Rattle.merkle_forest.specs.Codec.{Outcome}
 use Rattle.state_ops.specs.Operation.{Operation}
@@ -9,10 +9,6 @@ use Rattle.state_proofs.specs.Laws.Once.{range_once}
 use Rattle.state_proofs.specs.Verified.{RangeParts, VerifiesRange}
 use Rattle.auth_store_client.specs.Claims.{Terms, range_most, range_encoding, shown_of, bits_over, ShowsRange}
 use Rattle.auth_store_client.proofs.Chunks.{AreWide, joined, joined_once}
-
-pub map_twice : {A B C : Type 0} (f : B → C) (g : A → B) (xs : List A) → map f (map g xs) ≡ map (λ x. f (g x)) xs
-map_twice f g [] = refl
-map_twice f g (x ∷ xs) = ap (λ ys. f (g x) ∷ ys) (map_twice f g xs)
 
 -- what is said of some elements, a width and a count is said of the same ones
 pub as_claimed : (P : List (List ℕ) → ℕ → ℕ → Type 0) (es fs : List (List ℕ)) (v w m n : ℕ) → es ≡ fs → v ≡ w → m ≡ n

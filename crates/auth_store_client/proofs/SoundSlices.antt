@@ -172,7 +172,8 @@ module _ (setting : Setting) (hash_sized : (xs : List ℕ) → length (setting.h
       ∙ it.leads) in
       let rebuilt : slice_strings setting slice start elements ≡ strings setting.hash (slice_over slice read.made) =
       ap (λ got. strings setting.hash (if_made (option_map (slice_over slice) got))) read.is in
-      let lifted : (few many : Strings) → In few many → many ≡ strings setting.hash (slice_over slice read.made) → In few (slice_strings setting slice start elements) =
+      let lifted : (few many : Strings) → In few many → many ≡ strings setting.hash (slice_over slice read.made)
+      → In few (slice_strings setting slice start elements) =
       λ few many within is x here. subst (λ (ss : Strings). Contains ss x) (is ∙ sym rebuilt) (within x here) in
       ⊎_elim
       (λ root. ⊎_elim (λ agrees. inl (read.some, stands_there (read.holds.1 agrees)))

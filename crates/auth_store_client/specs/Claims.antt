@@ -1,13 +1,15 @@
 -- Claims about a history, and when bytes show them under a root.
-use Rattle.std.specs.Prelude.{◌≡◌, ◌-◌, ◌*◌, ◌/◌, ◌%◌, ◌<◌, ℕ, Bool, true, List, [], ◌++◌, map, length, take, drop, Option, None, Some, Ok, slice_get, slice_index_or, IfSome}
-use Rattle.std.specs.List.{flat_map, range_with_len}
+use Rattle.std.specs.Prelude.{◌≡◌, ◌-◌, ◌*◌, ◌/◌, ◌%◌, ◌<◌, ⊤, ℕ, Bool, true, List, [], ◌++◌, map, length, take, drop}
+use Rattle.std.specs.Prelude.{Option, None, Some, Ok, slice_get, slice_index_or, IfSome}
+use Rattle.std.specs.List.{AllByRecursion, flat_map, range_with_len}
 use Rattle.merkle_forest.specs.Codec.{Outcome}
 use Rattle.merkle_forest.specs.Forest.{Rule}
 use Rattle.merkle_forest.specs.Hashing.{Hash}
 use Rattle.state_ops.specs.Operation.{Operation, fixed_encoding, update, ordered}
-use Rattle.state_ops.specs.Reading.{IsField}
+use Rattle.state_ops.specs.Reading.{IsField, IsOfFields}
 use Rattle.state_proofs.specs.Bits.{is_set}
-use Rattle.state_proofs.specs.Encoded.{Format, format_of, range_proof_encoding, FitsRange, Fits, ShowsOperation, ShowsUpdate}
+use Rattle.state_proofs.specs.Encoded.{Format, format_of, range_proof_encoding, FitsRange, Fits, ShowsOperation}
+use Rattle.state_proofs.specs.Encoded.{ShowsUpdate}
 use Rattle.state_proofs.specs.Exclusion.{ExclusionParts, by_update, by_commit, exclusion_encoding, Excludes}
 use Rattle.state_proofs.specs.Verified.{RangeParts, Shown, VerifiesRange}
 use Rattle.auth_store_parts.specs.History.{History, activity_bits, latest_map, log_of}
@@ -24,6 +26,14 @@ pub data Claim : Type 0 where
   has_range : ℕ → List Operation → List Bool → Claim
   has_slice : ℕ → List Operation → Claim
 
+-- The keys and the values that a claim names are some. The key that is not there may be any.
+abbrev pub ClaimsFields : (List ℕ → Type 0) → (List ℕ → Type 0) → Claim → Type 0
+ClaimsFields IsKey IsValue (has_value key value) = IsKey key × IsValue value
+ClaimsFields IsKey IsValue (is_absent key) = ⊤
+ClaimsFields IsKey IsValue (is_active location operation) = IsOfFields IsKey IsValue operation
+ClaimsFields IsKey IsValue (has_range start operations active) = AllByRecursion (IsOfFields IsKey IsValue) operations
+ClaimsFields IsKey IsValue (has_slice start operations) = AllByRecursion (IsOfFields IsKey IsValue) operations
+
 -- ---- when a claim is true
 
 -- these stand in the list from a location on
@@ -35,7 +45,8 @@ abbrev pub IsTrueOf : Claim → History → Type 0
 IsTrueOf (has_value key value) history = value_at (latest_map history) key ≡ Some value
 IsTrueOf (is_absent key) history = value_at (latest_map history) key ≡ None
 IsTrueOf (is_active location operation) history =
-    (slice_get (log_of history) location ≡ Some operation) × (slice_get (activity_bits (log_of history)) location ≡ Some true)
+    (slice_get (log_of history) location ≡ Some operation)
+    × (slice_get (activity_bits (log_of history)) location ≡ Some true)
 IsTrueOf (has_range start operations active) history =
     (0 < length operations) × StandFrom (log_of history) start operations × (length active ≡ length operations)
     × StandFrom (activity_bits (log_of history)) start active
@@ -51,9 +62,9 @@ pub record Terms : Type 1 where
   pub IsKey : List ℕ → Type 0
   pub IsValue : List ℕ → Type 0
 
--- The terms of a family's trees, a hash function, chunks of `width` bytes and digests of `size`, of which a proof of one operation has
--- up to 122; the family says which pending digests a proof may hold and how they are encoded; `key` and `value` are the grammars of keys
--- and of values.
+-- The terms of a family's trees, a hash function, chunks of `width` bytes and digests of `size`, of which a proof of
+-- one operation has up to 122; the family says which pending digests a proof may hold and how they are encoded; `key`
+-- and `value` are the grammars of keys and of values.
 abbrev pub terms : Rule → Hash → ℕ → ℕ → (Option (List ℕ) → Type 0) → (Option (List ℕ) → List ℕ) → (List ℕ → Outcome)
     → (List ℕ → Outcome) → ℕ → ℕ → Terms
 terms rule hash width size IsPending pending key value key_size value_size = record {
@@ -74,7 +85,8 @@ FitsExclusion terms (by_update proof key value next) =
     Fits terms.format.IsPending terms.format.width terms.format.size terms.format.most proof
     × terms.IsKey key × terms.IsValue value × terms.IsKey next
 FitsExclusion terms (by_commit proof metadata) =
-    Fits terms.format.IsPending terms.format.width terms.format.size terms.format.most proof × IfSome metadata terms.IsValue
+    Fits terms.format.IsPending terms.format.width terms.format.size terms.format.most proof
+    × IfSome metadata terms.IsValue
 
 -- the bytes are those of a proof that the key is not in the state of this root
 pub record ShowsAbsence (terms : Terms) (root key bytes : List ℕ) : Type 0 where
@@ -84,7 +96,8 @@ pub record ShowsAbsence (terms : Terms) (root key bytes : List ℕ) : Type 0 whe
   pub excludes : Excludes terms.format.rule terms.format.hash terms.key_size terms.value_size root proof key
 
 -- the bytes are those of a proof that the operation is active at this location
-pub record ShowsActive (terms : Terms) (root : List ℕ) (location : ℕ) (operation : Operation) (bytes : List ℕ) : Type 0 where
+pub record ShowsActive (terms : Terms) (root : List ℕ) (location : ℕ) (operation : Operation)
+    (bytes : List ℕ) : Type 0 where
   pub shown : ShowsOperation terms.format root (encoded terms operation) bytes
   pub at : shown.proof.location ≡ location
 

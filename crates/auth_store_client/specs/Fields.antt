@@ -13,8 +13,8 @@ abbrev pub HasFields : (List ℕ → Type 0) → (List ℕ → Type 0) → Histo
 HasFields IsKey IsValue history =
     AllByRecursion (λ (commit : Commit). HasEntries IsKey IsValue commit.map × IfSome commit.metadata IsValue) history
 
--- A history of which a client's yes is sound: each commit has a state, its keys and values are some, and its log is no longer than the
--- greatest.
+-- A history of which a client's yes is sound: each commit has a state, its keys and values are some, and its log is no
+-- longer than the greatest.
 pub record IsSound (IsKey IsValue : List ℕ → Type 0) (history : History) : Type 0 where
   pub states : AreStates history
   pub fields : HasFields IsKey IsValue history

@@ -1,5 +1,5 @@
--- The honest bytes that prove what a history holds: a key's value, an operation that is active, operations with their activity bits,
--- and operations alone.
+-- The honest bytes that prove what a history holds: a key's value, an operation that is active, operations with their
+-- activity bits, and operations alone.
 use Rattle.std.specs.Prelude.{ℕ, ◌+◌, ◌-◌, ◌/◌, List, ◌++◌, length, take, drop, Option}
 use Rattle.std.specs.List.{flat_map}
 use Rattle.merkle_forest.specs.declared.bagging.Bagging.TheVariants.{BackwardFold}
@@ -34,7 +34,8 @@ chunks_over setting state start stop =
     let first = start / chunk_bits setting in
     take ((stop - 1) / chunk_bits setting + 1 - first) (drop first (chunks setting state))
 
--- those that prove the operations from `start` up to `stop` of a state, and their bits: the proof over them, and the chunks over them
+-- those that prove the operations from `start` up to `stop` of a state, and their bits: the proof over them, and the
+-- chunks over them
 abbrev pub range_bytes : (Option (List ℕ) → List ℕ) → Setting → State → ℕ → ℕ → List ℕ
 range_bytes pending setting state start stop =
     range_proof_encoding pending (honest_range setting state start stop)
@@ -44,18 +45,20 @@ abbrev pub honest_range_bytes : (Option (List ℕ) → List ℕ) → Setting →
 honest_range_bytes pending setting key_size value_size history start stop =
     range_bytes pending setting (state_of_history key_size value_size history) start stop
 
--- the inactive peaks of a state's tree of operations, and the digests that lead from the operations from `start` up to `stop` to its root
+-- the inactive peaks of a state's tree of operations, and the digests that lead from the operations from `start` up to
+-- `stop` to its root
 abbrev pub log_inactive : Setting → State → ℕ
 log_inactive setting state = inactive_peaks state.floor (peaks_of setting.rule (length state.operations))
 
 abbrev pub log_digests : Setting → State → ℕ → ℕ → List (List ℕ)
 log_digests setting state start stop =
     honest_digests setting.hash
-    (tree_digest (plain_node setting.hash) (plain_leaf_digests setting.hash setting.rule 0 state.operations)) BackwardFold
+    (tree_digest (plain_node setting.hash) (plain_leaf_digests setting.hash setting.rule 0 state.operations))
+    BackwardFold
     setting.rule (length state.operations) (log_inactive setting state) start stop
 
--- those that prove that the operations from `start` up to `stop` of a state stand there: the witness of the root of its tree of operations,
--- and the proof over them in that tree
+-- those that prove that the operations from `start` up to `stop` of a state stand there: the witness of the root of its
+-- tree of operations, and the proof over them in that tree
 abbrev pub slice_bytes : (Option (List ℕ) → List ℕ) → Setting → State → ℕ → ℕ → List ℕ
 slice_bytes pending setting state start stop =
     witness_encoding pending (honest_witness setting state)

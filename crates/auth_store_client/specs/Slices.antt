@@ -1,5 +1,5 @@
--- What bytes hold that show operations without their bits: a witness of the root of the operations' tree, and a proof in
--- this tree.
+-- What bytes hold that show operations without their bits: a witness of the root of the operations' tree, and a proof
+-- in this tree.
 use Rattle.std.specs.Prelude.{◌≡◌, ℕ, ◌^◌, ◌<◌, ◌≤◌, List, ◌++◌, length, Option, Some, IfSome}
 use Rattle.std.specs.List.{All}
 use Rattle.merkle_forest.specs.Codec.{◌>>=◌, Outcome}
@@ -21,8 +21,8 @@ abbrev pub slice_encoding : (Option (List ℕ) → List ℕ) → SliceParts → 
 slice_encoding pending slice =
     witness_encoding pending slice.witness ++ proof_encoding slice.leaves slice.inactive slice.digests
 
--- The bytes after these, or their first fault: there are up to `most` digests; `digest` and `pending` are the grammars of
--- a digest and of what is held of the pending one.
+-- The bytes after these, or their first fault: there are up to `most` digests; `digest` and `pending` are the grammars
+-- of a digest and of what is held of the pending one.
 abbrev pub after_slice : (List ℕ → Outcome) → (List ℕ → Outcome) → ℕ → List ℕ → Outcome
 after_slice digest pending most bytes = after_witness digest pending bytes >>= after_proof digest most
 

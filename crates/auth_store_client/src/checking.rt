@@ -2,10 +2,14 @@
 
 ghost use Rattle.std.specs.Prelude.{◌≡◌, ◌↔◌, [], ℕ, List, Ok, IfOk, IsTrue};
 ghost use Rattle.state_ops.specs.Operation.{meaning_of};
-ghost use Rattle.auth_store_client.specs.Claims.{terms, Shows, ShowsAbsence, ShowsActive};
+ghost use Rattle.state_ops.specs.Reading.{IsField, IsOfFields};
+ghost use Rattle.auth_store_client.specs.Claims.{terms, ClaimsFields, Shows, ShowsAbsence, ShowsActive};
 ghost use Rattle.auth_store_client.specs.ClaimsCode.{claim_of};
+ghost use Rattle.auth_store_client.specs.Soundness.{IsProved};
+ghost use Rattle.auth_store_client.specs.States.{IsChunkWidth, setting_of_width};
 
 use crate::claim::Claim;
+use crate::laws::shown_claims_are_true_or_strings_collide;
 use crate::range::shows_range;
 use crate::reading::{read_exclusion, read_operation};
 use crate::slice::shows_slice;
@@ -39,7 +43,8 @@ where
     }
 }
 
-// Whether the bytes are those of a proof that the operation is active at this location of the state of this root.
+// Whether the bytes are those of a proof that the operation is active at this location of the state of this root. Where
+// it says yes, the operation's keys and values have their sizes and are read again.
 fn shows_active<F, H, K, V>(
     alloc: Global,
     width: usize,
@@ -53,10 +58,12 @@ where
     H: HashFunction,
     K: FixedKey,
     V: FixedValue,
-    ensures { let terms = terms F.merge_rule H.hash_of width H.Digest.SIZE F.is_pending F.pending_encoding (K.after tt)
-        (V.after tt) K.SIZE V.SIZE in
+    ensures exact { let terms = terms F.merge_rule H.hash_of width H.Digest.SIZE F.is_pending F.pending_encoding
+        (K.after tt) (V.after tt) K.SIZE V.SIZE in
         IfOk result (λ yes. IsTrue yes ↔ ShowsActive terms (H.Digest.encoding root.now) location
         (meaning_of K.encoding V.encoding operation.now) bytes.now) }
+    ensures fields { IfOk result (λ yes. IsTrue yes → IsOfFields (IsField (K.after tt) K.SIZE)
+        (IsField (V.after tt) V.SIZE) (meaning_of K.encoding V.encoding operation.now)) }
 {
     match read_operation::<F, H::Digest>(alloc, width, bytes)? {
         None => Ok(false),
@@ -70,9 +77,9 @@ where
     }
 }
 
-/// Whether the bytes prove the claim about the state of this root, with chunks of `N` bytes. Bytes that are no proof,
-/// or have others after it, prove nothing. It fails only when out of memory.
-pub fn check<F, H, K, V, const N: usize>(
+// Whether the bytes show the claim under this root, with chunks of `N` bytes. Where it says yes, the keys and the
+// values that the claim names have their sizes and are read again. It fails only when out of memory.
+fn shows<F, H, K, V, const N: usize>(
     alloc: Global,
     root: &H::Digest,
     claim: &Claim<F, K, V>,
@@ -83,10 +90,12 @@ where
     H: HashFunction,
     K: FixedKey,
     V: FixedValue,
-    ensures { let terms = terms F.merge_rule H.hash_of N H.Digest.SIZE F.is_pending F.pending_encoding (K.after tt)
-        (V.after tt) K.SIZE V.SIZE in
+    ensures exact { let terms = terms F.merge_rule H.hash_of N H.Digest.SIZE F.is_pending F.pending_encoding
+        (K.after tt) (V.after tt) K.SIZE V.SIZE in
         IfOk result (λ yes. IsTrue yes ↔ Shows terms (claim_of K.encoding V.encoding claim.now)
         (H.Digest.encoding root.now) bytes.now) }
+    ensures fields { IfOk result (λ yes. IsTrue yes → ClaimsFields (IsField (K.after tt) K.SIZE)
+        (IsField (V.after tt) V.SIZE) (claim_of K.encoding V.encoding claim.now)) }
 {
     match claim {
         Claim::Value { key, value } => shows_value::<F, H, K, V>(alloc, N, root, key, value, bytes),
@@ -104,4 +113,32 @@ where
             shows_slice::<F, H, K, V>(alloc, N, root, *start, operations, bytes)
         }
     }
+}
+
+/// Whether the bytes prove the claim about the state of this root, with chunks of `N` bytes: then it is true of each
+/// history of keys and values with this root, or two different strings hashed at one place share a digest. Bytes that
+/// are no proof, or have others after it, prove nothing. It fails only when out of memory.
+pub fn check<F, H, K, V, const N: usize>(
+    alloc: Global,
+    root: &H::Digest,
+    claim: &Claim<F, K, V>,
+    bytes: &[u8],
+) -> Result<bool, AllocError>
+where
+    F: Graftable + PendingOf<H::Digest>,
+    H: HashFunction,
+    K: FixedKey,
+    V: FixedValue,
+    ensures exact { let terms = terms F.merge_rule H.hash_of N H.Digest.SIZE F.is_pending F.pending_encoding
+        (K.after tt) (V.after tt) K.SIZE V.SIZE in
+        IfOk result (λ yes. IsTrue yes ↔ Shows terms (claim_of K.encoding V.encoding claim.now)
+        (H.Digest.encoding root.now) bytes.now) }
+    ensures sound { let setting = setting_of_width F.merge_rule H.hash_of N in
+        let terms = terms F.merge_rule H.hash_of N H.Digest.SIZE F.is_pending F.pending_encoding (K.after tt)
+        (V.after tt) K.SIZE V.SIZE in
+        H.Digest.SIZE ≡ 32 → IsChunkWidth N → IfOk result (λ yes. IsTrue yes → IsProved setting terms
+        (claim_of K.encoding V.encoding claim.now) (H.Digest.encoding root.now) bytes.now) }
+{
+    shown_claims_are_true_or_strings_collide::<F, H, K, V, N>();
+    shows::<F, H, K, V, N>(alloc, root, claim, bytes)
 }

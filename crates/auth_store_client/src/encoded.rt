@@ -1,26 +1,30 @@
 //! Encodings of a claim's operations.
 
-ghost use Rattle.std.specs.Prelude.{◌≡◌, map, IfOk};
+ghost use Rattle.std.specs.List.{AllByRecursion};
+ghost use Rattle.std.specs.Prelude.{◌≡◌, map, IfOk, OnOk};
 ghost use Rattle.state_ops.specs.Operation.{fixed_encoding, meaning_of};
+ghost use Rattle.state_ops.specs.Reading.{IsField, IsOfFields};
 
 use merkle_forest::Family;
 use state_ops::ordered::encode;
 use state_ops::{FixedKey, FixedValue, OrderedOperation};
 use std::alloc::{AllocError, Global};
 
-// The encodings of operations. It fails only when out of memory.
+// The encodings of operations: then their keys and values have their sizes and are read again. It fails only when out
+// of memory.
 pub(crate) fn encodings<F: Family, K: FixedKey, V: FixedValue>(
     alloc: Global,
     operations: &[OrderedOperation<F, K, V>],
 ) -> Result<Vec<Vec<u8>>, AllocError>
-    ensures { IfOk result (λ found. map (λ e. e.items) found.items
-        ≡ map (λ o. fixed_encoding K.SIZE V.SIZE (meaning_of K.encoding V.encoding o)) operations.now) }
+    ensures encoded { IfOk result (λ found. map (λ e. e.items) found.items
+        ≡ map (fixed_encoding K.SIZE V.SIZE) (map (meaning_of K.encoding V.encoding) operations.now)) }
+    ensures fields { OnOk result (AllByRecursion (IsOfFields (IsField (K.after tt) K.SIZE)
+        (IsField (V.after tt) V.SIZE)) (map (meaning_of K.encoding V.encoding) operations.now)) }
 {
     let mut found = Vec::new(alloc);
-    let mut rest = operations;
-    while let [operation, later @ ..] = rest {
-        found.push(encode(alloc, operation)?)?;
-        rest = later;
+    for operation in operations {
+        let bytes = encode(alloc, operation)?;
+        found.push(bytes)?;
     }
     Ok(found)
 }

@@ -1,15 +1,20 @@
 //! What holds of all proofs.
 
-ghost use Rattle.std.specs.Prelude.{◌≡◌, ◌<◌, ◌≤◌, ◌-◌, ◌^◌, ◌⊎◌, ℕ, Bool, true, List, [], length, take, drop, slice_get, Ok, Some};
+ghost use Rattle.std.specs.Prelude.{◌≡◌, ◌<◌, ◌≤◌, ◌-◌, ◌^◌, ◌⊎◌, ℕ, Bool, true, List, [], length, take, drop};
+ghost use Rattle.std.specs.Prelude.{slice_get, Ok, Some};
+ghost use Rattle.std.specs.List.{AllByRecursion};
 ghost use Rattle.merkle_forest.specs.Made.{Collision};
 ghost use Rattle.state_ops.specs.Operation.{Operation};
-ghost use Rattle.auth_store_client.specs.Claims.{Claim, has_value, is_absent, is_active, has_range, has_slice, IsTrueOf, Shows, terms};
+ghost use Rattle.auth_store_client.specs.Claims.{Claim, ClaimsFields, has_value, is_absent, is_active, has_range};
+ghost use Rattle.auth_store_client.specs.Claims.{has_slice, IsTrueOf, Shows, terms};
 ghost use Rattle.auth_store_parts.specs.History.{History, AreStates, activity_bits, latest_map, log_of};
 ghost use Rattle.auth_store_parts.specs.Map.{next_key, value_at};
-ghost use Rattle.state_ops.specs.Reading.{IsField};
+ghost use Rattle.state_ops.specs.Reading.{IsField, IsOfFields};
 ghost use Rattle.auth_store_client.specs.Fields.{IsSound};
-ghost use Rattle.auth_store_client.specs.Proving.{honest_proof, honest_operation, honest_range_bytes, honest_slice_bytes};
-ghost use Rattle.auth_store_client.specs.Soundness.{HasSizes, IsReadAgain, AreReadAgain, hashed_strings, rebuilt_strings};
+ghost use Rattle.auth_store_client.specs.Proving.{honest_proof, honest_operation, honest_range_bytes};
+ghost use Rattle.auth_store_client.specs.Proving.{honest_slice_bytes};
+ghost use Rattle.auth_store_client.specs.Soundness.{HasSizes, IsAlone, AreReadAgain, hashed_strings, rebuilt_strings};
+ghost use Rattle.auth_store_client.specs.Soundness.{IsTrueOrCollides};
 ghost use Rattle.auth_store_client.specs.States.{IsChunkWidth, setting_of_width, root_of_history};
 
 use merkle_core::laws::{built_proofs_lead_to_the_root, honest_digests_are_few};
@@ -107,10 +112,10 @@ where
     honest_witnesses_lead_to_the_root();
 }
 
-/// Where bytes show a key's value under the root of a history, the key has it in the latest state, or the strings hashed
-/// for the history and those rebuilt from the claim and the decoded proof have a collision: at one site two strings
-/// differ that have one digest. So where `check` says yes the claim is true or two strings collide, with digests of 32
-/// bytes.
+/// Where bytes show a key's value under the root of a history, the key has it in the latest state, or the strings
+/// hashed for the history and those rebuilt from the claim and the decoded proof have a collision: at one site two
+/// strings differ that have one digest. So where `check` says yes the claim is true or two strings collide, with
+/// digests of 32 bytes.
 pub fn shown_values_are_true_or_strings_collide<F, H, K, V, const N: usize>()
 where
     F: Graftable + PendingOf<H::Digest>,
@@ -132,7 +137,8 @@ where
     verified_operations_are_active_or_strings_collide::<F>();
 }
 
-/// Where bytes show under the root of a history that a key is absent, the latest state lacks the key, or strings collide.
+/// Where bytes show under the root of a history that a key is absent, the latest state lacks the key, or strings
+/// collide.
 pub fn shown_absences_are_true_or_strings_collide<F, H, K, V, const N: usize>()
 where
     F: Graftable + PendingOf<H::Digest>,
@@ -155,8 +161,8 @@ where
     verified_absences_are_the_states_or_strings_collide::<F>();
 }
 
-/// Where bytes show under the root of a history that an operation is active at a location, it stands there in the log and
-/// is active, or strings collide.
+/// Where bytes show under the root of a history that an operation is active at a location, it stands there in the log
+/// and is active, or strings collide.
 pub fn shown_operations_are_active_or_strings_collide<F, H, K, V, const N: usize>()
 where
     F: Graftable + PendingOf<H::Digest>,
@@ -164,8 +170,7 @@ where
     K: FixedKey,
     V: FixedValue,
     ensures { (history : History) (location : ℕ) (operation : Operation) (bytes : List ℕ) → H.Digest.SIZE ≡ 32
-        → IsChunkWidth N → AreReadAgain (K.after tt) (V.after tt) K.SIZE V.SIZE (log_of history)
-        → IsReadAgain (K.after tt) (V.after tt) K.SIZE V.SIZE operation → length (log_of history) ≤ 2 ^ 62
+        → IsChunkWidth N → IsAlone K.SIZE V.SIZE (log_of history) operation → length (log_of history) ≤ 2 ^ 62
         → (let setting = setting_of_width F.merge_rule H.hash_of N in
         let terms = terms F.merge_rule H.hash_of N H.Digest.SIZE F.is_pending F.pending_encoding (K.after tt)
         (V.after tt) K.SIZE V.SIZE in
@@ -187,8 +192,8 @@ where
     K: FixedKey,
     V: FixedValue,
     ensures { (history : History) (start : ℕ) (operations : List Operation) (active : List Bool) (bytes : List ℕ)
-        → H.Digest.SIZE ≡ 32 → IsChunkWidth N → AreReadAgain (K.after tt) (V.after tt) K.SIZE V.SIZE (log_of history)
-        → AreReadAgain (K.after tt) (V.after tt) K.SIZE V.SIZE operations → length (log_of history) ≤ 2 ^ 62
+        → H.Digest.SIZE ≡ 32 → IsChunkWidth N → AllByRecursion (IsAlone K.SIZE V.SIZE (log_of history)) operations
+        → length (log_of history) ≤ 2 ^ 62
         → (let setting = setting_of_width F.merge_rule H.hash_of N in
         let terms = terms F.merge_rule H.hash_of N H.Digest.SIZE F.is_pending F.pending_encoding (K.after tt)
         (V.after tt) K.SIZE V.SIZE in
@@ -210,8 +215,7 @@ where
     K: FixedKey,
     V: FixedValue,
     ensures { (history : History) (start : ℕ) (operations : List Operation) (bytes : List ℕ) → H.Digest.SIZE ≡ 32
-        → AreReadAgain (K.after tt) (V.after tt) K.SIZE V.SIZE (log_of history)
-        → AreReadAgain (K.after tt) (V.after tt) K.SIZE V.SIZE operations → length (log_of history) ≤ 2 ^ 62
+        → AllByRecursion (IsAlone K.SIZE V.SIZE (log_of history)) operations → length (log_of history) ≤ 2 ^ 62
         → (let setting = setting_of_width F.merge_rule H.hash_of N in
         let terms = terms F.merge_rule H.hash_of N H.Digest.SIZE F.is_pending F.pending_encoding (K.after tt)
         (V.after tt) K.SIZE V.SIZE in
@@ -241,14 +245,14 @@ where
         Shows terms (has_slice start []) root bytes → ⊥) }
 {}
 
-/// Bytes that show a key's value under two roots are rebuilt to the same strings: the bytes and the claim tell which.
+/// Bytes that show a claim under two roots are rebuilt to the same strings: the bytes and the claim tell which.
 pub fn rebuilt_strings_are_of_the_bytes<F, H, K, V, const N: usize>()
 where
     F: Graftable + PendingOf<H::Digest>,
     H: HashFunction,
     K: FixedKey,
     V: FixedValue,
-    ensures { (key value root other bytes : List ℕ)
+    ensures values { (key value root other bytes : List ℕ)
         → (let setting = setting_of_width F.merge_rule H.hash_of N in
         let terms = terms F.merge_rule H.hash_of N H.Digest.SIZE F.is_pending F.pending_encoding (K.after tt)
         (V.after tt) K.SIZE V.SIZE in
@@ -256,15 +260,51 @@ where
         (shown : Shows terms claim root bytes) (again : Shows terms claim other bytes)
         → rebuilt_strings setting terms claim root bytes shown
         ≡ rebuilt_strings setting terms claim other bytes again) }
+    ensures claims { (claim : Claim) (root other bytes : List ℕ) → 0 < N
+        → (let setting = setting_of_width F.merge_rule H.hash_of N in
+        let terms = terms F.merge_rule H.hash_of N H.Digest.SIZE F.is_pending F.pending_encoding (K.after tt)
+        (V.after tt) K.SIZE V.SIZE in
+        (shown : Shows terms claim root bytes) (again : Shows terms claim other bytes)
+        → rebuilt_strings setting terms claim root bytes shown
+        ≡ rebuilt_strings setting terms claim other bytes again) }
 {}
 
-/// The operations of a history whose keys and values are some are read again as they were written, and its keys and values
-/// have their sizes: so what is said of such histories above holds of each that a store may have.
+/// The operations of a history whose keys and values are some are read again as they were written, its keys and values
+/// have their sizes, and an operation of keys and values is alone in its log: so what is said of such histories above
+/// holds of each that a store may have.
 pub fn sound_histories_are_read_again<K: FixedKey, V: FixedValue>()
     ensures read { (history : History) → IsSound (IsField (K.after tt) K.SIZE) (IsField (V.after tt) V.SIZE) history
         → AreReadAgain (K.after tt) (V.after tt) K.SIZE V.SIZE (log_of history) }
     ensures sized { (history : History) → IsSound (IsField (K.after tt) K.SIZE) (IsField (V.after tt) V.SIZE) history
         → HasSizes K.SIZE V.SIZE history }
+    ensures alone { (history : History) (operation : Operation)
+        → IsSound (IsField (K.after tt) K.SIZE) (IsField (V.after tt) V.SIZE) history
+        → IsOfFields (IsField (K.after tt) K.SIZE) (IsField (V.after tt) V.SIZE) operation
+        → IsAlone K.SIZE V.SIZE (log_of history) operation }
 {
     encoded_is_read_again();
+}
+
+/// Where bytes show a claim of keys and values under the root of a history of such, the claim is true of it, or strings
+/// collide.
+pub fn shown_claims_are_true_or_strings_collide<F, H, K, V, const N: usize>()
+where
+    F: Graftable + PendingOf<H::Digest>,
+    H: HashFunction,
+    K: FixedKey,
+    V: FixedValue,
+    ensures { (claim : Claim) (history : History) (root bytes : List ℕ) → H.Digest.SIZE ≡ 32 → IsChunkWidth N
+        → (let setting = setting_of_width F.merge_rule H.hash_of N in
+        let terms = terms F.merge_rule H.hash_of N H.Digest.SIZE F.is_pending F.pending_encoding (K.after tt)
+        (V.after tt) K.SIZE V.SIZE in
+        ClaimsFields terms.IsKey terms.IsValue claim → IsSound terms.IsKey terms.IsValue history
+        → root ≡ root_of_history setting K.SIZE V.SIZE history → (shown : Shows terms claim root bytes)
+        → IsTrueOrCollides setting terms claim history root bytes shown) }
+{
+    sound_histories_are_read_again::<K, V>();
+    shown_values_are_true_or_strings_collide::<F, H, K, V, N>();
+    shown_absences_are_true_or_strings_collide::<F, H, K, V, N>();
+    shown_operations_are_active_or_strings_collide::<F, H, K, V, N>();
+    shown_ranges_are_true_or_strings_collide::<F, H, K, V, N>();
+    shown_slices_are_true_or_strings_collide::<F, H, K, V, N>();
 }

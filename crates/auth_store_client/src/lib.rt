@@ -1,5 +1,5 @@
-//! The light client of a store: it checks claims about a state against the state's root. It stands on no log, page, file
-//! or device, so that a bridge takes it alone.
+//! The light client of a store: it checks claims about a state against the state's root. It stands on no log, page,
+//! file or device, so that a bridge takes it alone.
 #![tactic(auto)]
 
 pub mod checking;

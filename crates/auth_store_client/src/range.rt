@@ -1,8 +1,10 @@
 //! Operations with their activity bits: what the bytes hold that show them, and whether they do.
 
-ghost use Rattle.std.specs.Prelude.{◌≡◌, ◌↔◌, ◌<◌, ◌≤◌, ◌+◌, ◌^◌, ◌++◌, ℕ, List, map, length, IsTrue, IfOk, MatchOption};
+ghost use Rattle.std.specs.Prelude.{◌≡◌, ◌↔◌, ◌<◌, ◌≤◌, ◌+◌, ◌^◌, ◌++◌, ℕ, List, map, length, IsTrue, IfOk};
+ghost use Rattle.std.specs.Prelude.{MatchOption};
 ghost use Rattle.std.specs.List.{AllByRecursion, flat_map};
 ghost use Rattle.state_ops.specs.Operation.{meaning_of};
+ghost use Rattle.state_ops.specs.Reading.{IsField, IsOfFields};
 ghost use Rattle.state_proofs.specs.Bits.{is_set};
 ghost use Rattle.state_proofs.specs.Encoded.{FitsRange, range_proof_encoding};
 ghost use Rattle.state_proofs.specs.ProofsCode.{range_parts_of};
@@ -182,7 +184,8 @@ fn verifies<F: Graftable + PendingOf<H::Digest>, H: HashFunction>(
 }
 
 // Whether the bytes are those of a proof that the operations stand from this location of the log of this root on, and
-// are active as these bits say. It fails only when out of memory.
+// are active as these bits say. Where it says yes, their keys and values have their sizes and are read again. It fails
+// only when out of memory.
 pub(crate) fn shows_range<F, H, K, V>(
     alloc: Global,
     width: usize,
@@ -197,10 +200,12 @@ where
     H: HashFunction,
     K: FixedKey,
     V: FixedValue,
-    ensures { let terms = terms F.merge_rule H.hash_of width H.Digest.SIZE F.is_pending F.pending_encoding (K.after tt)
-        (V.after tt) K.SIZE V.SIZE in
+    ensures exact { let terms = terms F.merge_rule H.hash_of width H.Digest.SIZE F.is_pending F.pending_encoding
+        (K.after tt) (V.after tt) K.SIZE V.SIZE in
         IfOk result (λ yes. IsTrue yes ↔ ShowsRange terms (H.Digest.encoding root.now) start
         (map (meaning_of K.encoding V.encoding) operations.now) active.now bytes.now) }
+    ensures fields { IfOk result (λ yes. IsTrue yes → AllByRecursion (IsOfFields (IsField (K.after tt) K.SIZE)
+        (IsField (V.after tt) V.SIZE)) (map (meaning_of K.encoding V.encoding) operations.now)) }
 {
     let Some(chunk_size) = ChunkSize::new(width) else {
         return Ok(false);

@@ -33,8 +33,8 @@ pub(crate) fn unread(e: Error) -> Result<(), AllocError>
     }
 }
 
-// The proof of one operation, with a chunk of so many bytes and within the limits, whose encoding the bytes are. None: they
-// are not one. It fails only when out of memory.
+// The proof of one operation, with a chunk of so many bytes and within the limits, whose encoding the bytes are. None:
+// they are not one. It fails only when out of memory.
 pub(crate) fn read_operation<F: PendingOf<D>, D: Digest>(
     alloc: Global,
     width: usize,
@@ -62,8 +62,8 @@ pub(crate) fn read_operation<F: PendingOf<D>, D: Digest>(
     }
 }
 
-// The proof of absence, with a chunk of so many bytes and within the limits, whose encoding the bytes are. None: they are not
-// one. It fails only when out of memory.
+// The proof of absence, with a chunk of so many bytes and within the limits, whose encoding the bytes are. None: they
+// are not one. It fails only when out of memory.
 pub(crate) fn read_exclusion<F, H, K, V>(
     alloc: Global,
     width: usize,

@@ -1,9 +1,11 @@
 //! Operations without their bits: what the bytes hold that show them, and whether they do.
 
 ghost use Rattle.std.specs.Prelude.{◌≡◌, ◌↔◌, ◌<◌, ◌^◌, ℕ, List, map, option_map, IsTrue, IfOk, MatchOption};
+ghost use Rattle.std.specs.List.{AllByRecursion};
 ghost use Rattle.merkle_forest.specs.Codec.{LacksAfter, Reads};
 ghost use Rattle.merkle_core.specs.Proofs.{ProofLacks};
 ghost use Rattle.state_ops.specs.Operation.{meaning_of};
+ghost use Rattle.state_ops.specs.Reading.{IsField, IsOfFields};
 ghost use Rattle.state_proofs.specs.LogProofs.{log_root};
 ghost use Rattle.state_proofs.specs.Witness.{after_witness};
 ghost use Rattle.auth_store_client.specs.Claims.{terms, ShowsSlice};
@@ -102,8 +104,8 @@ fn verifies<F: PendingOf<H::Digest>, H: HashFunction>(
     }
 }
 
-// Whether the bytes are those of a proof that the operations stand from this location of the log of this root on. It
-// fails only when out of memory.
+// Whether the bytes are those of a proof that the operations stand from this location of the log of this root on. Where
+// it says yes, their keys and values have their sizes and are read again. It fails only when out of memory.
 pub(crate) fn shows_slice<F, H, K, V>(
     alloc: Global,
     width: usize,
@@ -117,10 +119,12 @@ where
     H: HashFunction,
     K: FixedKey,
     V: FixedValue,
-    ensures { let terms = terms F.merge_rule H.hash_of width H.Digest.SIZE F.is_pending F.pending_encoding (K.after tt)
-        (V.after tt) K.SIZE V.SIZE in
+    ensures exact { let terms = terms F.merge_rule H.hash_of width H.Digest.SIZE F.is_pending F.pending_encoding
+        (K.after tt) (V.after tt) K.SIZE V.SIZE in
         IfOk result (λ yes. IsTrue yes ↔ ShowsSlice terms (H.Digest.encoding root.now) start
         (map (meaning_of K.encoding V.encoding) operations.now) bytes.now) }
+    ensures fields { IfOk result (λ yes. IsTrue yes → AllByRecursion (IsOfFields (IsField (K.after tt) K.SIZE)
+        (IsField (V.after tt) V.SIZE)) (map (meaning_of K.encoding V.encoding) operations.now)) }
 {
     let Some(slice) = read_slice::<F, H::Digest>(alloc, bytes)? else {
         return Ok(false);

@@ -3,7 +3,8 @@
 --     old    a ─▶ c ─▶ e ─▶ g ─▶ a        words: delete c, put d, put g
 --     gone   c                            near: what is put, d and g, and the keys before those that words name: a, e
 --     new    a ─▶ d ─▶ e ─▶ g ─▶ a        the next key of a is the first that stays between a and d, or d itself
-use Rattle.std.specs.Prelude.{◌≡◌, ℕ, true, not, ◌&&◌, ◌||◌, if◌then◌else◌, List, [], ◌∷◌, ◌++◌, Option, None, Some, is_some, filter}
+use Rattle.std.specs.Prelude.{◌≡◌, ℕ, true, not, ◌&&◌, ◌||◌, if◌then◌else◌, List, [], ◌∷◌, ◌++◌, Option, None, Some}
+use Rattle.std.specs.Prelude.{is_some, filter}
 use Rattle.std.specs.List.{AllByRecursion}
 use Rattle.std.specs.Ordering.{is_lt, is_gt}
 use Rattle.auth_store_parts.specs.Map.{Map, key_order, with_entry, value_at, above, first_key}

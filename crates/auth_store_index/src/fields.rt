@@ -1,6 +1,7 @@
 //! Which keys of a batch are as they were, and the operations of those that are not.
 
-ghost use Rattle.std.specs.Prelude.{◌≡◌, ◌+◌, ◌-◌, ◌≤◌, ◌++◌, ◌∷◌, ◌<◌, ℕ, List, [], length, is_some, IfOk, IfErr, OnOk, MatchOption};
+ghost use Rattle.std.specs.Prelude.{◌≡◌, ◌+◌, ◌-◌, ◌≤◌, ◌++◌, ◌∷◌, ◌<◌, ℕ, List, [], length, is_some, IfOk, IfErr};
+ghost use Rattle.std.specs.Prelude.{OnOk, MatchOption};
 ghost use Rattle.std.specs.Str.{bytes_eq};
 ghost use Rattle.auth_store_parts.specs.Map.{state_of, value_at, next_key};
 ghost use Rattle.auth_store_parts.specs.History as spec;

@@ -1,12 +1,16 @@
 //! What holds of the bits, the floor and the places of a log that grows.
 
-ghost use Rattle.std.specs.Prelude.{◌≡◌, ◌==◌, ◌&&◌, not, ◌+◌, ◌++◌, ◌*◌, ◌/◌, ◌≤◌, ◌<◌, ℕ, Bool, List, Option, None, Some, true, false, map, filter, is_some, ◌∷◌, [], length, slice_get, drop, option_map};
+ghost use Rattle.std.specs.Prelude.{◌≡◌, ◌==◌, ◌&&◌, not, ◌+◌, ◌++◌, ◌*◌, ◌/◌, ◌≤◌, ◌<◌, ℕ, Bool, List, Option, None};
+ghost use Rattle.std.specs.Prelude.{Some, true, false, map, filter, is_some, ◌∷◌, [], length, slice_get, drop};
+ghost use Rattle.std.specs.Prelude.{option_map};
 ghost use Rattle.std.specs.List.{AllByRecursion, list_any};
 ghost use Rattle.state_ops.specs.Operation.{Operation, commit_floor, delete};
 ghost use Rattle.auth_store_parts.specs.Map.{Map, value_at, next_key, with_entry};
 ghost use Rattle.auth_store_parts.specs.Batch.{Word, map_after};
 ghost use Rattle.auth_store_parts.specs.Places.{placed, places_of};
-ghost use Rattle.auth_store_parts.specs.History.{History, Commit, AreStates, IsState, appended, with_commit, activity_bits, batch_operations, deletes, is_kept, updates, inactivity_floor, last_floor, latest_map, log_of, replayed};
+ghost use Rattle.auth_store_parts.specs.History.{History, Commit, AreStates, IsState, appended, with_commit};
+ghost use Rattle.auth_store_parts.specs.History.{activity_bits, batch_operations, deletes, is_kept, updates};
+ghost use Rattle.auth_store_parts.specs.History.{inactivity_floor, last_floor, latest_map, log_of, replayed};
 ghost use Rattle.auth_store_index.specs.Growth.{cleared, committed, first_set, taken};
 ghost use Rattle.auth_store_index.specs.Near.{gone_after, near_after, prev_key};
 ghost use Rattle.auth_store_index.specs.Touched.{IsSaid, is_no_delete, is_touched, names};

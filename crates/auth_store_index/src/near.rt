@@ -9,7 +9,8 @@
 //!     gone    c                            deleted
 //!     near    a, d, e, g                   updated where they are not as they were: a and d, and g with another value
 
-ghost use Rattle.std.specs.Prelude.{◌≡◌, ◌+◌, ◌*◌, ◌≤◌, ◌++◌, ◌∷◌, ℕ, List, [], Some, length, map, option_map, IfOk, IfErr, OnOk, MatchOption};
+ghost use Rattle.std.specs.Prelude.{◌≡◌, ◌+◌, ◌*◌, ◌≤◌, ◌++◌, ◌∷◌, ℕ, List, [], Some, length, map, option_map, IfOk};
+ghost use Rattle.std.specs.Prelude.{IfErr, OnOk, MatchOption};
 ghost use Rattle.std.specs.BTreeMap.Range.{IsLtBy};
 ghost use Rattle.state_ops.specs.Operation as meaning;
 ghost use Rattle.auth_store_parts.specs.Batch as words;
@@ -18,7 +19,8 @@ ghost use Rattle.auth_store_parts.specs.Chains.{first_of};
 ghost use Rattle.auth_store_parts.specs.Map.{Map, above, state_of, value_at};
 ghost use Rattle.auth_store_parts.specs.Places.{places_of};
 ghost use Rattle.auth_store_parts.specs.History as spec;
-ghost use Rattle.auth_store_index.specs.Near.{IsTold, below, between, gone_after, key_of, near_after, next_near, next_round, prev_key, staying, with_gone, with_kept};
+ghost use Rattle.auth_store_index.specs.Near.{IsTold, below, between, gone_after, key_of, near_after, next_near};
+ghost use Rattle.auth_store_index.specs.Near.{next_round, prev_key, staying, with_gone, with_kept};
 ghost use Rattle.auth_store_index.specs.Refusals.{IfLog};
 ghost use Rattle.auth_store_index.specs.Sources.{AreOwn, source_value, value_there};
 

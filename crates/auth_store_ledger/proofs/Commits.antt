@@ -10,7 +10,7 @@ use Rattle.auth_store_index.specs.Growth.{cleared, first_set, taken, taken_by}
 use Rattle.auth_store_index.specs.Laws.Commits.{commit_bits, next_commit_floor, taken_after}
 use Rattle.auth_store_index.specs.Touched.{is_no_delete}
 use Rattle.auth_store_ledger.specs.Map.{Map}
-use Rattle.auth_store_ledger.specs.History.{Commit, History, AreStates, activity_bits, batch_operations, history_of, inactivity_floor, last_floor, latest_map, log_of, replayed, with_commit}
+use Rattle.auth_store_ledger.specs.History.{Commit, AreStates, activity_bits, batch_operations, history_of, inactivity_floor, last_floor, latest_map, log_of, replayed, with_commit}
 use Rattle.auth_store_ledger.specs.Store.{IsBatch}
 
 each : (P Q : ℕ → Type 0) (places : List ℕ) → ((place : ℕ) → P place → Q place) → AllByRecursion P places → AllByRecursion Q places
@@ -76,7 +76,8 @@ module _ (log : List Operation) (states : AreStates (history_of log)) (whole : l
   bits_told =
       let told : activity_bits (old ++ with_commit old added metadata) ≡ left_with last old added =
       commit_bits (history_of log) commit last batch.state at
-      ∙ (ap (λ (b : List Bool). cleared (activity_bits old ++ b) (taken (places_of old) last (added ++ close ∷ []))) (map-append is_no_delete added (close ∷ []))
+      ∙ (ap (λ (b : List Bool). cleared (activity_bits old ++ b) (taken (places_of old) last (added ++ close ∷ [])))
+      (map-append is_no_delete added (close ∷ []))
       ∙ ap (cleared (bits_with old added)) taken_with) in
       ap₂ (left_with last) whole are_added
       ∙ (sym told ∙ sym (ap₂ (λ (l c : List Operation). activity_bits (l ++ with_commit l c metadata)) whole are_added))

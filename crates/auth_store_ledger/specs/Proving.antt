@@ -1,10 +1,11 @@
 -- What a store answers where it is asked for a proof, and when the client accepts what it answers of a key.
-use Rattle.std.specs.Prelude.{◌≡◌, ⊤, ℕ, ◌-◌, ◌*◌, nat_le, nat_lt, Bool, false, if◌then◌else◌, List, length, take, drop, slice_get, slice_index_or, Option, None, Some, Result, Ok, Err}
+use Rattle.std.specs.Prelude.{◌≡◌, ⊤, ℕ, ◌-◌, ◌*◌, nat_le, nat_lt, Bool, false, if◌then◌else◌, List, length, take, drop}
+use Rattle.std.specs.Prelude.{slice_get, slice_index_or, Option, None, Some, Result, Ok, Err}
 use Rattle.state_proofs.specs.Canonical.{Setting}
 use Rattle.auth_store_parts.specs.Map.{value_at}
 use Rattle.auth_store_parts.specs.History.{History, activity_bits, latest_map, log_of}
 use Rattle.state_ops.specs.Operation.{Operation}
-use Rattle.auth_store_client.specs.Claims.{Terms, Shows, has_value, is_absent}
+use Rattle.auth_store_client.specs.Claims.{Terms, Shows, has_value, is_absent, is_active, has_range, has_slice}
 use Rattle.auth_store_client.specs.Proving.{honest_proof, honest_operation, honest_range_bytes, honest_slice_bytes}
 use Rattle.auth_store_absence.specs.Absence.{honest_absence}
 use Rattle.auth_store_ledger.specs.declared.error.ProofError.{ProofError}
@@ -17,8 +18,8 @@ pub data KeyAnswer : Type 0 where
   proved_value : List ℕ → List ℕ → KeyAnswer
   proved_absent : List ℕ → KeyAnswer
 
--- The honest answer where the latest state has this value of the key, or none: the proof of its active update, or that it is absent. A
--- family encodes its pending digest by `pending`; keys and values have these sizes.
+-- The honest answer where the latest state has this value of the key, or none: the proof of its active update, or that
+-- it is absent. A family encodes its pending digest by `pending`; keys and values have these sizes.
 abbrev pub answer_where : (Option (List ℕ) → List ℕ) → Setting → ℕ → ℕ → History → List ℕ → Option (List ℕ) → KeyAnswer
 answer_where pending setting key_size value_size history key (Some value) =
     proved_value value (honest_proof pending setting key_size value_size history key)
@@ -53,6 +54,17 @@ pub record SliceAnswer : Type 0 where
   pub operations : List Operation
   pub bytes : List ℕ
 
+-- the client accepts them under this root
+abbrev pub IsAcceptedOperation : Terms → List ℕ → ℕ → OperationAnswer → Type 0
+IsAcceptedOperation terms root location answer = Shows terms (is_active location answer.operation) root answer.bytes
+
+abbrev pub IsAcceptedRange : Terms → List ℕ → ℕ → RangeAnswer → Type 0
+IsAcceptedRange terms root start answer =
+    Shows terms (has_range start answer.operations answer.active) root answer.bytes
+
+abbrev pub IsAcceptedSlice : Terms → List ℕ → ℕ → SliceAnswer → Type 0
+IsAcceptedSlice terms root start answer = Shows terms (has_slice start answer.operations) root answer.bytes
+
 -- what stands in a list from one place up to another
 abbrev pub between : {A : Type 0} → ℕ → ℕ → List A → List A
 between start stop list = take (stop - start) (drop start list)
@@ -73,15 +85,15 @@ answer_of_found pending setting key_size value_size history pruned location (Som
     })
     else Err Inactive
 
--- The operation at a location of the log with its honest proof: past the log it is refused, then where its chunk is pruned, then where the
--- operation is not active.
+-- The operation at a location of the log with its honest proof: past the log it is refused, then where its chunk is
+-- pruned, then where the operation is not active.
 abbrev pub answer_of_operation : (Option (List ℕ) → List ℕ) → Setting → ℕ → ℕ → History → ℕ → ℕ
     → Result OperationAnswer Unprovable
 answer_of_operation pending setting key_size value_size history pruned location =
     answer_of_found pending setting key_size value_size history pruned location (slice_get (log_of history) location)
 
--- Why the operations from `start` up to `stop` are not proved: there are none, the log does not have them all, or so many pruned chunks are
--- over the first.
+-- Why the operations from `start` up to `stop` are not proved: there are none, the log does not have them all, or so
+-- many pruned chunks are over the first.
 abbrev pub range_refusal : Setting → History → ℕ → ℕ → ℕ → Option Unprovable
 range_refusal setting history pruned start stop =
     if nat_le stop start then Some EmptyRange
@@ -103,7 +115,8 @@ range_answer pending setting key_size value_size history start stop = record {
 }
 
 -- it, or why there is none
-abbrev pub answer_of_range : (Option (List ℕ) → List ℕ) → Setting → ℕ → ℕ → History → ℕ → ℕ → ℕ → Result RangeAnswer Unprovable
+abbrev pub answer_of_range : (Option (List ℕ) → List ℕ) → Setting → ℕ → ℕ → History → ℕ → ℕ → ℕ
+    → Result RangeAnswer Unprovable
 answer_of_range pending setting key_size value_size history pruned start stop =
     unless_refused (range_refusal setting history pruned start stop)
     (range_answer pending setting key_size value_size history start stop)
@@ -116,7 +129,8 @@ slice_answer pending setting key_size value_size history start stop = record {
 }
 
 -- it, or why there is none
-abbrev pub answer_of_slice : (Option (List ℕ) → List ℕ) → Setting → ℕ → ℕ → History → ℕ → ℕ → ℕ → Result SliceAnswer Unprovable
+abbrev pub answer_of_slice : (Option (List ℕ) → List ℕ) → Setting → ℕ → ℕ → History → ℕ → ℕ → ℕ
+    → Result SliceAnswer Unprovable
 answer_of_slice pending setting key_size value_size history pruned start stop =
     unless_refused (range_refusal setting history pruned start stop)
     (slice_answer pending setting key_size value_size history start stop)

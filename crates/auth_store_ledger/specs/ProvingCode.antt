@@ -2,7 +2,8 @@
 use Rattle.std.specs.Prelude.{ℕ, List}
 use Rattle.auth_store_parts.specs.History as history
 use Rattle.state_ops.specs.Operation.{meaning_of}
-use Rattle.auth_store_ledger.specs.Proving.{KeyAnswer, proved_value, proved_absent, OperationAnswer, RangeAnswer, SliceAnswer}
+use Rattle.auth_store_ledger.specs.Proving.{KeyAnswer, proved_value, proved_absent, OperationAnswer, RangeAnswer}
+use Rattle.auth_store_ledger.specs.Proving.{SliceAnswer}
 use Rattle.auth_store_ledger.specs.declared.ledger.ranges.ProvedOperation.{ProvedOperation}
 use Rattle.auth_store_ledger.specs.declared.ledger.ranges.ProvedRange.{ProvedRange}
 use Rattle.auth_store_ledger.specs.declared.ledger.ranges.ProvedSlice.{ProvedSlice}
@@ -15,8 +16,12 @@ key_answer_of encoding (Value value bytes) = proved_value (encoding value) bytes
 key_answer_of encoding (Absent bytes) = proved_absent bytes.items
 
 -- given how a key and a value are encoded
-abbrev pub operation_answer_of : {F K V : Type 0} → (K → List ℕ) → (V → List ℕ) → ProvedOperation F K V → OperationAnswer
-operation_answer_of key value proved = record { operation = meaning_of key value proved.operation; bytes = proved.bytes.items }
+abbrev pub operation_answer_of : {F K V : Type 0} → (K → List ℕ) → (V → List ℕ) → ProvedOperation F K V
+    → OperationAnswer
+operation_answer_of key value proved = record {
+  operation = meaning_of key value proved.operation;
+  bytes = proved.bytes.items;
+}
 
 abbrev pub range_answer_of : {F K V : Type 0} → (K → List ℕ) → (V → List ℕ) → ProvedRange F K V → RangeAnswer
 range_answer_of key value proved = record {

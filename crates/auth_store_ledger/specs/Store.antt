@@ -6,18 +6,22 @@ use Rattle.state_current.specs.Kept.{Kept, StandsFor}
 use Rattle.state_current.specs.Settled.{IsSettled, IsGreatestSettled}
 use Rattle.auth_store_log.specs.Records.{Format, FloorFits, IsRecorded}
 use Rattle.auth_store_ledger.specs.Map.{Map, value_at}
-use Rattle.auth_store_ledger.specs.History.{History, AreStates, IsState, batch_operations, history_of, is_commit, latest_map, log_of, replayed}
-pub use Rattle.auth_store_client.specs.States.{is_chunk_width, IsChunkWidth, grafting_height, setting_of_width, encodings, state_of_log, floor_of, state_of_history, root_of_history, commit_after}
+use Rattle.auth_store_ledger.specs.History.{History, AreStates, IsState, batch_operations, history_of, is_commit}
+use Rattle.auth_store_ledger.specs.History.{latest_map, log_of, replayed}
+pub use Rattle.auth_store_client.specs.States.{is_chunk_width, IsChunkWidth, grafting_height, setting_of_width}
+pub use Rattle.auth_store_client.specs.States.{encodings, state_of_log, floor_of, state_of_history, root_of_history}
+pub use Rattle.auth_store_client.specs.States.{commit_after}
 
 -- so many chunks of a history's log are settled: its trees may be pruned of them
 abbrev pub IsPrunable : Setting → History → ℕ → Type 0
 IsPrunable setting history chunks = IsSettled setting.rule setting.grafting_height (length (log_of history)) chunks
 
--- so many chunks are pruned after pruning up to a location, of which so many were before: the greatest settled number of chunks that
--- end by the location, but none comes back
+-- so many chunks are pruned after pruning up to a location, of which so many were before: the greatest settled number
+-- of chunks that end by the location, but none comes back
 abbrev pub IsPrunedUpTo : Setting → History → ℕ → ℕ → ℕ → Type 0
 IsPrunedUpTo setting history before location after =
-    IsGreatestSettled setting.rule setting.grafting_height (length (log_of history)) before (location / (8 * setting.width)) after
+    IsGreatestSettled setting.rule setting.grafting_height (length (log_of history)) before
+    (location / (8 * setting.width)) after
 
 -- what is kept of a log beside its operations stands for the log's state, and nothing of it is pruned
 pub record IsKept (setting : Setting) (key value : ℕ) (log : List Operation) (kept : Kept) : Type 0 where

@@ -39,8 +39,8 @@ use std::marker::Model;
 pub const MAX_OPERATIONS: u64 = 0x4000_0000_0000_0000;
 
 /// A history of a store of keys `K` and values `V`, whose root is hashed by `H` over trees of the family `F` and over
-/// chunks of `N` bytes. Trees, bits and floor are kept in step with the log, so that a commit takes what its batch takes,
-/// and no root or proof is made of the whole log anew. Its contracts see it as the history (own).
+/// chunks of `N` bytes. Trees, bits and floor are kept in step with the log, so that a commit takes what its batch
+/// takes, and no root or proof is made of the whole log anew. Its contracts see it as the history (own).
 #[derive(Drop)]
 pub struct Ledger<F: Graftable, H: HashFunction, K: FixedKey, V: FixedValue, const N: usize> {
     alloc: Global,
@@ -145,8 +145,8 @@ impl<F: Graftable, H: HashFunction, K: FixedKey, V: FixedValue, const N: usize> 
         })
     }
 
-    // What the batch with its commit appends to the log. It is refused where the log would pass 2^62 operations, or out of
-    // memory.
+    // What the batch with its commit appends to the log. It is refused where the log would pass 2^62 operations, or out
+    // of memory.
     fn next_commit(
         &self,
         batch: &Batch<K, V>,

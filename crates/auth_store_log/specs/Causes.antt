@@ -10,8 +10,9 @@ use Rattle.auth_store_log.specs.declared.error.LogError.{LogError}
 use Rattle.auth_store_log.specs.declared.error.LogError.TheVariants.{Corrupt, Refused}
 use Rattle.auth_store_log.specs.Records.{Format, record_size, IsNoLog}
 
--- Why a log is refused that reaches so far on its blob, and takes names in the cache up to this one, after such failures: a fault was
--- injected, a cut stands, memory is wanted, no opening stands, or a number ends. Never because the blob is too short or does not verify.
+-- Why a log is refused that reaches so far on its blob, and takes names in the cache up to this one, after such
+-- failures: a fault was injected, a cut stands, memory is wanted, no opening stands, or a number ends. Never because
+-- the blob is too short or does not verify.
 abbrev pub IsLogCause : Failures → ℕ → ℕ → Error → Type 0
 IsLogCause failures last_id reach (Injected kind) = ⊤
 IsLogCause failures last_id reach NumberEnded = IsPastNumbers reach ⊎ (HaveEnded failures ⊎ (2 ^ 64 ≤ last_id))
@@ -24,8 +25,8 @@ IsLogCause failures last_id reach _ = ⊥
 abbrev pub log_reach : Format → ℕ → List ℕ → ℕ
 log_reach format size file = max (length file) (physical_size size (record_size format))
 
--- Why the reading of an operation is refused whose record ends there, in a list of bytes of which so many are on pages of a blob: the
--- reading of its bytes is, or no log has this list.
+-- Why the reading of an operation is refused whose record ends there, in a list of bytes of which so many are on pages
+-- of a blob: the reading of its bytes is, or no log has this list.
 abbrev pub IsRecordCause : Format → Failures → ℕ → ℕ → List ℕ → ℕ → LogError → Type 0
 IsRecordCause format failures size count list end (Refused e) = IsReadingCause failures size count (length list) end e
 IsRecordCause format failures size count list end Corrupt = IsNoLog format list

@@ -1,5 +1,7 @@
--- The records of a log: operations of one size, one after the other without a gap; and where the last commit among them ends.
-use Rattle.std.specs.Prelude.{◌≡◌, ℕ, zero, suc, ◌*◌, ◌/◌, ◌^◌, ◌≤◌, ⊤, Bool, false, if◌then◌else◌, List, [], ◌∷◌, length, take, drop, Ok, Err}
+-- The records of a log: operations of one size, one after the other without a gap; and where the last commit among them
+-- ends.
+use Rattle.std.specs.Prelude.{◌≡◌, ℕ, zero, suc, ◌*◌, ◌/◌, ◌^◌, ◌≤◌, ⊤, Bool, false, if◌then◌else◌, List, [], ◌∷◌}
+use Rattle.std.specs.Prelude.{length, take, drop, Ok, Err}
 use Rattle.std.specs.List.{flat_map, list_any}
 use Rattle.merkle_forest.specs.Codec.{Outcome}
 use Rattle.state_ops_parts.specs.Grammar.{Found}
@@ -16,7 +18,12 @@ pub record Format : Type 0 where
   pub value_size : ℕ
 
 abbrev pub format_of : (List ℕ → Outcome) → (List ℕ → Outcome) → ℕ → ℕ → Format
-format_of key value key_size value_size = record { key = key; value = value; key_size = key_size; value_size = value_size }
+format_of key value key_size value_size = record {
+  key = key;
+  value = value;
+  key_size = key_size;
+  value_size = value_size;
+}
 
 -- how many bytes a record has
 abbrev pub record_size : Format → ℕ
@@ -55,7 +62,8 @@ up_to_last passes (x ∷ xs) = if list_any passes (x ∷ xs) then suc (up_to_las
 
 -- some bytes up to the end of the last of their whole records that is a commit: nothing where none is
 unfoldable pub committed : Format → List ℕ → List ℕ
-committed format bytes = take (up_to_last (is_commit_record format) (whole_records format bytes) * record_size format) bytes
+committed format bytes =
+    take (up_to_last (is_commit_record format) (whole_records format bytes) * record_size format) bytes
 
 -- what of a file of pages of so many bytes is recovered of a log
 abbrev pub recovered_log : Format → (List ℕ → ℕ) → ℕ → List ℕ → List ℕ

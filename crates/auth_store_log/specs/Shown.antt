@@ -10,7 +10,8 @@ use Rattle.auth_store_log.specs.Records.{Format, history_bytes, recovered_log}
 -- the log of a history, perhaps with the commit that is pending
 abbrev pub IsLog : Format → History → Option Commit → List ℕ → Type 0
 IsLog format history None bytes = bytes ≡ history_bytes format history
-IsLog format history (Some commit) bytes = (bytes ≡ history_bytes format history) ⊎ (bytes ≡ history_bytes format (commit ∷ history))
+IsLog format history (Some commit) bytes =
+    (bytes ≡ history_bytes format history) ⊎ (bytes ≡ history_bytes format (commit ∷ history))
 
 -- or, where there is no history yet, no commit at all
 abbrev pub IsShown : Format → History → Option Commit → List ℕ → Type 0
@@ -24,7 +25,8 @@ MayShow format sum size history pending calls =
 
 -- by chance or not, what is recovered of each image begins with these bytes
 abbrev pub KeepsBytes : (List ℕ → ℕ) → ℕ → List ℕ → List Call → Type 0
-KeepsBytes sum size bytes calls = (image : List ℕ) → IsImage (file_of calls) image → take (length bytes) (recovered sum size image) ≡ bytes
+KeepsBytes sum size bytes calls =
+    (image : List ℕ) → IsImage (file_of calls) image → take (length bytes) (recovered sum size image) ≡ bytes
 
 -- with the log of a history
 abbrev pub KeepsLog : Format → (List ℕ → ℕ) → ℕ → History → List Call → Type 0

@@ -208,8 +208,8 @@ fn first_bytes<F: Family, K: FixedKey, V: FixedValue>(alloc: Global) -> Result<V
 /// durable. It is refused where a call of the blob, of its writer or of the cache is, never because the blob is too
 /// short or does not verify. At each moment what a crash shows is the log that was recovered, or where there was none,
 /// none or the empty one. The writer's buffer has so many bytes, `capacity`, and a page's at least. That the blob was
-/// opened and nothing was done since, that it has so many bytes, and that the cache gave each name of its pages before is
-/// on the caller.
+/// opened and nothing was done since, that it has so many bytes, and that the cache gave each name of its pages before
+/// is on the caller.
 pub fn recover<F, K, V, B, C>(
     alloc: Global,
     blob: &mut B,

@@ -1,9 +1,9 @@
 //! Whether operations are the log of a history.
 //!
-//! The log is gone over from commit to commit. The operations of a batch tell the state that they lead to; they are those
-//! of a history only where they are what leads there from the state before, and where the commit records the floor of the
-//! log with them. Both are told by the places of the keys that a batch names and by the first key, so that no state is made.
-//! All keys of the log are ranked before, so that none is searched for.
+//! The log is gone over from commit to commit. The operations of a batch tell the state that they lead to; they are
+//! those of a history only where they are what leads there from the state before, and where the commit records the
+//! floor of the log with them. Both are told by the places of the keys that a batch names and by the first key, so that
+//! no state is made. All keys of the log are ranked before, so that none is searched for.
 //!
 //!     commit ┊ update a  update c  commit ┊ delete a  update c  commit
 //!            ┊  from [] to {a, c}  floor  ┊  from {a, c} to {c}  floor

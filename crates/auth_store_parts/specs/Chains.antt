@@ -1,8 +1,10 @@
--- How a batch is checked against the state before it: by a walk over the keys that it names, which compares the chain of
--- next keys in the old state with the one in the new.
+-- How a batch is checked against the state before it: by a walk over the keys that it names, which compares the chain
+-- of next keys in the old state with the one in the new.
 --
--- A pointer stands on each chain: at the key of the first entry that was not passed yet, or at none, behind the last one.
-use Rattle.std.specs.Prelude.{ℕ, ◌+◌, Bool, true, false, ◌&&◌, ◌||◌, not, if◌then◌else◌, List, [], ◌∷◌, Option, None, Some}
+-- A pointer stands on each chain: at the key of the first entry that was not passed yet, or at none, behind the last
+-- one.
+use Rattle.std.specs.Prelude.{ℕ, ◌+◌, Bool, true, false, ◌&&◌, ◌||◌, not, if◌then◌else◌, List, [], ◌∷◌, Option, None}
+use Rattle.std.specs.Prelude.{Some}
 use Rattle.std.specs.Prelude.{option_map, MatchOption, ◌≡◌}
 use Rattle.std.specs.Borrow.{Bor}
 use Rattle.std.specs.Str.{bytes_eq}
@@ -42,8 +44,9 @@ abbrev pub is_one : Pointer → Pointer → Bool
 is_one p None = is_end p
 is_one p (Some key) = is_at_key p key
 
--- the first key after a batch, told by its last operation: the next key of the greatest key that it updates is the first
--- one, or that key has others behind it, and the first one is as before; where nothing is updated, nothing is left
+-- the first key after a batch, told by its last operation: the next key of the greatest key that it updates is the
+-- first one, or that key has others behind it, and the first one is as before; where nothing is updated, nothing is
+-- left
 abbrev pub first_by : Pointer → Operation → Pointer
 first_by first (delete k) = None
 first_by first (update (ordered k v n)) = if is_lt (key_order k n) then first else Some n
@@ -70,8 +73,8 @@ abbrev pub over_delete : Option (List ℕ × List ℕ) → List ℕ → (Pointer
 over_delete None k go p q = false
 over_delete (Some e) k go p q = (is_at_key p k && is_past q k) && go (behind k e.1) q
 
--- a key that comes: it is the next one of the new chain, and the old one has passed it; or one whose fields change: up to
--- there both chains are one
+-- a key that comes: it is the next one of the new chain, and the old one has passed it; or one whose fields change: up
+-- to there both chains are one
 abbrev pub over_update : Pointer → Option (List ℕ × List ℕ) → List ℕ → List ℕ → List ℕ → (Pointer → Pointer → Bool)
     → Pointer → Pointer → Bool
 over_update first_new None k v n go p q =

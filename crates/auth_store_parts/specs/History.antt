@@ -1,5 +1,6 @@
 -- Histories, the logs that stand for them, and which operations of a log are active.
-use Rattle.std.specs.Prelude.{◌≡◌, ℕ, ◌+◌, Bool, true, false, T, not, ◌&&◌, if◌then◌else◌, List, [], ◌∷◌, ◌++◌, map, Option, None, Some, is_some, slice_get}
+use Rattle.std.specs.Prelude.{◌≡◌, ℕ, ◌+◌, Bool, true, false, T, not, ◌&&◌, if◌then◌else◌, List, [], ◌∷◌, ◌++◌, map}
+use Rattle.std.specs.Prelude.{Option, None, Some, is_some, slice_get}
 use Rattle.std.specs.Str.{bytes_eq}
 use Rattle.std.specs.FinMap.{is_sorted}
 use Rattle.std.specs.Ordering.{is_eq}
@@ -94,7 +95,8 @@ activity_bits (operation ∷ later) = is_active operation later ∷ activity_bit
 abbrev pub is_active_update : Operation → List Operation → Bool
 is_active_update operation later = not (is_commit operation) && is_active operation later
 
--- the location of the first active update, or the number of operations where there is none, which is the location of the commit that follows
+-- the location of the first active update, or the number of operations where there is none, which is the location of
+-- the commit that follows
 abbrev pub inactivity_floor : List Operation → ℕ
 inactivity_floor [] = 0
 inactivity_floor (operation ∷ later) = if is_active_update operation later then 0 else inactivity_floor later + 1
@@ -103,7 +105,8 @@ inactivity_floor (operation ∷ later) = if is_active_update operation later the
 abbrev pub with_commit : List Operation → List Operation → Option (List ℕ) → List Operation
 with_commit log changes metadata = changes ++ commit_floor metadata (inactivity_floor (log ++ changes)) ∷ []
 
--- The rule of logs: what is appended to a log that led to the old state where a commit leads to the new one with this metadata.
+-- The rule of logs: what is appended to a log that led to the old state where a commit leads to the new one with this
+-- metadata.
 abbrev pub appended : List Operation → Map → Map → Option (List ℕ) → List Operation
 appended log old new metadata = with_commit log (batch_operations old new) metadata
 
@@ -154,7 +157,8 @@ replayed state (operation ∷ operations) = replayed (after_operation operation 
 abbrev pub history_from : Map → History → List Operation → History
 history_from state history [] = history
 history_from state history (delete key ∷ operations) = history_from (without_key state key) history operations
-history_from state history (update (ordered key value next) ∷ operations) = history_from (with_entry state key value) history
+history_from state history (update (ordered key value next) ∷ operations) =
+    history_from (with_entry state key value) history
     operations
 history_from state history (commit_floor metadata floor ∷ operations) = history_from state
     (record { map = state; metadata = metadata } ∷ history) operations
@@ -173,7 +177,8 @@ abbrev pub AreStates : History → Type 0
 AreStates [] = Unit {0}
 AreStates (commit ∷ history) = IsState commit.map × AreStates history
 
--- this update of a key stands at the key's location in the log, and is active there: these are its value and its next key
+-- this update of a key stands at the key's location in the log, and is active there: these are its value and its next
+-- key
 pub record StandsAt (key : List ℕ) (log : List Operation) (fields : List ℕ × List ℕ) : Type 0 where
   pub update_at : slice_get log (active_location key log) ≡ Some (update (ordered key fields.0 fields.1))
   pub bit_at : slice_get (activity_bits log) (active_location key log) ≡ Some true

@@ -1,5 +1,6 @@
 -- What a line of a script asks for.
-use Rattle.std.specs.Prelude.{ℕ, ◌+◌, ◌^◌, ◌==◌, nat_lt, ◌&&◌, Bool, if◌then◌else◌, List, [], ◌∷◌, length, take, drop, position, codes, Option, Some, None, option_map, Result, Ok, Err}
+use Rattle.std.specs.Prelude.{ℕ, ◌+◌, ◌^◌, ◌==◌, nat_lt, ◌&&◌, Bool, if◌then◌else◌, List, [], ◌∷◌, length, take, drop}
+use Rattle.std.specs.Prelude.{position, codes, Option, Some, None, option_map, Result, Ok, Err}
 use Rattle.std.specs.Char.{is_ascii_digit}
 use Rattle.std.specs.List.{list_all}
 use Rattle.std.specs.Str.{bytes_eq}
@@ -8,7 +9,10 @@ use Rattle.hex.specs.declared.error.FromHexError.{FromHexError}
 use Rattle.merkle_forest_parts.specs.declared.codec.fixed_bytes.FixedBytes.{FixedBytes}
 use Rattle.auth_store_parts.specs.Script.{decimal_value}
 use Rattle.auth_store_parts.specs.declared.script.line.Line.{Line}
-use Rattle.auth_store_parts.specs.declared.script.line.Line.TheVariants.{Empty, New, Open, Put, Delete, Commit, Get, Root, Floor, Len, Prune, Prove, Proof, CheckValue, CheckAbsent, Cut, Mode, Fault, Close, Crash}
+use Rattle.auth_store_parts.specs.declared.script.line.Line.TheVariants.{Empty, New, Open, Put, Delete, Commit, Get}
+use Rattle.auth_store_parts.specs.declared.script.line.Line.TheVariants.{Root, Floor, Len, Prune, Prove, Proof}
+use Rattle.auth_store_parts.specs.declared.script.line.Line.TheVariants.{CheckValue, CheckAbsent, Cut, Mode, Fault}
+use Rattle.auth_store_parts.specs.declared.script.line.Line.TheVariants.{Close, Crash}
 use Rattle.auth_store_parts.specs.declared.script.words.FaultKind.{FaultKind}
 use Rattle.auth_store_parts.specs.declared.script.words.FaultKind.TheVariants as kinds
 use Rattle.auth_store_parts.specs.declared.script.words.TornMode.{TornMode}

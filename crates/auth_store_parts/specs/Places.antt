@@ -31,7 +31,8 @@ located_key location (delete key) = (key, location ∷ []) ∷ []
 located_key location (update (ordered key value next)) = (key, location ∷ []) ∷ []
 located_key location (commit_floor metadata floor) = []
 
--- the key that each operation names with its location, in the order of the operations, the first of which stands at `start`
+-- the key that each operation names with its location, in the order of the operations, the first of which stands at
+-- `start`
 abbrev pub located_keys : ℕ → List Operation → List (List ℕ × List ℕ)
 located_keys start [] = []
 located_keys start (operation ∷ later) = located_key start operation ++ located_keys (start + 1) later

@@ -4,7 +4,10 @@ use Rattle.hex.specs.Hex.{decode_of}
 use Rattle.merkle_forest_parts.specs.declared.codec.fixed_bytes.FixedBytes.{FixedBytes}
 use Rattle.auth_store_parts.specs.Script.{IsKey, IsNumber, decimal_value}
 use Rattle.auth_store_parts.specs.declared.script.line.Line.{Line}
-use Rattle.auth_store_parts.specs.declared.script.line.Line.TheVariants.{Empty, New, Open, Put, Delete, Commit, Get, Root, Floor, Len, Prune, Prove, Proof, CheckValue, CheckAbsent, Cut, Mode, Fault, Close, Crash}
+use Rattle.auth_store_parts.specs.declared.script.line.Line.TheVariants.{Empty, New, Open, Put, Delete, Commit, Get}
+use Rattle.auth_store_parts.specs.declared.script.line.Line.TheVariants.{Root, Floor, Len, Prune, Prove, Proof}
+use Rattle.auth_store_parts.specs.declared.script.line.Line.TheVariants.{CheckValue, CheckAbsent, Cut, Mode, Fault}
+use Rattle.auth_store_parts.specs.declared.script.line.Line.TheVariants.{Close, Crash}
 use Rattle.auth_store_parts.specs.declared.script.words.FaultKind.{FaultKind}
 use Rattle.auth_store_parts.specs.declared.script.words.FaultKind.TheVariants as kinds
 use Rattle.auth_store_parts.specs.declared.script.words.TornMode.{TornMode}

@@ -72,8 +72,8 @@ fn apply_word<K: FixedKey, V: FixedValue>(
     }
 }
 
-/// The state after the batch's words, in the order in which they were said. It fails only when out of memory; the state is
-/// then gone, so hand in a copy where it is still wanted.
+/// The state after the batch's words, in the order in which they were said. It fails only when out of memory; the state
+/// is then gone, so hand in a copy where it is still wanted.
 pub fn apply_batch<K: FixedKey, V: FixedValue>(
     state: BTreeMap<K, V>,
     batch: &Batch<K, V>,

@@ -7,8 +7,8 @@
 #![tactic(auto)]
 
 use auth_store::{
-    Answer, Batch, ByteHash, CacheRef, Claim, Device, FixedBytes, KeyProof, Pcg32, Session, Sizes,
-    Step, check, mmr, new_device,
+    Answer, Batch, ByteHash, CacheRef, Claim, Device, FixedBytes, KeyProof, Pcg32, ProvedOperation,
+    ProvedRange, ProvedSlice, Session, Sizes, Step, check, mmr, new_device,
 };
 use std::alloc::{AllocError, Global};
 use std::io;
@@ -45,6 +45,13 @@ const PAGE_CONTENT: u16 = 52;
 const PAGE_SIZE: u32 = 64;
 
 const PAGES_KEPT: usize = 1;
+
+/// How many operations there are when some are proved, the location of the last one, and the floor that it records.
+const LEN: u64 = 10;
+
+const LAST: u64 = 9;
+
+const FLOOR: u64 = 4;
 
 /// A session, and the root that it answered last.
 #[derive(Drop)]
@@ -92,7 +99,8 @@ impl User {
         }
     }
 
-    // Takes a step, prints its answer, and keeps the root in it. The value of c alone is proved, and the absence of a.
+    // Takes a step, prints its answer, and keeps the root in it. What is proved is the value of c, the absence of a, the
+    // last operation, those from the floor on, and the whole log.
     fn take(&mut self, rt: &HostRuntime, step: Step<Name, u64>) -> io::Result<()> {
         match self.session.step(step) {
             Answer::Opened => println!(rt; "opened"),
@@ -118,9 +126,36 @@ impl User {
                 let checked = self.checked(&Claim::Absent { key: A }, &proof);
                 println!(rt; "absent {checked}")
             }
-            Answer::Operation(_) => println!(rt; "operation"),
-            Answer::Range(_) => println!(rt; "range"),
-            Answer::Slice(_) => println!(rt; "slice"),
+            Answer::Operation(ProvedOperation { operation, bytes }) => {
+                let location = LAST;
+                let claim = Claim::Active {
+                    location,
+                    operation,
+                };
+                println!(rt; "operation {}", self.checked(&claim, &bytes))
+            }
+            Answer::Range(
+                ProvedRange {
+                    operations,
+                    active,
+                    bytes,
+                },
+            ) => {
+                let start = FLOOR;
+                let claim = Claim::Range {
+                    start,
+                    operations,
+                    active,
+                };
+                println!(rt; "range {}", self.checked(&claim, &bytes))
+            }
+            Answer::Slice(ProvedSlice { operations, bytes }) => {
+                let claim = Claim::Slice {
+                    start: 0,
+                    operations,
+                };
+                println!(rt; "slice {}", self.checked(&claim, &bytes))
+            }
             Answer::Closed => println!(rt; "closed"),
             Answer::Crashed => println!(rt; "crashed"),
             Answer::Set => println!(rt; "set"),
@@ -160,7 +195,10 @@ impl User {
         self.take(rt, Step::Get(A))?;
         self.take(rt, Step::ProveKey(C))?;
         self.take(rt, Step::ProveKey(A))?;
-        self.take(rt, Step::Prune(4))?;
+        self.take(rt, Step::ProveOperation(LAST))?;
+        self.take(rt, Step::ProveRange(FLOOR, LEN))?;
+        self.take(rt, Step::ProveLog(0, LEN))?;
+        self.take(rt, Step::Prune(FLOOR))?;
         self.take(rt, Step::Root)?;
         self.reopen(rt)?;
         self.take(rt, Step::Get(C))?;

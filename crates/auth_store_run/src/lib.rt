@@ -163,10 +163,10 @@ where
 /// which is found first: nothing was done then, and a session over device and cache is given back, which
 /// `Session::into_parts` takes apart.
 ///
-/// Where no opening in the device's record is by chance, the answers are a run of the machine, from each state for which
-/// device and cache stood, and these stand for its last state at rest; by chance or not there is an answer for each
-/// step, of its kind, and what was acknowledged begins the log of every later history. A device of which nothing was
-/// called yet stands for the empty history, for every seed (`laws::a_new_device_stands_for_the_empty_history`).
+/// Where no opening in the device's record is by chance, the answers are a run of the machine, from each state for
+/// which device and cache stood, and these stand for its last state at rest; by chance or not there is an answer for
+/// each step, of its kind, and what was acknowledged begins the log of every later history. A device of which nothing
+/// was called yet stands for the empty history, for every seed (`laws::a_new_device_stands_for_the_empty_history`).
 pub fn run<R, F, H, K, V, const N: usize>(
     alloc: Global,
     device: Device<R>,

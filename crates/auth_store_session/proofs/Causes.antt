@@ -129,7 +129,8 @@ step_why m before after (doubtful history) (ask_cut calls) e next step = plain e
 step_why m before after (live history pruned) ask_open e next step = plain e still_open step.0 refl
 step_why m before after (live history pruned) (ask_commit words metadata) e next step = ⊎_elim
     (λ commits. plain e (committed _) commits.0 refl)
-    (λ refuses. let (error, is, cause, left) = refuses in why_of before after e error is (commit_why m before after (commit_after words metadata history) error cause))
+    (λ refuses. let (error, is, cause, left) = refuses in why_of before after e error is
+    (commit_why m before after (commit_after words metadata history) error cause))
     step
 step_why m before after (live history pruned) (ask_get key) e next step = ⊎_elim
     (λ said. plain e (value _) said refl)

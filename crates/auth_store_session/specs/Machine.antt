@@ -1,5 +1,6 @@
 -- The machine of a session: what each request answers, and what it leaves.
-use Rattle.std.specs.Prelude.{◌≡◌, ◌<◌, ◌≤◌, ◌+◌, ◌++◌, ◌^◌, ◌⊎◌, ℕ, ⊤, Bool, true, false, IsTrue, IsFalse, List, [], ◌∷◌, length, Option, None, Some, option_map, Result, Ok, Err}
+use Rattle.std.specs.Prelude.{◌≡◌, ◌<◌, ◌≤◌, ◌+◌, ◌++◌, ◌^◌, ◌⊎◌, ℕ, ⊤, Bool, true, false, IsTrue, IsFalse, List, []}
+use Rattle.std.specs.Prelude.{◌∷◌, length, Option, None, Some, Result, Ok, Err}
 use Rattle.merkle_forest.specs.Forest.{Rule}
 use Rattle.merkle_forest.specs.Hashing.{Hash}
 use Rattle.state_proofs.specs.Canonical.{Setting}
@@ -11,14 +12,15 @@ use Rattle.auth_store_device.specs.Devices.{after_asking, is_cut}
 use Rattle.auth_store_parts.specs.History.{History, Commit, latest_map, log_of}
 use Rattle.auth_store_ledger.specs.Store.{setting_of_width, floor_of, root_of_history, commit_after, IsPrunedUpTo}
 use Rattle.auth_store_log.specs.Records.{log_bytes}
-use Rattle.auth_store_ledger.specs.Proving.{KeyAnswer, OperationAnswer, RangeAnswer, SliceAnswer, honest_answer, answer_of_operation, answer_of_range, answer_of_slice, is_before_chunks}
+use Rattle.auth_store_ledger.specs.Proving.{KeyAnswer, OperationAnswer, RangeAnswer, SliceAnswer, honest_answer}
+use Rattle.auth_store_ledger.specs.Proving.{answer_of_operation, answer_of_range, answer_of_slice, is_before_chunks}
 use Rattle.auth_store_ledger.specs.declared.error.Unprovable.{Unprovable}
 use Rattle.auth_store_session.specs.declared.error.StoreError.{StoreError}
 use Rattle.auth_store_session.specs.declared.error.StoreError.TheVariants as refusals
 use Rattle.auth_store_session.specs.Refusals.{IsOfChange, IsOfRead}
 
--- what stays the same in a run: trees, hashes and chunks, how the family encodes a pending digest, the sizes of keys and of
--- values, and how many bytes a page of the disk has
+-- what stays the same in a run: trees, hashes and chunks, how the family encodes a pending digest, the sizes of keys
+-- and of values, and how many bytes a page of the disk has
 pub record Machine : Type 0 where
   pub setting : Setting
   pub pending : Option (List ℕ) → List ℕ
@@ -35,9 +37,10 @@ machine rule hash pending width key value page = record {
   page_size = page;
 }
 
--- Where a session stands: closed, with the history that the next opening shows, perhaps with the commit that is pending; open
--- with a history, of which so many chunks are pruned; open and failed, with the commit that failed, which the next opening shows or not; or closed in doubt, where the
--- next opening may show by chance what was never written, but behind the log of this history.
+-- Where a session stands: closed, with the history that the next opening shows, perhaps with the commit that is
+-- pending; open with a history, of which so many chunks are pruned; open and failed, with the commit that failed, which
+-- the next opening shows or not; or closed in doubt, where the next opening may show by chance what was never written,
+-- but behind the log of this history.
 pub data State : Type 0 where
   closed : History → Option Commit → State
   live : History → ℕ → State
@@ -78,8 +81,8 @@ IsCertain _ = ⊤
 abbrev pub GoesOn : History → History → Type 0
 GoesOn history later = (more : History) × (later ≡ more ++ history)
 
--- of what a session is asked for a proof: of a key's value or its absence, that the operation at a location is active, and of the
--- operations from one location up to another, with their activity bits or without
+-- of what a session is asked for a proof: of a key's value or its absence, that the operation at a location is active,
+-- and of the operations from one location up to another, with their activity bits or without
 pub data Question : Type 0 where
   of_key : List ℕ → Question
   of_operation : ℕ → Question
@@ -127,9 +130,10 @@ pub data Answer : Type 0 where
   not_open : Answer
   still_open : Answer
 
--- What the machine sees of the device under it and of its cache: how many faults were injected so far, and how many calls a cut refused
--- since the last crash; how many names the cache has given, how many bytes the log has on the disk, which number the next file of the
--- disk has; and how many more calls are let through until the power is cut, where that was asked for since the last crash.
+-- What the machine sees of the device under it and of its cache: how many faults were injected so far, and how many
+-- calls a cut refused since the last crash; how many names the cache has given, how many bytes the log has on the disk,
+-- which number the next file of the disk has; and how many more calls are let through until the power is cut, where
+-- that was asked for since the last crash.
 pub record Power : Type 0 where
   pub injected : ℕ
   pub refused : ℕ
@@ -169,8 +173,8 @@ abbrev pub IsSpent : Option ℕ → Option ℕ → Type 0
 IsSpent None after = after ≡ None
 IsSpent (Some before) after = (left : ℕ) × (after ≡ Some left) × (left ≤ before)
 
--- What calls leave of the power of which the last was refused for that, or none: a fault that was injected, and a call that a cut refused,
--- ends them; they use up what a cut lets through; and they give so many names at most.
+-- What calls leave of the power of which the last was refused for that, or none: a fault that was injected, and a call
+-- that a cut refused, ends them; they use up what a cut lets through; and they give so many names at most.
 pub record Leaves (most : ℕ) (refusal : Option StoreError) (before after : Power) : Type 0 where
   pub injected : after.injected ≡ before.injected + faults_in refusal
   pub refused : after.refused ≡ before.refused + cuts_in refusal
@@ -191,10 +195,11 @@ abbrev pub as_proved : {A : Type 0} → (A → Proved) → Result A Unprovable �
 as_proved said (Ok answer) = Ok (said answer)
 as_proved said (Err why) = Err why
 
--- The honest proof of what is asked, where so many chunks are pruned, or why there is none. Of a key there is always one: of its value, or
--- that it is absent.
+-- The honest proof of what is asked, where so many chunks are pruned, or why there is none. Of a key there is always
+-- one: of its value, or that it is absent.
 abbrev pub proof_of : Machine → History → ℕ → Question → Result Proved Unprovable
-proof_of m history pruned (of_key key) = Ok (key_is (honest_answer m.pending m.setting m.key_size m.value_size history key))
+proof_of m history pruned (of_key key) =
+    Ok (key_is (honest_answer m.pending m.setting m.key_size m.value_size history key))
 proof_of m history pruned (of_operation location) =
     as_proved operation_is (answer_of_operation m.pending m.setting m.key_size m.value_size history pruned location)
 proof_of m history pruned (of_range start stop) =
@@ -212,8 +217,8 @@ abbrev pub IsShownOf : History → Option Commit → History → Type 0
 IsShownOf history None shown = shown ≡ history
 IsShownOf history (Some commit) shown = (shown ≡ history) ⊎ (shown ≡ commit ∷ history)
 
--- Why a call of the device may refuse a request: a fault was injected in it, a cut of the power stands, a number ended, or there was
--- no memory.
+-- Why a call of the device may refuse a request: a fault was injected in it, a cut of the power stands, a number ended,
+-- or there was no memory.
 abbrev pub MayRefuse : Power → Power → StoreError → Type 0
 MayRefuse before after (refusals.Fault kind) = before.injected < after.injected
 MayRefuse before after refusals.PowerCut = IsTrue (is_cut after.left)
@@ -255,8 +260,8 @@ MayRefuseCommit m before after next refusals.NumberEnded =
     IsEnding before ⊎ PassesLimit next ⊎ PassesDisk m next
 MayRefuseCommit m before after next error = MayRefuse before after error
 
--- An opening shows the history that stands, with the pending commit or without it, and no cut stood before; or it is refused,
--- and nothing changes.
+-- An opening shows the history that stands, with the pending commit or without it, and no cut stood before; or it is
+-- refused, and nothing changes.
 abbrev pub IsOpening : Machine → Power → Power → History → Option Commit → Answer → State → Type 0
 IsOpening m before after history pending answer next =
     ((answer ≡ opened) × IsFalse (is_cut before.left)
@@ -276,8 +281,8 @@ IsStepClosed m before after history pending (ask_cut calls) answer next =
 IsStepClosed m before after history pending _ answer next =
     (answer ≡ not_open) × (next ≡ closed history pending) × (after ≡ before)
 
--- In doubt an opening shows a history that goes on behind the log of this one, and no cut stood before; or it is refused, also
--- where what it shows is the log of no history, and the doubt stays.
+-- In doubt an opening shows a history that goes on behind the log of this one, and no cut stood before; or it is
+-- refused, also where what it shows is the log of no history, and the doubt stays.
 abbrev pub IsOpeningInDoubt : Machine → Power → Power → History → Answer → State → Type 0
 IsOpeningInDoubt m before after history answer next =
     ((answer ≡ opened) × IsFalse (is_cut before.left)
@@ -296,17 +301,19 @@ IsStepInDoubt m before after history (ask_cut calls) answer next =
     (answer ≡ is_set) × (next ≡ doubtful history) × (after ≡ asked_to_cut calls before)
 IsStepInDoubt m before after history _ answer next = (answer ≡ not_open) × (next ≡ doubtful history) × (after ≡ before)
 
--- A commit is in, with the root of the history with it, and no cut stood before; or it is refused, and the store is as it was or has
--- failed. Where the log would pass 2^62 operations it stays as it was.
+-- A commit is in, with the root of the history with it, and no cut stood before; or it is refused, and the store is as
+-- it was or has failed. Where the log would pass 2^62 operations it stays as it was.
 abbrev pub IsCommitting : Machine → Power → Power → History → ℕ → List Word → Option (List ℕ) → Answer → State → Type 0
 IsCommitting m before after history pruned words metadata answer next =
     let later = commit_after words metadata history in
     ((answer ≡ committed (root_of_history m.setting m.key_size m.value_size later)) × (next ≡ live later pruned)
     × (length (log_of later) ≤ 2 ^ 62) × IsFalse (is_cut before.left))
     ⊎ ((error : StoreError) × (answer ≡ refused error) × MayRefuseCommit m before after later error
-    × ((next ≡ live history pruned) ⊎ ((next ≡ failed history (commit_of words metadata history)) × (length (log_of later) ≤ 2 ^ 62))))
+    × ((next ≡ live history pruned) ⊎ ((next ≡ failed history (commit_of words metadata history))
+    × (length (log_of later) ≤ 2 ^ 62))))
 
--- Pruning up to a location keeps all but the chunks that are settled before it, and changes nothing else; past the floor it is refused.
+-- Pruning up to a location keeps all but the chunks that are settled before it, and changes nothing else; past the
+-- floor it is refused.
 abbrev pub IsPruning : Machine → History → ℕ → ℕ → Answer → State → Type 0
 IsPruning m history pruned location answer next =
     ((chunks : ℕ) × (answer ≡ pruned_to chunks) × (next ≡ live history chunks) × (location ≤ floor_of history)
@@ -315,9 +322,12 @@ IsPruning m history pruned location answer next =
 
 -- a step of an open store that has not failed
 abbrev pub IsStepLive : Machine → Power → Power → History → ℕ → Request → Answer → State → Type 0
-IsStepLive m before after history pruned ask_open answer next = (answer ≡ still_open) × (next ≡ live history pruned) × (after ≡ before)
-IsStepLive m before after history pruned ask_crash answer next = (answer ≡ still_open) × (next ≡ live history pruned) × (after ≡ before)
-IsStepLive m before after history pruned ask_config answer next = (answer ≡ is_set) × (next ≡ live history pruned) × (after ≡ before)
+IsStepLive m before after history pruned ask_open answer next =
+    (answer ≡ still_open) × (next ≡ live history pruned) × (after ≡ before)
+IsStepLive m before after history pruned ask_crash answer next =
+    (answer ≡ still_open) × (next ≡ live history pruned) × (after ≡ before)
+IsStepLive m before after history pruned ask_config answer next =
+    (answer ≡ is_set) × (next ≡ live history pruned) × (after ≡ before)
 IsStepLive m before after history pruned (ask_cut calls) answer next =
     (answer ≡ is_set) × (next ≡ live history pruned) × (after ≡ asked_to_cut calls before)
 IsStepLive m before after history pruned ask_close answer next =
@@ -335,7 +345,8 @@ IsStepLive m before after history pruned (ask_proof question) answer next =
 IsStepLive m before after history pruned (ask_prune location) answer next =
     IsPruning m history pruned location answer next × (after ≡ before)
 IsStepLive m before after history pruned ask_root answer next =
-    (answer ≡ root_is (root_of_history m.setting m.key_size m.value_size history)) × (next ≡ live history pruned) × (after ≡ before)
+    (answer ≡ root_is (root_of_history m.setting m.key_size m.value_size history)) × (next ≡ live history pruned)
+    × (after ≡ before)
 IsStepLive m before after history pruned ask_commits answer next =
     (answer ≡ commits_are (length history)) × (next ≡ live history pruned) × (after ≡ before)
 IsStepLive m before after history pruned ask_floor answer next =
@@ -362,7 +373,8 @@ IsStepFailed before after history commit _ answer next =
 abbrev pub IsStep : Machine → Power → Power → State → Request → Answer → State → Type 0
 IsStep m before after (closed history pending) request answer next =
     IsStepClosed m before after history pending request answer next
-IsStep m before after (live history pruned) request answer next = IsStepLive m before after history pruned request answer next
+IsStep m before after (live history pruned) request answer next =
+    IsStepLive m before after history pruned request answer next
 IsStep m before after (failed history commit) request answer next =
     IsStepFailed before after history commit request answer next
 IsStep m before after (doubtful history) request answer next = IsStepInDoubt m before after history request answer next
@@ -378,11 +390,13 @@ turned (ask_cut calls) answer power = asked_to_cut calls power
 turned ask_crash has_crashed power = record power { left = None; refused = 0 }
 turned request answer power = power
 
--- The power before a step and after it: a fault was injected in it where its answer tells of one, and a cut refused a call where it tells of
--- that, and no more; and its calls use up what a cut lets through. So in a run there are as many answers that tell of an injected fault as
--- faults were injected, and one that tells of a cut comes only after so many calls as were asked for since the last crash.
+-- The power before a step and after it: a fault was injected in it where its answer tells of one, and a cut refused a
+-- call where it tells of that, and no more; and its calls use up what a cut lets through. So in a run there are as many
+-- answers that tell of an injected fault as faults were injected, and one that tells of a cut comes only after so many
+-- calls as were asked for since the last crash.
 abbrev pub Passes : Request → Answer → Power → Power → Type 0
-Passes request answer before after = Leaves (names_given request) (refusal_in answer) (turned request answer before) after
+Passes request answer before after =
+    Leaves (names_given request) (refusal_in answer) (turned request answer before) after
 
 -- A run: an answer for each request, one step after the other; each step meets the power that the one before left.
 abbrev pub IsRun : Machine → Power → State → List Request → List Answer → Power → State → Type 0

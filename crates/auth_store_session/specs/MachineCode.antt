@@ -6,16 +6,21 @@ use Rattle.auth_store_parts.specs.Batch.{meanings}
 use Rattle.auth_store_ledger.specs.ProvingCode.{key_answer_of, operation_answer_of, range_answer_of, slice_answer_of}
 use Rattle.auth_store_session.specs.declared.error.StoreError.{StoreError}
 use Rattle.auth_store_session.specs.declared.session.Step.{Step}
-use Rattle.auth_store_session.specs.declared.session.Step.TheVariants.{Open, Commit, Get, Root, Commits, Floor, Len, Prune, ProveKey, ProveOperation, ProveRange, ProveLog, Close, Crash, Config, CutAfter}
+use Rattle.auth_store_session.specs.declared.session.Step.TheVariants.{Open, Commit, Get, Root, Commits, Floor, Len}
+use Rattle.auth_store_session.specs.declared.session.Step.TheVariants.{Prune, ProveKey, ProveOperation, ProveRange}
+use Rattle.auth_store_session.specs.declared.session.Step.TheVariants.{ProveLog, Close, Crash, Config, CutAfter}
 use Rattle.auth_store_session.specs.declared.session.Answer.{Answer}
 use Rattle.auth_store_session.specs.declared.session.Answer.TheVariants as answers
-use Rattle.auth_store_session.specs.Machine.{Request, ask_open, ask_commit, ask_get, ask_root, ask_commits, ask_floor, ask_len, ask_prune, ask_proof, ask_close, ask_crash, ask_config, ask_cut, of_key, of_operation, of_range, of_slice}
+use Rattle.auth_store_session.specs.Machine.{Request, ask_open, ask_commit, ask_get, ask_root, ask_commits, ask_floor}
+use Rattle.auth_store_session.specs.Machine.{ask_len, ask_prune, ask_proof, ask_close, ask_crash, ask_config, ask_cut}
+use Rattle.auth_store_session.specs.Machine.{of_key, of_operation, of_range, of_slice}
 use Rattle.auth_store_session.specs.Machine as machine
 
 -- what a step asks, given how keys and values are encoded
 abbrev pub request_of : {K V : Type 0} → (K → List ℕ) → (V → List ℕ) → Step K V → Request
 request_of key value (Open sizes) = ask_open
-request_of key value (Commit batch metadata) = ask_commit (meanings key value batch.words.items) (option_map value metadata)
+request_of key value (Commit batch metadata) =
+    ask_commit (meanings key value batch.words.items) (option_map value metadata)
 request_of key value (Get k) = ask_get (key k)
 request_of key value Root = ask_root
 request_of key value Commits = ask_commits
@@ -32,7 +37,8 @@ request_of key value (Config config) = ask_config
 request_of key value (CutAfter calls) = ask_cut calls
 
 -- what an answer says, given how digests, keys and values are encoded
-abbrev pub meaning_of : {F D K V : Type 0} → (D → List ℕ) → (K → List ℕ) → (V → List ℕ) → Answer F D K V → machine.Answer
+abbrev pub meaning_of : {F D K V : Type 0} → (D → List ℕ) → (K → List ℕ) → (V → List ℕ) → Answer F D K V
+    → machine.Answer
 meaning_of digest key value answers.Opened = machine.opened
 meaning_of digest key value (answers.Committed root) = machine.committed (digest root)
 meaning_of digest key value (answers.Value found) = machine.value (option_map value found)
@@ -42,7 +48,8 @@ meaning_of digest key value (answers.Floor location) = machine.floor_is location
 meaning_of digest key value (answers.Len count) = machine.len_is count
 meaning_of digest key value (answers.Pruned chunks) = machine.pruned_to chunks
 meaning_of digest key value (answers.Proof found) = machine.proof (machine.key_is (key_answer_of value found))
-meaning_of digest key value (answers.Operation proved) = machine.proof (machine.operation_is (operation_answer_of key value proved))
+meaning_of digest key value (answers.Operation proved) =
+    machine.proof (machine.operation_is (operation_answer_of key value proved))
 meaning_of digest key value (answers.Range proved) = machine.proof (machine.range_is (range_answer_of key value proved))
 meaning_of digest key value (answers.Slice proved) = machine.proof (machine.slice_is (slice_answer_of key value proved))
 meaning_of digest key value answers.Closed = machine.has_closed

@@ -15,7 +15,9 @@ use Rattle.auth_store_ledger.specs.declared.error.ProofError.TheVariants as proo
 use Rattle.auth_store_ledger.specs.declared.error.Unprovable.{Unprovable as Why}
 use Rattle.auth_store_ledger.specs.declared.error.Unprovable.TheVariants.{EmptyRange, OutOfRange, Pruned, Inactive}
 use Rattle.auth_store_session.specs.declared.error.StoreError.{StoreError}
-use Rattle.auth_store_session.specs.declared.error.StoreError.TheVariants.{Fault, PowerCut, NumberEnded, Memory, Corrupt, Failed, PastFloor, Unprovable, Header}
+use Rattle.auth_store_session.specs.declared.error.StoreError.TheVariants.{Fault, PowerCut, NumberEnded, Memory}
+use Rattle.auth_store_session.specs.declared.error.StoreError.TheVariants.{Corrupt, Failed, PastFloor, Unprovable}
+use Rattle.auth_store_session.specs.declared.error.StoreError.TheVariants.{Header}
 
 -- of there being no proof
 abbrev pub number_of_proof : Why → List ℕ

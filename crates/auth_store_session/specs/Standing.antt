@@ -1,5 +1,6 @@
 -- Which states of the machine a session stands for, and when its calls are steps of the machine.
-use Rattle.std.specs.Prelude.{◌≡◌, ◌⊎◌, ◌+◌, ◌≤◌, ◌^◌, ℕ, ⊤, false, IsFalse, List, [], ◌∷◌, length, Option, Some, None, is_some, Result, Ok, Err, MatchResult}
+use Rattle.std.specs.Prelude.{◌≡◌, ◌⊎◌, ◌+◌, ◌≤◌, ◌^◌, ℕ, ⊤, IsFalse, List, [], ◌∷◌, length, Option, Some, None}
+use Rattle.std.specs.Prelude.{is_some, Result, Ok, Err, MatchResult}
 use Rattle.fault_storage_parts.specs.Crc32.{crc32}
 use Rattle.fault_storage_parts.specs.declared.config.Config.{Config}
 use Rattle.paged_blob.specs.Caches.{Cache}
@@ -17,7 +18,9 @@ use Rattle.auth_store_ledger.specs.Store.{commit_after, root_of_history}
 use Rattle.auth_store_ledger.specs.declared.error.Unprovable.{Unprovable}
 use Rattle.auth_store_session.specs.declared.error.StoreError.{StoreError}
 use Rattle.auth_store_session.specs.declared.error.StoreError.TheVariants as refusals
-use Rattle.auth_store_session.specs.Machine.{Machine, Power, State, closed, live, failed, doubtful, Request, ask_open, ask_close, Answer, at_rest, Proved, IsStep, IsRun, IsRunInDoubt, AreAnswersTo, Passes, MayRefuseOpening, MayRefuseCommit, commit_of}
+use Rattle.auth_store_session.specs.Machine.{Machine, Power, State, closed, live, failed, doubtful, Request, ask_open}
+use Rattle.auth_store_session.specs.Machine.{ask_close, Answer, at_rest, Proved, IsStep, IsRun, IsRunInDoubt}
+use Rattle.auth_store_session.specs.Machine.{AreAnswersTo, Passes, MayRefuseOpening, MayRefuseCommit, commit_of}
 use Rattle.auth_store_session.specs.Stores.{StoreState, IsCache, IsLiveAt, IsNoHistory, IsWritten, IsKept, Shows}
 
 -- a session: the device and the cache while no store is open, or the store
@@ -45,15 +48,16 @@ abbrev pub result_of : {D E : Type 0} → (D → List ℕ) → Result D E → Re
 result_of encoding (Ok root) = Ok (encoding root)
 result_of encoding (Err e) = Err e
 
--- what a call answers that is asked for a proof, where this is the proof, or why there is none: that, or memory was lacking
+-- what a call answers that is asked for a proof, where this is the proof, or why there is none: that, or memory was
+-- lacking
 abbrev pub AnswersProof : {A : Type 0} → (A → Proved) → Result Proved Unprovable → Result A StoreError → Type 0
 AnswersProof said expected (Ok found) = expected ≡ Ok (said found)
 AnswersProof said expected (Err (refusals.Unprovable why)) = expected ≡ Err why
 AnswersProof said expected (Err refusals.Memory) = ⊤
 AnswersProof said expected (Err error) = ⊥
 
--- a commit of a batch: it is in, with the root of the history with it, and no cut stood before; or it is refused, and the store is as
--- it was, or has failed, and openings show it or not
+-- a commit of a batch: it is in, with the root of the history with it, and no cut stood before; or it is refused, and
+-- the store is as it was, or has failed, and openings show it or not
 abbrev pub Commits : {R : Type 0} → Machine → Format → List Word → Option (List ℕ) → History → StoreState R
     → Result (List ℕ) StoreError → StoreState R → Type 0
 Commits m format words metadata history old result new =
@@ -65,7 +69,8 @@ Commits m format words metadata history old result new =
     × (IsLiveAt new history ⊎ ((new.live ≡ None) × (length (log_of later) ≤ 2 ^ 62)
     × Shows format m.page_size history (Some (commit_of words metadata history)) new.device.calls)))
 
--- The calls of an opening of these bytes, which an image has, and at each moment after it openings show what is recovered of them.
+-- The calls of an opening of these bytes, which an image has, and at each moment after it openings show what is
+-- recovered of them.
 abbrev pub IsShownThrough : Format → ℕ → List ℕ → List Call → List Call → Type 0
 IsShownThrough format size shown old new =
     IsImage (file_of old) shown
@@ -81,7 +86,8 @@ IsRecovered format size shown history =
     IsWritten format history × (history_bytes format history ≡ begun format (recovered_log format crc32 size shown))
 
 -- Why an opening is refused, chance or not.
-abbrev pub IsOpenError : {R : Type 0} → Machine → Format → DeviceState R → Cache → DeviceState R → Cache → StoreError → Type 0
+abbrev pub IsOpenError : {R : Type 0} → Machine → Format → DeviceState R → Cache → DeviceState R → Cache
+    → StoreError → Type 0
 IsOpenError m format old cache new now refusals.Corrupt =
     IsNoHistory format (recovered_log format crc32 m.page_size (shown_of old))
     × IsShownThrough format m.page_size (shown_of old) old.calls new.calls
@@ -131,7 +137,8 @@ abbrev pub StandsFor : {R : Type 0} → Format → Option (DeviceState R × Cach
 StandsFor format (Some parts) None (closed history pending) =
     Shows format (parts.1.page_size + 12) history pending parts.0.calls × HasOwnHeader parts.0.storage.inner
 StandsFor format (Some parts) None (doubtful history) =
-    IsWritten format history × IsKept format (parts.1.page_size + 12) history parts.0.calls × HasOwnHeader parts.0.storage.inner
+    IsWritten format history × IsKept format (parts.1.page_size + 12) history parts.0.calls
+    × HasOwnHeader parts.0.storage.inner
 StandsFor format None (Some store) (live history pruned) = IsLiveAt store history × (store.pruned ≡ pruned)
 StandsFor format None (Some store) (failed history commit) =
     (store.live ≡ None) × Shows format (store.cache.page_size + 12) history (Some commit) store.device.calls
@@ -153,18 +160,21 @@ Moves m format old request answer new =
 -- It is, and the power before it and after it are those of one step.
 abbrev pub Steps : {R : Type 0} → Machine → Format → SessionState R → Request → Answer → SessionState R → Type 0
 Steps m format old request answer new =
-    Passes request answer (power_in old.parts old.store) (power_in new.parts new.store) × Moves m format old request answer new
+    Passes request answer (power_in old.parts old.store) (power_in new.parts new.store)
+    × Moves m format old request answer new
 
 -- so a call of an open store
 abbrev pub MovesOpen : {R : Type 0} → Machine → Format → StoreState R → Request → Answer → StoreState R → Type 0
 MovesOpen m format old request answer new =
     (state : State) → StandsFor format None (Some old) state
-    → (next : State) × IsStep m (power_of old.device old.cache) (power_of new.device new.cache) state request answer next
+    → (next : State) × IsStep m (power_of old.device old.cache)
+    (power_of new.device new.cache) state request answer next
     × StandsFor format None (Some new) next
 
 abbrev pub StepsOpen : {R : Type 0} → Machine → Format → StoreState R → Request → Answer → StoreState R → Type 0
 StepsOpen m format old request answer new =
-    Passes request answer (power_of old.device old.cache) (power_of new.device new.cache) × MovesOpen m format old request answer new
+    Passes request answer (power_of old.device old.cache) (power_of new.device new.cache)
+    × MovesOpen m format old request answer new
 
 -- the request leaves an open store open
 abbrev pub IsLeftOpen : Request → Type 0
@@ -177,7 +187,8 @@ IsAtRest ask_open = ⊥
 IsAtRest _ = ⊤
 
 -- so many steps, one after the other
-abbrev pub Runs : {R : Type 0} → Machine → Format → SessionState R → List Request → List Answer → SessionState R → Type 0
+abbrev pub Runs : {R : Type 0} → Machine → Format → SessionState R → List Request → List Answer
+    → SessionState R → Type 0
 Runs m format old requests answers new =
     NoneByChance crc32 (page_size_in new.parts new.store) (calls_in new.parts new.store)
     → (first : State) → StandsFor format old.parts old.store first
@@ -185,15 +196,18 @@ Runs m format old requests answers new =
     × StandsFor format new.parts new.store last
 
 -- So, in doubt: by chance or not.
-abbrev pub RunsInDoubt : {R : Type 0} → Machine → Format → SessionState R → List Request → List Answer → SessionState R → Type 0
+abbrev pub RunsInDoubt : {R : Type 0} → Machine → Format → SessionState R → List Request → List Answer
+    → SessionState R → Type 0
 RunsInDoubt m format old requests answers new =
     (first : State) → StandsFor format old.parts old.store first
-    → (last : State) × IsRunInDoubt m (power_in old.parts old.store) first requests answers (power_in new.parts new.store) last
+    → (last : State) × IsRunInDoubt m (power_in old.parts old.store) first requests answers
+    (power_in new.parts new.store) last
     × StandsFor format new.parts new.store last
 
--- So many steps of a session that is taken apart then, closed: where no opening is by chance they are a run of the machine from each
--- state for which it stood, and device and cache stand for the last one at rest.
-abbrev pub RunsToRest : {R : Type 0} → Machine → Format → SessionState R → List Request → List Answer → DeviceState R → Cache → Type 0
+-- So many steps of a session that is taken apart then, closed: where no opening is by chance they are a run of the
+-- machine from each state for which it stood, and device and cache stand for the last one at rest.
+abbrev pub RunsToRest : {R : Type 0} → Machine → Format → SessionState R → List Request → List Answer → DeviceState R
+    → Cache → Type 0
 RunsToRest m format old requests answers device cache =
     NoneByChance crc32 m.page_size device.calls
     → (first : State) → StandsFor format old.parts old.store first
@@ -201,7 +215,8 @@ RunsToRest m format old requests answers device cache =
     × StandsFor format (Some (device, cache)) None (at_rest last)
 
 -- So, in doubt: by chance or not.
-abbrev pub RunsToRestInDoubt : {R : Type 0} → Machine → Format → SessionState R → List Request → List Answer → DeviceState R → Cache
+abbrev pub RunsToRestInDoubt : {R : Type 0} → Machine → Format → SessionState R → List Request → List Answer
+    → DeviceState R → Cache
     → Type 0
 RunsToRestInDoubt m format old requests answers device cache =
     (first : State) → StandsFor format old.parts old.store first
@@ -213,13 +228,15 @@ abbrev pub closed_at : {R : Type 0} → DeviceState R → Cache → SessionState
 closed_at device cache = record { parts = Some (device, cache); store = None }
 
 -- A whole run of a device and a cache, closed before it and after it.
-abbrev pub RunsWhole : {R : Type 0} → Machine → Format → DeviceState R → Cache → List Request → List Answer → DeviceState R → Cache
+abbrev pub RunsWhole : {R : Type 0} → Machine → Format → DeviceState R → Cache → List Request → List Answer
+    → DeviceState R → Cache
     → Type 0
-RunsWhole m format device cache requests answers new now = RunsToRest m format (closed_at device cache) requests answers new now
+RunsWhole m format device cache requests answers new now =
+    RunsToRest m format (closed_at device cache) requests answers new now
 
--- All that is promised of a whole run of a session: it is a run of the machine; by chance or not it is one in doubt, in which what was
--- acknowledged begins the log of each later history, and it has an answer for each request, of its kind; the device's record only grows;
--- and device and cache are left closed, so that another session may be begun with them.
+-- All that is promised of a whole run of a session: it is a run of the machine; by chance or not it is one in doubt, in
+-- which what was acknowledged begins the log of each later history, and it has an answer for each request, of its kind;
+-- the device's record only grows; and device and cache are left closed, so that another session may be begun with them.
 pub record HasRunToRest {R : Type 0} (m : Machine) (format : Format) (old : SessionState R) (requests : List Request)
     (answers : List Answer) (device : DeviceState R) (cache : Cache) : Type 0 where
   pub runs : RunsToRest m format old requests answers device cache

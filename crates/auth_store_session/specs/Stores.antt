@@ -1,5 +1,6 @@
 -- An open store over its device: what holds of it while it has not failed, and what its calls say.
-use Rattle.std.specs.Prelude.{◌≡◌, ◌⊎◌, ◌+◌, ◌<◌, ◌≤◌, ◌^◌, ℕ, ⊤, true, List, [], ◌∷◌, length, Option, Some, is_some, IfSome}
+use Rattle.std.specs.Prelude.{◌≡◌, ◌⊎◌, ◌+◌, ◌<◌, ◌≤◌, ◌^◌, ℕ, ⊤, true, List, [], ◌∷◌, length, Option, Some, is_some}
+use Rattle.std.specs.Prelude.{IfSome}
 use Rattle.fault_storage_parts.specs.Crc32.{crc32}
 use Rattle.paged_format.specs.Footers.{IsPageSize}
 use Rattle.paged_blob.specs.Answers.{Failures, HaveEnded}
@@ -18,7 +19,8 @@ use Rattle.auth_store_log.specs.Records.{Format, AreRecorded, begun, history_byt
 use Rattle.auth_store_log.specs.Causes.{AreNamed}
 use Rattle.auth_store_log.specs.Shown.{MayShow, KeepsLog}
 use Rattle.auth_store_session.specs.declared.error.StoreError.{StoreError}
-use Rattle.auth_store_session.specs.declared.error.StoreError.TheVariants.{Fault, PowerCut, NumberEnded, Memory, Corrupt}
+use Rattle.auth_store_session.specs.declared.error.StoreError.TheVariants.{Fault, PowerCut, NumberEnded, Memory}
+use Rattle.auth_store_session.specs.declared.error.StoreError.TheVariants.{Corrupt}
 use Rattle.auth_store_session.specs.Refusals.{IsOfChange, IsOfRead}
 use Rattle.auth_store_session.specs.Machine.{faults_in, cuts_in}
 
@@ -59,8 +61,8 @@ pub record IsStore {R : Type 0} (format : Format) (state : StoreState R) : Type 
 pub record IsPruned (rule : Rule) (width : ℕ) (live : Option LiveState) (pruned : ℕ) : Type 0 where
   pub settled : IfSome live (λ now. IsSettled rule (grafting_height width) (length (log_of now.history)) pruned)
 
--- What the calls of a request leave of what has refused calls, of which the last was refused for that, or none: an injected fault and a
--- call that a cut refuses are counted, and none asks for a cut.
+-- What the calls of a request leave of what has refused calls, of which the last was refused for that, or none: an
+-- injected fault and a call that a cut refuses are counted, and none asks for a cut.
 pub record Raises (refusal : Option StoreError) (before after : Failures) : Type 0 where
   pub injected : after.injected ≡ before.injected + faults_in refusal
   pub refused : after.refused ≡ before.refused + cuts_in refusal
@@ -77,7 +79,8 @@ IsRefusal before after Ends _ = ⊥
 -- The log that is recovered has a commit, and is the log of no history.
 abbrev pub IsNoHistory : Format → List ℕ → Type 0
 IsNoHistory format log =
-    (history : History) → AreStates history → AreRecorded format (log_of history) → history_bytes format history ≡ begun format log → ⊥
+    (history : History) → AreStates history → AreRecorded format (log_of history) → history_bytes format history
+    ≡ begun format log → ⊥
 
 -- the pages of so many bytes that have the log end past the numbers of the disk
 abbrev pub EndsDisk : ℕ → List ℕ → Type 0
@@ -98,9 +101,10 @@ abbrev pub IsKept : Format → ℕ → History → List Call → Type 0
 IsKept format size [] calls = ⊤
 IsKept format size (commit ∷ history) calls = KeepsLog format crc32 size (commit ∷ history) calls
 
--- Each opening that is not by chance shows the log of the history, or with the pending commit; and by chance or not, the history
--- is kept.
-pub record Shows (format : Format) (size : ℕ) (history : History) (pending : Option Commit) (calls : List Call) : Type 0 where
+-- Each opening that is not by chance shows the log of the history, or with the pending commit; and by chance or not,
+-- the history is kept.
+pub record Shows (format : Format) (size : ℕ) (history : History) (pending : Option Commit)
+    (calls : List Call) : Type 0 where
   pub written : IsWritten format history
   pub next : IfSome pending (λ commit. IsWritten format (commit ∷ history))
   pub shown : MayShow format crc32 size history pending calls

@@ -11,10 +11,12 @@ ghost use Rattle.auth_store_parts.specs.History.{History, Commit};
 ghost use Rattle.auth_store_device.specs.Devices.{DeviceState};
 ghost use Rattle.auth_store_device.specs.Settings.{IsNew};
 ghost use Rattle.auth_store_log.specs.Records.{Format, begun, history_bytes, recovered_log};
-ghost use Rattle.auth_store_session.specs.Machine.{Machine, Power, State, Request, Answer, IsShownOf, IsStep, IsRun, Passes};
+ghost use Rattle.auth_store_session.specs.Machine.{Machine, Power, State, Request, Answer, IsShownOf, IsStep, IsRun};
+ghost use Rattle.auth_store_session.specs.Machine.{Passes};
 ghost use Rattle.auth_store_session.specs.Machine.{AsksNoPrune, IsBehind, ask_prune, live};
 ghost use Rattle.auth_store_session.specs.Machine.{AskNoCut, TellNoCut, faults_told, AskNoCrash, AcknowledgeNone};
-ghost use Rattle.auth_store_session.specs.Machine.{closed, in_doubt, kept_history, Begins, GoesOn, IsCertain, IsRunInDoubt};
+ghost use Rattle.auth_store_session.specs.Machine.{closed, in_doubt, kept_history, Begins, GoesOn, IsCertain};
+ghost use Rattle.auth_store_session.specs.Machine.{IsRunInDoubt};
 ghost use Rattle.auth_store_session.specs.Standing.{IsOpenedThrough, StandsFor};
 ghost use Rattle.auth_store_session.specs.Stores.{StoreState, IsWritten, Shows};
 
@@ -83,8 +85,8 @@ pub fn a_cut_stands_until_a_crash()
 {}
 
 /// A batch that was acknowledged, or that an opening has shown, is in for good, and none goes in before it: the history
-/// that has to stay before a step, or a run, is that after it without the commits that came last. A state that is not in
-/// doubt stays so.
+/// that has to stay before a step, or a run, is that after it without the commits that came last. A state that is not
+/// in doubt stays so.
 pub fn what_is_kept_stays()
     ensures step { (m : Machine) (before after : Power) (state : State) (request : Request) (answer : Answer)
         (next : State) → IsCertain state → IsStep m before after state request answer next
@@ -106,8 +108,8 @@ pub fn what_is_kept_stays_in_doubt()
 {}
 
 /// Pruning changes no root, no value and no proof that is still answered: a prune leaves the history, and to each other
-/// request a live store answers what it answers with any other number of chunks pruned, and has the same history after it;
-/// but a proof of operations is to be asked from what is pruned in neither on.
+/// request a live store answers what it answers with any other number of chunks pruned, and has the same history after
+/// it; but a proof of operations is to be asked from what is pruned in neither on.
 pub fn pruning_changes_no_answer()
     ensures history { (m : Machine) (before after : Power) (history : History) (pruned location : ℕ) (answer : Answer)
         (next : State) → IsStep m before after (live history pruned) (ask_prune location) answer next

@@ -1,7 +1,8 @@
-//! The store on a device that fails, and sessions of it: a history is recovered of the device's log, grown by batches and
-//! read through a cache, and each step of a session is one of a machine with three states.
+//! The store on a device that fails, and sessions of it: a history is recovered of the device's log, grown by batches
+//! and read through a cache, and each step of a session is one of a machine with three states.
 #![tactic(auto)]
 
+mod asking;
 pub mod error;
 pub mod laws;
 pub mod live;

@@ -1,6 +1,7 @@
 //! What an open store has while it has not failed, over a blob of any make.
 
-ghost use Rattle.std.specs.Prelude.{◌≡◌, ◌⊎◌, ◌+◌, ◌++◌, ◌≤◌, ◌<◌, ◌^◌, [], max, length, true, false, IsFalse, IfOk, IfErr, OnOk, OnErr, IfSome};
+ghost use Rattle.std.specs.Prelude.{◌≡◌, ◌⊎◌, ◌+◌, ◌++◌, ◌≤◌, ◌<◌, ◌^◌, [], max, length, true, false, IsFalse, IfOk};
+ghost use Rattle.std.specs.Prelude.{IfErr, OnOk, OnErr, IfSome};
 ghost use Rattle.std.specs.Prelude.{List, option_map, Some, None, Err, MatchResult, IsSomeAnd};
 ghost use Rattle.fault_storage_parts.specs.Crc32.{crc32};
 ghost use Rattle.paged_blob.specs.Answers.{IsPowerOff};
@@ -16,7 +17,8 @@ ghost use Rattle.auth_store_ledger.specs.Store.{IsChunkWidth, commit_after, root
 ghost use Rattle.auth_store_log.specs.Records.{format_of, begun, history_bytes, recovered_log, AreRecorded};
 ghost use Rattle.auth_store_log.specs.Shown.{IsKeptThrough};
 ghost use Rattle.auth_store_session.specs.Machine.{commit_of, refusal_of, PassesLimit};
-ghost use Rattle.auth_store_session.specs.Stores.{IsCache, IsLive, IsNoHistory, IsReadRefusal, IsOpenRefusal, IsCommitRefusal, Raises, EndsDisk, EndsOpening, Shows};
+ghost use Rattle.auth_store_session.specs.Stores.{IsCache, IsLive, IsNoHistory, IsReadRefusal, IsOpenRefusal};
+ghost use Rattle.auth_store_session.specs.Stores.{IsCommitRefusal, Raises, EndsDisk, EndsOpening, Shows};
 
 use crate::error::StoreError;
 use auth_store_ledger::{Batch, Ledger};
@@ -67,8 +69,8 @@ impl<F: Graftable, H: HashFunction, K: FixedKey, V: FixedValue, const N: usize> 
 }
 
 /// Recovers the log of a blob that was opened, of so many bytes, and takes the history whose log it is. S5: it is the
-/// log of no history. S1 to S4 where a call of the blob, the cache or memory is wanting. After a refusal openings show what
-/// they did.
+/// log of no history. S1 to S4 where a call of the blob, the cache or memory is wanting. After a refusal openings show
+/// what they did.
 pub fn recover_live<B, F, H, K, V, const N: usize>(
     alloc: Global,
     blob: &mut B,
@@ -292,8 +294,8 @@ where
     }
 }
 
-/// The value of the key in the latest state, read from the log through the cache, or `None` where there is none. S1 to S4
-/// where a call of the blob, a count or memory is wanting; the log is then as it was.
+/// The value of the key in the latest state, read from the log through the cache, or `None` where there is none. S1 to
+/// S4 where a call of the blob, a count or memory is wanting; the log is then as it was.
 pub fn get_live<B, F, H, K, V, const N: usize>(
     alloc: Global,
     live: &Live<F, H, K, V, N>,

@@ -1,6 +1,7 @@
 //! A store on a disk that fails.
 
-ghost use Rattle.std.specs.Prelude.{◌≡◌, ◌⊎◌, ◌+◌, ◌≤◌, ◌<◌, max, length, option_map, Ok, Err, None, Some, true, is_some, IfOk, IfErr, OnOk, OnErr, IsFalse, MatchResult};
+ghost use Rattle.std.specs.Prelude.{◌≡◌, ◌⊎◌, ◌+◌, ◌≤◌, ◌<◌, max, length, option_map, Ok, Err, None, Some, true};
+ghost use Rattle.std.specs.Prelude.{is_some, IfOk, IfErr, OnOk, OnErr, IsFalse, MatchResult};
 ghost use Rattle.paged_blob.specs.Moments.{Grows};
 ghost use Rattle.auth_store_parts.specs.Batch as words;
 ghost use Rattle.auth_store_parts.specs.History.{History, latest_map, log_of};
@@ -9,13 +10,17 @@ ghost use Rattle.auth_store_device.specs.Devices.{after_asking, is_cut, log_faul
 ghost use Rattle.auth_store_device.specs.Logs.{has_log, HasOwnHeader};
 ghost use Rattle.auth_store_client.specs.Claims.{terms};
 ghost use Rattle.auth_store_ledger.specs.Proving.{IsAccepted, honest_answer};
-ghost use Rattle.auth_store_ledger.specs.ProvingCode.{key_answer_of, operation_answer_of, range_answer_of, slice_answer_of};
-ghost use Rattle.auth_store_ledger.specs.Store.{IsChunkWidth, IsPrunedUpTo, floor_of, root_of_history, setting_of_width};
+ghost use Rattle.auth_store_ledger.specs.Proving.{IsAcceptedOperation, IsAcceptedRange, IsAcceptedSlice};
+ghost use Rattle.auth_store_ledger.specs.ProvingCode.{key_answer_of, operation_answer_of, range_answer_of};
+ghost use Rattle.auth_store_ledger.specs.ProvingCode.{slice_answer_of};
+ghost use Rattle.auth_store_ledger.specs.Store.{IsChunkWidth, IsPrunedUpTo, floor_of, root_of_history};
+ghost use Rattle.auth_store_ledger.specs.Store.{setting_of_width};
 ghost use Rattle.auth_store_log.specs.Records.{format_of};
 ghost use Rattle.auth_store_session.specs.Machine.{machine, proof_of, refusal_of, Leaves, MayRefuseRead};
 ghost use Rattle.auth_store_session.specs.Machine.{of_operation, of_range, of_slice, operation_is, range_is, slice_is};
 ghost use Rattle.auth_store_session.specs.Refusals.{IsOfProof};
-ghost use Rattle.auth_store_session.specs.Standing.{AnswersProof, Commits, IsOpenError, IsOpenedThrough, IsRecovered, IsShownThrough};
+ghost use Rattle.auth_store_session.specs.Standing.{AnswersProof, Commits, IsOpenError, IsOpenedThrough, IsRecovered};
+ghost use Rattle.auth_store_session.specs.Standing.{IsShownThrough};
 ghost use Rattle.auth_store_session.specs.Standing.{power_of, result_of, shown_of};
 ghost use Rattle.auth_store_session.specs.Stores.{HasBuffer, IsCache, IsLive, IsLiveAt, Shows};
 
@@ -200,8 +205,8 @@ where
 
     /// Takes a batch with its commit into the history, makes it durable, and answers the new root. S3: a number would
     /// pass its type, or the log 2 to the 62 operations; S4: out of memory; S1: a fault was injected; S2: a cut stands.
-    /// After a refusal the store is as it was, or it has failed, and openings show the batch wholly or not at all; where
-    /// the log would pass 2 to the 62 operations, it is as it was. S6: it had failed, and has still.
+    /// After a refusal the store is as it was, or it has failed, and openings show the batch wholly or not at all;
+    /// where the log would pass 2 to the 62 operations, it is as it was. S6: it had failed, and has still.
     pub fn commit(
         &mut self,
         batch: Batch<K, V>,
@@ -303,8 +308,8 @@ where
     }
 
     /// Prunes the chunks that are settled and end by the location, and answers how many are pruned then: no fewer than
-    /// before. Root, values and proofs of keys stay as they were. S6: the store has failed. S7: the location stands past
-    /// the floor.
+    /// before. Root, values and proofs of keys stay as they were. S6: the store has failed. S7: the location stands
+    /// past the floor.
     pub fn prune(&mut self, location: u64) -> Result<u64, StoreError>
         ensures ok { let setting = setting_of_width F.merge_rule H.hash_of N in
             (history : History) → IsLiveAt self.old history → IfOk result (λ chunks. (self.new.pruned ≡ chunks)
@@ -325,8 +330,8 @@ where
         Ok(chunks)
     }
 
-    /// The value of the key, or that it is absent, and the honest bytes that prove it under the root of this moment: the
-    /// client accepts them. S4: out of memory. S6: the store has failed.
+    /// The value of the key, or that it is absent, and the honest bytes that prove it under the root of this moment:
+    /// the client accepts them. S4: out of memory. S6: the store has failed.
     pub fn prove_key(&self, key: &K) -> Result<KeyProof<V>, StoreError>
         ensures proof { let size = self.now.cache.page_size + 12 in
             let m = machine F.merge_rule H.hash_of F.pending_encoding N K.SIZE V.SIZE size in
@@ -347,14 +352,21 @@ where
         Ok(live.ledger.prove_key(key)?)
     }
 
-    /// The operation at a location, and the honest bytes that prove it active under the root of this moment. S9: the log
-    /// has no such operation. S10: its chunk is pruned. S8: it is not active. S4: out of memory. S6: the store has failed.
+    /// The operation at a location, and the honest bytes that prove it active under the root of this moment: the client
+    /// accepts them. S9: the log has no such operation. S10: its chunk is pruned. S8: it is not active. S4: out of
+    /// memory. S6: the store has failed.
     pub fn prove_operation(&self, location: u64) -> Result<ProvedOperation<F, K, V>, StoreError>
         ensures proof { let size = self.now.cache.page_size + 12 in
             let m = machine F.merge_rule H.hash_of F.pending_encoding N K.SIZE V.SIZE size in
             (history : History) → IsLiveAt self.now history
             → AnswersProof (λ proved. operation_is (operation_answer_of K.encoding V.encoding proved))
             (proof_of m history self.now.pruned (of_operation location)) result }
+        ensures shown { let terms = terms F.merge_rule H.hash_of N H.Digest.SIZE F.is_pending F.pending_encoding
+            (K.after tt) (V.after tt) K.SIZE V.SIZE in
+            let setting = setting_of_width F.merge_rule H.hash_of N in
+            (history : History) → IsLiveAt self.now history → IfOk result (λ proved. IsAcceptedOperation terms
+            (root_of_history setting K.SIZE V.SIZE history) location
+            (operation_answer_of K.encoding V.encoding proved)) }
         ensures failed { self.now.live ≡ None → result ≡ Err StoreError.Failed }
         ensures err { IfErr result IsOfProof }
     {
@@ -362,15 +374,20 @@ where
         Ok(live.ledger.prove_operation(self.pruned, location)?)
     }
 
-    /// The operations from `start` up to `stop` with a bit for each that says whether it is active, and the honest bytes
-    /// that prove both under the root of this moment. S11: the range is empty. S9: it ends past the log. S10: it starts
-    /// before the pruned chunks. S4: out of memory. S6: the store has failed.
+    /// The operations from `start` up to `stop` with a bit for each that says whether it is active, and the honest
+    /// bytes that prove both under the root of this moment: the client accepts them. S11: the range is empty. S9: it
+    /// ends past the log. S10: it starts before the pruned chunks. S4: out of memory. S6: the store has failed.
     pub fn prove_range(&self, start: u64, stop: u64) -> Result<ProvedRange<F, K, V>, StoreError>
         ensures proof { let size = self.now.cache.page_size + 12 in
             let m = machine F.merge_rule H.hash_of F.pending_encoding N K.SIZE V.SIZE size in
             (history : History) → IsLiveAt self.now history
             → AnswersProof (λ proved. range_is (range_answer_of K.encoding V.encoding proved))
             (proof_of m history self.now.pruned (of_range start stop)) result }
+        ensures shown { let terms = terms F.merge_rule H.hash_of N H.Digest.SIZE F.is_pending F.pending_encoding
+            (K.after tt) (V.after tt) K.SIZE V.SIZE in
+            let setting = setting_of_width F.merge_rule H.hash_of N in
+            (history : History) → IsLiveAt self.now history → IfOk result (λ proved. IsAcceptedRange terms
+            (root_of_history setting K.SIZE V.SIZE history) start (range_answer_of K.encoding V.encoding proved)) }
         ensures failed { self.now.live ≡ None → result ≡ Err StoreError.Failed }
         ensures err { IfErr result IsOfProof }
     {
@@ -379,13 +396,18 @@ where
     }
 
     /// The operations from `start` up to `stop`, and the honest bytes that prove under the root of this moment that the
-    /// log has them. It is refused as `prove_range` is.
+    /// log has them: the client accepts them. It is refused as `prove_range` is.
     pub fn prove_log(&self, start: u64, stop: u64) -> Result<ProvedSlice<F, K, V>, StoreError>
         ensures proof { let size = self.now.cache.page_size + 12 in
             let m = machine F.merge_rule H.hash_of F.pending_encoding N K.SIZE V.SIZE size in
             (history : History) → IsLiveAt self.now history
             → AnswersProof (λ proved. slice_is (slice_answer_of K.encoding V.encoding proved))
             (proof_of m history self.now.pruned (of_slice start stop)) result }
+        ensures shown { let terms = terms F.merge_rule H.hash_of N H.Digest.SIZE F.is_pending F.pending_encoding
+            (K.after tt) (V.after tt) K.SIZE V.SIZE in
+            let setting = setting_of_width F.merge_rule H.hash_of N in
+            (history : History) → IsLiveAt self.now history → IfOk result (λ proved. IsAcceptedSlice terms
+            (root_of_history setting K.SIZE V.SIZE history) start (slice_answer_of K.encoding V.encoding proved)) }
         ensures failed { self.now.live ≡ None → result ≡ Err StoreError.Failed }
         ensures err { IfErr result IsOfProof }
     {

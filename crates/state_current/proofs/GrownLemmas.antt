@@ -301,7 +301,8 @@ pub stands_after : (setting : Setting) (facts : IsGraftable setting.rule) (low :
     → StandsFor setting state before → AreTogether setting.rule setting.width before → before.chunks.boundary ≤ before.chunks.leaves
     → AreGrown setting.width before after.operations after.bits
     → AllByRecursion (λ at. (8 * setting.width * before.bits.pruned ≤ at) × (at < m)) change.cleared
-    → AreNodesOf (plain_node setting.hash) setting.rule (plain_leaf_digests setting.hash setting.rule 0 (state.operations ++ change.operations)) after.operations
+    → AreNodesOf (plain_node setting.hash) setting.rule (plain_leaf_digests setting.hash setting.rule 0
+    (state.operations ++ change.operations)) after.operations
     → ((leaf_digests : List (List ℕ)) → AreNodesOf (chunks_node setting.hash setting.rule setting.grafting_height) setting.rule leaf_digests before.chunks
     → AreNodesOf (chunks_node setting.hash setting.rule setting.grafting_height) setting.rule
     (replaced (leaf_digests ++ leaves_from (leaf_of setting facts.root after.operations after.bits) before.chunks.leaves
@@ -344,7 +345,8 @@ stands_after setting facts low state change before after m stands together withi
       joined = leaves_grow setting facts.root facts.pairs facts.roots stands.whole
           (λ n index small. facts.counted n index level small (some_height width level stands.whole) low)
           state change few some paired ds (leaves_from leaf_at k (l - k)) (leaves_over leaf_at (8 * width) k change.cleared) are stands.joined;
-      chunks = subst (λ c. AreNodesOf node rule (replaced (ds ++ leaves_from leaf_at c (l - c)) (leaves_over leaf_at (8 * width) c change.cleared)) after.chunks) k_is
+      chunks = subst (λ c. AreNodesOf node rule (replaced (ds ++ leaves_from leaf_at c (l - c))
+          (leaves_over leaf_at (8 * width) c change.cleared)) after.chunks) k_is
           (subst (λ e. AreNodesOf node rule (replaced (ds ++ leaves_from leaf_at before.chunks.leaves (e - before.chunks.leaves))
           (leaves_over leaf_at (8 * width) before.chunks.leaves change.cleared)) after.chunks) l_is (of_chunks ds stands.chunks));
       bits = later_bits;

@@ -100,7 +100,8 @@ module _ (setting : Setting) (root : ℕ → ℕ → ℕ) (pairs : IsPairing set
 
     pub operations_are : IsLookupOfOperations setting state (node_at rule operations)
     operations_are first tree digest stands is =
-        let If : Option (List ℕ) → Type 0 = λ o. IfSome o (λ d. d ≡ tree_digest (plain_node hash) (plain_leaf_digests hash rule 0 state.operations) first tree) in
+        let If : Option (List ℕ) → Type 0 = λ o. IfSome o (λ d. d ≡ tree_digest (plain_node hash)
+        (plain_leaf_digests hash rule 0 state.operations) first tree) in
         subst If is (right-there (plain_node hash) rule (plain_leaf_digests hash rule 0 state.operations) operations of_operations first tree stands)
 
     pub node_read : (first : ℕ) (tree : Tree) → IsNodeAt first tree (forest setting state)

@@ -52,7 +52,8 @@ module _ (rule : Rule) (pairs : IsPairing rule) (aligned : Aligned rule) (birth 
               | inl past ↦ absurd (apart (forest_of rule chunks) first at own peak own_stands stands past (omega (arith, lt, next_is)))
               | inr same ↦
                   (let begins : first ≡ at = omega (arith, later, same) in
-                  let one : own ≡ peak = one_peak at own peak (forest_of rule chunks) (subst (λ k. IsPeakAt k own (forest_of rule chunks)) begins own_stands) stands in
+                  let one : own ≡ peak = one_peak at own peak (forest_of rule chunks)
+                  (subst (λ k. IsPeakAt k own (forest_of rule chunks)) begins own_stands) stands in
                   let node = (raised first own own_stands).1 soon in
                   subst (λ k. HasNode (forest_of rule operations) (k * 2 ^ level) (height peak + level)) begins
                   (subst (λ (t : Tree). HasNode (forest_of rule operations) (first * 2 ^ level) (height t + level)) one node))

@@ -120,7 +120,8 @@ pub place_passed : (leaf : ℕ → List ℕ) (size count : ℕ) (batch now more 
 place_passed leaf size count batch now more front at chunk is chunk_is le more_is =
     let none : leaves_over leaf size count (at ∷ []) ≡ [] = cond-false _ _ _ (le-ltb (at / size) count (omega (arith, chunk_is, le))) in
     more_is ∙ is
-    ∙ ap (λ us. record batch { updates = us }) (sym (append-nil (leaves_over leaf size count front)) ∙ ap (λ one. leaves_over leaf size count front ++ one) (sym none)
+    ∙ ap (λ us. record batch { updates = us }) (sym (append-nil (leaves_over leaf size count front))
+    ∙ ap (λ one. leaves_over leaf size count front ++ one) (sym none)
     ∙ sym (leaves_over-append leaf size count front (at ∷ [])))
 
 pub all_at : (P : ℕ → Type 0) (numbers : List ℕ) (i : ℕ) → i < length numbers → AllByRecursion P numbers → P (get_or numbers i 0)

@@ -1,5 +1,6 @@
 -- What the code adds to a batch to bring the tree of the chunks to a state that has grown.
-use Rattle.std.specs.Prelude.{ℕ, zero, suc, ◌-◌, ◌*◌, ◌/◌, ◌^◌, ◌<◌, ◌≤◌, nat_lt, if◌then◌else◌, List, [], ◌∷◌, length, unwrap_or}
+use Rattle.std.specs.Prelude.{ℕ, zero, suc, ◌-◌, ◌*◌, ◌/◌, ◌^◌, ◌<◌, ◌≤◌, nat_lt, if◌then◌else◌, List, [], ◌∷◌, length}
+use Rattle.std.specs.Prelude.{unwrap_or}
 use Rattle.merkle_forest.specs.Forest.{Rule, forest_of}
 use Rattle.merkle_forest.specs.Hashing.{Hash}
 use Rattle.merkle_forest.specs.Nodes.{HasNode}
@@ -10,7 +11,8 @@ use Rattle.state_proofs.specs.Grafting.{grafted}
 -- the digest of the leaf of a chunk, from the tree of the operations and the bits, where `root` tells a node's position
 abbrev pub chunk_leaf : Rule → (ℕ → ℕ → ℕ) → Hash → ℕ → ℕ → Nodes → Bits → ℕ → List ℕ
 chunk_leaf rule root hash width level tree bits chunk =
-    grafted hash (chunk_at width bits.kept (chunk - bits.pruned)) (unwrap_or (node_at rule tree (root (chunk * 2 ^ level) level)) [])
+    grafted hash (chunk_at width bits.kept (chunk - bits.pruned))
+    (unwrap_or (node_at rule tree (root (chunk * 2 ^ level) level)) [])
 
 -- that digest can be made: the chunk is not pruned, has a bit, and has its node in the tree
 pub record IsReady (rule : Rule) (width level : ℕ) (tree : Nodes) (bits : Bits) (chunk : ℕ) : Type 0 where

@@ -1,5 +1,6 @@
 -- A state that grows: what a batch changes of it, and what its chunks' leaves are brought to.
-use Rattle.std.specs.Prelude.{◌≡◌, ◌==◌, ℕ, ◌+◌, ◌*◌, ◌/◌, ◌^◌, ◌<◌, Bool, true, false, List, [], ◌∷◌, ◌++◌, length, Some, slice_get, slice_set}
+use Rattle.std.specs.Prelude.{◌≡◌, ◌==◌, ℕ, ◌+◌, ◌*◌, ◌/◌, ◌^◌, ◌<◌, Bool, true, false, List, [], ◌∷◌, ◌++◌, length}
+use Rattle.std.specs.Prelude.{Some, slice_get, slice_set}
 use Rattle.std.specs.List.{AllByRecursion, list_any}
 use Rattle.merkle_forest.specs.Forest.{Tree, height}
 use Rattle.merkle_forest.specs.Nodes.{IsNodeAt, nodes_of_height}
@@ -38,8 +39,8 @@ IsGraftedLeaf setting state index digest = (node : Tree)
 abbrev pub is_updated : ℕ → List Replacement → Bool
 is_updated index updates = list_any (λ one. one.0 == index) updates
 
--- Leaves that bring the tree of the chunks from one state to a later one: a leaf for each chunk that has its node since,
--- and another digest for each leaf over a place that is cleared.
+-- Leaves that bring the tree of the chunks from one state to a later one: a leaf for each chunk that has its node
+-- since, and another digest for each leaf over a place that is cleared.
 pub record AreBrought (setting : Setting) (before after : State) (places : List ℕ) (more : List (List ℕ))
     (others : List Replacement) : Type 0 where
   pub counted : nodes_of_height setting.grafting_height (forest setting before) + length more
@@ -47,5 +48,6 @@ pub record AreBrought (setting : Setting) (before after : State) (places : List 
   pub added : (index : ℕ) (digest : List ℕ) → slice_get more index ≡ Some digest
       → IsGraftedLeaf setting after (nodes_of_height setting.grafting_height (forest setting before) + index) digest
   pub updates : AllByRecursion (λ one. IsGraftedLeaf setting after one.0 one.1) others
-  pub covered : AllByRecursion (λ at. at / (8 * setting.width) < nodes_of_height setting.grafting_height (forest setting before)
+  pub covered : AllByRecursion (λ at. at / (8 * setting.width) < nodes_of_height setting.grafting_height
+      (forest setting before)
       → is_updated (at / (8 * setting.width)) others ≡ true) places

@@ -35,7 +35,8 @@ pub record StandsFor (setting : Setting) (state : State) (kept : Kept) : Type 0 
       (plain_leaf_digests setting.hash setting.rule 0 state.operations) kept.operations
   pub leaf_digests : List (List ℕ)
   pub joined : AreGraftedLeaves setting state leaf_digests
-  pub chunks : AreNodesOf (chunks_node setting.hash setting.rule setting.grafting_height) setting.rule leaf_digests kept.chunks
+  pub chunks : AreNodesOf (chunks_node setting.hash setting.rule setting.grafting_height) setting.rule
+      leaf_digests kept.chunks
   pub bits : state.bits ≡ all_bits setting.width kept.bits
   pub floor : kept.floor ≡ state.floor
 

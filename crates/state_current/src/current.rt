@@ -14,8 +14,8 @@ use state_proofs::ChunkSize;
 use std::alloc::Global;
 use std::marker::Model;
 
-/// A state, kept as the tree of its operations, the tree of its chunks, its bits and its floor, of which whole chunks may
-/// be pruned from the front. Contracts see what is kept; which state it stands for is known to the caller.
+/// A state, kept as the tree of its operations, the tree of its chunks, its bits and its floor, of which whole chunks
+/// may be pruned from the front. Contracts see what is kept; which state it stands for is known to the caller.
 /// Own: in the Rust `qmdb::current::db::Db` keeps these beside its log.
 #[derive(Drop)]
 pub struct Current<F: Graftable, H: HashFunction, const N: usize> {
@@ -92,8 +92,8 @@ impl<F: Graftable, H: HashFunction, const N: usize> Current<F, H, N> {
         self.bits.get_bit(location)
     }
 
-    /// The bytes of a chunk, of which there are bits, and that is not pruned: zeros stand for the bits that are not there
-    /// (own).
+    /// The bytes of a chunk, of which there are bits, and that is not pruned: zeros stand for the bits that are not
+    /// there (own).
     pub fn chunk(&self, index: u64) -> &[u8]
         requires kept { self.now.bits.pruned ≤ index }
         requires there { 8 * N * index < self.now.operations.leaves }

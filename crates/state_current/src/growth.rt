@@ -14,8 +14,8 @@ use merkle_forest::Graftable;
 use merkle_forest::hasher::HashFunction;
 
 impl<F: Graftable, H: HashFunction, const N: usize> Current<F, H, N> {
-    /// What is kept, with more operations and a bit for each, after which the bits at these places are cleared, and another
-    /// floor. This one stays as it is. Out of memory: M23 (own).
+    /// What is kept, with more operations and a bit for each, after which the bits at these places are cleared, and
+    /// another floor. This one stays as it is. Out of memory: M23 (own).
     pub fn grown(
         &self,
         operations: &[Vec<u8>],

@@ -4,7 +4,8 @@ ghost use Rattle.std.specs.Prelude.{◌≡◌, ◌≤◌, ◌*◌, ◌^◌, ◌+
 ghost use Rattle.merkle_forest.specs.Forest.{Tree, height, position, forest_of};
 ghost use Rattle.merkle_forest.specs.Hashing.{Hash};
 ghost use Rattle.merkle_forest.specs.Nodes.{IsNodeAt, IsPeakAt};
-ghost use Rattle.merkle_core_parts.specs.Mem.{AreNodesOf, Nodes, Replacement, node_at, plain_leaf_digests, plain_node, replaced};
+ghost use Rattle.merkle_core_parts.specs.Mem.{AreNodesOf, Nodes, Replacement, node_at, plain_leaf_digests, plain_node};
+ghost use Rattle.merkle_core_parts.specs.Mem.{replaced};
 ghost use Rattle.state_proofs.specs.BuiltCode.{setting_with};
 ghost use Rattle.state_proofs.specs.Canonical.{State, forest, grafted_digests};
 ghost use Rattle.state_proofs.specs.GraftedNodes.{AreGraftedLeaves, TwoTrees, chunks_node, grafted_lookup};
@@ -57,6 +58,7 @@ pub fn nodes_above_pruned_peaks_are_read<F: Graftable>()
 /// Chunks that are settled stay so as operations are added, and no chunks at all are settled.
 pub fn settled_chunks_stay_settled<F: Family>()
     ensures stay { (grafting_height operations more chunks : ℕ) → operations ≤ more
-        → IsSettled F.merge_rule grafting_height operations chunks → IsSettled F.merge_rule grafting_height more chunks }
+        → IsSettled F.merge_rule grafting_height operations chunks
+        → IsSettled F.merge_rule grafting_height more chunks }
     ensures none { (grafting_height operations : ℕ) → IsSettled F.merge_rule grafting_height operations 0 }
 {}

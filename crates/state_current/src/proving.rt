@@ -30,9 +30,10 @@ use std::alloc::Global;
 use std::ops::Range;
 
 impl<F: Graftable + PendingOf<H::Digest>, H: HashFunction, const N: usize> Current<F, H, N> {
-    /// The proof over a range of operations. It is the honest one of the state, whatever is pruned. Where the range is empty:
-    /// Q3 with M4; where it ends past the operations: Q3 with M5 and its end; where it begins before the pruned chunks, and a
-    /// node that the proof is made of is gone: Q3 with M10 and the first such position; out of memory: Q4 (own).
+    /// The proof over a range of operations. It is the honest one of the state, whatever is pruned. Where the range is
+    /// empty: Q3 with M4; where it ends past the operations: Q3 with M5 and its end; where it begins before the pruned
+    /// chunks, and a node that the proof is made of is gone: Q3 with M10 and the first such position; out of memory: Q4
+    /// (own).
     pub fn range_proof(
         &self,
         alloc: Global,
@@ -67,8 +68,8 @@ impl<F: Graftable + PendingOf<H::Digest>, H: HashFunction, const N: usize> Curre
         )
     }
 
-    /// The proof of the operation at a location. It is the honest one of the state, whatever is pruned. Where its chunk is
-    /// pruned: Q2; where there is no such operation: Q3 with M7 and the location; out of memory: Q4 (own).
+    /// The proof of the operation at a location. It is the honest one of the state, whatever is pruned. Where its chunk
+    /// is pruned: Q2; where there is no such operation: Q3 with M7 and the location; out of memory: Q4 (own).
     pub fn operation_proof(
         &self,
         alloc: Global,
@@ -105,10 +106,10 @@ impl<F: Graftable + PendingOf<H::Digest>, H: HashFunction, const N: usize> Curre
 }
 
 impl<F: Graftable, H: HashFunction, const N: usize> Current<F, H, N> {
-    /// The proof over a range of operations under the root of their tree alone. Its digests are those of the state's tree,
-    /// whatever is pruned. Where the range is empty: M4; where it ends past the operations: M5 with its end; where it begins
-    /// before the pruned operations, and a node that the proof is made of is gone: M10 with the first such position; out of
-    /// memory: M23 (own).
+    /// The proof over a range of operations under the root of their tree alone. Its digests are those of the state's
+    /// tree, whatever is pruned. Where the range is empty: M4; where it ends past the operations: M5 with its end;
+    /// where it begins before the pruned operations, and a node that the proof is made of is gone: M10 with the first
+    /// such position; out of memory: M23 (own).
     pub fn log_proof(
         &self,
         alloc: Global,

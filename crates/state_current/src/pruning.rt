@@ -13,8 +13,8 @@ use merkle_forest::hasher::HashFunction;
 use merkle_forest::{Graftable, Location};
 
 impl<F: Graftable, H: HashFunction, const N: usize> Current<F, H, N> {
-    /// Prunes the chunks before one, which are settled and have no set bit: what is kept stands for the same state. Out of
-    /// memory: M23, and it stays as it was (own).
+    /// Prunes the chunks before one, which are settled and have no set bit: what is kept stands for the same state. Out
+    /// of memory: M23, and it stays as it was (own).
     pub fn prune_to(&mut self, chunk: u64) -> Result<(), Error<F>>
         requires further { self.old.bits.pruned ≤ chunk }
         requires settled { (height : ℕ) → 8 * N ≡ 2 ^ height
@@ -38,8 +38,8 @@ impl<F: Graftable, H: HashFunction, const N: usize> Current<F, H, N> {
         Ok(())
     }
 
-    /// Prunes as many chunks before a location as are settled, where no bit before it is set: what is kept stands for the
-    /// same state. None that is pruned comes back. Out of memory: M23, and it stays as it was.
+    /// Prunes as many chunks before a location as are settled, where no bit before it is set: what is kept stands for
+    /// the same state. None that is pruned comes back. Out of memory: M23, and it stays as it was.
     /// In the Rust: `qmdb::current::db::Db::prune`.
     pub fn prune(&mut self, location: Location<F>) -> Result<(), Error<F>>
         requires within { location ≤ self.old.operations.leaves }

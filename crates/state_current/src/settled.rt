@@ -5,8 +5,8 @@ ghost use Rattle.state_current.specs.Settled.{IsSettled, IsGreatestSettled};
 
 use merkle_forest::{Graftable, MAX_LEAVES};
 
-/// Whether each peak of so many chunks, raised by the grafting height, is a node of the tree of so many operations: then
-/// the chunks may be pruned, and what is left still leads to each root (own).
+/// Whether each peak of so many chunks, raised by the grafting height, is a node of the tree of so many operations:
+/// then the chunks may be pruned, and what is left still leads to each root (own).
 pub fn is_settled<F: Graftable>(operations: u64, chunks: u64, height: u32) -> bool
     requires few { operations ≤ MAX_LEAVES }
     requires low { height ≤ 62 }

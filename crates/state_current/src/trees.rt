@@ -1,13 +1,15 @@
 //! Trees that are brought to a state that has grown.
 
-ghost use Rattle.std.specs.Prelude.{◌≡◌, ◌<◌, ◌≤◌, ◌+◌, ◌-◌, ◌*◌, ◌/◌, ◌^◌, ◌++◌, [], ℕ, List, map, length, IfOk, IfErr, OnOk};
+ghost use Rattle.std.specs.Prelude.{◌≡◌, ◌<◌, ◌≤◌, ◌+◌, ◌-◌, ◌*◌, ◌/◌, ◌^◌, ◌++◌, [], ℕ, List, map, length, IfOk};
+ghost use Rattle.std.specs.Prelude.{IfErr, OnOk};
 ghost use Rattle.merkle_forest.specs.Forest.{forest_of};
 ghost use Rattle.merkle_forest.specs.Nodes.{nodes_of_height};
 ghost use Rattle.state_proofs.specs.GraftedNodes.{chunks_node};
 ghost use Rattle.state_current.specs.Growth.{cleared};
 ghost use Rattle.state_bitmap.specs.Bits.{all_bits};
 ghost use Rattle.std.specs.List.{AllByRecursion};
-ghost use Rattle.merkle_core_parts.specs.Mem.{AreNodesOf, base_of, plain_leaf_digests, plain_node, replaced, with_leaves};
+ghost use Rattle.merkle_core_parts.specs.Mem.{AreNodesOf, base_of, plain_leaf_digests, plain_node, replaced};
+ghost use Rattle.merkle_core_parts.specs.Mem.{with_leaves};
 ghost use Rattle.state_bitmap.specs.Bits.{IsChunkWidth, bit_count};
 ghost use Rattle.state_current.specs.ChunkLeaves.{IsReady, chunk_leaf, leaves_from, leaves_over};
 
@@ -33,7 +35,8 @@ pub(crate) fn applied_to_copy<F: Family, H: Hasher<F>>(
     requires kept { AllByRecursion (λ one. tree.now.boundary ≤ one.0) batch.updates }
     ensures boundary { IfOk result (λ after. after.boundary ≡ tree.now.boundary) }
     ensures leaves { IfOk result (λ after. after.leaves ≡ tree.now.leaves + length batch.added) }
-    ensures of_list { (leaf_digests : List (List ℕ)) → AreNodesOf (H.node_of hasher.now) F.merge_rule leaf_digests tree.now
+    ensures of_list { (leaf_digests : List (List ℕ)) → AreNodesOf
+        (H.node_of hasher.now) F.merge_rule leaf_digests tree.now
         → IfOk result (λ after. AreNodesOf (H.node_of hasher.now) F.merge_rule (with_leaves leaf_digests batch) after) }
     ensures refused { IfErr result (λ e. e ≡ Error.Memory) }
 {

@@ -36,7 +36,8 @@ impl<F: Graftable + PendingOf<H::Digest>, H: HashFunction, const N: usize> Curre
         }
     }
 
-    /// The witness of the root of the operations' tree: the other parts of the canonical string. It takes no memory (own).
+    /// The witness of the root of the operations' tree: the other parts of the canonical string. It takes no memory
+    /// (own).
     pub fn witness(&self) -> OpsRootWitness<F, H::Digest>
         ensures { (height : ℕ) (state : State) → let setting = setting_with F.merge_rule H.hash_of N height in
             StandsFor setting state self.now

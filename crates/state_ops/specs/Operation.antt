@@ -22,7 +22,8 @@ abbrev pub Code : (F K V A B C D E G H : Type 0) → Type 0
 Code F K V A B C D E G H = code.Operation F (code_update.Ordered K E C V D) K V A B G H
 
 -- what it says
-abbrev pub meaning_of : {F K V A B C D E G H : Type 0} → (K → List ℕ) → (V → List ℕ) → Code F K V A B C D E G H → Operation
+abbrev pub meaning_of : {F K V A B C D E G H : Type 0} → (K → List ℕ) → (V → List ℕ)
+    → Code F K V A B C D E G H → Operation
 meaning_of key value operation = all.meaning_of key value (fields_of key value) operation
 
 -- the encoding of an update

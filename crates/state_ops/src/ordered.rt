@@ -1,9 +1,9 @@
 //! Ordered operations of one size, those of the store.
 
-ghost use Rattle.std.specs.Prelude.{◌≡◌, IfOk};
+ghost use Rattle.std.specs.Prelude.{◌≡◌, IfOk, OnOk};
 ghost use Rattle.state_ops_parts.specs.Grammar.{ReadsAs};
 ghost use Rattle.state_ops.specs.Operation as spec;
-ghost use Rattle.state_ops.specs.Reading.{OperationLacks, operation_at};
+ghost use Rattle.state_ops.specs.Reading.{IsField, IsOfFields, OperationLacks, operation_at};
 
 pub mod laws;
 
@@ -22,14 +22,17 @@ pub type OrderedUpdate<K, V> = update::Ordered<K, FixedEncoding<V>>;
 /// An operation over such updates. In the Rust: `qmdb::any::ordered::fixed::Operation`.
 pub type OrderedOperation<F, K, V> = operation::Ordered<F, K, FixedEncoding<V>>;
 
-/// The bytes of the operation's fixed encoding. It fails only when out of memory.
+/// The bytes of the operation's fixed encoding: then its keys and values have their sizes and are read again. It fails
+/// only when out of memory.
 /// In the Rust: `commonware_codec::Encode::encode` of such an operation, which never fails.
 pub fn encode<F: Family, K: FixedKey, V: FixedValue>(
     alloc: Global,
     operation: &OrderedOperation<F, K, V>,
 ) -> Result<Vec<u8>, AllocError>
-    ensures { IfOk result (λ v. v.items
+    ensures bytes { IfOk result (λ v. v.items
         ≡ spec.fixed_encoding K.SIZE V.SIZE (spec.meaning_of K.encoding V.encoding operation.now)) }
+    ensures fields { OnOk result (IsOfFields (IsField (K.after tt) K.SIZE) (IsField (V.after tt) V.SIZE)
+        (spec.meaning_of K.encoding V.encoding operation.now)) }
 {
     let mut out = Vec::new(alloc);
     write_operation(operation, &mut out)?;

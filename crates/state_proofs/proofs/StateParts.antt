@@ -108,7 +108,8 @@ same_partial hash site chunk real true false (Some d) n k on some has agrees = a
 same_partial hash site chunk real true true (Some d) n k on some has agrees = absurd cc
 same_partial hash site chunk real false is_none (Some d) n k on some has agrees = absurd cc
 
-pub not_none : (hash : Hash) (chunk : List ℕ) (There Covered : Type 0) (held : Option (List ℕ)) → There → FitsChunk hash chunk There Covered held → held ≡ None → ⊥
+pub not_none : (hash : Hash) (chunk : List ℕ) (There Covered : Type 0) (held : Option (List ℕ)) → There
+    → FitsChunk hash chunk There Covered held → held ≡ None → ⊥
 not_none hash chunk There Covered None here fits is = fits here
 not_none hash chunk There Covered (Some d) here fits is = let e : Some d ≡ None = is in cc
 

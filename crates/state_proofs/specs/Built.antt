@@ -1,8 +1,10 @@
 -- What proofs are built from: known nodes of a tree, and bits of which chunks may be pruned.
 use Rattle.std.specs.Prelude.{◌≡◌, ◌≢◌, ◌<◌, ◌^◌, ◌⊎◌, ℕ, Bool, List, length, None, Some, Option}
 use Rattle.merkle_core_parts.specs.declared.error.Error.{Error as MerkleError}
-use Rattle.merkle_core_parts.specs.declared.error.Error.TheVariants.{ElementPruned, LocationOverflow, Memory as NoMemory}
-use Rattle.merkle_core.specs.Plans.{Asked as Span, IsRefusalOfElement, IsRefusalOfRange, IsWithinTree, Lookup, first_missing, range_positions}
+use Rattle.merkle_core_parts.specs.declared.error.Error.TheVariants.{ElementPruned, LocationOverflow}
+use Rattle.merkle_core_parts.specs.declared.error.Error.TheVariants.{Memory as NoMemory}
+use Rattle.merkle_core.specs.Plans.{Asked as Span, IsRefusalOfElement, IsRefusalOfRange, IsWithinTree, Lookup}
+use Rattle.merkle_core.specs.Plans.{first_missing, range_positions}
 use Rattle.merkle_forest.specs.Forest.{Rule, Tree, position}
 use Rattle.merkle_forest.specs.Nodes.{IsNodeAt}
 use Rattle.state_proofs.specs.declared.error.Error.{Error}
@@ -10,8 +12,8 @@ use Rattle.state_proofs.specs.declared.error.Error.TheVariants.{DataCorrupted, O
 use Rattle.state_proofs.specs.Canonical.{Setting, State, forest, grafted_digests}
 use Rattle.state_proofs.specs.Required.{Measures, Asked, IsCorrupted, IsPruned}
 
--- how many operations there are and which are shown, the bits and how many chunks of them are pruned, and the digests that are known of the
--- nodes
+-- how many operations there are and which are shown, the bits and how many chunks of them are pruned, and the digests
+-- that are known of the nodes
 pub record Source : Type 0 where
   pub span : Span
   pub bits : List Bool
@@ -20,9 +22,15 @@ pub record Source : Type 0 where
 
 -- what the chunks are asked for
 abbrev pub chunks_asked : Source → Asked
-chunks_asked source = record { leaves = source.span.leaves; bits = length source.bits; pruned = source.pruned; location = None }
+chunks_asked source = record {
+  leaves = source.span.leaves;
+  bits = length source.bits;
+  pruned = source.pruned;
+  location = None;
+}
 
--- the bits and the operations do not belong together: there are not as many of both, or a full chunk that may not lack its node lacks it
+-- the bits and the operations do not belong together: there are not as many of both, or a full chunk that may not lack
+-- its node lacks it
 abbrev pub AreApart : Measures → Asked → Type 0
 AreApart measures asked = (asked.bits ≢ asked.leaves) ⊎ IsCorrupted measures asked
 
@@ -35,7 +43,8 @@ pub record IsBuildable (measures : Measures) (source : Source) : Type 0 where
   pub known : unknown_node measures.rule source.span source.known ≡ None
   pub together : AreApart measures (chunks_asked source) → ⊥
 
--- why one is not: the first of these, in this order, or out of memory. The first two are of the nodes: there are too many leaves, or no digest is known
+-- why one is not: the first of these, in this order, or out of memory. The first two are of the nodes: there are too
+-- many leaves, or no digest is known
 abbrev pub IsUnknown : {F : Type 0} → Rule → Span → Lookup → MerkleError F → Type 0
 IsUnknown rule span known (LocationOverflow most) = (most ≡ span.leaves) × (2 ^ 62 < span.leaves)
 IsUnknown rule span known (ElementPruned p) = unknown_node rule span known ≡ Some p
@@ -53,7 +62,8 @@ IsRefusalOfSource measures source error = IsRefusalOfNodes measures.rule source.
 
 -- why a proof of the operation at a location is not: its chunk is pruned, or one of the above
 abbrev pub IsRefusalOfOperation : {F : Type 0} → Measures → Source → ℕ → Error F → Type 0
-IsRefusalOfOperation measures source location (OperationPruned asked) = (asked ≡ location) × IsPruned measures (chunks_asked source) location
+IsRefusalOfOperation measures source location (OperationPruned asked) =
+    (asked ≡ location) × IsPruned measures (chunks_asked source) location
 IsRefusalOfOperation measures source location Memory = Unit {0}
 IsRefusalOfOperation measures source location error =
     (IsPruned measures (chunks_asked source) location → ⊥) × IsRefusalOfSource measures source error
@@ -77,13 +87,15 @@ IsRefusalOfPlanned measures source (Merkle error) = ((error ≢ NoMemory) × IsR
 IsRefusalOfPlanned measures source Memory = Unit {0}
 IsRefusalOfPlanned measures source error = IsWithinTree source.span × IsRefusalOfSource measures source error
 
--- why a proof of the operation at a location of a tree is not built: its chunk is pruned; or there is no such leaf, or one of the above
+-- why a proof of the operation at a location of a tree is not built: its chunk is pruned; or there is no such leaf, or
+-- one of the above
 abbrev pub IsRefusalOfLeaf : {F : Type 0} → ℕ → ℕ → Error F → Type 0
 IsRefusalOfLeaf leaves location (Merkle error) = (error ≢ NoMemory) × IsRefusalOfElement leaves location error
 IsRefusalOfLeaf leaves location other = ⊥
 
 abbrev pub IsRefusalOfLocated : {F : Type 0} → Measures → Source → ℕ → Error F → Type 0
-IsRefusalOfLocated measures source location (OperationPruned asked) = (asked ≡ location) × IsPruned measures (chunks_asked source) location
+IsRefusalOfLocated measures source location (OperationPruned asked) =
+    (asked ≡ location) × IsPruned measures (chunks_asked source) location
 IsRefusalOfLocated measures source location Memory = Unit {0}
 IsRefusalOfLocated measures source location error = (IsPruned measures (chunks_asked source) location → ⊥)
     × (IsRefusalOfLeaf source.span.leaves location error

@@ -16,7 +16,12 @@ source_of span bits pruned known = record { span = span; bits = bits; pruned = p
 
 -- what is measured, and the setting, from the bytes of a chunk and the grafting height
 abbrev pub measures_with : Rule → ℕ → ℕ → Measures
-measures_with rule width grafting_height = record { rule = rule; chunk_bits = 8 * width; grafting_height = grafting_height }
+measures_with rule width grafting_height = record {
+  rule = rule;
+  chunk_bits = 8 * width;
+  grafting_height = grafting_height;
+}
 
 abbrev pub setting_with : Rule → Hash → ℕ → ℕ → Setting
-setting_with rule hash width grafting_height = record { rule = rule; hash = hash; width = width; grafting_height = grafting_height }
+setting_with rule hash width grafting_height = record
+    { rule = rule; hash = hash; width = width; grafting_height = grafting_height }

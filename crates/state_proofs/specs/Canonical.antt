@@ -1,5 +1,6 @@
 -- The canonical root of a state: its operations, their activity bits and its floor.
-use Rattle.std.specs.Prelude.{ℕ, ◌+◌, ◌*◌, ◌/◌, ◌%◌, ◌==◌, nat_lt, Bool, if◌then◌else◌, List, [], ◌++◌, length, Option, None, Some, option_map, slice_index_or}
+use Rattle.std.specs.Prelude.{ℕ, ◌+◌, ◌*◌, ◌/◌, ◌%◌, ◌==◌, nat_lt, Bool, if◌then◌else◌, List, [], ◌++◌, length, Option}
+use Rattle.std.specs.Prelude.{None, Some, option_map, slice_index_or}
 use Rattle.merkle_forest.specs.declared.bagging.Bagging.TheVariants.{BackwardFold}
 use Rattle.merkle_forest.specs.Forest.{Tree, Rule, forest_of}
 use Rattle.merkle_forest.specs.Hashing.{Hash, number, root_of}

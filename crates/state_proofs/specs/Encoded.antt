@@ -56,7 +56,8 @@ pub record Format : Type 1 where
   pub pending : Option (List ℕ) → List ℕ
   pub IsKey : List ℕ → Type 0
 
--- the format of a family's trees, a hash function, chunks of `width` bytes and digests of `size`, of which a proof has up to 122
+-- the format of a family's trees, a hash function, chunks of `width` bytes and digests of `size`, of which a proof has
+-- up to 122
 abbrev pub format_of : Rule → Hash → ℕ → ℕ → (Option (List ℕ) → Type 0) → (Option (List ℕ) → List ℕ) → (List ℕ → Type 0)
     → Format
 format_of rule hash width size IsPending pending IsKey = record {

@@ -2,9 +2,10 @@
 --
 -- Keys in their order, a state with the keys c, f and m, and the spans that their updates tell:
 --
---      a b [c d e) [f g .. l) [m n .. z            of c: c up to f; of f: f up to m; of m, whose next key is c: from m on, and
---      ...)                                        before c
-use Rattle.std.specs.Prelude.{◌≡◌, ℕ, ◌⊎◌, ◌==◌, ◌&&◌, ◌||◌, not, Bool, true, if◌then◌else◌, List, [], ◌∷◌, ◌++◌, Option, Err}
+--      a b [c d e) [f g .. l) [m n .. z            of c: c up to f; of f: f up to m;
+--      ...)                                        of m, whose next key is c: from m on, and before c
+use Rattle.std.specs.Prelude.{◌≡◌, ℕ, ◌⊎◌, ◌==◌, ◌&&◌, ◌||◌, not, Bool, true, if◌then◌else◌, List, [], ◌∷◌, ◌++◌}
+use Rattle.std.specs.Prelude.{Option, Err}
 use Rattle.std.specs.Cmp.Lexicographic.{slice_cmp}
 use Rattle.std.specs.Ordering.{nat_cmp, is_lt}
 use Rattle.std.specs.declared.cmp.Ordering.{Ordering}
@@ -22,8 +23,8 @@ use Rattle.state_proofs.specs.Verified.{Parts, Verifies}
 abbrev pub is_below : List ℕ → List ℕ → Bool
 is_below one other = is_lt (slice_cmp nat_cmp one other)
 
--- the span that begins with a key and ends before the next one holds a third, where it stands before these or not; where
--- the next key is not above the key the span goes round the end, and where it is the same one it holds every key
+-- the span that begins with a key and ends before the next one holds a third, where it stands before these or not;
+-- where the next key is not above the key the span goes round the end, and where it is the same one it holds every key
 abbrev pub span_holds : Ordering → Bool → Bool → Bool
 span_holds Less below_key below_next = not below_key && below_next
 span_holds Equal below_key below_next = true
@@ -84,12 +85,14 @@ after_exclusion proof key value [] = Err EndOfBuffer
 after_exclusion proof key value (tag ∷ bytes) = after_tag proof key value tag bytes
 
 -- memory may be lacking for it
-abbrev pub TagLacks : (List ℕ → Outcome) → (List ℕ → Outcome) → (List ℕ → Outcome) → Lacks → Lacks → Lacks → ℕ → List ℕ → Type 0
+abbrev pub TagLacks : (List ℕ → Outcome) → (List ℕ → Outcome) → (List ℕ → Outcome) → Lacks → Lacks → Lacks → ℕ
+    → List ℕ → Type 0
 TagLacks proof key value proof_lacks key_lacks value_lacks tag bytes =
     ((tag ≡ 1) × (proof_lacks bytes ⊎ LacksAfter (proof bytes) (OrderedLacks key value key_lacks value_lacks)))
     ⊎ ((tag ≡ 2) × (proof_lacks bytes ⊎ LacksAfter (proof bytes) (OptionLacks value_lacks)))
 
-abbrev pub ExclusionLacks : (List ℕ → Outcome) → (List ℕ → Outcome) → (List ℕ → Outcome) → Lacks → Lacks → Lacks → List ℕ → Type 0
+abbrev pub ExclusionLacks : (List ℕ → Outcome) → (List ℕ → Outcome) → (List ℕ → Outcome) → Lacks → Lacks → Lacks
+    → List ℕ → Type 0
 ExclusionLacks proof key value proof_lacks key_lacks value_lacks [] = ⊥
 ExclusionLacks proof key value proof_lacks key_lacks value_lacks (tag ∷ bytes) =
     TagLacks proof key value proof_lacks key_lacks value_lacks tag bytes

@@ -6,7 +6,8 @@ use Rattle.state_proofs.specs.declared.exclusion.ExclusionProof.TheVariants.{Key
 use Rattle.state_proofs.specs.Exclusion.{ExclusionParts, by_update, by_commit}
 use Rattle.state_proofs.specs.ProofsCode.{form_parts_of}
 
--- what a proof of absence holds, from the bytes of a chunk, a key, a value and a digest and the digest that is held as the pending one
+-- what a proof of absence holds, from the bytes of a chunk, a key, a value and a digest and the digest that is held as
+-- the pending one
 abbrev pub form_exclusion_of : {F K V D C P : Type 0} → (C → List ℕ) → (K → List ℕ) → (V → List ℕ) → (D → List ℕ)
     → (P → Option (List ℕ)) → ExclusionProof F K V D C P → ExclusionParts
 form_exclusion_of chunk key value digest held (KeyValue proof u) =
@@ -17,7 +18,8 @@ form_exclusion_of chunk key value digest held (Commit proof metadata) =
 -- a proof of absence of values, from those of operations' proofs, keys and values
 abbrev pub IsExclusionValue : {F K V D C P : Type 0} → (Proof F D C P → Type 0) → (K → Type 0) → (V → Type 0)
     → ExclusionProof F K V D C P → Type 0
-IsExclusionValue is_proof is_key is_value (KeyValue proof u) = is_proof proof × (is_key u.key × (is_value u.value × is_key u.next_key))
+IsExclusionValue is_proof is_key is_value (KeyValue proof u) =
+    is_proof proof × (is_key u.key × (is_value u.value × is_key u.next_key))
 IsExclusionValue is_proof is_key is_value (Commit proof metadata) = is_proof proof × IfSome metadata is_value
 
 -- one whose proof of an operation is read under limits

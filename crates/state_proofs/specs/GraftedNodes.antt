@@ -1,6 +1,7 @@
 -- Nodes of the grafted tree, read from two trees: that of the operations, and that of the chunks, whose leaves are the
 -- operations' nodes of the grafting height with their chunks joined in.
-use Rattle.std.specs.Prelude.{◌≡◌, ℕ, ◌+◌, ◌-◌, ◌*◌, ◌/◌, ◌^◌, ◌==◌, ◌&&◌, nat_lt, if◌then◌else◌, List, [], ◌∷◌, length, Option, None, Some, option_map, option_and_then, unwrap_or, slice_get}
+use Rattle.std.specs.Prelude.{◌≡◌, ℕ, ◌+◌, ◌-◌, ◌*◌, ◌/◌, ◌^◌, ◌==◌, ◌&&◌, nat_lt, if◌then◌else◌, List, [], ◌∷◌, length}
+use Rattle.std.specs.Prelude.{Option, None, Some, option_map, option_and_then, unwrap_or, slice_get}
 use Rattle.std.specs.Option.{option_or}
 use Rattle.merkle_forest.specs.Forest.{Tree, leaf, branch, position, height, leaf_count, leaves, Rule, forest_of}
 use Rattle.merkle_forest.specs.Hashing.{Hash, node_string}
@@ -36,14 +37,15 @@ position_or rule grafting_height other None = other
 position_or rule grafting_height other (Some x) =
     unwrap_or (option_map position (node_over rule (x.0 * 2 ^ grafting_height) (x.1 + grafting_height))) other
 
--- the position, in the tree of the operations, of the node at a position of the tree of the chunks; that position itself
--- where the greatest tree of operations has no such node
+-- the position, in the tree of the operations, of the node at a position of the tree of the chunks; that position
+-- itself where the greatest tree of operations has no such node
 unfoldable pub operations_position : Rule → ℕ → ℕ → ℕ
 operations_position rule grafting_height p = position_or rule grafting_height p (node_at rule p)
 
 -- a branch of the tree of the chunks is hashed with its position in the tree of the operations
 abbrev pub chunks_node : Hash → Rule → ℕ → NodeHash
-chunks_node hash rule grafting_height p left right = hash (node_string (operations_position rule grafting_height p) left right)
+chunks_node hash rule grafting_height p left right =
+    hash (node_string (operations_position rule grafting_height p) left right)
 
 -- the digest of a node of the tree of the chunks: as it is known, or else made of those of its two children
 abbrev pub known_or_made : NodeHash → Lookup → Tree → Option (List ℕ)
@@ -73,11 +75,13 @@ grafted_lookup rule hash trees p = digest_of_found rule hash trees p (node_at ru
 -- what is known of the tree of a state's operations is theirs
 abbrev pub IsLookupOfOperations : Setting → State → Lookup → Type 0
 IsLookupOfOperations setting state known =
-    IsLookupOf (plain_node setting.hash) setting.rule (plain_leaf_digests setting.hash setting.rule 0 state.operations) known
+    IsLookupOf (plain_node setting.hash) setting.rule (plain_leaf_digests setting.hash setting.rule 0
+    state.operations) known
 
 -- what is known of the tree of a state's chunks are the grafted digests of the operations' nodes over the same chunks
 abbrev pub IsLookupOfChunks : Setting → State → Lookup → Type 0
-IsLookupOfChunks setting state known = (first p : ℕ) (tree : Tree) (digest : List ℕ) → IsNodeAt first tree (forest setting state)
+IsLookupOfChunks setting state known =
+    (first p : ℕ) (tree : Tree) (digest : List ℕ) → IsNodeAt first tree (forest setting state)
     → IsSameNode setting.rule setting.grafting_height (position tree) p → known p ≡ Some digest
     → digest ≡ grafted_digests setting state first tree
 

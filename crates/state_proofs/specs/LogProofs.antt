@@ -12,7 +12,8 @@ use Rattle.merkle_core.specs.Soundness.{plain_names}
 -- of operations that stand from a location on. None: the proof leads to no root
 abbrev pub log_root : Rule → Hash → ℕ → ℕ → ℕ → List (List ℕ) → List (List ℕ) → Option (List ℕ)
 log_root rule hash leaves inactive start operations digests =
-    option_map (value hash) (range_root plain_names plain_over BackwardFold rule leaves inactive start operations digests)
+    option_map (value hash) (range_root plain_names plain_over BackwardFold rule leaves inactive start
+    operations digests)
 
 -- of operations that each stand at a location of their own
 abbrev pub many_root : Rule → Hash → ℕ → ℕ → List (List ℕ × ℕ) → List (List ℕ) → Option (List ℕ)

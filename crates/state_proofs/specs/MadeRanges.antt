@@ -1,10 +1,12 @@
 -- The canonical root as a proof over a range leads to it, and one of one operation, and what that shows.
-use Rattle.std.specs.Prelude.{◌≡◌, ℕ, ◌+◌, ◌%◌, ◌<◌, ◌&&◌, nat_lt, nat_le, Bool, true, if◌then◌else◌, List, length, Option, Some, option_map, slice_get, IfSome}
+use Rattle.std.specs.Prelude.{◌≡◌, ℕ, ◌+◌, ◌%◌, ◌<◌, ◌&&◌, nat_lt, nat_le, Bool, true, if◌then◌else◌, List, length}
+use Rattle.std.specs.Prelude.{Option, Some, option_map, slice_get, IfSome}
 use Rattle.std.specs.List.{All}
 use Rattle.merkle_forest.specs.Made.{at_pending, at_partial, Made, bytes, Strings, strings}
 use Rattle.state_proofs.specs.Canonical.{Setting, State, chunk}
 use Rattle.state_proofs.specs.MadeCanonical.{if_made, canonical_made, chunk_made}
-use Rattle.state_proofs.specs.Verified.{Shown, shown_bits, first_index, covering, full_shown, graftable_shown, shown_grafted, RangeParts, Parts, shown_alone}
+use Rattle.state_proofs.specs.Verified.{Shown, shown_bits, first_index, covering, full_shown, graftable_shown}
+use Rattle.state_proofs.specs.Verified.{shown_grafted, RangeParts, Parts, shown_alone}
 
 -- a digest that a proof holds; where the chunk is the one at hand, it is made of it
 abbrev pub held_or_made : Made → Bool → Option (List ℕ) → Option Made
@@ -21,7 +23,8 @@ range_pending graftable proof shown =
 
 abbrev pub range_partial : RangeParts → Shown → Option Made
 range_partial proof shown =
-    held_or_made (chunk_made at_partial (covering shown (full_shown proof shown))) (is_covered shown (full_shown proof shown)) proof.partial
+    held_or_made (chunk_made at_partial (covering shown (full_shown proof shown)))
+    (is_covered shown (full_shown proof shown)) proof.partial
 
 -- the canonical root over this root of the grafted tree
 abbrev pub range_over : Setting → RangeParts → Shown → Made → Made
@@ -35,7 +38,8 @@ range_over setting proof shown grafted = canonical_made (record {
 -- the strings that are hashed when the canonical root is rebuilt from the proof and what is shown
 abbrev pub range_strings : Setting → RangeParts → Shown → Strings
 range_strings setting proof shown =
-    strings setting.hash (if_made (option_map (range_over setting proof shown) (shown_grafted setting.rule setting.grafting_height proof shown)))
+    strings setting.hash (if_made (option_map (range_over setting proof shown)
+    (shown_grafted setting.rule setting.grafting_height proof shown)))
 
 -- those that are hashed when it is rebuilt from the proof of one operation and this operation
 abbrev pub rebuilt_strings : Setting → Parts → List ℕ → Strings
@@ -45,7 +49,8 @@ rebuilt_strings setting proof operation = range_strings setting proof.range (sho
 pub record HasRange (setting : Setting) (state : State) (shown : Shown) : Type 0 where
   pub stands : (i : ℕ) → i < length shown.operations
       → slice_get state.operations (shown.start + i) ≡ slice_get shown.operations i
-  pub chunks : (i : ℕ) → i < length shown.chunks → slice_get shown.chunks i ≡ Some (chunk setting state (first_index shown + i))
+  pub chunks : (i : ℕ) → i < length shown.chunks → slice_get shown.chunks i ≡ Some
+      (chunk setting state (first_index shown + i))
 
 -- the operation stands at the location, and is active there
 pub record HasActive (state : State) (location : ℕ) (operation : List ℕ) : Type 0 where

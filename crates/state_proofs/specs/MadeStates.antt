@@ -1,7 +1,7 @@
 -- The canonical root of a state as it is made, and as a proof of one operation leads to it.
 --
--- Both terms have their strings at the same sites. Of eight operations, and of a proof of operation 2 that holds the digests x, y
--- and z, were chunks of four bits (none has fewer than eight):
+-- Both terms have their strings at the same sites. Of eight operations, and of a proof of operation 2 that holds the
+-- digests x, y and z, were chunks of four bits (none has fewer than eight):
 --
 --                  at_canonical                                     at_canonical
 --         /             |            \                      /            |            \
@@ -26,7 +26,8 @@ use Rattle.merkle_forest.specs.Nodes.{nodes_of_height}
 use Rattle.merkle_forest.specs.Trees.{inactive_peaks}
 use Rattle.merkle_core.specs.MadeTrees.{Elements, whole, plain_over}
 use Rattle.merkle_core.specs.MadeRoots.{Naming, made_root}
-use Rattle.state_proofs.specs.Canonical.{Setting, State, chunk_bits, full_chunks, next_bit, chunks, chunk, forest, peaks, grafted_inactive}
+use Rattle.state_proofs.specs.Canonical.{Setting, State, chunk_bits, full_chunks, next_bit, chunks, chunk, forest}
+use Rattle.state_proofs.specs.Canonical.{peaks, grafted_inactive}
 use Rattle.state_proofs.specs.MadeCanonical.{canonical_made, chunk_made}
 use Rattle.state_proofs.specs.MadeGrafted.{chunk_at, grafted_over, grafted_names}
 

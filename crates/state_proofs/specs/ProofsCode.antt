@@ -18,7 +18,8 @@ range_parts_of digest held proof = record {
 }
 
 -- what a proof of one operation holds, from the bytes of its chunk, too
-abbrev pub form_parts_of : {F D C P : Type 0} → (C → List ℕ) → (D → List ℕ) → (P → Option (List ℕ)) → Proof F D C P → Parts
+abbrev pub form_parts_of : {F D C P : Type 0} → (C → List ℕ) → (D → List ℕ) → (P → Option (List ℕ))
+    → Proof F D C P → Parts
 form_parts_of chunk digest held proof = record {
   location = proof.loc;
   chunk = chunk proof.chunk;

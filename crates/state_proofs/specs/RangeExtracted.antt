@@ -22,7 +22,8 @@ use Rattle.merkle_core.specs.Ranges.{Digests, meets}
 use Rattle.merkle_core.specs.declared.extraction.ExtractionError.{ExtractionError}
 use Rattle.merkle_core.specs.declared.extraction.ExtractionError.TheVariants.{InvalidProof, RootMismatch, Memory}
 use Rattle.state_proofs.specs.Grafting.{grafted}
-use Rattle.state_proofs.specs.Verified.{Shown, shown_bits, stop_of, IsShaped, FitsShown, VerifiesRange, given_by, graftable_shown, shown_grafted, RangeParts}
+use Rattle.state_proofs.specs.Verified.{Shown, shown_bits, stop_of, IsShaped, FitsShown, VerifiesRange, given_by}
+use Rattle.state_proofs.specs.Verified.{graftable_shown, shown_grafted, RangeParts}
 use Rattle.state_proofs.specs.Verifier.{joined_chunk}
 
 -- operations from a location on, and chunks over them, of so many bytes each
@@ -59,9 +60,9 @@ pub record ShowsDigests (rule : Rule) (hash : Hash) (grafting_height : ℕ) (pro
 abbrev pub told_by : Rule → RangeParts → Shown → List Located
 told_by rule proof shown = extracted_nodes proof.inactive shown.start (stop_of shown) (peaks_of rule proof.leaves)
 
--- Why the proof leads to no root: there is no such size of chunks; there are too many leaves; there is no operation, one
--- is past the leaves, or the chunks are not those over them; the digest of the pending or of the partial chunk does not
--- fit; or the Merkle proof leads to no root of the grafted tree.
+-- Why the proof leads to no root: there is no such size of chunks; there are too many leaves; there is no operation,
+-- one is past the leaves, or the chunks are not those over them; the digest of the pending or of the partial chunk does
+-- not fit; or the Merkle proof leads to no root of the grafted tree.
 pub data LeadsNowhere (rule : Rule) (hash : Hash) (proof : RangeParts) (shown : Shown) : Type 0 where
   by_size : ((grafting_height : ℕ) → shown_bits shown ≡ 2 ^ grafting_height → grafting_height ≤ 62 → ⊥)
       → LeadsNowhere rule hash proof shown

@@ -1,5 +1,6 @@
 -- What is answered where operations are asked for from a location on, and why none are.
-use Rattle.std.specs.Prelude.{◌≡◌, ◌<◌, ◌≤◌, ◌⊎◌, ℕ, ◌+◌, ◌-◌, ◌*◌, ◌/◌, Bool, List, [], ◌∷◌, length, drop, map, min, slice_index_or}
+use Rattle.std.specs.Prelude.{◌≡◌, ◌<◌, ◌≤◌, ◌⊎◌, ℕ, ◌+◌, ◌-◌, ◌*◌, ◌/◌, Bool, List, [], ◌∷◌, length, drop, map, min}
+use Rattle.std.specs.Prelude.{slice_index_or}
 use Rattle.merkle_core_parts.specs.declared.error.Error.TheVariants.{RangeOutOfBounds}
 use Rattle.state_proofs.specs.declared.error.Error.{Error}
 use Rattle.state_proofs.specs.declared.error.Error.TheVariants.{OperationPruned, Merkle}
@@ -30,7 +31,8 @@ pub record HasStart (measures : Measures) (source : Source) : Type 0 where
   pub there : source.span.start < length source.bits
   pub kept : IsPruned measures (chunks_asked source) source.span.start → ⊥
 
--- why none are answered: the first has no bit, or its chunk is pruned; or the range of them is not proved; or the log refuses them
+-- why none are answered: the first has no bit, or its chunk is pruned; or the range of them is not proved; or the log
+-- refuses them
 abbrev pub IsRefusalOfStart : {F : Type 0} → Measures → Source → Error F → Type 0
 IsRefusalOfStart measures source (Merkle (RangeOutOfBounds start)) =
     (start ≡ source.span.start) × (length source.bits ≤ source.span.start)

@@ -20,4 +20,9 @@ measures_of rule size = record { rule = rule; chunk_bits = 8 * size.width; graft
 
 -- what is asked
 abbrev pub asked_of : ℕ → ℕ → ℕ → Option ℕ → Asked
-asked_of leaf_total bits pruned location = record { leaves = leaf_total; bits = bits; pruned = pruned; location = location }
+asked_of leaf_total bits pruned location = record {
+  leaves = leaf_total;
+  bits = bits;
+  pruned = pruned;
+  location = location;
+}

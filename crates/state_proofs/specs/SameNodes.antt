@@ -1,4 +1,5 @@
--- One node in two trees: in that of the operations, and in that whose leaves are chunks of 2^grafting_height operations.
+-- One node in two trees: in that of the operations, and in that whose leaves are chunks of 2^grafting_height
+-- operations.
 use Rattle.std.specs.Prelude.{ℕ, ◌+◌, ◌*◌, ◌^◌}
 use Rattle.merkle_forest.specs.Forest.{Rule}
 use Rattle.merkle_core.specs.Subtrees.{HasTree}

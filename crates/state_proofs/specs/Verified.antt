@@ -1,12 +1,13 @@
--- What a proof over a range must hold so that it shows the operations of the range and the chunks over them, and what a proof of one
--- operation must.
+-- What a proof over a range must hold so that it shows the operations of the range and the chunks over them, and what a
+-- proof of one operation must.
 --
 -- With chunks of eight bits, a state of 21 operations, and operations 5 to 17 shown:
 --
 --      chunk 0            chunk 1            chunk 2
 --      . . . . . 5 6 7    8 9 10 .. 15       16 17 . . .       of the 21: three chunks are covered, the last is partial
 --                |-------- shown ----------------|
-use Rattle.std.specs.Prelude.{◌≡◌, ℕ, ◌+◌, ◌-◌, ◌*◌, ◌/◌, ◌%◌, ◌^◌, ◌<◌, ◌≤◌, true, List, [], ◌∷◌, length, Option, None, Some, option_map, slice_get, slice_index_or}
+use Rattle.std.specs.Prelude.{◌≡◌, ℕ, ◌+◌, ◌-◌, ◌*◌, ◌/◌, ◌%◌, ◌^◌, ◌<◌, ◌≤◌, true, List, [], ◌∷◌, length, Option, None}
+use Rattle.std.specs.Prelude.{Some, option_map, slice_get, slice_index_or}
 use Rattle.std.specs.List.{AllByRecursion}
 use Rattle.merkle_forest.specs.declared.bagging.Bagging.TheVariants.{BackwardFold}
 use Rattle.merkle_forest.specs.Forest.{Rule, forest_of}
@@ -76,8 +77,8 @@ full_shown proof shown = proof.leaves / shown_bits shown
 abbrev pub graftable_shown : Rule → ℕ → RangeParts → ℕ
 graftable_shown rule grafting_height proof = nodes_of_height grafting_height (forest_of rule proof.leaves)
 
--- The digests of the pending chunk, which is the first that has no node, and of the partial one, which follows the full ones: each
--- is held exactly where there is such a chunk, and is that of the chunk that is shown where this is covered.
+-- The digests of the pending chunk, which is the first that has no node, and of the partial one, which follows the full
+-- ones: each is held exactly where there is such a chunk, and is that of the chunk that is shown where this is covered.
 pub record FitsShown (hash : Hash) (graftable : ℕ) (proof : RangeParts) (shown : Shown) : Type 0 where
   pub one_pending : full_shown proof shown ≤ graftable + 1
   pub pending : FitsChunk hash (covering shown graftable) (graftable < full_shown proof shown) (Covers shown graftable)
@@ -97,16 +98,18 @@ given_by grafting_height graftable shown = record {
 -- how a branch's string is hashed
 abbrev pub shown_over : Rule → ℕ → RangeParts → Shown → Over
 shown_over rule grafting_height proof shown =
-    grafted_over grafting_height (claimed_chunk (given_by grafting_height (graftable_shown rule grafting_height proof) shown) shown.width)
+    grafted_over grafting_height (claimed_chunk (given_by grafting_height
+    (graftable_shown rule grafting_height proof) shown) shown.width)
 
 -- the root of the grafted tree that the proof leads to, if it leads to one
 abbrev pub shown_grafted : Rule → ℕ → RangeParts → Shown → Option Made
 shown_grafted rule grafting_height proof shown =
-    range_root grafted_names (shown_over rule grafting_height proof shown) BackwardFold rule proof.leaves proof.inactive shown.start
+    range_root grafted_names (shown_over rule grafting_height proof shown) BackwardFold rule proof.leaves
+    proof.inactive shown.start
     shown.operations proof.digests
 
--- the proof shows, under this canonical root, that the encoded operations stand from the location on, and that the chunks over them
--- are these
+-- the proof shows, under this canonical root, that the encoded operations stand from the location on, and that the
+-- chunks over them are these
 pub record VerifiesRange (rule : Rule) (hash : Hash) (root : List ℕ) (proof : RangeParts) (shown : Shown) : Type 0 where
   pub grafting_height : ℕ
   pub whole : shown_bits shown ≡ 2 ^ grafting_height
@@ -116,10 +119,12 @@ pub record VerifiesRange (rule : Rule) (hash : Hash) (root : List ℕ) (proof : 
   pub fits : FitsShown hash (graftable_shown rule grafting_height proof) proof shown
   pub grafted_root : List ℕ
   pub leads : option_map (value hash) (shown_grafted rule grafting_height proof shown) ≡ Some grafted_root
-  pub seals : hash (canonical_string proof.operations_root grafted_root proof.pending (proof.leaves % shown_bits shown) proof.partial)
+  pub seals : hash (canonical_string proof.operations_root grafted_root proof.pending
+      (proof.leaves % shown_bits shown) proof.partial)
       ≡ root
 
--- what a proof of one operation holds: the operation's location, the chunk with its bit, and the proof over the operation
+-- what a proof of one operation holds: the operation's location, the chunk with its bit, and the proof over the
+-- operation
 pub record Parts : Type 0 where
   pub location : ℕ
   pub chunk : List ℕ

@@ -1,6 +1,7 @@
--- How the grafted tree is hashed over a range of operations: at the grafting height the chunk over the node is joined in, where it
--- is one of those that are given.
-use Rattle.std.specs.Prelude.{ℕ, ◌+◌, ◌-◌, ◌/◌, ◌^◌, ◌==◌, ◌&&◌, nat_lt, nat_le, if◌then◌else◌, List, [], ◌∷◌, Option, None, Some, replicate, slice_index_or}
+-- How the grafted tree is hashed over a range of operations: at the grafting height the chunk over the node is joined
+-- in, where it is one of those that are given.
+use Rattle.std.specs.Prelude.{ℕ, ◌+◌, ◌-◌, ◌/◌, ◌^◌, ◌==◌, ◌&&◌, nat_lt, nat_le, if◌then◌else◌, List, [], ◌∷◌, Option}
+use Rattle.std.specs.Prelude.{None, Some, replicate, slice_index_or}
 use Rattle.merkle_forest.specs.Forest.{Tree, leaf, branch, height, leaf_count, leaves, Rule, forest_of}
 use Rattle.merkle_forest.specs.Hashing.{Hash, node_string}
 use Rattle.state_proofs.specs.Grafting.{grafted}
@@ -35,13 +36,15 @@ pub record Given : Type 0 where
 -- the chunk at an index, where it is graftable and is given
 abbrev pub given_chunk : Given → List ℕ → ℕ → List ℕ
 given_chunk given none index =
-    if nat_lt index given.graftable && nat_le given.first index then slice_index_or given.chunks (index - given.first) none
+    if nat_lt index given.graftable && nat_le given.first index then slice_index_or given.chunks
+    (index - given.first) none
     else none
 
 -- the chunk that is joined in at a node
 abbrev pub joined_chunk : Given → Option (ℕ × ℕ) → List ℕ
 joined_chunk given None = []
-joined_chunk given (Some x) = if x.1 == given.grafting_height then given_chunk given [] (x.0 / 2 ^ given.grafting_height) else []
+joined_chunk given (Some x) =
+    if x.1 == given.grafting_height then given_chunk given [] (x.0 / 2 ^ given.grafting_height) else []
 
 -- the digest of a branch at a position
 abbrev pub grafted_node : Rule → Hash → Given → ℕ → List ℕ → List ℕ → List ℕ

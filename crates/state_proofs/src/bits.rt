@@ -4,7 +4,8 @@
 //! chunks of one byte the bits `1 0 0 0 0 0 0 0  1 1 0` are the chunks `01` and `03`, and the second one is partial:
 //! zeros stand for what is not there.
 
-ghost use Rattle.std.specs.Prelude.{◌≡◌, ◌<◌, ◌≤◌, ◌+◌, ◌*◌, ◌^◌, ◌++◌, [], ◌∷◌, ℕ, List, map, take, drop, length, IfOk, OnOk};
+ghost use Rattle.std.specs.Prelude.{◌≡◌, ◌<◌, ◌≤◌, ◌+◌, ◌*◌, ◌^◌, ◌++◌, [], ◌∷◌, ℕ, List, map, take, drop, length};
+ghost use Rattle.std.specs.Prelude.{IfOk, OnOk};
 ghost use Rattle.state_bitmap.specs.Bits.{byte_of, chunk_of, chunks_of};
 ghost use Rattle.state_proofs.specs.Bits.{is_zero};
 

@@ -1,9 +1,11 @@
 //! The canonical root of a state: the plain program of the definition (own).
 
-ghost use Rattle.std.specs.Prelude.{◌≡◌, ◌<◌, ◌≤◌, ◌+◌, ◌*◌, ◌^◌, ◌++◌, ◌↔◌, [], ◌∷◌, ℕ, List, map, length, IfOk, IfSome, IsSome, option_map, slice_index_or};
+ghost use Rattle.std.specs.Prelude.{◌≡◌, ◌<◌, ◌≤◌, ◌+◌, ◌*◌, ◌^◌, ◌++◌, ◌↔◌, [], ◌∷◌, ℕ, List, map, length, IfOk};
+ghost use Rattle.std.specs.Prelude.{IfSome, IsSome, option_map, slice_index_or};
 ghost use Rattle.merkle_forest.specs.Forest.{leaves, forest_of};
 ghost use Rattle.merkle_forest.specs.Shape.{shape};
-ghost use Rattle.state_proofs.specs.Canonical.{chunks as all_chunks, operations_root, grafted_root, pending_digest, partial_digest, canonical_root as root_of_state};
+ghost use Rattle.state_proofs.specs.Canonical.{chunks as all_chunks, operations_root, grafted_root, pending_digest};
+ghost use Rattle.state_proofs.specs.Canonical.{partial_digest, canonical_root as root_of_state};
 ghost use Rattle.state_proofs.specs.Snapshot.{state_of, setting_of};
 
 use crate::bits::chunks_from;

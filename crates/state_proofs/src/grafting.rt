@@ -12,8 +12,8 @@
 //!     op 0 .. op 7   op 8 .. op 15   16, 17 .. 18   chunk 2 is partial, with 3 bits
 //! ```
 //!
-//! In a belt (MMB) of 17 operations the node over operations 8 to 15 is not born yet, and comes with the 19th: chunk 1 is
-//! full and pending.
+//! In a belt (MMB) of 17 operations the node over operations 8 to 15 is not born yet, and comes with the 19th: chunk 1
+//! is full and pending.
 //!
 //! ```text
 //!          G0             o       o                 height 3: own digest joined with chunk 0
@@ -21,10 +21,11 @@
 //!     op 0 .. op 7   8 .. 11   12 .. 15   16        chunk 1 is pending, chunk 2 is partial, with 1 bit
 //! ```
 //!
-//! A family whose nodes are born at once has no pending chunk. The digest of the pending chunk and of the partial one stand
-//! in the canonical string.
+//! A family whose nodes are born at once has no pending chunk. The digest of the pending chunk and of the partial one
+//! stand in the canonical string.
 
-ghost use Rattle.std.specs.Prelude.{◌≡◌, ◌<◌, ◌≤◌, ◌+◌, ◌*◌, ◌/◌, ◌^◌, ◌++◌, [], ◌∷◌, ℕ, List, map, length, IfOk, OnOk, slice_index_or};
+ghost use Rattle.std.specs.Prelude.{◌≡◌, ◌<◌, ◌≤◌, ◌+◌, ◌*◌, ◌/◌, ◌^◌, ◌++◌, [], ◌∷◌, ℕ, List, map, length, IfOk, OnOk};
+ghost use Rattle.std.specs.Prelude.{slice_index_or};
 ghost use Rattle.merkle_forest.specs.Forest.{leaf_count, leaves};
 ghost use Rattle.merkle_forest.specs.Nodes.{nodes_at, nodes_of_height};
 ghost use Rattle.merkle_forest.specs.Shape.{shape};

@@ -1,6 +1,7 @@
 //! What holds of all proofs.
 
-ghost use Rattle.std.specs.Prelude.{◌≡◌, ◌<◌, ◌≤◌, ◌*◌, ◌^◌, ◌⊎◌, ℕ, List, [], length, slice_get, slice_index_or, Ok, Some, true};
+ghost use Rattle.std.specs.Prelude.{◌≡◌, ◌<◌, ◌≤◌, ◌*◌, ◌^◌, ◌⊎◌, ℕ, List, [], length, slice_get, slice_index_or, Ok};
+ghost use Rattle.std.specs.Prelude.{Some, true};
 ghost use Rattle.merkle_forest.specs.Forest.{Rule};
 ghost use Rattle.merkle_forest.specs.Hashing.{Hash};
 ghost use Rattle.merkle_forest.specs.Made.{Collision, strings};
@@ -15,9 +16,11 @@ ghost use Rattle.state_proofs.specs.Honest.{honest_parts, honest_range, operatio
 ghost use Rattle.state_proofs.specs.MadeRanges.{HasActive, HasDigestsOf, HasRange, range_strings, rebuilt_strings};
 ghost use Rattle.state_proofs.specs.MadeStates.{hashed_strings};
 ghost use Rattle.state_proofs.specs.RangeExtracted.{IsRefusalToTell, LeadsNowhere, ShowsDigests};
-ghost use Rattle.state_proofs.specs.Verified.{Shown, IsShaped, VerifiesRange, shown_bits, stop_of, RangeParts, Parts, Verifies};
+ghost use Rattle.state_proofs.specs.Verified.{Shown, IsShaped, VerifiesRange, shown_bits, stop_of, RangeParts, Parts};
+ghost use Rattle.state_proofs.specs.Verified.{Verifies};
 ghost use Rattle.state_proofs.specs.SameNodes.{IsSameNode};
-ghost use Rattle.state_proofs.specs.Witness.{WitnessParts, HasWitnessOf, witnessed_string, witnessed_made, honest_witness};
+ghost use Rattle.state_proofs.specs.Witness.{WitnessParts, HasWitnessOf, witnessed_string, witnessed_made};
+ghost use Rattle.state_proofs.specs.Witness.{honest_witness};
 
 use merkle_core::laws::{
     honest_digests_are_few, honest_proofs_tell_the_nodes_of_the_list,
@@ -156,8 +159,8 @@ pub fn honest_ranges_verify<F: Graftable>()
     honest_ranges_lead_to_the_root::<F>();
 }
 
-/// A node over whole chunks has one position in the tree of the operations and one in the tree of the chunks: so the two
-/// conversions of positions undo each other.
+/// A node over whole chunks has one position in the tree of the operations and one in the tree of the chunks: so the
+/// two conversions of positions undo each other.
 pub fn a_node_has_one_position_in_each_tree<F: Graftable>()
     ensures chunks { (grafting_height ops grafted other : ℕ) → IsSameNode F.merge_rule grafting_height ops grafted
         → IsSameNode F.merge_rule grafting_height ops other → grafted ≡ other }
@@ -172,15 +175,16 @@ pub fn honest_witnesses_lead_to_the_root()
         ≡ canonical_root setting state }
 {}
 
-/// Where a witness leads from a root to the canonical root of a state, that root is the one of the state's operations, or
-/// the strings hashed for the state and those rebuilt from the witness have a collision. So it is with digests of 32
+/// Where a witness leads from a root to the canonical root of a state, that root is the one of the state's operations,
+/// or the strings hashed for the state and those rebuilt from the witness have a collision. So it is with digests of 32
 /// bytes.
 pub fn witnessed_roots_are_the_states_or_strings_collide()
     ensures { (setting : Setting) (state : State) (witness : WitnessParts) (operations : List ℕ)
         → ((bytes : List ℕ) → length (setting.hash bytes) ≡ 32) → HasWitnessOf 32 witness → length operations ≡ 32
         → setting.hash (witnessed_string witness operations) ≡ canonical_root setting state
         → (operations ≡ operations_root setting state)
-        ⊎ Collision setting.hash (hashed_strings setting state) (strings setting.hash (witnessed_made witness operations)) }
+        ⊎ Collision setting.hash (hashed_strings setting state)
+        (strings setting.hash (witnessed_made witness operations)) }
 {}
 
 /// Where a proof of absence verifies under the canonical root of a state, its operation stands at its location in the
@@ -259,8 +263,8 @@ pub fn ranges_that_lead_to_a_root_show_digests<F: Graftable>()
 }
 
 /// Where operations stand in a state from a location on and the chunks over them are the state's, the honest proof over
-/// them shows the digests of the state's grafted tree: what it tells are the nodes of the state, and under the canonical
-/// root only memory may be lacking for them.
+/// them shows the digests of the state's grafted tree: what it tells are the nodes of the state, and under the
+/// canonical root only memory may be lacking for them.
 pub fn honest_ranges_tell_the_nodes_of_the_state<F: Graftable>()
     ensures nodes { (hash : Hash) (width grafting_height : ℕ) (state : State) (shown : Shown)
         → 8 * width ≡ 2 ^ grafting_height → grafting_height ≤ 62 → length state.operations ≤ 2 ^ 62
@@ -275,7 +279,8 @@ pub fn honest_ranges_tell_the_nodes_of_the_state<F: Graftable>()
         HasRange setting state shown
         → ShowsDigests F.merge_rule hash grafting_height (honest_range setting state shown.start (stop_of shown)) shown
         (grafted_digests setting state)) }
-    ensures refused { (hash : Hash) (width grafting_height : ℕ) (state : State) (shown : Shown) (error : ExtractionError)
+    ensures refused { (hash : Hash) (width grafting_height : ℕ) (state : State) (shown : Shown)
+        (error : ExtractionError)
         → 8 * width ≡ 2 ^ grafting_height → grafting_height ≤ 62 → length state.operations ≤ 2 ^ 62
         → shown.width ≡ width → IsShaped (length state.operations) shown
         → (let setting : Setting = record {

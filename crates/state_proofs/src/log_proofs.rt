@@ -1,7 +1,8 @@
 //! Proofs against the root of the operations' tree alone: their elements are the encodings of operations, and the peaks
 //! are folded backward. In the Rust: `qmdb::verify`.
 
-ghost use Rattle.std.specs.Prelude.{◌≡◌, ◌+◌, ◌≤◌, ◌↔◌, ℕ, List, map, length, replicate, Some, None, IsTrue, IfOk, IfErr, OnOk};
+ghost use Rattle.std.specs.Prelude.{◌≡◌, ◌+◌, ◌≤◌, ◌↔◌, ℕ, List, map, length, replicate, Some, None, IsTrue, IfOk};
+ghost use Rattle.std.specs.Prelude.{IfErr, OnOk};
 ghost use Rattle.merkle_forest.specs.declared.bagging.Bagging.TheVariants.{BackwardFold};
 ghost use Rattle.merkle_core.specs.Extracted.{AreMadeOf, AreGiven, AreExtracted, extracted_nodes, IsRefusalToExtract};
 ghost use Rattle.merkle_core.specs.MadeRoots.{from_left, peaks_of};
@@ -56,8 +57,8 @@ pub(crate) fn lent<'a>(alloc: Global, encodings: &'a [Vec<u8>]) -> Result<Vec<&'
     Ok(found)
 }
 
-/// Whether the proof shows that these operations stand in the operations' tree of this root, from a location on. It fails
-/// only when out of memory.
+/// Whether the proof shows that these operations stand in the operations' tree of this root, from a location on. It
+/// fails only when out of memory.
 /// In the Rust: `qmdb::verify::verify_proof`, which takes no allocator.
 pub fn verify_proof<F: Family, H: HashFunction, O: Encode>(
     alloc: Global,
@@ -76,9 +77,9 @@ pub fn verify_proof<F: Family, H: HashFunction, O: Encode>(
     Ok(proof.verify_range_inclusion(&hasher, &elements, start_loc, target_root))
 }
 
-/// Whether the proof shows that these operations stand in the operations' tree of this root, from a location on, and each
-/// of its digests that stands for operations before it is made of these digests, those of the nodes to pin there, from
-/// left to right. It fails only when out of memory.
+/// Whether the proof shows that these operations stand in the operations' tree of this root, from a location on, and
+/// each of its digests that stands for operations before it is made of these digests, those of the nodes to pin there,
+/// from left to right. It fails only when out of memory.
 /// In the Rust: `qmdb::verify::verify_proof_and_pinned_nodes`, which takes no allocator.
 pub fn verify_proof_and_pinned_nodes<F: Family, H: HashFunction, O: Encode>(
     alloc: Global,
@@ -191,8 +192,8 @@ pub fn create_proof_store<F: Family, H: HashFunction, O: Encode>(
     ProofStore::new(alloc, &hasher, proof, &elements, start_loc, root)
 }
 
-/// The proof of the operations at these locations, out of what is kept of a checked proof and of peaks that are supplied,
-/// each with its position. It is refused as `ProofStore::multi_proof` refuses.
+/// The proof of the operations at these locations, out of what is kept of a checked proof and of peaks that are
+/// supplied, each with its position. It is refused as `ProofStore::multi_proof` refuses.
 /// In the Rust: `qmdb::verify::create_multi_proof`, which takes no allocator.
 pub fn create_multi_proof<F: Family, D: Digest>(
     alloc: Global,
@@ -245,8 +246,9 @@ fn lent_with_locations<'a, F: Family>(
         .collect(alloc)
 }
 
-/// Whether the proof shows that these operations, each with its location, stand in the operations' tree of this root. It
-/// fails only when out of memory. Where the locations do not ascend strictly, or no operation stands at one, it does not.
+/// Whether the proof shows that these operations, each with its location, stand in the operations' tree of this root.
+/// It fails only when out of memory. Where the locations do not ascend strictly, or no operation stands at one, it does
+/// not.
 /// In the Rust: `qmdb::verify::verify_multi_proof`, which takes no allocator.
 pub fn verify_multi_proof<F: Family, H: HashFunction, O: Encode>(
     alloc: Global,

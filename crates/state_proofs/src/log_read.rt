@@ -10,8 +10,8 @@ use merkle_forest::Family;
 use merkle_forest::codec::Write;
 use std::alloc::Global;
 
-/// A log of operations, which are read at places. Contracts see the encodings of all of them, and why it refuses to read
-/// some (own). In the Rust: `journal::contiguous::Contiguous`, of which it has two calls.
+/// A log of operations, which are read at places. Contracts see the encodings of all of them, and why it refuses to
+/// read some (own). In the Rust: `journal::contiguous::Contiguous`, of which it has two calls.
 pub trait LogRead<F: Family> {
     /// What stands in the log.
     type Operation: Write;

@@ -1,8 +1,10 @@
 //! Proofs of a key's value.
 
-ghost use Rattle.std.specs.Prelude.{◌≡◌, ◌⊎◌, ◌↔◌, ◌++◌, ℕ, List, [], false, IsTrue, IsErr, IfOk, length, Ok, OnOk, OnErr};
+ghost use Rattle.std.specs.Prelude.{◌≡◌, ◌⊎◌, ◌↔◌, ◌++◌, ℕ, List, [], false, IsTrue, IsErr, IfOk, length, Ok, OnOk};
+ghost use Rattle.std.specs.Prelude.{OnErr};
 ghost use Rattle.merkle_forest.specs.Codec.{Extends, LacksAfter, Reads};
 ghost use Rattle.state_ops.specs.Operation.{fixed_encoding, ordered, update};
+ghost use Rattle.state_ops.specs.Reading.{IsField, IsOfFields};
 ghost use Rattle.state_proofs.specs.Encoded.{key_value_proof_encoding, format_of, ShowsUpdate};
 ghost use Rattle.state_proofs.specs.Forms.{after_form, after_key_value_form, FormLacks};
 ghost use Rattle.state_proofs.specs.ProofsCode.{form_parts_of};
@@ -87,7 +89,8 @@ impl<F: PendingOf<D>, K: FixedKey, D: Digest, C: ChunkForm> Read for KeyValuePro
         ensures read { Reads ⟦<KeyValueProof<F, K, D, C> as Write>⟧.encoding cursor.old cursor.new
             (after_key_value_form (D.after tt) F.pending_after (K.after tt) (C.told cfg.now.0) cursor.old)
             (FormLacks (C.may_lack cfg.now.0) (C.told cfg.now.0) cursor.old
-            ⊎ LacksAfter (after_form (D.after tt) F.pending_after (C.told cfg.now.0) cursor.old) (K.may_lack tt)) result }
+            ⊎ LacksAfter (after_form (D.after tt) F.pending_after (C.told cfg.now.0) cursor.old)
+            (K.may_lack tt)) result }
         ensures value { IfOk result ⟦<KeyValueProof<F, K, D, C> as Write>⟧.is_value }
         ensures chunk { IfOk result (λ proof. length (C.items proof.proof.chunk) ≡ (C.told cfg.now.0).width) }
     {
@@ -105,21 +108,27 @@ impl<F: PendingOf<D>, K: FixedKey, D: Digest, C: ChunkForm> Read for KeyValuePro
         value.0 within.0 (K.read_again tt p.next_key rest value.1 within.1) };
 }
 
-// The encoded update that gives the key this value, before this next key. It fails only when out of memory.
+// The encoded update that gives the key this value, before this next key: then these have their sizes and are read
+// again. It fails only when out of memory.
 pub(crate) fn encoded_update<F: Family, K: FixedKey, V: FixedValue>(
     alloc: Global,
     key: &K,
     value: &V,
     next_key: &K,
 ) -> Result<Vec<u8>, AllocError>
-    ensures { IfOk result (λ bytes. bytes.items
+    ensures bytes { IfOk result (λ bytes. bytes.items
         ≡ fixed_encoding K.SIZE V.SIZE
         (update (ordered (K.encoding key.now) (V.encoding value.now) (K.encoding next_key.now)))) }
+    ensures fields { OnOk result (IsOfFields (IsField (K.after tt) K.SIZE) (IsField (V.after tt) V.SIZE)
+        (update (ordered (K.encoding key.now) (V.encoding value.now) (K.encoding next_key.now)))) }
 {
+    let copied_key = key.clone()?;
+    let copied_value = value.clone()?;
+    let copied_next = next_key.clone()?;
     let update: OrderedOperation<F, K, V> = Operation::Update(Ordered {
-        key: key.clone()?,
-        value: value.clone()?,
-        next_key: next_key.clone()?,
+        key: copied_key,
+        value: copied_value,
+        next_key: copied_next,
     });
     encode(alloc, &update)
 }
@@ -130,7 +139,8 @@ impl<F: Graftable + PendingOf<D>, K: FixedKey, D: Digest, C: AsSlice<u8>> KeyVal
     D,
     C,
 > {
-    /// Whether the proof shows that the key has the value in the state of this root. It fails only when out of memory.
+    /// Whether the proof shows that the key has the value in the state of this root; where it answers, key and value
+    /// have their sizes and are read again. It fails only when out of memory.
     /// In the Rust: `qmdb::current::ordered::proof::KeyValueProof::verify`, which never fails.
     pub fn verify<H: HashFunction<Digest = D>, V: FixedValue>(
         &self,
@@ -139,10 +149,12 @@ impl<F: Graftable + PendingOf<D>, K: FixedKey, D: Digest, C: AsSlice<u8>> KeyVal
         key: &K,
         value: &V,
     ) -> Result<bool, AllocError>
-        ensures { let operation = fixed_encoding K.SIZE V.SIZE
+        ensures exact { let operation = fixed_encoding K.SIZE V.SIZE
             (update (ordered (K.encoding key.now) (V.encoding value.now) (K.encoding self.now.next_key))) in
             IfOk result (λ yes. IsTrue yes ↔ Verifies F.merge_rule H.hash_of (D.encoding root.now)
             (form_parts_of C.items D.encoding F.held self.now.proof) operation) }
+        ensures key { OnOk result (IsField (K.after tt) K.SIZE (K.encoding key.now)) }
+        ensures value { OnOk result (IsField (V.after tt) V.SIZE (V.encoding value.now)) }
     {
         let operation = encoded_update::<F, K, V>(alloc, key, value, &self.next_key)?;
         Ok(self.proof.verify::<H>(root, &operation))
@@ -167,8 +179,8 @@ fn refused(e: Error) -> Result<bool, AllocError>
 }
 
 /// Whether the bytes are those of a proof, of at most 122 digests and with a chunk of so many bytes, that shows that
-/// the key has the value in the state of this root: what is no proof, or has bytes after it, shows nothing. It fails
-/// only when out of memory (own).
+/// the key has the value in the state of this root: what is no proof, or has bytes after it, shows nothing. Where it
+/// says yes, key and value have their sizes and are read again. It fails only when out of memory (own).
 pub fn shows_value<F, H, K, V>(
     alloc: Global,
     width: usize,
@@ -182,12 +194,14 @@ where
     H: HashFunction,
     K: FixedKey,
     V: FixedValue,
-    ensures { let is_key = λ (key : List ℕ). K.after tt key ≡ Ok [] in
+    ensures exact { let is_key = λ (key : List ℕ). K.after tt key ≡ Ok [] in
         let format = format_of F.merge_rule H.hash_of width H.Digest.SIZE F.is_pending F.pending_encoding is_key in
         IfOk result (λ yes. IsTrue yes ↔ ShowsUpdate format (H.Digest.encoding root.now)
         (λ next_key. fixed_encoding K.SIZE V.SIZE
         (update (ordered (K.encoding key.now) (V.encoding value.now) next_key)))
         bytes.now) }
+    ensures fields { IfOk result (λ yes. IsTrue yes → IsField (K.after tt) K.SIZE (K.encoding key.now)
+        × IsField (V.after tt) V.SIZE (V.encoding value.now)) }
 {
     let limits = ((width, MAX_PROOF_DIGESTS_PER_ELEMENT), ());
     let mut cursor = Cursor::new(bytes);

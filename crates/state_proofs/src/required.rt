@@ -1,6 +1,7 @@
 //! The chunks that a proof needs: the partial one, the pending one, and that of the location that is asked for.
 
-ghost use Rattle.std.specs.Prelude.{◌≡◌, ◌↔◌, ◌<◌, ◌≤◌, ◌+◌, ◌*◌, ◌/◌, ◌⊎◌, ℕ, Contains, IfOk, IfErr, OnOk, MatchOption, MatchResult, min, if◌then◌else◌};
+ghost use Rattle.std.specs.Prelude.{◌≡◌, ◌↔◌, ◌<◌, ◌≤◌, ◌+◌, ◌*◌, ◌/◌, ◌⊎◌, ℕ, Contains, IfOk, IfErr, OnOk};
+ghost use Rattle.std.specs.Prelude.{MatchOption, MatchResult, min, if◌then◌else◌};
 ghost use Rattle.std.specs.List.Sorted.{IsStrictlyIncreasing};
 ghost use Rattle.std.specs.Iterator.{YieldsFirst, item_count};
 ghost use Rattle.merkle_forest.specs.Forest.{forest_of};
@@ -87,7 +88,8 @@ fn queried_chunk<F: Graftable>(
     location: Location<F>,
 ) -> Result<u64, Error<F>>
     ensures { MatchResult result
-        (λ index. (index ≡ location / (8 * chunk_size.width)) × ((location < leaves) × ((location < bits) × (pruned ≤ index))))
+        (λ index. (index ≡ location / (8 * chunk_size.width))
+        × ((location < leaves) × ((location < bits) × (pruned ≤ index))))
         (λ e. ((e ≡ Merkle (RangeOutOfBounds location)) × ((leaves ≤ location) ⊎ (bits ≤ location)))
         ⊎ ((e ≡ OperationPruned location)
         × ((location < leaves) × ((location < bits) × (location / (8 * chunk_size.width) < pruned))))) }
@@ -121,8 +123,8 @@ fn where_true(test: bool, index: u64) -> Option<u64>
 
 /// The chunks that are read for a proof of a state with so many operations and bits, of which so many chunks are
 /// pruned: the partial chunk if the bits don't fill their chunks, the pending one if any, and that of the location if
-/// one is given. Where more than one full chunk has no node yet, or a pruned one has none: Q1; where no operation or bit
-/// is at the location: Q3 with M5; where its chunk is pruned: Q2.
+/// one is given. Where more than one full chunk has no node yet, or a pruned one has none: Q1; where no operation or
+/// bit is at the location: Q3 with M5; where its chunk is pruned: Q2.
 /// In the Rust: `qmdb::current::proof::required_chunks`, whose chunk size is a constant.
 pub fn required_chunks_of<F: Graftable>(
     chunk_size: ChunkSize,
@@ -134,7 +136,8 @@ pub fn required_chunks_of<F: Graftable>(
     requires { ops_leaves ≤ MAX_LEAVES }
     ensures ascending { IfOk result (λ chunks. IsStrictlyIncreasing chunks) }
     ensures needed { IfOk result (λ chunks. (index : ℕ) → Contains chunks index
-        ↔ IsNeeded (measures_of F.merge_rule chunk_size) (asked_of ops_leaves bitmap_len pruned_chunks location) index) }
+        ↔ IsNeeded (measures_of F.merge_rule chunk_size) (asked_of ops_leaves bitmap_len pruned_chunks
+        location) index) }
     ensures granted { OnOk result
         (IsGranted (measures_of F.merge_rule chunk_size) (asked_of ops_leaves bitmap_len pruned_chunks location)) }
     ensures refused { IfErr result

@@ -1,9 +1,11 @@
 //! Witnesses of the root of the operations' tree.
 
-ghost use Rattle.std.specs.Prelude.{◌≡◌, ◌<◌, ◌≤◌, ◌^◌, ◌++◌, ◌↔◌, IsTrue, IfSome, IfOk, length, Ok, OnOk, OnErr, option_map, ⊤};
+ghost use Rattle.std.specs.Prelude.{◌≡◌, ◌<◌, ◌≤◌, ◌^◌, ◌++◌, ◌↔◌, IsTrue, IfSome, IfOk, length, Ok, OnOk, OnErr};
+ghost use Rattle.std.specs.Prelude.{option_map, ⊤};
 ghost use Rattle.merkle_forest.specs.Codec.{Extends, Reads, option_encoding, after_option};
 ghost use Rattle.merkle_forest.specs.Varint.{varint};
-ghost use Rattle.state_proofs.specs.Witness.{witness_of, witnessed_string, witness_encoding, next_encoding, after_next, after_witness, HasNext};
+ghost use Rattle.state_proofs.specs.Witness.{witness_of, witnessed_string, witness_encoding, next_encoding, after_next};
+ghost use Rattle.state_proofs.specs.Witness.{after_witness, HasNext};
 
 use crate::seal::seal;
 use merkle_forest::codec::{

@@ -9,8 +9,8 @@ use rand_core::SeedableRng;
 use rand_pcg::Pcg32;
 use std::alloc::{AllocError, Global};
 
-/// A closed device without a file, whose faults and choices are drawn of the words that Pcg32 gives at this seed: nothing
-/// fails, and of what is not durable a crash keeps each byte, and each resize, one time in two. F9.
+/// A closed device without a file, whose faults and choices are drawn of the words that Pcg32 gives at this seed:
+/// nothing fails, and of what is not durable a crash keeps each byte, and each resize, one time in two. F9.
 pub fn new_device(alloc: Global, seed: u64) -> Result<Device<Pcg32>, AllocError>
     ensures { IfOk result (IsNew (seeded_by seed)) }
 {

@@ -73,7 +73,8 @@ pub(crate) struct Progress<F: Named> {
 
 // Takes a step of the session.
 fn ask<F: Named>(session: &mut ScriptSession<F>, step: Step<Keys, u64>) -> ScriptAnswer<F>
-    ensures { Goes F.family session.old (exchange_of step (meaning_of bytes_of bytes_of value_of result) ∷ []) session.new }
+    ensures { Goes F.family session.old (exchange_of step (meaning_of bytes_of bytes_of value_of result) ∷ [])
+        session.new }
 {
     session.step(step)
 }
@@ -82,7 +83,8 @@ fn ask<F: Named>(session: &mut ScriptSession<F>, step: Step<Keys, u64>) -> Scrip
 fn proof_of<F: Named>(answer: ScriptAnswer<F>) -> Result<KeyProof<u64>, ScriptAnswer<F>>
     ensures proved { IfOk result (λ found.
         meaning_of bytes_of bytes_of value_of answer ≡ proof (key_is (key_answer_of value_of found))) }
-    ensures other { IfErr result (λ other. (meaning_of bytes_of bytes_of value_of other ≡ meaning_of bytes_of bytes_of value_of answer)
+    ensures other { IfErr result (λ other. (meaning_of bytes_of bytes_of value_of other
+        ≡ meaning_of bytes_of bytes_of value_of answer)
         × (proof_in (meaning_of bytes_of bytes_of value_of answer) ≡ None)) }
 {
     match answer {
@@ -204,8 +206,8 @@ impl<F: Named> Progress<F> {
         self.set(out, settings)
     }
 
-    // Proves the value of a key, or that it is absent, and keeps the bytes and the root of now. A refused proof keeps the
-    // former ones.
+    // Proves the value of a key, or that it is absent, and keeps the bytes and the root of now. A refused proof keeps
+    // the former ones.
     fn prove<W: Write>(&mut self, out: &mut W, key: Keys) -> Result<(), End>
         ensures { Handled (TakesLine F.family self.old (Line.Prove key) self.new) (W.contents out.old)
             (W.contents out.new) result }

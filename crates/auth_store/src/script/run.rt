@@ -1,6 +1,7 @@
 //! A whole run of a script.
 
-ghost use Rattle.std.specs.Prelude.{◌≡◌, ◌<◌, ◌≤◌, ◌^◌, ◌⊎◌, ◌++◌, ◌∷◌, ◌==◌, [], ℕ, List, length, option_map, position, MatchOption};
+ghost use Rattle.std.specs.Prelude.{◌≡◌, ◌<◌, ◌≤◌, ◌^◌, ◌⊎◌, ◌++◌, ◌∷◌, ◌==◌, [], ℕ, List, length, option_map};
+ghost use Rattle.std.specs.Prelude.{position, MatchOption};
 ghost use Rattle.std.specs.Prelude.{IfSome, codes};
 ghost use Rattle.std.specs.Fmt.{decimal};
 ghost use Rattle.std.specs.Io.KnownBytes.{Appends};
@@ -159,8 +160,8 @@ fn status_of(refused: InputError) -> u8
     }
 }
 
-/// Reads the whole script, runs it line by line over a device of its own, and answers how it ended, with the device: where
-/// none of its openings is by chance, what the lines asked and were answered is a run of the store's machine.
+/// Reads the whole script, runs it line by line over a device of its own, and answers how it ended, with the device:
+/// where none of its openings is by chance, what the lines asked and were answered is a run of the store's machine.
 pub fn run_script<R: Read, W: Write>(alloc: Global, reader: &mut R, writer: &mut W) -> ScriptEnd
     ensures done { result.status ≡ 0 → IfSome (R.remaining reader.old) (λ script.
         Prints (W.contents writer.old) (W.contents writer.new)

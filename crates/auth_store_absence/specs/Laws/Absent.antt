@@ -1,5 +1,6 @@
 -- What the honest proof that a key is absent holds, and that it shows this.
-use Rattle.std.proofs.Common.{◌≡◌, ℕ, ◌<◌, ◌≤◌, ◌^◌, ◌-◌, true, List, [], ◌∷◌, ◌++◌, length, Some, None, Ok, Err, Option, option_map, ⊎_elim, refl, sym, ◌∙◌, ap, subst, arith, append_assoc, length-append}
+use Rattle.std.proofs.Common.{◌≡◌, ℕ, ◌<◌, ◌≤◌, ◌^◌, ◌-◌, true, List, [], ◌∷◌, ◌++◌, length, Some, None, Ok, Err}
+use Rattle.std.proofs.Common.{Option, option_map, ⊎_elim, refl, sym, ◌∙◌, ap, subst, arith, append_assoc, length-append}
 use Rattle.std.proofs.lemmas.List.{length-map}
 use Rattle.std.proofs.lemmas.Option.{slice_get_within}
 use Rattle.std.specs.Prelude.{IfSome, Result, slice_get, slice_index_or, unwrap_or}
@@ -24,8 +25,10 @@ use Rattle.auth_store_parts.specs.Places.{places_of}
 use Rattle.auth_store_index.specs.Readings.{state_read}
 use Rattle.auth_store_index.specs.Laws.Readings.{read-places_of}
 use Rattle.auth_store_parts.specs.Map.{Map, next_key, value_at}
-use Rattle.auth_store_parts.specs.History.{History, AreStates, activity_bits, active_location, active_update, batch_operations, history_of, inactivity_floor, latest_map, log_of, replayed}
-use Rattle.auth_store_absence.specs.Absence.{NamesFields, absence_in, honest_absence, honest_absence_parts, last_location, last_metadata, metadata_in}
+use Rattle.auth_store_parts.specs.History.{History, AreStates, activity_bits, active_location, active_update}
+use Rattle.auth_store_parts.specs.History.{batch_operations, history_of, inactivity_floor, latest_map, log_of, replayed}
+use Rattle.auth_store_absence.specs.Absence.{NamesFields, absence_in, honest_absence, honest_absence_parts}
+use Rattle.auth_store_absence.specs.Absence.{last_location, last_metadata, metadata_in}
 use Rattle.auth_store_absence.specs.Laws.Spans.{before_is_there, in_span_before}
 
 -- ---- the commit that ends a log

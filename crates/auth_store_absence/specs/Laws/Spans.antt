@@ -3,7 +3,8 @@
 -- A state with the keys c, f and m, and where a key that it lacks may stand:
 --
 --      a   (c)  d   (f)  g   (m)  z        d is in the span of c, g in that of f; z and a in that of m, whose next key is c
-use Rattle.std.proofs.Common.{◌≡◌, ℕ, Bool, true, false, T, cond, not, ◌&&◌, ◌||◌, List, [], ◌∷◌, ◌++◌, None, Some, inl, inr, ◌⊎◌, refl, ap, sym, ◌∙◌, subst, ⊎_elim, append_assoc, append-nil}
+use Rattle.std.proofs.Common.{◌≡◌, ℕ, Bool, true, false, T, cond, not, ◌&&◌, ◌||◌, List, [], ◌∷◌, ◌++◌, None, Some, inl}
+use Rattle.std.proofs.Common.{inr, ◌⊎◌, refl, ap, sym, ◌∙◌, subst, ⊎_elim, append_assoc, append-nil}
 use Rattle.std.specs.Prelude.{is_some}
 use Rattle.std.specs.List.{AllByRecursion}
 use Rattle.std.proofs.lemmas.Cmp.{nat_list_cmp_total}

@@ -1,5 +1,7 @@
--- Where the keys and values of a history are some, so are those of the operations of its log; and a batch of some keeps them so.
-use Rattle.std.proofs.Common.{◌≡◌, ℕ, ◌≤◌, ◌^◌, ◌+◌, true, false, cond, List, [], ◌∷◌, ◌++◌, length, Option, arith, length-append}
+-- Where the keys and values of a history are some, so are those of the operations of its log; and a batch of some keeps
+-- them so.
+use Rattle.std.proofs.Common.{◌≡◌, ℕ, ◌≤◌, ◌^◌, ◌+◌, true, false, cond, List, [], ◌∷◌, ◌++◌, length, Option, arith}
+use Rattle.std.proofs.Common.{length-append}
 use Rattle.std.specs.Prelude.{IfSome, is_some}
 use Rattle.std.specs.List.{AllByRecursion}
 use Rattle.std.specs.declared.cmp.Ordering.TheVariants.{Less, Equal, Greater}
@@ -8,7 +10,8 @@ use Rattle.state_ops.specs.Operation.{Operation, delete, update, ordered, commit
 use Rattle.auth_store_parts.specs.Batch as batch
 use Rattle.auth_store_parts.specs.Batch.{Word, map_after}
 use Rattle.auth_store_parts.specs.Map.{Map, key_order, with_entry, without_key, value_at, above, first_key, next_key}
-use Rattle.auth_store_parts.specs.History.{History, latest_map, is_kept, deletes, updates, batch_operations, inactivity_floor, log_of}
+use Rattle.auth_store_parts.specs.History.{History, latest_map, is_kept, deletes, updates, batch_operations}
+use Rattle.auth_store_parts.specs.History.{inactivity_floor, log_of}
 use Rattle.auth_store_parts.specs.Laws.Floors.{floor_within}
 use Rattle.auth_store_client.specs.Fields.{HasEntries, HasFields}
 

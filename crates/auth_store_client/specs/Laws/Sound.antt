@@ -1,12 +1,15 @@
 -- An active operation that is encoded as an update is that update, and says what the key has.
-use Rattle.std.proofs.Common.{◌≡◌, ℕ, zero, suc, true, false, cond, List, [], ◌∷◌, ◌++◌, length, drop, map, replicate, Some, refl, sym, ◌∙◌, ap, arith, append_assoc}
+use Rattle.std.proofs.Common.{◌≡◌, ℕ, zero, suc, true, false, cond, List, [], ◌∷◌, ◌++◌, length, drop, map, replicate}
+use Rattle.std.proofs.Common.{Some, refl, sym, ◌∙◌, ap, arith, append_assoc}
 use Rattle.std.specs.Prelude.{is_some, slice_get, slice_index_or, ◌-◌}
 use Rattle.std.specs.List.{AllByRecursion}
 use Rattle.merkle_forest.specs.Laws.Matching.{append_parts}
-use Rattle.state_ops.specs.Operation.{Operation, delete, update, ordered, commit_floor, fixed_size, unpadded, fixed_encoding}
+use Rattle.state_ops.specs.Operation.{Operation, delete, update, ordered, commit_floor, fixed_size, unpadded}
+use Rattle.state_ops.specs.Operation.{fixed_encoding}
 use Rattle.state_proofs.specs.MadeRanges.{HasActive}
 use Rattle.auth_store_parts.specs.Map.{Map, value_at, next_key}
-use Rattle.auth_store_parts.specs.History.{History, AreStates, latest_map, is_kept, deletes, updates, batch_operations, inactivity_floor, log_of}
+use Rattle.auth_store_parts.specs.History.{History, AreStates, latest_map, is_kept, deletes, updates, batch_operations}
+use Rattle.auth_store_parts.specs.History.{inactivity_floor, log_of}
 use Rattle.auth_store_client.specs.Soundness.{HasSizes}
 use Rattle.auth_store_client.specs.States.{state_of_history}
 use Rattle.auth_store_parts.specs.Laws.Actives.{latest-active}

@@ -1,5 +1,7 @@
 -- Which operation of a log an encoding stands for, and what an active one says of the latest state.
-use Rattle.std.proofs.Common.{◌≡◌, ◌≤◌, ◌+◌, ℕ, zero, suc, Bool, true, false, cond, not, ◌&&◌, ◌||◌, List, [], ◌∷◌, ◌++◌, length, map, Some, None, Ok, Err, Option, refl, sym, ◌∙◌, ap, subst, append_assoc, arith}
+use Rattle.std.proofs.Common.{◌≡◌, ◌≤◌, ◌+◌, ℕ, zero, suc, Bool, true, false, cond, not, ◌&&◌, ◌||◌, List, [], ◌∷◌}
+use Rattle.std.proofs.Common.{◌++◌, length, map, Some, None, Ok, Err, Option, refl, sym, ◌∙◌, ap, subst, append_assoc}
+use Rattle.std.proofs.Common.{arith}
 use Rattle.std.proofs.lemmas.Option.{slice_get_within}
 use Rattle.std.specs.List.{list_any}
 use Rattle.std.specs.Prelude.{slice_get, option_map, unwrap_or}
@@ -8,12 +10,14 @@ use Rattle.state_ops_parts.specs.Grammar.{Found}
 use Rattle.state_ops.specs.Operation.{Operation, update, ordered, commit_floor, fixed_encoding}
 use Rattle.state_ops.specs.Reading.{operation_at}
 use Rattle.state_proofs.specs.Exclusion.{is_in_span}
-use Rattle.auth_store_parts.specs.History.{History, AreStates, active_location, activity_bits, batch_operations, has_key, inactivity_floor, is_active, is_active_update, is_commit, latest_map, log_of}
+use Rattle.auth_store_parts.specs.History.{History, AreStates, active_location, activity_bits, batch_operations}
+use Rattle.auth_store_parts.specs.History.{has_key, inactivity_floor, is_active, is_active_update, is_commit}
+use Rattle.auth_store_parts.specs.History.{latest_map, log_of}
 use Rattle.auth_store_parts.specs.Map.{next_key, value_at}
 use Rattle.auth_store_parts.specs.Laws.Actives.{active_update-active, active_update-log_of, StandsAt-log_of}
 use Rattle.auth_store_parts.specs.Laws.Logs.{IsState-latest_map}
 use Rattle.auth_store_client.specs.Laws.Spans.{not_in_span}
-use Rattle.auth_store_client.specs.Soundness.{IsReadAgain, AreReadAgain}
+use Rattle.auth_store_client.specs.Soundness.{IsAlone, IsReadAgain, AreReadAgain}
 
 module _ (key value : List ℕ → Outcome) (key_size value_size : ℕ) where
   -- two operations with one encoding, both read again, are one
@@ -27,16 +31,26 @@ module _ (key value : List ℕ → Outcome) (key_size value_size : ℕ) where
       held none (Ok found) = found.0
       held none (Err e) = none
 
-  -- what stands in a log under an encoding
-  pub stands : (log : List Operation) (location : ℕ) (operation : Operation) → AreReadAgain key value key_size value_size log
-      → IsReadAgain key value key_size value_size operation
-      → slice_get (map (fixed_encoding key_size value_size) log) location ≡ Some (fixed_encoding key_size value_size operation)
-      → slice_get log location ≡ Some operation
-  stands [] location operation all read is = absurd cc
-  stands (op ∷ log) zero operation all read is =
-      let same : fixed_encoding key_size value_size op ≡ fixed_encoding key_size value_size operation = cc in
-      ap Some (same_operation op operation all.0 read same)
-  stands (op ∷ log) (suc location) operation all read is = stands log location operation all.1 read is
+  -- so one that is read again is alone in a log of such
+  pub alone_in : (log : List Operation) (operation : Operation) → AreReadAgain key value key_size value_size log
+      → IsReadAgain key value key_size value_size operation → IsAlone key_size value_size log operation
+  alone_in [] operation all read location other at same = absurd cc
+  alone_in (op ∷ log) operation all read zero other at same =
+      let here : op ≡ other = cc in
+      same_operation other operation (subst (IsReadAgain key value key_size value_size) here all.0) read same
+  alone_in (op ∷ log) operation all read (suc location) other at same = alone_in log operation all.1 read location other at same
+
+-- what stands in a log under an encoding that is of no other operation there
+pub stands : (key_size value_size : ℕ) (log : List Operation) (location : ℕ) (operation : Operation)
+    → IsAlone key_size value_size log operation
+    → slice_get (map (fixed_encoding key_size value_size) log) location ≡ Some (fixed_encoding key_size value_size operation)
+    → slice_get log location ≡ Some operation
+stands key_size value_size [] location operation alone is = absurd cc
+stands key_size value_size (op ∷ log) zero operation alone is =
+    let same : fixed_encoding key_size value_size op ≡ fixed_encoding key_size value_size operation = cc in
+    ap Some (alone 0 op refl same)
+stands key_size value_size (op ∷ log) (suc location) operation alone is =
+    stands key_size value_size log location operation (λ at other there same. alone (suc at) other there same) is
 
 -- an active update whose span holds a key leaves no room for it
 pub no_room : (history : History) (location : ℕ) (key value next asked : List ℕ) → AreStates history

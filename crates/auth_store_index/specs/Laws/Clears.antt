@@ -1,5 +1,6 @@
 -- Bits that are cleared.
-use Rattle.std.proofs.Common.{◌≡◌, ℕ, zero, suc, ◌&&◌, Bool, true, false, not, List, [], ◌∷◌, length, Some, slice_get, refl, ap, sym, ◌∙◌, length-set}
+use Rattle.std.proofs.Common.{◌≡◌, ℕ, zero, suc, ◌&&◌, Bool, true, false, not, List, [], ◌∷◌, length, Some, slice_get}
+use Rattle.std.proofs.Common.{refl, ap, sym, ◌∙◌, length-set}
 use Rattle.std.specs.Prelude.{◌==◌, ◌||◌, slice_set}
 use Rattle.std.specs.List.{list_any}
 use Rattle.std.proofs.Math.Dec.{eqb-suc-zero, eqb-zero-suc, eqb-suc-suc}

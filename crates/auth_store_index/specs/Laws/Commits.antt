@@ -1,5 +1,6 @@
 -- What a commit makes of the bits, the floor and the places of a log.
-use Rattle.std.proofs.Common.{◌≡◌, ℕ, zero, suc, ◌+◌, ◌≤◌, ◌<◌, Bool, true, List, [], ◌∷◌, ◌++◌, drop, length, length-append, Option, Some, slice_get, refl, ap, sym, subst, ◌∙◌, arith, cond, ⊎_elim}
+use Rattle.std.proofs.Common.{◌≡◌, ℕ, zero, suc, ◌+◌, ◌≤◌, ◌<◌, Bool, true, List, [], ◌∷◌, ◌++◌, drop, length}
+use Rattle.std.proofs.Common.{length-append, Option, Some, slice_get, refl, ap, sym, subst, ◌∙◌, arith, cond, ⊎_elim}
 use Rattle.std.proofs.lemmas.Bool.{cases_Bool}
 use Rattle.std.proofs.lemmas.Map.Lookups.{exact_bytes}
 use Rattle.std.proofs.lemmas.Cmp.{nat_list_cmp_total}
@@ -12,13 +13,15 @@ use Rattle.std.proofs.lemmas.Grind.{flat_map-append}
 use Rattle.std.specs.List.{AllByRecursion}
 use Rattle.state_ops.specs.Operation.{Operation, delete, update, ordered, commit_floor}
 use Rattle.auth_store_parts.specs.Places.{places_of}
-use Rattle.auth_store_parts.specs.History.{History, Commit, IsState, latest_map, batch_operations, activity_bits, inactivity_floor, last_floor, log_of, with_commit, appended, replayed}
+use Rattle.auth_store_parts.specs.History.{History, Commit, IsState, latest_map, batch_operations, activity_bits}
+use Rattle.auth_store_parts.specs.History.{inactivity_floor, last_floor, log_of, with_commit, appended, replayed}
 use Rattle.auth_store_parts.specs.Laws.Logs.{last_floor-with_commit}
 use Rattle.auth_store_parts.specs.Laws.Places.{length-activity_bits}
 use Rattle.auth_store_index.specs.Growth.{cleared, taken, taken_by, committed, first_set}
 use Rattle.auth_store_index.specs.Touched.{is_no_delete, IsSaid}
 use Rattle.auth_store_index.specs.Laws.Bits.{bits_grow}
-use Rattle.auth_store_index.specs.Laws.Floors.{IsActiveAt, active-taken, active_in_committed, ends-log_of, last_floor-committed, next_floor}
+use Rattle.auth_store_index.specs.Laws.Floors.{IsActiveAt, active-taken, active_in_committed, ends-log_of}
+use Rattle.auth_store_index.specs.Laws.Floors.{last_floor-committed, next_floor}
 use Rattle.auth_store_index.specs.Laws.Touching.{batch_bits}
 
 last_of : (front : List Operation) (m : Option (List ℕ)) (f last : ℕ) → last + 1 ≡ length (front ++ commit_floor m f ∷ [])

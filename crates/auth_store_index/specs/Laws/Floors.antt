@@ -1,5 +1,7 @@
 -- What is active in a log, and what is taken out of it, stands at its floor or behind it.
-use Rattle.std.proofs.Common.{◌≡◌, ℕ, zero, suc, ◌+◌, ◌*◌, ◌/◌, ◌≤◌, Bool, true, false, cond, not, ◌&&◌, List, [], ◌∷◌, ◌++◌, drop, length, Option, None, Some, slice_get, inl, inr, ◌⊎◌, ⊎_elim, refl, ap, sym, subst, ◌∙◌, arith, append_assoc}
+use Rattle.std.proofs.Common.{◌≡◌, ℕ, zero, suc, ◌+◌, ◌*◌, ◌/◌, ◌≤◌, Bool, true, false, cond, not, ◌&&◌, List, [], ◌∷◌}
+use Rattle.std.proofs.Common.{◌++◌, drop, length, Option, None, Some, slice_get, inl, inr, ◌⊎◌, ⊎_elim, refl, ap, sym}
+use Rattle.std.proofs.Common.{subst, ◌∙◌, arith, append_assoc}
 use Rattle.std.specs.Prelude.{◌||◌, map}
 use Rattle.std.specs.List.{list_any, AllByRecursion}
 use Rattle.std.proofs.lemmas.Bool.{cases_Bool}
@@ -7,7 +9,9 @@ use Rattle.std.proofs.lemmas.List.Folds.{list_any-append}
 use Rattle.std.proofs.Math.Nat.{mul-div-le}
 use Rattle.state_ops.specs.Operation.{Operation, delete, update, ordered, commit_floor}
 use Rattle.auth_store_parts.specs.Places.{places_of}
-use Rattle.auth_store_parts.specs.History.{History, latest_map, batch_operations, has_key, is_commit, is_active, is_active_on, is_active_update, activity_bits, inactivity_floor, last_floor, log_of}
+use Rattle.auth_store_parts.specs.History.{History, latest_map, batch_operations, has_key, is_commit, is_active}
+use Rattle.auth_store_parts.specs.History.{is_active_on, is_active_update, activity_bits, inactivity_floor, last_floor}
+use Rattle.auth_store_parts.specs.History.{log_of}
 use Rattle.auth_store_parts.specs.Laws.Logs.{floor_after-append}
 use Rattle.auth_store_parts.specs.Laws.Floors.{floor_rises}
 use Rattle.auth_store_index.specs.Growth.{taken, committed, first_set}

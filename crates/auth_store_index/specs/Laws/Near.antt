@@ -1,5 +1,6 @@
 -- What is told of a new state by few keys.
-use Rattle.std.proofs.Common.{◌≡◌, ℕ, Bool, true, false, T, cond, not, ◌&&◌, List, [], ◌∷◌, ◌++◌, Option, None, Some, refl, ap, sym, ◌∙◌, subst}
+use Rattle.std.proofs.Common.{◌≡◌, ℕ, Bool, true, false, T, cond, not, ◌&&◌, List, [], ◌∷◌, ◌++◌, Option, None, Some}
+use Rattle.std.proofs.Common.{refl, ap, sym, ◌∙◌, subst}
 use Rattle.std.specs.Prelude.{is_some, filter, map}
 use Rattle.std.proofs.lemmas.Cmp.{nat_list_cmp_total}
 use Rattle.std.proofs.lemmas.Map.Lookups.{exact_bytes}
@@ -14,7 +15,8 @@ use Rattle.auth_store_parts.specs.Laws.Lookups.{value_at-find, IsState-tail}
 use Rattle.auth_store_parts.specs.Laws.Below.{IsBelow, value_at_head, value_at_behind, none_below_first}
 use Rattle.auth_store_parts.specs.Laws.Neighbours.{above_passed}
 use Rattle.auth_store_index.specs.Near.{below, between, staying, next_near, next_round, IsTold}
-use Rattle.auth_store_index.specs.Laws.Nexts.{one_key, none_between, none_above, none_first, next_of, next_least, first_above, found, value_at-above, is_true}
+use Rattle.auth_store_index.specs.Laws.Nexts.{one_key, none_between, none_above, none_first, next_of, next_least}
+use Rattle.auth_store_index.specs.Laws.Nexts.{first_above, found, value_at-above, is_true}
 use Rattle.auth_store_index.specs.Laws.Prevs.{is_above, is_under}
 use Rattle.auth_store_index.specs.Laws.Touching.{updates_where, deletes_where}
 

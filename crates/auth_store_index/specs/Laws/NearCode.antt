@@ -1,5 +1,7 @@
 -- Maps of the code that tell a batch by few keys.
-use Rattle.std.proofs.Common.{◌≡◌, ℕ, zero, suc, arith, Bool, true, false, T, cond, subst, not, ◌&&◌, List, [], ◌∷◌, ◌++◌, ◌-◌, ◌+◌, ◌<◌, ◌≤◌, Option, None, Some, slice_get, drop, length, get_or, refl, ap, sym, ◌∙◌, append_assoc, append-nil}
+use Rattle.std.proofs.Common.{◌≡◌, ℕ, zero, suc, arith, Bool, true, false, T, cond, subst, not, ◌&&◌, List, [], ◌∷◌}
+use Rattle.std.proofs.Common.{◌++◌, ◌-◌, ◌+◌, ◌<◌, ◌≤◌, Option, None, Some, slice_get, drop, length, get_or, refl, ap}
+use Rattle.std.proofs.Common.{sym, ◌∙◌, append_assoc, append-nil}
 use Rattle.std.specs.Prelude.{is_some, filter, map, ◌||◌}
 use Rattle.std.proofs.lemmas.List.{at_drop_more, at_drop_all}
 use Rattle.std.specs.declared.cmp.Ordering.{Ordering}
@@ -14,7 +16,8 @@ use Rattle.auth_store_parts.specs.History.{IsState, update_to, updates, batch_op
 use Rattle.auth_store_parts.specs.Laws.Lookups.{IsState-tail}
 use Rattle.auth_store_parts.specs.Laws.Below.{IsBelow}
 use Rattle.auth_store_parts.specs.Chains.{first_of}
-use Rattle.auth_store_index.specs.Near.{below, between, last_key, prev_key, key_of, staying, with_found, with_gone, gone_after, with_kept, near_after, next_near, next_round, IsTold}
+use Rattle.auth_store_index.specs.Near.{below, between, last_key, prev_key, key_of, staying, with_found, with_gone}
+use Rattle.auth_store_index.specs.Near.{gone_after, with_kept, near_after, next_near, next_round, IsTold}
 use Rattle.auth_store_index.specs.Laws.Prevs.{last_append}
 use Rattle.auth_store_index.specs.Laws.Near.{next_told, next_round_told}
 use Rattle.auth_store_index.specs.Laws.Told.{near_told, near_tell}

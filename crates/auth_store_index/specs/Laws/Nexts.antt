@@ -1,5 +1,6 @@
 -- When the next key of a key changes.
-use Rattle.std.proofs.Common.{◌≡◌, ℕ, Bool, true, false, T, cond, ◌&&◌, List, [], ◌∷◌, ◌++◌, Option, None, Some, refl, ap, sym, ◌∙◌, subst, ⊎_elim, ◌⊎◌, inl, inr}
+use Rattle.std.proofs.Common.{◌≡◌, ℕ, Bool, true, false, T, cond, ◌&&◌, List, [], ◌∷◌, ◌++◌, Option, None, Some, refl}
+use Rattle.std.proofs.Common.{ap, sym, ◌∙◌, subst, ⊎_elim, ◌⊎◌, inl, inr}
 use Rattle.std.specs.Prelude.{is_some}
 use Rattle.std.proofs.lemmas.Bool.{cases_Bool}
 use Rattle.std.proofs.lemmas.Cmp.{nat_list_cmp_total}
@@ -9,7 +10,8 @@ use Rattle.std.specs.Ordering.{is_lt, is_eq, ordering_reverse}
 use Rattle.std.specs.FinMap.Entries.{below_all}
 use Rattle.auth_store_parts.specs.Map.{Map, key_order, value_at, with_entry, above, first_key, next_key}
 use Rattle.auth_store_parts.specs.History.{IsState}
-use Rattle.auth_store_parts.specs.Laws.Lookups.{same, same_self, exact, IsState-tail, IsState-with_entry, value_at-with_entry}
+use Rattle.auth_store_parts.specs.Laws.Lookups.{same, same_self, exact, IsState-tail, IsState-with_entry}
+use Rattle.auth_store_parts.specs.Laws.Lookups.{value_at-with_entry}
 use Rattle.auth_store_parts.specs.Laws.Below.{IsBelow, value_at_head, none_below_first}
 
 first : (a b : Bool) → T (a && b) → T a

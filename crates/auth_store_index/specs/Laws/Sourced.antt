@@ -1,9 +1,11 @@
 -- Maps of the code that are seen as states, whatever their values.
-use Rattle.std.proofs.Common.{◌≡◌, ℕ, arith, cond, subst, Bor, Bool, true, false, List, [], ◌∷◌, ◌++◌, ◌&&◌, Option, None, Some, option_map, refl, ap, sym, ◌∙◌, append_assoc}
+use Rattle.std.proofs.Common.{◌≡◌, ℕ, arith, cond, subst, Bor, Bool, true, false, List, [], ◌∷◌, ◌++◌, ◌&&◌, Option}
+use Rattle.std.proofs.Common.{None, Some, option_map, refl, ap, sym, ◌∙◌, append_assoc}
 use Rattle.std.proofs.lemmas.List.{map-append}
 use Rattle.auth_store_index.specs.declared.values.Source as code
 use Rattle.auth_store_index.specs.declared.values.Source.TheVariants.{Logged, Given}
-use Rattle.std.specs.Prelude.{is_some, option_copied, map, Result, Ok, Err, IfOk, get_or, unwrap_or, drop, length, ◌+◌, ◌-◌, ◌<◌, ◌≤◌}
+use Rattle.std.specs.Prelude.{is_some, option_copied, map, Result, Ok, Err, IfOk, get_or, unwrap_or, drop, length, ◌+◌}
+use Rattle.std.specs.Prelude.{◌-◌, ◌<◌, ◌≤◌}
 use Rattle.std.specs.Str.{bytes_eq}
 use Rattle.std.proofs.lemmas.List.{at_drop_more, at_drop_all}
 use Rattle.auth_store_parts.specs.Batch.{Word, after_word, map_after}

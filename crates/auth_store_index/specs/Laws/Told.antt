@@ -1,5 +1,6 @@
 -- What words make of a state is told by the keys that go and by those that are near.
-use Rattle.std.proofs.Common.{◌≡◌, ℕ, Bool, true, false, cond, not, ◌&&◌, List, [], ◌∷◌, ◌++◌, Option, None, Some, refl, ap, sym, ◌∙◌, subst, ⊎_elim}
+use Rattle.std.proofs.Common.{◌≡◌, ℕ, Bool, true, false, cond, not, ◌&&◌, List, [], ◌∷◌, ◌++◌, Option, None, Some, refl}
+use Rattle.std.proofs.Common.{ap, sym, ◌∙◌, subst, ⊎_elim}
 use Rattle.std.specs.Prelude.{is_some, ◌||◌, map}
 use Rattle.std.specs.List.{list_any}
 use Rattle.std.proofs.lemmas.Bool.{cases_Bool}
@@ -8,10 +9,12 @@ use Rattle.auth_store_parts.specs.Map.{Map, value_at, with_entry, without_key, n
 use Rattle.auth_store_parts.specs.Batch as batch
 use Rattle.auth_store_parts.specs.Batch.{Word, after_word, map_after}
 use Rattle.auth_store_parts.specs.History.{IsState, deletes, updates, batch_operations, is_kept}
-use Rattle.auth_store_parts.specs.Laws.Lookups.{same, same_self, exact, IsState-with_entry, IsState-without_key, value_at-with_entry, value_at-without_key}
+use Rattle.auth_store_parts.specs.Laws.Lookups.{same, same_self, exact, IsState-with_entry, IsState-without_key}
+use Rattle.auth_store_parts.specs.Laws.Lookups.{value_at-with_entry, value_at-without_key}
 use Rattle.auth_store_parts.specs.Laws.Logs.{IsState-map_after}
 use Rattle.auth_store_index.specs.Touched.{names}
-use Rattle.auth_store_index.specs.Near.{prev_key, key_of, with_found, with_gone, gone_after, with_kept, near_after, value_told, IsTold, IsCovered, AreCovered}
+use Rattle.auth_store_index.specs.Near.{prev_key, key_of, with_found, with_gone, gone_after, with_kept, near_after}
+use Rattle.auth_store_index.specs.Near.{value_told, IsTold, IsCovered, AreCovered}
 use Rattle.auth_store_index.specs.Laws.Nexts.{next_stays, next_there, next_comes}
 use Rattle.auth_store_index.specs.Laws.Prevs.{prev_of_next, prev_of_next_with}
 use Rattle.auth_store_index.specs.Laws.Touching.{unnamed, as_before}

@@ -1,5 +1,6 @@
 -- What a batch leaves as it is, and the bits of its operations.
-use Rattle.std.proofs.Common.{◌≡◌, ℕ, Bool, true, false, cond, not, ◌&&◌, List, [], ◌∷◌, ◌++◌, Option, None, Some, refl, ap, sym, ◌∙◌, ⊎_elim, append_assoc}
+use Rattle.std.proofs.Common.{◌≡◌, ℕ, Bool, true, false, cond, not, ◌&&◌, List, [], ◌∷◌, ◌++◌, Option, None, Some, refl}
+use Rattle.std.proofs.Common.{ap, sym, ◌∙◌, ⊎_elim, append_assoc}
 use Rattle.std.specs.Prelude.{◌||◌, is_some, map, filter}
 use Rattle.std.specs.Str.{bytes_eq}
 use Rattle.std.specs.List.{list_any}
@@ -10,8 +11,10 @@ use Rattle.state_ops.specs.Operation.{Operation, delete, update, ordered, commit
 use Rattle.auth_store_parts.specs.Map.{Map, with_entry, without_key, value_at, next_key}
 use Rattle.auth_store_parts.specs.Batch as batch
 use Rattle.auth_store_parts.specs.Batch.{Word, map_after}
-use Rattle.auth_store_parts.specs.History.{IsState, is_value, is_kept, has_key, deletes, updates, batch_operations, activity_bits}
-use Rattle.auth_store_parts.specs.Laws.Lookups.{same, same_self, none_later, IsState-tail, IsState-with_entry, IsState-without_key, value_at-with_entry, value_at-without_key}
+use Rattle.auth_store_parts.specs.History.{IsState, is_value, is_kept, has_key, deletes, updates, batch_operations}
+use Rattle.auth_store_parts.specs.History.{activity_bits}
+use Rattle.auth_store_parts.specs.Laws.Lookups.{same, same_self, none_later, IsState-tail, IsState-with_entry}
+use Rattle.auth_store_parts.specs.Laws.Lookups.{IsState-without_key, value_at-with_entry, value_at-without_key}
 use Rattle.auth_store_parts.specs.Laws.Logs.{passed_by}
 use Rattle.auth_store_parts.specs.Laws.Below.{value_at_head, value_at_behind}
 use Rattle.auth_store_parts.specs.Laws.Logs.{IsState-map_after}

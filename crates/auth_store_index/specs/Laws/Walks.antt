@@ -1,5 +1,6 @@
 -- The first bit that is set, found by a walk; and places in a set.
-use Rattle.std.proofs.Common.{◌≡◌, ℕ, zero, suc, ◌+◌, ◌-◌, ◌≤◌, ◌<◌, Bool, true, false, T, get_or, List, [], ◌∷◌, ◌++◌, drop, length, Some, slice_get, refl, ap, sym, ◌∙◌, subst, ⊎_elim, arith}
+use Rattle.std.proofs.Common.{◌≡◌, ℕ, zero, suc, ◌+◌, ◌-◌, ◌≤◌, ◌<◌, Bool, true, false, T, get_or, List, [], ◌∷◌, ◌++◌}
+use Rattle.std.proofs.Common.{drop, length, Some, slice_get, refl, ap, sym, ◌∙◌, subst, ⊎_elim, arith}
 use Rattle.std.specs.Prelude.{◌==◌, ◌||◌}
 use Rattle.std.specs.List.{list_any}
 use Rattle.std.specs.BTreeSet.{insert_key}

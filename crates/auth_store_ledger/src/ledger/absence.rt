@@ -62,8 +62,8 @@ where
     Ok(ExclusionProof::Commit(proof, metadata))
 }
 
-// The proof by the update of this key, which stands at the location of the log, where this is the one that it is active.
-// It fails only when out of memory.
+// The proof by the update of this key, which stands at the location of the log, where this is the one that it is
+// active. It fails only when out of memory.
 fn proof_by_update<F, D, K: FixedKey, V: FixedValue>(
     log: &Log<F, K, V>,
     proof: Proof<F, D>,

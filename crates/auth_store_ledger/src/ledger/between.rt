@@ -1,10 +1,12 @@
 //! The parts of what is proved of a range of operations: copies of them, their activity bits, and the bytes of their
 //! proofs.
 
-ghost use Rattle.std.specs.Prelude.{◌≡◌, ◌<◌, ◌≤◌, ◌*◌, ◌++◌, Some, nat_lt, slice_get, length, map, option_map, IfOk, OnOk};
+ghost use Rattle.std.specs.Prelude.{◌≡◌, ◌<◌, ◌≤◌, ◌*◌, ◌++◌, Some, nat_lt, slice_get, length, map, option_map, IfOk};
+ghost use Rattle.std.specs.Prelude.{OnOk};
 ghost use Rattle.std.specs.List.{flat_map};
 ghost use Rattle.state_ops.specs.Operation.{meaning_of};
-ghost use Rattle.auth_store_client.specs.Proving.{chunks_over, honest_operation, honest_range_bytes, honest_slice_bytes, log_digests, log_inactive};
+ghost use Rattle.auth_store_client.specs.Proving.{chunks_over, honest_operation, honest_range_bytes};
+ghost use Rattle.auth_store_client.specs.Proving.{honest_slice_bytes, log_digests, log_inactive};
 ghost use Rattle.auth_store_ledger.specs.History.{activity_bits, log_of, meanings};
 ghost use Rattle.auth_store_ledger.specs.Proving.{between};
 ghost use Rattle.auth_store_ledger.specs.Store.{IsChunkWidth, setting_of_width, state_of_history};
@@ -134,8 +136,8 @@ impl<F: Graftable, H: HashFunction, K: FixedKey, V: FixedValue, const N: usize> 
         Ok(bits)
     }
 
-    // Appends the chunks over the operations from `start` up to `stop`, of which there is one. It fails only when out of
-    // memory.
+    // Appends the chunks over the operations from `start` up to `stop`, of which there is one. It fails only when out
+    // of memory.
     fn write_chunks(&self, start: u64, stop: u64, out: &mut Vec<u8>) -> Result<(), AllocError>
         requires some { start < stop }
         requires within { stop ≤ length (log_of self.now) }
@@ -190,8 +192,8 @@ impl<
         }
     }
 
-    // The honest bytes that prove the operations from `start` up to `stop` and their activity bits. It fails only when out
-    // of memory.
+    // The honest bytes that prove the operations from `start` up to `stop` and their activity bits. It fails only when
+    // out of memory.
     pub(super) fn range_bytes(&self, start: u64, stop: u64) -> Result<Vec<u8>, AllocError>
         requires some { start < stop }
         requires within { stop ≤ length (log_of self.now) }
@@ -225,8 +227,8 @@ impl<
         }
     }
 
-    // The honest bytes that prove that the operations from `start` up to `stop` stand in the log. It fails only when out
-    // of memory.
+    // The honest bytes that prove that the operations from `start` up to `stop` stand in the log. It fails only when
+    // out of memory.
     pub(super) fn slice_bytes(&self, start: u64, stop: u64) -> Result<Vec<u8>, AllocError>
         requires some { start < stop }
         requires within { stop ≤ length (log_of self.now) }

@@ -1,6 +1,7 @@
 //! The one place where a commit is made: what it appends to a log, and what is then kept, before anything is appended.
 
-ghost use Rattle.std.specs.Prelude.{◌≡◌, ◌+◌, ◌-◌, ◌*◌, ◌<◌, ◌≤◌, ◌^◌, ◌++◌, ◌∷◌, [], true, map, drop, length, option_map, IfOk, OnOk};
+ghost use Rattle.std.specs.Prelude.{◌≡◌, ◌+◌, ◌-◌, ◌*◌, ◌<◌, ◌≤◌, ◌^◌, ◌++◌, ◌∷◌, [], true, map, drop, length};
+ghost use Rattle.std.specs.Prelude.{option_map, IfOk, OnOk};
 ghost use Rattle.auth_store_index.specs.Growth.{cleared, first_set, taken};
 ghost use Rattle.auth_store_index.specs.Touched.{is_no_delete};
 ghost use Rattle.auth_store_ledger.specs.Batch as words;
@@ -29,14 +30,15 @@ pub struct Appended<F: Graftable, H: HashFunction, K: FixedKey, V: FixedValue, c
     pub bytes: Vec<u8>,
 }
 
-/// The operations that a batch adds to the log, without the commit. They are told by the keys near those that it names. It
-/// fails only when out of memory.
+/// The operations that a batch adds to the log, without the commit. They are told by the keys near those that it names.
+/// It fails only when out of memory.
 pub fn changes_of<F: Family, K: FixedKey, V: FixedValue>(
     alloc: Global,
     log: &Log<F, K, V>,
     batch: &Batch<K, V>,
 ) -> Result<Vec<OrderedOperation<F, K, V>>, AllocError>
-    ensures { let state = replayed [] log.now in let said = words.meanings K.encoding V.encoding batch.now.words.items in
+    ensures { let state = replayed [] log.now in let said = words.meanings K.encoding V.encoding
+        batch.now.words.items in
         IfOk result (λ changes. meanings K.encoding V.encoding changes.items
         ≡ batch_operations state (map_after said state)) }
 {
@@ -115,8 +117,8 @@ impl<'a, F: Graftable + 'a, H: HashFunction + 'a, const N: usize> ReadableBits
     }
 }
 
-// The floor that the commit records behind the log with these bits, of which those at the places are cleared. It is looked
-// for from the floor before on. It fails only when out of memory.
+// The floor that the commit records behind the log with these bits, of which those at the places are cleared. It is
+// looked for from the floor before on. It fails only when out of memory.
 pub(super) fn next_floor<F: Graftable, H: HashFunction, const N: usize>(
     alloc: Global,
     current: &Current<F, H, N>,

@@ -1,4 +1,5 @@
-//! What is kept of a log beside its operations: their tree, the tree of the chunks of their bits, the bits and the floor.
+//! What is kept of a log beside its operations: their tree, the tree of the chunks of their bits, the bits and the
+//! floor.
 
 ghost use Rattle.std.specs.Prelude.{◌≡◌, ◌<◌, ◌≤◌, ◌+◌, ◌^◌, map, length, IfOk, OnOk};
 ghost use Rattle.std.specs.List.{AllByRecursion, flat_map};
@@ -37,8 +38,8 @@ pub(super) fn out_of_memory<F: Family>(error: Error<F>) -> AllocError
     }
 }
 
-/// What is kept, of which nothing is pruned, with more operations and a bit for each, after which the bits at these places
-/// are cleared, and another floor. It fails only when out of memory.
+/// What is kept, of which nothing is pruned, with more operations and a bit for each, after which the bits at these
+/// places are cleared, and another floor. It fails only when out of memory.
 pub fn grown_by<F: Graftable, H: HashFunction, const N: usize>(
     current: &Current<F, H, N>,
     operations: &[Vec<u8>],

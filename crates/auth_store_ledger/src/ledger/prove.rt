@@ -74,7 +74,8 @@ where
     H: HashFunction,
     requires unpruned { current.now.bits.pruned ≡ 0 }
     requires within { location < current.now.operations.leaves }
-    ensures { (key value : ℕ) (log : List meaning.Operation) → let setting = setting_of_width F.merge_rule H.hash_of N in
+    ensures { (key value : ℕ) (log : List meaning.Operation)
+        → let setting = setting_of_width F.merge_rule H.hash_of N in
         IsKept setting key value log current.now → IfOk result (λ proof. parts_of H.Digest.encoding F.held proof
         ≡ honest_parts setting (state_of_log key value log) location) }
 {

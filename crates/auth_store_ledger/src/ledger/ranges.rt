@@ -2,15 +2,20 @@
 //! the log.
 
 ghost use Rattle.std.specs.Prelude.{◌≡◌, ◌<◌, ◌≤◌, length, Ok, IfOk, IfErr};
+ghost use Rattle.auth_store_client.specs.Claims.{terms};
 ghost use Rattle.auth_store_ledger.specs.History.{log_of};
 ghost use Rattle.auth_store_ledger.specs.Proving.{IsUnproved, answer_of_operation, answer_of_range, answer_of_slice};
 ghost use Rattle.auth_store_ledger.specs.Proving.{range_answer, slice_answer};
+ghost use Rattle.auth_store_ledger.specs.Proving.{IsAcceptedOperation, IsAcceptedRange, IsAcceptedSlice};
 ghost use Rattle.auth_store_ledger.specs.ProvingCode.{operation_answer_of, range_answer_of, slice_answer_of};
-ghost use Rattle.auth_store_ledger.specs.Store.{setting_of_width};
+ghost use Rattle.auth_store_ledger.specs.Store.{root_of_history, setting_of_width};
 
 use super::Ledger;
 use super::between::{copy_of, is_before_chunks};
 use crate::error::{ProofError, Unprovable};
+use auth_store_client::laws::{
+    honest_operations_are_shown, honest_ranges_are_shown, honest_slices_are_shown,
+};
 use merkle_forest::{Family, Graftable, HashFunction, PendingOf};
 use state_ops::{FixedKey, FixedValue, OrderedOperation};
 use std::alloc::AllocError;
@@ -52,8 +57,8 @@ impl<
     V: FixedValue,
     const N: usize,
 > Ledger<F, H, K, V, N> {
-    // The operations from `start` up to `stop` with their activity bits and the proof of both. It fails only when out of
-    // memory.
+    // The operations from `start` up to `stop` with their activity bits and the proof of both. It fails only when out
+    // of memory.
     fn range_between(&self, start: u64, stop: u64) -> Result<ProvedRange<F, K, V>, AllocError>
         requires some { start < stop }
         requires within { stop ≤ length (log_of self.now) }
@@ -84,8 +89,9 @@ impl<
         Ok(ProvedSlice { operations, bytes })
     }
 
-    /// The operation at a location with the proof that it is active, where so many chunks are pruned. It is refused where
-    /// the log has no such operation, then where its chunk is pruned, then where it is not active; or out of memory.
+    /// The operation at a location with the proof that it is active, where so many chunks are pruned: the client
+    /// accepts it under the root of this moment. It is refused where the log has no such operation, then where its
+    /// chunk is pruned, then where it is not active; or out of memory.
     pub fn prove_operation(
         &self,
         pruned: u64,
@@ -94,10 +100,16 @@ impl<
         ensures ok { let setting = setting_of_width F.merge_rule H.hash_of N in
             IfOk result (λ proved. Ok (operation_answer_of K.encoding V.encoding proved)
             ≡ answer_of_operation F.pending_encoding setting K.SIZE V.SIZE self.now pruned location) }
+        ensures shown { let terms = terms F.merge_rule H.hash_of N H.Digest.SIZE F.is_pending F.pending_encoding
+            (K.after tt) (V.after tt) K.SIZE V.SIZE in
+            let root = root_of_history (setting_of_width F.merge_rule H.hash_of N) K.SIZE V.SIZE self.now in
+            IfOk result (λ proved. IsAcceptedOperation terms root location
+            (operation_answer_of K.encoding V.encoding proved)) }
         ensures err { let setting = setting_of_width F.merge_rule H.hash_of N in
             IfErr result (IsUnproved
             (answer_of_operation F.pending_encoding setting K.SIZE V.SIZE self.now pruned location)) }
     {
+        honest_operations_are_shown::<F, H, K, V, N>();
         let Some(operation) = self.operations().get(location as usize) else {
             return Err(ProofError::Unprovable(Unprovable::OutOfRange));
         };
@@ -113,9 +125,9 @@ impl<
         Ok(ProvedOperation { operation, bytes })
     }
 
-    /// The operations from `start` up to `stop` with their activity bits and the proof of both, where so many chunks are
-    /// pruned. It is refused where the range is empty, then where the log has not all of them, then where the chunk over
-    /// the first is pruned; or out of memory.
+    /// The operations from `start` up to `stop` with their activity bits and the proof of both, where so many chunks
+    /// are pruned: the client accepts it under the root of this moment. It is refused where the range is empty, then
+    /// where the log has not all of them, then where the chunk over the first is pruned; or out of memory.
     pub fn prove_range(
         &self,
         pruned: u64,
@@ -125,10 +137,15 @@ impl<
         ensures ok { let setting = setting_of_width F.merge_rule H.hash_of N in
             IfOk result (λ proved. Ok (range_answer_of K.encoding V.encoding proved)
             ≡ answer_of_range F.pending_encoding setting K.SIZE V.SIZE self.now pruned start stop) }
+        ensures shown { let terms = terms F.merge_rule H.hash_of N H.Digest.SIZE F.is_pending F.pending_encoding
+            (K.after tt) (V.after tt) K.SIZE V.SIZE in
+            let root = root_of_history (setting_of_width F.merge_rule H.hash_of N) K.SIZE V.SIZE self.now in
+            IfOk result (λ proved. IsAcceptedRange terms root start (range_answer_of K.encoding V.encoding proved)) }
         ensures err { let setting = setting_of_width F.merge_rule H.hash_of N in
             IfErr result (IsUnproved
             (answer_of_range F.pending_encoding setting K.SIZE V.SIZE self.now pruned start stop)) }
     {
+        honest_ranges_are_shown::<F, H, K, V, N>();
         self.holds_a_history();
         if stop <= start {
             return Err(ProofError::Unprovable(Unprovable::EmptyRange));
@@ -145,8 +162,8 @@ impl<
         }
     }
 
-    /// The operations from `start` up to `stop` with the proof that the log has them, where so many chunks are pruned. It
-    /// is refused as `prove_range` is.
+    /// The operations from `start` up to `stop` with the proof that the log has them, where so many chunks are pruned:
+    /// the client accepts it under the root of this moment. It is refused as `prove_range` is.
     pub fn prove_log(
         &self,
         pruned: u64,
@@ -156,10 +173,15 @@ impl<
         ensures ok { let setting = setting_of_width F.merge_rule H.hash_of N in
             IfOk result (λ proved. Ok (slice_answer_of K.encoding V.encoding proved)
             ≡ answer_of_slice F.pending_encoding setting K.SIZE V.SIZE self.now pruned start stop) }
+        ensures shown { let terms = terms F.merge_rule H.hash_of N H.Digest.SIZE F.is_pending F.pending_encoding
+            (K.after tt) (V.after tt) K.SIZE V.SIZE in
+            let root = root_of_history (setting_of_width F.merge_rule H.hash_of N) K.SIZE V.SIZE self.now in
+            IfOk result (λ proved. IsAcceptedSlice terms root start (slice_answer_of K.encoding V.encoding proved)) }
         ensures err { let setting = setting_of_width F.merge_rule H.hash_of N in
             IfErr result (IsUnproved
             (answer_of_slice F.pending_encoding setting K.SIZE V.SIZE self.now pruned start stop)) }
     {
+        honest_slices_are_shown::<F, H, K, V, N>();
         self.holds_a_history();
         if stop <= start {
             return Err(ProofError::Unprovable(Unprovable::EmptyRange));

@@ -4,7 +4,8 @@ use Rattle.std.specs.Prelude.{is_some}
 use Rattle.std.proofs.lemmas.List.{length-append}
 use Rattle.state_ops.specs.Operation.{Operation, delete, update, ordered, commit_floor}
 use Rattle.auth_store_parts.specs.Map.{Map, value_at, next_key}
-use Rattle.auth_store_parts.specs.History.{History, latest_map, log_of, deletes, updates, is_kept, batch_operations, is_active_update, inactivity_floor}
+use Rattle.auth_store_parts.specs.History.{History, latest_map, log_of, deletes, updates, is_kept, batch_operations}
+use Rattle.auth_store_parts.specs.History.{is_active_update, inactivity_floor}
 use Rattle.auth_store_log.specs.Records.{FloorsFit}
 
 pub floors_together : (one other : List Operation) → FloorsFit one → FloorsFit other → FloorsFit (one ++ other)

@@ -1,11 +1,13 @@
 -- The bytes of a log are those of no other.
-use Rattle.std.proofs.Common.{◌≡◌, ℕ, List, [], ◌∷◌, ◌++◌, length, take, drop, append_assoc, Ok, refl, sym, ◌∙◌, ap, arith}
+use Rattle.std.proofs.Common.{◌≡◌, ℕ, List, [], ◌∷◌, ◌++◌, length, take, drop, append_assoc, Ok, refl, sym, ◌∙◌, ap}
+use Rattle.std.proofs.Common.{arith}
 use Rattle.std.proofs.lemmas.List.{append-nil, take-append-drop, length-append}
 use Rattle.state_ops_parts.specs.Grammar.{Found}
 use Rattle.state_ops.specs.Operation.{Operation}
 use Rattle.auth_store_parts.specs.History.{History, log_of, history_of, AreStates}
 use Rattle.auth_store_parts.specs.Laws.Logs.{history_of-log_of}
-use Rattle.auth_store_log.specs.Records.{Format, record_of, operation_in, log_bytes, history_bytes, IsRecorded, AreRecorded}
+use Rattle.auth_store_log.specs.Records.{Format, record_of, operation_in, log_bytes, history_bytes, IsRecorded}
+use Rattle.auth_store_log.specs.Records.{AreRecorded}
 use Rattle.auth_store_log.specs.Laws.Recorded.{record_front}
 
 -- what a log has behind these operations, whose bytes are these
@@ -64,7 +66,8 @@ module _ (format : Format) where
   history_once one other ones others recorded recorded_other same =
       sym (history_of-log_of one ones) ∙ ap history_of (log_once (log_of one) (log_of other) recorded recorded_other same) ∙ history_of-log_of other others
 
-  -- where a history has the log of these bytes, the operations that have them are the log of the history that they stand for
+  -- where a history has the log of these bytes, the operations that have them are the log of the history that they
+  -- stand for
   pub only_log : (log : List Operation) (history : History) → AreRecorded format log → AreStates history → AreRecorded format (log_of history)
       → log_bytes format.key_size format.value_size log ≡ history_bytes format history → log ≡ log_of (history_of log)
   only_log log history are states recorded same =

@@ -1,10 +1,12 @@
 -- Where the record of an operation stands in the bytes of a log.
-use Rattle.std.proofs.Common.{◌≡◌, ℕ, zero, suc, ◌+◌, ◌*◌, ◌≤◌, List, [], ◌∷◌, ◌++◌, length, take, drop, Some, Ok, refl, sym, ◌∙◌, ap, arith}
+use Rattle.std.proofs.Common.{◌≡◌, ℕ, zero, suc, ◌+◌, ◌*◌, ◌≤◌, List, [], ◌∷◌, ◌++◌, length, take, drop, Some, Ok, refl}
+use Rattle.std.proofs.Common.{sym, ◌∙◌, ap, arith}
 use Rattle.std.specs.Prelude.{slice_get}
 use Rattle.std.proofs.lemmas.List.{take_at, drop_at, drop-drop, length-append}
 use Rattle.state_ops_parts.specs.Grammar.{Found}
 use Rattle.state_ops.specs.Operation.{Operation}
-use Rattle.auth_store_log.specs.Records.{Format, record_size, record_of, operation_in, log_bytes, IsRecorded, AreRecorded}
+use Rattle.auth_store_log.specs.Records.{Format, record_size, record_of, operation_in, log_bytes, IsRecorded}
+use Rattle.auth_store_log.specs.Records.{AreRecorded}
 
 -- the operation at an index of a log, and its record there
 pub record StandsIn (format : Format) (log : List Operation) (index : ℕ) : Type 0 where

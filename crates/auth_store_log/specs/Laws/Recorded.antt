@@ -1,5 +1,6 @@
 -- Which operations are recorded: those that have an encoding, and those that were read.
-use Rattle.std.proofs.Common.{◌≡◌, ℕ, ◌+◌, ◌≤◌, ltb, Bool, true, false, cond, List, [], ◌∷◌, ◌++◌, length, take, drop, None, Some, Ok, Err, refl, sym, ◌∙◌, ap}
+use Rattle.std.proofs.Common.{◌≡◌, ℕ, ◌+◌, ◌≤◌, ltb, Bool, true, false, cond, List, [], ◌∷◌, ◌++◌, length, take, drop}
+use Rattle.std.proofs.Common.{None, Some, Ok, Err, refl, sym, ◌∙◌, ap}
 use Rattle.std.proofs.Common.{arith}
 use Rattle.std.proofs.lemmas.Bool.{le-ltb, ltb-false}
 use Rattle.std.proofs.lemmas.List.{append-nil, take_at, drop_at, take_all, drop_all, length-append, length-drop}
@@ -12,7 +13,8 @@ use Rattle.state_ops_parts.specs.Laws.Again.{fixed_sized}
 use Rattle.state_ops.specs.Operation.{Operation, Code, spelled, meaning_of}
 use Rattle.state_ops.specs.Reading.{IsField, HasEncoding, ordered_at}
 use Rattle.state_ops.specs.Laws.Again.{read_again, sizes}
-use Rattle.auth_store_log.specs.Records.{Format, record_size, record_of, operation_in, IsRecorded, AreRecorded, FloorFits}
+use Rattle.auth_store_log.specs.Records.{Format, record_size, record_of, operation_in, IsRecorded, AreRecorded}
+use Rattle.auth_store_log.specs.Records.{FloorFits}
 
 -- what stands in the frame of a record, which is taken whole
 abbrev framed : Format → List ℕ → Found Operation

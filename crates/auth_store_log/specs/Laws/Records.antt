@@ -1,20 +1,25 @@
 -- The records of a beginning of a log, and what of it is committed.
-use Rattle.std.proofs.Common.{◌≡◌, ℕ, zero, suc, ◌+◌, ◌-◌, ◌*◌, ◌/◌, ◌<◌, ◌≤◌, Bool, true, false, cond, List, [], ◌∷◌, ◌++◌, map, length, take, drop}
+use Rattle.std.proofs.Common.{◌≡◌, ℕ, zero, suc, ◌+◌, ◌-◌, ◌*◌, ◌/◌, ◌<◌, ◌≤◌, Bool, true, false, cond, List, [], ◌∷◌}
+use Rattle.std.proofs.Common.{◌++◌, map, length, take, drop}
 use Rattle.std.proofs.Common.{refl, sym, ◌∙◌, ap, subst, ◌⊎◌, inl, inr, ⊎_elim, min, append_assoc, arith}
 use Rattle.std.specs.Prelude.{is_some, ◌||◌}
 use Rattle.std.specs.List.{list_any}
 use Rattle.std.proofs.lemmas.Bool.{cases_lt, cases_Bool, or_parts}
-use Rattle.std.proofs.lemmas.List.{append-nil, take-append-drop, take-append-le, take_all, take_min, take-take, drop-take, length-append, length-take}
+use Rattle.std.proofs.lemmas.List.{append-nil, take-append-drop, take-append-le, take_all, take_min, take-take}
+use Rattle.std.proofs.lemmas.List.{drop-take, length-append, length-take}
 use Rattle.std.proofs.lemmas.List.{length-take-le}
 use Rattle.std.proofs.lemmas.Nat.{div-mul-add}
 use Rattle.std.proofs.lemmas.List.Folds.{list_any-append}
 use Rattle.std.proofs.lemmas.Grind.{flat_map-append}
 use Rattle.std.proofs.Math.Seq.{take-append-add, take-append_seam, drop-append_seam, take-length}
-use Rattle.std.proofs.Math.Nat.{le-div_iff_mul-le, div-mul-le_self, div-eq_of_eq-mul_left, lt-div-mul-add, le_of_mul-le-mul_right, mul-le-mul_right}
+use Rattle.std.proofs.Math.Nat.{le-div_iff_mul-le, div-mul-le_self, div-eq_of_eq-mul_left, lt-div-mul-add}
+use Rattle.std.proofs.Math.Nat.{le_of_mul-le-mul_right, mul-le-mul_right}
 use Rattle.state_ops.specs.Operation.{Operation, delete, update, ordered, commit_floor}
 use Rattle.auth_store_parts.specs.Map.{Map, value_at, next_key}
-use Rattle.auth_store_parts.specs.History.{History, Commit, latest_map, log_of, deletes, updates, is_kept, batch_operations, inactivity_floor, is_commit}
-use Rattle.auth_store_log.specs.Records.{Format, record_size, record_of, is_commit_found, is_commit_record, pieces, whole_records, up_to_last, committed}
+use Rattle.auth_store_parts.specs.History.{History, Commit, latest_map, log_of, deletes, updates, is_kept}
+use Rattle.auth_store_parts.specs.History.{batch_operations, inactivity_floor, is_commit}
+use Rattle.auth_store_log.specs.Records.{Format, record_size, record_of, is_commit_found, is_commit_record, pieces}
+use Rattle.auth_store_log.specs.Records.{whole_records, up_to_last, committed}
 use Rattle.auth_store_log.specs.Records.{log_bytes, history_bytes, IsRecorded, AreRecorded}
 
 or_false : (a b : Bool) → b ≡ false → (a || b) ≡ a

@@ -1,5 +1,6 @@
 -- What may be shown of a log follows from what a writer keeps of it.
-use Rattle.std.proofs.Common.{◌≡◌, ℕ, ◌≤◌, List, [], ◌∷◌, ◌++◌, length, take, None, Some, refl, sym, ◌∙◌, ap, inl, inr, ⊎_elim, arith}
+use Rattle.std.proofs.Common.{◌≡◌, ℕ, ◌≤◌, List, [], ◌∷◌, ◌++◌, length, take, None, Some, refl, sym, ◌∙◌, ap, inl, inr}
+use Rattle.std.proofs.Common.{⊎_elim, arith}
 use Rattle.std.proofs.lemmas.List.{take-take}
 use Rattle.std.proofs.lemmas.Grind.{flat_map-append}
 use Rattle.std.proofs.Math.Seq.{take-append_seam, take-length}
@@ -9,7 +10,8 @@ use Rattle.paged_blob.specs.Calls.{Call}
 use Rattle.paged_blob.specs.Writers.{Keeps}
 use Rattle.auth_store_log.specs.Records.{Format, record_of, committed, log_bytes, history_bytes, AreRecorded}
 use Rattle.auth_store_log.specs.Shown.{MayShow, KeepsBytes, KeepsLog, Reopens}
-use Rattle.auth_store_log.specs.Laws.Records.{committed_whole, committed_history, committed_first, committed_again, committed_begins}
+use Rattle.auth_store_log.specs.Laws.Records.{committed_whole, committed_history, committed_first, committed_again}
+use Rattle.auth_store_log.specs.Laws.Records.{committed_begins}
 
 -- the bytes of a log are those of the log before, and what is appended
 pub history_more : (format : Format) (history : History) (commit : Commit)

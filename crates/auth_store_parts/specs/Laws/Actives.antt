@@ -1,5 +1,6 @@
 -- The active update of a key names its value and its next key in the latest state.
-use Rattle.std.proofs.Common.{◌≡◌, ℕ, zero, suc, ◌+◌, Bool, true, false, cond, ◌&&◌, not, List, [], ◌∷◌, ◌++◌, Option, None, Some, option_map, refl, ap, sym, ◌∙◌, ⊎_elim}
+use Rattle.std.proofs.Common.{◌≡◌, ℕ, zero, suc, ◌+◌, Bool, true, false, cond, ◌&&◌, not, List, [], ◌∷◌, ◌++◌, Option}
+use Rattle.std.proofs.Common.{None, Some, option_map, refl, ap, sym, ◌∙◌, ⊎_elim}
 use Rattle.std.specs.Prelude.{is_some, slice_get, unwrap_or, ◌||◌}
 use Rattle.std.specs.Str.{bytes_eq}
 use Rattle.std.specs.List.{list_any}
@@ -7,7 +8,9 @@ use native.Mathlib.Numerals.{unary_clauses}
 use Rattle.std.proofs.lemmas.Bool.{cases_Bool}
 use Rattle.state_ops.specs.Operation.{Operation, delete, update, ordered, commit_floor}
 use Rattle.auth_store_parts.specs.Map.{Map, value_at, next_key, entry_of}
-use Rattle.auth_store_parts.specs.History.{History, latest_map, has_key, is_active, is_active_on, activity_bits, is_kept, deletes, updates, batch_operations, inactivity_floor, log_of, active_location, update_fields, active_update, IsState, AreStates, StandsAt}
+use Rattle.auth_store_parts.specs.History.{History, latest_map, has_key, is_active, is_active_on, activity_bits}
+use Rattle.auth_store_parts.specs.History.{is_kept, deletes, updates, batch_operations, inactivity_floor, log_of}
+use Rattle.auth_store_parts.specs.History.{active_location, update_fields, active_update, IsState, AreStates, StandsAt}
 use Rattle.auth_store_parts.specs.Laws.Lookups.{same, same_self, exact, none_later, IsState-tail}
 use Rattle.auth_store_parts.specs.Laws.Logs.{differ, true_false, false_true, passed_by, equal_bytes, kept_value}
 

@@ -1,5 +1,6 @@
 -- How the entries of a map of the code are seen as a state.
-use Rattle.std.proofs.Common.{◌≡◌, ℕ, Bor, Bool, true, false, cond, List, [], ◌∷◌, ◌++◌, Option, None, Some, option_map, refl, ap, sym, ◌∙◌}
+use Rattle.std.proofs.Common.{◌≡◌, ℕ, Bor, Bool, true, false, cond, List, [], ◌∷◌, ◌++◌, Option, None, Some, option_map}
+use Rattle.std.proofs.Common.{refl, ap, sym, ◌∙◌}
 use Rattle.std.specs.Prelude.{filter, slice_get, unwrap_or, option_copied, ◌&&◌}
 use Rattle.std.specs.declared.cmp.Ordering.{Ordering}
 use Rattle.std.specs.declared.cmp.Ordering.TheVariants.{Less, Equal, Greater}
@@ -12,7 +13,8 @@ use Rattle.std.proofs.lemmas.Map.Text.{is_eq-slice_cmp}
 use Rattle.std.specs.List.{AllZip}
 use Rattle.std.specs.Prelude.{Result, Ok, Err, MatchResult, IfOk}
 use Rattle.std.specs.Map.{lookup, remove_entry}
-use Rattle.auth_store_parts.specs.Map.{state_of, with_entry, without_key, value_at, above, first_key, next_key, key_order}
+use Rattle.auth_store_parts.specs.Map.{state_of, with_entry, without_key, value_at, above, first_key, next_key}
+use Rattle.auth_store_parts.specs.Map.{key_order}
 
 pub state_of-insert_entry : {K V : Type 0} (key : K → List ℕ) (value : V → List ℕ) (cmp : K → K → Ordering)
     → ((a b : K) → cmp a b ≡ key_order (key a) (key b))

@@ -1,5 +1,6 @@
 -- The log of a history stands for it.
-use Rattle.std.proofs.Common.{◌≡◌, ℕ, Bool, true, false, cond, ◌&&◌, List, [], ◌∷◌, ◌++◌, Option, None, Some, refl, ap, sym, ◌∙◌, ⊎_elim, append_assoc, length, length-append, ◌<◌, arith}
+use Rattle.std.proofs.Common.{◌≡◌, ℕ, Bool, true, false, cond, ◌&&◌, List, [], ◌∷◌, ◌++◌, Option, None, Some, refl, ap}
+use Rattle.std.proofs.Common.{sym, ◌∙◌, ⊎_elim, append_assoc, length, length-append, ◌<◌, arith}
 use Rattle.std.specs.Prelude.{is_some}
 use Rattle.std.specs.Str.{bytes_eq}
 use Rattle.std.proofs.lemmas.Bool.{cases_Bool}
@@ -9,10 +10,14 @@ use Rattle.std.proofs.lemmas.Cmp.{nat_list_cmp_total}
 use Rattle.std.specs.FinMap.Entries.{same_entries}
 use Rattle.state_ops.specs.Operation.{Operation, delete, update, ordered, commit_floor}
 use Rattle.auth_store_parts.specs.Map.{Map, with_entry, without_key, value_at, next_key, key_order}
-use Rattle.auth_store_parts.specs.History.{History, latest_map, is_value, is_kept, deletes, updates, batch_operations, inactivity_floor, with_commit, floor_after, last_floor, log_of, replayed, history_from, history_of, IsState, AreStates}
+use Rattle.auth_store_parts.specs.History.{History, latest_map, is_value, is_kept, deletes, updates, batch_operations}
+use Rattle.auth_store_parts.specs.History.{inactivity_floor, with_commit, floor_after, last_floor, log_of, replayed}
+use Rattle.auth_store_parts.specs.History.{history_from, history_of, IsState, AreStates}
 use Rattle.auth_store_parts.specs.Batch as batch
 use Rattle.auth_store_parts.specs.Batch.{Word, map_after}
-use Rattle.auth_store_parts.specs.Laws.Lookups.{same, exact, value_at-find, none_later, IsState-tail, IsState-with_entry, IsState-without_key, value_at-with_entry, value_at-without_key}
+use Rattle.auth_store_parts.specs.Laws.Lookups.{same, exact, value_at-find, none_later, IsState-tail}
+use Rattle.auth_store_parts.specs.Laws.Lookups.{IsState-with_entry, IsState-without_key, value_at-with_entry}
+use Rattle.auth_store_parts.specs.Laws.Lookups.{value_at-without_key}
 
 pub replayed-append : (s : Map) (xs ys : List Operation) → replayed s (xs ++ ys) ≡ replayed (replayed s xs) ys
 replayed-append s [] ys = refl

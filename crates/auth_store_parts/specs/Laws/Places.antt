@@ -1,5 +1,7 @@
 -- A key's place is the location of its active update.
-use Rattle.std.proofs.Common.{◌≡◌, ℕ, zero, suc, ◌+◌, ◌≤◌, Bool, true, false, cond, ◌&&◌, not, List, [], ◌∷◌, ◌++◌, drop, length, Option, None, Some, option_map, slice_get, ◌⊎◌, inl, inr, refl, ap, sym, ◌∙◌, ⊎_elim, arith}
+use Rattle.std.proofs.Common.{◌≡◌, ℕ, zero, suc, ◌+◌, ◌≤◌, Bool, true, false, cond, ◌&&◌, not, List, [], ◌∷◌, ◌++◌}
+use Rattle.std.proofs.Common.{drop, length, Option, None, Some, option_map, slice_get, ◌⊎◌, inl, inr, refl, ap, sym}
+use Rattle.std.proofs.Common.{◌∙◌, ⊎_elim, arith}
 use Rattle.std.specs.Prelude.{◌||◌, unwrap_or}
 use Rattle.std.specs.List.{list_any}
 use native.Mathlib.Numerals.{unary_clauses}
@@ -8,7 +10,8 @@ use Rattle.state_ops.specs.Operation.{Operation, delete, update, ordered, commit
 use Rattle.auth_store_parts.specs.Map.{Map, value_at, with_entry, without_key}
 use Rattle.auth_store_parts.specs.History.{has_key, is_active, is_active_on, active_location, activity_bits, IsState}
 use Rattle.auth_store_parts.specs.Places.{after_place, placed, places_of}
-use Rattle.auth_store_parts.specs.Laws.Lookups.{same, same_self, exact, IsState-with_entry, IsState-without_key, value_at-with_entry, value_at-without_key}
+use Rattle.auth_store_parts.specs.Laws.Lookups.{same, same_self, exact, IsState-with_entry, IsState-without_key}
+use Rattle.auth_store_parts.specs.Laws.Lookups.{value_at-with_entry, value_at-without_key}
 
 abbrev Place : Type 0
 Place = Option (List ℕ)

@@ -161,8 +161,8 @@ pub fn inactivity_floor_by<F: Family, K: FixedKey, V: FixedValue>(
     location as u64
 }
 
-/// The floor that a commit at the end of these operations records, where it is `start` or greater: the location of their
-/// first update that still counts, or their number where none does. It looks at none before `start`.
+/// The floor that a commit at the end of these operations records, where it is `start` or greater: the location of
+/// their first update that still counts, or their number where none does. It looks at none before `start`.
 pub fn inactivity_floor_from<F: Family, K: FixedKey, V: FixedValue>(
     operations: &[OrderedOperation<F, K, V>],
     start: u64,
@@ -180,8 +180,8 @@ pub fn inactivity_floor_from<F: Family, K: FixedKey, V: FixedValue>(
     (operations.len() - rest.len()) as u64
 }
 
-/// The floor that a commit at the end of these operations records: the location of their first update that still counts, or
-/// their number where none does.
+/// The floor that a commit at the end of these operations records: the location of their first update that still
+/// counts, or their number where none does.
 pub fn inactivity_floor<F: Family, K: FixedKey, V: FixedValue>(
     operations: &[OrderedOperation<F, K, V>],
 ) -> u64

@@ -14,7 +14,8 @@
 //!
 //! So no key is looked at that the batch does not name, and no map is made.
 
-ghost use Rattle.std.specs.Prelude.{◌≡◌, ◌+◌, ◌-◌, ◌<◌, ◌≤◌, ◌^◌, ◌&&◌, ℕ, List, Some, false, length, option_map, slice_get};
+ghost use Rattle.std.specs.Prelude.{◌≡◌, ◌+◌, ◌-◌, ◌<◌, ◌≤◌, ◌^◌, ◌&&◌, ℕ, List, Some, false, length, option_map};
+ghost use Rattle.std.specs.Prelude.{slice_get};
 ghost use Rattle.std.specs.Prelude.{IfOk, IfSome, MatchOption};
 ghost use Rattle.std.specs.Bool.{Decides};
 ghost use Rattle.std.specs.Str.{bytes_eq};
@@ -129,8 +130,8 @@ fn over_delete<'a, K: FixedKey, V: FixedValue>(
     Some((behind(key, &before.next_key), new))
 }
 
-/// The pointers behind an update whose key had this one before, where it had any. `None`: it may not be so. It fails only
-/// when out of memory.
+/// The pointers behind an update whose key had this one before, where it had any. `None`: it may not be so. It fails
+/// only when out of memory.
 fn over_update<'a, K: FixedKey, V: FixedValue>(
     room: &mut Vec<u8>,
     first_new: Option<&K>,
@@ -273,7 +274,8 @@ fn over_deletes<'a, F: Family, K: FixedKey, V: FixedValue>(
         let said = spec.meanings K.encoding V.encoding deletes.now in
         let p = chains.pointer K.encoding from.entry.0 in
         let q = chains.pointer K.encoding from.entry.1 in
-        MatchOption result ((first_old first_new : Pointer) → chains.over_deletes old first_old first_new said p q ≡ false)
+        MatchOption result ((first_old first_new : Pointer)
+        → chains.over_deletes old first_old first_new said p q ≡ false)
         (λ passed. (first_old first_new : Pointer) → chains.over_deletes old first_old first_new said p q
         ≡ chains.ends first_old first_new (chains.pointer K.encoding passed.0) (chains.pointer K.encoding passed.1)) }
 {
@@ -342,9 +344,9 @@ fn is_behind<F: Family, K: FixedKey, V: FixedValue>(
     }
 }
 
-/// Whether operations are the batch that leads from the state of a log, with these places and this first key, to the state
-/// that they lead to: deletes and updates in ascending order, of each key that changes or whose next key does, and of no
-/// other. They stand right behind the log. It fails only when out of memory.
+/// Whether operations are the batch that leads from the state of a log, with these places and this first key, to the
+/// state that they lead to: deletes and updates in ascending order, of each key that changes or whose next key does,
+/// and of no other. They stand right behind the log. It fails only when out of memory.
 pub fn is_batch_behind<F: Family, K: FixedKey, V: FixedValue>(
     alloc: Global,
     log: &[OrderedOperation<F, K, V>],

@@ -17,8 +17,8 @@ use state_ops::{FixedKey, FixedValue, Operation, OrderedOperation};
 use std::alloc::{AllocError, Global};
 use std::collections::BTreeMap;
 
-/// Whether two values have one encoding. They are written into `room`, whose bytes are of no use before or after. It fails
-/// only when out of memory.
+/// Whether two values have one encoding. They are written into `room`, whose bytes are of no use before or after. It
+/// fails only when out of memory.
 pub fn is_same_value<V: FixedValue>(
     room: &mut Vec<u8>,
     value: &V,
@@ -127,8 +127,8 @@ fn push_deletes<F: Family, K: FixedKey, V: FixedValue>(
     Ok(())
 }
 
-/// Appends an update for each key of the new state that isn't kept. Each key's next one is that of the entry behind it, and
-/// the first one behind the last. It fails only when out of memory.
+/// Appends an update for each key of the new state that isn't kept. Each key's next one is that of the entry behind it,
+/// and the first one behind the last. It fails only when out of memory.
 fn push_updates<F: Family, K: FixedKey, V: FixedValue>(
     alloc: Global,
     old: &BTreeMap<K, V>,

@@ -3,8 +3,8 @@
 //!     00 00 00 00 00 00 00 61   as a number 97
 //!     00 00 00 00 00 00 00 63   as a number 99: the key behind it
 //!
-//! Most keys that are sorted differ there, and one step compares two numbers where byte by byte it takes up to eight. Keys of eight
-//! bytes, which are those of the program, need no other step.
+//! Most keys that are sorted differ there, and one step compares two numbers where byte by byte it takes up to eight.
+//! Keys of eight bytes, which are those of the program, need no other step.
 
 ghost use Rattle.std.specs.Prelude.{◌≡◌, ◌<◌, ℕ, length, get_or, MatchOption};
 ghost use Rattle.std.specs.Bool.{Decides};

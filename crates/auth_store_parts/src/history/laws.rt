@@ -7,7 +7,8 @@ ghost use Rattle.auth_store_parts.specs.Map.{Map, value_at};
 ghost use Rattle.auth_store_parts.specs.Batch.{Word, map_after};
 ghost use Rattle.auth_store_parts.specs.Chains.{first_of, first_after};
 ghost use Rattle.auth_store_parts.specs.Places.{places_of};
-ghost use Rattle.auth_store_parts.specs.History.{History, IsState, AreStates, history_of, latest_map, log_of, batch_operations, replayed, has_key, is_commit, is_kept};
+ghost use Rattle.auth_store_parts.specs.History.{History, IsState, AreStates, history_of, latest_map, log_of};
+ghost use Rattle.auth_store_parts.specs.History.{batch_operations, replayed, has_key, is_commit, is_kept};
 
 /// A batch leads from a state to a state.
 pub fn batch_keeps_state()

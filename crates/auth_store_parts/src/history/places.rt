@@ -8,12 +8,14 @@
 //! where they ascend already, as those of a batch do; a map is made of them at once, and appended to the one that is
 //! there.
 
-ghost use Rattle.std.specs.Prelude.{◌≡◌, ◌+◌, ◌<◌, ◌≤◌, ◌^◌, ◌∷◌, ◌++◌, [], take, length, option_map, IfOk, OnOk, OnErr};
+ghost use Rattle.std.specs.Prelude.{◌≡◌, ◌+◌, ◌<◌, ◌≤◌, ◌^◌, ◌∷◌, ◌++◌, [], take, length, option_map, IfOk, OnOk};
+ghost use Rattle.std.specs.Prelude.{OnErr};
 ghost use Rattle.std.specs.BTreeMap.{IsFromIterResult};
 ghost use Rattle.state_ops.specs.Operation.{meaning_of};
 ghost use Rattle.auth_store_parts.specs.History as spec;
 ghost use Rattle.auth_store_parts.specs.Map.{state_of, value_at};
-ghost use Rattle.auth_store_parts.specs.Places.{after_place, placed, places_of, updates_in_front, located_key, located_keys};
+ghost use Rattle.auth_store_parts.specs.Places.{after_place, placed, places_of, updates_in_front, located_key};
+ghost use Rattle.auth_store_parts.specs.Places.{located_keys};
 
 use merkle_forest::Family;
 use state_ops::{FixedKey, FixedValue, Operation, OrderedOperation};
@@ -44,8 +46,8 @@ fn updates_in_front<F: Family, K: FixedKey, V: FixedValue>(
     count
 }
 
-/// Appends the key that an operation at this location names, with the location; for a commit nothing. It fails only when
-/// out of memory.
+/// Appends the key that an operation at this location names, with the location; for a commit nothing. It fails only
+/// when out of memory.
 fn push_located_key<F: Family, K: FixedKey, V: FixedValue>(
     location: usize,
     operation: &OrderedOperation<F, K, V>,

@@ -8,7 +8,8 @@
 //!
 //! All keys are put in order once, in the beginning, and none is moved after that.
 
-ghost use Rattle.std.specs.Prelude.{◌≡◌, ◌+◌, ◌<◌, ◌^◌, ◌++◌, ◌∷◌, [], false, ℕ, List, Option, None, Some, length, map, option_map, slice_get, IfOk, OnOk, IsPermutation};
+ghost use Rattle.std.specs.Prelude.{◌≡◌, ◌+◌, ◌<◌, ◌^◌, ◌++◌, ◌∷◌, [], false, ℕ, List, Option, None, Some, length, map};
+ghost use Rattle.std.specs.Prelude.{option_map, slice_get, IfOk, OnOk, IsPermutation};
 ghost use Rattle.std.specs.List.{All};
 ghost use Rattle.std.specs.List.Sorted.{IsSortedBy};
 ghost use Rattle.std.specs.Ordering.{is_lt};
@@ -16,7 +17,8 @@ ghost use Rattle.state_ops.specs.Operation.{meaning_of};
 ghost use Rattle.auth_store_parts.specs.History as spec;
 ghost use Rattle.auth_store_parts.specs.Map.{key_order, state_of, value_at};
 ghost use Rattle.auth_store_parts.specs.Places.{after_place, placed};
-ghost use Rattle.auth_store_parts.specs.Ranked.{AreAscending, AreNamed, last_key, names_at, place_at, places_at, with_place};
+ghost use Rattle.auth_store_parts.specs.Ranked.{AreAscending, AreNamed, last_key, names_at, place_at, places_at};
+ghost use Rattle.auth_store_parts.specs.Ranked.{with_place};
 
 use super::fronts::compare;
 use super::places::{Places, located_keys};
@@ -45,7 +47,8 @@ fn push_new_key<K: FixedKey>(keys: &mut Vec<K>, key: K) -> Result<(), AllocError
         → is_lt (key_order (K.encoding key) last) ≡ false }
     ensures ascending { OnOk result (AreAscending (map K.encoding keys.new.items)) }
     ensures last { OnOk result (last_key (map K.encoding keys.new.items) ≡ Some (K.encoding key)) }
-    ensures kept { OnOk result ((rank : ℕ) (other : List ℕ) → slice_get (map K.encoding keys.old.items) rank ≡ Some other
+    ensures kept { OnOk result ((rank : ℕ) (other : List ℕ) → slice_get (map K.encoding keys.old.items) rank
+        ≡ Some other
         → slice_get (map K.encoding keys.new.items) rank ≡ Some other) }
 {
     match keys.last() {
@@ -54,8 +57,8 @@ fn push_new_key<K: FixedKey>(keys: &mut Vec<K>, key: K) -> Result<(), AllocError
     }
 }
 
-/// The keys of a list in ascending order, each once, and for each of `count` locations the rank of the key that the list
-/// has there. It fails only when out of memory.
+/// The keys of a list in ascending order, each once, and for each of `count` locations the rank of the key that the
+/// list has there. It fails only when out of memory.
 fn rank_keys<K: FixedKey>(
     alloc: Global,
     sorted: Vec<(K, usize)>,
@@ -159,7 +162,8 @@ impl<K: FixedKey> RankedPlaces<K> {
         })
     }
 
-    /// Where the update stands that gives the key of the operation at this location its value. None: that key isn't there.
+    /// Where the update stands that gives the key of the operation at this location its value. None: that key isn't
+    /// there.
     pub fn get(&self, location: usize) -> Option<usize>
         ensures { (key : List ℕ) → slice_get self.now.names location ≡ Some (Some key)
             → option_map (λ place. place ∷ []) result ≡ value_at self.now.places key }

@@ -49,8 +49,8 @@ pub fn limits_of_scripts()
     ensures reads { MAX_READS ≡ 2 ^ 24 }
 {}
 
-/// All bytes that the reader has left, at most 2^24 of them in fewer than 2^24 reads. A read that fails, an interrupted one
-/// too, or a longer script: `Read`; out of memory: `Memory`. What was read is then lost.
+/// All bytes that the reader has left, at most 2^24 of them in fewer than 2^24 reads. A read that fails, an interrupted
+/// one too, or a longer script: `Read`; out of memory: `Memory`. What was read is then lost.
 pub fn read_script<R: Read>(alloc: Global, reader: &mut R) -> Result<Vec<u8>, InputError>
     ensures size { IfOk result (λ script. length script.items ≤ 2 ^ 24) }
     ensures bytes { IfOk result (λ script. IfSome (R.remaining reader.old) (λ bytes. script.items ≡ bytes)) }

@@ -1,5 +1,6 @@
 -- The bytes of a proof are read again, and stand for one proof.
-use Rattle.std.proofs.Common.{◌≡◌, ℕ, ◌^◌, ◌<◌, ◌≤◌, List, ◌++◌, length, Option, Some, None, Ok, ◌∙◌, ap, append_assoc, arith}
+use Rattle.std.proofs.Common.{◌≡◌, ℕ, ◌^◌, ◌<◌, ◌≤◌, List, ◌++◌, length, Option, Some, None, Ok, ◌∙◌, ap, append_assoc}
+use Rattle.std.proofs.Common.{arith}
 use Rattle.std.specs.Prelude.{IfSome}
 use Rattle.merkle_forest.specs.Codec.{◌>>=◌, Outcome, option_encoding, after_fixed, after_option}
 use Rattle.merkle_forest.specs.Laws.Codec.{fixed_again, option_again}
@@ -8,7 +9,8 @@ use Rattle.merkle_forest.specs.Varint.{varint, after_number}
 use Rattle.merkle_forest.specs.Laws.Varint.{after_number_again, number_within}
 use Rattle.merkle_core.specs.Laws.Proofs.{proof_again, proof_within}
 use Rattle.merkle_core.specs.Proofs.{proof_encoding, after_proof}
-use Rattle.state_proofs.specs.Encoded.{range_proof_encoding, operation_proof_encoding, after_range_proof, after_operation_proof, FitsRange, Fits}
+use Rattle.state_proofs.specs.Encoded.{range_proof_encoding, operation_proof_encoding, after_range_proof}
+use Rattle.state_proofs.specs.Encoded.{after_operation_proof, FitsRange, Fits}
 use Rattle.state_proofs.specs.Verified.{RangeParts, Parts}
 
 -- how a digest and what is held of the pending one are read: any bytes of its size are a digest

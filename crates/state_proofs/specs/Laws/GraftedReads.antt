@@ -1,5 +1,6 @@
 -- Reading the grafted tree: what is kept, what is made, and where nothing is read.
-use Rattle.std.proofs.Common.{◌≡◌, ℕ, ◌+◌, ◌-◌, ◌*◌, ◌/◌, ◌^◌, ◌<◌, ◌≤◌, List, Option, None, Some, refl, sym, ◌∙◌, ap, subst, arith}
+use Rattle.std.proofs.Common.{◌≡◌, ℕ, ◌+◌, ◌-◌, ◌*◌, ◌/◌, ◌^◌, ◌<◌, ◌≤◌, List, Option, None, Some, refl, sym, ◌∙◌, ap}
+use Rattle.std.proofs.Common.{subst, arith}
 use Rattle.std.specs.Option.{option_or}
 use Rattle.std.specs.Prelude.{option_and_then}
 use Rattle.std.proofs.lemmas.Bool.{cond-true, cond-false, lt-ltb, le-ltb}
@@ -16,7 +17,8 @@ use Rattle.merkle_core_parts.specs.Mem.{NodeHash}
 use Rattle.merkle_core.specs.Plans.{Lookup}
 use Rattle.merkle_core.specs.MultiReads.{both_there}
 use Rattle.merkle_core.specs.Subtrees.{IsTreeAt}
-use Rattle.state_proofs.specs.GraftedNodes.{TwoTrees, chunks_node, digest_of_found, grafted_lookup, known_or_made, node_over}
+use Rattle.state_proofs.specs.GraftedNodes.{TwoTrees, chunks_node, digest_of_found, grafted_lookup, known_or_made}
+use Rattle.state_proofs.specs.GraftedNodes.{node_over}
 use Rattle.state_proofs.specs.SameNodes.{IsSameNode}
 use Rattle.state_proofs.specs.Verifier.{node_at}
 use Rattle.state_proofs.specs.Laws.GraftedNodes.{Roots, node_over-is}

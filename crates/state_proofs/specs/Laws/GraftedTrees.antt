@@ -1,5 +1,7 @@
 -- What is read of a state's two trees are the digests of its grafted tree.
-use Rattle.std.proofs.Common.{◌≡◌, ◌⊎◌, inl, inr, ℕ, zero, suc, ◌+◌, ◌-◌, ◌*◌, ◌/◌, ◌^◌, ◌<◌, ◌≤◌, eqb, true, false, List, [], ◌∷◌, length, Option, None, Some, option_map, refl, sym, ◌∙◌, ap, ap₂, subst, arith}
+use Rattle.std.proofs.Common.{◌≡◌, ◌⊎◌, inl, inr, ℕ, zero, suc, ◌+◌, ◌-◌, ◌*◌, ◌/◌, ◌^◌, ◌<◌, ◌≤◌, eqb, true, false}
+use Rattle.std.proofs.Common.{List, [], ◌∷◌, length, Option, None, Some, option_map, refl, sym, ◌∙◌, ap, ap₂, subst}
+use Rattle.std.proofs.Common.{arith}
 use Rattle.std.specs.Option.{option_or}
 use Rattle.std.specs.Prelude.{IfSome, IsSome, option_and_then, slice_get, slice_index_or, unwrap_or}
 use Rattle.std.proofs.lemmas.Bool.{cases_lt, cond-true, cond-false, eq-eqb, ne_eqb, le-ltb}
@@ -18,13 +20,16 @@ use Rattle.merkle_core_parts.specs.Laws.Growth.{IsNew, grown}
 use Rattle.merkle_core_parts.specs.Laws.Held.{right-there}
 use Rattle.merkle_core_parts.specs.Laws.Mem.{get_some}
 use Rattle.merkle_core_parts.specs.Laws.Plain.{digest-plain, leaf-place, length-plain}
-use Rattle.merkle_core_parts.specs.Mem.{AreKeptNodes, AreNodesOf, Nodes, digest_at, node_at as kept_at, node_count, plain_leaf_digests, tree_digest}
+use Rattle.merkle_core_parts.specs.Mem.{AreKeptNodes, AreNodesOf, Nodes, digest_at, node_at as kept_at, node_count}
+use Rattle.merkle_core_parts.specs.Mem.{plain_leaf_digests, tree_digest}
 use Rattle.merkle_core.specs.Plans.{Lookup}
 use Rattle.merkle_core.specs.MultiReads.{both_there}
 use Rattle.merkle_core.specs.Subtrees.{HasTree}
 use Rattle.state_proofs.specs.Built.{IsSourceOf, Source}
 use Rattle.state_proofs.specs.Canonical.{Setting, State, chunk, chunk_bits, chunks, forest, grafted_digests}
-use Rattle.state_proofs.specs.GraftedNodes.{AreGraftedLeaves, IsLookupOfChunks, IsLookupOfOperations, TwoTrees, chunks_node, grafted_lookup, known_or_made, node_over, operations_position, position_or}
+use Rattle.state_proofs.specs.GraftedNodes.{AreGraftedLeaves, IsLookupOfChunks, IsLookupOfOperations, TwoTrees}
+use Rattle.state_proofs.specs.GraftedNodes.{chunks_node, grafted_lookup, known_or_made, node_over, operations_position}
+use Rattle.state_proofs.specs.GraftedNodes.{position_or}
 use Rattle.state_proofs.specs.Grafting.{grafted, grafted_digest}
 use Rattle.state_proofs.specs.SameNodes.{IsSameNode}
 use Rattle.state_proofs.specs.Verifier.{node_at}

@@ -1,5 +1,6 @@
 -- What is rebuilt as a canonical root has its form.
-use Rattle.std.proofs.Common.{◌≡◌, ℕ, ◌+◌, List, ◌++◌, length, Option, None, Some, option_map, refl, sym, ◌∙◌, ap, arith, length-append}
+use Rattle.std.proofs.Common.{◌≡◌, ℕ, ◌+◌, List, ◌++◌, length, Option, None, Some, option_map, refl, sym, ◌∙◌, ap}
+use Rattle.std.proofs.Common.{arith, length-append}
 use Rattle.merkle_forest.specs.Hashing.{Hash, number}
 use Rattle.state_proofs.specs.Canonical.{canonical_string}
 use Rattle.merkle_forest.specs.Made.{Made, both, value}

@@ -1,5 +1,6 @@
 -- What is rebuilt of a grafted tree has its form.
-use Rattle.std.proofs.Common.{◌≡◌, ℕ, ◌==◌, ltb, Bool, true, false, List, [], ◌∷◌, ◌++◌, length, refl, sym, ◌∙◌, ap, arith, length-append}
+use Rattle.std.proofs.Common.{◌≡◌, ℕ, ◌==◌, ltb, Bool, true, false, List, [], ◌∷◌, ◌++◌, length, refl, sym, ◌∙◌, ap}
+use Rattle.std.proofs.Common.{arith, length-append}
 use Rattle.std.proofs.lemmas.Bool.{eqb-true, and_parts}
 use Rattle.merkle_forest.specs.Hashing.{Hash, number}
 use Rattle.state_proofs.specs.Bits.{is_zero}

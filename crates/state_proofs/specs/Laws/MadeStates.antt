@@ -1,5 +1,7 @@
 -- A canonical root that a proof leads to: what the proof claims is true of the state, or strings collide.
-use Rattle.std.proofs.Common.{◌≡◌, ◌⊎◌, inl, inr, ⊎_elim, ℕ, zero, suc, ◌+◌, ◌/◌, ◌==◌, ◌<◌, ◌≤◌, ◌^◌, ltb, Bool, true, false, cond, List, [], ◌∷◌, ◌++◌, length, replicate, Option, IfSome, refl, sym, ◌∙◌, ap, subst, arith}
+use Rattle.std.proofs.Common.{◌≡◌, ◌⊎◌, inl, inr, ⊎_elim, ℕ, zero, suc, ◌+◌, ◌/◌, ◌==◌, ◌<◌, ◌≤◌, ◌^◌, ltb, Bool, true}
+use Rattle.std.proofs.Common.{false, cond, List, [], ◌∷◌, ◌++◌, length, replicate, Option, IfSome, refl, sym, ◌∙◌, ap}
+use Rattle.std.proofs.Common.{subst, arith}
 use Rattle.std.specs.Prelude.{slice_index_or}
 use Rattle.merkle_forest.specs.declared.bagging.Bagging.TheVariants.{BackwardFold}
 use Rattle.merkle_forest.specs.Forest.{Tree, leaf, branch, height, leaf_count, Rule}
@@ -80,8 +82,8 @@ told_in Told claimed real start stop l first node from to low high tall at (bran
     (λ w. told_in Told claimed real start stop l first node from to low high tall (at + leaf_count a) b w parts.2) inside)
     within
 
--- what such a proof holds besides the range's: the root of the operations' tree and the digests of the pending and the partial chunk, or
--- these chunks where the range covers them
+-- what such a proof holds besides the range's: the root of the operations' tree and the digests of the pending and the
+-- partial chunk, or these chunks where the range covers them
 abbrev pub claimed_parts : List ℕ → Option Made → Option (ℕ × Made) → Made → CanonicalParts
 claimed_parts operations_root pending partial root = record {
   operations = bytes operations_root;

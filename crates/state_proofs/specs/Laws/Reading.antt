@@ -1,5 +1,6 @@
 -- Proofs that the code holds are within the limits, and are read again.
-use Rattle.std.proofs.Common.{◌≡◌, ℕ, ◌^◌, ◌<◌, ◌≤◌, Bool, true, false, List, ◌++◌, length, Option, Some, None, Ok, append_assoc, arith}
+use Rattle.std.proofs.Common.{◌≡◌, ℕ, ◌^◌, ◌<◌, ◌≤◌, Bool, true, false, List, ◌++◌, length, Option, Some, None, Ok}
+use Rattle.std.proofs.Common.{append_assoc, arith}
 use Rattle.std.specs.Prelude.{IfSome, IsTrue, option_map}
 use Rattle.std.proofs.lemmas.List.{length-map}
 use Rattle.merkle_forest.specs.Codec.{◌>>=◌, Outcome}
@@ -7,7 +8,8 @@ use Rattle.merkle_forest.specs.Lists.{AreItems}
 use Rattle.merkle_core.specs.Laws.Proofs.{all_sized}
 use Rattle.state_proofs.specs.declared.operation.Proof.{Proof}
 use Rattle.state_proofs.specs.declared.proof.RangeProof.{RangeProof}
-use Rattle.state_proofs.specs.Encoded.{range_proof_encoding, operation_proof_encoding, key_value_proof_encoding, after_range_proof, after_operation_proof, FitsRange, Fits}
+use Rattle.state_proofs.specs.Encoded.{range_proof_encoding, operation_proof_encoding, key_value_proof_encoding}
+use Rattle.state_proofs.specs.Encoded.{after_range_proof, after_operation_proof, FitsRange, Fits}
 use Rattle.state_proofs.specs.Forms.{Told, after_told, after_form}
 use Rattle.state_proofs.specs.Laws.Encoded.{Grammar, range_again, operation_again, operation_within}
 use Rattle.state_proofs.specs.ProofsCode.{range_parts_of, form_parts_of}

@@ -1,5 +1,6 @@
 -- Roots of equal parts are equal.
-use Rattle.std.proofs.Common.{◌≡◌, ℕ, zero, suc, ◌+◌, ◌*◌, ◌<◌, Bool, true, false, ltb, eqb, List, [], length, drop, Option, Some, None, refl, ◌∙◌, ap, arith}
+use Rattle.std.proofs.Common.{◌≡◌, ℕ, zero, suc, ◌+◌, ◌*◌, ◌<◌, Bool, true, false, ltb, eqb, List, [], length, drop}
+use Rattle.std.proofs.Common.{Option, Some, None, refl, ◌∙◌, ap, arith}
 use Rattle.std.specs.Prelude.{IsSome, IfSome, option_map, slice_index_or, if◌then◌else◌, ◌==◌}
 use Rattle.std.proofs.lemmas.Bool.{lt-ltb}
 use Rattle.state_bitmap.specs.Bits.{chunks_of}
@@ -9,7 +10,9 @@ use Rattle.merkle_forest.specs.Forest.{Tree}
 use Rattle.merkle_forest.specs.Hashing.{Hash, root_of}
 use Rattle.merkle_forest.specs.Nodes.{nodes_of_height}
 use Rattle.merkle_forest.specs.Trees.{Located, located, plain_digest, peak_digests, inactive_peaks, tree_root}
-use Rattle.state_proofs.specs.Canonical.{Setting, State, chunk_bits, chunks, operations_root, grafted_root, grafted_digests, grafted_inactive, forest, full_chunks, next_bit, pending_digest, partial_digest}
+use Rattle.state_proofs.specs.Canonical.{Setting, State, chunk_bits, chunks, operations_root, grafted_root}
+use Rattle.state_proofs.specs.Canonical.{grafted_digests, grafted_inactive, forest, full_chunks, next_bit}
+use Rattle.state_proofs.specs.Canonical.{pending_digest, partial_digest}
 use Rattle.state_proofs.specs.Grafting.{grafted_digest, chunk_aligned_inactive_peaks}
 
 -- a root of the operations' tree, from what the code computes

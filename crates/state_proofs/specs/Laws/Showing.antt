@@ -1,9 +1,12 @@
 -- What bytes show, from the proof that was read of them.
-use Rattle.std.proofs.Common.{◌≡◌, ℕ, ◌^◌, ◌<◌, List, [], Bool, true, false, Result, Ok, Err, refl, sym, ◌∙◌, subst, arith}
-use Rattle.std.specs.Prelude.{IfOk, IsTrue}
+use Rattle.std.proofs.Common.{◌≡◌, ℕ, ◌^◌, ◌<◌, List, [], Bool, true, false, Result, Ok, Err, refl, sym, ◌∙◌, subst}
+use Rattle.std.proofs.Common.{arith}
+use Rattle.std.specs.Prelude.{IfOk, IsTrue, OnOk}
 use Rattle.merkle_forest.specs.Codec.{Outcome, Refuses}
 use Rattle.merkle_forest.specs.declared.codec.error.Error.{Error}
-use Rattle.merkle_forest.specs.declared.codec.error.Error.TheVariants.{EndOfBuffer, ExtraData, InvalidVarint, InvalidBool, InvalidEnum, InvalidLength, Invalid, Memory}
+use Rattle.merkle_forest.specs.declared.codec.error.Error.TheVariants.{EndOfBuffer, ExtraData, InvalidVarint}
+use Rattle.merkle_forest.specs.declared.codec.error.Error.TheVariants.{InvalidBool, InvalidEnum, InvalidLength, Invalid}
+use Rattle.merkle_forest.specs.declared.codec.error.Error.TheVariants.{Memory}
 use Rattle.state_proofs.specs.Encoded.{key_value_proof_encoding, after_key_value_proof, Format, Fits, ShowsUpdate}
 use Rattle.state_proofs.specs.Laws.Encoded.{Grammar, operation_again}
 use Rattle.state_proofs.specs.Laws.Once.{key_value_once}
@@ -56,6 +59,18 @@ pub refused_shows : {C : Type 0} (Showing : Type 0) (e : Error) (outcome : Resul
 refused_shows Showing e (Err x) refused memory = tt
 refused_shows Showing e (Ok said) refused memory =
     (λ is. absurd (let no : false ≡ true = sym refused.0 ∙ is in cc), λ it. absurd (refused.1 (memory it)))
+
+-- nor does it say yes, so that whatever is said of a yes holds
+pub refused_says_no : {C : Type 0} (Said : Type 0) (e : Error) (outcome : Result Bool C)
+    → IfOk outcome (λ yes. (yes ≡ false) × (e ≡ Memory → ⊥)) → IfOk outcome (λ yes. IsTrue yes → Said)
+refused_says_no Said e (Err x) refused = tt
+refused_says_no Said e (Ok said) refused = λ is. absurd (let no : false ≡ true = sym refused.0 ∙ is in cc)
+
+-- what is said of each answer is said of a yes
+pub said_on_yes : {C : Type 0} (A B : Type 0) (outcome : Result Bool C) → OnOk outcome A → OnOk outcome B
+    → IfOk outcome (λ yes. IsTrue yes → A × B)
+said_on_yes A B (Err x) one other = tt
+said_on_yes A B (Ok said) one other = λ is. (one, other)
 
 -- what is answered alike
 pub answered_alike : {C : Type 0} (A B : Type 0) (outcome : Result Bool C)

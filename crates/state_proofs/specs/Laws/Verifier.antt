@@ -1,5 +1,8 @@
--- The hasher over a range of operations: where a position's node is found, and that it hashes as the grafted tree is made.
-use Rattle.std.proofs.Common.{◌≡◌, ◌⊎◌, inl, inr, ⊎_elim, ℕ, zero, suc, ◌+◌, ◌-◌, ◌/◌, ◌^◌, ◌<◌, ◌≤◌, eqb, leb, ltb, cond, ◌&&◌, Bool, true, false, List, [], ◌∷◌, length, replicate, Option, None, Some, refl, sym, ◌∙◌, ap, subst, arith}
+-- The hasher over a range of operations: where a position's node is found, and that it hashes as the grafted tree is
+-- made.
+use Rattle.std.proofs.Common.{◌≡◌, ◌⊎◌, inl, inr, ⊎_elim, ℕ, zero, suc, ◌+◌, ◌-◌, ◌/◌, ◌^◌, ◌<◌, ◌≤◌, eqb, leb, ltb}
+use Rattle.std.proofs.Common.{cond, ◌&&◌, Bool, true, false, List, [], ◌∷◌, length, replicate, Option, None, Some, refl}
+use Rattle.std.proofs.Common.{sym, ◌∙◌, ap, subst, arith}
 use Rattle.std.specs.Prelude.{slice_index_or}
 use Rattle.std.proofs.lemmas.Bool.{eqb-true, ne_eqb, eq-eqb, le-leb, lt-leb, le-ltb, lt-ltb}
 use Rattle.std.proofs.lemmas.List.{length-replicate}
@@ -14,7 +17,8 @@ use Rattle.merkle_core.specs.Subtrees.{HasTree}
 use Rattle.state_proofs.specs.Grafting.{grafted}
 use Rattle.state_proofs.specs.Laws.MadeStates.{value_case, no_chunk}
 use Rattle.state_proofs.specs.MadeGrafted.{grafted_over}
-use Rattle.state_proofs.specs.Verifier.{first_there, found_in, found_among, node_at, Given, given_chunk, joined_chunk, grafted_node, claimed_chunk}
+use Rattle.state_proofs.specs.Verifier.{first_there, found_in, found_among, node_at, Given, given_chunk, joined_chunk}
+use Rattle.state_proofs.specs.Verifier.{grafted_node, claimed_chunk}
 
 -- what is found is a node there
 record IsFound (At : ℕ → Tree → Type 0) (p : ℕ) (x : ℕ × ℕ) : Type 0 where

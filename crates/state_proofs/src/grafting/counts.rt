@@ -63,8 +63,8 @@ fn peak_end<F: Family>(leaves: u64, first: u64) -> u64
     first + (1u64 << height)
 }
 
-// Of the peaks from the one on that begins at `first`: how many first ones stand before the floor, of which the last one
-// ends at a chunk's border.
+// Of the peaks from the one on that begins at `first`: how many first ones stand before the floor, of which the last
+// one ends at a chunk's border.
 fn aligned_from<F: Family>(leaves: u64, first: u64, floor: u64, bits: u64) -> usize
     requires few { leaves ≤ MAX_LEAVES }
     requires some { 0 < bits }

@@ -30,9 +30,9 @@ fn position_over<F: Graftable>(chunk: u64, height: u32, grafting_height: u32) ->
     Some(F::subtree_root(first, high))
 }
 
-/// A hasher of the tree of the chunks, whose leaves have chunks joined in. A branch is hashed as the inner hasher hashes
-/// the operations' branch over the same chunks, at that one's position; all else as the inner one hashes it. Where no
-/// tree of up to `MAX_LEAVES` operations has such a branch, it is hashed at its own position.
+/// A hasher of the tree of the chunks, whose leaves have chunks joined in. A branch is hashed as the inner hasher
+/// hashes the operations' branch over the same chunks, at that one's position; all else as the inner one hashes it.
+/// Where no tree of up to `MAX_LEAVES` operations has such a branch, it is hashed at its own position.
 /// In the Rust: `qmdb::current::grafting::GraftedHasher`.
 #[derive(Drop)]
 pub struct GraftedHasher<F: Graftable, H> {

@@ -13,9 +13,9 @@ use merkle_forest::hasher::{HashFunction, Hasher, Standard};
 use merkle_forest::{Bagging, Digest, Graftable, MAX_LEAVES, Position};
 
 /// The grafted tree over a tree of operations and the tree of their chunks, of which either may be pruned. It has the
-/// leaves and the positions of the operations' tree. A node below the grafting height is read from that tree, one at that
-/// height or above it from the tree of the chunks; where it is not there, it is made again of its children, and these in
-/// the same way. None: a leaf of the chunks would be needed that is not there, or an operations' node is not.
+/// leaves and the positions of the operations' tree. A node below the grafting height is read from that tree, one at
+/// that height or above it from the tree of the chunks; where it is not there, it is made again of its children, and
+/// these in the same way. None: a leaf of the chunks would be needed that is not there, or an operations' node is not.
 /// In the Rust: `qmdb::current::grafting::Storage`.
 #[derive(Drop)]
 pub struct Storage<'a, F: Graftable, H, G, S> {

@@ -26,8 +26,9 @@ pub(crate) fn covering_chunk<'a, C: AsSlice<u8>>(
     }
 }
 
-/// A hasher of the grafted tree over a range of operations. Below and above the grafting height a branch is hashed as in
-/// the operations' tree; at that height the chunk over it is joined in, where it is graftable and is one of those given.
+/// A hasher of the grafted tree over a range of operations. Below and above the grafting height a branch is hashed as
+/// in the operations' tree; at that height the chunk over it is joined in, where it is graftable and is one of those
+/// given.
 /// In the Rust: `qmdb::current::grafting::Verifier`, which owns the list of chunks.
 #[derive(Drop)]
 pub struct Verifier<'a, F: Graftable, H, C = &'a [u8]> {

@@ -21,9 +21,9 @@ use merkle_forest::{Digest, Graftable, Location, PendingOf};
 use std::alloc::Global;
 
 impl<F: Graftable + PendingOf<D>, D: Digest> Proof<F, D> {
-    /// The proof of the operation at a planned location, from the digests of nodes that a function gives, the state's bits
-    /// and floor and the root of its operations' tree. It is the honest one where all these are of one state. Where the
-    /// operation's chunk is pruned: Q2; then it is refused as `RangeProof::build` refuses; out of memory: Q4.
+    /// The proof of the operation at a planned location, from the digests of nodes that a function gives, the state's
+    /// bits and floor and the root of its operations' tree. It is the honest one where all these are of one state.
+    /// Where the operation's chunk is pruned: Q2; then it is refused as `RangeProof::build` refuses; out of memory: Q4.
     /// In the Rust: `qmdb::current::proof::operation::Proof::build`.
     pub fn build<
         H: HashFunction<Digest = D>,
@@ -79,10 +79,10 @@ impl<F: Graftable + PendingOf<D>, D: Digest> Proof<F, D> {
         })
     }
 
-    /// The proof of the operation at a location of a tree, whose nodes are read, with the state's bits and floor and the
-    /// root of its operations' tree. It is the honest one where all these are of one state. Where the operation's chunk
-    /// is pruned: Q2; where the tree has no leaf there: Q3 with M7 and the location; then it is refused as `build`
-    /// refuses; out of memory: Q4.
+    /// The proof of the operation at a location of a tree, whose nodes are read, with the state's bits and floor and
+    /// the root of its operations' tree. It is the honest one where all these are of one state. Where the operation's
+    /// chunk is pruned: Q2; where the tree has no leaf there: Q3 with M7 and the location; then it is refused as
+    /// `build` refuses; out of memory: Q4.
     /// In the Rust: `qmdb::current::proof::operation::Proof::new`.
     pub fn new<
         H: HashFunction<Digest = D>,

@@ -1,16 +1,20 @@
 //! Proofs over a range of operations that are built out of known nodes and the bits of a bitmap.
 
-ghost use Rattle.std.specs.Prelude.{◌≡◌, ◌<◌, ◌≤◌, ◌*◌, ◌/◌, ◌%◌, ◌^◌, ◌==◌, ℕ, Some, None, map, length, drop, min, nat_lt, if◌then◌else◌, IfOk, IfErr, OnOk, option_map};
+ghost use Rattle.std.specs.Prelude.{◌≡◌, ◌<◌, ◌≤◌, ◌*◌, ◌/◌, ◌%◌, ◌^◌, ◌==◌, ℕ, Some, None, map, length, drop, min};
+ghost use Rattle.std.specs.Prelude.{nat_lt, if◌then◌else◌, IfOk, IfErr, OnOk, option_map};
 ghost use Rattle.merkle_core.specs.MadeRoots.{peaks_of};
-ghost use Rattle.merkle_core.specs.Plans.{Lookup, AnswersAs, IsWithinTree, first_missing, honest_digests, looked_up, range_positions};
+ghost use Rattle.merkle_core.specs.Plans.{Lookup, AnswersAs, IsWithinTree, first_missing, honest_digests, looked_up};
+ghost use Rattle.merkle_core.specs.Plans.{range_positions};
 ghost use Rattle.merkle_forest.specs.declared.bagging.Bagging.TheVariants.{BackwardFold};
 ghost use Rattle.merkle_forest.specs.Forest.{forest_of};
 ghost use Rattle.merkle_forest.specs.Nodes.{nodes_of_height};
 ghost use Rattle.state_proofs.specs.declared.error.Error.TheVariants.{DataCorrupted};
 ghost use Rattle.state_bitmap.specs.Bits.{IsChunkWidth, chunk_of};
-ghost use Rattle.state_proofs.specs.Built.{AreApart, IsBuildable, IsRefusalOfNodes, IsRefusalOfPlanned, IsRefusalOfSource, IsSourceOf, lifted};
+ghost use Rattle.state_proofs.specs.Built.{AreApart, IsBuildable, IsRefusalOfNodes, IsRefusalOfPlanned};
+ghost use Rattle.state_proofs.specs.Built.{IsRefusalOfSource, IsSourceOf, lifted};
 ghost use Rattle.state_proofs.specs.BuiltCode.{measures_with, setting_with, source_of, span_of};
-ghost use Rattle.state_proofs.specs.Canonical.{State, operations_root, partial_digest as partial_of, pending_digest as pending_of};
+ghost use Rattle.state_proofs.specs.Canonical.{State, operations_root, partial_digest as partial_of};
+ghost use Rattle.state_proofs.specs.Canonical.{pending_digest as pending_of};
 ghost use Rattle.state_proofs.specs.Grafting.{chunk_aligned_inactive_peaks as aligned_peaks};
 ghost use Rattle.state_proofs.specs.Honest.{honest_range};
 ghost use Rattle.state_proofs.specs.ProofsCode.{range_parts_of};
@@ -127,8 +131,8 @@ fn grafted_proof<F: Graftable, H: HashFunction, G: Fn(u64) -> Option<H::Digest>>
     }
 }
 
-// What a proof holds of the chunks that are not joined in: of the pending one and of the partial one. Where the bits are
-// not as many as the operations, more than one chunk is pending, or a pruned one has no node: Q1.
+// What a proof holds of the chunks that are not joined in: of the pending one and of the partial one. Where the bits
+// are not as many as the operations, more than one chunk is pending, or a pruned one has no node: Q1.
 fn held_digests<
     F: Graftable + PendingOf<H::Digest>,
     B: BitmapReadable<N>,
@@ -161,10 +165,10 @@ fn held_digests<
 
 impl<F: Graftable + PendingOf<D>, D: Digest> RangeProof<F, D> {
     /// The proof over a planned range, from the digests of nodes that a function gives, the state's bits and floor and
-    /// the root of its operations' tree. It is the honest one where all these are of one state. Where the function gives
-    /// no digest for a node that the proof is made of: Q3 with M10 and the first such position; where the bits are not as
-    /// many as the operations, more than one full chunk has no node, or a pruned one has none: Q1, in this order; out of
-    /// memory: Q4.
+    /// the root of its operations' tree. It is the honest one where all these are of one state. Where the function
+    /// gives no digest for a node that the proof is made of: Q3 with M10 and the first such position; where the bits
+    /// are not as many as the operations, more than one full chunk has no node, or a pruned one has none: Q1, in this
+    /// order; out of memory: Q4.
     /// In the Rust: `qmdb::current::proof::RangeProof::build`, which takes the plan.
     pub fn build<
         H: HashFunction<Digest = D>,
@@ -213,9 +217,10 @@ impl<F: Graftable + PendingOf<D>, D: Digest> RangeProof<F, D> {
         })
     }
 
-    /// The proof over a range of the operations of a tree, whose nodes are read, with the state's bits and floor and the
-    /// root of its operations' tree. It is the honest one where all these are of one state. Where the range is empty: Q3
-    /// with M4; where it ends past the operations: Q3 with M5 and its end; then it is refused as `build` refuses.
+    /// The proof over a range of the operations of a tree, whose nodes are read, with the state's bits and floor and
+    /// the root of its operations' tree. It is the honest one where all these are of one state. Where the range is
+    /// empty: Q3 with M4; where it ends past the operations: Q3 with M5 and its end; then it is refused as `build`
+    /// refuses.
     /// In the Rust: `qmdb::current::proof::RangeProof::new`.
     pub fn new<
         H: HashFunction<Digest = D>,

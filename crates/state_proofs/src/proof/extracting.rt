@@ -109,8 +109,8 @@ fn extract_encoded<F: Graftable + PendingOf<H::Digest>, H: HashFunction>(
 /// The nodes of the grafted tree that the proof tells, each with its position and its digest, in ascending position,
 /// where it shows that these operations stand in the state of this root from a location on, and that the chunks over
 /// them are these: the peaks that it gives singly, and in the peaks that meet the range each node that it gives or that
-/// is made of others. Where the proof leads to no root, for the size of chunks, the shape of what is shown, the digest of
-/// a chunk, or too few digests or too many: M15; to another root: M17; out of memory: M23.
+/// is made of others. Where the proof leads to no root, for the size of chunks, the shape of what is shown, the digest
+/// of a chunk, or too few digests or too many: M15; to another root: M17; out of memory: M23.
 /// In the Rust: `qmdb::current::proof::verify_proof_and_extract_digests`, which takes no allocator.
 pub fn verify_proof_and_extract_digests<
     F: Graftable + PendingOf<H::Digest>,

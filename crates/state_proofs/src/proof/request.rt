@@ -1,6 +1,7 @@
 //! Proofs over as many operations as are asked for, with these and their chunks.
 
-ghost use Rattle.std.specs.Prelude.{◌≡◌, ◌<◌, ◌≤◌, ◌⊎◌, ◌+◌, ◌-◌, ◌*◌, ◌/◌, ◌^◌, ℕ, length, take, drop, map, IfOk, IfErr, OnOk};
+ghost use Rattle.std.specs.Prelude.{◌≡◌, ◌<◌, ◌≤◌, ◌⊎◌, ◌+◌, ◌-◌, ◌*◌, ◌/◌, ◌^◌, ℕ, length, take, drop, map, IfOk};
+ghost use Rattle.std.specs.Prelude.{IfErr, OnOk};
 ghost use Rattle.std.specs.List.{range_with_len};
 ghost use Rattle.std.specs.NonZero.{non_zero_u64_get};
 ghost use Rattle.state_proofs.specs.declared.error.Error.TheVariants.{Memory};
@@ -134,12 +135,15 @@ impl<F: Graftable + PendingOf<D>, D: Digest> RangeProof<F, D> {
             → state.floor ≡ request.inactivity_floor → operations_root setting state ≡ D.encoding request.ops_root
             → IfOk result (λ it. range_parts_of D.encoding F.held it.0
             ≡ honest_range setting state request.start_loc stop) }
-        ensures operations { let stop = end_of request.start_loc (non_zero_u64_get request.max_ops) (length (B.bits status.now)) in
+        ensures operations { let stop = end_of request.start_loc (non_zero_u64_get request.max_ops)
+            (length (B.bits status.now)) in
             IfOk result (λ it. map L.Operation.encoding it.1.items
             ≡ take (stop - request.start_loc) (drop request.start_loc (L.operations log.now))) }
-        ensures there { let stop = end_of request.start_loc (non_zero_u64_get request.max_ops) (length (B.bits status.now)) in
+        ensures there { let stop = end_of request.start_loc (non_zero_u64_get request.max_ops)
+            (length (B.bits status.now)) in
             OnOk result (stop ≤ length (L.operations log.now)) }
-        ensures chunks { let stop = end_of request.start_loc (non_zero_u64_get request.max_ops) (length (B.bits status.now)) in
+        ensures chunks { let stop = end_of request.start_loc (non_zero_u64_get request.max_ops)
+            (length (B.bits status.now)) in
             IfOk result (λ it. it.2.items
             ≡ chunks_between N request.start_loc stop (B.bits status.now)) }
         ensures begun { (height : ℕ) → 8 * N ≡ 2 ^ height

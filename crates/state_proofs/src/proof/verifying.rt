@@ -1,12 +1,14 @@
 //! The check of a proof over a range of operations.
 
-ghost use Rattle.std.specs.Prelude.{◌≡◌, ◌↔◌, ◌<◌, ◌≤◌, ◌+◌, ◌-◌, ◌*◌, ◌/◌, ◌^◌, ℕ, List, [], IsTrue, MatchOption, map, length, option_map, slice_index_or};
+ghost use Rattle.std.specs.Prelude.{◌≡◌, ◌↔◌, ◌<◌, ◌≤◌, ◌+◌, ◌-◌, ◌*◌, ◌/◌, ◌^◌, ℕ, List, [], IsTrue, MatchOption, map};
+ghost use Rattle.std.specs.Prelude.{length, option_map, slice_index_or};
 ghost use Rattle.std.specs.List.{AllByRecursion};
 ghost use Rattle.merkle_forest.specs.Made.{value};
 ghost use Rattle.state_proofs.specs.Canonical.{canonical_string};
 ghost use Rattle.state_proofs.specs.ProofsCode.{range_parts_of};
 ghost use Rattle.state_proofs.specs.RangeExtracted.{LeadsNowhere};
-ghost use Rattle.state_proofs.specs.Verified.{Covers, covering, FitsShown, IsShaped, VerifiesRange, given_by, graftable_shown, shown_grafted, FitsChunk};
+ghost use Rattle.state_proofs.specs.Verified.{Covers, covering, FitsShown, IsShaped, VerifiesRange, given_by};
+ghost use Rattle.state_proofs.specs.Verified.{graftable_shown, shown_grafted, FitsChunk};
 ghost use Rattle.state_proofs.specs.ShownCode.{form_shown_of};
 ghost use Rattle.state_proofs.specs.VerifierCode.{form_given_of};
 
@@ -56,8 +58,8 @@ fn fits_chunk<H: HashFunction>(
     }
 }
 
-// Whether the digest of the chunk with this index is held exactly if the chunk is there, and is that of the chunk that is
-// shown if this is covered.
+// Whether the digest of the chunk with this index is held exactly if the chunk is there, and is that of the chunk that
+// is shown if this is covered.
 fn fits_index<H: HashFunction, C: AsSlice<u8>>(
     shown: &Shown<'_, C>,
     digest: &Option<H::Digest>,
@@ -77,7 +79,8 @@ fn fits_index<H: HashFunction, C: AsSlice<u8>>(
     )
 }
 
-// Whether the digests of the pending and of the partial chunk fit the number of operations and the chunks that are shown.
+// Whether the digests of the pending and of the partial chunk fit the number of operations and the chunks that are
+// shown.
 fn fits_shown<F: Graftable + PendingOf<H::Digest>, H: HashFunction, C: AsSlice<u8>>(
     proof: &RangeProof<F, H::Digest>,
     shown: &Shown<'_, C>,
@@ -121,7 +124,8 @@ fn is_shaped<C: AsSlice<u8>>(shown: &Shown<'_, C>, leaves: u64) -> bool
     last - first + 1 == shown.chunks.len() as u64 && are_wide(shown.chunks, shown.chunk_size.width)
 }
 
-// The hasher of the grafted tree with the chunks that are shown, of which so many first ones of the state are graftable.
+// The hasher of the grafted tree with the chunks that are shown, of which so many first ones of the state are
+// graftable.
 pub(crate) fn shown_hasher<'a, F: Graftable, H: HashFunction, C: AsSlice<u8>>(
     shown: &Shown<'a, C>,
     graftable: u64,
@@ -224,7 +228,8 @@ fn verifies_shown<F: Graftable + PendingOf<H::Digest>, H: HashFunction, C: AsSli
     }
 }
 
-// Whether the proof shows these encoded operations from a location on, with these chunks over them of so many bytes each.
+// Whether the proof shows these encoded operations from a location on, with these chunks over them of so many bytes
+// each.
 fn verifies_chunks<F: Graftable + PendingOf<H::Digest>, H: HashFunction, C: AsSlice<u8>>(
     proof: &RangeProof<F, H::Digest>,
     start: u64,
@@ -255,11 +260,11 @@ fn verifies_chunks<F: Graftable + PendingOf<H::Digest>, H: HashFunction, C: AsSl
 }
 
 impl<F: Graftable + PendingOf<D>, D: Digest> RangeProof<F, D> {
-    /// Whether the proof shows that these encoded operations stand in the state of this root from a location on, and that
-    /// the chunks over them, of so many bytes each, are these. It does not where there is no operation, one stands past
-    /// the leaves, the chunks are not as many or not as wide, or their bits are no power of two or more than 2^62; nor
-    /// where more than one full chunk has no node, or the digest of the pending or of the partial chunk is missing, is
-    /// held without its chunk, or is not that of the chunk that is shown.
+    /// Whether the proof shows that these encoded operations stand in the state of this root from a location on, and
+    /// that the chunks over them, of so many bytes each, are these. It does not where there is no operation, one stands
+    /// past the leaves, the chunks are not as many or not as wide, or their bits are no power of two or more than 2^62;
+    /// nor where more than one full chunk has no node, or the digest of the pending or of the partial chunk is missing,
+    /// is held without its chunk, or is not that of the chunk that is shown.
     /// In the Rust: `qmdb::current::proof::RangeProof::verify_with_chunk_size`, which encodes the operations itself.
     pub fn verify_with_chunk_size<H: HashFunction<Digest = D>>(
         &self,
@@ -282,9 +287,9 @@ impl<F: Graftable + PendingOf<D>, D: Digest> RangeProof<F, D> {
         verifies_chunks::<F, H, _>(self, start, operations, chunks, chunk_size, root)
     }
 
-    /// Whether the proof shows that these encoded operations stand in the state of this root from a location on, and that
-    /// the chunks over them, of N bytes each, are these. It does not where `verify_with_chunk_size` says no. It takes no
-    /// memory. In the Rust: `qmdb::current::proof::RangeProof::verify`, which encodes the operations itself.
+    /// Whether the proof shows that these encoded operations stand in the state of this root from a location on, and
+    /// that the chunks over them, of N bytes each, are these. It does not where `verify_with_chunk_size` says no. It
+    /// takes no memory. In the Rust: `qmdb::current::proof::RangeProof::verify`, which encodes the operations itself.
     pub fn verify<H: HashFunction<Digest = D>, const N: usize>(
         &self,
         start_loc: Location<F>,

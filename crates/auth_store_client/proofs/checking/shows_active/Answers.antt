@@ -10,8 +10,8 @@ use Rattle.auth_store_client.specs.Claims.{Terms, terms}
 use Rattle.auth_store_client.proofs.Shown.{active_exactly, active_elsewhere}
 use Rattle.auth_store_client.proofs.checking.shows_active.Goals as goal
 
-pub returns-in_ok-operation-in-Some : goal.returns-in_ok-operation-in-Some
-returns-in_ok-operation-in-Some g c =
+pub returns-in_ok-operation-in-Some-clause-exact : goal.returns-in_ok-operation-in-Some-clause-exact
+returns-in_ok-operation-in-Some-clause-exact g c =
     let those : Terms = terms g.F.Family.merge_rule g.H.HashFunction.hash_of c.args.width g.H.Digest.FixedSize.SIZE g.F.PendingOf.is_pending
     g.F.PendingOf.pending_encoding (g.K.Read.after tt) (g.V.Read.after tt) g.K.FixedSize.SIZE g.V.FixedSize.SIZE in
     let digest : List ℕ → Outcome = g.H.Digest.Read.after tt in
@@ -30,13 +30,13 @@ returns-in_ok-operation-in-Some g c =
     c.in-Some.is c.in_ok-read_operation.ensures in
     let at : c.in-Some.proof.loc ≡ c.args.location = grind arith in
     let exactly = active_exactly those digest held (omega arith) grammar root c.args.bytes.now c.args.location operation proof found.0 found.1 at in
-    let bytes = c.deref.ensures.value ∙ c.in_ok-operation-in-Some.ensures in (
+    let bytes = c.deref.ensures.value ∙ c.in_ok-operation-in-Some.ensures.bytes in (
       λ yes. exactly.0 (subst (Verifies g.F.Family.merge_rule g.H.HashFunction.hash_of root proof) bytes (c.verify.ensures.0 yes)),
       λ it. c.verify.ensures.1 (subst (Verifies g.F.Family.merge_rule g.H.HashFunction.hash_of root proof) (sym bytes) (exactly.1 it)),
     )
 
-pub returns-then-as_u64-location : goal.returns-then-as_u64-location
-returns-then-as_u64-location g c =
+pub returns-then-as_u64-location-clause-exact : goal.returns-then-as_u64-location-clause-exact
+returns-then-as_u64-location-clause-exact g c =
     let those : Terms = terms g.F.Family.merge_rule g.H.HashFunction.hash_of c.args.width g.H.Digest.FixedSize.SIZE g.F.PendingOf.is_pending
     g.F.PendingOf.pending_encoding (g.K.Read.after tt) (g.V.Read.after tt) g.K.FixedSize.SIZE g.V.FixedSize.SIZE in
     let digest : List ℕ → Outcome = g.H.Digest.Read.after tt in
@@ -58,3 +58,6 @@ returns-then-as_u64-location g c =
       λ it. absurd (active_elsewhere those digest held (omega arith) grammar root c.args.bytes.now c.args.location operation proof found.0
           found.1 other it),
     )
+
+pub returns-in_ok-operation-in-Some-clause-fields : goal.returns-in_ok-operation-in-Some-clause-fields
+returns-in_ok-operation-in-Some-clause-fields g c = λ yes. c.in_ok-operation-in-Some.ensures.fields

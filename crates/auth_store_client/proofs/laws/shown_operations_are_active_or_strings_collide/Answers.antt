@@ -10,7 +10,7 @@ use Rattle.auth_store_client.specs.Laws.Widths.{width_is_whole}
 use Rattle.auth_store_client.proofs.laws.shown_operations_are_active_or_strings_collide.Goals as goal
 
 pub returns : goal.returns
-returns g c history location operation bytes size is_width all read few shown =
+returns g c history location operation bytes size is_width alone few shown =
     let key_size : ℕ = g.K.FixedSize.SIZE in
     let value_size : ℕ = g.V.FixedSize.SIZE in
     let encoded : List ℕ = fixed_encoding key_size value_size operation in
@@ -26,7 +26,7 @@ returns g c history location operation bytes size is_width all read few shown =
     }) in
     ⊎_elim
     (λ there. inl (
-      stands (g.K.Read.after tt) (g.V.Read.after tt) key_size value_size (log_of history) location operation all read
+      stands key_size value_size (log_of history) location operation alone
           (subst (λ at. slice_get (state_of_history key_size value_size history).operations at ≡ Some encoded) shown.at there.stands),
       subst (λ at. slice_get (activity_bits (log_of history)) at ≡ Some true) shown.at there.active,
     ))

@@ -12,7 +12,7 @@ use Rattle.auth_store_client.proofs.SoundRanges.{range_true}
 use Rattle.auth_store_client.proofs.laws.shown_ranges_are_true_or_strings_collide.Goals as goal
 
 pub returns : goal.returns
-returns g c history start operations active bytes size is_width all read few shown =
+returns g c history start operations active bytes size is_width alone few shown =
     let key_size : ℕ = g.K.FixedSize.SIZE in
     let value_size : ℕ = g.V.FixedSize.SIZE in
     let key : List ℕ → Outcome = g.K.Read.after tt in
@@ -29,8 +29,8 @@ returns g c history start operations active bytes size is_width all read few sho
       operations_root = shown.fits.operations_root;
     }) in
     ⊎_elim
-    (λ has. inl (range_true key value key_size value_size (setting_of_width g.F.Family.merge_rule g.H.HashFunction.hash_of g.row.N) history start
-    operations active shown.chunks some all read shown.proof.leaves shown.verifies.shaped has shown.bits))
+    (λ has. inl (range_true key_size value_size (setting_of_width g.F.Family.merge_rule g.H.HashFunction.hash_of g.row.N) history start
+    operations active shown.chunks some alone shown.proof.leaves shown.verifies.shaped has shown.bits))
     inr
     (c.verified_ranges_are_the_states_or_strings_collide.ensures g.H.HashFunction.hash_of g.row.N (grafting_height g.row.N)
     (state_of_history key_size value_size history) shown.proof (shown_of those start operations shown.chunks)

@@ -1,7 +1,6 @@
 use Rattle.std.proofs.Common.{◌≡◌, ℕ, List, length, map, inl, ⊎_elim, inr, ◌∙◌, subst, arith}
 use Rattle.std.specs.List.{All}
 use Rattle.std.proofs.lemmas.List.{length-map}
-use Rattle.merkle_forest.specs.Codec.{Outcome}
 use Rattle.merkle_core.specs.Laws.MadeTrees.{all_sized}
 use Rattle.state_ops.specs.Operation.{fixed_encoding}
 use Rattle.state_proofs.specs.Canonical.{Setting, State}
@@ -13,11 +12,9 @@ use Rattle.auth_store_client.proofs.SoundSlices.{slice_is_true, partial_sized}
 use Rattle.auth_store_client.proofs.laws.shown_slices_are_true_or_strings_collide.Goals as goal
 
 pub returns : goal.returns
-returns g c history start operations bytes size all read few shown =
+returns g c history start operations bytes size alone few shown =
     let key_size : ℕ = g.K.FixedSize.SIZE in
     let value_size : ℕ = g.V.FixedSize.SIZE in
-    let key : List ℕ → Outcome = g.K.Read.after tt in
-    let value : List ℕ → Outcome = g.V.Read.after tt in
     let setting : Setting = setting_of_width g.F.Family.merge_rule g.H.HashFunction.hash_of g.row.N in
     let state : State = state_of_history key_size value_size history in
     let witness = shown.slice.witness in
@@ -30,7 +27,7 @@ returns g c history start operations bytes size all read few shown =
     }) in
     let hash_sized : (xs : List ℕ) → length (g.H.HashFunction.hash_of xs) ≡ 32 = λ xs. g.met.H.HashFunction.sized xs ∙ size in
     ⊎_elim
-    (λ stands. inl (slice_true key value key_size value_size history start operations all read stands.0 stands.1))
+    (λ stands. inl (slice_true key_size value_size history start operations alone stands.0 stands.1))
     inr
     (slice_is_true setting hash_sized g.met.F.Family.merges_equals state
     (omega (arith, length-map (log_of history) (fixed_encoding key_size value_size), few)) shown.slice start

@@ -10,11 +10,11 @@ use Rattle.state_proofs.specs.Laws.Encoded.{Grammar, grammar_of}
 use Rattle.state_proofs.specs.ProofsCode.{range_parts_of}
 use Rattle.state_proofs.specs.Verified.{RangeParts, VerifiesRange}
 use Rattle.auth_store_client.specs.Claims.{Terms, terms, encoded, range_encoding, bits_over}
-use Rattle.auth_store_client.proofs.ShownRanges.{as_claimed, map_twice, range_exactly}
+use Rattle.auth_store_client.proofs.ShownRanges.{as_claimed, range_exactly}
 use Rattle.auth_store_client.proofs.range.shows_range.Goals as goal
 
-pub returns : goal.returns
-returns g c =
+pub returns-clause-exact : goal.returns-clause-exact
+returns-clause-exact g c =
     let those : Terms = terms g.F.Family.merge_rule g.H.HashFunction.hash_of c.args.width g.H.Digest.FixedSize.SIZE g.F.PendingOf.is_pending
     g.F.PendingOf.pending_encoding (g.K.Read.after tt) (g.V.Read.after tt) g.K.FixedSize.SIZE g.V.FixedSize.SIZE in
     let digest : List ℕ → Outcome = g.H.Digest.Read.after tt in
@@ -43,7 +43,7 @@ returns g c =
     let elements : List (List ℕ) = map (λ operation. operation.now) c.deref-2.result.now in
     let same : elements ≡ map (encoded those) operations =
     ap (map (λ e. e.now)) c.deref-2.ensures.value ∙ c.in_ok-elements.ensures ∙ ap (map (λ e. e.items)) c.deref.ensures.value
-    ∙ c.in_ok-encoded.ensures ∙ sym (map_twice (encoded those) (meaning_of g.K.Write.encoding g.V.Write.encoding) c.args.operations.now) in
+    ∙ c.in_ok-encoded.ensures.encoded in
     let count : length c.deref-2.result.now ≡ length operations =
     sym (length-map c.deref-2.result.now (λ e. e.now)) ∙ ap length same ∙ length-map operations (encoded those) in
     let Holds : List (List ℕ) → ℕ → ℕ → Type 0 = λ es w n.
@@ -59,3 +59,6 @@ returns g c =
       λ yes. exactly.0 (claimed.0 (c.verifies.ensures.0 yes)),
       λ it. c.verifies.ensures.1 (claimed.1 (exactly.1 it)),
     )
+
+pub returns-clause-fields : goal.returns-clause-fields
+returns-clause-fields g c = λ yes. c.in_ok-encoded.ensures.fields

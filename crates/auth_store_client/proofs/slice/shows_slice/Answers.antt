@@ -6,12 +6,11 @@ use Rattle.state_proofs.specs.Laws.Encoded.{Grammar, grammar_of}
 use Rattle.auth_store_client.specs.Claims.{Terms, terms, encoded}
 use Rattle.auth_store_client.specs.Slices.{SliceParts, slice_encoding, FitsSlice, VerifiesSlice}
 use Rattle.auth_store_client.specs.SlicesCode.{slice_of}
-use Rattle.auth_store_client.proofs.ShownRanges.{map_twice}
 use Rattle.auth_store_client.proofs.ShownSlices.{slice_exactly}
 use Rattle.auth_store_client.proofs.slice.shows_slice.Goals as goal
 
-pub returns : goal.returns
-returns g c =
+pub returns-clause-exact : goal.returns-clause-exact
+returns-clause-exact g c =
     let those : Terms = terms g.F.Family.merge_rule g.H.HashFunction.hash_of c.args.width g.H.Digest.FixedSize.SIZE g.F.PendingOf.is_pending
     g.F.PendingOf.pending_encoding (g.K.Read.after tt) (g.V.Read.after tt) g.K.FixedSize.SIZE g.V.FixedSize.SIZE in
     let digest : List ℕ → Outcome = g.H.Digest.Read.after tt in
@@ -31,8 +30,11 @@ returns g c =
     let exactly = slice_exactly those digest held (omega arith) grammar root c.args.bytes.now c.args.start operations slice found.0 found.1 in
     let same : map (λ operation. operation.now) c.deref-2.result.now ≡ map (encoded those) operations =
     ap (map (λ e. e.now)) c.deref-2.ensures.value ∙ c.in_ok-elements.ensures ∙ ap (map (λ e. e.items)) c.deref.ensures.value
-    ∙ c.in_ok-encoded.ensures ∙ sym (map_twice (encoded those) (meaning_of g.K.Write.encoding g.V.Write.encoding) c.args.operations.now) in
+    ∙ c.in_ok-encoded.ensures.encoded in
     let Holds : List (List ℕ) → Type 0 = VerifiesSlice g.F.Family.merge_rule g.H.HashFunction.hash_of root slice c.args.start in (
       λ yes. exactly.0 (subst Holds same (c.verifies.ensures.0 yes)),
       λ it. c.verifies.ensures.1 (subst Holds (sym same) (exactly.1 it)),
     )
+
+pub returns-clause-fields : goal.returns-clause-fields
+returns-clause-fields g c = λ yes. c.in_ok-encoded.ensures.fields

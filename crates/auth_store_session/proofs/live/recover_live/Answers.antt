@@ -81,7 +81,8 @@ returns-in_err-log-clause-raised g c =
     let p = err_from_is_err_and c.from_residual-in_err-log.result c.from_residual-in_err-log.ensures.1 in
     subst (λ r. Raises (refusal_of r) before after) (sym p.1)
     (subst (λ (x : StoreError). Raises (Some x) before after) (sym p.2)
-    (subst (Raises (Some (of_log c.in_err-log.field-0.0)) before) (sym c.in_ok-writer.ensures.failures) (raises_read c.in_err-log.field-0.0 before c.in_err-log.ensures.memory)))
+    (subst (Raises (Some (of_log c.in_err-log.field-0.0)) before) (sym c.in_ok-writer.ensures.failures)
+    (raises_read c.in_err-log.field-0.0 before c.in_err-log.ensures.memory)))
 
 pub returns-in_err-ledger-clause-raised : goal.returns-in_err-ledger-clause-raised
 returns-in_err-ledger-clause-raised g c =

@@ -33,7 +33,8 @@ birth-requires-clause-low g c =
     let found = begins rule pairs n first c.loop-first.invariant.cut c.loop-first-test.true in
     let own : Tree = found.0 in
     let high : c.peak_from-high.result.1 ≡ height own = (c.peak_from-high.ensures own found.1).1 in
-    let it = step rule pairs n first c.peak_from-high.result.0 c.peak_from-high.result.1 few c.loop-first.invariant.cut c.loop-first-test.true c.peak_from-high.ensures in
+    let it = step rule pairs n first c.peak_from-high.result.0 c.peak_from-high.result.1 few c.loop-first.invariant.cut
+    c.loop-first-test.true c.peak_from-high.ensures in
     let fits = (node-leaves rule pairs n first own (peak-node first own (forest_of rule n) found.1)).1 in
     let small : 2 ^ height own * 2 ^ level ≤ n * 2 ^ level = mul-le (2 ^ height own) (2 ^ level) n (2 ^ level) (omega (arith, fits)) (omega arith) in
     let power : 2 ^ (c.peak_from-high.result.1 + level) ≡ 2 ^ height own * 2 ^ level =
@@ -52,7 +53,8 @@ overflow_add-high g c =
     let found = begins rule pairs n first c.loop-first.invariant.cut c.loop-first-test.true in
     let own : Tree = found.0 in
     let high : c.peak_from-high.result.1 ≡ height own = (c.peak_from-high.ensures own found.1).1 in
-    let it = step rule pairs n first c.peak_from-high.result.0 c.peak_from-high.result.1 few c.loop-first.invariant.cut c.loop-first-test.true c.peak_from-high.ensures in
+    let it = step rule pairs n first c.peak_from-high.result.0 c.peak_from-high.result.1 few c.loop-first.invariant.cut
+    c.loop-first-test.true c.peak_from-high.ensures in
     omega (arith, it.low, c.requires.low)
 
 pub returns-then-birth-operations : goal.returns-then-birth-operations
@@ -67,7 +69,8 @@ returns-then-birth-operations g c =
     let found = begins rule pairs n first c.loop-first.invariant.cut c.loop-first-test.true in
     let own : Tree = found.0 in
     let high : c.peak_from-high.result.1 ≡ height own = (c.peak_from-high.ensures own found.1).1 in
-    let it = step rule pairs n first c.peak_from-high.result.0 c.peak_from-high.result.1 few c.loop-first.invariant.cut c.loop-first-test.true c.peak_from-high.ensures in
+    let it = step rule pairs n first c.peak_from-high.result.0 c.peak_from-high.result.1 few c.loop-first.invariant.cut
+    c.loop-first-test.true c.peak_from-high.ensures in
     let are = born g.met.F.Graftable.births g.met.F.Graftable.births_apart g.met.F.Graftable.births_soon in
     let shift : 1 * 2 ^ level % 2 ^ 64 ≡ 2 ^ level = one_shl level 64 (omega (arith, c.requires.low)) in
     let is : c.birth.result ≡ g.F.Graftable.birth_of (first * 2 ^ level) (height own + level) =
@@ -91,7 +94,8 @@ overflow_shl-first g c =
     let found = begins rule pairs n first c.loop-first.invariant.cut c.loop-first-test.true in
     let own : Tree = found.0 in
     let high : c.peak_from-high.result.1 ≡ height own = (c.peak_from-high.ensures own found.1).1 in
-    let it = step rule pairs n first c.peak_from-high.result.0 c.peak_from-high.result.1 few c.loop-first.invariant.cut c.loop-first-test.true c.peak_from-high.ensures in
+    let it = step rule pairs n first c.peak_from-high.result.0 c.peak_from-high.result.1 few c.loop-first.invariant.cut
+    c.loop-first-test.true c.peak_from-high.ensures in
     it.low
 
 pub overflow_add-first : goal.overflow_add-first
@@ -106,7 +110,8 @@ overflow_add-first g c =
     let found = begins rule pairs n first c.loop-first.invariant.cut c.loop-first-test.true in
     let own : Tree = found.0 in
     let high : c.peak_from-high.result.1 ≡ height own = (c.peak_from-high.ensures own found.1).1 in
-    let it = step rule pairs n first c.peak_from-high.result.0 c.peak_from-high.result.1 few c.loop-first.invariant.cut c.loop-first-test.true c.peak_from-high.ensures in
+    let it = step rule pairs n first c.peak_from-high.result.0 c.peak_from-high.result.1 few c.loop-first.invariant.cut
+    c.loop-first-test.true c.peak_from-high.ensures in
     omega (arith, it.fits, few)
 
 pub loop-first-smaller : goal.loop-first-smaller
@@ -121,7 +126,8 @@ loop-first-smaller g c =
     let found = begins rule pairs n first c.loop-first.invariant.cut c.loop-first-test.true in
     let own : Tree = found.0 in
     let high : c.peak_from-high.result.1 ≡ height own = (c.peak_from-high.ensures own found.1).1 in
-    let it = step rule pairs n first c.peak_from-high.result.0 c.peak_from-high.result.1 few c.loop-first.invariant.cut c.loop-first-test.true c.peak_from-high.ensures in
+    let it = step rule pairs n first c.peak_from-high.result.0 c.peak_from-high.result.1 few c.loop-first.invariant.cut
+    c.loop-first-test.true c.peak_from-high.ensures in
     omega (arith, it.fits, it.further)
 
 pub loop-first-preserved : goal.loop-first-preserved
@@ -136,7 +142,8 @@ loop-first-preserved g c =
     let found = begins rule pairs n first c.loop-first.invariant.cut c.loop-first-test.true in
     let own : Tree = found.0 in
     let high : c.peak_from-high.result.1 ≡ height own = (c.peak_from-high.ensures own found.1).1 in
-    let it = step rule pairs n first c.peak_from-high.result.0 c.peak_from-high.result.1 few c.loop-first.invariant.cut c.loop-first-test.true c.peak_from-high.ensures in
+    let it = step rule pairs n first c.peak_from-high.result.0 c.peak_from-high.result.1 few c.loop-first.invariant.cut
+    c.loop-first-test.true c.peak_from-high.ensures in
     let are = born g.met.F.Graftable.births g.met.F.Graftable.births_apart g.met.F.Graftable.births_soon in
     let shift : 1 * 2 ^ level % 2 ^ 64 ≡ 2 ^ level = one_shl level 64 (omega (arith, c.requires.low)) in
     let is : c.birth.result ≡ g.F.Graftable.birth_of (first * 2 ^ level) (height own + level) =

@@ -27,7 +27,8 @@ loop-operation-preserved g c =
     }) c.deref.ensures.value)
     ∙ ap (λ (front : List (List ℕ)). record c.args.batch { added = plain_leaf_digests hash rule c.args.batch.base.leaves front })
     (sym (map-append (λ e. e.items) (take i es) (c.operation-item.result ∷ []))
-    ∙ ap (map (λ e. e.items)) (sym (take_more es i c.operation-item.result c.loop-operation-test.true ∙ ap (λ x. take i es ++ x ∷ []) (sym c.operation-item.is))))
+    ∙ ap (map (λ e. e.items)) (sym (take_more es i c.operation-item.result c.loop-operation-test.true
+    ∙ ap (λ x. take i es ++ x ∷ []) (sym c.operation-item.is))))
 
 pub returns-clause-added : goal.returns-clause-added
 returns-clause-added g c =

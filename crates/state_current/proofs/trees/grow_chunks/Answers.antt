@@ -13,7 +13,8 @@ use Rattle.state_current.proofs.trees.grow_chunks.Goals as goal
 pub add_leaves-requires : goal.add_leaves-requires
 add_leaves-requires g c =
     let first = c.as_u64-first.ensures ∙ c.leaves.ensures.leaves in
-    let end = c.graftable_chunks-end.ensures ∙ ap (λ n. nodes_of_height c.args.size.grafting_height (forest_of g.F.Family.merge_rule n)) c.leaves-2.ensures.leaves in
+    let end = c.graftable_chunks-end.ensures ∙ ap (λ n. nodes_of_height c.args.size.grafting_height (forest_of g.F.Family.merge_rule n))
+    c.leaves-2.ensures.leaves in
     let le : c.as_u64-first.result ≤ c.graftable_chunks-end.result = omega (arith, first, end, c.requires.more) in
     let rule = g.F.Family.merge_rule in
     let n = c.args.tree.now.leaves in
@@ -60,7 +61,8 @@ update_leaves-requires g c =
               (
                 omega (arith, base, first),
                 subst (λ k. AllByRecursion (λ at. at / (8 * g.row.N) < k
-                    → IsReady g.F.Family.merge_rule g.row.N c.args.size.grafting_height c.args.tree.now c.args.bits.now (at / (8 * g.row.N))) c.args.places.now) (sym first)
+                    → IsReady g.F.Family.merge_rule g.row.N c.args.size.grafting_height c.args.tree.now c.args.bits.now
+                    (at / (8 * g.row.N))) c.args.places.now) (sym first)
                     c.requires.old,
               ),
             ),
@@ -88,9 +90,11 @@ applied_to_copy-requires-clause-kept g c =
 
 pub returns-clause-leaves : goal.returns-clause-leaves
 returns-clause-leaves g c =
-    let leaf = chunk_leaf g.F.Family.merge_rule g.F.Graftable.root_of g.H.HashFunction.hash_of g.row.N c.args.size.grafting_height c.args.tree.now c.args.bits.now in
+    let leaf = chunk_leaf g.F.Family.merge_rule g.F.Graftable.root_of g.H.HashFunction.hash_of g.row.N c.args.size.grafting_height
+    c.args.tree.now c.args.bits.now in
     let first = c.as_u64-first.ensures ∙ c.leaves.ensures.leaves in
-    let end = c.graftable_chunks-end.ensures ∙ ap (λ n. nodes_of_height c.args.size.grafting_height (forest_of g.F.Family.merge_rule n)) c.leaves-2.ensures.leaves in
+    let end = c.graftable_chunks-end.ensures ∙ ap (λ n. nodes_of_height c.args.size.grafting_height (forest_of g.F.Family.merge_rule n))
+    c.leaves-2.ensures.leaves in
     let added : c.in_ok-batch-2.batch.added ≡ leaves_from leaf c.as_u64-first.result (c.graftable_chunks-end.result - c.as_u64-first.result) =
     ap (λ (b : Additions). b.added) c.in_ok-batch-2.ensures.updated ∙ ap (λ (b : Additions). b.added) c.in_ok-batch.ensures.added in
     let many = length-leaves_from leaf c.as_u64-first.result (c.graftable_chunks-end.result - c.as_u64-first.result) in

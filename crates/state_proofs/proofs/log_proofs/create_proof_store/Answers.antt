@@ -27,7 +27,8 @@ returns-clause-shown g c =
     let leaves : ℕ = c.args.proof.now.leaves in
     let inactive : ℕ = c.args.proof.now.inactive_peaks in
     let digests : List (List ℕ) = map g.H.Digest.Write.encoding c.args.proof.now.digests.items in
-    carried (λ b es n. OnOk c.new.result (option_map (value hash) (range_root plain_names plain_over b rule leaves inactive start es digests) ≡ Some (g.H.Digest.Write.encoding c.args.root.now)))
+    carried (λ b es n. OnOk c.new.result (option_map (value hash)
+    (range_root plain_names plain_over b rule leaves inactive start es digests) ≡ Some (g.H.Digest.Write.encoding c.args.root.now)))
     c.log_hasher-hasher.result.bagging c.deref-2.result.now (λ e. e.now) c.args.operations.now g.O.Write.encoding c.log_hasher-hasher.ensures
     (same g c) (c.new.ensures.shown plain_names plain_over (plainly rule hash))
 
@@ -67,6 +68,7 @@ returns-clause-refused g c =
     let leaves : ℕ = c.args.proof.now.leaves in
     let inactive : ℕ = c.args.proof.now.inactive_peaks in
     let digests : List (List ℕ) = map g.H.Digest.Write.encoding c.args.proof.now.digests.items in
-    carried (λ b es n. IfErr c.new.result (λ e. IsRefusalToExtract (option_map (value hash) (range_root plain_names plain_over b rule leaves inactive start es digests)) (g.H.Digest.Write.encoding c.args.root.now) e))
+    carried (λ b es n. IfErr c.new.result (λ e. IsRefusalToExtract
+    (option_map (value hash) (range_root plain_names plain_over b rule leaves inactive start es digests)) (g.H.Digest.Write.encoding c.args.root.now) e))
     c.log_hasher-hasher.result.bagging c.deref-2.result.now (λ e. e.now) c.args.operations.now g.O.Write.encoding c.log_hasher-hasher.ensures
     (same g c) (c.new.ensures.refused plain_names plain_over (plainly rule hash))

@@ -22,6 +22,7 @@ returns g c =
     let leaves : ℕ = c.args.proof.now.leaves in
     let inactive : ℕ = c.args.proof.now.inactive_peaks in
     let digests : List (List ℕ) = map g.H.Digest.Write.encoding c.args.proof.now.digests.items in
-    carried (λ b es n. IsTrue c.verify_range_inclusion.result ↔ (option_map (value hash) (range_root plain_names plain_over b rule leaves inactive start es digests) ≡ Some (g.H.Digest.Write.encoding c.args.target_root.now)))
+    carried (λ b es n. IsTrue c.verify_range_inclusion.result ↔ (option_map (value hash)
+    (range_root plain_names plain_over b rule leaves inactive start es digests) ≡ Some (g.H.Digest.Write.encoding c.args.target_root.now)))
     c.log_hasher-hasher.result.bagging c.deref-2.result.now (λ e. e.now) c.args.operations.now g.O.Write.encoding c.log_hasher-hasher.ensures
     (same g c) (c.verify_range_inclusion.ensures plain_names plain_over (plainly rule hash))

@@ -26,7 +26,9 @@ returns g c =
     let leaves : ℕ = c.args.proof.now.leaves in
     let inactive : ℕ = c.args.proof.now.inactive_peaks in
     let digests : List (List ℕ) = map g.H.Digest.Write.encoding c.args.proof.now.digests.items in
-    carried (λ b es n. IfOk c.verify_proof_and_pinned_nodes.result (λ yes. IsTrue yes ↔ ((option_map (value hash) (range_root plain_names plain_over b rule leaves inactive start es digests) ≡ Some (g.H.Digest.Write.encoding c.args.target_root.now))
+    carried (λ b es n. IfOk c.verify_proof_and_pinned_nodes.result
+    (λ yes. IsTrue yes ↔ ((option_map (value hash) (range_root plain_names plain_over b rule leaves inactive start es digests) ≡ Some
+    (g.H.Digest.Write.encoding c.args.target_root.now))
     × ArePinned hash (branch_hash hash) (replicate g.H.Digest.FixedSize.SIZE 0) rule leaves
     (from_left b inactive (length (peaks_of rule leaves))) start (start + n)
     (range_outer b start (start + n) inactive (peaks_of rule leaves)) digests (map g.H.Digest.Write.encoding c.args.pinned_nodes.now))))

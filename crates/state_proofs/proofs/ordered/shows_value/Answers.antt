@@ -7,13 +7,14 @@ use Rattle.state_ops.specs.Operation.{ordered, update, fixed_encoding}
 use Rattle.state_proofs.specs.Encoded.{Format, format_of, ShowsUpdate, operation_proof_encoding, after_operation_proof, after_key_value_proof}
 use Rattle.state_proofs.specs.Laws.Encoded.{Grammar, grammar_of}
 use Rattle.state_proofs.specs.Laws.Reading.{read_operation_fits}
-use Rattle.state_proofs.specs.Laws.Showing.{shows_read, shows_exactly, refuses_none, refused_shows, answered_alike}
+use Rattle.state_ops.specs.Reading.{IsField}
+use Rattle.state_proofs.specs.Laws.Showing.{shows_read, shows_exactly, refuses_none, refused_shows, refused_says_no, said_on_yes, answered_alike}
 use Rattle.state_proofs.specs.ProofsCode.{parts_of}
 use Rattle.state_proofs.specs.Verified.{Parts, Verifies}
 use Rattle.state_proofs.proofs.ordered.shows_value.Goals as goal
 
-pub returns-in-Err : goal.returns-in-Err
-returns-in-Err g c =
+pub returns-in-Err-clause-exact : goal.returns-in-Err-clause-exact
+returns-in-Err-clause-exact g c =
     let format : Format = format_of g.F.Family.merge_rule g.H.HashFunction.hash_of c.args.width
     g.H.Digest.FixedSize.SIZE g.F.PendingOf.is_pending g.F.PendingOf.pending_encoding
     (λ next_key. g.K.Read.after tt next_key ≡ Ok []) in
@@ -32,8 +33,8 @@ returns-in-Err g c =
     (ap (after_key_value_proof (g.H.Digest.Read.after tt) g.F.PendingOf.pending_after
     (g.K.Read.after tt) c.args.width 122) c.new-cursor.ensures ∙ read) c.in-Err.ensures.read)
 
-pub returns-then-not-is_empty : goal.returns-then-not-is_empty
-returns-then-not-is_empty g c =
+pub returns-then-not-is_empty-clause-exact : goal.returns-then-not-is_empty-clause-exact
+returns-then-not-is_empty-clause-exact g c =
     let format : Format = format_of g.F.Family.merge_rule g.H.HashFunction.hash_of c.args.width
     g.H.Digest.FixedSize.SIZE g.F.PendingOf.is_pending g.F.PendingOf.pending_encoding
     (λ next_key. g.K.Read.after tt next_key ≡ Ok []) in
@@ -52,8 +53,8 @@ returns-then-not-is_empty g c =
           c.if-not-is_empty.ensures.1 none,
     )
 
-pub returns-else-not-is_empty : goal.returns-else-not-is_empty
-returns-else-not-is_empty g c =
+pub returns-else-not-is_empty-clause-exact : goal.returns-else-not-is_empty-clause-exact
+returns-else-not-is_empty-clause-exact g c =
     let format : Format = format_of g.F.Family.merge_rule g.H.HashFunction.hash_of c.args.width
     g.H.Digest.FixedSize.SIZE g.F.PendingOf.is_pending g.F.PendingOf.pending_encoding
     (λ next_key. g.K.Read.after tt next_key ≡ Ok []) in
@@ -87,6 +88,18 @@ returns-else-not-is_empty g c =
     (g.met.K.FixedKey.within c.in-Ok.proof.next_key) in
     answered_alike (Verifies g.F.Family.merge_rule g.H.HashFunction.hash_of root proof (update_of next))
     (ShowsUpdate format root update_of c.args.bytes.now)
-    c.verify.result c.verify.ensures
+    c.verify.result c.verify.ensures.exact
     (shows_exactly format (omega arith) digest held key grammar root update_of c.args.bytes.now proof next is
     fits is_key)
+
+pub returns-in-Err-clause-fields : goal.returns-in-Err-clause-fields
+returns-in-Err-clause-fields g c = refused_says_no _ c.in-Err.e c.refused.result c.refused.ensures.ok
+
+pub returns-then-not-is_empty-clause-fields : goal.returns-then-not-is_empty-clause-fields
+returns-then-not-is_empty-clause-fields g c = λ e. absurd cc
+
+pub returns-else-not-is_empty-clause-fields : goal.returns-else-not-is_empty-clause-fields
+returns-else-not-is_empty-clause-fields g c =
+    said_on_yes (IsField (g.K.Read.after tt) g.K.FixedSize.SIZE (g.K.Write.encoding c.args.key.now))
+    (IsField (g.V.Read.after tt) g.V.FixedSize.SIZE (g.V.Write.encoding c.args.value.now))
+    c.verify.result c.verify.ensures.key c.verify.ensures.value

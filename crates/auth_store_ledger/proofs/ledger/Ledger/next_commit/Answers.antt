@@ -1,4 +1,4 @@
-use Rattle.std.proofs.Common.{refl, flat_map, ◌≡◌, ℕ, ◌+◌, ◌-◌, ◌≤◌, ◌^◌, ◌∙◌, true, Bool, List, [], ◌∷◌, ◌++◌, Option, map, option_map, length, length-append, inr, ap, sym, subst, arith}
+use Rattle.std.proofs.Common.{refl, flat_map, ℕ, ◌+◌, ◌-◌, ◌∙◌, List, [], ◌∷◌, ◌++◌, Option, map, option_map, length, length-append, inr, ap, sym, subst, arith}
 use Rattle.std.proofs.lemmas.List.{length-map, map-append}
 use Rattle.std.specs.declared.alloc.Global.{Global}
 use Rattle.std.specs.declared.vec.Vec.{Vec}
@@ -56,7 +56,8 @@ grown_by-requires g c =
     } in (
       omega arith,
       (
-        few setting key value log changes said noted items _ _ _ _ _ c.self.inside.current of.states of.whole of.current batch refl found (omega (arith, of.few, length-map c.in_ok-changes.changes.items meaning)),
+        few setting key value log changes said noted items _ _ _ _ _ c.self.inside.current of.states of.whole of.current batch refl found
+            (omega (arith, of.few, length-map c.in_ok-changes.changes.items meaning)),
         (
           of.current.unpruned,
           (
@@ -101,7 +102,8 @@ returns-clause-operations g c =
     let seen = of.whole ∙ ap log_of c.self.view_is in
     let said_words = words.meanings g.K.Write.encoding g.V.Write.encoding c.args.batch.now.words.items in
     ap (λ (l : List Operation). l ++ said) (sym seen)
-    ∙ (ap (λ (l : List Operation). log ++ l) (said_with setting key value log changes said noted items _ _ _ _ _ c.self.inside.current of.states of.whole of.current batch refl found)
+    ∙ (ap (λ (l : List Operation). log ++ l) (said_with setting key value log changes said noted items _ _ _ _ _ c.self.inside.current
+    of.states of.whole of.current batch refl found)
     ∙ (ap (λ (l : List Operation). log ++ spec.with_commit log l noted) c.in_ok-changes.ensures
     ∙ (next_log setting key value said_words noted log _ _ of
     ∙ ap (λ (h : History). log_of (commit_after said_words noted h)) c.self.view_is)))
@@ -174,7 +176,8 @@ returns-clause-bytes g c =
           ∙ (map-append meaning c.in_ok-changes.changes.items _ ∙ ap (λ (f : ℕ). changes ++ commit_floor noted f ∷ []) c.new.ensures);
       as_bytes = cc (c.deref-7.ensures.value, c.in_ok-encodings.ensures.encoded, c.deref-5.ensures.value);
     } in
-    c.in_ok-bytes.ensures ∙ (ap (flat_map items) (c.deref-10.ensures.value ∙ sym c.deref-7.ensures.value) ∙ bytes_are setting key value log changes said noted items _ _ _ _ _ c.self.inside.current of.states of.whole of.current batch refl found)
+    c.in_ok-bytes.ensures ∙ (ap (flat_map items) (c.deref-10.ensures.value ∙ sym c.deref-7.ensures.value)
+    ∙ bytes_are setting key value log changes said noted items _ _ _ _ _ c.self.inside.current of.states of.whole of.current batch refl found)
 
 pub returns-clause-few : goal.returns-clause-few
 returns-clause-few g c =

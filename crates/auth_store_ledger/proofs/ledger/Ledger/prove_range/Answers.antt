@@ -1,8 +1,8 @@
-use Rattle.std.proofs.Common.{◌≡◌, ◌∙◌, ◌<◌, ◌≤◌, ℕ, length, Ok, ap, sym, arith}
+use Rattle.std.proofs.Common.{◌∙◌, ℕ, List, Ok, ap, sym, subst, arith}
 use Rattle.state_proofs.specs.Canonical.{Setting}
-use Rattle.auth_store_ledger.specs.History.{log_of}
-use Rattle.auth_store_ledger.specs.Proving.{range_answer, range_refusal}
-use Rattle.auth_store_ledger.specs.Store.{setting_of_width}
+use Rattle.auth_store_client.specs.Claims.{Terms, terms}
+use Rattle.auth_store_ledger.specs.Proving.{IsAcceptedRange, RangeAnswer, range_answer, range_refusal}
+use Rattle.auth_store_ledger.specs.Store.{root_of_history, setting_of_width}
 use Rattle.auth_store_ledger.proofs.Ranges.{not_refused, refused_empty, refused_past, refused_pruned, unless_none, unless_some}
 use Rattle.auth_store_ledger.proofs.ledger.Ledger.prove_range.Goals as goal
 
@@ -33,3 +33,13 @@ returns-in-Ok-clause-ok g c =
     (range_answer g.F.PendingOf.pending_encoding setting g.K.FixedSize.SIZE g.V.FixedSize.SIZE c.args.self.now c.args.start c.args.stop)
     (not_refused setting c.args.self.now c.args.pruned c.args.start c.args.stop (omega arith) (omega (arith, c.len.ensures))
     (sym c.is_before_chunks.ensures ∙ c.if-is_before_chunks.false))
+
+pub returns-in-Ok-clause-shown : goal.returns-in-Ok-clause-shown
+returns-in-Ok-clause-shown g c =
+    let setting : Setting = setting_of_width g.F.Family.merge_rule g.H.HashFunction.hash_of g.row.N in
+    let those : Terms = terms g.F.Family.merge_rule g.H.HashFunction.hash_of g.row.N g.H.Digest.FixedSize.SIZE g.F.PendingOf.is_pending
+    g.F.PendingOf.pending_encoding (g.K.Read.after tt) (g.V.Read.after tt) g.K.FixedSize.SIZE g.V.FixedSize.SIZE in
+    let root : List ℕ = root_of_history setting g.K.FixedSize.SIZE g.V.FixedSize.SIZE c.args.self.now in
+    subst (λ (answer : RangeAnswer). IsAcceptedRange those root c.args.start answer) (sym c.in-Ok.ensures)
+    (c.honest_ranges_are_shown.ensures c.args.self.now c.args.start c.args.stop c.holds_a_history.ensures.width
+    c.holds_a_history.ensures.few (omega arith) (omega (arith, c.len.ensures)))

@@ -25,5 +25,6 @@ returns-clause-bytes g c =
     ∙ (ap (λ start. start ++ key_value_proof_encoding pending
     (parts_of g.H.Digest.Write.encoding g.F.PendingOf.held c.in_ok-operation_proof.field-0) key)
     c.new-bytes.ensures.items
-    ∙ (ap (λ parts. key_value_proof_encoding pending parts key) (c.in_ok-operation_proof.ensures g.K.FixedSize.SIZE g.V.FixedSize.SIZE c.args.log.now c.requires.kept)
+    ∙ (ap (λ parts. key_value_proof_encoding pending parts key) (c.in_ok-operation_proof.ensures g.K.FixedSize.SIZE g.V.FixedSize.SIZE
+    c.args.log.now c.requires.kept)
     ∙ ap (λ (k : List ℕ). key_value_proof_encoding pending (honest_parts setting logged c.args.location) k) copied))

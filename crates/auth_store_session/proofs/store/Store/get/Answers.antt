@@ -1,4 +1,4 @@
-use Rattle.std.proofs.Common.{◌≡◌, ◌+◌, refl, subst, option_map}
+use Rattle.std.proofs.Common.{◌≡◌, refl, subst, option_map}
 use Rattle.std.specs.Prelude.{IfOk, IfErr}
 use Rattle.std.proofs.lemmas.Result.{IfErr-weaker}
 use Rattle.auth_store_parts.specs.History.{History, latest_map}
@@ -30,7 +30,8 @@ pub returns-clause-found : goal.returns-clause-found
 returns-clause-found g c = λ history live.
     subst (λ (h : History). IfOk c.get_live-answer.result (λ found. option_map g.V.Write.encoding found
     ≡ value_at (latest_map h) (g.K.Write.encoding c.args.key.now)))
-    (one_history c.self.inside.device c.self.inside.cache c.self.inside.live c.self.inside.pruned c.args.self.now c.in-Some.live history c.self.view_is c.in-Some.is live)
+    (one_history c.self.inside.device c.self.inside.cache c.self.inside.live c.self.inside.pruned c.args.self.now c.in-Some.live history
+    c.self.view_is c.in-Some.is live)
     c.get_live-answer.ensures.ok
 
 pub returns-clause-refused : goal.returns-clause-refused

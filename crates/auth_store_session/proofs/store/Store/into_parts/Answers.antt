@@ -26,4 +26,5 @@ returns-clause-shows g c = λ history live.
     ] in
     subst (λ calls. Shows format (c.args.self.cache.page_size + 12) history None calls) (ap (λ (s : StoreState g.row.R.Denot). s.device.calls)
     (sym c.self.view_is) ∙ sym (ap (λ (d : DeviceState g.row.R.Denot). d.calls) c.close.ensures))
-    (parts_show format c.self.inside.device c.self.inside.cache c.self.inside.live c.self.inside.pruned c.args.self history c.self.view_is c.self.invariant.1 shown live)
+    (parts_show format c.self.inside.device c.self.inside.cache c.self.inside.live c.self.inside.pruned c.args.self history c.self.view_is
+    c.self.invariant.1 shown live)

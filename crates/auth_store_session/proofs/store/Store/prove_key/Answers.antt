@@ -15,7 +15,8 @@ returns-clause-proof g c = λ history live.
     let m : Machine = machine g.F.Family.merge_rule g.H.HashFunction.hash_of g.F.PendingOf.pending_encoding g.row.N g.K.FixedSize.SIZE
     g.V.FixedSize.SIZE (c.args.self.now.cache.page_size + 12) in
     let has : c.self.inside.live ≡ Some c.in_ok-live.live.now = sym c.as_ref.ensures.value ∙ ap option_copied c.in_ok-live.ensures.ok_part in
-    let same = one_history c.self.inside.device c.self.inside.cache c.self.inside.live c.self.inside.pruned c.args.self.now c.in_ok-live.live.now history c.self.view_is
+    let same = one_history c.self.inside.device c.self.inside.cache c.self.inside.live c.self.inside.pruned c.args.self.now
+    c.in_ok-live.live.now history c.self.view_is
     has live in
     subst (λ (h : History). key_answer_of g.V.Write.encoding c.in_ok-prove_key.field-0
     ≡ honest_answer m.pending m.setting m.key_size m.value_size h (g.K.Write.encoding c.args.key.now))
@@ -27,7 +28,8 @@ returns-clause-shown g c = λ history live.
     let those : Terms = terms g.F.Family.merge_rule g.H.HashFunction.hash_of g.row.N g.H.Digest.FixedSize.SIZE g.F.PendingOf.is_pending
     g.F.PendingOf.pending_encoding (g.K.Read.after tt) (g.V.Read.after tt) g.K.FixedSize.SIZE g.V.FixedSize.SIZE in
     let has : c.self.inside.live ≡ Some c.in_ok-live.live.now = sym c.as_ref.ensures.value ∙ ap option_copied c.in_ok-live.ensures.ok_part in
-    let same = one_history c.self.inside.device c.self.inside.cache c.self.inside.live c.self.inside.pruned c.args.self.now c.in_ok-live.live.now history c.self.view_is
+    let same = one_history c.self.inside.device c.self.inside.cache c.self.inside.live c.self.inside.pruned c.args.self.now
+    c.in_ok-live.live.now history c.self.view_is
     has live in
     subst (λ (h : History). IsAccepted those (root_of_history setting g.K.FixedSize.SIZE g.V.FixedSize.SIZE h) (g.K.Write.encoding c.args.key.now)
     (key_answer_of g.V.Write.encoding c.in_ok-prove_key.field-0))

@@ -1,10 +1,11 @@
-use Rattle.std.proofs.Common.{◌≡◌, ◌∙◌, ◌+◌, ℕ, Some, Ok, ap, sym, subst}
+use Rattle.std.proofs.Common.{◌≡◌, ◌∙◌, ℕ, Some, Ok, ap, sym, subst}
 use Rattle.std.proofs.lemmas.Result.{err_from_is_err_and}
 use Rattle.std.specs.Option.{option_copied}
 use Rattle.auth_store_parts.specs.History.{History}
-use Rattle.auth_store_ledger.specs.Proving.{IsUnproved, answer_of_operation}
+use Rattle.auth_store_client.specs.Claims.{Terms, terms}
+use Rattle.auth_store_ledger.specs.Proving.{IsAcceptedOperation, IsUnproved, answer_of_operation}
 use Rattle.auth_store_ledger.specs.ProvingCode.{operation_answer_of}
-use Rattle.auth_store_ledger.specs.Store.{setting_of_width}
+use Rattle.auth_store_ledger.specs.Store.{root_of_history, setting_of_width}
 use Rattle.auth_store_session.specs.Machine.{as_proved, operation_is}
 use Rattle.auth_store_session.specs.Stores.{LiveState, StoreState}
 use Rattle.auth_store_session.proofs.OnDevice.{one_history}
@@ -48,3 +49,15 @@ returns-clause-proof g c = λ history live.
     (subst (λ (h : History). Ok found ≡ answer_of_operation pending setting g.K.FixedSize.SIZE g.V.FixedSize.SIZE h c.self.inside.pruned c.args.location)
     (ap (λ (now : LiveState). now.history) c.live.view_is ∙ same) c.in_ok-prove_operation.ensures.ok) in
     sym (ap (as_proved operation_is) is)
+
+pub returns-clause-shown : goal.returns-clause-shown
+returns-clause-shown g c = λ history live.
+    let setting = setting_of_width g.F.Family.merge_rule g.H.HashFunction.hash_of g.row.N in
+    let those : Terms = terms g.F.Family.merge_rule g.H.HashFunction.hash_of g.row.N g.H.Digest.FixedSize.SIZE g.F.PendingOf.is_pending
+    g.F.PendingOf.pending_encoding (g.K.Read.after tt) (g.V.Read.after tt) g.K.FixedSize.SIZE g.V.FixedSize.SIZE in
+    let has : c.self.inside.live ≡ Some c.in_ok-live.live.now = sym c.as_ref.ensures.value ∙ ap option_copied c.in_ok-live.ensures.ok_part in
+    let same = one_history c.self.inside.device c.self.inside.cache c.self.inside.live c.self.inside.pruned c.args.self.now c.in_ok-live.live.now
+    history c.self.view_is has live in
+    subst (λ (h : History). IsAcceptedOperation those (root_of_history setting g.K.FixedSize.SIZE g.V.FixedSize.SIZE h) c.args.location
+    (operation_answer_of g.K.Write.encoding g.V.Write.encoding c.in_ok-prove_operation.field-0))
+    (ap (λ (now : LiveState). now.history) c.live.view_is ∙ same) c.in_ok-prove_operation.ensures.shown

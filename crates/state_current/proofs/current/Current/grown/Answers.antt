@@ -165,7 +165,8 @@ returns-clause-stands g c height state stands =
       cleared = c.args.cleared.now;
       floor = c.args.floor;
     } in
-    let here : StandsFor (setting_with rule hash g.row.N height) state before = subst (StandsFor (setting_with rule hash g.row.N height) state) (sym c.self.view_is) stands in
+    let here : StandsFor (setting_with rule hash g.row.N height) state before = subst
+    (StandsFor (setting_with rule hash g.row.N height) state) (sym c.self.view_is) stands in
     let same : height ≡ level = same_power height level (sym here.whole ∙ whole) in
     let at : StandsFor (setting_with rule hash g.row.N level) state before =
     subst (λ h. StandsFor (setting_with rule hash g.row.N h) state before) same here in

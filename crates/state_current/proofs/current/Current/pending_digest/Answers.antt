@@ -34,7 +34,14 @@ returns-then-graftable-full-clause-digest g c height state stands =
 pub get_chunk-requires : goal.get_chunk-requires
 get_chunk-requires g c =
     let from : c.self.inside.bits.pruned ≤ c.as_u64-graftable.result =
-    omega (arith, c.pruning_boundary-boundary.ensures.within, c.pruning_boundary-boundary.ensures.boundary, c.self.invariant.pruned, c.as_u64-graftable.ensures, c.leaves.ensures.leaves) in
+    omega (
+      arith,
+      c.pruning_boundary-boundary.ensures.within,
+      c.pruning_boundary-boundary.ensures.boundary,
+      c.self.invariant.pruned,
+      c.as_u64-graftable.ensures,
+      c.leaves.ensures.leaves,
+    ) in
     let full = c.full_chunks-full.ensures ∙ ap₂ (λ n w. n / (8 * w)) c.len.ensures.length c.chunk_size.ensures in
     let some : 0 < g.row.N = omega (arith, c.chunk_size.result.whole, c.chunk_size.ensures, pow_pos c.chunk_size.result.grafting_height) in (
       omega arith,
@@ -68,7 +75,14 @@ returns-clause-digest g c height state stands =
     c.get_chunk.result.now (g.H.Digest.Write.encoding c.hash.result)
     (c.as_u64-graftable.ensures ∙ c.leaves.ensures.leaves)
     (c.full_chunks-full.ensures ∙ ap₂ (λ n w. n / (8 * w)) c.len.ensures.length c.chunk_size.ensures) c.if-graftable-full.false
-    (omega (arith, c.pruning_boundary-boundary.ensures.within, c.pruning_boundary-boundary.ensures.boundary, c.self.invariant.pruned, c.as_u64-graftable.ensures, c.leaves.ensures.leaves))
+    (omega (
+      arith,
+      c.pruning_boundary-boundary.ensures.within,
+      c.pruning_boundary-boundary.ensures.boundary,
+      c.self.invariant.pruned,
+      c.as_u64-graftable.ensures,
+      c.leaves.ensures.leaves,
+    ))
     c.get_chunk.ensures c.hash.ensures
 
 pub returns-clause-some : goal.returns-clause-some

@@ -122,7 +122,8 @@ returns-clause-stands g c height state stands =
       bits = c.prune_to_chunk.ensures;
     } in
     let hash = g.H.HashFunction.hash_of in
-    let here : StandsFor (setting_with rule hash g.row.N height) state before = subst (StandsFor (setting_with rule hash g.row.N height) state) (sym c.self.view_is) stands in
+    let here : StandsFor (setting_with rule hash g.row.N height) state before = subst
+    (StandsFor (setting_with rule hash g.row.N height) state) (sym c.self.view_is) stands in
     let clear : take (8 * g.row.N * (c.args.chunk - c.self.inside.bits.pruned)) c.self.inside.bits.kept
     ≡ replicate (8 * g.row.N * (c.args.chunk - c.self.inside.bits.pruned)) false =
     clear_kept g.row.N c.args.chunk c.self.inside.bits further (gone_in g.row.N c.args.chunk before c.self.invariant further there)

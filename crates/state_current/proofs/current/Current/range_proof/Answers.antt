@@ -67,15 +67,18 @@ returns-clause-refused g c height whole =
     let level : ℕ = c.chunk_size-height.result.grafting_height in
     let whole_here : 8 * g.row.N ≡ 2 ^ level = ap (λ w. 8 * w) (sym c.chunk_size-height.ensures) ∙ c.chunk_size-height.result.whole in
     let said : IfErr c.new-2.result (IsRefusalOfPlanned (measures_with rule g.row.N level)
-    (source_of (span_of kept.operations.leaves c.args.range.start c.args.range.end) (all_bits g.row.N kept.bits) kept.bits.pruned (read_of rule hash level kept))) =
+    (source_of (span_of kept.operations.leaves c.args.range.start c.args.range.end) (all_bits g.row.N kept.bits) kept.bits.pruned
+    (read_of rule hash level kept))) =
     retold (λ n known e. IsRefusalOfPlanned (measures_with rule g.row.N level)
     (source_of (span_of n c.args.range.start c.args.range.end) (all_bits g.row.N kept.bits) kept.bits.pruned known) e) c.new-2.result
     c.new-tree.ensures.leaves c.new-tree.ensures.nodes (c.new-2.ensures.refused level whole_here) in
     let at : level ≡ height = same_power level height (sym whole_here ∙ whole) in
     subst (λ (k : Kept). IfErr c.new-2.result (IsRefusalOfPlanned (measures_with rule g.row.N height)
-    (source_of (span_of k.operations.leaves c.args.range.start c.args.range.end) (all_bits g.row.N k.bits) k.bits.pruned (read_of rule hash height k)))) c.self.view_is
+    (source_of (span_of k.operations.leaves c.args.range.start c.args.range.end) (all_bits g.row.N k.bits) k.bits.pruned
+    (read_of rule hash height k)))) c.self.view_is
     (subst (λ l. IfErr c.new-2.result (IsRefusalOfPlanned (measures_with rule g.row.N l)
-    (source_of (span_of kept.operations.leaves c.args.range.start c.args.range.end) (all_bits g.row.N kept.bits) kept.bits.pruned (read_of rule hash l kept)))) at said)
+    (source_of (span_of kept.operations.leaves c.args.range.start c.args.range.end) (all_bits g.row.N kept.bits) kept.bits.pruned
+    (read_of rule hash l kept)))) at said)
 
 pub returns-clause-there : goal.returns-clause-there
 returns-clause-there g c late some within =
@@ -99,7 +102,8 @@ returns-clause-there g c late some within =
       counted = λ n chunk level few some low. g.met.F.Graftable.chunks_counted n chunk level few some low;
     } in
     let said : IfErr c.new-2.result (IsRefusalOfPlanned (measures_with rule g.row.N level)
-    (source_of (span_of kept.operations.leaves c.args.range.start c.args.range.end) (all_bits g.row.N kept.bits) kept.bits.pruned (read_of rule hash level kept))) =
+    (source_of (span_of kept.operations.leaves c.args.range.start c.args.range.end) (all_bits g.row.N kept.bits) kept.bits.pruned
+    (read_of rule hash level kept))) =
     retold (λ n known e. IsRefusalOfPlanned (measures_with rule g.row.N level)
     (source_of (span_of n c.args.range.start c.args.range.end) (all_bits g.row.N kept.bits) kept.bits.pruned known) e) c.new-2.result
     c.new-tree.ensures.leaves c.new-tree.ensures.nodes (c.new-2.ensures.refused level whole_here) in
@@ -111,7 +115,8 @@ returns-clause-there g c late some within =
     let from = subst (λ (k : Kept). 8 * g.row.N * k.bits.pruned ≤ c.args.range.start) (sym c.self.view_is) late in
     let to = subst (λ (k : Kept). c.args.range.end ≤ k.operations.leaves) (sym c.self.view_is) within in
     if_err (IsRefusalOfPlanned (measures_with rule g.row.N level)
-    (source_of (span_of kept.operations.leaves c.args.range.start c.args.range.end) (all_bits g.row.N kept.bits) kept.bits.pruned (read_of rule hash level kept)))
+    (source_of (span_of kept.operations.leaves c.args.range.start c.args.range.end) (all_bits g.row.N kept.bits) kept.bits.pruned
+    (read_of rule hash level kept)))
     (λ e. e ≡ Memory)
     (λ e why. range_memory rule hash g.row.N kept facts c.self.invariant c.pruning_boundary-boundary.ensures.shape c.pruning_boundary-chunks.ensures.shape
     few level whole_here pending c.args.range.start c.args.range.end e from some to why) c.new-2.result said

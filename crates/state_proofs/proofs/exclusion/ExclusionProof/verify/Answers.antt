@@ -9,7 +9,7 @@ returns-in_ok-operation-in-KeyValue g c =
     excludes_exactly (IsTrue c.verify.result) g.F.Family.merge_rule g.H.HashFunction.hash_of g.K.FixedSize.SIZE g.V.FixedSize.SIZE
     (g.D.Write.encoding c.args.root.now) _ _ (g.K.Write.encoding c.args.key.now) c.deref.result.now
     (ap (form_exclusion_of g.C.AsSlice.items g.K.Write.encoding g.V.Write.encoding g.D.Write.encoding g.F.PendingOf.held) c.in-KeyValue.is)
-    (c.deref.ensures.value ∙ c.in_ok-operation-in-KeyValue.ensures)
+    (c.deref.ensures.value ∙ c.in_ok-operation-in-KeyValue.ensures.bytes)
     (λ same. (let no = c.if-is_key.ensures.1 same in absurd cc), sym c.span_holds_key.ensures ∙ c.if-not-span_holds_key.false)
     c.verify.ensures
 

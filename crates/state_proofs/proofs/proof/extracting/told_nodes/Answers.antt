@@ -35,7 +35,8 @@ returns g c digest shows =
     let graftable : c.graftable_chunks_of-graftable.result ≡ graftable_shown rule level proof =
     c.graftable_chunks_of-graftable.ensures ∙ ap (λ n. nodes_of_height level (forest_of rule n)) c.as_u64-leaves.ensures in
     let same : given_of c.shown_hasher-verifier.result ≡ given = c.shown_hasher-verifier.ensures ∙ ap (λ n. given_by level n shown) graftable in
-    let count : length c.args.shown.now.operations.now ≡ length shown.operations = sym (length-map c.args.shown.now.operations.now (λ operation. operation.now)) in
+    let count : length c.args.shown.now.operations.now ≡ length shown.operations = sym
+    (length-map c.args.shown.now.operations.now (λ operation. operation.now)) in
     let digests : map encoding c.deref.result.now ≡ proof.digests = ap (map encoding) c.deref.ensures.value in
     let again : Digests = remade rule pairs hash level proof shown c.requires.few digest in
     let Tells : Given → ℕ → ℕ → List (List ℕ) → Type 0 = λ x n leaves ds.

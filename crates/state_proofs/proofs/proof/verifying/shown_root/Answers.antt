@@ -22,7 +22,8 @@ returns g c =
     let shown : Shown = form_shown_of g.C.AsSlice.items c.args.shown.now in
     let over : Over = shown_over g.F.Family.merge_rule level proof shown in
     let given : Given = given_by level (graftable_shown g.F.Family.merge_rule level proof) shown in
-    let same : form_given_of g.C.AsSlice.items c.shown_hasher-verifier.result ≡ given = c.shown_hasher-verifier.ensures ∙ ap (λ n. given_by level n shown) c.requires in
+    let same : form_given_of g.C.AsSlice.items c.shown_hasher-verifier.result ≡ given = c.shown_hasher-verifier.ensures
+    ∙ ap (λ n. given_by level n shown) c.requires in
     let Hashes : Given → Type 0 = λ x. HashesAs g.F.Family.merge_rule hash (λ p element. hash (leaf_string p element))
     (grafted_node g.F.Family.merge_rule hash x) over in
     let hashes : Hashes (form_given_of g.C.AsSlice.items c.shown_hasher-verifier.result) =

@@ -18,7 +18,7 @@ returns g c =
     let none : Type 0 = Some text ≡ None in
     let checks : Checks (Shown (c.deref.result.now, kept.root.bytes)) text =
     checks_as _ _ text (g.met.F.Named.shows claim kept.root.bytes c.deref.result.now)
-    (checked c.check-checked.result _ c.check-checked.ensures) in (
+    (checked c.check-checked.result _ c.check-checked.ensures.exact) in (
       [],
       text,
       (
