@@ -161,6 +161,15 @@ def told(batches):
     return state, model.root(history, 1).hex(), model.floor(history), model.bits(model.log_of(history))
 
 
+def shows_claim(state, asked):
+    """Whether the proof of the asked key shows what is claimed whichever it is: the value of c, or the absence of a. A
+    proof of absence is that of the key before, and shows each key absent up to the next one."""
+    if asked in state:
+        return asked == C
+    before = [max((k for k in state if k < key), default=max(state, default=None)) for key in (asked, A)]
+    return A not in state and before[0] == before[1]
+
+
 def outcomes(old, step):
     """The lines that a step may print, each with what may stand after it."""
     kind, *of = step
@@ -217,6 +226,8 @@ def outcomes(old, step):
             yield ("none" if value is None else f"value {value}"), old
         else:
             found = "absent" if value is None else f"present {value}"
+            if checked == "yes" and not shows_claim(state, of[0]):
+                checked = "no"
             yield f"{found} {checked}", old
             yield from ((f"{found} out of memory", new) for new in refusals)
     elif kind == "prune":
