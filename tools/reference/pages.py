@@ -373,14 +373,18 @@ class Case:
         self.pages, self.durable = writer.pages(), writer.durable
         return ", ".join(told)
 
-    def sealed(self, first, more, play):
-        """What is told of the list that is sealed after a first piece, while its writer goes on by more bytes and a sync."""
+    def sealed(self, first, more, play, is_refused=False):
+        """What is told of the list that is sealed after a first piece, while its writer goes on by more bytes and a sync,
+        which may be refused: then it makes nothing durable."""
         writer = Writer(self.cut_pages(1 << 64), self.size, self.capacity, self.room)
         writer.append(first)
         writer.sync()
         sealed = Sealed(writer)
         writer.append(more)
+        durable = writer.durable
         writer.sync()
+        if is_refused:
+            writer.durable = durable
         told = play(sealed)
         self.pages, self.durable = writer.pages(), writer.durable
         return told
@@ -455,6 +459,12 @@ class Case:
             case ["snapshot", first, more, *words]:
                 self.check_sizes()
                 return self.sealed(unhex(first), unhex(more), lambda sealed: sealed.play(words, []))
+            case ["fault-behind", first, more, *words]:
+                self.check_sizes()
+                # with no more bytes there is nothing to be synced
+                more = unhex(more)
+                said = "failed" if more else "synced"
+                return self.sealed(unhex(first), more, lambda sealed: sealed.play(words, [said]), more != b"")
             case ["seal", first, *words]:
                 self.check_sizes()
                 return self.sealed(unhex(first), b"", lambda sealed: sealed.play(words, []))

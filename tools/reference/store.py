@@ -132,9 +132,27 @@ class Disk(Device):
                 return False
         return True
 
+    def started(self, call, words):
+        """What is started is made at once, then a call, and then its answer is told: both, with a refusal as its text."""
+        def told(made):
+            try:
+                return made()
+            except Refused as refused:
+                return refused.text()
+
+        first = told(call)
+        return f"{told(lambda: self.answer(words))}; {first}"
+
     def answer(self, words):
         """The answer to a call of the device by itself."""
         match words:
+            case ["read-many", *ranges]:
+                pairs = zip(ranges[::2], ranges[1::2], strict=True)
+                return " ".join([hexed(self.read(number(at), number(count))) for at, count in pairs]) or "none"
+            case ["start", "sync", *words]:
+                return self.started(lambda: self.answer(["sync"]), words)
+            case ["start", "read", at, count, *words]:
+                return self.started(lambda: self.answer(["read", at, count]), words)
             case ["open"] if self.live is None:
                 return str(self.open())
             case ["close"]:
@@ -658,7 +676,7 @@ class Stores:
 
     def answer(self, words):
         match words:
-            case ["device", "open" | "close" | "crash" | "read" | "write" | "resize" | "sync" | "cut" | "is", *_]:
+            case ["device", word, *_] if not word.isdigit():
                 return self.bare().answer(words[1:])
             case ["device", *words]:
                 return self.begin(words)

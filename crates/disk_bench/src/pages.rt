@@ -76,6 +76,9 @@ pub fn measure_all<R: Print + Eprint + CpuClock>(
     report_ratio(rt, "reads from 4 MiB over reads from 64 KiB", large, small)
 }
 
+// How often a list is replayed at once.
+const REPLAYS: u64 = 8;
+
 // How many bytes the list has of which snapshots are taken: 4,000 of them stand behind its whole pages.
 const SEALED: usize = 4_190_100;
 
@@ -89,11 +92,11 @@ pub fn measure_lists<R: Print + Eprint + CpuClock>(
     let made = measure(rt, "the list alone", count, |_round| {
         lists::replayed(alloc, size, 0)
     })?;
-    let checked = measure(rt, "its pages read and checked", count, |_round| {
-        lists::checked(alloc, size)
+    let checked = measure(rt, "its pages read and checked 8 times", count, |_round| {
+        lists::checked(alloc, size, REPLAYS)
     })?;
-    let replayed = measure(rt, "the list replayed", count, |_round| {
-        lists::replayed(alloc, size, 1)
+    let replayed = measure(rt, "the list replayed 8 times", count, |_round| {
+        lists::replayed(alloc, size, REPLAYS)
     })?;
     let (replay, check) = (replayed.saturating_sub(made), checked.saturating_sub(made));
     report_ratio(

@@ -2,6 +2,7 @@ pub mod Begun
 pub mod Changing
 pub mod Counting
 pub mod Leaving
+pub mod Numbered
 pub mod Opening
 pub mod Ordered
 pub mod Places

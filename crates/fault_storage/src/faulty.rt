@@ -154,6 +154,9 @@ impl<R: Rng> crate::storage::Storage for Storage<memory::Storage, R> {
     ghost removes = { λ old partition name result new. IsFaultyCall (R.stream) Remove old.config.remove
         (λ below. MemoryRemoves below partition name) old result new };
 
+    /// Opens the blob of this name, which it creates in the greatest of the versions where there is none, or none with a
+    /// header. F8: the count of faults has ended, or numbers where one would be given; F9; F6; F3; F5: its header is
+    /// refused. In the Rust: `commonware_runtime::Storage::open_versioned`.
     fn open_versioned(
         &mut self,
         partition: &str,
@@ -192,6 +195,9 @@ impl<R: Rng> crate::storage::Storage for Storage<memory::Storage, R> {
         names
     }
 
+    /// Removes the blob of this name, or without a name the partition with all its blobs. F8: the count of faults has
+    /// ended; F6; F3, F2 (there is no such partition), F1 (there is no such blob).
+    /// In the Rust: `commonware_runtime::Storage::remove`.
     fn remove(&mut self, partition: &str, name: Option<&[u8]>) -> Result<(), Error> {
         if self.injections == u64::MAX {
             return Err(Error::NumberEnded);

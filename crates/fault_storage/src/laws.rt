@@ -1,6 +1,7 @@
 //! Laws of the definitions: functions with an empty body, whose contracts are the laws.
 
 ghost use Rattle.std.specs.Prelude.{◌≡◌, ◌<◌, ◌^◌, ◌-◌, ℕ, Bool, true, false, List, Option, is_some, Result};
+ghost use Rattle.std.specs.Prelude.{[], Ok};
 ghost use Rattle.std.specs.declared.alloc.Global.{Global};
 ghost use Rattle.std.specs.declared.vec.Vec.{Vec};
 ghost use Rattle.rand_core.specs.Stream.{Stream};
@@ -15,15 +16,16 @@ ghost use Rattle.fault_storage.specs.declared.storage.WriteMode.{WriteMode};
 ghost use Rattle.fault_storage.specs.Changes.{FaultyWrites, FaultyResizes};
 ghost use Rattle.fault_storage_parts.specs.Files.{Mutation};
 ghost use Rattle.fault_storage.specs.Audits.{audit_of};
-ghost use Rattle.fault_storage.specs.Orders.{AreInOrder};
-ghost use Rattle.fault_storage.specs.Snapshots.{durable_map, snapshot_of, store_of};
-ghost use Rattle.fault_storage.specs.Directory.{placed, removed, removed_partition, admitted};
+ghost use Rattle.fault_storage.specs.Orders.{AreInOrder, AreNumbered, KeepsNumbers};
+ghost use Rattle.fault_storage.specs.Snapshots.{durable_map, emptied, snapshot_of, store_of};
+ghost use Rattle.fault_storage.specs.Directory.{placed, removed, removed_partition, admitted, MemoryOpens};
 ghost use Rattle.fault_storage.specs.Directory.{MemoryRemoves, MemoryScans, MemoryReads, MemoryFills, MemoryWrites, MemoryResizes, MemorySyncs};
 ghost use Rattle.fault_storage.specs.Faults.{IsFaultyCall, IsPlainCall, IsCounted, FaultyOpens};
 ghost use Rattle.fault_storage.specs.declared.pending.Ticket.{Ticket};
 ghost use Rattle.fault_storage.specs.Pending as pending;
 ghost use Rattle.fault_storage.specs.Pending.{Registry, Entry, IsStale, IsPast, IsOrderly};
 ghost use Rattle.fault_storage.specs.Stores.{Store, Handle, AreLeftOf, is_there, issued, published, crashed_store};
+ghost use Rattle.fault_storage.specs.Stores.{showing, without_retired};
 
 pub use fault_storage_parts::laws::{
     crash_keeps_the_header, created_is_parsed, left_has_the_header,
@@ -112,9 +114,34 @@ pub fn files_stand_in_order()
     ensures rebuilding { (store : Store) → AreInOrder store.files → AreInOrder (store_of (snapshot_of store)).files }
 {}
 
+/// The law that the numbers of a store's files and of the handles that it opens are below its next one, and stay so
+/// through each call: a handle's is no other after a write or a resize.
+pub fn numbers_are_below_the_next()
+    ensures beginning { AreNumbered (record { partitions = []; files = []; order = []; next = 0 }) }
+    ensures opening { (old new : Store) → (partition name : List ℕ) → (versions : Versions) → (opened : Opened Handle)
+        → AreNumbered old → MemoryOpens old partition name versions (Ok opened) new → opened.blob.number < new.next }
+    ensures showing { (handle : Handle) → (live : List ℕ) → (showing live handle).number ≡ handle.number }
+    ensures making { (store : Store) → (partition name bytes : List ℕ)
+        → KeepsNumbers store (placed partition name bytes store) }
+    ensures removing { (store : Store) → (partition name : List ℕ)
+        → KeepsNumbers store (removed partition name store) }
+    ensures removing_all { (store : Store) → (partition : List ℕ)
+        → KeepsNumbers store (removed_partition partition store) }
+    ensures admitting { (store : Store) → (partition name : List ℕ)
+        → KeepsNumbers store (admitted partition name store) }
+    ensures publishing { (store : Store) → (number : ℕ) → (bytes : List ℕ)
+        → KeepsNumbers store (published number bytes store) }
+    ensures issuing { (store : Store) → (number : ℕ) → (mutation : Mutation)
+        → KeepsNumbers store (issued number mutation store) }
+    ensures crashing { (store : Store) → (words : Stream) → KeepsNumbers store (crashed_store store words).0 }
+    ensures retiring { (store : Store) → KeepsNumbers store (without_retired store) }
+    ensures taking { (store : Store) → KeepsNumbers store (emptied store) }
+    ensures rebuilding { (store : Store) → KeepsNumbers store (store_of (snapshot_of store)) }
+{}
+
 /// The law that a store that is made of a snapshot has what was durable, under the same names, and the audit of before;
-/// and that no file of it has a number that was given before, so that a value that was opened then issues nothing to it
-/// and publishes nothing in it.
+/// and that no file of it has a number that was given before, as each handle's was (`numbers_are_below_the_next`), so
+/// that a value that was opened then issues nothing to it and publishes nothing in it.
 pub fn snapshots_keep_what_is_durable()
     ensures durable { (store : Store) → durable_map (store_of (snapshot_of store)).files ≡ durable_map store.files }
     ensures audit { (store : Store) → audit_of (store_of (snapshot_of store)) ≡ audit_of store }

@@ -449,7 +449,9 @@ impl Pending {
 
     /// Spends the ticket, and changes nothing: an open that is neither settled nor released keeps the one after it
     /// waiting. In the Rust a ticket is dropped.
-    pub fn close(&self, spent: Ticket) {
+    pub fn close(&mut self, spent: Ticket)
+        ensures { self.new ≡ self.old }
+    {
         let Ticket {
             name,
             generation,

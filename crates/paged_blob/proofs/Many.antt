@@ -1,7 +1,8 @@
 -- Reads in turn.
-use Rattle.std.proofs.Common.{ℕ, List, [], ◌∷◌, ◌++◌, Contains}
+use Rattle.std.proofs.Common.{◌≡◌, ◌≤◌, ◌<◌, ◌-◌, ◌+◌, true, ℕ, List, [], ◌∷◌, ◌++◌, Contains, ◌⊎◌, inl, inr, arith}
+use Rattle.std.proofs.Math.Nat.{eq-or-lt_of_le}
 use Rattle.paged_blob.specs.Calls.{File}
-use Rattle.paged_blob.specs.Answers.{Failures, IsSlice, AreSlices, IsReadCause, IsManyCause}
+use Rattle.paged_blob.specs.Answers.{Failures, IsSlice, AreSlices, IsReadCause, IsManyCause, IsPowerOff}
 use Rattle.paged_blob.specs.declared.error.Error.{Error}
 use Rattle.paged_blob.specs.declared.error.Error.TheVariants.{Injected, BlobMissing, BlobInsufficientLength, NumberEnded, Memory, PowerCut, ChecksumMismatch}
 
@@ -23,3 +24,12 @@ many_cause failures file ranges range NumberEnded there cause = (range, there, c
 many_cause failures file ranges range Memory there cause = tt
 many_cause failures file ranges range PowerCut there cause = (range, there, cause)
 many_cause failures file ranges range ChecksumMismatch there cause = (range, there, cause)
+
+-- Of calls in turn, each of which uses up one, so many were made; the power lasts for one more, which is made too.
+pub made_lasts : (failures : Failures) (first done left : ℕ) → left ≡ first - done → (failures.is_asked ≡ true → done ≤ first)
+    → (IsPowerOff failures left → ⊥) → failures.is_asked ≡ true → done + 1 ≤ first
+made_lasts failures first done left so lasts on asked = by (eq-or-lt_of_le (lasts asked))
+  where
+    by : (done ≡ first) ⊎ (done < first) → done + 1 ≤ first
+    by (inl all) = absurd (on (asked, omega (arith, so, all)))
+    by (inr fewer) = omega (arith, fewer)

@@ -1,5 +1,6 @@
 -- What a call's answer says of the calls that are recorded, of the failures, and of the bytes that were read.
-use Rattle.std.specs.Prelude.{◌≡◌, ◌⊎◌, ℕ, ◌+◌, ◌<◌, ◌≤◌, ◌^◌, ⊤, Bool, true, false, IsFalse, List, [], ◌∷◌, length, take, drop, Option, Result, Ok, Err, Contains}
+use Rattle.std.specs.Prelude.{◌≡◌, ◌⊎◌, ℕ, ◌+◌, ◌-◌, ◌<◌, ◌≤◌, ◌^◌, ⊤, Bool, true, false, IsFalse}
+use Rattle.std.specs.Prelude.{List, [], ◌∷◌, length, take, drop, Option, Result, Ok, Err, Contains}
 use Rattle.fault_storage_parts.specs.declared.config.Config.{Config}
 use Rattle.paged_blob.specs.Calls.{Call, opened, synced, content, File, file_of}
 use Rattle.paged_blob.specs.Images.{IsImage, IsLive}
@@ -110,3 +111,18 @@ abbrev pub IsManyCause : Failures → File → List (ℕ × ℕ) → Error → T
 IsManyCause failures file ranges Memory = ⊤
 IsManyCause failures file ranges error =
     (range : ℕ × ℕ) × Contains ranges range × IsReadCause failures file range.0 range.1 error
+
+-- What calls in turn, so many at most, use up of those that are let through: one each where all are made; refused for a
+-- cut, all that were left; else at most one each, and one at least, unless the refused one counts as not made.
+abbrev pub UsesUpInTurn : {T : Type 0} → Result T Error → ℕ → ℕ → ℕ → Type 0
+UsesUpInTurn (Ok _) count old new = new ≡ old - count
+UsesUpInTurn (Err PowerCut) count old new = new ≡ 0
+UsesUpInTurn result count old new = (old - count ≤ new) × (new ≤ old - used_up result)
+
+-- So many calls in turn are all made only where the power lasts for them, and are refused for a cut only where it does
+-- not. Under a cut that stands they are refused for that, unless a count has ended.
+abbrev pub MeetsCutInTurn : {T : Type 0} → Result T Error → Failures → ℕ → ℕ → Type 0
+MeetsCutInTurn (Ok _) failures left count = failures.is_asked ≡ true → count ≤ left
+MeetsCutInTurn (Err PowerCut) failures left count = (failures.is_asked ≡ true) × (left < count)
+MeetsCutInTurn (Err NumberEnded) failures left count = IsPowerOff failures left → HaveEnded failures
+MeetsCutInTurn result failures left count = IsPowerOff failures left → ⊥

@@ -3,7 +3,7 @@
 ghost use Rattle.std.specs.Prelude.{◌≡◌, ◌+◌, ◌-◌, ◌≤◌, ℕ, List, Bool, map, length, IfOk, IfErr};
 ghost use Rattle.paged_blob.specs.Calls.{Call, wrote, resized_to, file_of};
 ghost use Rattle.paged_blob.specs.Answers.{Records, RecordsSync, Failures, failures_after, IsCause, IsSlice, IsReadCause, used_up, MeetsCut};
-ghost use Rattle.paged_blob.specs.Answers.{AreSlices, IsManyCause};
+ghost use Rattle.paged_blob.specs.Answers.{AreSlices, IsManyCause, UsesUpInTurn, MeetsCutInTurn};
 ghost use Rattle.paged_blob.specs.WriteModes.{is_sync, place_of};
 ghost use Rattle.paged_blob.specs.declared.error.CallKind.TheVariants.{Write, Resize, Sync};
 
@@ -62,7 +62,8 @@ pub trait Blob {
 
     /// Writes bytes at an offset, also past the end; a gap is filled by zeros. Until the next sync that succeeds a
     /// crash may leave any of them, unless the mode says that they are durable at once. No bytes past the end grow the
-    /// blob in mode `Plain`, and leave it in mode `Sync`. In the Rust: `commonware_runtime::Blob::write_at`.
+    /// blob in mode `Plain`, and leave it in mode `Sync`. F1, F8, F9, F10: no byte is changed; F6: it is recorded as
+    /// failed. In the Rust: `commonware_runtime::Blob::write_at`.
     fn write_at(&mut self, offset: u64, bytes: &[u8], mode: WriteMode) -> Result<(), Error>
         ensures calls { Records result (wrote (place_of mode offset bytes.now) bytes.now (is_sync mode))
             (calls self.old) (calls self.new) }
@@ -71,7 +72,8 @@ pub trait Blob {
         ensures left { left self.new ≡ left self.old - used_up result }
         ensures cut { MeetsCut result (failures self.old) (left self.old) };
 
-    /// Cuts the blob to a length, or grows it to that by zeros. In the Rust: `commonware_runtime::Blob::resize`.
+    /// Cuts the blob to a length, or grows it to that by zeros. F1, F8, F9, F10: no byte is changed; F6: it is recorded
+    /// as failed. In the Rust: `commonware_runtime::Blob::resize`.
     fn resize(&mut self, len: u64) -> Result<(), Error>
         ensures calls { Records result (resized_to len) (calls self.old) (calls self.new) }
         ensures cause { IfErr result (IsCause (failures self.old) Resize len) }
@@ -79,7 +81,8 @@ pub trait Blob {
         ensures left { left self.new ≡ left self.old - used_up result }
         ensures cut { MeetsCut result (failures self.old) (left self.old) };
 
-    /// Makes durable what was written. In the Rust: `commonware_runtime::Blob::sync`.
+    /// Makes durable what was written. F1, F8, F9, F10: nothing is made durable; F6: it is recorded as failed.
+    /// In the Rust: `commonware_runtime::Blob::sync`.
     fn sync(&mut self) -> Result<(), Error>
         ensures calls { RecordsSync result (calls self.old) (calls self.new) }
         ensures cause { IfErr result (IsCause (failures self.old) Sync 0) }
@@ -95,7 +98,8 @@ pub trait Blob {
         ensures cause { IfErr result (IsManyCause (failures self.old) (file_of (calls self.old)) ranges.now) }
         ensures calls { calls self.new ≡ calls self.old }
         ensures failures { failures self.new ≡ failures_after result (failures self.old) }
-        ensures left { left self.new ≤ left self.old }
+        ensures left { UsesUpInTurn result (length ranges.now) (left self.old) (left self.new) }
+        ensures cut { MeetsCutInTurn result (failures self.old) (left self.old) (length ranges.now) }
     {
         let mut all = Vec::new(alloc);
         for (offset, len) in ranges {
@@ -114,7 +118,8 @@ pub trait Blob {
         ensures cause { IfErr result.answer (IsManyCause (failures self.old) (file_of (calls self.old)) ranges.now) }
         ensures calls { calls self.new ≡ calls self.old }
         ensures failures { failures self.new ≡ failures_after result.answer (failures self.old) }
-        ensures left { left self.new ≤ left self.old }
+        ensures left { UsesUpInTurn result.answer (length ranges.now) (left self.old) (left self.new) }
+        ensures cut { MeetsCutInTurn result.answer (failures self.old) (left self.old) (length ranges.now) }
     {
         StartedReads::new(self.read_many(alloc, ranges))
     }

@@ -1,6 +1,6 @@
 //! A list that is read from its beginning, or from a place on, to its end.
 
-ghost use Rattle.std.specs.Prelude.{◌≡◌, ◌+◌, ◌-◌, ◌*◌, ◌/◌, ◌<◌, ◌≤◌, ◌^◌, ◌↔◌, [], max, length, take, drop};
+ghost use Rattle.std.specs.Prelude.{◌≡◌, ◌+◌, ◌++◌, ◌-◌, ◌*◌, ◌/◌, ◌<◌, ◌≤◌, ◌^◌, ◌↔◌, [], max, length, take, drop};
 ghost use Rattle.std.specs.Prelude.{IsTrue, IsFalse, IfOk, IfErr, OnOk, OnErr, IsErr};
 ghost use Rattle.paged_format.specs.Footers.{IsPageSize, content_size};
 ghost use Rattle.paged_blob.specs.Answers.{failures_after, IsCause};
@@ -31,31 +31,83 @@ pub struct Replay<C: Checksum> {
     ghost ends: { next ≤ sealed.pages.len + length sealed.tail.items },
 }
 
-// The content of whole pages that stand, one behind the other. Where one does not verify: F12.
-fn read_pages<B: Blob, C: Checksum>(
+// Appends the content of whole pages that stand, one behind the other. Where one does not verify: F12, and what was
+// there stays in front.
+fn append_pages<B: Blob, C: Checksum>(
+    held: &mut Vec<u8>,
     alloc: Global,
     blob: &mut B,
     pages: FlushedPages,
     page: u64,
     count: u64,
-) -> Result<Vec<u8>, Error>
+) -> Result<(), Error>
     requires page { IsPageSize pages.physical_page_size }
     requires stand { Stand C.checksum_of (B.calls blob.old) pages }
     requires whole { (page + count) * content_size pages.physical_page_size ≤ pages.len }
-    ensures bytes { IfOk result (λ bytes. bytes.items ≡ take (count * content_size pages.physical_page_size)
+    ensures bytes { OnOk result (held.new.items ≡ held.old.items
+        ++ take (count * content_size pages.physical_page_size)
         (drop (page * content_size pages.physical_page_size) (on_blob C.checksum_of (B.calls blob.old) pages))) }
+    ensures kept { take (length held.old.items) held.new.items ≡ held.old.items }
     ensures cause { IfErr result (IsCause (B.failures blob.old) Read
         (pages.len / content_size pages.physical_page_size * pages.physical_page_size)) }
     ensures calls { B.calls blob.new ≡ B.calls blob.old }
     ensures failures { B.failures blob.new ≡ failures_after result (B.failures blob.old) }
     ensures left { B.left blob.new ≤ B.left blob.old }
 {
-    let mut bytes = Vec::new(alloc);
     for k in 0..count {
         let piece = read_page::<B, C>(alloc, blob, pages, page + k)?;
-        bytes.extend_from_slice(&piece)?;
+        held.extend_from_slice(&piece)?;
     }
-    Ok(bytes)
+    Ok(())
+}
+
+// Takes out so many bytes behind the first ones.
+fn take_out(held: &mut Vec<u8>, at: usize, count: usize)
+    requires { at + count ≤ length held.old.items }
+    ensures { held.new.items ≡ take at held.old.items ++ drop (at + count) held.old.items }
+{
+    if count > 0 {
+        let left = held.len() - count;
+        held.copy_within(at + count.., at);
+        held.truncate(left);
+    }
+}
+
+// Appends what stands behind so many bytes of whole pages. Where one does not verify: F12, and nothing is appended.
+fn append_behind<B: Blob, C: Checksum>(
+    held: &mut Vec<u8>,
+    alloc: Global,
+    blob: &mut B,
+    pages: FlushedPages,
+    page: u64,
+    count: u64,
+    skipped: usize,
+) -> Result<(), Error>
+    requires page { IsPageSize pages.physical_page_size }
+    requires stand { Stand C.checksum_of (B.calls blob.old) pages }
+    requires whole { (page + count) * content_size pages.physical_page_size ≤ pages.len }
+    requires skipped { skipped ≤ count * content_size pages.physical_page_size }
+    ensures bytes { OnOk result (held.new.items ≡ held.old.items
+        ++ drop skipped (take (count * content_size pages.physical_page_size)
+        (drop (page * content_size pages.physical_page_size) (on_blob C.checksum_of (B.calls blob.old) pages)))) }
+    ensures err { OnErr result (held.new.items ≡ held.old.items) }
+    ensures cause { IfErr result (IsCause (B.failures blob.old) Read
+        (pages.len / content_size pages.physical_page_size * pages.physical_page_size)) }
+    ensures calls { B.calls blob.new ≡ B.calls blob.old }
+    ensures failures { B.failures blob.new ≡ failures_after result (B.failures blob.old) }
+    ensures left { B.left blob.new ≤ B.left blob.old }
+{
+    let before = held.len();
+    match append_pages::<B, C>(held, alloc, blob, pages, page, count) {
+        Ok(()) => {
+            take_out(held, before, skipped);
+            Ok(())
+        }
+        Err(error) => {
+            held.truncate(before);
+            Err(error)
+        }
+    }
 }
 
 impl<C: Checksum> Replay<C> {
@@ -225,9 +277,8 @@ impl<C: Checksum> Replay<C> {
         let page = self.next / room;
         let skipped = (self.next % room) as usize;
         let count = self.batch.min(pages.len / room - page);
-        let bytes = read_pages::<B, C>(self.sealed.alloc, blob, pages, page, count)?;
-        let (_, piece) = bytes.split_at(skipped);
-        self.held.extend_from_slice(piece)?;
+        let alloc = self.sealed.alloc;
+        append_behind::<B, C>(&mut self.held, alloc, blob, pages, page, count, skipped)?;
         self.next = (page + count) * room;
         Ok(())
     }

@@ -9,8 +9,8 @@ use paged_blob::bench::MemoryDisk;
 use paged_blob::{Blob, CallKind, Error, WriteMode};
 use std::alloc::{AllocError, Global};
 
-/// A blob in memory that spares so many syncs. The next is refused by a fault, and each call after that for want of
-/// memory.
+/// A blob in memory that spares so many syncs. The next is refused by a fault, and after that it is read as before, and
+/// each other call refused for want of memory.
 #[derive(Drop)]
 pub struct FaultyDisk {
     disk: MemoryDisk,
@@ -28,6 +28,11 @@ impl FaultyDisk {
             spared,
             has_failed: false,
         })
+    }
+
+    /// Whether a sync was refused.
+    pub fn has_failed(&self) -> bool {
+        self.has_failed
     }
 
     /// The blob in memory that is under it.
@@ -50,9 +55,6 @@ impl Blob for FaultyDisk {
     ghost left = { λ _. 0 };
 
     fn read_at(&mut self, alloc: Global, offset: u64, len: usize) -> Result<Vec<u8>, Error> {
-        if self.has_failed {
-            return Err(Error::Memory);
-        }
         self.disk.read_at(alloc, offset, len)
     }
 

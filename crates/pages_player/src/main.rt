@@ -173,6 +173,37 @@ impl PagesPlayer {
         told.finish(alloc)
     }
 
+    // Takes a snapshot of a writer of which a later sync is refused by a fault, and makes the calls of a line on it.
+    fn snapshot_then_fault(
+        &mut self,
+        alloc: Global,
+        first: &[u8],
+        more: &[u8],
+        words: &[&str],
+    ) -> Result<String, Unanswered> {
+        let mut cache = self.cache(alloc)?;
+        let mut told = Told::new(alloc);
+        // The opening syncs, and the snapshot where there is something to sync.
+        let spared = if first.is_empty() { 1 } else { 2 };
+        let mut disk = FaultyDisk::showing(alloc, self.file.to_vec(alloc)?, spared)?;
+        let (size, room) = (self.file.len() as u64, self.capacity);
+        let writer = writers::opened::<FaultyDisk, Crc32>(alloc, &mut disk, &mut cache, size, room);
+        match sealing::sealed_of(writer, &mut disk, &mut cache, first, Some(more)) {
+            Ok(sealed) => {
+                told.push(if disk.has_failed() {
+                    "failed"
+                } else {
+                    "synced"
+                })?;
+                let disk = &mut disk;
+                sealing::play_sealed(alloc, &sealed, disk, &mut cache, words, &mut told)?;
+            }
+            Err(error) => told.push(number(error))?,
+        }
+        self.keep(alloc, disk.disk())?;
+        told.finish(alloc)
+    }
+
     // Replays the list of a writer, and makes the calls of a line on the replay.
     fn replay(
         &mut self,
@@ -419,6 +450,10 @@ impl Player for PagesPlayer {
             ["snapshot", first, more, words @ ..] => {
                 let (first, more) = (bytes(alloc, first)?, bytes(alloc, more)?);
                 self.seal(alloc, &first, Some(&more), words)
+            }
+            ["fault-behind", first, more, words @ ..] => {
+                let (first, more) = (bytes(alloc, first)?, bytes(alloc, more)?);
+                self.snapshot_then_fault(alloc, &first, &more, words)
             }
             ["seal", first, words @ ..] => self.seal(alloc, &bytes(alloc, first)?, None, words),
             ["replay", first, buffer, words @ ..] => {

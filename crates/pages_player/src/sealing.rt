@@ -17,7 +17,7 @@ use paged_blob::sealed::a_sealed_list_stays;
 use paged_blob::{Blob, CacheRef, Error, Replay, Sealed, Writer};
 use std::alloc::Global;
 
-// Appends bytes and takes a snapshot, whose writer then goes on by more bytes and a sync.
+// Appends bytes and takes a snapshot, whose writer then goes on by more bytes and a sync, which may be refused.
 fn snapshot<B: Blob, C: Checksum>(
     writer: Writer<C>,
     blob: &mut B,
@@ -37,7 +37,7 @@ fn snapshot<B: Blob, C: Checksum>(
     let (begun, _size) = writer.append(blob, cache, first)?;
     let (going, sealed) = begun.snapshot(blob, cache)?;
     let (longer, _size) = going.append(blob, cache, more)?;
-    let _synced = longer.sync(blob, cache)?;
+    let _synced = longer.sync(blob, cache);
     Ok(sealed)
 }
 

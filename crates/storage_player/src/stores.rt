@@ -100,7 +100,7 @@ impl Plain {
             Ok(snapshot) => snapshot,
             Err(error) => return refused(alloc, error),
         };
-        match memory::Storage::from_snapshot(alloc, &snapshot) {
+        match memory::Storage::from_snapshot(alloc, snapshot) {
             Ok(storage) => {
                 self.storage = storage;
                 Ok("ok".to_string(alloc)?)

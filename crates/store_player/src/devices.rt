@@ -75,6 +75,37 @@ fn crash(alloc: Global, device: &mut Device<Pcg32>) -> Result<String, Unanswered
     Ok("ok".to_string(alloc)?)
 }
 
+// The ranges of these words, an offset and a count each.
+fn ranges(alloc: Global, words: &[&str]) -> Result<Vec<(u64, usize)>, Unanswered> {
+    let mut ranges = Vec::new(alloc);
+    for pair in words.chunks(2) {
+        let [offset, count] = pair else {
+            return Err(Unanswered::BadLine);
+        };
+        ranges.push((offset.parse::<u64>()?, count.parse::<usize>()?))?;
+    }
+    Ok(ranges)
+}
+
+// The bytes of each range, `none` where none was asked for, or the refusal.
+fn of_ranges(alloc: Global, answer: Result<Vec<Vec<u8>>, Error>) -> Result<String, Unanswered> {
+    let pieces = match answer {
+        Ok(pieces) => pieces,
+        Err(error) => return refusals::of_device(alloc, error),
+    };
+    let mut line = String::new(alloc);
+    for piece in pieces.iter() {
+        if !line.is_empty() {
+            line.push_str(" ")?;
+        }
+        line.push_str(digits(alloc, piece)?.as_str())?;
+    }
+    if line.is_empty() {
+        line.push_str("none")?;
+    }
+    Ok(line)
+}
+
 // What is answered of a device's bytes.
 fn of_bytes(
     alloc: Global,
@@ -88,6 +119,9 @@ fn of_bytes(
                 Err(error) => refusals::of_device(alloc, error),
             }
         }
+        ["read-many", words @ ..] => {
+            of_ranges(alloc, device.read_many(alloc, &ranges(alloc, words)?))
+        }
         ["write", offset, written, mode] => {
             let mode = match *mode {
                 "plain" => WriteMode::Plain,
@@ -99,6 +133,30 @@ fn of_bytes(
         }
         ["resize", length] => done(alloc, device.resize(length.parse()?)),
         ["sync"] => done(alloc, device.sync()),
+        _ => Err(Unanswered::BadLine),
+    }
+}
+
+// Starts a sync, or a read of one range, makes a call, and then finishes what was started: both answers.
+fn started(
+    alloc: Global,
+    device: &mut Device<Pcg32>,
+    words: &[&str],
+) -> Result<String, Unanswered> {
+    match words {
+        ["sync", words @ ..] => {
+            let started = device.start_sync();
+            let between = of_bytes(alloc, device, words)?;
+            let answer = done(alloc, started.finish())?;
+            Ok(format!(in alloc; "{between}; {answer}")?)
+        }
+        ["read", offset, count, words @ ..] => {
+            let range = (offset.parse::<u64>()?, count.parse::<usize>()?);
+            let started = device.start_read_many(alloc, &[range]);
+            let between = of_bytes(alloc, device, words)?;
+            let answer = of_ranges(alloc, started.finish())?;
+            Ok(format!(in alloc; "{between}; {answer}")?)
+        }
         _ => Err(Unanswered::BadLine),
     }
 }
@@ -120,6 +178,7 @@ pub fn answer(
             device.cut_after(calls.parse()?);
             Ok("ok".to_string(alloc)?)
         }
+        ["start", words @ ..] => started(alloc, device, words),
         ["is", "cut"] => Ok(format!(in alloc; "{}", device.is_cut())?),
         ["is", "closed"] => Ok(format!(in alloc; "{}", device.is_closed())?),
         words => of_bytes(alloc, device, words),

@@ -11,16 +11,17 @@ ghost use Rattle.paged_blob.specs.Writers.{IsWriter, written};
 use crate::pages::disk::UndoDisk;
 use crate::pages::work::{append_pieces, read_often};
 use fault_storage::{Checksum, Crc32};
-use paged_blob::{Blob, CacheRef, Error, Replay, View, Writer};
+use paged_blob::{Blob, CacheRef, Error, Replay, Sealed, View, Writer};
 use paged_format::prefix_len;
 use std::alloc::Global;
 
 // How many bytes a replay reads at once.
 const BUFFER: usize = 1 << 20;
 
-// Takes all that a replay reads, and sums the first bytes of its pieces.
+// Takes all that a replay reads, and sums the first bytes of its pieces and how long they are.
 fn replay_all<B: Blob, C: Checksum>(replay: Replay<C>, disk: &mut B, most: usize) -> u64
     requires { Stand C.checksum_of (B.calls disk.old) replay.sealed.pages }
+    ensures { B.calls disk.new ≡ B.calls disk.old }
 {
     let mut replay = replay;
     let mut sum = 0u64;
@@ -37,12 +38,29 @@ fn replay_all<B: Blob, C: Checksum>(replay: Replay<C>, disk: &mut B, most: usize
     sum
 }
 
-// Reads so many pages, and checks each.
+// Replays a list so many times.
+fn replay_often<B: Blob, C: Checksum>(
+    sealed: &Sealed<C>,
+    disk: &mut B,
+    most: usize,
+    times: u64,
+) -> Result<u64, Error>
+    requires { Stand C.checksum_of (B.calls disk.old) sealed.now.pages }
+{
+    let mut sum = 0u64;
+    for _ in 0..times {
+        let replay = sealed.replay(BUFFER)?;
+        sum = sum.rotate_left(1) ^ replay_all(replay, disk, most);
+    }
+    Ok(sum)
+}
+
+// Reads so many pages, and checks each: how many bytes of content they have.
 fn check_all<B: Blob, C: Checksum>(alloc: Global, disk: &mut B, pages: u64) -> u64 {
     let mut sum = 0u64;
     for page in 0..pages {
         if let Ok(bytes) = disk.read_at(alloc, page.saturating_mul(4096), 4096) {
-            sum = sum.rotate_left(1) ^ prefix_len::<C>(&bytes, 4096);
+            sum = sum.wrapping_add(prefix_len::<C>(&bytes, 4096));
         }
     }
     sum
@@ -54,30 +72,35 @@ fn try_replay(alloc: Global, size: usize, times: u64) -> Result<u64, Error> {
     let mut cache = CacheRef::new(alloc, 4084, 16);
     let writer = Writer::<Crc32>::new(alloc, &mut disk, &mut cache, 0, 1 << 16)?;
     let writer = append_pieces(writer, &mut disk, &mut cache, size / 100)?;
-    if times == 0 {
-        return Ok(0);
-    }
-    let (_writer, replay) = writer.replay(&mut disk, &mut cache, BUFFER)?;
-    Ok(replay_all(replay, &mut disk, size))
+    let sealed = writer.seal(&mut disk, &mut cache)?;
+    replay_often(&sealed, &mut disk, size, times)
 }
 
-/// So many bytes on a new disk, which are replayed if that is asked for.
+/// So many bytes on a new disk, replayed so many times.
 pub fn replayed(alloc: Global, size: usize, times: u64) -> u64 {
     try_replay(alloc, size, times).unwrap_or(0)
 }
 
-// So many bytes on a new disk, whose pages are read and checked.
-fn try_check(alloc: Global, size: usize) -> Result<u64, Error> {
+// So many bytes on a new disk, whose pages are read and checked so many times.
+fn try_check(alloc: Global, size: usize, times: u64) -> Result<u64, Error> {
     let mut disk = UndoDisk::with_capacity(alloc, size.saturating_add(size >> 7))?;
     let mut cache = CacheRef::new(alloc, 4084, 16);
     let writer = Writer::<Crc32>::new(alloc, &mut disk, &mut cache, 0, 1 << 16)?;
     let _writer = append_pieces(writer, &mut disk, &mut cache, size / 100)?;
-    Ok(check_all::<UndoDisk, Crc32>(alloc, &mut disk, (size / 4084) as u64))
+    let mut sum = 0u64;
+    for _ in 0..times {
+        sum = sum.wrapping_add(check_all::<UndoDisk, Crc32>(
+            alloc,
+            &mut disk,
+            (size / 4084) as u64,
+        ));
+    }
+    Ok(sum)
 }
 
-/// So many bytes on a new disk, whose pages are read and checked.
-pub fn checked(alloc: Global, size: usize) -> u64 {
-    try_check(alloc, size).unwrap_or(0)
+/// So many bytes on a new disk, whose pages are read and checked so many times.
+pub fn checked(alloc: Global, size: usize, times: u64) -> u64 {
+    try_check(alloc, size, times).unwrap_or(0)
 }
 
 // Reads so many times 25 bytes of the last page but one of a list.
@@ -143,7 +166,7 @@ fn try_snap(alloc: Global, size: usize, count: u64) -> Result<u64, Error> {
     let mut sum = 0u64;
     for _ in 0..count {
         if let Some(sealed) = writer.try_snapshot()? {
-            sum = sum.rotate_left(1) ^ sealed.size();
+            sum = sum.wrapping_add(sealed.size());
         }
     }
     Ok(sum)

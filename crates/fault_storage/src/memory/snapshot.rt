@@ -1,6 +1,6 @@
 //! Snapshots of the store in memory.
 
-ghost use Rattle.std.specs.Prelude.{◌≡◌, ◌+◌, ◌^◌, ◌<◌, ◌≤◌, IfOk, MatchOption, length};
+ghost use Rattle.std.specs.Prelude.{◌≡◌, ◌+◌, ◌^◌, ◌<◌, ◌≤◌, IfOk, MatchOption, length, vec_len};
 ghost use Rattle.fault_storage_parts.specs.Files.{durable_bytes};
 ghost use Rattle.fault_storage.specs.Stores.{settled_at};
 ghost use Rattle.fault_storage.specs.Snapshots.{durable_map, numbered};
@@ -39,23 +39,20 @@ impl DurableFile {
         })
     }
 
-    // The file of this number that has these bytes as its base. It fails only when out of memory.
-    fn stored(&self, alloc: Global, number: u64) -> Result<StoredFile, AllocError>
-        ensures { IfOk result (λ stored. stored ≡
-            record { name = self.now.0; number = number; file = settled_at self.now.1 }) }
+    // The file of this number that has these bytes as its base.
+    fn into_stored(self, alloc: Global, number: u64) -> StoredFile
+        ensures { result ≡ record { name = self.0; number = number; file = settled_at self.1 } }
     {
-        let name = self.name.try_copy(alloc)?;
-        let base = self.bytes.to_vec(alloc)?;
-        Ok(StoredFile {
-            name,
+        StoredFile {
+            name: self.name,
             number,
-            file: BlobFile::new(alloc, base),
-        })
+            file: BlobFile::new(alloc, self.bytes),
+        }
     }
 }
 
-/// What is durable of a store: its partitions, its files under their names, and the next number. A store that is made
-/// of it numbers its files anew. In the Rust: `commonware_runtime::storage::memory::Snapshot`.
+/// What is durable of a store: its partitions, its files under their names, and the next number. One store is made of it,
+/// which numbers its files anew. In the Rust: `commonware_runtime::storage::memory::Snapshot`.
 #[derive(Debug, Drop)]
 pub struct Snapshot {
     partitions: Vec<PartitionName>,
@@ -96,16 +93,16 @@ fn durable_files(alloc: Global, files: &[StoredFile]) -> Result<Vec<DurableFile>
 // Files with these bases, numbered from a number on. It fails only when out of memory.
 fn numbered_files(
     alloc: Global,
-    kept: &[DurableFile],
+    kept: Vec<DurableFile>,
     from: u64,
 ) -> Result<Vec<StoredFile>, AllocError>
-    requires { from + length kept.now < 2 ^ 64 }
-    ensures { IfOk result (λ files. files.items ≡ numbered from kept.now) }
+    requires { from + vec_len kept < 2 ^ 64 }
+    ensures { IfOk result (λ files. files.items ≡ numbered from kept.items) }
 {
     let mut files = Vec::new(alloc);
     let mut number = from;
     for durable in kept {
-        files.push(durable.stored(alloc, number)?)?;
+        files.push(durable.into_stored(alloc, number))?;
         number += 1;
     }
     Ok(files)
@@ -139,18 +136,16 @@ impl Snapshot {
         self.next.checked_add(self.files.len() as u64)
     }
 
-    // Copies of its partitions. It fails only when out of memory.
-    pub(crate) fn partitions(&self, alloc: Global) -> Result<Vec<PartitionName>, AllocError>
-        ensures { IfOk result (λ names. names.items ≡ self.now.partitions) }
+    // Its partitions, and its files, numbered anew. It fails only when out of memory.
+    pub(crate) fn into_files(
+        self,
+        alloc: Global,
+    ) -> Result<(Vec<PartitionName>, Vec<StoredFile>), AllocError>
+        requires { self.next + length self.files < 2 ^ 64 }
+        ensures { IfOk result (λ made. (made.0.items ≡ self.partitions)
+            × (made.1.items ≡ numbered self.next self.files)) }
     {
-        copied_names(alloc, &self.partitions)
-    }
-
-    // Its files, numbered anew. It fails only when out of memory.
-    pub(crate) fn files(&self, alloc: Global) -> Result<Vec<StoredFile>, AllocError>
-        requires { self.now.next + length self.now.files < 2 ^ 64 }
-        ensures { IfOk result (λ files. files.items ≡ numbered self.now.next self.now.files) }
-    {
-        numbered_files(alloc, &self.files, self.next)
+        let files = numbered_files(alloc, self.files, self.next)?;
+        Ok((self.partitions, files))
     }
 }

@@ -318,17 +318,16 @@ impl Storage {
         Ok(snapshot)
     }
 
-    /// A store with what the snapshot has, whose files have numbers that none had before. F8: these would pass their
-    /// end; F9.
+    /// A store with what the snapshot has, which is used up, so that no other store is made of it: its files have
+    /// numbers that none had before. F8: these would pass their end; F9; the snapshot is gone then too.
     /// In the Rust: `commonware_runtime::storage::memory::Storage::from_snapshot`.
-    pub fn from_snapshot(alloc: Global, snapshot: &Snapshot) -> Result<Storage, Error>
-        ensures { Rebuilds snapshot.now result }
+    pub fn from_snapshot(alloc: Global, snapshot: Snapshot) -> Result<Storage, Error>
+        ensures { Rebuilds snapshot result }
     {
         let Some(next) = snapshot.next_number() else {
             return Err(Error::NumberEnded);
         };
-        let partitions = snapshot.partitions(alloc)?;
-        let files = snapshot.files(alloc)?;
+        let (partitions, files) = snapshot.into_files(alloc)?;
         Ok(Storage {
             alloc,
             partitions,
@@ -487,6 +486,9 @@ impl crate::storage::Storage for Storage {
 
     ghost removes = { MemoryRemoves };
 
+    /// Opens the blob of this name, which it creates in the greatest of the versions where there is none, or none with a
+    /// header. F3; F5: its header is refused; F8: numbers have ended where one would be given; F9. Refused, nothing is
+    /// changed. In the Rust: `commonware_runtime::Storage::open_versioned`.
     fn open_versioned(
         &mut self,
         partition: &str,
@@ -507,6 +509,8 @@ impl crate::storage::Storage for Storage {
         Ok(names)
     }
 
+    /// Removes the blob of this name, or without a name the partition with all its blobs. F3, F2 (there is no such
+    /// partition), F1 (there is no such blob). In the Rust: `commonware_runtime::Storage::remove`.
     fn remove(&mut self, partition: &str, name: Option<&[u8]>) -> Result<(), Error> {
         match name {
             Some(name) => self.remove_blob(partition, name),

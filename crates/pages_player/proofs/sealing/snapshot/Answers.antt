@@ -13,7 +13,7 @@ returns-clause-stand g c =
     let b1 = g.B.Blob.calls c.append.new.blob in
     let b2 = g.B.Blob.calls c.snapshot.new.blob in
     let b3 = g.B.Blob.calls c.append-2.new.blob in
-    let b4 = g.B.Blob.calls c.sync.new.blob in
+    let b4 = g.B.Blob.calls c.sync-synced.new.blob in
     let begun = c.in_ok-begun.begun in
     let going = c.in_ok-going.going in
     let longer = c.in_ok-longer.longer in
@@ -31,7 +31,7 @@ returns-clause-stand g c =
     (subst (λ (n : ℕ). M n list) size_two appended) in
     let content : written sum b3 longer ≡ list ++ more = grown.content ∙ ap (λ l. l ++ more) kept.content in
     let S : ℕ → List ℕ → Type 0 = λ size l. Through (Keeps sum size l longer.synced) b3 b4 in
-    let synced : S longer.page_size (list ++ more) = subst (λ (l : List ℕ). S longer.page_size l) content c.sync.ensures.any_moment in
+    let synced : S longer.page_size (list ++ more) = subst (λ (l : List ℕ). S longer.page_size l) content c.sync-synced.ensures.any_moment in
     let durable : pages.len ≤ longer.synced = subst (λ (n : ℕ). pages.len ≤ n) (sym grown.synced) kept.durable in
     let three = c.a_sealed_list_stays.ensures sum b3 b4 list more longer.synced pages tail two durable
     (subst (λ (n : ℕ). S n (list ++ more)) (grown.same.0 ∙ size_two) synced) in
@@ -44,7 +44,7 @@ returns-clause-serves g c =
     let b1 = g.B.Blob.calls c.append.new.blob in
     let b2 = g.B.Blob.calls c.snapshot.new.blob in
     let b3 = g.B.Blob.calls c.append-2.new.blob in
-    let b4 = g.B.Blob.calls c.sync.new.blob in
+    let b4 = g.B.Blob.calls c.sync-synced.new.blob in
     let begun = c.in_ok-begun.begun in
     let going = c.in_ok-going.going in
     let longer = c.in_ok-longer.longer in
@@ -62,7 +62,7 @@ returns-clause-serves g c =
     (subst (λ (n : ℕ). M n list) size_two appended) in
     let content : written sum b3 longer ≡ list ++ more = grown.content ∙ ap (λ l. l ++ more) kept.content in
     let S : ℕ → List ℕ → Type 0 = λ size l. Through (Keeps sum size l longer.synced) b3 b4 in
-    let synced : S longer.page_size (list ++ more) = subst (λ (l : List ℕ). S longer.page_size l) content c.sync.ensures.any_moment in
+    let synced : S longer.page_size (list ++ more) = subst (λ (l : List ℕ). S longer.page_size l) content c.sync-synced.ensures.any_moment in
     let durable : pages.len ≤ longer.synced = subst (λ (n : ℕ). pages.len ≤ n) (sym grown.synced) kept.durable in
     let three = c.a_sealed_list_stays.ensures sum b3 b4 list more longer.synced pages tail two durable
     (subst (λ (n : ℕ). S n (list ++ more)) (grown.same.0 ∙ size_two) synced) in
@@ -79,8 +79,8 @@ returns-clause-serves g c =
     let L : List ℕ → ℕ → Type 0 = λ l id. HoldsPagesOf l c.append-2.new.cache id in
     let k3 : L (written sum b3 longer) longer.blob_id =
     subst (λ (id : ℕ). L (written sum b3 longer) id) (sym grown.same.1) (subst (λ (l : List ℕ). L l going.blob_id) (sym grown.content) h3) in
-    let h4 : HoldsPagesOf (written sum b3 longer) c.sync.new.cache longer.blob_id = c.sync.ensures.cached k3 in
-    let Z : List ℕ → ℕ → Type 0 = λ l id. HoldsPagesOf l c.sync.new.cache id in
+    let h4 : HoldsPagesOf (written sum b3 longer) c.sync-synced.new.cache longer.blob_id = c.sync-synced.ensures.cached k3 in
+    let Z : List ℕ → ℕ → Type 0 = λ l id. HoldsPagesOf l c.sync-synced.new.cache id in
     let names : longer.blob_id ≡ pages.blob_id = grown.same.1 ∙ kept.same.1 ∙ sym kept.named.1 in
     let whole : written sum b3 longer ≡ front ++ (tail ++ more) =
     content ∙ ap (λ l. l ++ more) (sym three.is) ∙ append_assoc front tail more in

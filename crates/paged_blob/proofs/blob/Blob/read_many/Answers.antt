@@ -4,8 +4,8 @@ use Rattle.std.proofs.lemmas.List.Elements.{Contains-get_or}
 use Rattle.std.proofs.lemmas.Result.{err_from_is_err_and}
 use Rattle.std.proofs.Math.Seq.{take-suc}
 use Rattle.paged_blob.specs.Calls.{Call, file_of}
-use Rattle.paged_blob.specs.Answers.{Failures, IsSlice, IsReadCause}
-use Rattle.paged_blob.proofs.Many.{slices-append, many_cause}
+use Rattle.paged_blob.specs.Answers.{Failures, IsSlice, IsReadCause, IsPowerOff}
+use Rattle.paged_blob.proofs.Many.{slices-append, many_cause, made_lasts}
 use Rattle.paged_blob.proofs.blob.Blob.read_many.Goals as goal
 
 pub returns-in_err-bytes-clause-cause : goal.returns-in_err-bytes-clause-cause
@@ -30,6 +30,8 @@ loop-offset-preserved g c =
     let range : ℕ × ℕ = get_or ranges index (0, 0) in
     let now = g.Self.Blob.calls c.args.self.now in
     let P : List Call → Type 0 = λ calls. IsSlice (file_of calls) range.0 range.1 c.in_ok-bytes.bytes.items in
+    let past = g.Self.Blob.failures c.args.self.now in
+    let here : ℕ = g.Self.Blob.left c.loop-offset.self in
     let one : P now = subst P c.loop-offset.invariant.calls c.in_ok-bytes.ensures.slice in
     let before = map (λ bytes. bytes.items) c.loop-offset.all.items in
     let more = slices-append (file_of now) (take index ranges) before range c.in_ok-bytes.bytes.items c.loop-offset.invariant.slices one in
@@ -42,4 +44,6 @@ loop-offset-preserved g c =
       calls = c.in_ok-bytes.ensures.calls ∙ c.loop-offset.invariant.calls;
       failures = c.in_ok-bytes.ensures.failures ∙ c.loop-offset.invariant.failures;
       left = omega (arith, c.in_ok-bytes.ensures.left, c.loop-offset.invariant.left);
+      lasts = made_lasts past (g.Self.Blob.left c.args.self.now) index here c.loop-offset.invariant.left c.loop-offset.invariant.lasts
+          (subst (λ (f : Failures). IsPowerOff f here → ⊥) c.loop-offset.invariant.failures c.in_ok-bytes.ensures.cut);
     }

@@ -1,4 +1,4 @@
-use Rattle.std.proofs.Common.{rules, ◌≡◌, ◌≤◌, ◌<◌, ◌+◌, ◌-◌, ◌*◌, ◌/◌, ◌%◌, ◌++◌, ℕ, List, min, length, take, drop, ap, sym, subst, ◌∙◌, arith}
+use Rattle.std.proofs.Common.{rules, ◌≡◌, ◌≤◌, ◌<◌, ◌+◌, ◌-◌, ◌*◌, ◌/◌, ◌%◌, ◌++◌, ℕ, List, min, length, take, drop, ap, sym, refl, subst, ◌∙◌, arith}
 use Rattle.std.proofs.lemmas.List.{length-append, length-drop, length-take-le}
 use Rattle.paged_format.specs.Footers.{content_size}
 use Rattle.paged_blob.specs.Stands.{on_blob, listed}
@@ -31,8 +31,8 @@ returns-then-self-pages-clause-reads g c =
     (reads_more list self.next (self.next + count) self.held.items (take count (drop (self.next - length front) tail)) self.taken (omega arith)
     self.within (reads_tail front tail count self.next behind))
 
-pub split_at-requires : goal.split_at-requires
-split_at-requires g c =
+pub append_behind-requires-clause-skipped : goal.append_behind-requires-clause-skipped
+append_behind-requires-clause-skipped g c =
     let sum = g.C.Checksum.checksum_of in
     let calls = g.B.Blob.calls c.args.blob.now in
     let self = c.args.self.now in
@@ -59,13 +59,7 @@ split_at-requires g c =
     subst (λ (k : ℕ). skipped < k * room) (sym count_is) (next_within self.next pages.len self.batch room some whole below self.some) in
     let split : self.next ≡ page * room + skipped = next_split self.next pages.len self.batch room some whole below self.some in
     let spread : (page + count) * room ≡ page * room + count * room = omega arith in
-    let bytes = c.in_ok-bytes.bytes.items in
-    let bytes_is : bytes ≡ take (count * room) (drop (page * room) front) =
-    c.in_ok-bytes.ensures.bytes ∙ ap (λ r. take (count * r) (drop (page * r) front)) (sym rooms) in
-    let bytes_long : length bytes ≡ count * room = ap length bytes_is ∙ length-take-le (count * room) (drop (page * room) front)
-    (omega (arith, length-drop (page * room) front, fronts, reach, spread)) in
-    let deref_long : length c.deref-2.result.now ≡ count * room = ap length c.deref-2.ensures.value ∙ bytes_long in
-    omega (arith, deref_long, inside)
+    omega (arith, inside, ap (λ r. count * r) rooms)
 
 pub returns-clause-reads : goal.returns-clause-reads
 returns-clause-reads g c =
@@ -95,18 +89,15 @@ returns-clause-reads g c =
     subst (λ (k : ℕ). skipped < k * room) (sym count_is) (next_within self.next pages.len self.batch room some whole below self.some) in
     let split : self.next ≡ page * room + skipped = next_split self.next pages.len self.batch room some whole below self.some in
     let spread : (page + count) * room ≡ page * room + count * room = omega arith in
-    let bytes = c.in_ok-bytes.bytes.items in
-    let bytes_is : bytes ≡ take (count * room) (drop (page * room) front) =
-    c.in_ok-bytes.ensures.bytes ∙ ap (λ r. take (count * r) (drop (page * r) front)) (sym rooms) in
-    let bytes_long : length bytes ≡ count * room = ap length bytes_is ∙ length-take-le (count * room) (drop (page * room) front)
+    let bytes = take (count * room) (drop (page * room) front) in
+    let bytes_long : length bytes ≡ count * room = length-take-le (count * room) (drop (page * room) front)
     (omega (arith, length-drop (page * room) front, fronts, reach, spread)) in
-    let deref_long : length c.deref-2.result.now ≡ count * room = ap length c.deref-2.ensures.value ∙ bytes_long in
     let piece = drop skipped bytes in
-    let laid : c.extend_from_slice-2.new.self.items ≡ self.held.items ++ piece =
-    c.in_ok-extend_from_slice-2.ensures.items ∙ ap (λ l. self.held.items ++ l) (c.split_at.ensures.back ∙ ap (drop skipped) c.deref-2.ensures.value) in
+    let laid : c.append_behind.new.held.items ≡ self.held.items ++ piece =
+    c.in_ok-append_behind.ensures.bytes ∙ ap (λ r. self.held.items ++ drop skipped (take (count * r) (drop (page * r) front))) (sym rooms) in
     let within : (page + count) * room ≤ length front = omega (arith, fronts, reach) in
     let read : piece ≡ take ((page + count) * room - self.next) (drop self.next list) =
-    reads_pages front tail bytes page count room skipped self.next split (omega (arith, inside)) within bytes_is in
+    reads_pages front tail bytes page count room skipped self.next split (omega (arith, inside)) within refl in
     subst (λ (l : List ℕ). ReadsOn list self.next (drop self.taken self.held.items) ((page + count) * room) (drop self.taken l)) (sym laid)
     (reads_more list self.next ((page + count) * room) self.held.items piece self.taken (omega (arith, split, spread, inside)) self.within read)
 
@@ -138,22 +129,19 @@ invariant_of-self-2-clause-behind g c =
     subst (λ (k : ℕ). skipped < k * room) (sym count_is) (next_within self.next pages.len self.batch room some whole below self.some) in
     let split : self.next ≡ page * room + skipped = next_split self.next pages.len self.batch room some whole below self.some in
     let spread : (page + count) * room ≡ page * room + count * room = omega arith in
-    let bytes = c.in_ok-bytes.bytes.items in
-    let bytes_is : bytes ≡ take (count * room) (drop (page * room) front) =
-    c.in_ok-bytes.ensures.bytes ∙ ap (λ r. take (count * r) (drop (page * r) front)) (sym rooms) in
-    let bytes_long : length bytes ≡ count * room = ap length bytes_is ∙ length-take-le (count * room) (drop (page * room) front)
+    let bytes = take (count * room) (drop (page * room) front) in
+    let bytes_long : length bytes ≡ count * room = length-take-le (count * room) (drop (page * room) front)
     (omega (arith, length-drop (page * room) front, fronts, reach, spread)) in
-    let deref_long : length c.deref-2.result.now ≡ count * room = ap length c.deref-2.ensures.value ∙ bytes_long in
     let piece = drop skipped bytes in
-    let laid : c.extend_from_slice-2.new.self.items ≡ self.held.items ++ piece =
-    c.in_ok-extend_from_slice-2.ensures.items ∙ ap (λ l. self.held.items ++ l) (c.split_at.ensures.back ∙ ap (drop skipped) c.deref-2.ensures.value) in
-    let held : length c.extend_from_slice-2.new.self.items ≡ length self.held.items + length piece = ap length laid ∙ length-append self.held.items piece in
+    let laid : c.append_behind.new.held.items ≡ self.held.items ++ piece =
+    c.in_ok-append_behind.ensures.bytes ∙ ap (λ r. self.held.items ++ drop skipped (take (count * r) (drop (page * r) front))) (sym rooms) in
+    let held : length c.append_behind.new.held.items ≡ length self.held.items + length piece = ap length laid ∙ length-append self.held.items piece in
     omega (arith, held, length-drop skipped bytes, bytes_long, split, spread, inside, self.behind, self.within)
 
 pub invariant_of-self-2-clause-within : goal.invariant_of-self-2-clause-within
 invariant_of-self-2-clause-within g c =
     let self = c.args.self.now in
-    let laid = ap length c.in_ok-extend_from_slice-2.ensures.items ∙ length-append self.held.items c.split_at.result.1.now in
+    let laid = ap length c.in_ok-append_behind.ensures.bytes ∙ length-append self.held.items _ in
     omega (arith, laid, self.within)
 
 pub invariant_of-self-2-clause-ends : goal.invariant_of-self-2-clause-ends
@@ -184,12 +172,9 @@ invariant_of-self-2-clause-ends g c =
     subst (λ (k : ℕ). skipped < k * room) (sym count_is) (next_within self.next pages.len self.batch room some whole below self.some) in
     let split : self.next ≡ page * room + skipped = next_split self.next pages.len self.batch room some whole below self.some in
     let spread : (page + count) * room ≡ page * room + count * room = omega arith in
-    let bytes = c.in_ok-bytes.bytes.items in
-    let bytes_is : bytes ≡ take (count * room) (drop (page * room) front) =
-    c.in_ok-bytes.ensures.bytes ∙ ap (λ r. take (count * r) (drop (page * r) front)) (sym rooms) in
-    let bytes_long : length bytes ≡ count * room = ap length bytes_is ∙ length-take-le (count * room) (drop (page * room) front)
+    let bytes = take (count * room) (drop (page * room) front) in
+    let bytes_long : length bytes ≡ count * room = length-take-le (count * room) (drop (page * room) front)
     (omega (arith, length-drop (page * room) front, fronts, reach, spread)) in
-    let deref_long : length c.deref-2.result.now ≡ count * room = ap length c.deref-2.ensures.value ∙ bytes_long in
     omega (arith, reach)
 
 pub overflow_mul-self : goal.overflow_mul-self

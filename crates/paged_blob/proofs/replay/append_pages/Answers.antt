@@ -1,5 +1,5 @@
 use Rattle.std.proofs.Common.{rules, ◌≡◌, ◌≤◌, ◌<◌, ◌+◌, ◌*◌, ◌++◌, List, length, take, drop, ap, sym, subst, ◌∙◌, arith}
-use Rattle.std.proofs.lemmas.List.{drop-drop, length-drop}
+use Rattle.std.proofs.lemmas.List.{append_assoc, drop-drop, length-drop}
 use Rattle.std.proofs.lemmas.Nat.{mul-le}
 use Rattle.paged_format.specs.Footers.{content_size}
 use Rattle.paged_blob.specs.Calls.{Call}
@@ -7,7 +7,7 @@ use Rattle.paged_blob.specs.Chance.{page_at}
 use Rattle.paged_blob.specs.Stands.{Stand, on_blob}
 use Rattle.paged_blob.specs.Laws.Durable.{further}
 use Rattle.paged_blob.proofs.StandLaws.{long}
-use Rattle.paged_blob.proofs.replay.read_pages.Goals as goal
+use Rattle.paged_blob.proofs.replay.append_pages.Goals as goal
 
 pub read_page-requires-clause-stand : goal.read_page-requires-clause-stand
 read_page-requires-clause-stand g c =
@@ -28,6 +28,7 @@ loop-k-preserved g c =
     let old = g.B.Blob.calls c.args.blob.now in
     let k = c.loop-k.k in
     let page = c.args.page in
+    let held = c.args.held.now.items in
     let i = c.loop-k.invariant in
     let below : k < c.args.count = search rules in
     let rest = drop (page * room) (on_blob sum old pages) in
@@ -42,8 +43,9 @@ loop-k-preserved g c =
     let more : k * room + room ≡ (k + 1) * room = omega arith in
     record {
       bytes = c.in_ok-extend_from_slice.ensures.items ∙ ap (λ l. l ++ c.deref.result.now) i.bytes
-          ∙ ap (λ l. take (k * room) rest ++ l) (c.deref.ensures.value ∙ found ∙ ap (take room) next)
-          ∙ further (k * room) room rest there ∙ ap (λ n. take n rest) more;
+          ∙ append_assoc held (take (k * room) rest) c.deref.result.now
+          ∙ ap (λ l. held ++ (take (k * room) rest ++ l)) (c.deref.ensures.value ∙ found ∙ ap (take room) next)
+          ∙ ap (λ l. held ++ l) (further (k * room) room rest there ∙ ap (λ n. take n rest) more);
       calls = c.in_ok-piece.ensures.calls ∙ i.calls;
       failures = c.in_ok-piece.ensures.failures ∙ i.failures;
       left = omega (arith, c.in_ok-piece.ensures.left, i.left);
