@@ -13,6 +13,7 @@ pub mod HonestRanges
 pub mod HonestRoots
 pub mod HonestTold
 pub mod ListReads
+pub mod HonestReads
 pub mod ListDigests
 pub mod StoreNodes
 pub mod Stores
@@ -49,3 +50,6 @@ pub mod MultiOneEach
 pub mod MultiRoots
 pub mod MultiShort
 pub mod MultiSound
+pub mod MultiTold
+pub mod OneRank
+pub mod HonestMany

@@ -48,7 +48,7 @@ rank_more p x xs less = ap (λ b. length (cond b (x ∷ filter (λ q. nat_lt q p
     (lt-ltb x p less)
 
 -- in ascending order a position stands where as many are less
-rank_finds : (p : ℕ) (xs : List ℕ) → IsNonDecreasingBy (λ q. q) xs → (k : ℕ) → k < length xs → get_or xs k p ≡ p
+pub rank_finds : (p : ℕ) (xs : List ℕ) → IsNonDecreasingBy (λ q. q) xs → (k : ℕ) → k < length xs → get_or xs k p ≡ p
     → slice_get xs (rank_among xs p) ≡ Some p
 rank_finds p [] up k below is = absurd (omega (arith, below))
 rank_finds p (x ∷ xs) up zero below is =

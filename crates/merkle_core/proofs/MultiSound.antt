@@ -1,5 +1,5 @@
 -- Where a proof of several elements leads to the root of a list, what it shows is true of the list, or strings collide.
-use Rattle.std.proofs.Common.{◌≡◌, inl, inr, ⊎_elim, ℕ, zero, suc, ◌<◌, ◌≤◌, ◌^◌, Bool, true, false, ◌&&◌, ◌||◌, cond}
+use Rattle.std.proofs.Common.{◌⊎◌, ◌≡◌, inl, inr, ⊎_elim, ℕ, zero, suc, ◌<◌, ◌≤◌, ◌^◌, Bool, true, false, ◌&&◌, ◌||◌, cond}
 use Rattle.std.proofs.Common.{List, [], ◌∷◌, ◌++◌, length, drop, Option, None, Some, option_map, IfSome, refl, sym, ◌∙◌}
 use Rattle.std.proofs.Common.{ap, subst, arith, length-append}
 use Rattle.std.specs.List.{AllByRecursion}
@@ -12,7 +12,7 @@ use Rattle.merkle_forest.specs.Forest.{Rule, forest_of}
 use Rattle.merkle_forest.specs.Hashing.{Hash, number, domain_of, inactive_count}
 use Rattle.merkle_forest.specs.Laws.ForestGrowth.{leaves-forest_of}
 use Rattle.merkle_forest.specs.Laws.Matching.{Matches, Agrees, append_parts, agrees_or_collides}
-use Rattle.merkle_forest.specs.Made.{Made, value, strings}
+use Rattle.merkle_forest.specs.Made.{Made, value, strings, Collision}
 use Rattle.merkle_forest.specs.Perfect.{IsPairing}
 use Rattle.merkle_core.specs.Laws.MadeBags.{map_good}
 use Rattle.merkle_core.specs.Laws.MadeRoots.{number_same, count_same, peak_count}
@@ -22,7 +22,7 @@ use Rattle.merkle_core.specs.MadeTrees.{whole, plain_over}
 use Rattle.merkle_core.specs.Multi.{first_bad}
 use Rattle.merkle_core.specs.MultiReads.{Shown, locations_of, shown_at, ranked, rank_among, read_peaks, as_bag}
 use Rattle.merkle_core.specs.MultiReads.{root_over_peaks, shown_root, can_be_shown, needed_positions, multi_root}
-use Rattle.merkle_core.specs.MultiSoundness.{AreSound}
+use Rattle.merkle_core.specs.MultiSoundness.{AreTrueOf, AreSound}
 use Rattle.merkle_core.specs.Soundness.{plain_names, list_root, hashed_strings}
 use Rattle.merkle_core.proofs.PeakMatches.{peaks_made, bag_same, AreAlike, AllAgree, bag_matches, bag_agrees, bag_long}
 use Rattle.merkle_core.proofs.ShownTruth.{is_member, ArePeaksOf, AllShown, peaks_good, shown_agree}
@@ -201,7 +201,7 @@ module _ (hash : Hash) (size : ℕ) (hash_sized : (xs : List ℕ)
     abbrev needed : List ℕ
     needed = needed_positions rule leaf_total (locations_of shown)
 
-    known_sized : (p : ℕ) → IfSome (ranked needed digests p) (λ d. length d ≡ size)
+    pub known_sized : (p : ℕ) → IfSome (ranked needed digests p) (λ d. length d ≡ size)
     known_sized p = get_sized size digests (rank_among needed p) sized
 
     abbrev ArePeaks : List Made → Type 0
@@ -233,13 +233,20 @@ module _ (hash : Hash) (size : ℕ) (hash_sized : (xs : List ℕ)
       all_stand same there rest all.1,
     )
 
-    abbrev IsSoundHere : Made → Type 0
-    IsSoundHere = AreSound hash bagging rule elements inactive leaf_total shown_inactive shown
+    -- where what is read leads to the list's root, counts and peaks are the list's; what follows from that holds, or strings collide
+    abbrev OrCollides : Type 0 → Made → Type 0
+    OrCollides Claim made = value hash made ≡ value hash (list_root bagging rule elements inactive)
+        → Claim ⊎ Collision hash (hashed_strings hash bagging rule elements inactive) (strings hash made)
 
-    sound_over : first_bad leaf_total 0 (locations_of shown) ≡ None → leaf_total < 2 ^ 64 → shown_inactive < 2 ^ 64
-        → (xs : List Made) → ArePeaks xs
-        → IsSoundHere (root_over_peaks plain_names bagging leaf_total shown_inactive xs)
-    sound_over good few_leaves few_shown xs are same =
+    abbrev pub Follows : (List Made → Type 0) → Type 0 → Type 0
+    Follows Told Claim = (xs : List Made) → ArePeaks xs → Told xs → first_bad leaf_total 0 (locations_of shown) ≡ None
+        → length digests ≡ length needed → leaf_total ≡ length elements → shown_inactive ≡ inactive
+        → AllAgree hash size hash_sized plain_names xs (real_peaks leaf_total) → Claim
+
+    told_over : (Told : List Made → Type 0) (Claim : Type 0) → Follows Told Claim → first_bad leaf_total 0 (locations_of shown) ≡ None
+        → length digests ≡ length needed → leaf_total < 2 ^ 64 → shown_inactive < 2 ^ 64 → (xs : List Made) → ArePeaks xs → Told xs
+        → OrCollides Claim (root_over_peaks plain_names bagging leaf_total shown_inactive xs)
+    told_over Told Claim follows good counted few_leaves few_shown xs are it same =
         let made = root_over_peaks plain_names bagging leaf_total shown_inactive xs in
         let list = list_root bagging rule elements inactive in
         let form = subst (Matches hash made) (sym list_same)
@@ -248,36 +255,55 @@ module _ (hash : Hash) (size : ℕ) (hash_sized : (xs : List ℕ)
         (λ agrees.
         let told = root_tells leaf_total shown_inactive few_leaves few_shown xs are.alike (subst
         (Agrees hash made) list_same agrees) in
-        inl record {
-          leaf_count = told.leaf_total;
-          inactive_count = told.inactive_total;
-          stand = All-from_recursion StandsThere shown
-              (all_stand told.leaf_total (are.tells told.agree) shown (placed leaf_total 0 shown good));
-        })
+        inl (follows xs are it good counted told.leaf_total told.inactive_total told.agree))
         inr
         (agrees_or_collides hash (hashed_strings hash bagging rule elements inactive) (strings hash made) made list
         (λ x here. here) (λ x here. here)
         form same)
 
-    pub multi_sound : IfSome (multi_root plain_names plain_over bagging rule leaf_total shown_inactive shown digests)
-        IsSoundHere
-    multi_sound =
+    abbrev pub reading : Option (List Made)
+    reading = read_peaks plain_over (shown_at shown) (locations_of shown) (ranked needed digests) (peaks_of rule leaf_total)
+
+    both_some : (P Q : List Made → Type 0) (got : Option (List Made)) → IfSome got P → IfSome got Q → IfSome got (λ xs. P xs × Q xs)
+    both_some P Q None one other = tt
+    both_some P Q (Some xs) one other = (one, other)
+
+    pub multi_told : (Told : List Made → Type 0) (Claim : Type 0) → IfSome reading Told → Follows Told Claim
+        → IfSome (multi_root plain_names plain_over bagging rule leaf_total shown_inactive shown digests) (OrCollides Claim)
+    multi_told Told Claim reads follows =
         let can = can_be_shown leaf_total (locations_of shown) in
         let peaks = peaks_of rule leaf_total in
-        let reading = read_peaks plain_over (shown_at shown) (locations_of shown) (ranked needed digests) peaks in
-        choose (λ got. IfSome got IsSoundHere) (can && (length digests == length needed))
+        choose (λ got. IfSome got (OrCollides Claim)) (can && (length digests == length needed))
         (shown_root plain_names plain_over bagging rule leaf_total shown_inactive shown (ranked needed digests)) None
         (λ is.
-        let good = none_good leaf_total (locations_of shown) (and_parts can (length digests == length needed) is).0 in
-        choose (λ got. IfSome got IsSoundHere) (nat_le shown_inactive (length peaks))
+        let parts = and_parts can (length digests == length needed) is in
+        let good = none_good leaf_total (locations_of shown) parts.0 in
+        choose (λ got. IfSome got (OrCollides Claim)) (nat_le shown_inactive (length peaks))
         (option_map (root_over_peaks plain_names bagging leaf_total shown_inactive) reading) None
         (λ enough.
         let few_shown : shown_inactive < 2 ^ 64 =
         omega (arith, leb-true shown_inactive (length peaks) enough, peak_count rule pairs leaf_total, good.1) in
-        map_good ArePeaks IsSoundHere (root_over_peaks plain_names bagging leaf_total shown_inactive) reading
+        map_good (λ xs. ArePeaks xs × Told xs) (OrCollides Claim) (root_over_peaks plain_names bagging leaf_total shown_inactive) reading
+        (both_some ArePeaks Told reading
         (peaks_good hash size hash_sized (λ at high. Unit {0}) plain_over plain_over
         (plain_fits hash size hash_sized) (shown_at shown)
-        (whole elements) (locations_of shown) (ranked needed digests) known_sized plain_names peaks)
-        (λ xs are. sound_over good.0 (omega (arith, good.1)) few_shown xs are))
+        (whole elements) (locations_of shown) (ranked needed digests) known_sized plain_names peaks) reads)
+        (λ xs it. told_over Told Claim follows good.0 (eqb-true (length digests) (length needed) parts.1) (omega (arith, good.1)) few_shown xs
+        it.0 it.1))
         (λ other. tt))
         (λ other. tt)
+
+    any_told : (got : Option (List Made)) → IfSome got (λ xs. Unit {0})
+    any_told None = tt
+    any_told (Some xs) = tt
+
+    pub multi_sound : IfSome (multi_root plain_names plain_over bagging rule leaf_total shown_inactive shown digests)
+        (AreSound hash bagging rule elements inactive leaf_total shown_inactive shown)
+    multi_sound =
+        multi_told (λ xs. Unit {0}) (AreTrueOf elements inactive leaf_total shown_inactive shown) (any_told reading)
+        (λ xs are it good counted same_leaves same_inactive agree. record {
+          leaf_count = same_leaves;
+          inactive_count = same_inactive;
+          stand = All-from_recursion StandsThere shown
+              (all_stand same_leaves (are.tells agree) shown (placed leaf_total 0 shown good));
+        })

@@ -15,6 +15,7 @@ use Rattle.merkle_forest.specs.Made.{Made, bytes, value}
 use Rattle.merkle_forest.specs.Nodes.{IsWithin, IsNodeAt, IsPeakAt}
 use Rattle.merkle_forest.specs.Perfect.{IsPairing}
 use Rattle.merkle_forest.specs.Trees.{Located, end_of, located}
+use Rattle.merkle_core.specs.Laws.HonestReads.{plain_children}
 use Rattle.merkle_core.specs.Laws.MadeTrees.{Sized, AllSized, choose, plain_fits, made_sized}
 use Rattle.merkle_core.specs.MadeRoots.{folded, peaks_of}
 use Rattle.merkle_core.specs.MadeTrees.{whole, plain_over, branch_made, made_tree}
@@ -25,7 +26,6 @@ use Rattle.merkle_core.specs.Plans.{Lookup}
 use Rattle.merkle_core.specs.Ranges.{Digests, singly}
 use Rattle.merkle_core.specs.Soundness.{plain_names}
 use Rattle.merkle_core.proofs.HonestRanges.{Ascend}
-use Rattle.merkle_core.proofs.ListDigests.{plain_parts}
 use Rattle.merkle_core.proofs.Lookups.{IsNode, located_all}
 use Rattle.merkle_core.proofs.PeakMatches.{IsAlike, AreAlike}
 use Rattle.merkle_core.proofs.Pins.{at_here, at_later}
@@ -224,7 +224,7 @@ module _ (hash : Hash) (none : List ℕ) (elements : List (List ℕ)) (rule : Ru
       let rebuilt = branch_made plain_over at (height (branch p left right)) p (pinned_made none K at left) (pinned_made none K middle right) in
       ⊎_elim
       (λ none_here. let same = subst (λ o. Agrees hash (option_map_or bytes o rebuilt) (R at (branch p left right))) none_here agrees in
-      let parts = plain_parts hash at (height (branch p left right)) p (pinned_made none K at left) (pinned_made none K middle right) (R at left)
+      let parts = plain_children hash at (height (branch p left right)) p (pinned_made none K at left) (pinned_made none K middle right) (R at left)
       (R middle right) same in
       ⊎_elim
       (λ there. descend at left first node d (node-left at p left right (forest_of rule count) stands) peak there is parts.0)

@@ -28,7 +28,7 @@ use Rattle.merkle_core.specs.Soundness.{plain_names, RangeClaim, hashed_strings}
 use Rattle.merkle_core.proofs.HonestRanges.{Ascend}
 use Rattle.merkle_core.proofs.HonestRoots.{ascend_located, length-as_one}
 use Rattle.merkle_core.proofs.HonestTold.{honest_is}
-use Rattle.merkle_core.proofs.ListDigests.{AreTheList, spelled_out}
+use Rattle.merkle_core.proofs.ListDigests.{AreTheList, list_honest}
 use Rattle.merkle_core.proofs.Lookups.{IsNode, all_append, all_back, located_all, range_all}
 use Rattle.merkle_core.proofs.PeakMatches.{AllAgree, bag_same, bag_matches, bag_agrees}
 use Rattle.merkle_core.proofs.PinnedCover.{in_forest, unfiltered, covered, before_first, inner_up}
@@ -136,7 +136,7 @@ module _ (hash : Hash) (size : ℕ) (hash_sized : (xs : List ℕ) → length (ha
       λ digest ps. length-map ps (λ (p : Located). digest p.0 p.1) in
       let fold_count : (digest : Digests) → length (as_one (folded_forward hash) (singly digest fronts)) ≡ min 1 (length fronts) =
       λ digest. length-as_one (folded_forward hash) (singly digest fronts) ∙ ap (min 1) (count digest fronts) in
-      let honest = spelled_out hash bagging rule elements (from claim.start claim.elements) claim.leaves claim.inactive claim.start stop some claim.outer
+      let honest = list_honest hash bagging rule elements (from claim.start claim.elements) claim.leaves claim.inactive claim.start stop some claim.outer
       claim.digests list ∙ honest_is hash G bagging claim.inactive claim.start stop some peaks up in
       let own = as_one (folded_forward hash) (singly D fronts) in
       let theirs = as_one (folded_forward hash) (singly G fronts) in

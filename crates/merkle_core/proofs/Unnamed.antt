@@ -59,7 +59,7 @@ pub unnamed_test : (locations : List ℕ) (at p : ℕ) (left right : Tree) (b : 
     ((at, branch p left right) ∷ [])
 unnamed_test locations at p left right b is = rw is refl
 
-unnamed_leaf : (locations : List ℕ) (at p : ℕ) (b : Bool) → is_named locations (at, leaf p) ≡ b
+pub unnamed_leaf : (locations : List ℕ) (at p : ℕ) (b : Bool) → is_named locations (at, leaf p) ≡ b
     → unnamed_nodes locations at (leaf p) ≡ cond b [] ((at, leaf p) ∷ [])
 unnamed_leaf locations at p b is = rw is refl
 

@@ -1,4 +1,5 @@
 -- Lemmas that crates above cite.
+pub mod HonestReads
 pub mod MadeBags
 pub mod MadeRoots
 pub mod MadeTrees

@@ -1,5 +1,6 @@
 pub mod Assembled
 pub mod Extracted
+pub mod HonestReads
 pub mod Laws
 pub mod ListDigests
 pub mod MadeRoots

@@ -15,11 +15,14 @@ use Rattle.merkle_core.specs.Soundness.{RangeClaim, list_root, hashed_strings}
 abbrev pub stop_of : RangeClaim → ℕ
 stop_of claim = claim.start + length claim.elements
 
--- The digests of the proof are those of the honest proof of the list. So are the nodes that it tells: the list's digests are made of the
--- claimed elements, and those of the others are given.
-pub record GivesDigestsOf (hash : Hash) (bagging : Bagging) (rule : Rule) (elements : List (List ℕ)) (claim : RangeClaim) : Type 0 where
-  pub honest : claim.digests
-      ≡ honest_digests hash (plain_digest hash elements) bagging rule claim.leaves claim.inactive claim.start (stop_of claim)
+-- The proof is, field by field, the honest one of the list. So are the nodes that it tells: the list's digests are made
+-- of the claimed elements, and those of the others are given.
+pub record GivesDigestsOf (hash : Hash) (bagging : Bagging) (rule : Rule) (elements : List (List ℕ)) (inactive : ℕ)
+    (claim : RangeClaim) : Type 0 where
+  pub leaf_count : claim.leaves ≡ length elements
+  pub inactive_count : claim.inactive ≡ inactive
+  pub honest : claim.digests ≡ honest_digests hash (plain_digest hash elements) bagging rule (length elements) inactive
+      claim.start (stop_of claim)
   pub made : AreMadeOf (λ p element. hash (leaf_string p element)) (λ p left right. hash (node_string p left right))
       (from claim.start claim.elements) claim.start (stop_of claim) (plain_digest hash elements)
   pub given : AreGiven (from_left bagging claim.inactive (length (peaks_of rule claim.leaves))) claim.start (stop_of claim)
@@ -29,5 +32,5 @@ pub record GivesDigestsOf (hash : Hash) (bagging : Bagging) (rule : Rule) (eleme
 abbrev pub GivesDigestsOrCollides : Hash → Bagging → Rule → List (List ℕ) → ℕ → RangeClaim → Made → Type 0
 GivesDigestsOrCollides hash bagging rule elements inactive claim made =
     value hash made ≡ value hash (list_root bagging rule elements inactive)
-    → GivesDigestsOf hash bagging rule elements claim
+    → GivesDigestsOf hash bagging rule elements inactive claim
     ⊎ Collision hash (hashed_strings hash bagging rule elements inactive) (strings hash made)

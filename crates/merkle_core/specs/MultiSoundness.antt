@@ -5,7 +5,9 @@ use Rattle.merkle_forest.specs.declared.bagging.Bagging.{Bagging}
 use Rattle.merkle_forest.specs.Forest.{Rule}
 use Rattle.merkle_forest.specs.Hashing.{Hash}
 use Rattle.merkle_forest.specs.Made.{Made, value, strings, Collision}
-use Rattle.merkle_core.specs.MultiReads.{Shown}
+use Rattle.merkle_core_parts.specs.Mem.{plain_leaf_digests, plain_node}
+use Rattle.merkle_core.specs.Multi.{AreDigestsAt, AreMultiPositions}
+use Rattle.merkle_core.specs.MultiReads.{Shown, locations_of}
 use Rattle.merkle_core.specs.Soundness.{list_root, hashed_strings}
 
 -- so many leaves, of whose peaks so many are inactive, and these elements at their locations are those of the list
@@ -19,6 +21,24 @@ abbrev pub AreSound : Hash → Bagging → Rule → List (List ℕ) → ℕ → 
 AreSound hash bagging rule elements inactive leaves claimed_inactive shown made =
     value hash made ≡ value hash (list_root bagging rule elements inactive)
     → AreTrueOf elements inactive leaves claimed_inactive shown
+    ⊎ Collision hash (hashed_strings hash bagging rule elements inactive) (strings hash made)
+
+-- The proof is, field by field, the honest one of the list for these locations: each of its digests, of which there are
+-- as many as positions, is that of the list's node at its position.
+pub record AreHonestFor (hash : Hash) (rule : Rule) (elements : List (List ℕ)) (inactive leaves claimed_inactive : ℕ)
+    (shown : Shown) (digests : List (List ℕ)) : Type 0 where
+  pub leaf_count : leaves ≡ length elements
+  pub inactive_count : claimed_inactive ≡ inactive
+  pub given : (positions : List ℕ) → AreMultiPositions rule (length elements) (locations_of shown) positions
+      → (length digests ≡ length positions)
+      × AreDigestsAt (plain_node hash) rule (plain_leaf_digests hash rule 0 elements) positions digests
+
+-- where it leads to the root of the list it is so, or the strings collide
+abbrev pub AreHonestOrCollide : Hash → Bagging → Rule → List (List ℕ) → ℕ → ℕ → ℕ → Shown → List (List ℕ) → Made
+    → Type 0
+AreHonestOrCollide hash bagging rule elements inactive leaves claimed_inactive shown digests made =
+    value hash made ≡ value hash (list_root bagging rule elements inactive)
+    → AreHonestFor hash rule elements inactive leaves claimed_inactive shown digests
     ⊎ Collision hash (hashed_strings hash bagging rule elements inactive) (strings hash made)
 
 -- the elements of a list at these locations

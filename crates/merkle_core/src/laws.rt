@@ -12,12 +12,13 @@ ghost use Rattle.merkle_core_parts.specs.Mem.{Nodes, Growth, node_at, own_layer,
 ghost use Rattle.merkle_core_parts.specs.declared.error.Error.{Error};
 ghost use Rattle.merkle_core_parts.specs.declared.error.Error.TheVariants.{Memory};
 ghost use Rattle.merkle_core.specs.Extracted.{AreMadeOf, AreGiven, AreExtracted, extracted_nodes};
+ghost use Rattle.merkle_core.specs.HonestReads.{ReadsHonestly};
 ghost use Rattle.merkle_core.specs.ListDigests.{GivesDigestsOrCollides};
 ghost use Rattle.merkle_core.specs.MadeRoots.{Naming, from_left, peaks_of};
 ghost use Rattle.merkle_core.specs.MadeTrees.{Over, from, plain_over};
 ghost use Rattle.merkle_core.specs.Multi.{AreDigestsAt, AreMultiDigests};
 ghost use Rattle.merkle_core.specs.MultiReads.{Shown, can_be_shown, needed_positions, multi_root};
-ghost use Rattle.merkle_core.specs.MultiSoundness.{AreSound, shown_of};
+ghost use Rattle.merkle_core.specs.MultiSoundness.{AreHonestOrCollide, AreSound, shown_of};
 ghost use Rattle.merkle_core.specs.OneEach.{OneEach};
 ghost use Rattle.merkle_core.specs.PinnedSoundness.{ArePinnedBeside, PinsListOrCollides};
 ghost use Rattle.merkle_core.specs.Plans.{Lookup, IsLookupOf, made_by, honest_digests, first_missing, positions_of, inner_nodes, range_nodes};
@@ -90,9 +91,9 @@ pub fn shown_ranges_are_true_or_strings_collide<F: Family>()
         (claim_of bagging F.merge_rule leaves shown_inactive start shown digests)) }
 {}
 
-/// Where a proof of a range, as the verifiers read it, leads to the root of a list, its digests are those of the honest
-/// proof of the list, and the nodes that are extracted from it are the list's; or the strings hashed for the list and those
-/// rebuilt from the proof have a collision.
+/// Where a proof of a range, as the verifiers read it, leads to the root of a list, it is, field by field, the honest
+/// proof of the list, and the nodes that are extracted from it are the list's; or the strings hashed for the list and
+/// those rebuilt from the proof have a collision.
 pub fn shown_digests_are_of_the_list_or_strings_collide<F: Family>()
     ensures { (hash : Hash) (size : ℕ) (bagging : Bagging) (elements : List (List ℕ)) (inactive : ℕ)
         (leaves shown_inactive start : ℕ) (shown digests : List (List ℕ))
@@ -102,6 +103,13 @@ pub fn shown_digests_are_of_the_list_or_strings_collide<F: Family>()
         → IfSome (range_root plain_names plain_over bagging F.merge_rule leaves shown_inactive start shown digests)
         (GivesDigestsOrCollides hash bagging F.merge_rule elements inactive
         (claim_of bagging F.merge_rule leaves shown_inactive start shown digests)) }
+{}
+
+/// Where a proof of a range, as the verifiers read it, agrees with the root of a tree in all that it gives as known,
+/// its digests are those of the honest proof of the range in that tree: however branches are hashed, if branches that
+/// agree have children that agree.
+pub fn proofs_that_agree_with_a_root_are_honest<F: Family>()
+    ensures { ReadsHonestly F.merge_rule }
 {}
 
 /// Where a proof of a range, as the verifiers read it, leads to the root of a list, and its digests that stand for
@@ -188,6 +196,18 @@ pub fn shown_elements_are_true_or_strings_collide<F: Family>()
         → length elements ≤ 2 ^ 62 → inactive < 2 ^ 64
         → IfSome (multi_root plain_names plain_over bagging F.merge_rule leaves shown_inactive shown digests)
         (AreSound hash bagging F.merge_rule elements inactive leaves shown_inactive shown) }
+{}
+
+/// Where a proof of some elements leads to the root of a list, it is, field by field, the honest proof of the list for
+/// their locations, or the strings hashed for the list and those rebuilt from the proof have a collision.
+pub fn shown_elements_are_honest_or_strings_collide<F: Family>()
+    ensures { (hash : Hash) (size : ℕ) (bagging : Bagging) (elements : List (List ℕ)) (inactive : ℕ)
+        (leaves shown_inactive : ℕ) (shown : Shown) (digests : List (List ℕ))
+        → ((bytes : List ℕ) → length (hash bytes) ≡ size)
+        → All (λ digest. length digest ≡ size) digests
+        → length elements ≤ 2 ^ 62 → inactive < 2 ^ 64
+        → IfSome (multi_root plain_names plain_over bagging F.merge_rule leaves shown_inactive shown digests)
+        (AreHonestOrCollide hash bagging F.merge_rule elements inactive leaves shown_inactive shown digests) }
 {}
 
 /// The proof of some elements that is built out of known nodes of the plain tree of a list leads to the root of that

@@ -1,11 +1,11 @@
 -- A proof of one operation is one over a range that holds the operation alone.
-use Rattle.std.proofs.Common.{◌≡◌, ℕ, zero, suc, ◌+◌, ◌-◌, ◌*◌, ◌/◌, ◌%◌, ◌<◌, true, List, [], ◌∷◌, length, Option, Some, None, refl, sym, ◌∙◌, ap, subst, arith}
+use Rattle.std.proofs.Common.{◌≡◌, ℕ, zero, suc, ◌+◌, ◌*◌, ◌/◌, ◌%◌, ◌<◌, true, List, [], ◌∷◌, length, Option, Some, None, refl, sym, ◌∙◌, ap, subst, arith}
 use Rattle.std.specs.Prelude.{slice_get, slice_index_or}
 use Rattle.state_proofs.specs.Bits.{is_set}
 use Rattle.state_proofs.specs.Canonical.{Setting, State, chunk_bits, chunk}
-use Rattle.state_proofs.specs.Honest.{honest_parts}
+use Rattle.state_proofs.specs.Honest.{honest_range, honest_parts}
 use Rattle.state_proofs.specs.MadeRanges.{HasActive, HasRange}
-use Rattle.state_proofs.specs.Verified.{Parts, bit_of, shown_alone, IsShaped}
+use Rattle.state_proofs.specs.Verified.{RangeParts, Parts, bit_of, shown_alone, IsShaped}
 use Rattle.state_proofs.specs.Laws.Chunks.{length-chunk, active_bit, bit_of_chunk}
 use Rattle.state_proofs.proofs.StateParts.{get_some}
 
@@ -24,6 +24,14 @@ at_bits : (proof : Parts) (m n : ℕ) → m ≡ n → is_set (slice_get proof.ch
 at_bits proof m n same is =
     subst (λ (bits : ℕ). is_set (slice_get proof.chunk (proof.location % bits / 8)) (proof.location % bits) ≡ true) same is
 
+-- where the chunk over the operation is the state's, the proof's chunk is
+pub chunk_alone : (setting : Setting) (state : State) (proof : Parts) (operation : List ℕ) → length proof.chunk ≡ setting.width
+    → HasRange setting state (shown_alone proof operation) → proof.chunk ≡ chunk setting state (proof.location / chunk_bits setting)
+chunk_alone setting state proof operation wide has =
+    let there : Some proof.chunk ≡ Some (chunk setting state (proof.location / (8 * length proof.chunk) + 0)) = has.chunks 0 (omega arith) in
+    let own : proof.chunk ≡ chunk setting state (proof.location / (8 * length proof.chunk) + 0) = cc in
+    own ∙ ap (chunk setting state) (omega (arith, ap (λ n. proof.location / (8 * n)) wide))
+
 -- where the operation and the chunk over it are the state's, the operation is active there
 pub active_alone : (setting : Setting) (state : State) (proof : Parts) (operation : List ℕ) → 0 < setting.width
     → length proof.chunk ≡ setting.width → IsActive proof → HasRange setting state (shown_alone proof operation)
@@ -32,18 +40,25 @@ active_alone setting state proof operation some wide active has =
     let same_bits : 8 * length proof.chunk ≡ chunk_bits setting = ap (λ n. 8 * n) wide in
     let stands : slice_get state.operations proof.location ≡ Some operation =
     ap (slice_get state.operations) (omega arith) ∙ has.stands 0 (omega arith) in
-    let there : Some proof.chunk ≡ Some (chunk setting state (proof.location / (8 * length proof.chunk) + 0)) = has.chunks 0 (omega arith) in
-    let own : proof.chunk ≡ chunk setting state (proof.location / (8 * length proof.chunk) + 0) = cc in
-    let index : proof.location / (8 * length proof.chunk) + 0 ≡ proof.location / chunk_bits setting =
-    omega (arith, ap (λ n. proof.location / n) same_bits) in
     let bits : is_set (slice_get proof.chunk (proof.location % chunk_bits setting / 8)) (proof.location % chunk_bits setting) ≡ true =
     at_bits proof (8 * length proof.chunk) (chunk_bits setting) same_bits active in
     record {
       stands = stands;
       active = bit_of_chunk setting state proof.location some (within_list state.operations proof.location operation stands)
           (subst (λ (bytes : List ℕ). is_set (slice_get bytes (proof.location % chunk_bits setting / 8)) (proof.location % chunk_bits setting)
-          ≡ true) (own ∙ ap (chunk setting state) index) bits);
+          ≡ true) (chunk_alone setting state proof operation wide has) bits);
     }
+
+abbrev parts_at : ℕ → List ℕ → RangeParts → Parts
+parts_at location chunk range = record { location = location; chunk = chunk; range = range }
+
+-- where besides the proof over the operation is honest, so is the proof of the operation
+pub parts_alone : (setting : Setting) (state : State) (proof : Parts) (operation : List ℕ) → length proof.chunk ≡ setting.width
+    → HasRange setting state (shown_alone proof operation) → proof.range ≡ honest_range setting state proof.location (proof.location + 1)
+    → proof ≡ honest_parts setting state proof.location
+parts_alone setting state proof operation wide has honest =
+    ap (λ bytes. parts_at proof.location bytes proof.range) (chunk_alone setting state proof operation wide has)
+    ∙ ap (parts_at proof.location (chunk setting state (proof.location / chunk_bits setting))) honest
 
 module _ (setting : Setting) (state : State) (location : ℕ) (some : 0 < setting.width) (within : location < length state.operations) where
   abbrev honest : Parts

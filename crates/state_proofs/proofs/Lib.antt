@@ -5,6 +5,7 @@ pub mod HonestSizes
 pub mod Extending
 pub mod StateParts
 pub mod RangeIsTrue
+pub mod RangeIsHonest
 pub mod Alone
 pub mod LogLemmas
 pub mod RequestLemmas

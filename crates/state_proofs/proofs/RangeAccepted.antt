@@ -8,9 +8,9 @@ use Rattle.std.proofs.Math.Nat.{div-lt_iff_lt-mul}
 use Rattle.merkle_forest.specs.declared.bagging.Bagging.{Bagging}
 use Rattle.merkle_forest.specs.declared.bagging.Bagging.TheVariants.{BackwardFold}
 use Rattle.merkle_forest.specs.Forest.{Tree, leaf, branch, height, leaf_count, leaves, Rule, forest_of}
-use Rattle.merkle_forest.specs.Hashing.{Hash, leaf_string, node_string, number, root_of}
+use Rattle.merkle_forest.specs.Hashing.{Hash, leaf_string, root_of}
 use Rattle.merkle_forest.specs.Laws.Nodes.{node-leaves}
-use Rattle.merkle_forest.specs.Made.{Made, bytes, both, value}
+use Rattle.merkle_forest.specs.Made.{Made, value}
 use Rattle.merkle_forest.specs.Nodes.{IsWithin, IsNodeAt, nodes_of_height}
 use Rattle.merkle_forest.specs.Perfect.{IsPairing}
 use Rattle.merkle_forest.specs.Trees.{Located, located, peak_digests}
@@ -20,9 +20,9 @@ use Rattle.merkle_core.specs.Ranges.{Digests, meets, is_before, is_after, range_
 use Rattle.merkle_core.specs.Reads.{Agrees, range_root}
 use Rattle.state_proofs.specs.Bits.{is_zero}
 use Rattle.state_proofs.specs.Canonical.{Setting, State, chunk_bits, full_chunks, next_bit, chunks, chunk, forest, peaks, grafted_digests, grafted_inactive, grafted_root, operations_root, pending_digest, partial_digest, canonical_string, canonical_root}
-use Rattle.state_proofs.specs.Grafting.{grafted, grafted_digest}
+use Rattle.state_proofs.specs.Grafting.{grafted_digest}
 use Rattle.state_proofs.specs.Honest.{grafted_range, honest_range}
-use Rattle.state_proofs.specs.Laws.MadeStates.{no_chunk, value_case}
+use Rattle.state_proofs.specs.Laws.MadeStates.{branch_grafted}
 use Rattle.state_proofs.specs.MadeGrafted.{joined_in, grafted_case, grafted_over, grafted_names}
 use Rattle.state_proofs.specs.MadeRanges.{HasRange}
 use Rattle.state_proofs.specs.MadeStates.{made_chunk}
@@ -203,15 +203,7 @@ module _ (setting : Setting) (state : State) (shown : Shown) (pairs : IsPairing 
         ∙ ap (else_of []) (sym (has.stands (at - start) (omega (arith, from_start, to))) ∙ ap (slice_get state.operations) (omega (arith, from_start)))
         ∙ sym (index_get state.operations at []) in
         ap (λ e. setting.hash (leaf_string p e)) same);
-    branch = λ at p left right x y one other.
-        (let digest : ℕ → Tree → List ℕ = grafted_digest setting.hash level bits (chunks setting state) state.operations in
-        let own : List ℕ = node_string p (digest at left) (digest (at + leaf_count left) right) in
-        let string : number p ++ (value setting.hash x ++ value setting.hash y) ≡ own =
-        ap (λ d. number p ++ (d ++ value setting.hash y)) one ∙ ap (λ d. number p ++ (digest at left ++ d)) other in
-        let same : Bool = eqb (height (branch p left right)) level in
-        value_case setting.hash p (both (bytes (number p)) (both x y)) (made_chunk setting state at) same (ltb (height (branch p left right)) level)
-        ∙ ap (λ s. cond same (grafted setting.hash (made_chunk setting state at) (setting.hash s)) (setting.hash s)) string
-        ∙ ap (λ d. cond same d (setting.hash own)) (no_chunk setting.hash setting.width (chunks setting state) (at / bits) (setting.hash own)));
+    branch = branch_grafted setting.hash setting.width level bits (chunks setting state) state.operations;
   }
 
   leads : RangeLeads setting.rule

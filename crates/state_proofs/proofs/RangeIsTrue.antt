@@ -27,7 +27,7 @@ use Rattle.state_proofs.specs.Laws.MadeGrafted.{SameChunk}
 use Rattle.state_proofs.specs.Laws.MadeStates.{state_sound}
 use Rattle.state_proofs.specs.MadeCanonical.{if_made, next_made}
 use Rattle.state_proofs.specs.MadeRanges.{is_covered, range_pending, range_partial, range_over, range_strings, HasDigestsOf, HasRange}
-use Rattle.state_proofs.specs.MadeStates.{made_operations, made_chunk, made_pending, made_partial, made_state, hashed_strings}
+use Rattle.state_proofs.specs.MadeStates.{made_operations, made_grafted, made_chunk, made_pending, made_partial, made_state, hashed_strings}
 use Rattle.state_proofs.specs.Verified.{Shown, shown_bits, stop_of, first_index, last_index, full_shown, graftable_shown, Covers, covering, given_by, shown_grafted, IsShaped, FitsShown, VerifiesRange, RangeParts}
 use Rattle.state_proofs.specs.Verifier.{Given, given_chunk, claimed_chunk}
 use Rattle.state_proofs.specs.Laws.ChunkCounts.{index-few}
@@ -245,7 +245,7 @@ module _ (setting : Setting) (hash_sized : (xs : List ℕ) → length (setting.h
   }
 
 -- where a digest is held, the test says whether its chunk is covered
-covered_is : (shown : Shown) (k : ℕ) → is_covered shown k ≡ true → Covers shown k
+pub covered_is : (shown : Shown) (k : ℕ) → is_covered shown k ≡ true → Covers shown k
 covered_is shown k is =
     let both = and_parts (leb (first_index shown) k) (ltb k (first_index shown + length shown.chunks)) is in
     (leb-true (first_index shown) k both.0, ltb-true k (first_index shown + length shown.chunks) both.1)
@@ -299,12 +299,46 @@ at_level rule hash root proof shown level whole it =
       leads = ap (λ h. option_map (value hash) (shown_grafted rule h proof shown)) (sym same) ∙ it.leads;
     }
 
-pub range_is_true : (setting : Setting) → ((xs : List ℕ) → length (setting.hash xs) ≡ 32) → (state : State) (proof : RangeParts) (shown : Shown)
-    → IsPairing setting.rule → Counted setting.rule → chunk_bits setting ≡ 2 ^ setting.grafting_height → setting.grafting_height ≤ 62
+-- what a proof tells that leads to the canonical root of a state: counts, the elements and chunks of the range, the ends of the canonical
+-- string, and that its grafted root agrees with the state's in all that it gives as known
+pub record RangeTold (setting : Setting) (hash_sized : (xs : List ℕ) → length (setting.hash xs) ≡ 32)
+    (whole_bits : chunk_bits setting ≡ 2 ^ setting.grafting_height) (state : State) (proof : RangeParts) (shown : Shown) : Type 0 where
+  pub fits : FitsShown setting.hash (graftable_shown setting.rule setting.grafting_height proof) proof shown
+  pub leaf_count : proof.leaves ≡ length state.operations
+  pub inactive_count : proof.inactive ≡ grafted_inactive setting state
+  pub elements : AllByRecursion (λ (peak : Located). AgreeOver (SameChunk setting.hash hash_sized setting.width
+      (not_forty setting.width setting.grafting_height whole_bits) setting.grafting_height
+      (claimed_chunk (given_by setting.grafting_height (graftable_shown setting.rule setting.grafting_height proof) shown) shown.width)
+      (made_chunk setting state)) (from shown.start shown.operations) (whole state.operations) shown.start (stop_of shown) peak.0 peak.1)
+      (located (forest_of setting.rule proof.leaves))
+  pub operations_root : proof.operations_root ≡ value setting.hash (made_operations setting state)
+  pub pending : Agrees setting.hash (if_made (range_pending (graftable_shown setting.rule setting.grafting_height proof) proof shown))
+      (if_made (made_pending setting state))
+  pub partial : Agrees setting.hash (next_made (option_map (λ made. (proof.leaves % shown_bits shown, made)) (range_partial proof shown)))
+      (next_made (option_map (λ made. (next_bit setting state, made)) (made_partial setting state)))
+  pub grafted : Made
+  pub read : shown_grafted setting.rule setting.grafting_height proof shown ≡ Some grafted
+  pub agrees : Agrees setting.hash grafted (made_grafted setting state)
+
+-- the chunks that are claimed, and those of the state, have the width
+pub claimed_widths : (setting : Setting) (proof : RangeParts) (shown : Shown) → shown.width ≡ setting.width
+    → AllByRecursion (λ chunk. length chunk ≡ shown.width) shown.chunks → (at : ℕ)
+    → length (claimed_chunk (given_by setting.grafting_height (graftable_shown setting.rule setting.grafting_height proof) shown) shown.width at)
+    ≡ setting.width
+claimed_widths setting proof shown wide all at =
+    claimed-wide shown.width (given_by setting.grafting_height (graftable_shown setting.rule setting.grafting_height proof) shown) at
+    (all_at shown.width shown.chunks (replicate shown.width 0) all) ∙ wide
+
+pub made_widths : (setting : Setting) (state : State) (at : ℕ) → length (made_chunk setting state at) ≡ setting.width
+made_widths setting state at =
+    chunks-wide setting state (at / chunk_bits setting) (replicate setting.width 0) (length-replicate setting.width 0)
+
+pub range_told : (setting : Setting) (hash_sized : (xs : List ℕ) → length (setting.hash xs) ≡ 32) (state : State) (proof : RangeParts) (shown : Shown)
+    → IsPairing setting.rule → (whole_bits : chunk_bits setting ≡ 2 ^ setting.grafting_height)
     → length state.operations ≤ 2 ^ 62 → shown.width ≡ setting.width → HasDigestsOf 32 proof
     → VerifiesRange setting.rule setting.hash (canonical_root setting state) proof shown
-    → HasRange setting state shown ⊎ Collision setting.hash (hashed_strings setting state) (range_strings setting proof shown)
-range_is_true setting hash_sized state proof shown pairs counted whole_bits low few wide sized it =
+    → RangeTold setting hash_sized whole_bits state proof shown ⊎ Collision setting.hash (hashed_strings setting state) (range_strings setting proof shown)
+range_told setting hash_sized state proof shown pairs whole_bits few wide sized it =
     let hash : Hash = setting.hash in
     let level : ℕ = setting.grafting_height in
     let bits : ℕ = shown_bits shown in
@@ -320,11 +354,9 @@ range_is_true setting hash_sized state proof shown pairs counted whole_bits low 
     let real_graftable : ℕ = nodes_of_height level (forest setting state) in
     let is_pending : Bool = ltb real_graftable (full_chunks setting state) in
     let no_partial : Bool = eqb (next_bit setting state) 0 in
-    let zeros : List ℕ = replicate setting.width 0 in
     let sound = state_sound hash hash_sized setting.width (not_forty setting.width level whole_bits) level setting.rule pairs
     (made_chunk setting state) (claimed_chunk given shown.width)
-    (λ at. chunks-wide setting state (at / chunk_bits setting) zeros (length-replicate setting.width 0))
-    (λ at. claimed-wide shown.width given at (all_at shown.width shown.chunks (replicate shown.width 0) it.shaped.wide) ∙ wide) state.operations few
+    (made_widths setting state) (claimed_widths setting proof shown wide it.shaped.wide) state.operations few
     (grafted_inactive setting state) (few_inactive setting state pairs few) (made_operations setting state) (made_pending setting state)
     (option_map (λ m. (next_bit setting state, m)) (made_partial setting state)) (hash_sized _)
     (some_sized hash hash_sized at_pending (chunk setting state real_graftable) is_pending)
@@ -343,8 +375,29 @@ range_is_true setting hash_sized state proof shown pairs counted whole_bits low 
     (match_made hash at_partial (covering shown full) (chunk setting state (full_chunks setting state)) (is_covered shown full) proof.partial
     (made_partial setting state) (none_made at_partial (chunk setting state (full_chunks setting state)) no_partial))) in
     ⊎_elim
-    (λ told. inl (has_range setting hash_sized state proof shown pairs wide whole_bits low few it.shaped at.fits told.0.leaf_count counted
-    told.0.elements told.2.0 told.2.1))
+    (λ told. inl (record {
+      fits = at.fits;
+      leaf_count = told.0.0.leaf_count;
+      inactive_count = told.0.0.inactive_count;
+      elements = told.0.0.elements;
+      operations_root = told.0.1;
+      pending = told.0.2.0;
+      partial = told.0.2.1;
+      grafted = read.it;
+      read = read.is;
+      agrees = told.1;
+    }))
     (λ collision. inr (subst (λ (o : Option Made). Collision hash (hashed_strings setting state) (strings hash (if_made (option_map
     (range_over setting proof shown) o)))) (sym read.is) collision))
     (if_is _ got read.it read.is (read_is (ltb 0 (length shown.operations)) _ _ sound) same)
+
+pub range_is_true : (setting : Setting) → ((xs : List ℕ) → length (setting.hash xs) ≡ 32) → (state : State) (proof : RangeParts) (shown : Shown)
+    → IsPairing setting.rule → Counted setting.rule → chunk_bits setting ≡ 2 ^ setting.grafting_height → setting.grafting_height ≤ 62
+    → length state.operations ≤ 2 ^ 62 → shown.width ≡ setting.width → HasDigestsOf 32 proof
+    → VerifiesRange setting.rule setting.hash (canonical_root setting state) proof shown
+    → HasRange setting state shown ⊎ Collision setting.hash (hashed_strings setting state) (range_strings setting proof shown)
+range_is_true setting hash_sized state proof shown pairs counted whole_bits low few wide sized it =
+    ⊎_elim
+    (λ told. inl (has_range setting hash_sized state proof shown pairs wide whole_bits low few it.shaped told.fits told.leaf_count counted
+    told.elements told.pending told.partial))
+    inr (range_told setting hash_sized state proof shown pairs whole_bits few wide sized it)

@@ -1,5 +1,5 @@
 -- The canonical root of a state part by part, and what a proof holds of these parts.
-use Rattle.std.proofs.Common.{◌≡◌, ◌⊎◌, inl, inr, ⊎_elim, ℕ, zero, suc, ◌+◌, ◌*◌, ◌/◌, ◌%◌, ◌^◌, ◌<◌, ◌≤◌, eqb, ltb, cond, ◌&&◌, Bool, true, false, List, [], ◌∷◌, length, Option, None, Some, option_map, IfSome, ◌↔◌, refl, sym, ◌∙◌, ap, subst, arith}
+use Rattle.std.proofs.Common.{◌≡◌, inl, inr, ⊎_elim, ℕ, zero, suc, ◌+◌, ◌*◌, ◌/◌, ◌%◌, ◌^◌, ◌<◌, ◌≤◌, eqb, ltb, cond, ◌&&◌, Bool, true, false, List, [], ◌∷◌, length, Option, None, Some, option_map, IfSome, ◌↔◌, refl, sym, ◌∙◌, ap, subst, arith}
 use Rattle.std.specs.Prelude.{slice_get, slice_index_or}
 use Rattle.std.specs.List.{AllByRecursion}
 use Rattle.std.proofs.lemmas.Bool.{cases_lt}
@@ -57,12 +57,12 @@ pub none_sized : (hash : Hash) → ((xs : List ℕ) → length (hash xs) ≡ 32)
 none_sized hash sized site chunk true = tt
 none_sized hash sized site chunk false = sized chunk
 
-some_value : (hash : Hash) (site : Site) (chunk : List ℕ) (test : Bool)
+pub some_value : (hash : Hash) (site : Site) (chunk : List ℕ) (test : Bool)
     → option_map (value hash) (cond test (Some (chunk_made site chunk)) None) ≡ cond test (Some (hash chunk)) None
 some_value hash site chunk true = refl
 some_value hash site chunk false = refl
 
-none_value : (hash : Hash) (site : Site) (chunk : List ℕ) (test : Bool)
+pub none_value : (hash : Hash) (site : Site) (chunk : List ℕ) (test : Bool)
     → option_map (value hash) (cond test None (Some (chunk_made site chunk))) ≡ cond test None (Some (hash chunk))
 none_value hash site chunk true = refl
 none_value hash site chunk false = refl
@@ -142,21 +142,22 @@ value_operations setting state =
     (value_plain setting.hash state.operations)
     BackwardFold setting.rule (length state.operations) (inactive_peaks state.floor (peaks setting state))
 
--- the canonical root is the digest of what is made of the state
-pub value_state : (setting : Setting) (state : State) → value setting.hash (made_state setting state) ≡ canonical_root setting state
-unfolding canonical_root operations_root grafted_root grafted_digests pending_digest partial_digest tree_root
-value_state setting state =
-    let n : ℕ = length state.operations in
-    value_canonical setting.hash (made_operations setting state) (made_grafted setting state) (made_pending setting state) (next_bit setting state)
-    (made_partial setting state)
-    ∙ string_same setting.hash _ _ _ _ _ _ (next_bit setting state) _ _
-    (value_root setting.hash operations_names plain_over (whole state.operations) (plain_digest setting.hash state.operations)
-    (value_plain setting.hash state.operations)
-    BackwardFold setting.rule n (inactive_peaks state.floor (peaks setting state)))
-    (value_root setting.hash grafted_names (grafted_over setting.grafting_height (made_chunk setting state)) (whole state.operations)
+-- so is the root of the grafted tree
+pub value_grafted_root : (setting : Setting) (state : State) → value setting.hash (made_grafted setting state) ≡ grafted_root setting state
+unfolding grafted_root grafted_digests
+value_grafted_root setting state =
+    value_root setting.hash grafted_names (grafted_over setting.grafting_height (made_chunk setting state)) (whole state.operations)
     (grafted_digest setting.hash setting.grafting_height (chunk_bits setting) (chunks setting state) state.operations)
     (value_grafted setting.hash setting.width setting.grafting_height (chunk_bits setting) (chunks setting state) state.operations)
-    BackwardFold setting.rule n (grafted_inactive setting state))
+    BackwardFold setting.rule (length state.operations) (grafted_inactive setting state)
+
+-- the canonical root is the digest of what is made of the state
+pub value_state : (setting : Setting) (state : State) → value setting.hash (made_state setting state) ≡ canonical_root setting state
+unfolding canonical_root pending_digest partial_digest
+value_state setting state =
+    value_canonical setting.hash (made_operations setting state) (made_grafted setting state) (made_pending setting state) (next_bit setting state)
+    (made_partial setting state)
+    ∙ string_same setting.hash _ _ _ _ _ _ (next_bit setting state) _ _ (value_operations setting state) (value_grafted_root setting state)
     (some_value setting.hash at_pending (chunk setting state (nodes_of_height setting.grafting_height (forest setting state)))
     (ltb (nodes_of_height setting.grafting_height (forest setting state)) (full_chunks setting state)))
     (none_value setting.hash at_partial (chunk setting state (full_chunks setting state)) (eqb (next_bit setting state) 0))

@@ -1,7 +1,7 @@
 //! What holds of all proofs.
 
-ghost use Rattle.std.specs.Prelude.{◌≡◌, ◌<◌, ◌≤◌, ◌*◌, ◌^◌, ◌⊎◌, ℕ, List, [], length, slice_get, slice_index_or, Ok};
-ghost use Rattle.std.specs.Prelude.{Some, true};
+ghost use Rattle.std.specs.Prelude.{◌≡◌, ◌<◌, ◌≤◌, ◌*◌, ◌^◌, ◌⊎◌, ℕ, List, [], length, slice_get, slice_index_or};
+ghost use Rattle.std.specs.Prelude.{IfSome, Some, true};
 ghost use Rattle.merkle_forest.specs.Forest.{Rule};
 ghost use Rattle.merkle_forest.specs.Hashing.{Hash};
 ghost use Rattle.merkle_forest.specs.Made.{Collision, strings};
@@ -9,6 +9,7 @@ ghost use Rattle.merkle_core.specs.declared.extraction.ExtractionError.{Extracti
 ghost use Rattle.merkle_core.specs.declared.extraction.ExtractionError.TheVariants.{Memory};
 ghost use Rattle.merkle_core.specs.OneEach.{OneEach};
 ghost use Rattle.merkle_core.specs.Ranges.{Digests};
+ghost use Rattle.state_ops.specs.Reading.{IsField};
 ghost use Rattle.state_proofs.specs.Canonical.{Setting, State, canonical_root, grafted_digests, operations_root};
 ghost use Rattle.state_proofs.specs.Encoded.{format_of, ShowsOperation, ShowsUpdate};
 ghost use Rattle.state_proofs.specs.Exclusion.{ExclusionParts, proof_of, operation_of, LeavesOut, Excludes};
@@ -24,7 +25,8 @@ ghost use Rattle.state_proofs.specs.Witness.{honest_witness};
 
 use merkle_core::laws::{
     honest_digests_are_few, honest_proofs_tell_the_nodes_of_the_list,
-    honest_ranges_lead_to_the_root, proofs_that_lead_to_a_root_give_digests,
+    honest_ranges_lead_to_the_root, proofs_that_agree_with_a_root_are_honest,
+    proofs_that_lead_to_a_root_give_digests,
 };
 use merkle_forest::{Graftable, HashFunction, PendingOf};
 use state_ops::FixedKey;
@@ -64,7 +66,7 @@ pub fn honest_bytes_show_the_operation<
           grafting_height =
               grafting_height;
         } in
-        let is_key = λ (key : List ℕ). K.after tt key ≡ Ok [] in
+        let is_key = IsField (K.after tt) K.SIZE in
         let format = format_of F.merge_rule H.hash_of width H.Digest.SIZE F.is_pending F.pending_encoding is_key in
         ShowsOperation format (canonical_root setting state) (slice_index_or state.operations location [])
         (operation_proof F.pending_encoding setting state location)) }
@@ -83,7 +85,7 @@ pub fn honest_bytes_show_the_update<
     ensures { (width grafting_height : ℕ) (state : State) (location : ℕ) (update : List ℕ → List ℕ) (next_key : List ℕ)
         → 8 * width ≡ 2 ^ grafting_height → grafting_height ≤ 62 → length state.operations ≤ 2 ^ 62
         → location < length state.operations → slice_get state.bits location ≡ Some true
-        → slice_index_or state.operations location [] ≡ update next_key → K.after tt next_key ≡ Ok []
+        → slice_index_or state.operations location [] ≡ update next_key → IsField (K.after tt) K.SIZE next_key
         → (let setting : Setting = record {
           rule = F.merge_rule;
           hash = H.hash_of;
@@ -91,7 +93,7 @@ pub fn honest_bytes_show_the_update<
           grafting_height =
               grafting_height;
         } in
-        let is_key = λ (key : List ℕ). K.after tt key ≡ Ok [] in
+        let is_key = IsField (K.after tt) K.SIZE in
         let format = format_of F.merge_rule H.hash_of width H.Digest.SIZE F.is_pending F.pending_encoding is_key in
         ShowsUpdate format (canonical_root setting state) update
         (key_value_proof F.pending_encoding setting state location next_key)) }
@@ -139,6 +141,49 @@ pub fn verified_ranges_are_the_states_or_strings_collide<F: Graftable>()
         ⊎ Collision hash (hashed_strings setting state) (range_strings setting proof shown)) }
 {}
 
+/// Where a proof over a range verifies under the canonical root of a state, it is, field by field, the honest proof
+/// over that range, or the strings hashed for the state and those rebuilt from the proof have a collision. So it is
+/// with digests of 32 bytes.
+pub fn verified_ranges_are_honest_or_strings_collide<F: Graftable>()
+    ensures { (hash : Hash) (width grafting_height : ℕ) (state : State) (proof : RangeParts) (shown : Shown)
+        → ((bytes : List ℕ) → length (hash bytes) ≡ 32) → 8 * width ≡ 2 ^ grafting_height → grafting_height ≤ 62
+        → length state.operations ≤ 2 ^ 62 → shown.width ≡ width → HasDigestsOf 32 proof
+        → (let setting : Setting = record {
+          rule = F.merge_rule;
+          hash = hash;
+          width = width;
+          grafting_height =
+              grafting_height;
+        } in
+        VerifiesRange F.merge_rule hash (canonical_root setting state) proof shown
+        → (proof ≡ honest_range setting state shown.start (stop_of shown))
+        ⊎ Collision hash (hashed_strings setting state) (range_strings setting proof shown)) }
+{
+    proofs_that_agree_with_a_root_are_honest::<F>();
+}
+
+/// Where a proof of one operation verifies under the canonical root of a state, it is, field by field, the honest proof
+/// of the operation at its location, or the strings hashed for the state and those rebuilt from the proof have a
+/// collision. So it is with digests of 32 bytes.
+pub fn verified_operations_are_honest_or_strings_collide<F: Graftable>()
+    ensures { (hash : Hash) (width grafting_height : ℕ) (state : State) (proof : Parts) (operation : List ℕ)
+        → ((bytes : List ℕ) → length (hash bytes) ≡ 32) → 8 * width ≡ 2 ^ grafting_height → grafting_height ≤ 62
+        → length state.operations ≤ 2 ^ 62 → length proof.chunk ≡ width → HasDigestsOf 32 proof.range
+        → (let setting : Setting = record {
+          rule = F.merge_rule;
+          hash = hash;
+          width = width;
+          grafting_height =
+              grafting_height;
+        } in
+        Verifies F.merge_rule hash (canonical_root setting state) proof operation
+        → (proof ≡ honest_parts setting state proof.location)
+        ⊎ Collision hash (hashed_strings setting state) (rebuilt_strings setting proof operation)) }
+{
+    verified_ranges_are_the_states_or_strings_collide::<F>();
+    verified_ranges_are_honest_or_strings_collide::<F>();
+}
+
 /// Where operations stand in a state from a location on and the chunks over them are the state's, the honest proof over
 /// them shows them under the canonical root.
 pub fn honest_ranges_verify<F: Graftable>()
@@ -183,6 +228,18 @@ pub fn witnessed_roots_are_the_states_or_strings_collide()
         → ((bytes : List ℕ) → length (setting.hash bytes) ≡ 32) → HasWitnessOf 32 witness → length operations ≡ 32
         → setting.hash (witnessed_string witness operations) ≡ canonical_root setting state
         → (operations ≡ operations_root setting state)
+        ⊎ Collision setting.hash (hashed_strings setting state)
+        (strings setting.hash (witnessed_made witness operations)) }
+{}
+
+/// Where a witness leads from a root to the canonical root of a state, it is, field by field, the honest one, or the
+/// strings hashed for the state and those rebuilt from the witness have a collision. So it is with digests of 32 bytes.
+pub fn verified_witnesses_are_honest_or_strings_collide()
+    ensures { (setting : Setting) (state : State) (witness : WitnessParts) (operations : List ℕ)
+        → ((bytes : List ℕ) → length (setting.hash bytes) ≡ 32) → length state.operations ≤ 2 ^ 62
+        → HasWitnessOf 32 witness → IfSome witness.partial (λ x. x.0 < 2 ^ 64) → length operations ≡ 32
+        → setting.hash (witnessed_string witness operations) ≡ canonical_root setting state
+        → (witness ≡ honest_witness setting state)
         ⊎ Collision setting.hash (hashed_strings setting state)
         (strings setting.hash (witnessed_made witness operations)) }
 {}

@@ -194,7 +194,7 @@ where
     H: HashFunction,
     K: FixedKey,
     V: FixedValue,
-    ensures exact { let is_key = λ (key : List ℕ). K.after tt key ≡ Ok [] in
+    ensures exact { let is_key = IsField (K.after tt) K.SIZE in
         let format = format_of F.merge_rule H.hash_of width H.Digest.SIZE F.is_pending F.pending_encoding is_key in
         IfOk result (λ yes. IsTrue yes ↔ ShowsUpdate format (H.Digest.encoding root.now)
         (λ next_key. fixed_encoding K.SIZE V.SIZE

@@ -1,6 +1,6 @@
 -- The active update of a key names its value and its next key in the latest state.
 use Rattle.std.proofs.Common.{◌≡◌, ℕ, zero, suc, ◌+◌, Bool, true, false, cond, ◌&&◌, not, List, [], ◌∷◌, ◌++◌, Option}
-use Rattle.std.proofs.Common.{None, Some, option_map, refl, ap, sym, ◌∙◌, ⊎_elim}
+use Rattle.std.proofs.Common.{None, Some, option_map, refl, ap, sym, ◌∙◌, ⊎_elim, arith}
 use Rattle.std.specs.Prelude.{is_some, slice_get, unwrap_or, ◌||◌}
 use Rattle.std.specs.Str.{bytes_eq}
 use Rattle.std.specs.List.{list_any}
@@ -332,3 +332,31 @@ latest-active q v n h location states at bit =
     first_part None v n m is = absurd (cc)
     first_part (Some w) v n m is = let whole : Some (w, m) ≡ Some (v, n) = is in
         ap (λ (o : Option (List ℕ × List ℕ)). Some (unwrap_or o (v, n)).0) whole
+
+-- it names the key's next key there
+pub next-active : (q v n : List ℕ) (h : History) (location : ℕ) → AreStates h
+    → slice_get (log_of h) location ≡ Some (update (ordered q v n))
+    → slice_get (activity_bits (log_of h)) location ≡ Some true → next_key (latest_map h) q ≡ n
+next-active q v n h location states at bit =
+    second_part (value_at (latest_map h) q) v n (next_key (latest_map h) q)
+    (sym (active_update-log_of q h states) ∙ active_update-active q v n (log_of h) location at bit)
+  where
+    second_part : (found : Option (List ℕ)) (v n m : List ℕ)
+        → option_map {U = List ℕ × List ℕ} (λ value. (value, m)) found ≡ Some (v, n) → m ≡ n
+    second_part None v n m is = absurd (cc)
+    second_part (Some w) v n m is = let whole : Some (w, m) ≡ Some (v, n) = is in
+        ap (λ (o : Option (List ℕ × List ℕ)). (unwrap_or o (v, m)).1) whole
+
+-- and stands at the key's location in the log
+pub location-active : (q v n : List ℕ) (log : List Operation) (location : ℕ)
+    → slice_get log location ≡ Some (update (ordered q v n)) → slice_get (activity_bits log) location ≡ Some true
+    → active_location q log ≡ location
+location-active q v n [] location at bit = absurd (cc)
+location-active q v n (op ∷ later) zero at bit =
+    let here : op ≡ update (ordered q v n) = cc in
+    let active : is_active op later ≡ true = cc in
+    ap (λ b. cond b 0 (active_location q later + 1))
+    (both_hold (has_key q op) (is_active op later) (ap (has_key q) here ∙ same_self q) active)
+location-active q v n (op ∷ later) (suc location) at bit =
+    ap (λ b. cond b 0 (active_location q later + 1)) (not_yet q op later (names_it q v n later location at))
+    ∙ omega (arith, location-active q v n later location at bit)

@@ -13,7 +13,7 @@ use Rattle.state_proofs.specs.Bits.{is_zero}
 use Rattle.state_proofs.specs.Grafting.{grafted, grafted_digest}
 use Rattle.merkle_forest.specs.Made.{Made, bytes, both, value, strings, Collision}
 use Rattle.merkle_forest.specs.Laws.Matching.{Agrees, agrees_or_collides}
-use Rattle.merkle_core.specs.MadeTrees.{Elements, whole, made_tree}
+use Rattle.merkle_core.specs.MadeTrees.{Elements, whole, branch_made, made_tree}
 use Rattle.merkle_core.specs.Laws.MadeTrees.{Sized, AllSized, AgreeOver}
 use Rattle.merkle_core.specs.MadeRoots.{made_root, read_root}
 use Rattle.merkle_core.specs.Laws.MadeRoots.{IsRoot, Tells, root_good}
@@ -45,6 +45,24 @@ value_case hash p string chunk true below = value_joined hash p string chunk (is
 value_case hash p string chunk false true = refl
 value_case hash p string chunk false false = refl
 
+-- where the children have the digests of the grafted tree, so has the branch
+pub branch_grafted : (hash : Hash) (width grafting_height bits : ℕ) (chunks elements : List (List ℕ)) (at p : ℕ)
+    (left right : Tree) (x y : Made) → value hash x ≡ grafted_digest hash grafting_height bits chunks elements at left
+    → value hash y ≡ grafted_digest hash grafting_height bits chunks elements (at + leaf_count left) right
+    → (let over = grafted_over grafting_height (chunk_at width bits chunks) in
+    value hash (branch_made over at (height (branch p left right)) p x y)
+    ≡ grafted_digest hash grafting_height bits chunks elements at (branch p left right))
+branch_grafted hash width grafting_height bits chunks elements at p left right x y one other =
+    let digest : ℕ → Tree → List ℕ = grafted_digest hash grafting_height bits chunks elements in
+    let own : List ℕ = node_string p (digest at left) (digest (at + leaf_count left) right) in
+    let string : number p ++ (value hash x ++ value hash y) ≡ own =
+    ap (λ d. number p ++ (d ++ value hash y)) one ∙ ap (λ d. number p ++ (digest at left ++ d)) other in
+    let same : Bool = height (branch p left right) == grafting_height in
+    value_case hash p (both (bytes (number p)) (both x y)) (chunk_at width bits chunks at) same
+    (ltb (height (branch p left right)) grafting_height)
+    ∙ ap (λ d. cond same (grafted hash (chunk_at width bits chunks at) (hash d)) (hash d)) string
+    ∙ ap (λ d. cond same d (hash own)) (no_chunk hash width chunks (at / bits) (hash own))
+
 -- its digests are those of the grafted tree
 pub value_grafted : (hash : Hash) (width grafting_height bits : ℕ) (chunks elements : List (List ℕ)) (at : ℕ) (t : Tree)
     → value hash (made_tree (grafted_over grafting_height (chunk_at width bits chunks)) (whole elements) at t)
@@ -52,20 +70,10 @@ pub value_grafted : (hash : Hash) (width grafting_height bits : ℕ) (chunks ele
 value_grafted hash width grafting_height bits chunks elements at (leaf p) = refl
 value_grafted hash width grafting_height bits chunks elements at (branch p left right) =
     let over = grafted_over grafting_height (chunk_at width bits chunks) in
-    let l = made_tree over (whole elements) at left in
-    let r = made_tree over (whole elements) (at + leaf_count left) right in
-    let own = node_string p (grafted_digest hash grafting_height bits chunks elements at left)
-    (grafted_digest hash grafting_height bits chunks elements (at + leaf_count left) right) in
-    let string : number p ++ (value hash l ++ value hash r) ≡ own =
-    rw (
-      value_grafted hash width grafting_height bits chunks elements at left,
-      value_grafted hash width grafting_height bits chunks elements
-          (at + leaf_count left) right,
-    ) refl in
-    value_case hash p (both (bytes (number p)) (both l r)) (chunk_at width bits chunks at) (height (branch p left right) == grafting_height) (ltb
-    (height (branch p left right)) grafting_height)
-    ∙ ap (λ x. cond (height (branch p left right) == grafting_height) (grafted hash (chunk_at width bits chunks at) (hash x)) (hash x)) string
-    ∙ ap (λ x. cond (height (branch p left right) == grafting_height) x (hash own)) (no_chunk hash width chunks (at / bits) (hash own))
+    branch_grafted hash width grafting_height bits chunks elements at p left right
+    (made_tree over (whole elements) at left) (made_tree over (whole elements) (at + leaf_count left) right)
+    (value_grafted hash width grafting_height bits chunks elements at left)
+    (value_grafted hash width grafting_height bits chunks elements (at + leaf_count left) right)
 
 -- in a tree what a branch over a location of the range tells holds: at the grafting height the chunk is the claimed one
 pub told_in : (Told : ℕ → ℕ → Type 0) (claimed real : Elements) (start stop l first : ℕ) (node : Tree) → start ≤ l → l < stop → first ≤ l
@@ -105,7 +113,8 @@ module _ (hash : Hash) (hash_sized : (xs : List ℕ) → length (hash xs) ≡ 32
   abbrev state_made : Made
   state_made = canonical_made (record { operations = operations_made; grafted = real_root; pending_chunk = pending_made; partial_chunk = partial_made })
 
-  -- what a yes tells: the grafted tree's elements and chunks in the range, and the ends of the canonical string
+  -- what a yes tells: the grafted tree's elements and chunks in the range, and the ends of the canonical string; the
+  -- root of the grafted tree agrees with the one that is there
   abbrev pub TellsState : ℕ → ℕ → ℕ → ℕ → Elements → List ℕ → Option Made → Option (ℕ × Made) → Type 0
   TellsState leaves_claimed inactive_claimed start stop claimed operations_root pending partial =
       Tells hash 32 hash_sized (SameChunk hash hash_sized width not_forty grafting_height chunk_claimed chunk)
@@ -124,7 +133,8 @@ module _ (hash : Hash) (hash_sized : (xs : List ℕ) → length (hash xs) ≡ 32
       stop claimed outer digests)
       (λ root. let made = canonical_made (claimed_parts operations_root pending partial root) in
       value hash made ≡ value hash state_made
-      → TellsState leaves_claimed inactive_claimed start stop claimed operations_root pending partial
+      → (TellsState leaves_claimed inactive_claimed start stop claimed operations_root pending partial
+      × Agrees hash root real_root)
       ⊎ Collision hash (strings hash state_made) (strings hash made))
   state_sound leaves_claimed inactive_claimed start stop outer claimed digests operations_root pending partial sized sized_root sp sq mp mq =
       if_some
@@ -134,7 +144,8 @@ module _ (hash : Hash) (hash_sized : (xs : List ℕ) → length (hash xs) ≡ 32
       (whole operations) start stop
       grafted_names BackwardFold rule (length operations) inactive leaves_claimed inactive_claimed)
       (λ root. value hash (canonical_made (claimed_parts operations_root pending partial root)) ≡ value hash state_made
-      → TellsState leaves_claimed inactive_claimed start stop claimed operations_root pending partial
+      → (TellsState leaves_claimed inactive_claimed start stop claimed operations_root pending partial
+      × Agrees hash root real_root)
       ⊎ Collision hash (strings hash state_made) (strings hash (canonical_made (claimed_parts operations_root pending partial root))))
       (read_root grafted_names (grafted_over grafting_height chunk_claimed) BackwardFold rule leaves_claimed inactive_claimed start
       stop claimed outer digests)
@@ -145,7 +156,7 @@ module _ (hash : Hash) (hash_sized : (xs : List ℕ) → length (hash xs) ≡ 32
       grafted_names BackwardFold rule pairs (length operations) inactive leaves_claimed inactive_claimed outer digests (omega (arith, few)) few_inactive
       (all_take 32 outer digests sized, all_drop 32 outer digests sized))
       (λ root is same. let made = canonical_made (claimed_parts operations_root pending partial root) in
-      ⊎_elim (λ agrees. inl (is.1 agrees.1.1.0, agrees.1.0, agrees.1.1.1)) inr
+      ⊎_elim (λ agrees. inl ((is.1 agrees.1.1.0, agrees.1.0, agrees.1.1.1), agrees.1.1.0)) inr
       (agrees_or_collides hash (strings hash state_made) (strings hash made) made state_made (λ x here. here) (λ x here. here)
       (canonical_matches hash (claimed_parts operations_root pending partial root)
       (record { operations = operations_made; grafted = real_root; pending_chunk = pending_made; partial_chunk = partial_made })

@@ -17,7 +17,7 @@ pub returns-in-Err-clause-exact : goal.returns-in-Err-clause-exact
 returns-in-Err-clause-exact g c =
     let format : Format = format_of g.F.Family.merge_rule g.H.HashFunction.hash_of c.args.width
     g.H.Digest.FixedSize.SIZE g.F.PendingOf.is_pending g.F.PendingOf.pending_encoding
-    (λ next_key. g.K.Read.after tt next_key ≡ Ok []) in
+    (IsField (g.K.Read.after tt) g.K.FixedSize.SIZE) in
     let update_of : List ℕ → List ℕ = λ next_key.
     fixed_encoding g.K.FixedSize.SIZE g.V.FixedSize.SIZE
     (update (ordered (g.K.Write.encoding c.args.key.now) (g.V.Write.encoding c.args.value.now) next_key)) in
@@ -28,7 +28,7 @@ returns-in-Err-clause-exact g c =
     c.in-Err.e c.refused.result c.refused.ensures.ok (λ it.
     let read = shows_read format (omega arith) (g.H.Digest.Read.after tt) g.F.PendingOf.pending_after
     (g.K.Read.after tt) grammar
-    (g.H.Digest.Write.encoding c.args.root.now) update_of c.args.bytes.now (λ k is. is) it in
+    (g.H.Digest.Write.encoding c.args.root.now) update_of c.args.bytes.now (λ k is. ap (g.K.Read.after tt) (sym (append-nil k)) ∙ is.1 []) it in
     refuses_none _ c.in-Err.e _ []
     (ap (after_key_value_proof (g.H.Digest.Read.after tt) g.F.PendingOf.pending_after
     (g.K.Read.after tt) c.args.width 122) c.new-cursor.ensures ∙ read) c.in-Err.ensures.read)
@@ -37,7 +37,7 @@ pub returns-then-not-is_empty-clause-exact : goal.returns-then-not-is_empty-clau
 returns-then-not-is_empty-clause-exact g c =
     let format : Format = format_of g.F.Family.merge_rule g.H.HashFunction.hash_of c.args.width
     g.H.Digest.FixedSize.SIZE g.F.PendingOf.is_pending g.F.PendingOf.pending_encoding
-    (λ next_key. g.K.Read.after tt next_key ≡ Ok []) in
+    (IsField (g.K.Read.after tt) g.K.FixedSize.SIZE) in
     let update_of : List ℕ → List ℕ = λ next_key.
     fixed_encoding g.K.FixedSize.SIZE g.V.FixedSize.SIZE
     (update (ordered (g.K.Write.encoding c.args.key.now) (g.V.Write.encoding c.args.value.now) next_key)) in
@@ -48,7 +48,7 @@ returns-then-not-is_empty-clause-exact g c =
       λ it.
           let read = shows_read format (omega arith) (g.H.Digest.Read.after tt) g.F.PendingOf.pending_after
           (g.K.Read.after tt) grammar
-          (g.H.Digest.Write.encoding c.args.root.now) update_of c.args.bytes.now (λ k is. is) it in
+          (g.H.Digest.Write.encoding c.args.root.now) update_of c.args.bytes.now (λ k is. ap (g.K.Read.after tt) (sym (append-nil k)) ∙ is.1 []) it in
           let none : c.read_cfg.new.cursor ≡ [] = cc (c.in-Ok.ensures.read.0, c.new-cursor.ensures, read) in
           c.if-not-is_empty.ensures.1 none,
     )
@@ -57,7 +57,7 @@ pub returns-else-not-is_empty-clause-exact : goal.returns-else-not-is_empty-clau
 returns-else-not-is_empty-clause-exact g c =
     let format : Format = format_of g.F.Family.merge_rule g.H.HashFunction.hash_of c.args.width
     g.H.Digest.FixedSize.SIZE g.F.PendingOf.is_pending g.F.PendingOf.pending_encoding
-    (λ next_key. g.K.Read.after tt next_key ≡ Ok []) in
+    (IsField (g.K.Read.after tt) g.K.FixedSize.SIZE) in
     let update_of : List ℕ → List ℕ = λ next_key.
     fixed_encoding g.K.FixedSize.SIZE g.V.FixedSize.SIZE
     (update (ordered (g.K.Write.encoding c.args.key.now) (g.V.Write.encoding c.args.value.now) next_key)) in
@@ -83,9 +83,10 @@ returns-else-not-is_empty-clause-exact g c =
     g.F.PendingOf.held g.F.Pending.Write.is_value g.F.PendingOf.is_pending g.met.F.PendingOf.pending_value digest held
     g.F.PendingOf.pending_encoding grammar
     (λ (chunk : Vec ℕ Global). chunk.items) c.args.width 122 c.in-Ok.proof.proof next front.0 c.in-Ok.ensures.value.0 c.in-Ok.ensures.chunk front.1 in
-    let is_key : key next ≡ Ok [] = ap key (sym (append-nil next))
-    ∙ g.met.K.Read.read_again tt c.in-Ok.proof.next_key [] c.in-Ok.ensures.value.1
-    (g.met.K.FixedKey.within c.in-Ok.proof.next_key) in
+    let is_key : IsField key g.K.FixedSize.SIZE next = (
+      g.met.K.FixedSize.sized c.in-Ok.proof.next_key c.in-Ok.ensures.value.1,
+      λ rest. g.met.K.Read.read_again tt c.in-Ok.proof.next_key rest c.in-Ok.ensures.value.1 (g.met.K.FixedKey.within c.in-Ok.proof.next_key),
+    ) in
     answered_alike (Verifies g.F.Family.merge_rule g.H.HashFunction.hash_of root proof (update_of next))
     (ShowsUpdate format root update_of c.args.bytes.now)
     c.verify.result c.verify.ensures.exact
