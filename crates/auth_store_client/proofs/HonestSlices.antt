@@ -59,7 +59,7 @@ module _ (setting : Setting) (state : State) (pairs : IsPairing setting.rule) (f
   held = tree_digest (plain_node setting.hash) (plain_leaf_digests setting.hash setting.rule 0 state.operations)
 
   -- the digests are the plain ones
-  plainly : (start stop : ℕ) → log_digests setting state start stop
+  pub plainly : (start stop : ℕ) → log_digests setting state start stop
       ≡ honest_digests setting.hash (plain_digest setting.hash state.operations) BackwardFold setting.rule total (log_inactive setting state) start stop
   plainly start stop =
       range_same held (plain_digest setting.hash state.operations) (forest_of setting.rule total)

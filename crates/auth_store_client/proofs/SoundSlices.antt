@@ -8,7 +8,7 @@ use Rattle.merkle_forest.specs.declared.bagging.Bagging.TheVariants.{BackwardFol
 use Rattle.merkle_forest.specs.Forest.{forest_of}
 use Rattle.merkle_forest.specs.Hashing.{Hash}
 use Rattle.merkle_forest.specs.Laws.ForestGrowth.{leaves-forest_of}
-use Rattle.merkle_forest.specs.Laws.Matching.{In, agrees_or_collides}
+use Rattle.merkle_forest.specs.Laws.Matching.{In, Agrees, agrees_or_collides}
 use Rattle.merkle_forest.specs.Made.{Site, at_canonical, Made, bytes, value, Strings, strings, Collision}
 use Rattle.merkle_forest.specs.Perfect.{IsPairing}
 use Rattle.merkle_forest.specs.Trees.{Located, inactive_peaks, plain_digest, tree_root, end_of}
@@ -19,6 +19,7 @@ use Rattle.merkle_core.specs.Laws.Values.{value_root}
 use Rattle.merkle_core.specs.MadeRoots.{peaks_of, read_root}
 use Rattle.merkle_core.specs.MadeTrees.{from, whole, plain_over}
 use Rattle.merkle_core.specs.RangeCounts.{range_outer}
+use Rattle.merkle_core.specs.Reads.{range_root}
 use Rattle.merkle_core.specs.Soundness.{plain_names}
 use Rattle.state_proofs.specs.Canonical.{Setting, State, peaks, operations_root, canonical_root}
 use Rattle.state_proofs.specs.MadeCanonical.{if_made, next_made}
@@ -157,13 +158,24 @@ module _ (setting : Setting) (hash_sized : (xs : List ℕ) → length (setting.h
       ∙ ap (λ x. Some x) (sym same ∙ ap (λ k. slice_index_or elements k []) (omega arith))
       ∙ sym (slice_get-get_or elements i [] below)
 
-  pub slice_is_true : ((operations : List ℕ) → length operations ≡ 32
+  -- what the parts tell: an operation is shown, the root of the operations' tree that they lead to agrees with the state's, and so
+  -- its counts and elements are the state's
+  pub record SliceTold : Type 0 where
+    pub some : 0 < length elements
+    pub made : Made
+    pub is : range_root operations_names plain_over BackwardFold setting.rule slice.leaves slice.inactive start elements slice.digests ≡ Some made
+    pub agrees : Agrees setting.hash made (made_operations setting state)
+    pub tells : Tells setting.hash 32 hash_sized NothingTold plain_over plain_over (plain_fits setting.hash 32 hash_sized) (from start elements)
+        (whole state.operations) start stop operations_names BackwardFold setting.rule (length state.operations) inactive slice.leaves slice.inactive
+
+  -- so they do where the witness tells the root of the state's operations, and what it holds besides
+  pub slice_told : (Held : Type 0) → ((operations : List ℕ) → length operations ≡ 32
       → setting.hash (witnessed_string slice.witness operations) ≡ canonical_root setting state
-      → (operations ≡ operations_root setting state)
+      → ((operations ≡ operations_root setting state) × Held)
       ⊎ Collision setting.hash (hashed_strings setting state) (strings setting.hash (witnessed_made slice.witness operations)))
       → VerifiesSlice setting.rule setting.hash (canonical_root setting state) slice start elements
-      → Stand ⊎ Collision setting.hash (hashed_strings setting state) (slice_strings setting slice start elements)
-  slice_is_true law it =
+      → (SliceTold × Held) ⊎ Collision setting.hash (hashed_strings setting state) (slice_strings setting slice start elements)
+  slice_told Held law it =
       let real : Made = made_operations setting state in
       let read = read_is Is setting.hash (length elements) (ltb 0 (length elements))
       (read_root operations_names plain_over BackwardFold setting.rule slice.leaves slice.inactive start stop (from start elements) outer slice.digests)
@@ -176,14 +188,25 @@ module _ (setting : Setting) (hash_sized : (xs : List ℕ) → length (setting.h
       → In few (slice_strings setting slice start elements) =
       λ few many within is x here. subst (λ (ss : Strings). Contains ss x) (is ∙ sym rebuilt) (within x here) in
       ⊎_elim
-      (λ root. ⊎_elim (λ agrees. inl (read.some, stands_there (read.holds.1 agrees)))
+      (λ root. ⊎_elim
+      (λ agrees. inl (record { some = read.some; made = read.made; is = read.is; agrees = agrees; tells = read.holds.1 agrees }, root.1))
       (λ collision. inr (collision_in setting.hash (strings setting.hash real) (hashed_strings setting state) (strings setting.hash read.made)
       (slice_strings setting slice start elements) in_state
       (lifted (strings setting.hash read.made) (strings setting.hash (slice_over slice read.made)) (in_slice read.made) refl) collision))
       (agrees_or_collides setting.hash (strings setting.hash real) (strings setting.hash read.made) read.made real (λ x here. here) (λ x here. here)
-      read.holds.0 (read.digest ∙ root ∙ sym value_operations)))
+      read.holds.0 (read.digest ∙ root.0 ∙ sym value_operations)))
       (λ collision. inr (collision_in setting.hash (hashed_strings setting state) (hashed_strings setting state)
       (strings setting.hash (witnessed_made slice.witness it.operations_root)) (slice_strings setting slice start elements) (λ x here. here)
       (lifted (strings setting.hash (witnessed_made slice.witness it.operations_root)) (strings setting.hash (slice_over slice read.made))
       (in_witnessed read.made it.operations_root read.digest) refl) collision))
       (law it.operations_root (sym (ap length read.digest) ∙ read.holds.2) it.seals)
+
+  pub slice_is_true : ((operations : List ℕ) → length operations ≡ 32
+      → setting.hash (witnessed_string slice.witness operations) ≡ canonical_root setting state
+      → (operations ≡ operations_root setting state)
+      ⊎ Collision setting.hash (hashed_strings setting state) (strings setting.hash (witnessed_made slice.witness operations)))
+      → VerifiesSlice setting.rule setting.hash (canonical_root setting state) slice start elements
+      → Stand ⊎ Collision setting.hash (hashed_strings setting state) (slice_strings setting slice start elements)
+  slice_is_true law it =
+      ⊎_elim (λ both. inl (both.0.some, stands_there both.0.tells)) inr
+      (slice_told (Unit {0}) (λ operations sized_root seals. ⊎_elim (λ is. inl (is, tt)) inr (law operations sized_root seals)) it)

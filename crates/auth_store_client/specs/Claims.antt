@@ -1,6 +1,6 @@
 -- Claims about a history, and when bytes show them under a root.
 use Rattle.std.specs.Prelude.{◌≡◌, ◌-◌, ◌*◌, ◌/◌, ◌%◌, ◌<◌, ⊤, ℕ, Bool, true, List, [], ◌++◌, map, length, take, drop}
-use Rattle.std.specs.Prelude.{Option, None, Some, Ok, slice_get, slice_index_or, IfSome}
+use Rattle.std.specs.Prelude.{Option, None, Some, slice_get, slice_index_or, IfSome}
 use Rattle.std.specs.List.{AllByRecursion, flat_map, range_with_len}
 use Rattle.merkle_forest.specs.Codec.{Outcome}
 use Rattle.merkle_forest.specs.Forest.{Rule}
@@ -68,7 +68,7 @@ pub record Terms : Type 1 where
 abbrev pub terms : Rule → Hash → ℕ → ℕ → (Option (List ℕ) → Type 0) → (Option (List ℕ) → List ℕ) → (List ℕ → Outcome)
     → (List ℕ → Outcome) → ℕ → ℕ → Terms
 terms rule hash width size IsPending pending key value key_size value_size = record {
-  format = format_of rule hash width size IsPending pending (λ bytes. key bytes ≡ Ok []);
+  format = format_of rule hash width size IsPending pending (IsField key key_size);
   key_size = key_size;
   value_size = value_size;
   IsKey = IsField key key_size;

@@ -1,3 +1,5 @@
+pub mod Absent
+pub mod Before
 pub mod Encodings
 pub mod Fields
 pub mod Sound

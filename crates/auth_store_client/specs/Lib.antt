@@ -4,6 +4,8 @@ pub mod Slices
 pub mod ClaimsCode
 pub mod SlicesCode
 pub mod Proving
+pub mod Absence
+pub mod HonestBytes
 pub mod MadeSlices
 pub mod Soundness
 pub mod Fields

@@ -14,6 +14,7 @@ use Rattle.auth_store_parts.specs.History.{History, Commit}
 use Rattle.auth_store_client.specs.Claims.{Claim, has_value, is_absent, is_active, has_range, has_slice, IsTrueOf}
 use Rattle.auth_store_client.specs.Claims.{Terms, encoded, shown_of, Shows}
 use Rattle.auth_store_client.specs.Fields.{IsSound}
+use Rattle.auth_store_client.specs.HonestBytes.{honest_bytes}
 use Rattle.auth_store_client.specs.MadeSlices.{slice_strings}
 use Rattle.auth_store_client.specs.States.{root_of_history, state_of_history}
 
@@ -66,10 +67,22 @@ IsTrueOrCollides setting terms claim history root bytes shown = IsTrueOf claim h
     ⊎ Collision setting.hash (hashed_strings setting terms.key_size terms.value_size history)
     (rebuilt_strings setting terms claim root bytes shown)
 
+-- The bytes are these, the honest ones of the claim, or among the strings that are hashed for the history and those
+-- that are rebuilt two differ at one site and have one digest.
+abbrev pub AreOrCollide : Setting → (terms : Terms) → (claim : Claim) → History → (honest root bytes : List ℕ)
+    → Shows terms claim root bytes → Type 0
+AreOrCollide setting terms claim history honest root bytes shown = (bytes ≡ honest)
+    ⊎ Collision setting.hash (hashed_strings setting terms.key_size terms.value_size history)
+    (rebuilt_strings setting terms claim root bytes shown)
+
 -- The bytes show the claim under the root: and of each history of keys and values whose root this is, the claim is
--- true, or strings collide.
+-- true, and these are the honest bytes of it, or strings collide.
 pub record IsProved (setting : Setting) (terms : Terms) (claim : Claim) (root bytes : List ℕ) : Type 0 where
   pub shown : Shows terms claim root bytes
   pub sound : (history : History) → IsSound terms.IsKey terms.IsValue history
       → root ≡ root_of_history setting terms.key_size terms.value_size history
       → IsTrueOrCollides setting terms claim history root bytes shown
+  pub honest : (history : History) → IsSound terms.IsKey terms.IsValue history
+      → root ≡ root_of_history setting terms.key_size terms.value_size history
+      → AreOrCollide setting terms claim history
+      (honest_bytes terms.format.pending setting terms.key_size terms.value_size history claim) root bytes shown

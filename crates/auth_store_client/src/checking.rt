@@ -9,7 +9,9 @@ ghost use Rattle.auth_store_client.specs.Soundness.{IsProved};
 ghost use Rattle.auth_store_client.specs.States.{IsChunkWidth, setting_of_width};
 
 use crate::claim::Claim;
-use crate::laws::shown_claims_are_true_or_strings_collide;
+use crate::laws::{
+    shown_claims_are_honest_or_strings_collide, shown_claims_are_true_or_strings_collide,
+};
 use crate::range::shows_range;
 use crate::reading::{read_exclusion, read_operation};
 use crate::slice::shows_slice;
@@ -116,8 +118,9 @@ where
 }
 
 /// Whether the bytes prove the claim about the state of this root, with chunks of `N` bytes: then it is true of each
-/// history of keys and values with this root, or two different strings hashed at one place share a digest. Bytes that
-/// are no proof, or have others after it, prove nothing. It fails only when out of memory.
+/// history of keys and values with this root, and these are its honest bytes there, or two different strings hashed at
+/// one place share a digest. Bytes that are no proof, or have others after it, prove nothing. It fails only when out of
+/// memory.
 pub fn check<F, H, K, V, const N: usize>(
     alloc: Global,
     root: &H::Digest,
@@ -140,5 +143,6 @@ where
         (claim_of K.encoding V.encoding claim.now) (H.Digest.encoding root.now) bytes.now) }
 {
     shown_claims_are_true_or_strings_collide::<F, H, K, V, N>();
+    shown_claims_are_honest_or_strings_collide::<F, H, K, V, N>();
     shows::<F, H, K, V, N>(alloc, root, claim, bytes)
 }

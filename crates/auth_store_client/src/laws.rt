@@ -1,23 +1,27 @@
 //! What holds of all proofs.
 
-ghost use Rattle.std.specs.Prelude.{◌≡◌, ◌<◌, ◌≤◌, ◌-◌, ◌^◌, ◌⊎◌, ℕ, Bool, true, List, [], length, take, drop};
-ghost use Rattle.std.specs.Prelude.{slice_get, Ok, Some};
+ghost use Rattle.std.specs.Prelude.{◌≡◌, ◌<◌, ◌≤◌, ◌+◌, ◌-◌, ◌^◌, ◌⊎◌, ℕ, Bool, true, List, [], length, take, drop};
+ghost use Rattle.std.specs.Prelude.{slice_get, None, Some};
 ghost use Rattle.std.specs.List.{AllByRecursion};
 ghost use Rattle.merkle_forest.specs.Made.{Collision};
 ghost use Rattle.state_ops.specs.Operation.{Operation};
+ghost use Rattle.auth_store_client.specs.Absence.{NamesFields, honest_absence, honest_absence_parts};
 ghost use Rattle.auth_store_client.specs.Claims.{Claim, ClaimsFields, has_value, is_absent, is_active, has_range};
 ghost use Rattle.auth_store_client.specs.Claims.{has_slice, IsTrueOf, Shows, terms};
 ghost use Rattle.auth_store_parts.specs.History.{History, AreStates, activity_bits, latest_map, log_of};
 ghost use Rattle.auth_store_parts.specs.Map.{next_key, value_at};
 ghost use Rattle.state_ops.specs.Reading.{IsField, IsOfFields};
 ghost use Rattle.auth_store_client.specs.Fields.{IsSound};
+ghost use Rattle.auth_store_client.specs.HonestBytes.{honest_bytes};
 ghost use Rattle.auth_store_client.specs.Proving.{honest_proof, honest_operation, honest_range_bytes};
 ghost use Rattle.auth_store_client.specs.Proving.{honest_slice_bytes};
 ghost use Rattle.auth_store_client.specs.Soundness.{HasSizes, IsAlone, AreReadAgain, hashed_strings, rebuilt_strings};
-ghost use Rattle.auth_store_client.specs.Soundness.{IsTrueOrCollides};
+ghost use Rattle.auth_store_client.specs.Soundness.{AreOrCollide, IsTrueOrCollides};
 ghost use Rattle.auth_store_client.specs.States.{IsChunkWidth, setting_of_width, root_of_history};
 
-use merkle_core::laws::{built_proofs_lead_to_the_root, honest_digests_are_few};
+use merkle_core::laws::{
+    built_proofs_lead_to_the_root, honest_digests_are_few, proofs_that_agree_with_a_root_are_honest,
+};
 use merkle_forest::{Graftable, HashFunction, PendingOf};
 use state_ops::ordered::laws::encoded_is_read_again;
 use state_ops::{FixedKey, FixedValue};
@@ -25,7 +29,10 @@ use state_proofs::laws::{
     honest_bytes_show_the_operation, honest_bytes_show_the_update, honest_ranges_verify,
     honest_witnesses_lead_to_the_root, verified_absences_are_the_states_or_strings_collide,
     verified_operations_are_active_or_strings_collide,
+    verified_operations_are_honest_or_strings_collide,
+    verified_ranges_are_honest_or_strings_collide,
     verified_ranges_are_the_states_or_strings_collide,
+    verified_witnesses_are_honest_or_strings_collide,
     witnessed_roots_are_the_states_or_strings_collide,
 };
 
@@ -39,7 +46,7 @@ where
     V: FixedValue,
     ensures { (history : History) (key value : List ℕ) → IsChunkWidth N → AreStates history
         → length (log_of history) ≤ 2 ^ 62 → value_at (latest_map history) key ≡ Some value
-        → K.after tt (next_key (latest_map history) key) ≡ Ok []
+        → IsField (K.after tt) K.SIZE (next_key (latest_map history) key)
         → (let setting = setting_of_width F.merge_rule H.hash_of N in
         let terms = terms F.merge_rule H.hash_of N H.Digest.SIZE F.is_pending F.pending_encoding (K.after tt)
         (V.after tt) K.SIZE V.SIZE in
@@ -47,6 +54,27 @@ where
         (honest_proof F.pending_encoding setting K.SIZE V.SIZE history key)) }
 {
     honest_bytes_show_the_update::<F, H, K>();
+}
+
+/// The honest proof that a key is absent shows it under the root of the history, where what it names are keys and
+/// values: so `check` says yes to it.
+pub fn honest_proofs_show_absence<F, H, K, V, const N: usize>()
+where
+    F: Graftable + PendingOf<H::Digest>,
+    H: HashFunction,
+    K: FixedKey,
+    V: FixedValue,
+    ensures { (history : History) (key : List ℕ) → IsChunkWidth N → AreStates history
+        → length (log_of history) ≤ 2 ^ 62 → value_at (latest_map history) key ≡ None
+        → (let setting = setting_of_width F.merge_rule H.hash_of N in
+        let terms = terms F.merge_rule H.hash_of N H.Digest.SIZE F.is_pending F.pending_encoding (K.after tt)
+        (V.after tt) K.SIZE V.SIZE in
+        NamesFields (IsField (K.after tt) K.SIZE) (IsField (V.after tt) V.SIZE)
+        (honest_absence_parts setting K.SIZE V.SIZE history key)
+        → Shows terms (is_absent key) (root_of_history setting K.SIZE V.SIZE history)
+        (honest_absence F.pending_encoding setting K.SIZE V.SIZE history key)) }
+{
+    honest_bytes_show_the_operation::<F, H, K>();
 }
 
 /// The honest proof of an operation that is active shows it under the root of the history: so `check` says yes to it.
@@ -226,6 +254,144 @@ where
         (rebuilt_strings setting terms claim root bytes shown)) }
 {
     witnessed_roots_are_the_states_or_strings_collide();
+}
+
+/// Where bytes show a key's value under the root of a history of keys and values, they are the honest bytes of the key,
+/// or strings collide.
+pub fn shown_values_are_honest_or_strings_collide<F, H, K, V, const N: usize>()
+where
+    F: Graftable + PendingOf<H::Digest>,
+    H: HashFunction,
+    K: FixedKey,
+    V: FixedValue,
+    ensures { (history : History) (key value bytes : List ℕ) → H.Digest.SIZE ≡ 32 → IsChunkWidth N
+        → IsSound (IsField (K.after tt) K.SIZE) (IsField (V.after tt) V.SIZE) history
+        → length key ≡ K.SIZE → length value ≡ V.SIZE
+        → (let setting = setting_of_width F.merge_rule H.hash_of N in
+        let terms = terms F.merge_rule H.hash_of N H.Digest.SIZE F.is_pending F.pending_encoding (K.after tt)
+        (V.after tt) K.SIZE V.SIZE in
+        let claim = has_value key value in
+        let root = root_of_history setting K.SIZE V.SIZE history in
+        (shown : Shows terms claim root bytes) → AreOrCollide setting terms claim history
+        (honest_proof F.pending_encoding setting K.SIZE V.SIZE history key) root bytes shown) }
+{
+    verified_operations_are_active_or_strings_collide::<F>();
+    verified_operations_are_honest_or_strings_collide::<F>();
+}
+
+/// Where bytes show under the root of a history of keys and values that a key is absent, they are the honest bytes of
+/// this, or strings collide.
+pub fn shown_absences_are_honest_or_strings_collide<F, H, K, V, const N: usize>()
+where
+    F: Graftable + PendingOf<H::Digest>,
+    H: HashFunction,
+    K: FixedKey,
+    V: FixedValue,
+    ensures { (history : History) (key bytes : List ℕ) → H.Digest.SIZE ≡ 32 → IsChunkWidth N
+        → IsSound (IsField (K.after tt) K.SIZE) (IsField (V.after tt) V.SIZE) history
+        → (let setting = setting_of_width F.merge_rule H.hash_of N in
+        let terms = terms F.merge_rule H.hash_of N H.Digest.SIZE F.is_pending F.pending_encoding (K.after tt)
+        (V.after tt) K.SIZE V.SIZE in
+        let claim = is_absent key in
+        let root = root_of_history setting K.SIZE V.SIZE history in
+        (shown : Shows terms claim root bytes) → AreOrCollide setting terms claim history
+        (honest_absence F.pending_encoding setting K.SIZE V.SIZE history key) root bytes shown) }
+{
+    sound_histories_are_read_again::<K, V>();
+    verified_operations_are_active_or_strings_collide::<F>();
+    verified_operations_are_honest_or_strings_collide::<F>();
+}
+
+/// Where bytes show under the root of a history that an operation is active at a location, they are the honest bytes of
+/// the operation there, or strings collide.
+pub fn shown_operations_are_honest_or_strings_collide<F, H, K, V, const N: usize>()
+where
+    F: Graftable + PendingOf<H::Digest>,
+    H: HashFunction,
+    K: FixedKey,
+    V: FixedValue,
+    ensures { (history : History) (location : ℕ) (operation : Operation) (bytes : List ℕ) → H.Digest.SIZE ≡ 32
+        → IsChunkWidth N → length (log_of history) ≤ 2 ^ 62
+        → (let setting = setting_of_width F.merge_rule H.hash_of N in
+        let terms = terms F.merge_rule H.hash_of N H.Digest.SIZE F.is_pending F.pending_encoding (K.after tt)
+        (V.after tt) K.SIZE V.SIZE in
+        let claim = is_active location operation in
+        let root = root_of_history setting K.SIZE V.SIZE history in
+        (shown : Shows terms claim root bytes) → AreOrCollide setting terms claim history
+        (honest_operation F.pending_encoding setting K.SIZE V.SIZE history location) root bytes shown) }
+{
+    verified_operations_are_honest_or_strings_collide::<F>();
+}
+
+/// Where bytes show under the root of a history that operations stand from a location on and are active as these bits
+/// say, they are the honest bytes of these operations with their bits, or strings collide.
+pub fn shown_ranges_are_honest_or_strings_collide<F, H, K, V, const N: usize>()
+where
+    F: Graftable + PendingOf<H::Digest>,
+    H: HashFunction,
+    K: FixedKey,
+    V: FixedValue,
+    ensures { (history : History) (start : ℕ) (operations : List Operation) (active : List Bool) (bytes : List ℕ)
+        → H.Digest.SIZE ≡ 32 → IsChunkWidth N → length (log_of history) ≤ 2 ^ 62
+        → (let setting = setting_of_width F.merge_rule H.hash_of N in
+        let terms = terms F.merge_rule H.hash_of N H.Digest.SIZE F.is_pending F.pending_encoding (K.after tt)
+        (V.after tt) K.SIZE V.SIZE in
+        let claim = has_range start operations active in
+        let root = root_of_history setting K.SIZE V.SIZE history in
+        (shown : Shows terms claim root bytes) → AreOrCollide setting terms claim history
+        (honest_range_bytes F.pending_encoding setting K.SIZE V.SIZE history start (start + length operations)) root
+        bytes shown) }
+{
+    verified_ranges_are_the_states_or_strings_collide::<F>();
+    verified_ranges_are_honest_or_strings_collide::<F>();
+}
+
+/// Where bytes show under the root of a history that operations stand from a location on, they are the honest bytes of
+/// these operations, or strings collide.
+pub fn shown_slices_are_honest_or_strings_collide<F, H, K, V, const N: usize>()
+where
+    F: Graftable + PendingOf<H::Digest>,
+    H: HashFunction,
+    K: FixedKey,
+    V: FixedValue,
+    ensures { (history : History) (start : ℕ) (operations : List Operation) (bytes : List ℕ) → H.Digest.SIZE ≡ 32
+        → length (log_of history) ≤ 2 ^ 62
+        → (let setting = setting_of_width F.merge_rule H.hash_of N in
+        let terms = terms F.merge_rule H.hash_of N H.Digest.SIZE F.is_pending F.pending_encoding (K.after tt)
+        (V.after tt) K.SIZE V.SIZE in
+        let claim = has_slice start operations in
+        let root = root_of_history setting K.SIZE V.SIZE history in
+        (shown : Shows terms claim root bytes) → AreOrCollide setting terms claim history
+        (honest_slice_bytes F.pending_encoding setting K.SIZE V.SIZE history start (start + length operations)) root
+        bytes shown) }
+{
+    proofs_that_agree_with_a_root_are_honest::<F>();
+    witnessed_roots_are_the_states_or_strings_collide();
+    verified_witnesses_are_honest_or_strings_collide();
+}
+
+/// Where bytes show a claim of keys and values under the root of a history of such, they are the honest bytes of the
+/// claim, or strings collide: so a claim has one proof at most.
+pub fn shown_claims_are_honest_or_strings_collide<F, H, K, V, const N: usize>()
+where
+    F: Graftable + PendingOf<H::Digest>,
+    H: HashFunction,
+    K: FixedKey,
+    V: FixedValue,
+    ensures { (claim : Claim) (history : History) (root bytes : List ℕ) → H.Digest.SIZE ≡ 32 → IsChunkWidth N
+        → (let setting = setting_of_width F.merge_rule H.hash_of N in
+        let terms = terms F.merge_rule H.hash_of N H.Digest.SIZE F.is_pending F.pending_encoding (K.after tt)
+        (V.after tt) K.SIZE V.SIZE in
+        ClaimsFields terms.IsKey terms.IsValue claim → IsSound terms.IsKey terms.IsValue history
+        → root ≡ root_of_history setting K.SIZE V.SIZE history → (shown : Shows terms claim root bytes)
+        → AreOrCollide setting terms claim history
+        (honest_bytes F.pending_encoding setting K.SIZE V.SIZE history claim) root bytes shown) }
+{
+    shown_values_are_honest_or_strings_collide::<F, H, K, V, N>();
+    shown_absences_are_honest_or_strings_collide::<F, H, K, V, N>();
+    shown_operations_are_honest_or_strings_collide::<F, H, K, V, N>();
+    shown_ranges_are_honest_or_strings_collide::<F, H, K, V, N>();
+    shown_slices_are_honest_or_strings_collide::<F, H, K, V, N>();
 }
 
 /// No bytes show a claim of a range or of a slice that names no operation: so `check` says no to it.

@@ -20,8 +20,8 @@ use Rattle.auth_store_index.specs.Near.{prev_key}
 use Rattle.auth_store_index.specs.Readings.{state_read}
 use Rattle.auth_store_index.specs.Sources.{value_there}
 use Rattle.auth_store_index.specs.Laws.Sourced.{state_of-read}
-use Rattle.auth_store_absence.specs.Absence.{NamesFields, honest_absence_parts, metadata_in}
-use Rattle.auth_store_absence.specs.Laws.Absent.{latest_read, named_before, named_last, some_field}
+use Rattle.auth_store_client.specs.Absence.{NamesFields, honest_absence_parts, metadata_in}
+use Rattle.auth_store_client.specs.Laws.Absent.{latest_read, named_before, named_last, some_field}
 
 -- what is written of keys and values are fields
 pub names_fields : {F K V D C P : Type 0} (chunk : C → List ℕ) (key : K → List ℕ) (value : V → List ℕ) (digest : D → List ℕ)

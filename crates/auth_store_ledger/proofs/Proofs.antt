@@ -6,7 +6,7 @@ use Rattle.state_proofs.specs.Honest.{key_value_proof}
 use Rattle.state_current.specs.Kept.{Kept}
 use Rattle.auth_store_ledger.specs.Map.{Map, value_at, next_key, entry_of}
 use Rattle.auth_store_ledger.specs.History.{History, latest_map, log_of, history_of, active_location, active_update}
-use Rattle.auth_store_ledger.specs.Store.{state_of_log, Keeps}
+use Rattle.auth_store_ledger.specs.Store.{state_of_log, IsLedger}
 use Rattle.auth_store_client.specs.Proving.{honest_proof}
 use Rattle.auth_store_parts.specs.Laws.Actives.{active_update-log_of}
 use Rattle.std.specs.Prelude.{IfSome, unwrap_or}
@@ -14,7 +14,7 @@ use Rattle.std.specs.Prelude.{IfSome, unwrap_or}
 -- the active update of a key of what a store keeps names what the latest state has there
 pub kept_entry : (setting : Setting) (key_size value_size : ℕ) (log : List Operation) (count : ℕ) (kept : Kept)
     (q : List ℕ)
-    → Keeps setting key_size value_size log count kept
+    → IsLedger setting key_size value_size log count kept
     → active_update q log ≡ entry_of (latest_map (history_of log)) q
 kept_entry setting key_size value_size log count kept q keeps = ap (active_update q) keeps.whole
     ∙ active_update-log_of q (history_of log) keeps.states
@@ -31,7 +31,7 @@ shown pending setting key_size value_size q log u = (
 -- the honest proof of a key, from what a store keeps
 pub honest_found : (pending : Option (List ℕ) → List ℕ) (setting : Setting) (key_size value_size : ℕ)
     (log : List Operation) (count : ℕ) (kept : Kept) (q : List ℕ)
-    → Keeps setting key_size value_size log count kept
+    → IsLedger setting key_size value_size log count kept
     → option_map (shown pending setting key_size value_size q log) (active_update q log)
     ≡ option_map {U = List ℕ × List ℕ} (λ value. (
       value,
@@ -58,7 +58,7 @@ honest_found pending setting key_size value_size log count kept q keeps =
 -- so of what was found in the log of a history
 pub found_in_history : (pending : Option (List ℕ) → List ℕ) (setting : Setting) (key_size value_size : ℕ)
     (log : List Operation) (count : ℕ) (kept : Kept) (q : List ℕ) (history : History) (found : Option (List ℕ × List ℕ))
-    → Keeps setting key_size value_size log count kept → history_of log ≡ history
+    → IsLedger setting key_size value_size log count kept → history_of log ≡ history
     → found ≡ option_map (shown pending setting key_size value_size q log) (active_update q log)
     → found ≡ option_map {U = List ℕ × List ℕ} (λ value. (value, honest_proof pending setting key_size value_size history q))
     (value_at (latest_map history) q)

@@ -7,7 +7,7 @@ use Rattle.state_proofs.specs.Canonical.{Setting}
 use Rattle.state_current.specs.Kept.{Kept}
 use Rattle.auth_store_ledger.specs.Batch.{Word, map_after}
 use Rattle.auth_store_ledger.specs.History.{History, AreStates, latest_map, batch_operations, replayed, inactivity_floor, with_commit, log_of, history_of}
-use Rattle.auth_store_ledger.specs.Store.{IsBatch, IsKept, Keeps, commit_after}
+use Rattle.auth_store_ledger.specs.Store.{IsBatch, IsKept, IsLedger, commit_after}
 use Rattle.auth_store_log.specs.Records.{log_bytes}
 use Rattle.auth_store_parts.specs.Laws.Logs.{history_of-log_of, replayed-log_of, IsState-map_after, IsState-latest_map, IsState-replayed, length-log_of}
 
@@ -50,21 +50,21 @@ grown_stands words metadata h next states is =
 
 module _ (setting : Setting) (key value : ℕ) where
   -- the commits of a log of few operations are few
-  pub commits_few : (log : List Operation) (count : ℕ) (kept : Kept) → Keeps setting key value log count kept → count < 2 ^ 62
+  pub commits_few : (log : List Operation) (count : ℕ) (kept : Kept) → IsLedger setting key value log count kept → count < 2 ^ 62
   commits_few log count kept keeps =
       let shorter = length-log_of (history_of log) in
       let sized = ap length keeps.whole in
       omega (arith, shorter, sized, keeps.commits, keeps.few)
 
   -- the log leads to the latest state
-  pub latest_kept : (log : List Operation) (count : ℕ) (kept : Kept) → Keeps setting key value log count kept
+  pub latest_kept : (log : List Operation) (count : ℕ) (kept : Kept) → IsLedger setting key value log count kept
       → replayed [] log ≡ latest_map (history_of log)
   latest_kept log count kept keeps = ap (replayed []) keeps.whole
       ∙ replayed-log_of (history_of log) keeps.states
 
   -- the next log is that of the history with one commit more
   pub next_log : (words : List Word) (metadata : Option (List ℕ)) (log : List Operation) (count : ℕ) (kept : Kept)
-      → Keeps setting key value log count kept
+      → IsLedger setting key value log count kept
       → log ++ with_commit log (batch_operations (replayed [] log) (map_after words (replayed [] log))) metadata ≡
       log_of (commit_after words metadata (history_of log))
   next_log words metadata log count kept keeps =
@@ -75,8 +75,8 @@ module _ (setting : Setting) (key value : ℕ) where
 
   -- the log of the next history is kept
   pub grown_keeps : (words : List Word) (metadata : Option (List ℕ)) (log next : List Operation) (count : ℕ) (kept after : Kept)
-      → Keeps setting key value log count kept → next ≡ log_of (commit_after words metadata (history_of log)) → length next ≤ 2 ^ 62
-      → IsKept setting key value next after → Keeps setting key value next (count + 1) after
+      → IsLedger setting key value log count kept → next ≡ log_of (commit_after words metadata (history_of log)) → length next ≤ 2 ^ 62
+      → IsKept setting key value next after → IsLedger setting key value next (count + 1) after
   grown_keeps words metadata log next count kept after keeps is few current =
       let h : History = history_of log in
       let stands : history_of next ≡ commit_after words metadata h = grown_stands words metadata h next keeps.states is in
@@ -91,7 +91,7 @@ module _ (setting : Setting) (key value : ℕ) where
 
   -- how long the next log is
   pub next_length : (words : List Word) (metadata : Option (List ℕ)) (log changes : List Operation) (count : ℕ) (kept : Kept)
-      → Keeps setting key value log count kept
+      → IsLedger setting key value log count kept
       → changes ≡ batch_operations (replayed [] log) (map_after words (replayed [] log))
       → length (log_of (commit_after words metadata (history_of log))) ≡ length log + length changes + 1
   next_length words metadata log changes count kept keeps changes-is =

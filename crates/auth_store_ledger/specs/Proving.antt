@@ -7,7 +7,7 @@ use Rattle.auth_store_parts.specs.History.{History, activity_bits, latest_map, l
 use Rattle.state_ops.specs.Operation.{Operation}
 use Rattle.auth_store_client.specs.Claims.{Terms, Shows, has_value, is_absent, is_active, has_range, has_slice}
 use Rattle.auth_store_client.specs.Proving.{honest_proof, honest_operation, honest_range_bytes, honest_slice_bytes}
-use Rattle.auth_store_absence.specs.Absence.{honest_absence}
+use Rattle.auth_store_client.specs.Absence.{honest_absence}
 use Rattle.auth_store_ledger.specs.declared.error.ProofError.{ProofError}
 use Rattle.auth_store_ledger.specs.declared.error.ProofError.TheVariants.{Unprovable as NoProof, Memory}
 use Rattle.auth_store_ledger.specs.declared.error.Unprovable.{Unprovable}

@@ -30,7 +30,7 @@ pub record IsKept (setting : Setting) (key value : ℕ) (log : List Operation) (
   pub stands : StandsFor setting (state_of_log key value log) kept
 
 -- what a ledger keeps of a history: its log, the number of commits, and what is kept of the log
-pub record Keeps (setting : Setting) (key value : ℕ) (log : List Operation) (count : ℕ) (kept : Kept) : Type 0 where
+pub record IsLedger (setting : Setting) (key value : ℕ) (log : List Operation) (count : ℕ) (kept : Kept) : Type 0 where
   pub states : AreStates (history_of log)
   pub whole : log ≡ log_of (history_of log)
   pub commits : count ≡ length (history_of log)

@@ -8,7 +8,7 @@ ghost use Rattle.auth_store_ledger.specs.History as spec;
 ghost use Rattle.auth_store_ledger.specs.Map.{value_at};
 ghost use Rattle.auth_store_parts.specs.Places.{places_of};
 ghost use Rattle.auth_store_log.specs.Records.{format_of, log_bytes, AreRecorded};
-ghost use Rattle.auth_store_ledger.specs.Store.{IsChunkWidth, IsKept, Keeps, AreWritten, HasValueAt, commit_count};
+ghost use Rattle.auth_store_ledger.specs.Store.{IsChunkWidth, IsKept, IsLedger, AreWritten, HasValueAt, commit_count};
 ghost use Rattle.auth_store_ledger.specs.Store.{setting_of_width, floor_of, root_of_history, commit_after};
 
 mod absence;
@@ -25,10 +25,10 @@ use crate::batch::Batch;
 use crate::error::LedgerError;
 use auth_store_log::PlacedLog;
 use auth_store_log::laws::a_log_has_floors_within;
-use commit::{Appended, as_locations, bits_of, changes_of, next_floor, places_taken};
+use commit::{Appended, Found, changes_of, found_of};
 use kept::{grown_by, joined, kept_of_log};
 use log::{Log, encodings_of};
-use merkle_forest::{Family, Graftable, HashFunction, Location};
+use merkle_forest::{Family, Graftable, HashFunction};
 use prove::update_at;
 use state_current::Current;
 use state_ops::{FixedKey, FixedValue, Operation, OrderedOperation};
@@ -56,7 +56,7 @@ impl<F: Graftable, H: HashFunction, K: FixedKey, V: FixedValue, const N: usize> 
     ghost view = { λ s. spec.history_of s.log };
 
     ghost invariant = { λ s. IsChunkWidth N
-        × Keeps (setting_of_width F.merge_rule H.hash_of N) K.SIZE V.SIZE s.log s.commits s.current
+        × IsLedger (setting_of_width F.merge_rule H.hash_of N) K.SIZE V.SIZE s.log s.commits s.current
         × AreWritten (format_of (K.after tt) (V.after tt) K.SIZE V.SIZE) s.log };
 }
 
@@ -171,14 +171,14 @@ impl<F: Graftable, H: HashFunction, K: FixedKey, V: FixedValue, const N: usize> 
         if changes.len() as u64 >= MAX_OPERATIONS - self.log.len() as u64 {
             return Err(LedgerError::NumberEnded);
         }
-        let bits = bits_of(self.alloc, &changes)?;
-        let places = places_taken(self.alloc, &self.log, &changes)?;
-        let floor = next_floor(self.alloc, &self.current, &bits, &places)?;
-        let mut operations = changes;
-        operations.push(Operation::CommitFloor(metadata, Location::new(floor)))?;
+        let Found {
+            operations,
+            bits,
+            places,
+            floor,
+        } = found_of(self.alloc, &self.log, &self.current, changes, metadata)?;
         let encodings = encodings_of(self.alloc, &operations)?;
-        let locations = as_locations(self.alloc, &places)?;
-        let current = grown_by(&self.current, &encodings, &bits, &locations, floor)?;
+        let current = grown_by(&self.current, &encodings, &bits, &places, floor)?;
         let bytes = joined(self.alloc, &encodings)?;
         Ok(Appended {
             operations,

@@ -6,7 +6,7 @@ use Rattle.std.specs.List.{flat_map, list_any}
 use Rattle.merkle_forest.specs.Codec.{Outcome}
 use Rattle.state_ops_parts.specs.Grammar.{Found}
 use Rattle.state_ops.specs.Operation.{Operation, delete, update, commit_floor, fixed_size, fixed_encoding}
-use Rattle.state_ops.specs.Reading.{operation_at}
+use Rattle.state_ops.specs.Reading.{IsField, IsOfFields, operation_at}
 use Rattle.auth_store_parts.specs.History.{History, log_of, is_commit}
 use Rattle.paged_format.specs.Pages.{recovered}
 
@@ -77,10 +77,11 @@ log_bytes key value log = flat_map (fixed_encoding key value) log
 abbrev pub history_bytes : Format → History → List ℕ
 history_bytes format history = log_bytes format.key_size format.value_size (log_of history)
 
--- an operation that its record is read as again
+-- an operation of keys and values that its record is read as again
 pub record IsRecorded (format : Format) (operation : Operation) : Type 0 where
   pub sized : length (record_of format operation) ≡ record_size format
   pub again : operation_in format (record_of format operation) ≡ Ok (operation, [])
+  pub fields : IsOfFields (IsField format.key format.key_size) (IsField format.value format.value_size) operation
 
 -- so is each of these
 abbrev pub AreRecorded : Format → List Operation → Type 0

@@ -1,18 +1,18 @@
--- Where the keys and values of a history are some, so are those of the operations of its log; and a batch of some keeps
--- them so.
-use Rattle.std.proofs.Common.{◌≡◌, ℕ, ◌≤◌, ◌^◌, ◌+◌, true, false, cond, List, [], ◌∷◌, ◌++◌, length, Option, arith}
-use Rattle.std.proofs.Common.{length-append}
+-- The keys and values of a history are some where those of the operations of its log are, and only there.
+use Rattle.std.proofs.Common.{◌≡◌, ℕ, ◌≤◌, ◌^◌, ◌+◌, Bool, true, false, cond, List, [], ◌∷◌, ◌++◌, length, arith}
+use Rattle.std.proofs.Common.{Some, length-append, refl, sym, subst}
 use Rattle.std.specs.Prelude.{IfSome, is_some}
 use Rattle.std.specs.List.{AllByRecursion}
-use Rattle.std.specs.declared.cmp.Ordering.TheVariants.{Less, Equal, Greater}
-use Rattle.std.specs.Ordering.{is_lt, is_eq, match_ordering}
+use Rattle.std.specs.Ordering.{is_lt}
+use Rattle.std.specs.Str.{bytes_eq}
 use Rattle.state_ops.specs.Operation.{Operation, delete, update, ordered, commit_floor}
-use Rattle.auth_store_parts.specs.Batch as batch
-use Rattle.auth_store_parts.specs.Batch.{Word, map_after}
-use Rattle.auth_store_parts.specs.Map.{Map, key_order, with_entry, without_key, value_at, above, first_key, next_key}
+use Rattle.state_ops.specs.Reading.{IsOfFields}
+use Rattle.auth_store_parts.specs.Map.{Map, key_order, value_at, above, first_key, next_key}
 use Rattle.auth_store_parts.specs.History.{History, latest_map, is_kept, deletes, updates, batch_operations}
 use Rattle.auth_store_parts.specs.History.{inactivity_floor, log_of}
 use Rattle.auth_store_parts.specs.Laws.Floors.{floor_within}
+use Rattle.auth_store_parts.specs.Laws.Logs.{kept_value}
+use Rattle.auth_store_parts.specs.Laws.Lookups.{same, exact}
 use Rattle.auth_store_client.specs.Fields.{HasEntries, HasFields}
 
 module _ (IsKey IsValue : List ℕ → Type 0) where
@@ -86,37 +86,53 @@ module _ (IsKey IsValue : List ℕ → Type 0) where
       (own_changes (latest_map h) c.map all.0.0))
       ((all.0.1, omega (arith, floor_within (log_of h ++ ops), few, whole, more, both)), tt))
 
-  -- ---- what a batch leaves
+  -- ---- what a log tells of its history
 
-  abbrev pub HasWord : Word → Type 0
-  HasWord (batch.put key value) = IsKey key × IsValue value
-  HasWord (batch.delete key) = IsKey key
+  abbrev NamesOwn : List Operation → Type 0
+  NamesOwn log = AllByRecursion (IsOfFields IsKey IsValue) log
 
-  own_with : (s : Map) (k v : List ℕ) → HasEntries IsKey IsValue s → IsKey k → IsValue v → HasEntries IsKey IsValue (with_entry s k v)
-  own_with [] k v all key value = ((key, value), tt)
-  own_with (e ∷ s) k v all key value =
-      elim (key_order k e.0) as (λ o. HasEntries IsKey IsValue (match_ordering o ((k, v) ∷ e ∷ s) ((e.0, v) ∷ s) (e ∷ with_entry s k v))) [
-        | Less ↦ ((key, value), all)
-        | Equal ↦ ((all.0.0, value), all.1)
-        | Greater ↦ (all.0, own_with s k v all.1 key value)
-      ]
+  front_own : (xs ys : List Operation) → NamesOwn (xs ++ ys) → NamesOwn xs
+  front_own [] ys all = tt
+  front_own (op ∷ xs) ys all = (all.0, front_own xs ys all.1)
 
-  own_without : (s : Map) (k : List ℕ) → HasEntries IsKey IsValue s → HasEntries IsKey IsValue (without_key s k)
-  own_without [] k all = tt
-  own_without (e ∷ s) k all =
-      elim (is_eq (key_order k e.0)) as (λ b. HasEntries IsKey IsValue (cond b s (e ∷ without_key s k))) [
-        | true ↦ all.1
-        | false ↦ (all.0, own_without s k all.1)
-      ]
+  behind_own : (xs ys : List Operation) → NamesOwn (xs ++ ys) → NamesOwn ys
+  behind_own [] ys all = all
+  behind_own (op ∷ xs) ys all = behind_own xs ys all.1
 
-  pub own_after : (words : List Word) (s : Map) → AllByRecursion HasWord words → HasEntries IsKey IsValue s
-      → HasEntries IsKey IsValue (map_after words s)
-  own_after [] s said all = all
-  own_after (batch.put k v ∷ words) s said all = own_after words (with_entry s k v) said.1 (own_with s k v all said.0.0 said.0.1)
-  own_after (batch.delete k ∷ words) s said all = own_after words (without_key s k) said.1 (own_without s k all)
+  -- what a state has at a key
+  found_own : (s : Map) (q v : List ℕ) → HasEntries IsKey IsValue s → value_at s q ≡ Some v → IsKey q × IsValue v
+  found_own [] q v all found = absurd (cc)
+  found_own (e ∷ s) q v all found = by (same q e.0) refl found (found_own s q v all.1)
+    where
+      by : (here : Bool) → same q e.0 ≡ here → cond here (Some e.1) (value_at s q) ≡ Some v
+          → (value_at s q ≡ Some v → IsKey q × IsValue v) → IsKey q × IsValue v
+      by true here is later =
+          let value : e.1 ≡ v = cc in
+          (subst IsKey (sym (exact q e.0 here)) all.0.0, subst IsValue value all.0.1)
+      by false here is later = later is
 
-  -- the history with a commit more has them
-  pub own_commit : (words : List Word) (metadata : Option (List ℕ)) (h : History) → AllByRecursion HasWord words → IfSome metadata IsValue
-      → HasFields IsKey IsValue h
-      → HasEntries IsKey IsValue (map_after words (latest_map h)) × IfSome metadata IsValue
-  own_commit words metadata h said noted all = (own_after words (latest_map h) said (latest_own h all), noted)
+  -- an entry of the new state is one of the old state, or an update says it
+  own_entries : (entries old new : Map) → HasEntries IsKey IsValue old → NamesOwn (updates entries old new) → HasEntries IsKey IsValue entries
+  own_entries [] old new was all = tt
+  own_entries (e ∷ entries) old new was all = by (is_kept old new e.0 e.1) refl all (own_entries entries old new was)
+    where
+      by : (kept : Bool) → is_kept old new e.0 e.1 ≡ kept
+          → NamesOwn (cond kept [] (update (ordered e.0 e.1 (next_key new e.0)) ∷ []) ++ updates entries old new)
+          → (NamesOwn (updates entries old new) → HasEntries IsKey IsValue entries) → HasEntries IsKey IsValue (e ∷ entries)
+      by true kept is later = (
+        found_own old e.0 e.1 was (kept_value (value_at old e.0) e.1 (bytes_eq (next_key old e.0) (next_key new e.0)) kept),
+        later is,
+      )
+      by false kept is later = ((is.0.0, is.0.1.0), later is.1)
+
+  -- where those of the operations of its log are some, so are the keys and the values of a history
+  pub own_history : (h : History) → NamesOwn (log_of h) → HasFields IsKey IsValue h
+  own_history [] all = tt
+  own_history (c ∷ h) all =
+      let removed : List Operation = deletes (latest_map h) c.map in
+      let ops : List Operation = batch_operations (latest_map h) c.map in
+      let last : List Operation = commit_floor c.metadata (inactivity_floor (log_of h ++ ops)) ∷ [] in
+      let before = own_history h (front_own (log_of h) (ops ++ last) all) in
+      let after = behind_own (log_of h) (ops ++ last) all in
+      let said = behind_own removed (updates c.map (latest_map h) c.map) (front_own ops last after) in
+      ((own_entries c.map (latest_map h) c.map (latest_own h before) said, (behind_own ops last after).0.0), before)

@@ -116,7 +116,7 @@ same_bit (op ∷ log) m f zero k v n at bit =
 same_bit (op ∷ log) m f (suc location) k v n at bit = same_bit log m f location k v n at bit
 
 -- an active commit is the last operation, where one ends the log
-last_commit : (log : List Operation) (m n : Option (List ℕ)) (f g location : ℕ)
+pub last_commit : (log : List Operation) (m n : Option (List ℕ)) (f g location : ℕ)
     → slice_get (log ++ commit_floor m f ∷ []) location ≡ Some (commit_floor n g)
     → slice_get (activity_bits (log ++ commit_floor m f ∷ [])) location ≡ Some true → (location ≡ length log) × (f ≡ g)
 last_commit [] m n f g zero at bit =

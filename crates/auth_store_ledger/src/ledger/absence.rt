@@ -9,7 +9,7 @@
 
 ghost use Rattle.std.specs.Prelude.{◌≡◌, ◌<◌, ◌-◌, ℕ, List, None, Some, IfOk, OnOk};
 ghost use Rattle.std.specs.Prelude.{length, option_map, slice_get, unwrap_or};
-ghost use Rattle.auth_store_absence.specs.Absence.{NamesFields, honest_absence, honest_absence_parts, metadata_in};
+ghost use Rattle.auth_store_client.specs.Absence.{NamesFields, honest_absence, honest_absence_parts, metadata_in};
 ghost use Rattle.auth_store_ledger.specs.History.{AreStates, history_of, log_of, meanings, update_fields};
 ghost use Rattle.auth_store_ledger.specs.Store.{IsKept, setting_of_width};
 ghost use Rattle.state_ops.specs.Reading.{IsField};

@@ -6,6 +6,7 @@ ghost use Rattle.auth_store_index.specs.Growth.{cleared, first_set, taken};
 ghost use Rattle.auth_store_index.specs.Touched.{is_no_delete};
 ghost use Rattle.auth_store_ledger.specs.Batch as words;
 ghost use Rattle.auth_store_ledger.specs.Batch.{map_after};
+ghost use Rattle.auth_store_ledger.specs.Commits.{AreFound};
 ghost use Rattle.auth_store_ledger.specs.History.{batch_operations, meanings, replayed};
 ghost use Rattle.auth_store_parts.specs.Places.{places_of};
 ghost use Rattle.state_bitmap.specs.Bits.{all_bits};
@@ -14,7 +15,7 @@ ghost use Rattle.state_ops.specs.Operation.{meaning_of};
 use super::log::Log;
 use crate::batch::Batch;
 use auth_store_index::{Listed, ReadableBits, changes_near, first_set_from, taken_places};
-use merkle_forest::{Family, Graftable, HashFunction};
+use merkle_forest::{Family, Graftable, HashFunction, Location};
 use state_current::Current;
 use state_ops::{FixedKey, FixedValue, Operation, OrderedOperation};
 use std::alloc::{AllocError, Global};
@@ -28,6 +29,19 @@ pub struct Appended<F: Graftable, H: HashFunction, K: FixedKey, V: FixedValue, c
     pub current: Current<F, H, N>,
     /// Their encodings, one after the other.
     pub bytes: Vec<u8>,
+}
+
+/// What the changes of a batch lead to in a log, with the commit behind them.
+#[derive(Drop)]
+pub(super) struct Found<F: Family, K: FixedKey, V: FixedValue> {
+    /// The operations that are appended.
+    pub operations: Vec<OrderedOperation<F, K, V>>,
+    /// A bit for each of them.
+    pub bits: Vec<bool>,
+    /// The locations whose operations they take out.
+    pub places: Vec<u64>,
+    /// The floor that the commit records.
+    pub floor: u64,
 }
 
 /// The operations that a batch adds to the log, without the commit. They are told by the keys near those that it names.
@@ -63,7 +77,7 @@ fn counts<F: Family, K: FixedKey, V: FixedValue>(operation: &OrderedOperation<F,
 }
 
 // A bit for each of the changes and for the commit behind them, set but for deletes. It fails only when out of memory.
-pub(super) fn bits_of<F: Family, K: FixedKey, V: FixedValue>(
+fn bits_of<F: Family, K: FixedKey, V: FixedValue>(
     alloc: Global,
     changes: &[OrderedOperation<F, K, V>],
 ) -> Result<Vec<bool>, AllocError>
@@ -80,7 +94,7 @@ pub(super) fn bits_of<F: Family, K: FixedKey, V: FixedValue>(
 
 // The places of the log whose operations the changes and the commit behind them take out. It fails only when out of
 // memory.
-pub(super) fn places_taken<F: Family, K: FixedKey, V: FixedValue>(
+fn places_taken<F: Family, K: FixedKey, V: FixedValue>(
     alloc: Global,
     log: &Log<F, K, V>,
     changes: &[OrderedOperation<F, K, V>],
@@ -119,7 +133,7 @@ impl<'a, F: Graftable + 'a, H: HashFunction + 'a, const N: usize> ReadableBits
 
 // The floor that the commit records behind the log with these bits, of which those at the places are cleared. It is
 // looked for from the floor before on. It fails only when out of memory.
-pub(super) fn next_floor<F: Graftable, H: HashFunction, const N: usize>(
+fn next_floor<F: Graftable, H: HashFunction, const N: usize>(
     alloc: Global,
     current: &Current<F, H, N>,
     more: &[bool],
@@ -136,7 +150,7 @@ pub(super) fn next_floor<F: Graftable, H: HashFunction, const N: usize>(
 }
 
 // Places as numbers of the log's length. It fails only when out of memory.
-pub(super) fn as_locations(alloc: Global, places: &[usize]) -> Result<Vec<u64>, AllocError>
+fn as_locations(alloc: Global, places: &[usize]) -> Result<Vec<u64>, AllocError>
     ensures { IfOk result (λ locations. locations.items ≡ places.now) }
 {
     let mut locations = Vec::new(alloc);
@@ -144,4 +158,39 @@ pub(super) fn as_locations(alloc: Global, places: &[usize]) -> Result<Vec<u64>, 
         locations.push(*place as u64)?;
     }
     Ok(locations)
+}
+
+/// What the changes of a batch lead to in a log of operations, of which this is kept, with the commit behind them. It
+/// fails only when out of memory.
+pub(super) fn found_of<F, H, K, V, const N: usize>(
+    alloc: Global,
+    log: &Log<F, K, V>,
+    current: &Current<F, H, N>,
+    changes: Vec<OrderedOperation<F, K, V>>,
+    metadata: Option<V>,
+) -> Result<Found<F, K, V>, AllocError>
+where
+    F: Graftable,
+    H: HashFunction,
+    K: FixedKey,
+    V: FixedValue,
+    requires some { 0 < length log.now }
+    requires few { current.now.operations.leaves + length changes.items < 2 ^ 62 }
+    requires unpruned { current.now.bits.pruned ≡ 0 }
+    ensures { IfOk result (λ found. AreFound log.now (meanings K.encoding V.encoding changes.items)
+        (option_map V.encoding metadata) (all_bits N current.now.bits) current.now.floor
+        (meanings K.encoding V.encoding found.operations.items) found.bits.items found.places.items found.floor) }
+{
+    let bits = bits_of(alloc, &changes)?;
+    let taken = places_taken(alloc, log, &changes)?;
+    let floor = next_floor(alloc, current, &bits, &taken)?;
+    let places = as_locations(alloc, &taken)?;
+    let mut operations = changes;
+    operations.push(Operation::CommitFloor(metadata, Location::new(floor)))?;
+    Ok(Found {
+        operations,
+        bits,
+        places,
+        floor,
+    })
 }

@@ -1,6 +1,6 @@
 //! Proofs that a store answers.
 
-ghost use Rattle.std.specs.Prelude.{◌≡◌, ◌<◌, ℕ, List, [], Ok, IfOk, IfErr, IfSome};
+ghost use Rattle.std.specs.Prelude.{◌≡◌, ◌<◌, ℕ, List, IfOk, IfErr, IfSome};
 ghost use Rattle.std.specs.Prelude.{length, option_map, slice_get};
 ghost use Rattle.auth_store_ledger.specs.History as spec;
 ghost use Rattle.auth_store_ledger.specs.History.{active_location, active_update, update_fields};
@@ -9,6 +9,7 @@ ghost use Rattle.auth_store_ledger.specs.Proving.{IsAccepted, honest_answer};
 ghost use Rattle.auth_store_ledger.specs.ProvingCode.{key_answer_of};
 ghost use Rattle.auth_store_ledger.specs.Store.{IsKept, setting_of_width, state_of_log, root_of_history};
 ghost use Rattle.state_ops.specs.Operation as meaning;
+ghost use Rattle.state_ops.specs.Reading.{IsField};
 ghost use Rattle.state_proofs.specs.Honest.{honest_parts, key_value_proof};
 ghost use Rattle.state_proofs.specs.ProofsCode.{parts_of};
 
@@ -16,8 +17,7 @@ use super::Ledger;
 use super::absence::prove_absence;
 use super::log::Log;
 use crate::error::LedgerError;
-use auth_store_absence::laws::honest_proofs_show_absence;
-use auth_store_client::laws::honest_proofs_show_true_values;
+use auth_store_client::laws::{honest_proofs_show_absence, honest_proofs_show_true_values};
 use merkle_forest::codec::Write;
 use merkle_forest::{Family, Graftable, HashFunction, Location, PendingOf};
 use state_current::Current;
@@ -98,7 +98,7 @@ where
     H: HashFunction,
     requires kept { IsKept (setting_of_width F.merge_rule H.hash_of N) K.SIZE V.SIZE log.now current.now }
     requires within { location < length log.now }
-    ensures next { IfOk result (λ _. K.after tt (K.encoding next_key.now) ≡ Ok []) }
+    ensures next { IfOk result (λ _. IsField (K.after tt) K.SIZE (K.encoding next_key.now)) }
     ensures bytes { IfOk result (λ bytes. bytes.items
         ≡ key_value_proof F.pending_encoding (setting_of_width F.merge_rule H.hash_of N)
         (state_of_log K.SIZE V.SIZE log.now) location (K.encoding next_key.now)) }
@@ -125,7 +125,7 @@ where
     H: HashFunction,
     requires kept { IsKept (setting_of_width F.merge_rule H.hash_of N) K.SIZE V.SIZE log.now current.now }
     ensures next { IfOk result (λ found. IfSome found (λ _.
-        IfSome (active_update (K.encoding key.now) log.now) (λ update. K.after tt update.1 ≡ Ok []))) }
+        IfSome (active_update (K.encoding key.now) log.now) (λ update. IsField (K.after tt) K.SIZE update.1))) }
     ensures found { IfOk result (λ found.
         option_map {U = List ℕ × List ℕ} (λ proved. (V.encoding proved.0, proved.1.items)) found
         ≡ option_map (λ update. (

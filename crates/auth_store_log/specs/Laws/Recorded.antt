@@ -10,8 +10,8 @@ use Rattle.state_ops_parts.specs.declared.operation.Operation.TheVariants.{Delet
 use Rattle.state_ops_parts.specs.Operation.{IsValue}
 use Rattle.state_ops_parts.specs.Grammar.{Found, padded_at}
 use Rattle.state_ops_parts.specs.Laws.Again.{fixed_sized}
-use Rattle.state_ops.specs.Operation.{Operation, Code, spelled, meaning_of}
-use Rattle.state_ops.specs.Reading.{IsField, HasEncoding, ordered_at}
+use Rattle.state_ops.specs.Operation.{Operation, Code, delete, update, ordered, commit_floor, spelled, meaning_of}
+use Rattle.state_ops.specs.Reading.{IsField, IsOfFields, HasEncoding, ordered_at}
 use Rattle.state_ops.specs.Laws.Again.{read_again, sizes}
 use Rattle.auth_store_log.specs.Records.{Format, record_size, record_of, operation_in, IsRecorded, AreRecorded}
 use Rattle.auth_store_log.specs.Records.{FloorFits}
@@ -32,6 +32,13 @@ taken false (Ok x) behind rest operation is =
     let same : x.0 ≡ operation = ap (λ (p : Operation × List ℕ). p.0) pairs in
     (refl, ((λ after. ap {B = Found Operation} (λ (o : Operation). Ok (o, after)) same), ap (λ (p : Operation × List ℕ). p.1) pairs))
 
+-- what has an encoding is of keys and values
+encoded_fields : (key value : List ℕ → Outcome) (ks vs : ℕ) (operation : Operation) → HasEncoding key value ks vs operation
+    → IsOfFields (IsField key ks) (IsField value vs) operation
+encoded_fields key value ks vs (delete k) has = has
+encoded_fields key value ks vs (update (ordered k v next)) has = has
+encoded_fields key value ks vs (commit_floor metadata floor) has = (has.0, omega (arith, has.1))
+
 module _ (format : Format) where
   -- what has an encoding is recorded
   pub encoded_is_recorded : (operation : Operation) → HasEncoding format.key format.value format.key_size format.value_size operation
@@ -43,6 +50,7 @@ module _ (format : Format) where
         sized = fixed_sized spelled ks vs (ks + vs + ks) operation (sizes format.key format.value ks vs operation has);
         again = ap (operation_in format) (sym (append-nil (record_of format operation)))
             ∙ read_again format.key format.value ks vs operation [] has;
+        fields = encoded_fields format.key format.value ks vs operation has;
       }
 
   -- a record is found at the front of more bytes
@@ -63,8 +71,10 @@ module _ (format : Format) where
 
   -- what was read, and stands there in its spelling, is recorded
   pub read_is_recorded : (operation : Operation) (bytes rest : List ℕ) → operation_in format bytes ≡ Ok (operation, rest)
-      → bytes ≡ record_of format operation ++ rest → IsRecorded format operation
-  read_is_recorded operation bytes rest found stands =
+      → bytes ≡ record_of format operation ++ rest
+      → IsOfFields (IsField format.key format.key_size) (IsField format.value format.value_size) operation
+      → IsRecorded format operation
+  read_is_recorded operation bytes rest found stands fields =
       let size = record_size format in
       let front = record_of format operation in
       let parts = taken (ltb (length bytes) size) (framed format (take size bytes)) (drop size bytes) rest operation found in
@@ -80,6 +90,7 @@ module _ (format : Format) where
             ∙ ap (λ frame. framed format frame >>= λ x. Ok (x.0, drop size front)) here
             ∙ ap (λ after. framed format (take size bytes) >>= λ x. Ok (x.0, after)) (drop_all size front (omega (arith, sized)))
             ∙ parts.1.0 [];
+        fields = fields;
       }
 
   -- recorded operations one after the other

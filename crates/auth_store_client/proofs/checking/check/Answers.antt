@@ -16,3 +16,5 @@ returns-clause-sound g c size is_width =
     yes_proves setting those claim root c.args.bytes.now c.shows.result c.shows.ensures.exact c.shows.ensures.fields
     (λ history names sound is shown. c.shown_claims_are_true_or_strings_collide.ensures claim history root c.args.bytes.now size is_width
     names sound is shown)
+    (λ history names sound is shown. c.shown_claims_are_honest_or_strings_collide.ensures claim history root c.args.bytes.now size is_width
+    names sound is shown)

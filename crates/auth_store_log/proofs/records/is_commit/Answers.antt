@@ -9,10 +9,10 @@ returns-in-Ok-clause-exact g c =
     let format = format_of (g.K.Read.after tt) (g.V.Read.after tt) g.K.FixedSize.SIZE g.V.FixedSize.SIZE in
     c.ends_batch.ensures
     ∙ sym (commit_found format c.args.bytes.now (meaning_of g.K.Write.encoding g.V.Write.encoding c.in-Ok.operation) c.read.new.cursor
-    (ap (operation_in format) (sym c.new-cursor.ensures) ∙ c.in-Ok.ensures.0))
+    (ap (operation_in format) (sym c.new-cursor.ensures) ∙ c.in-Ok.ensures.read.0))
 
 pub returns-else-lacks_memory-clause-exact : goal.returns-else-lacks_memory-clause-exact
 returns-else-lacks_memory-clause-exact g c =
     let format = format_of (g.K.Read.after tt) (g.V.Read.after tt) g.K.FixedSize.SIZE g.V.FixedSize.SIZE in
     sym (none_found format c.args.bytes.now c.in-Err.fault (ap (operation_in format) (sym c.new-cursor.ensures)
-    ∙ refused_for _ c.in-Err.fault (operation_in format c.new-cursor.result) c.in-Err.ensures (c.lacks_memory.ensures c.if-lacks_memory.false)))
+    ∙ refused_for _ c.in-Err.fault (operation_in format c.new-cursor.result) c.in-Err.ensures.read (c.lacks_memory.ensures c.if-lacks_memory.false)))

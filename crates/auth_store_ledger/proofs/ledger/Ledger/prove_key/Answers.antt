@@ -2,7 +2,7 @@ use Rattle.std.proofs.Common.{◌≡◌, ◌≤◌, ◌^◌, ◌∙◌, ap, subs
 use Rattle.std.specs.Prelude.{IfSome}
 use Rattle.state_ops.specs.Reading.{IsField}
 use Rattle.state_proofs.specs.Canonical.{Setting}
-use Rattle.auth_store_absence.specs.Absence.{NamesFields, honest_absence, honest_absence_parts}
+use Rattle.auth_store_client.specs.Absence.{NamesFields, honest_absence, honest_absence_parts}
 use Rattle.auth_store_client.specs.Claims.{Shows, Terms, has_value, is_absent, terms}
 use Rattle.auth_store_client.specs.Proving.{honest_proof}
 use Rattle.auth_store_ledger.specs.Map.{entry_of, value_at}
@@ -54,7 +54,7 @@ returns-in-Some-clause-shown g c =
     let states : AreStates c.args.self.now = subst AreStates c.self.view_is keeps.states in
     let few : length (log_of c.args.self.now) ≤ 2 ^ 62 = subst (λ (h : History). length (log_of h) ≤ 2 ^ 62) c.self.view_is
     (omega (arith, ap length keeps.whole, keeps.few)) in
-    let IsRead : List ℕ → Type 0 = λ next. g.K.Read.after tt next ≡ Ok [] in
+    let IsRead : List ℕ → Type 0 = IsField (g.K.Read.after tt) key_size in
     let named = subst (λ f. IfSome f (λ _. IfSome (active_update key c.self.inside.log) (λ u. IsRead u.1))) c.in-Some.is
     c.in_ok-found.ensures.next in
     let next = of_next_key IsRead (latest_map c.args.self.now) key value (active_update key c.self.inside.log)

@@ -9,8 +9,8 @@ use Rattle.state_proofs.specs.ExclusionCode.{form_exclusion_of}
 use Rattle.state_proofs.specs.Honest.{honest_parts}
 use Rattle.state_proofs.specs.ProofsCode.{parts_of}
 use Rattle.state_proofs.specs.Verified.{Parts}
-use Rattle.auth_store_absence.specs.Absence.{honest_absence_parts, metadata_in}
-use Rattle.auth_store_absence.specs.Laws.Absent.{has_some}
+use Rattle.auth_store_client.specs.Absence.{honest_absence_parts, metadata_in}
+use Rattle.auth_store_client.specs.Laws.Absent.{has_some}
 use Rattle.auth_store_ledger.specs.History.{history_of}
 use Rattle.auth_store_ledger.specs.Map.{state_of}
 use Rattle.auth_store_ledger.specs.Store.{setting_of_width, state_of_log}

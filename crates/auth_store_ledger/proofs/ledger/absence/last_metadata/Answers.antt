@@ -1,7 +1,7 @@
 use Rattle.std.proofs.Common.{◌∙◌, ◌-◌, None, Some, option_map, length, ap, sym}
 use Rattle.std.specs.Prelude.{unwrap_or}
 use Rattle.state_ops.specs.Operation.{meaning_of}
-use Rattle.auth_store_absence.specs.Absence.{metadata_in}
+use Rattle.auth_store_client.specs.Absence.{metadata_in}
 use Rattle.auth_store_ledger.proofs.Absences.{metadata_there}
 use Rattle.auth_store_ledger.proofs.ledger.absence.last_metadata.Goals as goal
 

@@ -4,7 +4,7 @@ use Rattle.std.specs.Prelude.{slice_get, unwrap_or}
 use Rattle.state_ops.specs.Operation.{Operation, meaning_of}
 use Rattle.state_proofs.specs.Exclusion.{by_commit}
 use Rattle.state_proofs.specs.ProofsCode.{parts_of}
-use Rattle.auth_store_absence.specs.Absence.{metadata_in}
+use Rattle.auth_store_client.specs.Absence.{metadata_in}
 use Rattle.auth_store_ledger.specs.History.{meanings}
 use Rattle.auth_store_ledger.proofs.ledger.absence.proof_by_commit.Goals as goal
 

@@ -4,7 +4,7 @@ use Rattle.std.specs.declared.vec.Vec.{Vec}
 use Rattle.state_ops.specs.Reading.{IsField}
 use Rattle.state_proofs.specs.Exclusion.{ExclusionParts, exclusion_encoding}
 use Rattle.state_proofs.specs.ExclusionCode.{form_exclusion_of}
-use Rattle.auth_store_absence.specs.Absence.{NamesFields}
+use Rattle.auth_store_client.specs.Absence.{NamesFields}
 use Rattle.auth_store_ledger.proofs.Absences.{names_fields}
 use Rattle.auth_store_ledger.proofs.ledger.absence.prove_absence.Goals as goal
 

@@ -1,4 +1,5 @@
-use Rattle.std.proofs.Common.{◌∙◌, ◌++◌, List, ℕ, [], ap, sym, append-nil}
+use Rattle.std.proofs.Common.{◌∙◌, ◌++◌, List, ℕ, ap, subst}
+use Rattle.state_ops.specs.Reading.{IsField}
 use Rattle.state_proofs.specs.Canonical.{Setting, State}
 use Rattle.state_proofs.specs.Encoded.{key_value_proof_encoding}
 use Rattle.state_proofs.specs.Honest.{honest_parts}
@@ -10,9 +11,11 @@ pub returns-clause-next : goal.returns-clause-next
 returns-clause-next g c =
     let key : List ℕ = g.K.Write.encoding c.in_ok-clone.field-0 in
     let copied = g.met.K.Faithful.copied c.args.next_key.now c.in_ok-clone.field-0 c.in_ok-clone.ensures.cases in
-    ap (g.K.Read.after tt) (sym copied ∙ sym (append-nil key))
-    ∙ g.met.K.Read.read_again tt c.in_ok-clone.field-0 [] c.in_ok-write.ensures.value.1
-    (g.met.K.FixedKey.within c.in_ok-clone.field-0)
+    subst (IsField (g.K.Read.after tt) g.K.FixedSize.SIZE) copied (
+      g.met.K.FixedSize.sized c.in_ok-clone.field-0 c.in_ok-write.ensures.value.1,
+      λ rest. g.met.K.Read.read_again tt c.in_ok-clone.field-0 rest c.in_ok-write.ensures.value.1
+          (g.met.K.FixedKey.within c.in_ok-clone.field-0),
+    )
 
 pub returns-clause-bytes : goal.returns-clause-bytes
 returns-clause-bytes g c =

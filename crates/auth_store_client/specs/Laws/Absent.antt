@@ -27,18 +27,18 @@ use Rattle.auth_store_index.specs.Laws.Readings.{read-places_of}
 use Rattle.auth_store_parts.specs.Map.{Map, next_key, value_at}
 use Rattle.auth_store_parts.specs.History.{History, AreStates, activity_bits, active_location, active_update}
 use Rattle.auth_store_parts.specs.History.{batch_operations, history_of, inactivity_floor, latest_map, log_of, replayed}
-use Rattle.auth_store_absence.specs.Absence.{NamesFields, absence_in, honest_absence, honest_absence_parts}
-use Rattle.auth_store_absence.specs.Absence.{last_location, last_metadata, metadata_in}
-use Rattle.auth_store_absence.specs.Laws.Spans.{before_is_there, in_span_before}
+use Rattle.auth_store_client.specs.Absence.{NamesFields, absence_in, honest_absence, honest_absence_parts}
+use Rattle.auth_store_client.specs.Absence.{last_location, last_metadata, metadata_in}
+use Rattle.auth_store_client.specs.Laws.Before.{before_is_there, in_span_before}
 
 -- ---- the commit that ends a log
 
 -- what stands before the last commit, which records its floor
-record Closed (history : History) : Type 0 where
-  front : List Operation
-  whole : log_of history ≡ front ++ commit_floor (last_metadata history) (inactivity_floor front) ∷ []
+pub record Closed (history : History) : Type 0 where
+  pub front : List Operation
+  pub whole : log_of history ≡ front ++ commit_floor (last_metadata history) (inactivity_floor front) ∷ []
 
-closed : (history : History) → Closed history
+pub closed : (history : History) → Closed history
 closed [] = record { front = []; whole = refl }
 closed (commit ∷ history) =
     let changes : List Operation = batch_operations (latest_map history) commit.map in
@@ -48,7 +48,7 @@ closed (commit ∷ history) =
           (commit_floor commit.metadata (inactivity_floor (log_of history ++ changes)) ∷ []));
     }
 
-behind : (front : List Operation) (op : Operation) → slice_get (front ++ op ∷ []) (length front) ≡ Some op
+pub behind : (front : List Operation) (op : Operation) → slice_get (front ++ op ∷ []) (length front) ≡ Some op
 behind [] op = refl
 behind (x ∷ front) op = behind front op
 
@@ -56,7 +56,7 @@ behind_active : (front : List Operation) (m : Option (List ℕ)) (f : ℕ) → I
 behind_active [] m f = refl
 behind_active (x ∷ front) m f = behind_active front m f
 
-one_more : (front : List Operation) (op : Operation) → length (front ++ op ∷ []) - 1 ≡ length front
+pub one_more : (front : List Operation) (op : Operation) → length (front ++ op ∷ []) - 1 ≡ length front
 one_more front op = omega (arith, length-append front (op ∷ []))
 
 -- the last operation is a commit with the metadata of the newest one

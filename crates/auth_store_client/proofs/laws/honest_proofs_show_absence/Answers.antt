@@ -6,8 +6,8 @@ use Rattle.auth_store_client.specs.Laws.Widths.{width_is_whole}
 use Rattle.auth_store_client.specs.Claims.{Terms, terms}
 use Rattle.auth_store_parts.specs.History.{log_of}
 use Rattle.auth_store_client.specs.States.{grafting_height, root_of_history, setting_of_width, state_of_history}
-use Rattle.auth_store_absence.specs.Laws.Absent.{shows_absence}
-use Rattle.auth_store_absence.proofs.laws.honest_proofs_show_absence.Goals as goal
+use Rattle.auth_store_client.specs.Laws.Absent.{shows_absence}
+use Rattle.auth_store_client.proofs.laws.honest_proofs_show_absence.Goals as goal
 
 pub returns : goal.returns
 returns g c history key is_width states few absent fields =

@@ -43,11 +43,11 @@ less Less t = refl
 less Equal t = absurd t
 less Greater t = absurd t
 
-transitive : (k l m : List ℕ) → IsBelow k l → IsBelow l m → IsBelow k m
+pub transitive : (k l m : List ℕ) → IsBelow k l → IsBelow l m → IsBelow k m
 transitive k l m s t = subst (λ o. T (is_lt o)) (sym (nat_list_cmp_total.trans k l m (less _ s) (less _ t))) tt
 
 -- the other way round a key is not below
-not_below : (k l : List ℕ) → IsBelow k l → is_below l k ≡ false
+pub not_below : (k l : List ℕ) → IsBelow k l → is_below l k ≡ false
 not_below k l under = ap is_lt (nat_list_cmp_total.antisymm l k) ∙ turned (key_order k l) under
   where
     turned : (o : Ordering) → T (is_lt o) → is_lt (ordering_reverse o) ≡ false

@@ -1,2 +1,0 @@
-pub mod Absence
-pub mod Laws
