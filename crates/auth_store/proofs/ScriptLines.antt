@@ -18,7 +18,7 @@ use Rattle.auth_store_session.specs.declared.session.Step.TheVariants as steps
 use Rattle.auth_store_session.specs.Machine.{Machine, Request, Answer, machine, is_opened, is_root_of_commit}
 use Rattle.auth_store_session.specs.MachineCode.{config_after, meaning_of, request_of}
 use Rattle.auth_store_session.specs.Standing.{SessionState, Steps, Runs, calls_in, config_in, page_size_in}
-use Rattle.auth_store_session.proofs.Runs.{runs_go_on}
+use Rattle.auth_store_session.proofs.Runs.{AreSound, runs_go_on}
 use Rattle.auth_store.specs.ScriptLines.{Exchange, Checks, Does, asked, answered, answer_line, bytes_of, value_of, checked_line, found_line, kept_after, settings_after, pending_of, rule_of, script_format, script_machine}
 use Rattle.auth_store.specs.ScriptCode.{DoesLine, Goes, Handled, HasRun, Now, exchange_of, settings_in}
 use Rattle.auth_store_parts.specs.declared.script.line.Line.{Line}
@@ -109,9 +109,9 @@ pub goes_by : (family : TreeFamily) (rule : Rule) (pending : Option (List ℕ) �
     → Steps (make rule pending (page_size_in old.parts old.store)) script_format old (request_of bytes_of value_of step) answer new
     → page_size_in new.parts new.store ≡ page_size_in old.parts old.store
     → Grows (calls_in old.parts old.store) (calls_in new.parts new.store)
-    → config_in new.parts new.store ≡ config_after step (config_in old.parts old.store)
+    → config_in new.parts new.store ≡ config_after step (config_in old.parts old.store) → AreSound script_format new
     → Goes family old (exchange_of step answer ∷ []) new
-goes_by family rule pending merges encodes old new step answer stepped sized grows set first earlier ran =
+goes_by family rule pending merges encodes old new step answer stepped sized grows set sound first earlier ran =
     let more = exchange_of step answer ∷ [] in
     let request : Request = request_of bytes_of value_of step in
     let named = subst (λ (p : Option (List ℕ) → List ℕ). Steps (make (rule_of family) p (page_size_in old.parts old.store))
@@ -119,7 +119,7 @@ goes_by family rule pending merges encodes old new step answer stepped sized gro
     script_format old request answer new) merges stepped) in
     let went = runs_go_on (script_machine family) script_format first old new (asked earlier) (answered earlier) request answer sized
     grows ran.runs (subst (λ (size : ℕ). Steps (make (rule_of family) (pending_of family) size) script_format old request answer new)
-    ran.paged named) in
+    ran.paged named) sound in
     record {
       paged = sized ∙ ran.paged;
       set = λ before is. set ∙ ap (config_after step) (ran.set before is) ∙ set_by step (settings_after earlier before)

@@ -16,6 +16,7 @@ use Rattle.auth_store_parts.specs.declared.script.line.Line.TheVariants.{Empty, 
 use Rattle.auth_store_parts.specs.declared.script.words.TreeFamily.{TreeFamily}
 use Rattle.auth_store_session.specs.Standing.{SessionState}
 use Rattle.auth_store_session.proofs.Runs.{runs_none}
+use Rattle.auth_store_session.proofs.Sound.{closed_sound}
 use Rattle.auth_store.specs.ScriptLines.{Exchange, Progress, Does, new_progress, script_format, script_machine}
 use Rattle.auth_store.specs.ScriptRun.{LineDoes, HasTaken, Ends, IsRunOf, Prints, Stops, lines_of, script_cache, seeded_by}
 use Rattle.auth_store.specs.ScriptCode.{DoesLine, DoesText, Handled, HasRun, IsRunning, Now, kept_in}
@@ -238,7 +239,7 @@ begins p now spelled family seed device none is made session new =
     let none_yet : HasRun p.progress.family first [] first = record {
       paged = refl;
       set = λ before is. is;
-      runs = runs_none (script_machine p.progress.family) script_format first;
+      runs = runs_none (script_machine p.progress.family) script_format first (closed_sound script_format first.parts);
     } in
     let ran : HasRun p.progress.family first [] p.session = subst (HasRun p.progress.family first []) (sym session) none_yet in
     let kept : IsNew (seeded_by p.progress.seed) device =

@@ -1,165 +1,134 @@
--- Each root that a run answers is of a sound history.
-use Rattle.std.proofs.Common.{◌≡◌, ◌≤◌, ◌^◌, ℕ, length, List, [], ◌∷◌, Option, Some, None, refl, sym, subst, ⊎_elim}
-use Rattle.std.specs.Prelude.{IfSome, Result, Ok, Err}
-use Rattle.std.specs.List.{AllByRecursion}
-use Rattle.auth_store_parts.specs.Batch as batch
-use Rattle.auth_store_parts.specs.Batch.{Word, map_after}
-use Rattle.auth_store_parts.specs.History.{History, Commit, latest_map, log_of}
-use Rattle.auth_store_parts.specs.Laws.Logs.{IsState-map_after, IsState-latest_map}
-use Rattle.auth_store_client.specs.Fields.{IsSound}
+-- Each root that a run of sound states answers is that of a sound history.
+use Rattle.std.proofs.Common.{◌≡◌, ◌⊎◌, ℕ, List, [], ◌∷◌, refl, sym, subst, ⊎_elim, inl, inr}
+use Rattle.std.specs.Prelude.{Result, Ok, Err}
+use Rattle.auth_store_parts.specs.History.{History}
+use Rattle.auth_store_client.specs.States.{root_of_history}
 use Rattle.auth_store_ledger.specs.declared.error.Unprovable.{Unprovable as NoProof}
-use Rattle.auth_store_client.specs.Laws.Fields.{HasWord, own_commit}
-use Rattle.auth_store_session.specs.Machine.{Machine, Power, State, closed, live, failed, doubtful, Request, ask_open, ask_commit, ask_get, ask_root, ask_commits, ask_floor, ask_len, ask_prune, ask_proof, ask_close, ask_crash, ask_config, ask_cut, Answer, Proved, proof_of, told_proof, opened, committed, value, root_is, commits_are, floor_is, len_is, pruned_to, proof, has_closed, has_crashed, is_set, refused, not_open, still_open, IsStep, IsRun, IsShownOf, commit_of}
-use Rattle.auth_store_run.specs.Roots.{IsAskedOf, IsRootOfSound, IsSoundState, IsWordOf, TellsRootOfSound}
+use Rattle.auth_store_log.specs.Records.{Format}
+use Rattle.auth_store_session.specs.Machine.{Machine, Power, State, closed, live, failed, doubtful, Request, ask_open, ask_commit, ask_get, ask_root, ask_commits, ask_floor, ask_len, ask_prune, ask_proof, ask_close, ask_crash, ask_config, ask_cut, Answer, Proved, proof_of, told_proof, opened, committed, value, root_is, commits_are, floor_is, len_is, pruned_to, has_closed, has_crashed, is_set, refused, not_open, still_open, IsStep, IsRunSeen, commit_of}
+use Rattle.auth_store_session.specs.Sound.{IsSoundIn, IsSoundState, HasSoundStates, TellsRootOf, TellsRoots}
 
-module _ (m : Machine) (IsKey IsValue : List ℕ → Type 0) where
-  same_words : (words : List Word) → AllByRecursion (IsWordOf IsKey IsValue) words → AllByRecursion (HasWord IsKey IsValue) words
-  same_words [] said = tt
-  same_words (batch.put k v ∷ words) said = (said.0, same_words words said.1)
-  same_words (batch.delete k ∷ words) said = (said.0, same_words words said.1)
-
-  -- with the commit of a batch of some keys and values a sound history is sound
-  sound_after : (history : History) (words : List Word) (metadata : Option (List ℕ)) → IsSound IsKey IsValue history
-      → AllByRecursion (IsWordOf IsKey IsValue) words → IfSome metadata IsValue
-      → length (log_of (commit_of words metadata history ∷ history)) ≤ 2 ^ 62
-      → IsSound IsKey IsValue (commit_of words metadata history ∷ history)
-  sound_after history words metadata sound said noted few = record {
-    states = (IsState-map_after words (latest_map history) (IsState-latest_map history sound.states), sound.states);
-    fields = (own_commit IsKey IsValue words metadata history (same_words words said) noted sound.fields, sound.fields);
-    few = few;
-  }
-
-  -- what is left and what is told
-  abbrev Leaves : Answer → State → Type 0
-  Leaves answer next = TellsRootOfSound m IsKey IsValue answer × IsSoundState IsKey IsValue next
+module _ (m : Machine) (format : Format) where
+  -- where the state after it is sound, an answer tells a root so
+  abbrev Tells : Answer → State → Type 0
+  Tells answer next = IsSoundState format next → TellsRootOf m format answer next
 
   -- an answer that tells no root
-  plain : (answer told : Answer) (next now : State) → answer ≡ told → TellsRootOfSound m IsKey IsValue told → next ≡ now
-      → IsSoundState IsKey IsValue now → Leaves answer next
-  plain answer told next now is tells same sound =
-      (subst (TellsRootOfSound m IsKey IsValue) (sym is) tells, subst (IsSoundState IsKey IsValue) (sym same) sound)
+  no : (said answer : Answer) (next : State) → answer ≡ said → TellsRootOf m format said next → Tells answer next
+  no said answer next is tells sound = subst (λ a. TellsRootOf m format a next) (sym is) tells
 
-  shown : (history now : History) (pending : Option Commit) → IsSoundState IsKey IsValue (closed history pending)
-      → IsShownOf history pending now → IsSound IsKey IsValue now
-  shown history now None sound is = subst (IsSound IsKey IsValue) (sym is) sound
-  shown history now (Some commit) sound is = ⊎_elim
-      (λ without. subst (IsSound IsKey IsValue) (sym without) sound.0)
-      (λ with. subst (IsSound IsKey IsValue) (sym with) sound.1)
-      is
+  no_root : (found : Result Proved NoProof) (next : State) → TellsRootOf m format (told_proof found) next
+  no_root (Ok proved) next = tt
+  no_root (Err why) next = tt
 
-  no_root : (found : Result Proved NoProof) → TellsRootOfSound m IsKey IsValue (told_proof found)
-  no_root (Ok proved) = tt
-  no_root (Err why) = tt
+  -- one that tells the root of the history of an open store
+  told : (answer said : Answer) (next : State) (history : History) (pruned : ℕ) → answer ≡ said
+      → (said ≡ committed (root_of_history m.setting m.key_size m.value_size history))
+      ⊎ (said ≡ root_is (root_of_history m.setting m.key_size m.value_size history))
+      → next ≡ live history pruned → Tells answer next
+  told answer said next history pruned is which stands sound =
+      let here : IsSoundIn format history = subst (IsSoundState format) stands sound in
+      subst (λ s. TellsRootOf m format answer s) (sym stands)
+      (subst (λ a. TellsRootOf m format a (live history pruned)) (sym is)
+      (⊎_elim
+      (λ commits. subst (λ a. TellsRootOf m format a (live history pruned)) (sym commits) (refl, here))
+      (λ root. subst (λ a. TellsRootOf m format a (live history pruned)) (sym root) (refl, here))
+      which))
 
-  step_leaves : (before after : Power) (state : State) (request : Request) (answer : Answer) (next : State)
-      → IsSoundState IsKey IsValue state → IsAskedOf IsKey IsValue request → IsStep m before after state request answer next
-      → Leaves answer next
-  step_leaves before after (doubtful history) request answer next sound asked step = absurd sound
-  step_leaves before after (closed history pending) ask_open answer next sound asked step = ⊎_elim
-      (λ opens. let (now, is, same) = opens.2 in
-      plain answer opened next (live now 0) opens.0 tt same (shown history now pending sound is))
-      (λ refuses. plain answer (refused refuses.0) next (closed history pending) refuses.1 tt refuses.2 sound)
+  step_tells : (before after : Power) (state : State) (request : Request) (answer : Answer) (next : State)
+      → IsStep m before after state request answer next → Tells answer next
+  step_tells before after (closed history pending) ask_open answer next step = ⊎_elim
+      (λ opens. no opened answer next opens.0 tt)
+      (λ refuses. no (refused refuses.0) answer next refuses.1 tt)
       step
-  step_leaves before after (closed history pending) ask_crash answer next sound asked step =
-      plain answer has_crashed next (closed history pending) step.0 tt step.1 sound
-  step_leaves before after (closed history pending) ask_config answer next sound asked step =
-      plain answer is_set next (closed history pending) step.0 tt step.1 sound
-  step_leaves before after (closed history pending) (ask_cut calls) answer next sound asked step =
-      plain answer is_set next (closed history pending) step.0 tt step.1 sound
-  step_leaves before after (closed history pending) ask_close answer next sound asked step =
-      plain answer not_open next (closed history pending) step.0 tt step.1 sound
-  step_leaves before after (closed history pending) (ask_commit words metadata) answer next sound asked step =
-      plain answer not_open next (closed history pending) step.0 tt step.1 sound
-  step_leaves before after (closed history pending) (ask_get key) answer next sound asked step =
-      plain answer not_open next (closed history pending) step.0 tt step.1 sound
-  step_leaves before after (closed history pending) (ask_proof question) answer next sound asked step =
-      plain answer not_open next (closed history pending) step.0 tt step.1 sound
-  step_leaves before after (closed history pending) ask_root answer next sound asked step =
-      plain answer not_open next (closed history pending) step.0 tt step.1 sound
-  step_leaves before after (closed history pending) ask_commits answer next sound asked step =
-      plain answer not_open next (closed history pending) step.0 tt step.1 sound
-  step_leaves before after (closed history pending) ask_floor answer next sound asked step =
-      plain answer not_open next (closed history pending) step.0 tt step.1 sound
-  step_leaves before after (closed history pending) ask_len answer next sound asked step =
-      plain answer not_open next (closed history pending) step.0 tt step.1 sound
-  step_leaves before after (closed history pending) (ask_prune location) answer next sound asked step =
-      plain answer not_open next (closed history pending) step.0 tt step.1 sound
-  step_leaves before after (live history pruned) ask_open answer next sound asked step =
-      plain answer still_open next (live history pruned) step.0 tt step.1 sound
-  step_leaves before after (live history pruned) ask_crash answer next sound asked step =
-      plain answer still_open next (live history pruned) step.0 tt step.1 sound
-  step_leaves before after (live history pruned) ask_config answer next sound asked step =
-      plain answer is_set next (live history pruned) step.0 tt step.1 sound
-  step_leaves before after (live history pruned) (ask_cut calls) answer next sound asked step =
-      plain answer is_set next (live history pruned) step.0 tt step.1 sound
-  step_leaves before after (live history pruned) ask_close answer next sound asked step =
-      plain answer has_closed next (closed history None) step.0 tt step.1 sound
-  step_leaves before after (live history pruned) (ask_commit words metadata) answer next sound asked step = ⊎_elim
-      (λ commits. let later = sound_after history words metadata sound asked.0 asked.1 commits.2 in
-      plain answer (committed _) next (live (commit_of words metadata history ∷ history) pruned) commits.0
-      (commit_of words metadata history ∷ history, refl, later) commits.1 later)
-      (λ refuses. ⊎_elim
-      (λ is. plain answer (refused refuses.0) next (live history pruned) refuses.1 tt is sound)
-      (λ is. plain answer (refused refuses.0) next (failed history (commit_of words metadata history)) refuses.1 tt is.0
-      (sound, sound_after history words metadata sound asked.0 asked.1 is.1))
-      refuses.3)
+  step_tells before after (doubtful history) ask_open answer next step = ⊎_elim
+      (λ opens. no opened answer next opens.0 tt)
+      (λ refuses. no (refused refuses.0) answer next refuses.1 tt)
       step
-  step_leaves before after (live history pruned) (ask_get key) answer next sound asked step = ⊎_elim
-      (λ said. plain answer (value _) next (live history pruned) said tt step.0 sound)
-      (λ refuses. plain answer (refused refuses.0) next (live history pruned) refuses.1 tt step.0 sound)
+  step_tells before after (closed history pending) ask_crash answer next step = no has_crashed answer next step.0 tt
+  step_tells before after (closed history pending) ask_config answer next step = no is_set answer next step.0 tt
+  step_tells before after (closed history pending) (ask_cut calls) answer next step = no is_set answer next step.0 tt
+  step_tells before after (closed history pending) ask_close answer next step = no not_open answer next step.0 tt
+  step_tells before after (closed history pending) (ask_commit words metadata) answer next step = no not_open answer next step.0 tt
+  step_tells before after (closed history pending) (ask_get key) answer next step = no not_open answer next step.0 tt
+  step_tells before after (closed history pending) (ask_proof question) answer next step = no not_open answer next step.0 tt
+  step_tells before after (closed history pending) ask_root answer next step = no not_open answer next step.0 tt
+  step_tells before after (closed history pending) ask_commits answer next step = no not_open answer next step.0 tt
+  step_tells before after (closed history pending) ask_floor answer next step = no not_open answer next step.0 tt
+  step_tells before after (closed history pending) ask_len answer next step = no not_open answer next step.0 tt
+  step_tells before after (closed history pending) (ask_prune location) answer next step = no not_open answer next step.0 tt
+  step_tells before after (doubtful history) ask_crash answer next step = no has_crashed answer next step.0 tt
+  step_tells before after (doubtful history) ask_config answer next step = no is_set answer next step.0 tt
+  step_tells before after (doubtful history) (ask_cut calls) answer next step = no is_set answer next step.0 tt
+  step_tells before after (doubtful history) ask_close answer next step = no not_open answer next step.0 tt
+  step_tells before after (doubtful history) (ask_commit words metadata) answer next step = no not_open answer next step.0 tt
+  step_tells before after (doubtful history) (ask_get key) answer next step = no not_open answer next step.0 tt
+  step_tells before after (doubtful history) (ask_proof question) answer next step = no not_open answer next step.0 tt
+  step_tells before after (doubtful history) ask_root answer next step = no not_open answer next step.0 tt
+  step_tells before after (doubtful history) ask_commits answer next step = no not_open answer next step.0 tt
+  step_tells before after (doubtful history) ask_floor answer next step = no not_open answer next step.0 tt
+  step_tells before after (doubtful history) ask_len answer next step = no not_open answer next step.0 tt
+  step_tells before after (doubtful history) (ask_prune location) answer next step = no not_open answer next step.0 tt
+  step_tells before after (live history pruned) ask_open answer next step = no still_open answer next step.0 tt
+  step_tells before after (live history pruned) ask_crash answer next step = no still_open answer next step.0 tt
+  step_tells before after (live history pruned) ask_config answer next step = no is_set answer next step.0 tt
+  step_tells before after (live history pruned) (ask_cut calls) answer next step = no is_set answer next step.0 tt
+  step_tells before after (live history pruned) ask_close answer next step = no has_closed answer next step.0 tt
+  step_tells before after (live history pruned) (ask_commit words metadata) answer next step = ⊎_elim
+      (λ commits. told answer _ next (commit_of words metadata history ∷ history) pruned commits.0 (inl refl) commits.1)
+      (λ refuses. no (refused refuses.0) answer next refuses.1 tt)
+      step
+  step_tells before after (live history pruned) (ask_get key) answer next step = ⊎_elim
+      (λ said. no (value _) answer next said tt)
+      (λ refuses. no (refused refuses.0) answer next refuses.1 tt)
       step.1
-  step_leaves before after (live history pruned) (ask_proof question) answer next sound asked step = ⊎_elim
-      (λ said. plain answer (told_proof (proof_of m history pruned question)) next (live history pruned) said
-      (no_root (proof_of m history pruned question)) step.0 sound)
-      (λ lacks. plain answer (refused _) next (live history pruned) lacks tt step.0 sound)
+  step_tells before after (live history pruned) (ask_proof question) answer next step = ⊎_elim
+      (λ said. no (told_proof (proof_of m history pruned question)) answer next said
+      (no_root (proof_of m history pruned question) next))
+      (λ lacks. no (refused _) answer next lacks tt)
       step.1
-  step_leaves before after (live history pruned) ask_root answer next sound asked step =
-      plain answer (root_is _) next (live history pruned) step.0 (history, refl, sound) step.1 sound
-  step_leaves before after (live history pruned) ask_commits answer next sound asked step =
-      plain answer (commits_are _) next (live history pruned) step.0 tt step.1 sound
-  step_leaves before after (live history pruned) ask_floor answer next sound asked step =
-      plain answer (floor_is _) next (live history pruned) step.0 tt step.1 sound
-  step_leaves before after (live history pruned) ask_len answer next sound asked step =
-      plain answer (len_is _) next (live history pruned) step.0 tt step.1 sound
-  step_leaves before after (live history pruned) (ask_prune location) answer next sound asked step = ⊎_elim
-      (λ done. plain answer (pruned_to _) next (live history done.0) done.1 tt done.2 sound)
-      (λ past. plain answer (refused _) next (live history pruned) past.0 tt past.1 sound)
+  step_tells before after (live history pruned) ask_root answer next step =
+      told answer _ next history pruned step.0 (inr refl) step.1
+  step_tells before after (live history pruned) ask_commits answer next step = no (commits_are _) answer next step.0 tt
+  step_tells before after (live history pruned) ask_floor answer next step = no (floor_is _) answer next step.0 tt
+  step_tells before after (live history pruned) ask_len answer next step = no (len_is _) answer next step.0 tt
+  step_tells before after (live history pruned) (ask_prune location) answer next step = ⊎_elim
+      (λ done. no (pruned_to _) answer next done.1 tt)
+      (λ past. no (refused _) answer next past.0 tt)
       step.0
-  step_leaves before after (failed history commit) ask_open answer next sound asked step =
-      plain answer still_open next (failed history commit) step.0 tt step.1 sound
-  step_leaves before after (failed history commit) ask_crash answer next sound asked step =
-      plain answer still_open next (failed history commit) step.0 tt step.1 sound
-  step_leaves before after (failed history commit) ask_config answer next sound asked step =
-      plain answer is_set next (failed history commit) step.0 tt step.1 sound
-  step_leaves before after (failed history commit) (ask_cut calls) answer next sound asked step =
-      plain answer is_set next (failed history commit) step.0 tt step.1 sound
-  step_leaves before after (failed history commit) ask_close answer next sound asked step =
-      plain answer has_closed next (closed history (Some commit)) step.0 tt step.1 sound
-  step_leaves before after (failed history commit) (ask_commit words metadata) answer next sound asked step =
-      plain answer (refused _) next (failed history commit) step.0 tt step.1 sound
-  step_leaves before after (failed history commit) (ask_get key) answer next sound asked step =
-      plain answer (refused _) next (failed history commit) step.0 tt step.1 sound
-  step_leaves before after (failed history commit) (ask_proof question) answer next sound asked step =
-      plain answer (refused _) next (failed history commit) step.0 tt step.1 sound
-  step_leaves before after (failed history commit) ask_root answer next sound asked step =
-      plain answer (refused _) next (failed history commit) step.0 tt step.1 sound
-  step_leaves before after (failed history commit) ask_commits answer next sound asked step =
-      plain answer (refused _) next (failed history commit) step.0 tt step.1 sound
-  step_leaves before after (failed history commit) ask_floor answer next sound asked step =
-      plain answer (refused _) next (failed history commit) step.0 tt step.1 sound
-  step_leaves before after (failed history commit) ask_len answer next sound asked step =
-      plain answer (refused _) next (failed history commit) step.0 tt step.1 sound
-  step_leaves before after (failed history commit) (ask_prune location) answer next sound asked step =
-      plain answer (refused _) next (failed history commit) step.0 tt step.1 sound
+  step_tells before after (failed history commit) ask_open answer next step = no still_open answer next step.0 tt
+  step_tells before after (failed history commit) ask_crash answer next step = no still_open answer next step.0 tt
+  step_tells before after (failed history commit) ask_config answer next step = no is_set answer next step.0 tt
+  step_tells before after (failed history commit) (ask_cut calls) answer next step = no is_set answer next step.0 tt
+  step_tells before after (failed history commit) ask_close answer next step = no has_closed answer next step.0 tt
+  step_tells before after (failed history commit) (ask_commit words metadata) answer next step = no (refused _) answer next step.0 tt
+  step_tells before after (failed history commit) (ask_get key) answer next step = no (refused _) answer next step.0 tt
+  step_tells before after (failed history commit) (ask_proof question) answer next step = no (refused _) answer next step.0 tt
+  step_tells before after (failed history commit) ask_root answer next step = no (refused _) answer next step.0 tt
+  step_tells before after (failed history commit) ask_commits answer next step = no (refused _) answer next step.0 tt
+  step_tells before after (failed history commit) ask_floor answer next step = no (refused _) answer next step.0 tt
+  step_tells before after (failed history commit) ask_len answer next step = no (refused _) answer next step.0 tt
+  step_tells before after (failed history commit) (ask_prune location) answer next step = no (refused _) answer next step.0 tt
 
-  -- a run
-  pub run_tells : (before : Power) (first : State) (requests : List Request) (answers : List Answer) (after : Power) (last : State)
-      → IsSoundState IsKey IsValue first → AllByRecursion (IsAskedOf IsKey IsValue) requests
-      → IsRun m before first requests answers after last
-      → AllByRecursion (TellsRootOfSound m IsKey IsValue) answers × IsSoundState IsKey IsValue last
-  run_tells before first [] [] after last sound asked ran = (tt, subst (IsSoundState IsKey IsValue) (sym ran.1) sound)
-  run_tells before first (request ∷ requests) (answer ∷ answers) after last sound asked ran =
-      let one = step_leaves before ran.0 first request answer ran.1 sound asked.0 ran.2 in
-      let rest = run_tells ran.0 ran.1 requests answers after last one.1 asked.1 ran.4 in ((one.0, rest.0), rest.1)
-  run_tells before first [] (answer ∷ answers) after last sound asked ran = absurd ran
-  run_tells before first (request ∷ requests) [] after last sound asked ran = absurd ran
+-- the first state of a run of sound states is sound
+first_sound : (format : Format) (see : State → State) (m : Machine) (before : Power) (first : State) (requests : List Request)
+    (answers : List Answer) (after : Power) (last : State) (ran : IsRunSeen see m before first requests answers after last)
+    → HasSoundStates format see m before first requests answers after last ran → IsSoundState format first
+first_sound format see m before first [] [] after last ran sound = sound
+first_sound format see m before first (request ∷ requests) (answer ∷ answers) after last ran sound = sound.0
+first_sound format see m before first [] (answer ∷ answers) after last ran sound = absurd ran
+first_sound format see m before first (request ∷ requests) [] after last ran sound = absurd ran
+
+-- a run
+pub run_tells : (format : Format) (see : State → State) (m : Machine) (before : Power) (first : State) (requests : List Request)
+    (answers : List Answer) (after : Power) (last : State) (ran : IsRunSeen see m before first requests answers after last)
+    → HasSoundStates format see m before first requests answers after last ran
+    → TellsRoots format see m before first requests answers after last ran
+run_tells format see m before first [] [] after last ran sound = tt
+run_tells format see m before first (request ∷ requests) (answer ∷ answers) after last ran sound = (
+  step_tells m format before ran.0 (see first) request answer ran.1 ran.2
+      (first_sound format see m ran.0 ran.1 requests answers after last ran.4 sound.1),
+  run_tells format see m ran.0 ran.1 requests answers after last ran.4 sound.1,
+)
+run_tells format see m before first [] (answer ∷ answers) after last ran sound = absurd ran
+run_tells format see m before first (request ∷ requests) [] after last ran sound = absurd ran

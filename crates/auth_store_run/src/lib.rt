@@ -84,8 +84,10 @@ where
         ≡ config_after_all steps.items (config_in session.old.parts session.old.store) }
 {
     let mut steps = steps.into_iter();
+    session.stands_for_sound_histories();
     while let Some(step) = steps.next() {
         note(answers, session.step(step));
+        session.stands_for_sound_histories();
     }
 }
 
@@ -165,8 +167,10 @@ where
 ///
 /// Where no opening in the device's record is by chance, the answers are a run of the machine, from each state for
 /// which device and cache stood, and these stand for its last state at rest; by chance or not there is an answer for
-/// each step, of its kind, and what was acknowledged begins the log of every later history. A device of which nothing
-/// was called yet stands for the empty history, for every seed (`laws::a_new_device_stands_for_the_empty_history`).
+/// each step, of its kind, and what was acknowledged begins the log of every later history; and each history of the run
+/// is of keys and values, so that a client's yes under any root that is answered is true of it, or strings collide
+/// (`laws`). A device of which nothing was called yet stands for the empty history, for every seed
+/// (`auth_store_session::laws::a_new_device_stands_for_the_empty_history`).
 pub fn run<R, F, H, K, V, const N: usize>(
     alloc: Global,
     device: Device<R>,

@@ -14,7 +14,7 @@ use Rattle.auth_store_device.specs.Settings.{IsNew}
 use Rattle.auth_store_log.specs.Records.{Format, IsRecorded, committed, recovered_log}
 use Rattle.auth_store_log.proofs.Found.{committed_short}
 use Rattle.auth_store_session.specs.Machine.{closed}
-use Rattle.auth_store_session.specs.Stores.{IsWritten, Shows}
+use Rattle.auth_store_session.specs.Stores.{IsWritten, OpeningsShow}
 use Rattle.auth_store_session.specs.Standing.{StandsFor}
 
 -- an operation that has an encoding is recorded
@@ -27,6 +27,7 @@ pub none_written : Recording → (format : Format) → IsWritten format []
 none_written records format = record {
   states = tt;
   recorded = (records format (commit_floor None 0) (tt, omega arith), tt);
+  few = omega arith;
 }
 
 no_bytes : (bytes : List ℕ) → length bytes ≤ 0 → bytes ≡ []
@@ -40,7 +41,7 @@ nothing_recovered format size some =
     ap (committed format) none ∙ sym (committed_short format [] (omega arith))
 
 -- openings show that there is no history yet
-pub nothing_shown : Recording → (format : Format) (size : ℕ) → 0 < size → Shows format size [] None (synced [] true ∷ [])
+pub nothing_shown : Recording → (format : Format) (size : ℕ) → 0 < size → OpeningsShow format size [] None (synced [] true ∷ [])
 nothing_shown records format size some = record {
   written = none_written records format;
   next = tt;
@@ -53,7 +54,7 @@ nothing_shown records format size some = record {
 pub stands_for_none : {R : Type 0} → Recording → (rng : R) (device : DeviceState R) (cache : Cache) (format : Format) → IsNew rng device
     → StandsFor format (Some (device, cache)) None (closed [] None)
 stands_for_none records rng device cache format new = (
-  subst (Shows format (cache.page_size + 12) [] None) (sym new.calls)
+  subst (OpeningsShow format (cache.page_size + 12) [] None) (sym new.calls)
       (nothing_shown records format (cache.page_size + 12) (omega arith)),
   λ there. absurd (let e : false ≡ true = ap has_log (sym new.files) ∙ there in cc),
 )

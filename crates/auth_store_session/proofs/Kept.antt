@@ -17,7 +17,7 @@ use Rattle.auth_store_log.specs.Laws.Shown.{history_more}
 use Rattle.auth_store_log.specs.Laws.Records.{committed_whole, committed_again, committed_begins}
 use Rattle.auth_store_session.specs.Machine.{Begins}
 use Rattle.auth_store_session.specs.Standing.{IsOpenedThrough}
-use Rattle.auth_store_session.specs.Stores.{IsKept, IsWritten}
+use Rattle.auth_store_session.specs.Stores.{OpeningsKeep, IsWritten}
 
 nil_front : (a b : List ℕ) → a ++ b ≡ [] → a ≡ []
 nil_front [] b e = refl
@@ -58,10 +58,10 @@ front_committed format history bytes are front =
 
 -- an opening, at whichever of its calls it is given up, keeps what is kept
 pub opened_keeps : (format : Format) (size : ℕ) (history : History) (old new : List Call) (shown : List ℕ) → IsWritten format history
-    → IsKept format size history old → IsOpenedThrough format size shown old new → IsKept format size history new
+    → OpeningsKeep format size history old → IsOpenedThrough format size shown old new → OpeningsKeep format size history new
 opened_keeps format size [] old new shown written kept through = tt
 opened_keeps format size (commit ∷ history) old new shown written kept (inl same) =
-    subst (IsKept format size (commit ∷ history)) (sym same) kept
+    subst (OpeningsKeep format size (commit ∷ history)) (sym same) kept
 opened_keeps format size (commit ∷ history) old new shown written kept (inr (image, moments)) = λ next is.
     let past = commit ∷ history in
     begins_both (history_bytes format past) (recovered_log format crc32 size shown) (recovered crc32 size next)
@@ -81,7 +81,7 @@ take_none (suc n) = refl
 
 -- what an opening shows goes on behind what is kept
 pub opening_begins : (format : Format) (size : ℕ) (history now : History) (calls : List Call) (shown : List ℕ) → IsWritten format history
-    → IsWritten format now → IsKept format size history calls → IsImage (file_of calls) shown
+    → IsWritten format now → OpeningsKeep format size history calls → IsImage (file_of calls) shown
     → history_bytes format now ≡ begun format (recovered_log format crc32 size shown) → Begins history now
 opening_begins format size [] now calls shown written is kept image bytes = begins_first now
 opening_begins format size (commit ∷ history) now calls shown written is kept image bytes =
@@ -95,12 +95,12 @@ opening_begins format size (commit ∷ history) now calls shown written is kept 
 
 -- what is durable of a log is kept
 pub keeps_history : (format : Format) (size : ℕ) (history : History) (calls : List Call)
-    → Keeps crc32 size (history_bytes format history) (length (history_bytes format history)) calls → IsKept format size history calls
+    → Keeps crc32 size (history_bytes format history) (length (history_bytes format history)) calls → OpeningsKeep format size history calls
 keeps_history format size [] calls keeps = tt
 keeps_history format size (commit ∷ history) calls keeps = λ image is.
     (keeps image is).keeps ∙ take-length (history_bytes format (commit ∷ history))
 
 pub keeps_before : (format : Format) (size : ℕ) (history : History) (calls : List Call) → KeepsLog format crc32 size history calls
-    → IsKept format size history calls
+    → OpeningsKeep format size history calls
 keeps_before format size [] calls keeps = tt
 keeps_before format size (commit ∷ history) calls keeps = keeps

@@ -15,6 +15,7 @@ pub mod Reading
 pub mod Refused
 pub mod Rests
 pub mod Runs
+pub mod Sound
 pub mod Stays
 pub mod Steps
 pub mod Unpruned

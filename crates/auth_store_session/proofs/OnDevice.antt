@@ -14,7 +14,7 @@ use Rattle.paged_blob.specs.Images.{IsImage}
 use Rattle.paged_blob.specs.Moments.{Through}
 use Rattle.paged_blob.specs.Writers.{Keeps, IsWriterOf}
 use Rattle.auth_store_parts.specs.Batch.{Word}
-use Rattle.auth_store_parts.specs.History.{History, AreStates, log_of}
+use Rattle.auth_store_parts.specs.History.{History, log_of}
 use Rattle.auth_store_device.specs.declared.error.OpenError.{OpenError}
 use Rattle.auth_store_device.specs.declared.error.OpenError.TheVariants as openings
 use Rattle.auth_store_device.specs.Devices.{DeviceState, HasEnded, HasNoNumber, calls_left, is_cut, log_fault, failures_of, injected_after, left_after_opening}
@@ -26,7 +26,7 @@ use Rattle.auth_store_session.specs.declared.error.StoreError.{StoreError}
 use Rattle.auth_store_session.specs.declared.error.StoreError.TheVariants.{Fault, PowerCut, NumberEnded, Memory, Corrupt, Failed, PastFloor, Unprovable, Header}
 use Rattle.auth_store_session.specs.Refusals.{of_opening}
 use Rattle.auth_store_session.specs.Machine.{Machine, IsEndingOpening, MayRefuseRead, MayRefuseCommit, PassesLimit, commit_of}
-use Rattle.auth_store_session.specs.Stores.{StoreState, LiveState, IsStore, IsLive, IsLiveAt, IsNoHistory, Shows, IsReadRefusal, IsOpenRefusal, IsCommitRefusal, EndsDisk, EndsOpening}
+use Rattle.auth_store_session.specs.Stores.{StoreState, LiveState, IsStore, IsLive, IsLiveAt, IsNoHistory, OpeningsShow, IsReadRefusal, IsOpenRefusal, IsCommitRefusal, EndsDisk, EndsOpening}
 use Rattle.auth_store_session.proofs.Kept.{keeps_history}
 use Rattle.auth_store_session.specs.Standing.{power_of, shown_of, result_of, Commits, IsOpenError, IsShownThrough}
 use Rattle.auth_store_session.proofs.Grown.{keeps_live}
@@ -156,7 +156,7 @@ module _ {R : Type 0} (m : Machine) (format : Format) (words : List Word) (metad
         (λ e. IsCommitRefusal (failures_of old.device) (failures_of new.device)
         (PassesLimit next ⊎ EndsDisk m.page_size (log_bytes m.key_size m.value_size (log_of next))) e
         × (IsSomeAnd new.live (λ now. now.history ≡ history) ⊎ ((new.live ≡ None) × (length (log_of next) ≤ 2 ^ 62)
-        × Shows format m.page_size history (Some (commit_of words metadata history)) new.device.calls)))
+        × OpeningsShow format m.page_size history (Some (commit_of words metadata history)) new.device.calls)))
 
     commits_of : {D : Type 0} (encoding : D → List ℕ) (result : Result D StoreError) (history : History)
         → (0 < new.device.refused → new.device.left ≡ Some 0) → CommitsHere encoding result history
@@ -199,14 +199,14 @@ pub live_shows : (format : Format) (calls : List Call) (cache : Cache) (now : Li
     → 12 ≤ size → IsWriterOf sum size calls content synced tip slot → Keeps sum size content synced calls)
     → ((format : Format) (sum : List ℕ → ℕ) (size : ℕ) (calls : List Call) (history : History) → AreRecorded format (log_of history)
     → Keeps sum size (history_bytes format history) (length (history_bytes format history)) calls → MayShow format sum size history None calls)
-    → AreStates now.history → IsLive format calls cache now → Shows format (cache.page_size + 12) now.history None calls
-live_shows format calls cache now keeps whole states is =
+    → IsLive format calls cache now → OpeningsShow format (cache.page_size + 12) now.history None calls
+live_shows format calls cache now keeps whole is =
     let durable = keeps_live format calls cache now keeps (omega (arith, is.sized)) is in
     let size = cache.page_size + 12 in
     record {
-      written = record { states = states; recorded = is.recorded };
+      written = is.log;
       next = tt;
-      shown = whole format crc32 size calls now.history is.recorded durable;
+      shown = whole format crc32 size calls now.history is.log.recorded durable;
       kept = keeps_history format size now.history calls durable;
     }
 
@@ -214,11 +214,11 @@ live_shows format calls cache now keeps whole states is =
 pub parts_show : {R : Type 0} (format : Format) (device : DeviceState R) (cache : Cache) (live : Option LiveState) (pruned : ℕ)
     (at : StoreState R) (history : History) → store_of device cache live pruned ≡ at → IsStore format (store_of device cache live pruned)
     → IfSome live (λ now. (calls : List Call) (cache : Cache) → IsLive format calls cache now
-    → Shows format (cache.page_size + 12) now.history None calls)
-    → IsLiveAt at history → Shows format (at.cache.page_size + 12) history None at.device.calls
+    → OpeningsShow format (cache.page_size + 12) now.history None calls)
+    → IsLiveAt at history → OpeningsShow format (at.cache.page_size + 12) history None at.device.calls
 parts_show {R = R} format device cache (Some now) pruned at history view is shown live =
-    subst (λ (s : StoreState R). Shows format (s.cache.page_size + 12) history None s.device.calls) view
-    (subst (λ h. Shows format (cache.page_size + 12) h None device.calls)
+    subst (λ (s : StoreState R). OpeningsShow format (s.cache.page_size + 12) history None s.device.calls) view
+    (subst (λ h. OpeningsShow format (cache.page_size + 12) h None device.calls)
     (one_history device cache (Some now) pruned at now history view refl live) (shown device.calls cache is.live))
 parts_show {R = R} format device cache None pruned at history view is shown (now, stands, same) =
     let all : None ≡ Some now = ap (λ (s : StoreState R). s.live) view ∙ stands in absurd (cc)

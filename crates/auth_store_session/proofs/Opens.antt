@@ -11,7 +11,7 @@ use Rattle.auth_store_parts.specs.History.{History, Commit, AreStates, log_of}
 use Rattle.auth_store_log.specs.Records.{Format, begun, history_bytes, recovered_log, AreRecorded}
 use Rattle.auth_store_log.specs.Shown.{IsShown, MayShow, IsKeptThrough}
 use Rattle.auth_store_session.specs.Machine.{IsShownOf}
-use Rattle.auth_store_session.specs.Stores.{IsWritten, Shows}
+use Rattle.auth_store_session.specs.Stores.{IsWritten, OpeningsShow}
 use Rattle.auth_store_session.specs.Standing.{IsOpenedThrough}
 use Rattle.auth_store_session.proofs.Kept.{begun_same, some_bytes, opened_keeps}
 
@@ -67,16 +67,16 @@ given_up format size history pending log calls shown kept = λ image is chance.
 
 -- what an opening shows, unless by chance
 pub opening_shows : (format : Format) (size : ℕ) (history : History) (pending : Option Commit) (old new : List Call) (shown : List ℕ)
-    → Shows format size history pending old → IsImage (file_of old) shown
+    → OpeningsShow format size history pending old → IsImage (file_of old) shown
     → Through (IsKeptThrough format crc32 size (recovered_log format crc32 size shown)) (opened shown ∷ old) new
     → NoneByChance crc32 size new → IsShown format history pending (recovered_log format crc32 size shown)
 opening_shows format size history pending old new shown shows image moments none = shows.shown shown image (fewer crc32 size moments none).0
 
 -- after an opening that is refused, openings show what they did
 pub still_shows : (format : Format) (size : ℕ) (history : History) (pending : Option Commit) (old new : List Call) (shown : List ℕ)
-    → Shows format size history pending old → IsOpenedThrough format size shown old new → NoneByChance crc32 size new
-    → Shows format size history pending new
-still_shows format size history pending old new shown shows (inl same) none = subst (Shows format size history pending) (sym same) shows
+    → OpeningsShow format size history pending old → IsOpenedThrough format size shown old new → NoneByChance crc32 size new
+    → OpeningsShow format size history pending new
+still_shows format size history pending old new shown shows (inl same) none = subst (OpeningsShow format size history pending) (sym same) shows
 still_shows format size history pending old new shown shows (inr through) none = record {
   written = shows.written;
   next = shows.next;

@@ -1,5 +1,5 @@
 -- What a read of one operation of the log says, and why it is refused.
-use Rattle.std.proofs.Common.{◌≡◌, ◌+◌, ◌-◌, ◌*◌, ◌/◌, ◌<◌, ◌≤◌, ℕ, List, [], ◌∷◌, Option, Some, ap, sym, ◌∙◌, true, length, length-append, arith}
+use Rattle.std.proofs.Common.{◌≡◌, ◌+◌, ◌-◌, ◌*◌, ◌/◌, ◌<◌, ◌≤◌, ℕ, List, Option, Some, ap, sym, ◌∙◌, true, length, arith}
 use Rattle.std.proofs.lemmas.Nat.{le-div, mul-le}
 use Rattle.std.proofs.lemmas.Option.{slice_get_within}
 use Rattle.std.proofs.Math.Nat.{div-mul-le_self}
@@ -13,10 +13,10 @@ use Rattle.paged_blob.specs.Flushes.{physical_size, page_count}
 use Rattle.paged_blob.specs.Writers.{written}
 use Rattle.paged_blob.specs.declared.error.CallKind.TheVariants.{Read}
 use Rattle.paged_blob.specs.declared.error.Error.TheVariants.{Injected, BlobMissing, BlobInsufficientLength, NumberEnded, Memory, PowerCut, ChecksumMismatch}
-use Rattle.state_ops.specs.Operation.{Operation, delete, update, ordered, commit_floor}
+use Rattle.state_ops.specs.Operation.{delete, update, ordered, commit_floor}
 use Rattle.auth_store_parts.specs.History.{log_of}
 use Rattle.auth_store_log.specs.Causes.{IsRecordCause, failures_after_reading}
-use Rattle.auth_store_log.specs.Records.{Format, record_size, record_of, log_bytes, AreRecorded}
+use Rattle.auth_store_log.specs.Records.{Format, record_size}
 use Rattle.auth_store_log.specs.declared.error.LogError.{LogError}
 use Rattle.auth_store_log.specs.declared.error.LogError.TheVariants.{Corrupt, Refused}
 use Rattle.auth_store_ledger.specs.Store.{HasValueAt}
@@ -53,7 +53,7 @@ read_refused T format failures calls cache now index key e is at stands some cau
     by_cases : (e : LogError)
         → IsRecordCause format failures now.writer.page_size now.writer.tip.offset list ((index + 1) * record_size format) e
         → IsReadRefusal failures (failures_after_reading {T = T} (Err e) failures) (of_log e)
-    by_cases Corrupt cause = absurd (cause (log_of now.history) is.recorded (sym is.content))
+    by_cases Corrupt cause = absurd (cause (log_of now.history) is.log.recorded (sym is.content))
     by_cases (Refused (Injected kind)) cause = (
       refused_by (Unit {0}) failures Read reach ⊥ (Injected kind) stands past cause,
       ap (λ k. Some k) cause,
@@ -65,7 +65,7 @@ read_refused T format failures calls cache now index key e is at stands some cau
     by_cases (Refused ChecksumMismatch) cause = absurd cause
     by_cases (Refused BlobInsufficientLength) cause =
         let place = slice_get_within (log_of now.history) index _ at.stands in
-        let long = ap length is.content ∙ log_length format (log_of now.history) is.recorded in
+        let long = ap length is.content ∙ log_length format (log_of now.history) is.log.recorded in
         absurd (omega (
           arith,
           cause,

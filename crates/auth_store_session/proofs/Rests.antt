@@ -16,14 +16,13 @@ use Rattle.auth_store_device.specs.Logs.{HasOwnHeader}
 use Rattle.auth_store_session.specs.declared.error.StoreError.{StoreError}
 use Rattle.auth_store_session.specs.declared.error.StoreError.TheVariants.{Fault, PowerCut, NumberEnded, Memory, Corrupt, Failed, PastFloor, Unprovable, Header}
 use Rattle.auth_store_session.specs.Machine as machine
-use Rattle.auth_store_session.specs.Machine.{Machine, Power, State, closed, live, failed, doubtful, Request, ask_open, Answer, refused, at_rest, IsShownOf, IsStep, IsStepClosed, IsStepInDoubt, IsAnswerTo, IsSaid, is_open_after, MayRefuseOpening}
+use Rattle.auth_store_session.specs.Machine.{Machine, Power, State, closed, live, failed, doubtful, Request, ask_open, Answer, refused, at_rest, IsShownOf, IsStepClosed, IsStepInDoubt, IsAnswerTo, IsSaid, is_open_after, MayRefuseOpening}
 use Rattle.auth_store_session.specs.MachineCode.{request_of, config_after, config_after_all, IsLeftBy}
 use Rattle.auth_store_session.specs.declared.session.Step.{Step}
 use Rattle.auth_store_session.specs.declared.session.Step.TheVariants as steps
-use Rattle.auth_store_session.specs.declared.sizes.Sizes.{Sizes}
 use Rattle.fault_storage_parts.specs.declared.config.Config.{Config}
 use Rattle.auth_store_session.specs.Standing.{StandsFor, Moves, Steps, StepsOpen, SessionState, IsSession, IsAtRest, IsLeftOpen, calls_in, closed_at, page_size_in, IsOpenedThrough, IsShownThrough, IsRecovered, IsOpenError, power_of, shown_of}
-use Rattle.auth_store_session.specs.Stores.{StoreState, IsCache, IsLiveAt, IsNoHistory, IsWritten, IsKept, Shows}
+use Rattle.auth_store_session.specs.Stores.{StoreState, IsCache, IsLiveAt, IsNoHistory, IsWritten, OpeningsKeep, OpeningsShow}
 use Rattle.auth_store_session.proofs.Kept.{begun_same, some_bytes, opened_keeps, opening_begins}
 use Rattle.auth_store_session.proofs.Opens.{fewer, opening_shows, still_shows, grown, behind}
 
@@ -31,7 +30,7 @@ use Rattle.auth_store_session.proofs.Opens.{fewer, opening_shows, still_shows, g
 abbrev pub ShowsWhatStood : Type 0
 ShowsWhatStood =
     (format : Format) (size : ℕ) (history now : History) (pending : Option Commit) (calls : List Call) (shown : List ℕ)
-    → Shows format size history pending calls → IsWritten format now → IsImage (file_of calls) shown
+    → OpeningsShow format size history pending calls → IsWritten format now → IsImage (file_of calls) shown
     → NoneByChance crc32 size (opened shown ∷ calls) → history_bytes format now ≡ begun format (recovered_log format crc32 size shown)
     → IsShownOf history pending now
 
@@ -96,7 +95,7 @@ shown_has format history (Some commit) log written next (inr empty) none =
 
 -- why an opening is refused, where no opening is by chance and the log is the device's own
 refuses_for : {R : Type 0} (m : Machine) (format : Format) (device new : DeviceState R) (cache now : Cache) (history : History)
-    (pending : Option Commit) (e : StoreError) → Shows format m.page_size history pending device.calls
+    (pending : Option Commit) (e : StoreError) → OpeningsShow format m.page_size history pending device.calls
     → HasOwnHeader device.storage.inner → NoneByChance crc32 m.page_size new.calls → IsOpenError m format device cache new now e
     → MayRefuseOpening m (power_of device cache) (power_of new now) e
 refuses_for m format device new cache now history pending Corrupt shows own none cause =
@@ -141,16 +140,16 @@ refused_in m format device new cache now e paged sized moments header cause (clo
         refl,
         refl,
         refuses_for m format device new cache now history pending e
-            (subst (λ s. Shows format s history pending device.calls) (sym paged) stands.0) stands.1
+            (subst (λ s. OpeningsShow format s history pending device.calls) (sym paged) stands.0) stands.1
             (subst (λ s. NoneByChance crc32 s new.calls) (sym paged) at) cause,
       ),
-      (subst (λ s. Shows format (s + 12) history pending new.calls) (sym sized) shows, header stands.1),
+      (subst (λ s. OpeningsShow format (s + 12) history pending new.calls) (sym sized) shows, header stands.1),
     )
 refused_in m format device new cache now e paged sized moments header cause (doubtful history) none stands =
     let kept = opened_keeps format (cache.page_size + 12) history device.calls new.calls (shown_of device) stands.0 stands.1 moments in (
       doubtful history,
       inr (e, refl, refl, doubts_for m format device new cache now e stands.2 cause),
-      (stands.0, subst (λ s. IsKept format (s + 12) history new.calls) (sym sized) kept, header stands.2),
+      (stands.0, subst (λ s. OpeningsKeep format (s + 12) history new.calls) (sym sized) kept, header stands.2),
     )
 refused_in m format device new cache now e paged sized moments header cause (live history pruned) none stands = absurd stands
 refused_in m format device new cache now e paged sized moments header cause (failed history commit) none stands = absurd stands
@@ -166,12 +165,12 @@ pub rests_in : {R : Type 0} (m : Machine) (format : Format) (device new : Device
 rests_in m format device new cache request answer calls header steps doubts (closed history pending) none stands = (
   closed history pending,
   steps history pending,
-  (subst (Shows format (cache.page_size + 12) history pending) (sym calls) stands.0, header stands.1),
+  (subst (OpeningsShow format (cache.page_size + 12) history pending) (sym calls) stands.0, header stands.1),
 )
 rests_in m format device new cache request answer calls header steps doubts (doubtful history) none stands = (
   doubtful history,
   doubts history,
-  (stands.0, subst (IsKept format (cache.page_size + 12) history) (sym calls) stands.1, header stands.2),
+  (stands.0, subst (OpeningsKeep format (cache.page_size + 12) history) (sym calls) stands.1, header stands.2),
 )
 rests_in m format device new cache request answer calls header steps doubts (live history pruned) none stands = absurd stands
 rests_in m format device new cache request answer calls header steps doubts (failed history commit) none stands = absurd stands
@@ -179,13 +178,13 @@ rests_in m format device new cache request answer calls header steps doubts (fai
 -- what a store that is closed stands for
 pub rests_at : {R : Type 0} (format : Format) (store : StoreState R) (device : DeviceState R) (cache : Cache) (state : State)
     → cache ≡ store.cache → device.calls ≡ store.device.calls → HasOwnHeader device.storage.inner
-    → ((history : History) → IsLiveAt store history → Shows format (store.cache.page_size + 12) history None device.calls)
+    → ((history : History) → IsLiveAt store history → OpeningsShow format (store.cache.page_size + 12) history None device.calls)
     → StandsFor format None (Some store) state → StandsFor format (Some (device, cache)) None (at_rest state)
 rests_at format store device cache (live history pruned) is calls header shows stands =
-    (subst (λ c. Shows format (c.page_size + 12) history None device.calls) (sym is) (shows history stands.0), header)
+    (subst (λ c. OpeningsShow format (c.page_size + 12) history None device.calls) (sym is) (shows history stands.0), header)
 rests_at format store device cache (failed history commit) is calls header shows stands = (
-  subst (λ c. Shows format (c.page_size + 12) history (Some commit) device.calls) (sym is)
-      (subst (Shows format (store.cache.page_size + 12) history (Some commit)) (sym calls) stands.1),
+  subst (λ c. OpeningsShow format (c.page_size + 12) history (Some commit) device.calls) (sym is)
+      (subst (OpeningsShow format (store.cache.page_size + 12) history (Some commit)) (sym calls) stands.1),
   header,
 )
 rests_at format store device cache (closed history pending) is calls header shows stands = absurd stands
@@ -194,7 +193,7 @@ rests_at format store device cache (doubtful history) is calls header shows stan
 -- a store that is closed
 pub closes_in : {R : Type 0} (m : Machine) (format : Format) (store : StoreState R) (device : DeviceState R) (cache : Cache)
     → power_of device cache ≡ power_of store.device store.cache → cache ≡ store.cache → device.calls ≡ store.device.calls → HasOwnHeader device.storage.inner
-    → ((history : History) → IsLiveAt store history → Shows format (store.cache.page_size + 12) history None device.calls)
+    → ((history : History) → IsLiveAt store history → OpeningsShow format (store.cache.page_size + 12) history None device.calls)
     → Moves m format (open_at store) machine.ask_close machine.has_closed (closed_at device cache)
 closes_in m format store device cache same is calls header shows (live history pruned) none stands =
     (closed history None, (refl, refl, same), rests_at format store device cache (live history pruned) is calls header shows stands)

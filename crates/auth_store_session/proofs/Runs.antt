@@ -8,46 +8,58 @@ use Rattle.paged_blob.specs.Chance.{NoneByChance}
 use Rattle.paged_blob.specs.Moments.{Grows, here}
 use Rattle.auth_store_device.specs.Devices.{DeviceState}
 use Rattle.auth_store_log.specs.Records.{Format}
-use Rattle.auth_store_session.specs.Machine.{Machine, Power, State, closed, live, failed, doubtful, Request, Answer, IsStep, IsRun, IsRunInDoubt, IsAnswerTo, AreAnswersTo, is_open_after, Passes, at_rest, in_doubt}
+use Rattle.auth_store_session.specs.Machine.{Machine, Power, State, closed, live, failed, doubtful, Request, Answer, IsStep, IsRunSeen, IsAnswerTo, AreAnswersTo, is_open_after, Passes, as_it_is, at_rest, in_doubt}
+use Rattle.auth_store_session.specs.Sound.{IsSoundState, HasSoundStates, IsSoundRun}
 use Rattle.auth_store_session.specs.Standing.{SessionState, StandsFor, IsSure, Steps, Runs, RunsInDoubt, RunsToRest, RunsToRestInDoubt, RunsWhole, calls_in, closed_at, page_size_in, power_in, power_of}
 use Rattle.auth_store_session.specs.Stores.{StoreState}
 use Rattle.auth_store_session.proofs.Opens.{fewer, grows_on}
 
-pub one_more : (m : Machine) (before : Power) (first : State) (requests : List Request) (answers : List Answer)
+-- one step more
+pub one_more : (see : State → State) (m : Machine) (before : Power) (first : State) (requests : List Request) (answers : List Answer)
     (at : Power) (now : State) (request : Request) (answer : Answer) (after : Power) (next : State)
-    → IsRun m before first requests answers at now → IsStep m at after now request answer next → Passes request answer at after
-    → IsRun m before first (requests ++ request ∷ []) (answers ++ answer ∷ []) after next
-one_more m before first [] [] at now request answer after next ran step passes = (
-  after,
-  next,
-  subst (λ s. IsStep m before after s request answer next) ran.1
-      (subst (λ p. IsStep m p after now request answer next) ran.0 step),
-  subst (λ p. Passes request answer p after) ran.0 passes,
-  (refl, refl),
-)
-one_more m before first (r ∷ requests) (a ∷ answers) at now request answer after next ran step passes =
-    (ran.0, ran.1, ran.2, ran.3, one_more m ran.0 ran.1 requests answers at now request answer after next ran.4 step passes)
-one_more m before first [] (a ∷ answers) at now request answer after next ran step passes = absurd ran
-one_more m before first (r ∷ requests) [] at now request answer after next ran step passes = absurd ran
-
--- so in doubt
-pub one_more_in_doubt : (m : Machine) (before : Power) (first : State) (requests : List Request) (answers : List Answer)
-    (at : Power) (now : State) (request : Request) (answer : Answer) (after : Power) (next : State)
-    → IsRunInDoubt m before first requests answers at now → IsStep m at after (in_doubt now) request answer next
+    → IsRunSeen see m before first requests answers at now → IsStep m at after (see now) request answer next
     → Passes request answer at after
-    → IsRunInDoubt m before first (requests ++ request ∷ []) (answers ++ answer ∷ []) after next
-one_more_in_doubt m before first [] [] at now request answer after next ran step passes = (
+    → IsRunSeen see m before first (requests ++ request ∷ []) (answers ++ answer ∷ []) after next
+one_more see m before first [] [] at now request answer after next ran step passes = (
   after,
   next,
-  subst (λ s. IsStep m before after (in_doubt s) request answer next) ran.1
-      (subst (λ p. IsStep m p after (in_doubt now) request answer next) ran.0 step),
+  subst (λ s. IsStep m before after (see s) request answer next) ran.1
+      (subst (λ p. IsStep m p after (see now) request answer next) ran.0 step),
   subst (λ p. Passes request answer p after) ran.0 passes,
   (refl, refl),
 )
-one_more_in_doubt m before first (r ∷ requests) (a ∷ answers) at now request answer after next ran step passes =
-    (ran.0, ran.1, ran.2, ran.3, one_more_in_doubt m ran.0 ran.1 requests answers at now request answer after next ran.4 step passes)
-one_more_in_doubt m before first [] (a ∷ answers) at now request answer after next ran step passes = absurd ran
-one_more_in_doubt m before first (r ∷ requests) [] at now request answer after next ran step passes = absurd ran
+one_more see m before first (r ∷ requests) (a ∷ answers) at now request answer after next ran step passes =
+    (ran.0, ran.1, ran.2, ran.3, one_more see m ran.0 ran.1 requests answers at now request answer after next ran.4 step passes)
+one_more see m before first [] (a ∷ answers) at now request answer after next ran step passes = absurd ran
+one_more see m before first (r ∷ requests) [] at now request answer after next ran step passes = absurd ran
+
+-- and its states are sound
+one_more_sound : (format : Format) (see : State → State) (m : Machine) (before : Power) (first : State) (requests : List Request)
+    (answers : List Answer) (at : Power) (now : State) (request : Request) (answer : Answer) (after : Power) (next : State)
+    (ran : IsRunSeen see m before first requests answers at now) (step : IsStep m at after (see now) request answer next)
+    (passes : Passes request answer at after)
+    → HasSoundStates format see m before first requests answers at now ran → IsSoundState format next
+    → HasSoundStates format see m before first (requests ++ request ∷ []) (answers ++ answer ∷ []) after next
+    (one_more see m before first requests answers at now request answer after next ran step passes)
+unfolding one_more
+one_more_sound format see m before first [] [] at now request answer after next ran step passes sound later = (sound, later)
+one_more_sound format see m before first (r ∷ requests) (a ∷ answers) at now request answer after next ran step passes sound later = (
+  sound.0,
+  one_more_sound format see m ran.0 ran.1 requests answers at now request answer after next ran.4 step passes sound.1 later,
+)
+one_more_sound format see m before first [] (a ∷ answers) at now request answer after next ran step passes sound later = absurd ran
+one_more_sound format see m before first (r ∷ requests) [] at now request answer after next ran step passes sound later = absurd ran
+
+-- so of a run of sound states
+goes_on : (format : Format) (see : State → State) (m : Machine) (before : Power) (first : State) (requests : List Request)
+    (answers : List Answer) (at : Power) (now : State) (request : Request) (answer : Answer) (after : Power) (next : State)
+    → IsSoundRun format see m before first requests answers at now → IsStep m at after (see now) request answer next
+    → Passes request answer at after → IsSoundState format next
+    → IsSoundRun format see m before first (requests ++ request ∷ []) (answers ++ answer ∷ []) after next
+goes_on format see m before first requests answers at now request answer after next (ran, sound) step passes later = (
+  one_more see m before first requests answers at now request answer after next ran step passes,
+  one_more_sound format see m before first requests answers at now request answer after next ran step passes sound later,
+)
 
 -- where no opening is by chance, none is from any state
 sure_of : (size : ℕ) (calls : List Call) (state : State) → NoneByChance crc32 size calls → IsSure size calls state
@@ -74,42 +86,50 @@ stands_in_doubt format None None (closed history pending) stands = absurd stands
 stands_in_doubt format None (Some store) (closed history pending) stands = absurd stands
 stands_in_doubt format (Some parts) (Some store) (closed history pending) stands = absurd stands
 
+-- the states for which a session stands are sound
+abbrev pub AreSound : {R : Type 0} → Format → SessionState R → Type 0
+AreSound format now = (state : State) → StandsFor format now.parts now.store state → IsSoundState format state
+
 -- a run of a session with a step behind it is one
 pub runs_go_on : {R : Type 0} (m : Machine) (format : Format) (first now next : SessionState R) (requests : List Request)
     (answers : List Answer) (request : Request) (answer : Answer) → page_size_in next.parts next.store ≡ page_size_in now.parts now.store
     → Grows (calls_in now.parts now.store) (calls_in next.parts next.store) → Runs m format first requests answers now
-    → Steps m format now request answer next → Runs m format first (requests ++ request ∷ []) (answers ++ answer ∷ []) next
-runs_go_on m format first now next requests answers request answer sized grows runs steps chance state stands =
+    → Steps m format now request answer next → AreSound format next
+    → Runs m format first (requests ++ request ∷ []) (answers ++ answer ∷ []) next
+runs_go_on m format first now next requests answers request answer sized grows runs steps sound chance state stands =
     let at = runs (subst (λ size. NoneByChance crc32 size (calls_in now.parts now.store)) sized
     (fewer crc32 (page_size_in next.parts next.store) grows chance)) state stands in
     let sure = sure_of (page_size_in next.parts next.store) (calls_in next.parts next.store) at.0 chance in
     let step = steps.1 at.0 sure at.2 in (
       step.0,
-      one_more m (power_in first.parts first.store) state requests answers (power_in now.parts now.store) at.0 request answer
-          (power_in next.parts next.store) step.0 at.1 step.1 steps.0,
+      goes_on format as_it_is m (power_in first.parts first.store) state requests answers (power_in now.parts now.store) at.0
+          request answer (power_in next.parts next.store) step.0 at.1 step.1 steps.0 (sound step.0 step.2),
       step.2,
     )
 
 -- no step is a run
-pub runs_none : {R : Type 0} (m : Machine) (format : Format) (first : SessionState R) → Runs m format first [] [] first
-runs_none m format first chance state stands = (state, (refl, refl), stands)
+pub runs_none : {R : Type 0} (m : Machine) (format : Format) (first : SessionState R) → AreSound format first
+    → Runs m format first [] [] first
+runs_none m format first sound chance state stands = (state, ((refl, refl), sound state stands), stands)
 
 -- so in doubt
 pub runs_go_on_in_doubt : {R : Type 0} (m : Machine) (format : Format) (first now next : SessionState R) (requests : List Request)
     (answers : List Answer) (request : Request) (answer : Answer) → RunsInDoubt m format first requests answers now
-    → Steps m format now request answer next → RunsInDoubt m format first (requests ++ request ∷ []) (answers ++ answer ∷ []) next
-runs_go_on_in_doubt m format first now next requests answers request answer runs steps state stands =
+    → Steps m format now request answer next → AreSound format next
+    → RunsInDoubt m format first (requests ++ request ∷ []) (answers ++ answer ∷ []) next
+runs_go_on_in_doubt m format first now next requests answers request answer runs steps sound state stands =
     let at = runs state stands in
     let step = steps.1 (in_doubt at.0) (sure_in_doubt (page_size_in next.parts next.store) (calls_in next.parts next.store) at.0)
     (stands_in_doubt format now.parts now.store at.0 at.2) in (
       step.0,
-      one_more_in_doubt m (power_in first.parts first.store) state requests answers (power_in now.parts now.store) at.0 request answer
-          (power_in next.parts next.store) step.0 at.1 step.1 steps.0,
+      goes_on format in_doubt m (power_in first.parts first.store) state requests answers (power_in now.parts now.store) at.0
+          request answer (power_in next.parts next.store) step.0 at.1 step.1 steps.0 (sound step.0 step.2),
       step.2,
     )
 
-pub runs_none_in_doubt : {R : Type 0} (m : Machine) (format : Format) (first : SessionState R) → RunsInDoubt m format first [] [] first
-runs_none_in_doubt m format first state stands = (state, (refl, refl), stands)
+runs_none_in_doubt : {R : Type 0} (m : Machine) (format : Format) (first : SessionState R) → AreSound format first
+    → RunsInDoubt m format first [] [] first
+runs_none_in_doubt m format first sound state stands = (state, ((refl, refl), sound state stands), stands)
 
 -- whether a store is open after answers
 pub opens : Bool → List Answer → Bool
@@ -146,13 +166,13 @@ pub record Taken {R : Type 0} (m : Machine) (format : Format) (first : SessionSt
   pub grown : Grows (calls_in first.parts first.store) (calls_in now.parts now.store)
 
 pub taken_none : {R : Type 0} (m : Machine) (format : Format) (first : SessionState R) (whole rest : List Request) (given : List Answer)
-    → rest ≡ whole → given ≡ [] → Taken m format first whole rest given first
+    → rest ≡ whole → given ≡ [] → AreSound format first → Taken m format first whole rest given first
 unfolding opens
-taken_none m format first whole rest given is none = record {
+taken_none m format first whole rest given is none sound = record {
   before = [];
   is = is;
-  ran = subst (λ answers. Runs m format first [] answers first) (sym none) (runs_none m format first);
-  ran_in_doubt = subst (λ answers. RunsInDoubt m format first [] answers first) (sym none) (runs_none_in_doubt m format first);
+  ran = subst (λ answers. Runs m format first [] answers first) (sym none) (runs_none m format first sound);
+  ran_in_doubt = subst (λ answers. RunsInDoubt m format first [] answers first) (sym none) (runs_none_in_doubt m format first sound);
   kinds = subst (λ answers. AreAnswersTo (is_some first.store) [] answers) (sym none) tt;
   is_open = subst (λ answers. is_some first.store ≡ opens (is_some first.store) answers) (sym none) refl;
   sized = refl;
@@ -166,9 +186,9 @@ pub taken_next : {R : Type 0} (make : ℕ → Machine) (format : Format) (first 
     → Steps (make (page_size_in now.parts now.store)) format now request answer next
     → IsAnswerTo (is_some now.store) request answer → is_some next.store ≡ is_open_after (is_some now.store) answer
     → Grows (calls_in now.parts now.store) (calls_in next.parts next.store)
-    → page_size_in next.parts next.store ≡ page_size_in now.parts now.store → more ≡ given ++ answer ∷ []
+    → page_size_in next.parts next.store ≡ page_size_in now.parts now.store → more ≡ given ++ answer ∷ [] → AreSound format next
     → Taken (make (page_size_in first.parts first.store)) format first whole rest more next
-taken_next make format first whole left rest given more now next request answer taken is steps kind opens_to grows sized gives =
+taken_next make format first whole left rest given more now next request answer taken is steps kind opens_to grows sized gives sound =
     let m = make (page_size_in first.parts first.store) in
     let was = is_some first.store in
     let step = subst (λ size. Steps (make size) format now request answer next) taken.sized steps in
@@ -177,9 +197,9 @@ taken_next make format first whole left rest given more now next request answer 
       is = append_assoc taken.before (request ∷ []) rest ∙ (ap (λ l. taken.before ++ l) (sym is) ∙ taken.is);
       ran = subst (λ answers. Runs m format first (taken.before ++ request ∷ []) answers next) (sym gives)
           (runs_go_on m format first now next taken.before given request answer sized grows taken.ran
-          step);
+          step sound);
       ran_in_doubt = subst (λ answers. RunsInDoubt m format first (taken.before ++ request ∷ []) answers next) (sym gives)
-          (runs_go_on_in_doubt m format first now next taken.before given request answer taken.ran_in_doubt step);
+          (runs_go_on_in_doubt m format first now next taken.before given request answer taken.ran_in_doubt step sound);
       kinds = subst (λ answers. AreAnswersTo was (taken.before ++ request ∷ []) answers) (sym gives)
           (answers_next was taken.before given request answer taken.kinds
           (subst (λ is_open. IsAnswerTo is_open request answer) taken.is_open kind));
@@ -219,7 +239,7 @@ runs_to_rest m format first now requests answers device cache runs calls paged p
     let ran = runs (subst (λ size. NoneByChance crc32 size (calls_in now.parts now.store)) paged
     (subst (NoneByChance crc32 m.page_size) calls chance)) state stands in (
       ran.0,
-      subst (λ p. IsRun m (power_in first.parts first.store) state requests answers p ran.0) (sym power) ran.1,
+      subst (λ p. IsSoundRun format as_it_is m (power_in first.parts first.store) state requests answers p ran.0) (sym power) ran.1,
       rests ran.0 ran.2,
     )
 
@@ -232,7 +252,7 @@ pub runs_to_rest_in_doubt : {R : Type 0} (m : Machine) (format : Format) (first 
 runs_to_rest_in_doubt m format first now requests answers device cache runs power rests state stands =
     let ran = runs state stands in (
       ran.0,
-      subst (λ p. IsRunInDoubt m (power_in first.parts first.store) state requests answers p ran.0) (sym power) ran.1,
+      subst (λ p. IsSoundRun format in_doubt m (power_in first.parts first.store) state requests answers p ran.0) (sym power) ran.1,
       rests ran.0 ran.2,
     )
 

@@ -18,7 +18,7 @@ use Rattle.auth_store_session.specs.declared.session.Step.TheVariants as steps
 use Rattle.auth_store_session.specs.declared.sizes.Sizes.{Sizes}
 use Rattle.auth_store_session.proofs.Powers.{leaves_none, stays}
 use Rattle.auth_store_session.specs.Standing.{AnswersProof, Commits, IsLeftOpen, StandsFor, MovesOpen, StepsOpen, power_of, result_of}
-use Rattle.auth_store_session.specs.Stores.{StoreState, IsLiveAt, Shows}
+use Rattle.auth_store_session.specs.Stores.{StoreState, IsLiveAt, OpeningsShow}
 
 -- what a failed store answers to a request
 abbrev pub IsRefusedOnceFailed : Request → Type 0
@@ -56,7 +56,7 @@ commits_in m format encoding words metadata old new (Err e) sized kept commits l
     (λ gone. (
       failed history (commit_of words metadata history),
       inr (e, refl, c.0, inr (refl, gone.1)),
-      (gone.0, subst (λ size. Shows format size history (Some (commit_of words metadata history)) new.device.calls) sized gone.2),
+      (gone.0, subst (λ size. OpeningsShow format size history (Some (commit_of words metadata history)) new.device.calls) sized gone.2),
     ))
     c.1
 commits_in m format encoding words metadata old new result sized kept commits lost (failed history commit) stands =
@@ -196,8 +196,8 @@ stays_in m format old new request answer cache alive kept calls steps fails (fai
   fails history commit,
   (
     alive ∙ stands.0,
-    subst (λ c. Shows format (c.page_size + 12) history (Some commit) new.device.calls) (sym cache)
-        (subst (Shows format (old.cache.page_size + 12) history (Some commit)) (sym calls) stands.1),
+    subst (λ c. OpeningsShow format (c.page_size + 12) history (Some commit) new.device.calls) (sym cache)
+        (subst (OpeningsShow format (old.cache.page_size + 12) history (Some commit)) (sym calls) stands.1),
   ),
 )
 stays_in m format old new request answer cache alive kept calls steps fails (closed history pending) stands = absurd stands

@@ -54,6 +54,10 @@ at_rest (live history pruned) = closed history None
 at_rest (failed history commit) = closed history (Some commit)
 at_rest (doubtful history) = doubtful history
 
+-- the state where the next opening is not by chance
+abbrev pub as_it_is : State → State
+as_it_is state = state
+
 -- the state where the next opening may be by chance
 abbrev pub in_doubt : State → State
 in_doubt (closed history pending) = doubtful history
@@ -398,23 +402,23 @@ abbrev pub Passes : Request → Answer → Power → Power → Type 0
 Passes request answer before after =
     Leaves (names_given request) (refusal_in answer) (turned request answer before) after
 
--- A run: an answer for each request, one step after the other; each step meets the power that the one before left.
-abbrev pub IsRun : Machine → Power → State → List Request → List Answer → Power → State → Type 0
-IsRun m before first [] [] after last = (after ≡ before) × (last ≡ first)
-IsRun m before first [] (answer ∷ answers) after last = ⊥
-IsRun m before first (request ∷ requests) [] after last = ⊥
-IsRun m before first (request ∷ requests) (answer ∷ answers) after last =
-    (now : Power) × (next : State) × IsStep m before now first request answer next × Passes request answer before now
-    × IsRun m now next requests answers after last
+-- A run: an answer for each request, one step after the other; each step meets the power that the one before left, and
+-- the state that it left, as that is seen.
+abbrev pub IsRunSeen : (State → State) → Machine → Power → State → List Request → List Answer → Power → State → Type 0
+IsRunSeen see m before first [] [] after last = (after ≡ before) × (last ≡ first)
+IsRunSeen see m before first [] (answer ∷ answers) after last = ⊥
+IsRunSeen see m before first (request ∷ requests) [] after last = ⊥
+IsRunSeen see m before first (request ∷ requests) (answer ∷ answers) after last =
+    (now : Power) × (next : State) × IsStep m before now (see first) request answer next
+    × Passes request answer before now × IsRunSeen see m now next requests answers after last
 
--- A run in which each opening may be by chance.
+-- a run in which no opening is by chance
+abbrev pub IsRun : Machine → Power → State → List Request → List Answer → Power → State → Type 0
+IsRun m before first requests answers after last = IsRunSeen as_it_is m before first requests answers after last
+
+-- a run in which each opening may be
 abbrev pub IsRunInDoubt : Machine → Power → State → List Request → List Answer → Power → State → Type 0
-IsRunInDoubt m before first [] [] after last = (after ≡ before) × (last ≡ first)
-IsRunInDoubt m before first [] (answer ∷ answers) after last = ⊥
-IsRunInDoubt m before first (request ∷ requests) [] after last = ⊥
-IsRunInDoubt m before first (request ∷ requests) (answer ∷ answers) after last =
-    (now : Power) × (next : State) × IsStep m before now (in_doubt first) request answer next
-    × Passes request answer before now × IsRunInDoubt m now next requests answers after last
+IsRunInDoubt m before first requests answers after last = IsRunSeen in_doubt m before first requests answers after last
 
 -- how many answers tell of an injected fault
 abbrev pub faults_told : List Answer → ℕ

@@ -19,9 +19,11 @@ use Rattle.auth_store_ledger.specs.declared.error.Unprovable.{Unprovable}
 use Rattle.auth_store_session.specs.declared.error.StoreError.{StoreError}
 use Rattle.auth_store_session.specs.declared.error.StoreError.TheVariants as refusals
 use Rattle.auth_store_session.specs.Machine.{Machine, Power, State, closed, live, failed, doubtful, Request, ask_open}
-use Rattle.auth_store_session.specs.Machine.{ask_close, Answer, at_rest, Proved, IsStep, IsRun, IsRunInDoubt}
+use Rattle.auth_store_session.specs.Machine.{ask_close, Answer, as_it_is, at_rest, in_doubt, Proved, IsStep}
 use Rattle.auth_store_session.specs.Machine.{AreAnswersTo, Passes, MayRefuseOpening, MayRefuseCommit, commit_of}
-use Rattle.auth_store_session.specs.Stores.{StoreState, IsCache, IsLiveAt, IsNoHistory, IsWritten, IsKept, Shows}
+use Rattle.auth_store_session.specs.Sound.{IsSoundRun}
+use Rattle.auth_store_session.specs.Stores.{StoreState, IsCache, IsLiveAt, IsNoHistory, IsWritten, OpeningsKeep}
+use Rattle.auth_store_session.specs.Stores.{OpeningsShow}
 
 -- a session: the device and the cache while no store is open, or the store
 pub record SessionState (R : Type 0) : Type 0 where
@@ -67,7 +69,7 @@ Commits m format words metadata history old result new =
     × (length (log_of later) ≤ 2 ^ 62) × IsFalse (is_cut old.device.left))
     (λ error. MayRefuseCommit m (power_of old.device old.cache) (power_of new.device new.cache) later error
     × (IsLiveAt new history ⊎ ((new.live ≡ None) × (length (log_of later) ≤ 2 ^ 62)
-    × Shows format m.page_size history (Some (commit_of words metadata history)) new.device.calls)))
+    × OpeningsShow format m.page_size history (Some (commit_of words metadata history)) new.device.calls)))
 
 -- The calls of an opening of these bytes, which an image has, and at each moment after it openings show what is
 -- recovered of them.
@@ -135,13 +137,13 @@ IsSession _ _ = ⊥
 -- it stands for a state
 abbrev pub StandsFor : {R : Type 0} → Format → Option (DeviceState R × Cache) → Option (StoreState R) → State → Type 0
 StandsFor format (Some parts) None (closed history pending) =
-    Shows format (parts.1.page_size + 12) history pending parts.0.calls × HasOwnHeader parts.0.storage.inner
+    OpeningsShow format (parts.1.page_size + 12) history pending parts.0.calls × HasOwnHeader parts.0.storage.inner
 StandsFor format (Some parts) None (doubtful history) =
-    IsWritten format history × IsKept format (parts.1.page_size + 12) history parts.0.calls
+    IsWritten format history × OpeningsKeep format (parts.1.page_size + 12) history parts.0.calls
     × HasOwnHeader parts.0.storage.inner
 StandsFor format None (Some store) (live history pruned) = IsLiveAt store history × (store.pruned ≡ pruned)
 StandsFor format None (Some store) (failed history commit) =
-    (store.live ≡ None) × Shows format (store.cache.page_size + 12) history (Some commit) store.device.calls
+    (store.live ≡ None) × OpeningsShow format (store.cache.page_size + 12) history (Some commit) store.device.calls
 StandsFor format _ _ _ = ⊥
 
 -- From a closed session that is not in doubt, no opening is by chance.
@@ -192,7 +194,8 @@ abbrev pub Runs : {R : Type 0} → Machine → Format → SessionState R → Lis
 Runs m format old requests answers new =
     NoneByChance crc32 (page_size_in new.parts new.store) (calls_in new.parts new.store)
     → (first : State) → StandsFor format old.parts old.store first
-    → (last : State) × IsRun m (power_in old.parts old.store) first requests answers (power_in new.parts new.store) last
+    → (last : State) × IsSoundRun format as_it_is m (power_in old.parts old.store) first requests answers
+    (power_in new.parts new.store) last
     × StandsFor format new.parts new.store last
 
 -- So, in doubt: by chance or not.
@@ -200,18 +203,20 @@ abbrev pub RunsInDoubt : {R : Type 0} → Machine → Format → SessionState R 
     → SessionState R → Type 0
 RunsInDoubt m format old requests answers new =
     (first : State) → StandsFor format old.parts old.store first
-    → (last : State) × IsRunInDoubt m (power_in old.parts old.store) first requests answers
+    → (last : State) × IsSoundRun format in_doubt m (power_in old.parts old.store) first requests answers
     (power_in new.parts new.store) last
     × StandsFor format new.parts new.store last
 
 -- So many steps of a session that is taken apart then, closed: where no opening is by chance they are a run of the
--- machine from each state for which it stood, and device and cache stand for the last one at rest.
+-- machine from each state for which it stood, each history of which is sound, and device and cache stand for the last
+-- one at rest.
 abbrev pub RunsToRest : {R : Type 0} → Machine → Format → SessionState R → List Request → List Answer → DeviceState R
     → Cache → Type 0
 RunsToRest m format old requests answers device cache =
     NoneByChance crc32 m.page_size device.calls
     → (first : State) → StandsFor format old.parts old.store first
-    → (last : State) × IsRun m (power_in old.parts old.store) first requests answers (power_of device cache) last
+    → (last : State) × IsSoundRun format as_it_is m (power_in old.parts old.store) first requests answers
+    (power_of device cache) last
     × StandsFor format (Some (device, cache)) None (at_rest last)
 
 -- So, in doubt: by chance or not.
@@ -220,7 +225,8 @@ abbrev pub RunsToRestInDoubt : {R : Type 0} → Machine → Format → SessionSt
     → Type 0
 RunsToRestInDoubt m format old requests answers device cache =
     (first : State) → StandsFor format old.parts old.store first
-    → (last : State) × IsRunInDoubt m (power_in old.parts old.store) first requests answers (power_of device cache) last
+    → (last : State) × IsSoundRun format in_doubt m (power_in old.parts old.store) first requests answers
+    (power_of device cache) last
     × StandsFor format (Some (device, cache)) None (at_rest last)
 
 -- a closed session over a device and a cache
@@ -236,7 +242,8 @@ RunsWhole m format device cache requests answers new now =
 
 -- All that is promised of a whole run of a session: it is a run of the machine; by chance or not it is one in doubt, in
 -- which what was acknowledged begins the log of each later history, and it has an answer for each request, of its kind;
--- the device's record only grows; and device and cache are left closed, so that another session may be begun with them.
+-- in both each history is sound, so that a client's yes under an answered root is true of it, or strings collide; the
+-- device's record only grows; and device and cache are left closed, so that another session may be begun with them.
 pub record HasRunToRest {R : Type 0} (m : Machine) (format : Format) (old : SessionState R) (requests : List Request)
     (answers : List Answer) (device : DeviceState R) (cache : Cache) : Type 0 where
   pub runs : RunsToRest m format old requests answers device cache

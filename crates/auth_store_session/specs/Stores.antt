@@ -41,6 +41,13 @@ pub record IsCache (cache : Cache) : Type 0 where
   pub size : IsPageSize (cache.page_size + 12)
   pub named : AreNamed cache
 
+-- a history of states whose log is no longer than the greatest, and whose operations are of keys and values and are
+-- read again as they were written
+pub record IsWritten (format : Format) (history : History) : Type 0 where
+  pub states : AreStates history
+  pub recorded : AreRecorded format (log_of history)
+  pub few : length (log_of history) ≤ 2 ^ 62
+
 -- What is written is the log of the history, all of it durable, and the cache has pages of it alone.
 pub record IsLive (format : Format) (calls : List Call) (cache : Cache) (live : LiveState) : Type 0 where
   pub writer : IsWriter crc32 calls live.writer
@@ -49,7 +56,7 @@ pub record IsLive (format : Format) (calls : List Call) (cache : Cache) (live : 
   pub sized : live.writer.page_size ≡ cache.page_size + 12
   pub named : live.writer.blob_id < cache.next_id
   pub cached : HoldsPagesOf (history_bytes format live.history) cache live.writer.blob_id
-  pub recorded : AreRecorded format (log_of live.history)
+  pub log : IsWritten format live.history
 
 -- what is true of each open store
 pub record IsStore {R : Type 0} (format : Format) (state : StoreState R) : Type 0 where
@@ -91,24 +98,19 @@ abbrev pub EndsOpening : ℕ → ℕ × ℕ → ℕ → ℕ → Type 0
 EndsOpening size sizes names length =
     (2 ^ 64 ≤ names + 3) ⊎ (2 ^ 64 ≤ length + 4096) ⊎ (2 ^ 64 ≤ physical_size size (fixed_size sizes.0 sizes.1) + 4096)
 
--- a history of states whose operations are read again as they were written
-pub record IsWritten (format : Format) (history : History) : Type 0 where
-  pub states : AreStates history
-  pub recorded : AreRecorded format (log_of history)
-
 -- By chance or not, what each opening recovers begins with the log of the history, once it has a commit.
-abbrev pub IsKept : Format → ℕ → History → List Call → Type 0
-IsKept format size [] calls = ⊤
-IsKept format size (commit ∷ history) calls = KeepsLog format crc32 size (commit ∷ history) calls
+abbrev pub OpeningsKeep : Format → ℕ → History → List Call → Type 0
+OpeningsKeep format size [] calls = ⊤
+OpeningsKeep format size (commit ∷ history) calls = KeepsLog format crc32 size (commit ∷ history) calls
 
 -- Each opening that is not by chance shows the log of the history, or with the pending commit; and by chance or not,
 -- the history is kept.
-pub record Shows (format : Format) (size : ℕ) (history : History) (pending : Option Commit)
+pub record OpeningsShow (format : Format) (size : ℕ) (history : History) (pending : Option Commit)
     (calls : List Call) : Type 0 where
   pub written : IsWritten format history
   pub next : IfSome pending (λ commit. IsWritten format (commit ∷ history))
   pub shown : MayShow format crc32 size history pending calls
-  pub kept : IsKept format size history calls
+  pub kept : OpeningsKeep format size history calls
 
 -- why an opening may: so, or what it recovered is the log of no history
 abbrev pub IsOpenRefusal : Failures → Failures → Type 0 → Type 0 → StoreError → Type 0

@@ -12,13 +12,13 @@ ghost use Rattle.auth_store_device.specs.Devices.{DeviceState};
 ghost use Rattle.auth_store_device.specs.Settings.{IsNew};
 ghost use Rattle.auth_store_log.specs.Records.{Format, begun, history_bytes, recovered_log};
 ghost use Rattle.auth_store_session.specs.Machine.{Machine, Power, State, Request, Answer, IsShownOf, IsStep, IsRun};
-ghost use Rattle.auth_store_session.specs.Machine.{Passes};
+ghost use Rattle.auth_store_session.specs.Machine.{Passes, IsRunSeen};
 ghost use Rattle.auth_store_session.specs.Machine.{AsksNoPrune, IsBehind, ask_prune, live};
 ghost use Rattle.auth_store_session.specs.Machine.{AskNoCut, TellNoCut, faults_told, AskNoCrash, AcknowledgeNone};
 ghost use Rattle.auth_store_session.specs.Machine.{closed, in_doubt, kept_history, Begins, GoesOn, IsCertain};
 ghost use Rattle.auth_store_session.specs.Machine.{IsRunInDoubt};
 ghost use Rattle.auth_store_session.specs.Standing.{IsOpenedThrough, StandsFor};
-ghost use Rattle.auth_store_session.specs.Stores.{StoreState, IsWritten, Shows};
+ghost use Rattle.auth_store_session.specs.Stores.{StoreState, IsWritten, OpeningsShow};
 
 use auth_store_log::laws::{one_history_a_log, what_is_encoded_is_recorded};
 use rand_core::Rng;
@@ -27,7 +27,7 @@ use rand_core::Rng;
 /// that with the pending commit.
 pub fn an_opening_shows_what_stood()
     ensures { (format : Format) (size : ℕ) (history now : History) (pending : Option Commit) (calls : List Call)
-        (shown : List ℕ) → Shows format size history pending calls → IsWritten format now
+        (shown : List ℕ) → OpeningsShow format size history pending calls → IsWritten format now
         → IsImage (file_of calls) shown → NoneByChance crc32 size (opened shown ∷ calls)
         → history_bytes format now ≡ begun format (recovered_log format crc32 size shown)
         → IsShownOf history pending now }
@@ -38,8 +38,8 @@ pub fn an_opening_shows_what_stood()
 /// An opening that is given up, at whichever of its calls, leaves what openings may show as it was.
 pub fn an_opening_given_up_loses_nothing()
     ensures { (format : Format) (size : ℕ) (history : History) (pending : Option Commit) (old new : List Call)
-        (shown : List ℕ) → Shows format size history pending old → IsOpenedThrough format size shown old new
-        → NoneByChance crc32 size new → Shows format size history pending new }
+        (shown : List ℕ) → OpeningsShow format size history pending old → IsOpenedThrough format size shown old new
+        → NoneByChance crc32 size new → OpeningsShow format size history pending new }
 {}
 
 /// Where none of the openings among more calls is by chance, none is among fewer.
@@ -48,22 +48,14 @@ pub fn chance_is_asked_of_each_opening()
         → NoneByChance crc32 size old }
 {}
 
-/// A run with a step behind it is a run.
+/// A run with a step behind it is a run, whichever of its openings may be by chance.
 pub fn a_run_goes_on()
-    ensures { (m : Machine) (before : Power) (first : State) (requests : List Request) (answers : List Answer)
-        (at : Power) (now : State) (request : Request) (answer : Answer) (after : Power) (next : State)
-        → IsRun m before first requests answers at now → IsStep m at after now request answer next
+    ensures { (see : State → State) (m : Machine) (before : Power) (first : State) (requests : List Request)
+        (answers : List Answer) (at : Power) (now : State) (request : Request) (answer : Answer) (after : Power)
+        (next : State)
+        → IsRunSeen see m before first requests answers at now → IsStep m at after (see now) request answer next
         → Passes request answer at after
-        → IsRun m before first (requests ++ request ∷ []) (answers ++ answer ∷ []) after next }
-{}
-
-/// So of a run in doubt.
-pub fn a_run_in_doubt_goes_on()
-    ensures { (m : Machine) (before : Power) (first : State) (requests : List Request) (answers : List Answer)
-        (at : Power) (now : State) (request : Request) (answer : Answer) (after : Power) (next : State)
-        → IsRunInDoubt m before first requests answers at now → IsStep m at after (in_doubt now) request answer next
-        → Passes request answer at after
-        → IsRunInDoubt m before first (requests ++ request ∷ []) (answers ++ answer ∷ []) after next }
+        → IsRunSeen see m before first (requests ++ request ∷ []) (answers ++ answer ∷ []) after next }
 {}
 
 /// A run tells causes that were there: of injected faults as many answers as faults were injected, and of a cut of the

@@ -14,11 +14,12 @@ ghost use Rattle.auth_store_parts.specs.Batch as words;
 ghost use Rattle.auth_store_parts.specs.History.{latest_map, log_of};
 ghost use Rattle.auth_store_parts.specs.Map.{value_at};
 ghost use Rattle.auth_store_ledger.specs.Store.{IsChunkWidth, commit_after, root_of_history, setting_of_width};
-ghost use Rattle.auth_store_log.specs.Records.{format_of, begun, history_bytes, recovered_log, AreRecorded};
+ghost use Rattle.auth_store_log.specs.Records.{format_of, begun, history_bytes, recovered_log};
 ghost use Rattle.auth_store_log.specs.Shown.{IsKeptThrough};
 ghost use Rattle.auth_store_session.specs.Machine.{commit_of, refusal_of, PassesLimit};
 ghost use Rattle.auth_store_session.specs.Stores.{IsCache, IsLive, IsNoHistory, IsReadRefusal, IsOpenRefusal};
-ghost use Rattle.auth_store_session.specs.Stores.{IsCommitRefusal, Raises, EndsDisk, EndsOpening, Shows};
+ghost use Rattle.auth_store_session.specs.Stores.{IsCommitRefusal, Raises, EndsDisk, EndsOpening, IsWritten};
+ghost use Rattle.auth_store_session.specs.Stores.{OpeningsShow};
 
 use crate::error::StoreError;
 use auth_store_ledger::{Batch, Ledger};
@@ -60,11 +61,12 @@ impl<F: Graftable, H: HashFunction, K: FixedKey, V: FixedValue, const N: usize> 
     /// The law that openings show the history of a live store, while nothing else is called of its blob (own).
     pub(crate) fn is_shown(&self)
         ensures { let format = format_of (K.after tt) (V.after tt) K.SIZE V.SIZE in (calls : List Call) (cache : Cache)
-            → IsLive format calls cache self.now → Shows format (cache.page_size + 12) self.now.history None calls }
+            → IsLive format calls cache self.now
+            → OpeningsShow format (cache.page_size + 12) self.now.history None calls }
     {
         each_image_keeps_what_is_durable();
         a_kept_log_is_shown();
-        self.ledger.holds_a_history();
+        let _ = &self.ledger;
     }
 }
 
@@ -117,6 +119,7 @@ where
     let (writer, bytes) = recover::<F, K, V, B, Crc32>(alloc, blob, cache, blob_size, capacity)?;
     let log = operations_of::<F, K, V>(alloc, &bytes)?;
     let ledger = Ledger::of(alloc, log)?;
+    ledger.holds_a_history();
     Ok(Live { ledger, writer })
 }
 
@@ -143,7 +146,7 @@ where
     requires sized { writer.page_size ≡ cache.old.page_size + 12 }
     requires named { writer.blob_id < cache.old.next_id }
     requires cached { HoldsPagesOf (written crc32 (B.calls blob.old) writer) cache.old writer.blob_id }
-    requires recorded { AreRecorded (format_of (K.after tt) (V.after tt) K.SIZE V.SIZE) (log_of ledger) }
+    requires log { IsWritten (format_of (K.after tt) (V.after tt) K.SIZE V.SIZE) ledger }
     ensures live { IfOk result (IsLive (format_of (K.after tt) (V.after tt) K.SIZE V.SIZE) (B.calls blob.new)
         cache.new) }
     ensures history { IfOk result (λ now. now.history ≡ ledger) }
@@ -201,7 +204,7 @@ where
     ensures failed { let said = words.meanings K.encoding V.encoding batch.words.items in
         let noted = option_map V.encoding metadata in
         IfErr result (λ refused. refused.0 ≡ None → (length (log_of (commit_after said noted ledger)) ≤ 2 ^ 62)
-        × Shows (format_of (K.after tt) (V.after tt) K.SIZE V.SIZE) (cache.old.page_size + 12) ledger
+        × OpeningsShow (format_of (K.after tt) (V.after tt) K.SIZE V.SIZE) (cache.old.page_size + 12) ledger
         (Some (commit_of said noted ledger)) (B.calls blob.new)) }
     ensures refused { let said = words.meanings K.encoding V.encoding batch.words.items in
         let next = commit_after said (option_map V.encoding metadata) ledger in
@@ -220,7 +223,6 @@ where
 {
     each_image_keeps_what_is_durable();
     a_kept_log_is_shown();
-    ledger.holds_a_history();
     let bytes = match ledger.commit(batch, metadata) {
         Ok(bytes) => bytes,
         Err(error) => return Err((Some(Live { ledger, writer }), StoreError::from(error))),
@@ -267,7 +269,7 @@ where
         ⊎ EndsDisk (cache.old.page_size + 12)
         (history_bytes (format_of (K.after tt) (V.after tt) K.SIZE V.SIZE) next)) e
         × (IsSomeAnd store.new (λ now. now.history ≡ was.history) ⊎ ((store.new ≡ None)
-        × (length (log_of next) ≤ 2 ^ 62) × Shows (format_of (K.after tt) (V.after tt) K.SIZE V.SIZE)
+        × (length (log_of next) ≤ 2 ^ 62) × OpeningsShow (format_of (K.after tt) (V.after tt) K.SIZE V.SIZE)
         (cache.old.page_size + 12) was.history (Some (commit_of said noted was.history)) (B.calls blob.new))))) }
     ensures cache { IsCache cache.new }
     ensures page_size { cache.new.page_size ≡ cache.old.page_size }

@@ -19,6 +19,7 @@ ghost use Rattle.auth_store_log.specs.Records.{Format, format_of};
 ghost use Rattle.auth_store_session.specs.Machine.{machine, Machine, State, at_rest, IsAnswerTo, is_open_after};
 ghost use Rattle.auth_store_session.specs.Machine.{ask_open, ask_close};
 ghost use Rattle.auth_store_session.specs.MachineCode.{meaning_of, request_of, config_after, IsLeftBy};
+ghost use Rattle.auth_store_session.specs.Sound.{IsSoundState};
 ghost use Rattle.auth_store_session.specs.Standing.{IsAtRest, IsLeftOpen, StandsFor, Steps, closed_at};
 ghost use Rattle.auth_store_session.specs.declared.sizes.Sizes as buffers;
 ghost use Rattle.auth_store_session.specs.Standing.{calls_in, config_in, left_in, page_size_in, power_in, power_of};
@@ -235,6 +236,17 @@ where
             alloc,
             parts: Some((device, cache)),
             store: None,
+        }
+    }
+
+    /// The law that each history for which a session stands is sound: a client's yes under its root is true of it, or
+    /// strings collide (own).
+    pub fn stands_for_sound_histories(&self)
+        ensures { let format = format_of (K.after tt) (V.after tt) K.SIZE V.SIZE in (state : State)
+            → StandsFor format self.now.parts self.now.store state → IsSoundState format state }
+    {
+        if let Some(store) = &self.store {
+            store.stands_for_sound_histories();
         }
     }
 

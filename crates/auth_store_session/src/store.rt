@@ -16,13 +16,14 @@ ghost use Rattle.auth_store_ledger.specs.ProvingCode.{slice_answer_of};
 ghost use Rattle.auth_store_ledger.specs.Store.{IsChunkWidth, IsPrunedUpTo, floor_of, root_of_history};
 ghost use Rattle.auth_store_ledger.specs.Store.{setting_of_width};
 ghost use Rattle.auth_store_log.specs.Records.{format_of};
-ghost use Rattle.auth_store_session.specs.Machine.{machine, proof_of, refusal_of, Leaves, MayRefuseRead};
+ghost use Rattle.auth_store_session.specs.Machine.{machine, proof_of, refusal_of, Leaves, MayRefuseRead, State};
 ghost use Rattle.auth_store_session.specs.Machine.{of_operation, of_range, of_slice, operation_is, range_is, slice_is};
 ghost use Rattle.auth_store_session.specs.Refusals.{IsOfProof};
+ghost use Rattle.auth_store_session.specs.Sound.{IsSoundState};
 ghost use Rattle.auth_store_session.specs.Standing.{AnswersProof, Commits, IsOpenError, IsOpenedThrough, IsRecovered};
-ghost use Rattle.auth_store_session.specs.Standing.{IsShownThrough};
+ghost use Rattle.auth_store_session.specs.Standing.{IsShownThrough, StandsFor};
 ghost use Rattle.auth_store_session.specs.Standing.{power_of, result_of, shown_of};
-ghost use Rattle.auth_store_session.specs.Stores.{HasBuffer, IsCache, IsLive, IsLiveAt, Shows};
+ghost use Rattle.auth_store_session.specs.Stores.{HasBuffer, IsCache, IsLive, IsLiveAt, OpeningsShow};
 
 use crate::error::StoreError;
 use crate::live::{Live, commit_live, get_live, recover_live};
@@ -127,8 +128,6 @@ where
     device.open_log_has_own_header();
     device.refuses_only_under_a_cut();
     let live = recovered?;
-    live.ledger.holds_a_history();
-    live.ledger.is_recorded();
     Ok(live)
 }
 
@@ -201,6 +200,14 @@ where
                 })
             }
         }
+    }
+
+    /// The law that each history for which an open store stands is sound (own).
+    pub(crate) fn stands_for_sound_histories(&self)
+        ensures { let format = format_of (K.after tt) (V.after tt) K.SIZE V.SIZE in (state : State)
+            → StandsFor format None (Some self.now) state → IsSoundState format state }
+    {
+        let _ = &self.live;
     }
 
     /// Takes a batch with its commit into the history, makes it durable, and answers the new root. S3: a number would
@@ -456,7 +463,7 @@ where
         ensures header { HasOwnHeader result.0.storage.inner }
         ensures shows { let format = format_of (K.after tt) (V.after tt) K.SIZE V.SIZE in
             (history : History) → IsLiveAt self history
-            → Shows format (self.cache.page_size + 12) history None result.0.calls }
+            → OpeningsShow format (self.cache.page_size + 12) history None result.0.calls }
     {
         let Store {
             alloc: _,

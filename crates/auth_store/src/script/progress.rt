@@ -76,7 +76,9 @@ fn ask<F: Named>(session: &mut ScriptSession<F>, step: Step<Keys, u64>) -> Scrip
     ensures { Goes F.family session.old (exchange_of step (meaning_of bytes_of bytes_of value_of result) ∷ [])
         session.new }
 {
-    session.step(step)
+    let answer = session.step(step);
+    session.stands_for_sound_histories();
+    answer
 }
 
 // The proof of a key in an answer, or the other answer.

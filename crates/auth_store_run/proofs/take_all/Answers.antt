@@ -13,7 +13,7 @@ pub loop-step-init : goal.loop-step-init
 loop-step-init g c = (
   λ room. (
     taken_none _ _ _ _ _ _ (ap (requests_of g.K.Write.encoding g.V.Write.encoding) c.into_iter-steps.ensures.rest)
-        (ap (meanings_of g.H.Digest.Write.encoding g.K.Write.encoding g.V.Write.encoding) room.0),
+        (ap (meanings_of g.H.Digest.Write.encoding g.K.Write.encoding g.V.Write.encoding) room.0) c.stands_for_sound_histories.ensures,
     omega (arith, c.into_iter-steps.ensures.len, room.1),
   ),
   ap (λ items. config_after_all items (config_in c.args.session.now.parts c.args.session.now.store)) c.into_iter-steps.ensures.rest,
@@ -31,11 +31,18 @@ loop-step-preserved g c =
                 c.in-Some.ensures.items) c.step.ensures.steps c.step.ensures.kind c.step.ensures.open c.step.ensures.grows
                 c.step.ensures.page_size
                 (ap (meanings_of g.H.Digest.Write.encoding g.K.Write.encoding g.V.Write.encoding) (c.note.ensures.items fits)
-                ∙ map-append (meaning_of g.H.Digest.Write.encoding g.K.Write.encoding g.V.Write.encoding) c.loop-step.answers.items _),
+                ∙ map-append (meaning_of g.H.Digest.Write.encoding g.K.Write.encoding g.V.Write.encoding) c.loop-step.answers.items _)
+                c.stands_for_sound_histories-in-Some.ensures,
             omega (arith, c.in-Some.ensures.len, c.note.ensures.len fits, c.note.ensures.capacity, before.1),
           ),
       config_taken _ _ _ _ _ _ c.in-Some.ensures.items c.step.ensures.settings c.loop-step.invariant.1,
     )
+
+pub stands_for_sound_histories-requires : goal.stands_for_sound_histories-requires
+stands_for_sound_histories-requires g c = assumption c.well_formed
+
+pub stands_for_sound_histories-requires-in-Some : goal.stands_for_sound_histories-requires-in-Some
+stands_for_sound_histories-requires-in-Some g c = assumption c.well_formed
 
 pub step-requires : goal.step-requires
 step-requires g c = assumption c.well_formed

@@ -55,7 +55,7 @@ returns-clause-live g c =
           c.args.ledger) c.append_batch.new.cache id) (sym same.1)
           (subst (λ l. HoldsPagesOf l c.append_batch.new.cache c.args.writer.blob_id) (sym c.requires.grown)
           (c.append_batch.ensures.cached c.requires.cached));
-      recorded = c.requires.recorded;
+      log = c.requires.log;
     }
 
 pub returns-clause-cache : goal.returns-clause-cache

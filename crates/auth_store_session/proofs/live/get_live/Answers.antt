@@ -34,7 +34,7 @@ returns-in-Update-clause-ok g c =
     let is : IsLive format (g.B.Blob.calls c.args.blob.now) c.args.cache.now now =
     subst (IsLive format (g.B.Blob.calls c.args.blob.now) c.args.cache.now) (sym c.live.view_is) c.requires.live in
     let there = c.in-Some.ensures in
-    let same = sym (c.in_ok-operation.ensures.operation (log_of now.history) is.recorded (sym is.content)) ∙ there.stands in
+    let same = sym (c.in_ok-operation.ensures.operation (log_of now.history) is.log.recorded (sym is.content)) ∙ there.stands in
     let said = rw c.in-Update.is at same in
     let value : g.V.Write.encoding c.in-Update.update.value ≡ there.value = same_value (g.K.Write.encoding c.in-Update.update.key)
     (g.V.Write.encoding c.in-Update.update.value) (g.K.Write.encoding c.in-Update.update.next_key) _ there.value there.next said in
@@ -47,7 +47,7 @@ returns-in-Delete-clause-refused g c =
     let now : LiveState = record { history = c.live.inside.ledger; writer = c.live.inside.writer } in
     let is : IsLive format (g.B.Blob.calls c.args.blob.now) c.args.cache.now now =
     subst (IsLive format (g.B.Blob.calls c.args.blob.now) c.args.cache.now) (sym c.live.view_is) c.requires.live in
-    let same = sym (c.in_ok-operation.ensures.operation (log_of now.history) is.recorded (sym is.content)) ∙ c.in-Some.ensures.stands in
+    let same = sym (c.in_ok-operation.ensures.operation (log_of now.history) is.log.recorded (sym is.content)) ∙ c.in-Some.ensures.stands in
     let said = rw c.in-Delete.is at same in
     not_deleted (g.K.Write.encoding c.in-Delete.field-0) _ c.in-Some.ensures.value c.in-Some.ensures.next said
 
@@ -57,7 +57,7 @@ returns-clause-refused g c =
     let now : LiveState = record { history = c.live.inside.ledger; writer = c.live.inside.writer } in
     let is : IsLive format (g.B.Blob.calls c.args.blob.now) c.args.cache.now now =
     subst (IsLive format (g.B.Blob.calls c.args.blob.now) c.args.cache.now) (sym c.live.view_is) c.requires.live in
-    let same = sym (c.in_ok-operation.ensures.operation (log_of now.history) is.recorded (sym is.content)) ∙ c.in-Some.ensures.stands in
+    let same = sym (c.in_ok-operation.ensures.operation (log_of now.history) is.log.recorded (sym is.content)) ∙ c.in-Some.ensures.stands in
     let said = rw c.in-CommitFloor.is at same in
     not_committed _ _ _ c.in-Some.ensures.value c.in-Some.ensures.next said
 

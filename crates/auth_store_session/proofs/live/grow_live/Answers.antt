@@ -1,4 +1,4 @@
-use Rattle.std.proofs.Common.{rules, ◌⊎◌, ◌+◌, ◌≤◌, ◌^◌, Some, ap, sym, subst, inr, List, ℕ, length, length-append, option_map, arith}
+use Rattle.std.proofs.Common.{◌⊎◌, ◌+◌, ◌≤◌, ◌^◌, Some, ap, sym, subst, inr, List, ℕ, length, length-append, option_map, arith}
 use Rattle.fault_storage_parts.specs.Crc32.{crc32}
 use Rattle.paged_blob.specs.Answers.{Failures}
 use Rattle.paged_blob.specs.Calls.{Call}
@@ -47,15 +47,16 @@ returns-clause-failed g c = λ none.
     let calls : List Call = g.B.Blob.calls c.append_live.new.blob in
     let size : ℕ = c.args.cache.now.page_size + 12 in
     let is = c.in-Ok.ensures.ok in
+    let few = subst (λ (h : History). length (log_of h) ≤ 2 ^ 62) is c.in-Ok.ensures.within in
     let recorded = subst (λ (h : History). AreRecorded format (log_of h)) is c.is_recorded.ensures in
     let kept = subst (λ n. Keeps crc32 size (history_bytes format (commit_after said (option_map g.V.Write.encoding c.args.metadata) c.args.ledger)) n calls)
     (ap length c.requires.live.content)
     (subst (λ (h : History). Keeps crc32 size (history_bytes format h)
     (length (written crc32 (g.B.Blob.calls c.args.blob.now) c.args.writer)) calls) is (at_end c.append_live.ensures.any_moment)) in (
-      subst (λ (h : History). length (log_of h) ≤ 2 ^ 62) is c.in-Ok.ensures.within,
+      few,
       record {
-        written = record { states = c.holds_a_history.ensures.states; recorded = c.requires.live.recorded };
-        next = record { states = subst AreStates is c.holds_a_history-2.ensures.states; recorded = recorded };
+        written = c.requires.live.log;
+        next = record { states = subst AreStates is c.holds_a_history.ensures.states; recorded = recorded; few = few };
         shown = c.a_kept_log_is_shown.ensures.pending format crc32 size calls c.args.ledger commit recorded kept;
         kept = keeps_before format size c.args.ledger calls (keeps_log format crc32 size calls c.args.ledger commit kept);
       },
@@ -88,7 +89,7 @@ returns-in-Ok-append_live-clause-powered g c =
     let more = ap (λ (h : History). length (history_bytes format h)) is in
     let bytes = ap length c.in-Ok.ensures.bytes in
     let recorded = subst (λ (h : History). AreRecorded format (log_of h)) is c.is_recorded.ensures in
-    let long = commit_long format c.args.ledger commit c.requires.live.recorded recorded in
+    let long = commit_long format c.args.ledger commit c.requires.live.log.recorded recorded in
     c.in-Ok-append_live.ensures.powered (omega (
       arith,
       more,

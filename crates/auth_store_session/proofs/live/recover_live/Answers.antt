@@ -56,7 +56,11 @@ returns-clause-live g c =
       sized = c.in_ok-writer.ensures.page_size ∙ ap (λ (k : Cache). k.page_size + 12) (sym c.recover.ensures.same);
       named = c.in_ok-writer.ensures.name.1;
       cached = subst (λ l. HoldsPagesOf l c.recover.new.cache c.in_ok-writer.writer.blob_id) bytes c.in_ok-writer.ensures.cached;
-      recorded = subst (AreRecorded format) log c.in_ok-log.ensures.recorded;
+      log = record {
+        states = c.holds_a_history.ensures.states;
+        recorded = subst (AreRecorded format) log c.in_ok-log.ensures.recorded;
+        few = c.holds_a_history.ensures.few;
+      };
     }
 
 pub returns-clause-cache : goal.returns-clause-cache

@@ -7,4 +7,4 @@ pub returns : goal.returns
 returns g c =
     goes_by g.F.Named.family g.F.Family.merge_rule g.F.PendingOf.pending_encoding g.met.F.Named.rule_is g.met.F.Named.pending_is
     c.args.session.now c.step.new.self c.args.step (meaning_of bytes_of bytes_of value_of c.step.result) c.step.ensures.steps
-    c.step.ensures.page_size c.step.ensures.grows c.step.ensures.settings
+    c.step.ensures.page_size c.step.ensures.grows c.step.ensures.settings c.stands_for_sound_histories.ensures

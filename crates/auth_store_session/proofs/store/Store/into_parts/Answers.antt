@@ -5,7 +5,7 @@ use Rattle.paged_blob.specs.Calls.{Call}
 use Rattle.auth_store_device.specs.Devices.{DeviceState}
 use Rattle.auth_store_device.specs.Logs.{HasOwnHeader}
 use Rattle.auth_store_log.specs.Records.{Format, format_of}
-use Rattle.auth_store_session.specs.Stores.{StoreState, LiveState, IsLive, Shows}
+use Rattle.auth_store_session.specs.Stores.{StoreState, LiveState, IsLive, OpeningsShow}
 use Rattle.auth_store_session.proofs.OnDevice.{parts_show}
 use Rattle.auth_store_session.proofs.store.Store.into_parts.Goals.{in-Some, in_default}
 use Rattle.auth_store_session.proofs.store.Store.into_parts.Goals as goal
@@ -19,12 +19,12 @@ pub returns-clause-shows : goal.returns-clause-shows
 returns-clause-shows g c = λ history live.
     let format : Format = format_of (g.K.Read.after tt) (g.V.Read.after tt) g.K.FixedSize.SIZE g.V.FixedSize.SIZE in
     let AreShown : LiveState → Type 0 = λ now. (calls : List Call) → (cache : Cache) → IsLive format calls cache now
-    → Shows format (cache.page_size + 12) now.history None calls in
+    → OpeningsShow format (cache.page_size + 12) now.history None calls in
     let shown : IfSome c.self.inside.live AreShown = elim c.match-live.branch [
       | in-Some w ↦ subst (λ l. IfSome l AreShown) (sym w.in-Some.is) w.is_shown.ensures
       | in_default w ↦ subst (λ l. IfSome l AreShown) (sym w.in_default.is) tt
     ] in
-    subst (λ calls. Shows format (c.args.self.cache.page_size + 12) history None calls) (ap (λ (s : StoreState g.row.R.Denot). s.device.calls)
+    subst (λ calls. OpeningsShow format (c.args.self.cache.page_size + 12) history None calls) (ap (λ (s : StoreState g.row.R.Denot). s.device.calls)
     (sym c.self.view_is) ∙ sym (ap (λ (d : DeviceState g.row.R.Denot). d.calls) c.close.ensures))
     (parts_show format c.self.inside.device c.self.inside.cache c.self.inside.live c.self.inside.pruned c.args.self history c.self.view_is
     c.self.invariant.1 shown live)
