@@ -299,7 +299,7 @@ def live_of(file):
 
 class Ledger:
     def __init__(self, family, width):
-        self.family, self.width, self.history = family, width, []
+        self.family, self.width, self.history, self.chunks = family, width, [], 0
 
     def log(self):
         return histories.log_of(self.history)
@@ -319,7 +319,7 @@ class Ledger:
                 log = log_in(digits(data))
                 if log is None:
                     return "corrupt"
-                self.history = histories.history_of(log)
+                self.history, self.chunks = histories.history_of(log), 0
                 return "ok"
             case ["root"]:
                 return self.snapshot().root.hex()
@@ -335,8 +335,12 @@ class Ledger:
                 value, proof = self.snapshot().proof(key(name))
                 said = "absent" if value is None else int.from_bytes(value, "big")
                 return f"{said} {proof.hex()}"
-            case ["prune", before, location]:
-                return str(self.snapshot().settled_up_to(number(before), number(location)))
+            case ["prune", location]:
+                chunks = self.snapshot().pruned(self.chunks, number(location))
+                if chunks is None:
+                    return "past the floor"
+                self.chunks = chunks
+                return str(chunks)
             case ["same", name]:
                 key(name)
                 return "true"

@@ -516,6 +516,11 @@ class Player:
         if call == "decode":
             self.proofs[name] = proofs.decode(element(words[1]), count(words[0]))
             return "ok"
+        if call == "copy":
+            (other,) = words
+            proof = self.proofs[other]
+            self.proofs[name] = Proof(proof.leaves, proof.inactive, list(proof.digests))
+            return "ok"
         proof = self.proofs[name]
         if call == "equals":
             other = self.proofs[words[0]]

@@ -6,7 +6,7 @@ use Rattle.std.specs.Io.KnownBytes.{Appends}
 use Rattle.rand_core.specs.Pcg32Seed.{pcg32_seed}
 use Rattle.rand_pcg.specs.Lcg.{Lcg}
 use Rattle.rand_pcg.specs.Pcg.{pcg32_of_seed}
-use Rattle.paged_blob.specs.Caches.{Cache}
+use Rattle.paged_blob_parts.specs.Caches.{Cache}
 use Rattle.auth_store_device.specs.Devices.{DeviceState}
 use Rattle.auth_store_device.specs.Settings.{AreFirst, IsNew}
 use Rattle.fault_storage_parts.specs.declared.config.Config.{Config}

@@ -4,7 +4,7 @@ use Rattle.std.proofs.Common.{◌≡◌, ◌-◌, ℕ, true, List, [], ◌∷◌
 use Rattle.std.specs.Prelude.{slice_get, unwrap_or}
 use Rattle.state_ops.specs.Operation.{Operation, update, ordered, commit_floor, fixed_encoding}
 use Rattle.state_ops.specs.Reading.{IsOfFields}
-use Rattle.state_proofs.specs.Canonical.{Setting, State}
+use Rattle.state_proofs_parts.specs.Canonical.{Setting, State}
 use Rattle.state_proofs.specs.Encoded.{Fits}
 use Rattle.state_proofs.specs.Exclusion.{ExclusionParts, by_update, by_commit, proof_of, operation_of, is_in_span, LeavesOut}
 use Rattle.state_proofs.specs.Honest.{honest_parts}

@@ -1,7 +1,7 @@
 -- The chunks that are shown over operations of a state are those over them, each in its place.
 use Rattle.std.proofs.Common.{◌≡◌, ℕ, ◌-◌, ◌*◌, ◌/◌, ◌<◌, ◌≤◌, List, length, map, sym, ◌∙◌, ap, arith}
 use Rattle.std.specs.List.{range_with_len}
-use Rattle.state_proofs.specs.Canonical.{Setting, State, chunk}
+use Rattle.state_proofs_parts.specs.Canonical.{Setting, State, chunk}
 use Rattle.state_proofs.specs.MadeRanges.{HasRange}
 use Rattle.state_proofs.specs.Verified.{Shown, stop_of, first_index, last_index, IsShaped}
 use Rattle.auth_store_client.specs.Proving.{chunks_over}

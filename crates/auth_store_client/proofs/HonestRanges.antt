@@ -4,10 +4,10 @@ use Rattle.std.specs.Prelude.{slice_get, if◌then◌else◌, ◌==◌}
 use Rattle.std.proofs.lemmas.List.{length-take-le, length-drop}
 use Rattle.std.proofs.lemmas.Option.{slice_get-get_or}
 use Rattle.merkle_core.specs.Laws.Sound.{all_take, all_drop}
-use Rattle.state_bitmap.specs.Bits.{chunks_of}
-use Rattle.state_bitmap.specs.Laws.Bits.{length-chunk_of}
-use Rattle.state_proofs.specs.Canonical.{Setting, State, chunk_bits, full_chunks, next_bit, chunks, chunk}
-use Rattle.state_proofs.specs.Laws.Chunks.{location_chunks}
+use Rattle.state_proofs_parts.specs.Bits.{chunks_of}
+use Rattle.state_proofs_parts.specs.Laws.Bits.{length-chunk_of}
+use Rattle.state_proofs_parts.specs.Canonical.{Setting, State, chunk_bits, full_chunks, next_bit, chunks, chunk}
+use Rattle.state_proofs_parts.specs.Laws.Chunks.{location_chunks}
 use Rattle.state_proofs.specs.MadeRanges.{HasRange}
 use Rattle.state_proofs.specs.Verified.{Shown, IsShaped}
 use Rattle.auth_store_client.specs.Claims.{bits_over, bit_over}

@@ -15,7 +15,7 @@ use Rattle.merkle_core.specs.Laws.Sized.{AreSized, IsSized, Gives, range_sized}
 use Rattle.merkle_core.specs.MadeRoots.{peaks_of}
 use Rattle.merkle_core.specs.Plans.{honest_digests}
 use Rattle.merkle_core.specs.Ranges.{Digests, range_digests}
-use Rattle.state_proofs.specs.Canonical.{Setting, State, next_bit, chunk_bits, grafted_root, operations_root, partial_digest}
+use Rattle.state_proofs_parts.specs.Canonical.{Setting, State, next_bit, chunk_bits, grafted_root, operations_root, partial_digest}
 use Rattle.state_proofs.specs.Witness.{honest_witness}
 use Rattle.auth_store_client.specs.Proving.{log_inactive, log_digests}
 use Rattle.auth_store_client.specs.Slices.{SliceParts, FitsSlice}

@@ -6,7 +6,7 @@ use Rattle.merkle_forest.specs.Codec.{Outcome}
 use Rattle.merkle_forest.specs.Laws.Matching.{append_parts}
 use Rattle.state_ops.specs.Operation.{Operation, delete, update, ordered, commit_floor, fixed_size, unpadded, fixed_encoding}
 use Rattle.state_ops.specs.Reading.{IsField}
-use Rattle.state_proofs.specs.Canonical.{Setting}
+use Rattle.state_proofs_parts.specs.Canonical.{Setting}
 use Rattle.state_proofs.specs.Encoded.{key_value_proof_encoding}
 use Rattle.state_proofs.specs.Honest.{honest_parts, key_value_proof}
 use Rattle.state_proofs.specs.MadeRanges.{HasActive}

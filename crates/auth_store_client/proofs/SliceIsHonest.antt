@@ -10,8 +10,8 @@ use Rattle.merkle_core.specs.Laws.HonestReads.{read_at, plain_made, plain_childr
 use Rattle.merkle_core.specs.Laws.MadeTrees.{AllSized}
 use Rattle.merkle_core.specs.MadeTrees.{whole, plain_over}
 use Rattle.state_ops.specs.Operation.{Operation, fixed_encoding}
-use Rattle.state_proofs.specs.Canonical.{Setting, State}
-use Rattle.state_proofs.specs.MadeStates.{operations_names}
+use Rattle.state_proofs_parts.specs.Canonical.{Setting, State}
+use Rattle.state_proofs_parts.specs.MadeStates.{operations_names}
 use Rattle.state_proofs.specs.Witness.{WitnessParts, honest_witness}
 use Rattle.auth_store_client.specs.Proving.{log_inactive, log_digests, slice_bytes}
 use Rattle.auth_store_client.specs.Slices.{SliceParts, slice_encoding}

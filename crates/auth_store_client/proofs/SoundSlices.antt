@@ -21,9 +21,9 @@ use Rattle.merkle_core.specs.MadeTrees.{from, whole, plain_over}
 use Rattle.merkle_core.specs.RangeCounts.{range_outer}
 use Rattle.merkle_core.specs.Reads.{range_root}
 use Rattle.merkle_core.specs.Soundness.{plain_names}
-use Rattle.state_proofs.specs.Canonical.{Setting, State, peaks, operations_root, canonical_root}
-use Rattle.state_proofs.specs.MadeCanonical.{if_made, next_made}
-use Rattle.state_proofs.specs.MadeStates.{operations_names, made_operations, hashed_strings}
+use Rattle.state_proofs_parts.specs.Canonical.{Setting, State, peaks, operations_root, canonical_root}
+use Rattle.state_proofs_parts.specs.MadeCanonical.{if_made, next_made}
+use Rattle.state_proofs_parts.specs.MadeStates.{operations_names, made_operations, hashed_strings}
 use Rattle.state_proofs.specs.Witness.{witnessed_string, witnessed_made}
 use Rattle.auth_store_client.specs.Slices.{SliceParts, VerifiesSlice}
 use Rattle.auth_store_client.specs.MadeSlices.{slice_over, slice_strings}

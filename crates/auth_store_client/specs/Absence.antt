@@ -1,6 +1,6 @@
 -- The honest bytes that prove that a key is absent.
 use Rattle.std.specs.Prelude.{ℕ, ◌-◌, List, [], ◌∷◌, length, Option, None, Some, unwrap_or, IfSome}
-use Rattle.state_proofs.specs.Canonical.{Setting}
+use Rattle.state_proofs_parts.specs.Canonical.{Setting}
 use Rattle.state_proofs.specs.Exclusion.{ExclusionParts, by_update, by_commit, exclusion_encoding}
 use Rattle.state_proofs.specs.Honest.{honest_parts}
 use Rattle.state_ops.specs.Operation.{Operation, commit_floor}

@@ -7,7 +7,7 @@ use Rattle.merkle_forest.specs.Forest.{Rule}
 use Rattle.merkle_forest.specs.Hashing.{Hash}
 use Rattle.state_ops.specs.Operation.{Operation, fixed_encoding, update, ordered}
 use Rattle.state_ops.specs.Reading.{IsField, IsOfFields}
-use Rattle.state_proofs.specs.Bits.{is_set}
+use Rattle.state_proofs_parts.specs.SetBits.{is_set}
 use Rattle.state_proofs.specs.Encoded.{Format, format_of, range_proof_encoding, FitsRange, Fits, ShowsOperation}
 use Rattle.state_proofs.specs.Encoded.{ShowsUpdate}
 use Rattle.state_proofs.specs.Exclusion.{ExclusionParts, by_update, by_commit, exclusion_encoding, Excludes}

@@ -5,9 +5,9 @@ use Rattle.merkle_forest.specs.declared.bagging.Bagging.TheVariants.{BackwardFol
 use Rattle.merkle_forest.specs.Made.{Made, bytes, Strings, strings}
 use Rattle.merkle_core.specs.MadeTrees.{plain_over}
 use Rattle.merkle_core.specs.Reads.{range_root}
-use Rattle.state_proofs.specs.Canonical.{Setting}
-use Rattle.state_proofs.specs.MadeCanonical.{if_made, canonical_made}
-use Rattle.state_proofs.specs.MadeStates.{operations_names}
+use Rattle.state_proofs_parts.specs.Canonical.{Setting}
+use Rattle.state_proofs_parts.specs.MadeCanonical.{if_made, canonical_made}
+use Rattle.state_proofs_parts.specs.MadeStates.{operations_names}
 use Rattle.auth_store_client.specs.Slices.{SliceParts}
 
 -- the canonical root over the root of the operations' tree, as a witness leads to it

@@ -8,7 +8,7 @@ use Rattle.merkle_core_parts.specs.Mem.{plain_leaf_digests, plain_node, tree_dig
 use Rattle.merkle_core.specs.MadeRoots.{peaks_of}
 use Rattle.merkle_core.specs.Plans.{honest_digests}
 use Rattle.merkle_core.specs.Proofs.{proof_encoding}
-use Rattle.state_proofs.specs.Canonical.{Setting, State, chunk_bits, chunks}
+use Rattle.state_proofs_parts.specs.Canonical.{Setting, State, chunk_bits, chunks}
 use Rattle.state_proofs.specs.Encoded.{range_proof_encoding}
 use Rattle.state_proofs.specs.Honest.{honest_range, key_value_proof, operation_proof}
 use Rattle.state_proofs.specs.Witness.{honest_witness, witness_encoding}

@@ -5,7 +5,7 @@ ghost use Rattle.std.specs.Prelude.{MatchOption};
 ghost use Rattle.std.specs.List.{AllByRecursion, flat_map};
 ghost use Rattle.state_ops.specs.Operation.{meaning_of};
 ghost use Rattle.state_ops.specs.Reading.{IsField, IsOfFields};
-ghost use Rattle.state_proofs.specs.Bits.{is_set};
+ghost use Rattle.state_proofs_parts.specs.SetBits.{is_set};
 ghost use Rattle.state_proofs.specs.Encoded.{FitsRange, range_proof_encoding};
 ghost use Rattle.state_proofs.specs.ProofsCode.{range_parts_of};
 ghost use Rattle.state_proofs.specs.Verified.{RangeParts, VerifiesRange};

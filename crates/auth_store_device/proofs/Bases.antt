@@ -2,7 +2,7 @@
 use Rattle.std.proofs.Common.{◌≡◌, ℕ, ◌<◌, ◌≤◌, Bool, false, List, [], ◌∷◌, ◌++◌, length, get_or, reverse}
 use Rattle.std.proofs.Common.{sym, ◌∙◌, ap, arith, subst, length-append}
 use Rattle.std.proofs.lemmas.List.{take-append-le, take_all}
-use Rattle.paged_blob.specs.Calls.{Call, File, whole, content, file_of}
+use Rattle.paged_blob_parts.specs.Calls.{Call, File, whole, content, file_of}
 use Rattle.auth_store_device.specs.declared.base.Base.{Base}
 use Rattle.auth_store_device.specs.Devices.{shown_file}
 use Rattle.auth_store_device.specs.OpeningsCode.{is_base, file_after}

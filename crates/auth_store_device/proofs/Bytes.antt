@@ -5,8 +5,8 @@ use Rattle.std.proofs.lemmas.Bool.{cases_lt}
 use Rattle.std.proofs.lemmas.List.{length-append, length-drop, length-replicate, take_all, append-nil, get_or-drop, ext_get_or}
 use Rattle.fault_storage_parts.specs.Files as files
 use Rattle.fault_storage_parts.specs.Files.{with_kept}
-use Rattle.paged_blob.specs.Calls.{resized, with_bytes}
-use Rattle.paged_blob.proofs.Bytes.{length-resized, resized_in, length-with_bytes, with_bytes_in, with_bytes_before, with_bytes_behind}
+use Rattle.paged_blob_parts.specs.Calls.{resized, with_bytes}
+use Rattle.paged_blob_parts.proofs.Bytes.{length-resized, resized_in, length-with_bytes, with_bytes_in, with_bytes_before, with_bytes_behind}
 
 -- the store of files resizes and lays bytes as a blob does
 pub resized-same : (size : ℕ) (file : List ℕ) → files.resized size file ≡ resized size file

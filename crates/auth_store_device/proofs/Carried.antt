@@ -8,11 +8,11 @@ use Rattle.fault_storage_parts.specs.Files.{Mutation, written, fixed, resized_to
 use Rattle.fault_storage_parts.specs.Draws.{Rate, Mode}
 use Rattle.fault_storage_parts.proofs.Fronts.{applied-keeps}
 use Rattle.fault_storage.specs.Stores.{Store, Handle, has_number, changed, is_there, issued, published, showing, with_issued, settled_at, without}
-use Rattle.paged_blob.specs.Calls.{Change, write, resize, resized, with_bytes, whole, File, after_change}
-use Rattle.paged_blob.specs.Calls as calls
-use Rattle.paged_blob.specs.Images.{IsReached, IsLive}
-use Rattle.paged_blob.specs.Laws.Durable.{same_front}
-use Rattle.paged_blob.proofs.Bytes.{length-with_bytes, with_bytes_before}
+use Rattle.paged_blob_parts.specs.Calls.{Change, write, resize, resized, with_bytes, whole, File, after_change}
+use Rattle.paged_blob_parts.specs.Calls as calls
+use Rattle.paged_blob_parts.specs.Images.{IsReached, IsLive}
+use Rattle.paged_blob_parts.specs.Laws.Durable.{same_front}
+use Rattle.paged_blob_parts.proofs.Bytes.{length-with_bytes, with_bytes_before}
 use Rattle.auth_store_device.specs.Logs.{is_log, has_log, log_of, behind_header, HasHeader, BeginsAsMade, IsOrderly, Stands, IsFirst, IsOpenLog}
 use Rattle.auth_store_device.proofs.Bytes.{with_bytes-same, with_bytes-behind, resized-behind, all_kept}
 use Rattle.auth_store_device.proofs.Outcomes.{left-issued, past-snoc, made-headed}

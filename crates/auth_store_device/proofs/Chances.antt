@@ -9,8 +9,8 @@ use Rattle.paged_format.specs.declared.footer.Slot.{Slot}
 use Rattle.paged_format.specs.declared.footer.Slot.TheVariants.{First, Second}
 use Rattle.std.specs.Prelude.{bytes_eq, not}
 use Rattle.std.specs.List.{list_any}
-use Rattle.paged_blob.specs.Calls.{Call, opened, wrote, resized_to, synced, Change, write, resize, changed, whole, File}
-use Rattle.paged_blob.specs.Chance.{page_at, has_slot, slot_in, was_written, is_chance_slot}
+use Rattle.paged_blob_parts.specs.Calls.{Call, opened, wrote, resized_to, synced, Change, write, resize, changed, whole, File}
+use Rattle.paged_blob_parts.specs.Chance.{page_at, has_slot, slot_in, was_written, is_chance_slot}
 use Rattle.auth_store_device.specs.OpeningsCode.{is_base, change_in, file_after, file_from}
 use Rattle.auth_store_device.proofs.Replays.{from-push}
 use Rattle.std.proofs.lemmas.Bool.{both_ways, or_left, or_parts, not-true, not-false, and_left, and_right, le-leb, lt-leb, lt-ltb}

@@ -19,14 +19,14 @@ use Rattle.fault_storage.specs.Directory.{MemoryReads, MemorySyncs}
 use Rattle.fault_storage.specs.Faults.{IsFaultyCall}
 use Rattle.std.specs.declared.alloc.Global.{Global}
 use Rattle.std.specs.declared.vec.Vec.{Vec}
-use Rattle.paged_blob.specs.Answers.{Failures, IsReadCause, IsSlice}
-use Rattle.paged_blob.specs.declared.error.CallKind.TheVariants as kinds
+use Rattle.paged_blob_parts.specs.Answers.{Failures, IsReadCause, IsSlice}
+use Rattle.paged_blob_parts.specs.declared.error.CallKind.TheVariants as kinds
 use Rattle.std.proofs.lemmas.List.{length-drop, drop-drop}
 use Rattle.fault_storage.specs.Stores.{Store, Handle, resizing, fixed_write}
-use Rattle.paged_blob.specs.declared.blob.WriteMode.{WriteMode}
-use Rattle.paged_blob.specs.declared.blob.WriteMode.TheVariants as modes
-use Rattle.paged_blob.specs.WriteModes.{is_sync, place_of}
-use Rattle.paged_blob.specs.Calls.{Call, wrote, synced, resized_to as resized_call, File, file_of}
+use Rattle.paged_blob_parts.specs.declared.blob.WriteMode.{WriteMode}
+use Rattle.paged_blob_parts.specs.declared.blob.WriteMode.TheVariants as modes
+use Rattle.paged_blob_parts.specs.WriteModes.{is_sync, place_of}
+use Rattle.paged_blob_parts.specs.Calls.{Call, wrote, synced, resized_to as resized_call, File, file_of}
 use Rattle.auth_store_device.specs.declared.log.Told.TheVariants.{Made, Failed}
 use Rattle.auth_store_device.specs.Devices.{told_of, mode_below, refusal_of}
 use Rattle.auth_store_device.specs.Logs.{behind_header, IsOpenLog}

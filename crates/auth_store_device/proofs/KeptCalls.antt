@@ -2,7 +2,7 @@
 use Rattle.std.proofs.Common.{◌≡◌, true, ℕ, zero, suc, ◌<◌, List, [], ◌∷◌, ◌++◌, length, take, get_or, reverse}
 use Rattle.std.proofs.Common.{sym, ◌∙◌, ap, refl, subst, arith, append_assoc}
 use Rattle.std.proofs.lemmas.List.{append-nil, reverse-append}
-use Rattle.paged_blob.specs.Calls.{Call, opened, wrote, synced}
+use Rattle.paged_blob_parts.specs.Calls.{Call, opened, wrote, synced}
 use Rattle.auth_store_device.specs.declared.kept.Kept.{Kept}
 use Rattle.auth_store_device.specs.declared.kept.Kept.TheVariants.{Opened, Wrote, ResizedTo, SyncedWhole, SyncedAs, SyncFailed}
 use Rattle.auth_store_device.specs.BlocksCode.{Held, Gains}

@@ -6,10 +6,10 @@ use Rattle.std.proofs.lemmas.Bool.{cases_lt, and_from, and_left, and_right, or_l
 use Rattle.std.proofs.lemmas.Nat.{mod_below}
 use Rattle.fault_storage_parts.specs.Draws.{length_between}
 use Rattle.fault_storage_parts.specs.Files.{with_kept}
-use Rattle.paged_blob.specs.Calls.{Change, write, resize, resized, changed, whole, File, after_change}
-use Rattle.paged_blob.specs.Images.{may_give, may_leave, may_hold, least_length, greatest_length, IsImage, IsReached, IsLive}
-use Rattle.paged_blob.proofs.Bytes.{length-resized, resized_in, resized_out, length-with_bytes}
-use Rattle.paged_blob.proofs.Live.{one_live}
+use Rattle.paged_blob_parts.specs.Calls.{Change, write, resize, resized, changed, whole, File, after_change}
+use Rattle.paged_blob_parts.specs.Images.{may_give, may_leave, may_hold, least_length, greatest_length, IsImage, IsReached, IsLive}
+use Rattle.paged_blob_parts.proofs.Bytes.{length-resized, resized_in, resized_out, length-with_bytes}
+use Rattle.paged_blob_parts.proofs.Live.{one_live}
 use Rattle.auth_store_device.proofs.Bytes.{behind-at, torn_byte, torn_long}
 
 -- the base itself, where nothing has changed

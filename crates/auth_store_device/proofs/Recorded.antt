@@ -4,7 +4,7 @@ use Rattle.std.proofs.Common.{sym, ◌∙◌, ap, refl, subst, arith, length-app
 use Rattle.std.specs.declared.alloc.Global.{Global}
 use Rattle.std.specs.declared.vec.Vec.{Vec}
 use Rattle.std.proofs.lemmas.List.{append-nil, take_more}
-use Rattle.paged_blob.specs.Calls.{Call, File, opened, wrote, resized_to, content, file_of}
+use Rattle.paged_blob_parts.specs.Calls.{Call, File, opened, wrote, resized_to, content, file_of}
 use Rattle.auth_store_device.specs.Touches.{IsOutside}
 use Rattle.auth_store_device.specs.declared.base.Base.{Base}
 use Rattle.auth_store_device.specs.declared.kept.Kept.{Kept}

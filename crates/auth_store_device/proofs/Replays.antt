@@ -4,7 +4,7 @@ use Rattle.std.proofs.Common.{sym, ◌∙◌, ap, refl, append_assoc, arith}
 use Rattle.std.specs.List.{list_any}
 use Rattle.std.proofs.lemmas.Bool.{both_ways, or_parts}
 use Rattle.std.proofs.lemmas.List.{append-nil, drop_more, map_push, reverse-append, reverse-reverse, take-append-drop, take_more}
-use Rattle.paged_blob.specs.Calls.{Call, opened, wrote, resized_to, synced, File, file_of}
+use Rattle.paged_blob_parts.specs.Calls.{Call, opened, wrote, resized_to, synced, File, file_of}
 use Rattle.auth_store_device.specs.declared.kept.Entry.{Entry}
 use Rattle.auth_store_device.specs.declared.kept.Entry.TheVariants as entries
 use Rattle.auth_store_device.specs.Devices.{shown_file}

@@ -35,7 +35,7 @@ use Rattle.auth_store_device.specs.Devices.{log_fault, shown_file, after_admissi
 use Rattle.auth_store_device.specs.Logs.{IsFirst}
 use Rattle.auth_store_device.proofs.Places.{changed-first, file-changed}
 use Rattle.auth_store_device.proofs.Steps.{nothing_behind}
-use Rattle.paged_blob.specs.Images.{IsLive}
+use Rattle.paged_blob_parts.specs.Images.{IsLive}
 use Rattle.auth_store_device.specs.Logs.{is_log, log_partition, log_name, has_log, log_of, durable_log, behind_header, HasHeader, IsOrderly}
 use Rattle.auth_store_device.specs.Logs.{log_versions, fault_of, IsForeign, BeginsAsMade, Stands, IsOpenLog}
 use Rattle.auth_store_device.proofs.Headers.{front_magic, fine_made}

@@ -16,12 +16,12 @@ use Rattle.fault_storage_parts.specs.declared.error.Error.{Error}
 use Rattle.fault_storage_parts.specs.declared.error.Error.TheVariants.{PartitionMissing, BlobMissing, Memory}
 use Rattle.fault_storage.proofs.Leaving.{crash-leaves}
 use Rattle.fault_storage_parts.proofs.Left.{left-keeps}
-use Rattle.paged_blob.specs.Calls.{Call, opened, synced, File, file_of}
+use Rattle.paged_blob_parts.specs.Calls.{Call, opened, synced, File, file_of}
 use Rattle.std.proofs.Common.{Result, Ok, Err}
-use Rattle.paged_blob.specs.declared.error.Error as refusals
-use Rattle.paged_blob.specs.declared.error.Error.TheVariants.{NumberEnded, PowerCut}
-use Rattle.paged_blob.specs.Images.{IsImage, IsReached}
-use Rattle.paged_blob.proofs.Live.{reached_image}
+use Rattle.paged_blob_parts.specs.declared.error.Error as refusals
+use Rattle.paged_blob_parts.specs.declared.error.Error.TheVariants.{NumberEnded, PowerCut}
+use Rattle.paged_blob_parts.specs.Images.{IsImage, IsReached}
+use Rattle.paged_blob_parts.proofs.Live.{reached_image}
 use Rattle.auth_store_device.specs.Logs.{IsOrderly, IsHandleOf, are_numbered, log_partition, log_name, has_log, log_of, durable_log, behind_header}
 use Rattle.auth_store_device.specs.Logs.{log_versions, HasHeader, IsForeign, Stands, IsOpenLog, HasOwnHeader}
 use Rattle.auth_store_device.specs.Devices.{DeviceState, IsDevice, IsStopped, IsLetThrough, HasEnded, shown_file, log_fault, opening_answer}

@@ -1,9 +1,9 @@
 -- A byte that no change touches is that of the base.
 use Rattle.std.proofs.Common.{◌≡◌, ℕ, ◌<◌, true, false, ◌&&◌, ◌||◌, List, [], ◌∷◌, length, get_or, sym, ◌∙◌, ap, inl, inr}
 use Rattle.std.proofs.lemmas.Bool.{and_left, and_parts, and_right, eqb-true, le-ltb, lt-leb}
-use Rattle.paged_blob.specs.Calls.{Change, write, resize, whole, File}
-use Rattle.paged_blob.specs.Images.{may_give, may_leave, may_hold, IsImage}
-use Rattle.paged_blob.proofs.Live.{whole_live}
+use Rattle.paged_blob_parts.specs.Calls.{Change, write, resize, whole, File}
+use Rattle.paged_blob_parts.specs.Images.{may_give, may_leave, may_hold, IsImage}
+use Rattle.paged_blob_parts.proofs.Live.{whole_live}
 use Rattle.auth_store_device.specs.Touches.{Leaves, AllLeave}
 
 -- a change gives no value to a byte that it leaves alone

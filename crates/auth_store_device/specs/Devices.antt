@@ -14,13 +14,13 @@ use Rattle.fault_storage.specs.declared.storage.WriteMode.TheVariants.{Plain, Sy
 use Rattle.fault_storage.specs.Directory.{fault_in, admitted, IsMissing}
 use Rattle.fault_storage.specs.Faults.{IsFaultyCall, FaultyOpens}
 use Rattle.fault_storage.specs.Stores.{Store, Handle}
-use Rattle.paged_blob.specs.Answers.{Failures, used_up}
-use Rattle.paged_blob.specs.Calls.{Call, File, file_of}
-use Rattle.paged_blob.specs.declared.blob.WriteMode as blob
-use Rattle.paged_blob.specs.declared.blob.WriteMode.TheVariants as blobs
-use Rattle.paged_blob.specs.declared.error.CallKind.{CallKind}
-use Rattle.paged_blob.specs.declared.error.Error.{Error}
-use Rattle.paged_blob.specs.declared.error.Error.TheVariants as refusals
+use Rattle.paged_blob_parts.specs.Answers.{Failures, used_up}
+use Rattle.paged_blob_parts.specs.Calls.{Call, File, file_of}
+use Rattle.paged_blob_parts.specs.declared.blob.WriteMode as blob
+use Rattle.paged_blob_parts.specs.declared.blob.WriteMode.TheVariants as blobs
+use Rattle.paged_blob_parts.specs.declared.error.CallKind.{CallKind}
+use Rattle.paged_blob_parts.specs.declared.error.Error.{Error}
+use Rattle.paged_blob_parts.specs.declared.error.Error.TheVariants as refusals
 use Rattle.auth_store_device.specs.declared.error.OpenError.{OpenError}
 use Rattle.auth_store_device.specs.declared.error.OpenError.TheVariants as openings
 use Rattle.auth_store_device.specs.declared.log.Told.{Told}

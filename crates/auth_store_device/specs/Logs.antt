@@ -10,8 +10,8 @@ use Rattle.fault_storage_parts.specs.declared.error.HeaderError.{HeaderError}
 use Rattle.fault_storage_parts.specs.declared.header.Versions.{Versions}
 use Rattle.fault_storage.specs.Stores.{Store, Handle, file_with, has_number}
 use Rattle.fault_storage.specs.Directory.{has_name, has_partition, both_layouts, front_of}
-use Rattle.paged_blob.specs.Calls.{File}
-use Rattle.paged_blob.specs.Images.{IsReached, IsLive}
+use Rattle.paged_blob_parts.specs.Calls.{File}
+use Rattle.paged_blob_parts.specs.Images.{IsReached, IsLive}
 
 -- the partition `store`, and in it the name `log`
 abbrev pub log_partition : List ℕ

@@ -1,6 +1,6 @@
 -- A mutation, as the change that it is.
 use Rattle.std.specs.Prelude.{false}
-use Rattle.paged_blob.specs.Calls.{Change, write, resize}
+use Rattle.paged_blob_parts.specs.Calls.{Change, write, resize}
 use Rattle.auth_store_device.specs.declared.openings.Mutation.{Mutation}
 use Rattle.auth_store_device.specs.declared.openings.Mutation.TheVariants.{Write, Resize}
 

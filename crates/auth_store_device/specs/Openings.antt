@@ -1,7 +1,7 @@
 -- The openings of a blob: what each showed, and the calls before it.
 use Rattle.std.specs.Prelude.{ℕ, false, IsFalse, List, [], ◌∷◌, ◌++◌, map, reverse}
-use Rattle.paged_blob.specs.Calls.{Call, opened, wrote, resized_to, synced, Change, write, resize, file_of}
-use Rattle.paged_blob.specs.Chance.{is_by_chance}
+use Rattle.paged_blob_parts.specs.Calls.{Call, opened, wrote, resized_to, synced, Change, write, resize, file_of}
+use Rattle.paged_blob_parts.specs.Chance.{is_by_chance}
 
 -- an opening: the calls before it, of which the newest comes first, and the bytes that it showed
 pub record Showing : Type 0 where

@@ -1,6 +1,6 @@
 -- The record of a device: the calls that were made of it.
 use Rattle.std.specs.Prelude.{◌≡◌, ℕ, ◌≤◌, Bool, true, List, reverse}
-use Rattle.paged_blob.specs.Calls.{Call}
+use Rattle.paged_blob_parts.specs.Calls.{Call}
 
 -- A record: its calls, the oldest first, whether there is a place for one more, for how many more bytes there is room, whether the bytes with
 -- which the file began last are an image, and those of the image that was made ready last.

@@ -4,7 +4,7 @@ use Rattle.fault_storage_parts.specs.declared.config.Config.{Config}
 use Rattle.fault_storage_parts.specs.Draws.{Rate, subset, never}
 use Rattle.fault_storage_parts.specs.DrawsCode.{rate_of, mode_of}
 use Rattle.fault_storage.specs.Stores.{Store}
-use Rattle.paged_blob.specs.Calls.{synced}
+use Rattle.paged_blob_parts.specs.Calls.{synced}
 use Rattle.auth_store_device.specs.Devices.{DeviceState}
 
 -- one word of two

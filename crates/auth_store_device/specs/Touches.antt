@@ -1,6 +1,6 @@
 -- Bytes of a file that changes leave alone.
 use Rattle.std.specs.Prelude.{⊤, ◌⊎◌, ℕ, ◌+◌, ◌-◌, ◌<◌, ◌≤◌, ◌^◌, List, [], ◌∷◌, length}
-use Rattle.paged_blob.specs.Calls.{Change, write, resize}
+use Rattle.paged_blob_parts.specs.Calls.{Change, write, resize}
 use Rattle.auth_store_device.specs.declared.touched.Touched.{Touched}
 
 -- a byte is none of these

@@ -2,8 +2,8 @@
 
 ghost use Rattle.std.specs.Prelude.{◌≡◌, ◌+◌, ◌*◌, ◌/◌, ◌<◌, ◌≤◌, ◌^◌, ◌++◌, false, length, take, drop, IfOk, OnOk};
 ghost use Rattle.std.specs.List.{list_any};
-ghost use Rattle.paged_blob.specs.Calls.{whole};
-ghost use Rattle.paged_blob.specs.Chance.{page_at, has_slot, was_written, is_chance_slot, has_chance_slot};
+ghost use Rattle.paged_blob_parts.specs.Calls.{whole};
+ghost use Rattle.paged_blob_parts.specs.Chance.{page_at, has_slot, was_written, is_chance_slot, has_chance_slot};
 ghost use Rattle.paged_format.specs.Footers.{IsPageSize, slot_start, slot_len, slot_crc};
 ghost use Rattle.paged_format.specs.Pages.{verifies};
 ghost use Rattle.paged_format.specs.declared.footer.Slot.TheVariants.{First, Second};

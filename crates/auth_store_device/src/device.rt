@@ -11,12 +11,13 @@ ghost use Rattle.fault_storage_parts.specs.Files.{IsLeftOf};
 ghost use Rattle.fault_storage.specs.Changes.{FaultyWrites, FaultyResizes};
 ghost use Rattle.fault_storage.specs.Directory.{MemoryReads, MemorySyncs};
 ghost use Rattle.fault_storage.specs.Faults.{IsFaultyCall};
-ghost use Rattle.paged_blob.specs.Answers.{Records, RecordsSync, RecordsOpening, failures_after, used_up, MeetsCut};
-ghost use Rattle.paged_blob.specs.Answers.{IsCause, IsReadCause, IsSlice};
-ghost use Rattle.paged_blob.specs.Images.{IsImage};
-ghost use Rattle.paged_blob.specs.Calls.{opened, content, synced, wrote, resized_to, file_of};
-ghost use Rattle.paged_blob.specs.WriteModes.{is_sync, place_of};
-ghost use Rattle.paged_blob.specs.declared.error.CallKind.{CallKind};
+ghost use Rattle.paged_blob_parts.specs.Answers.{Records, RecordsSync, RecordsOpening};
+ghost use Rattle.paged_blob_parts.specs.Answers.{failures_after, used_up, MeetsCut};
+ghost use Rattle.paged_blob_parts.specs.Answers.{IsCause, IsReadCause, IsSlice};
+ghost use Rattle.paged_blob_parts.specs.Images.{IsImage};
+ghost use Rattle.paged_blob_parts.specs.Calls.{opened, content, synced, wrote, resized_to, file_of};
+ghost use Rattle.paged_blob_parts.specs.WriteModes.{is_sync, place_of};
+ghost use Rattle.paged_blob_parts.specs.declared.error.CallKind.{CallKind};
 ghost use Rattle.auth_store_device.specs.Devices.{calls_left, left_after, left_after_opening, stopped_opening, is_cut, log_fault};
 ghost use Rattle.auth_store_device.specs.Openings.{openings_of};
 ghost use Rattle.auth_store_device.specs.Settings.{AreFirst};
@@ -31,7 +32,7 @@ use crate::record::Record;
 use fault_storage::{
     Config, PartialWriteMode, Probability, ResizeConfig, WriteConfig, faulty, memory,
 };
-use paged_blob::{Blob, Error, StartedSync, WriteMode};
+use paged_blob_parts::{Blob, Error, StartedSync, WriteMode};
 use rand_core::Rng;
 use std::alloc::{AllocError, Global};
 use std::marker::Model;

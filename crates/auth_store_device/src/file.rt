@@ -1,7 +1,7 @@
 //! What a change makes of the bytes of a file, whole.
 
 ghost use Rattle.std.specs.Prelude.{◌≡◌, ◌+◌, ◌≤◌, ◌++◌, length, take, drop, OnOk, OnErr};
-ghost use Rattle.paged_blob.specs.Calls.{resized, with_bytes};
+ghost use Rattle.paged_blob_parts.specs.Calls.{resized, with_bytes};
 
 use std::alloc::AllocError;
 

@@ -1,7 +1,7 @@
 //! Calls as a record keeps them, and as they are read from it.
 
 ghost use Rattle.std.specs.Prelude.{◌≡◌, ◌∷◌, ℕ, List, OnOk, OnErr};
-ghost use Rattle.paged_blob.specs.Calls.{Call, content};
+ghost use Rattle.paged_blob_parts.specs.Calls.{Call, content};
 ghost use Rattle.auth_store_device.specs.RecordsCode.{call_in, call_of, HasItsBytes, KnowsBase, HasBase};
 
 use crate::blocks::{Blocks, Image, Part};

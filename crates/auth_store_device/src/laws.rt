@@ -1,8 +1,8 @@
 //! Laws of the definitions: functions with an empty body, whose contracts are the laws.
 
 ghost use Rattle.std.specs.Prelude.{ℕ, List, All};
-ghost use Rattle.paged_blob.specs.Calls.{Call};
-ghost use Rattle.paged_blob.specs.Chance.{NoneByChance};
+ghost use Rattle.paged_blob_parts.specs.Calls.{Call};
+ghost use Rattle.paged_blob_parts.specs.Chance.{NoneByChance};
 ghost use Rattle.auth_store_device.specs.Openings.{openings_of, IsNotByChance};
 
 /// The law that none of the calls is an opening by chance exactly where each of their openings is not by chance.

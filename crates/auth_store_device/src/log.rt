@@ -5,11 +5,11 @@ ghost use Rattle.fault_storage_parts.specs.declared.error.Call.TheVariants.{Read
 ghost use Rattle.fault_storage.specs.Changes.{FaultyWrites, FaultyResizes};
 ghost use Rattle.fault_storage.specs.Directory.{MemoryReads, MemorySyncs};
 ghost use Rattle.fault_storage.specs.Faults.{IsFaultyCall};
-ghost use Rattle.paged_blob.specs.Answers.{Records, RecordsSync, Failures, failures_after};
-ghost use Rattle.paged_blob.specs.Answers.{IsCause, IsReadCause, IsSlice};
-ghost use Rattle.paged_blob.specs.Calls.{File, wrote, resized_to, file_of};
-ghost use Rattle.paged_blob.specs.WriteModes.{is_sync, place_of};
-ghost use Rattle.paged_blob.specs.declared.error.CallKind.{CallKind};
+ghost use Rattle.paged_blob_parts.specs.Answers.{Records, RecordsSync, Failures, failures_after};
+ghost use Rattle.paged_blob_parts.specs.Answers.{IsCause, IsReadCause, IsSlice};
+ghost use Rattle.paged_blob_parts.specs.Calls.{File, wrote, resized_to, file_of};
+ghost use Rattle.paged_blob_parts.specs.WriteModes.{is_sync, place_of};
+ghost use Rattle.paged_blob_parts.specs.declared.error.CallKind.{CallKind};
 ghost use Rattle.auth_store_device.specs.Devices.{Passes, failures_in, mode_below, refusal_of};
 ghost use Rattle.auth_store_device.specs.Logs.{IsOpenLog};
 ghost use Rattle.auth_store_device.specs.Records.{calls_of};
@@ -18,8 +18,8 @@ use crate::opening::behind_header;
 use crate::record::Record;
 use fault_storage::storage::Blob as _;
 use fault_storage::{Error as StorageError, WriteMode as StorageMode, faulty, memory};
-use paged_blob::blob::place_of;
-use paged_blob::{CallKind, Error, WriteMode};
+use paged_blob_parts::blob::place_of;
+use paged_blob_parts::{CallKind, Error, WriteMode};
 use rand_core::Rng;
 
 /// What the store answered a change of the log, or a sync of it.

@@ -16,8 +16,8 @@ ghost use Rattle.auth_store_device.specs.Logs.{log_versions, IsOrderly, IsOpenLo
 ghost use Rattle.auth_store_device.specs.Devices.{opening_refusal, opening_answer, injected_after};
 ghost use Rattle.auth_store_device.specs.Devices.{shown_file, log_fault, after_admission, HasNoNumber};
 ghost use Rattle.auth_store_device.specs.Records.{calls_of};
-ghost use Rattle.paged_blob.specs.Calls.{file_of};
-ghost use Rattle.paged_blob.specs.Images.{IsImage};
+ghost use Rattle.paged_blob_parts.specs.Calls.{file_of};
+ghost use Rattle.paged_blob_parts.specs.Images.{IsImage};
 
 use crate::error::OpenError;
 use crate::record::Record;

@@ -5,8 +5,8 @@ ghost use Rattle.std.specs.Iterator.{YieldsFirst, YieldsFirstBy, item_count};
 ghost use Rattle.std.specs.List.{list_any};
 ghost use Rattle.fault_storage_parts.specs.Crc32.{crc32};
 ghost use Rattle.paged_format.specs.Footers.{IsPageSize};
-ghost use Rattle.paged_blob.specs.Calls.{file_of};
-ghost use Rattle.paged_blob.specs.Chance.{is_by_chance};
+ghost use Rattle.paged_blob_parts.specs.Calls.{file_of};
+ghost use Rattle.paged_blob_parts.specs.Chance.{is_by_chance};
 ghost use Rattle.auth_store_device.specs.Openings.{openings_of, mutations_of, plain};
 ghost use Rattle.auth_store_device.specs.OpeningsCode.{is_base, file_from};
 ghost use Rattle.auth_store_device.specs.Records.{calls_of};
@@ -87,7 +87,7 @@ pub struct Opening<'a> {
 
 impl<'a> Model for Opening<'a> {
     ghost use Rattle.std.specs.Prelude.{◌≡◌, reverse};
-    ghost use Rattle.paged_blob.specs.Calls.{file_of};
+    ghost use Rattle.paged_blob_parts.specs.Calls.{file_of};
     ghost use Rattle.auth_store_device.specs.Openings.{Showing};
 
     ghost Value = { Showing };
@@ -166,7 +166,7 @@ pub struct Mutations<'a> {
 
 impl<'a> Model for Mutations<'a> {
     ghost use Rattle.std.specs.Prelude.{List, map};
-    ghost use Rattle.paged_blob.specs.Calls.{Change};
+    ghost use Rattle.paged_blob_parts.specs.Calls.{Change};
     ghost use Rattle.auth_store_device.specs.Openings.{plain};
     ghost use Rattle.auth_store_device.specs.OpeningsCode.{changes_in};
 

@@ -12,8 +12,8 @@
 
 ghost use Rattle.std.specs.Prelude.{◌≡◌, ◌+◌, ◌-◌, ◌<◌, ◌≤◌, ◌∷◌, [], true, false, reverse};
 ghost use Rattle.std.specs.Prelude.{ℕ, List, length, take, drop, get_or, IfOk, OnOk};
-ghost use Rattle.paged_blob.specs.Calls.{Call, opened, wrote, resized_to, synced, content, file_of};
-ghost use Rattle.paged_blob.specs.Images.{IsImage};
+ghost use Rattle.paged_blob_parts.specs.Calls.{Call, opened, wrote, resized_to, synced, content, file_of};
+ghost use Rattle.paged_blob_parts.specs.Images.{IsImage};
 
 use crate::base::Base;
 use crate::blocks::Blocks;
@@ -243,7 +243,7 @@ pub(crate) struct Calls<'a> {
 
 impl<'a> Model for Calls<'a> {
     ghost use Rattle.std.specs.Prelude.{◌≤◌, ◌-◌, List, length, take, drop};
-    ghost use Rattle.paged_blob.specs.Calls.{Call};
+    ghost use Rattle.paged_blob_parts.specs.Calls.{Call};
 
     ghost Value = { List Call };
 

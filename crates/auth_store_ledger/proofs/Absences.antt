@@ -1,10 +1,10 @@
 -- What a store's proof of absence holds.
-use Rattle.std.proofs.Common.{◌≡◌, ℕ, ◌-◌, ◌<◌, inl, inr, List, [], ◌∷◌, map, Option, None, Some, option_map, length, refl, ap, sym, ◌∙◌}
+use Rattle.std.proofs.Common.{◌≡◌, ℕ, ◌-◌, ◌<◌, ◌≤◌, subst, inl, inr, List, [], ◌∷◌, map, Option, None, Some, option_map, length, refl, ap, sym, ◌∙◌}
 use Rattle.std.proofs.lemmas.Option.{slice_get-map, slice_get_past}
 use Rattle.std.proofs.lemmas.Bool.{cases_lt}
 use Rattle.std.specs.Prelude.{IsSome, slice_get, unwrap_or}
 use Rattle.state_ops.specs.Operation.{Operation}
-use Rattle.state_proofs.specs.Canonical.{Setting}
+use Rattle.state_proofs_parts.specs.Canonical.{Setting}
 use Rattle.state_proofs.specs.declared.exclusion.ExclusionProof.{ExclusionProof}
 use Rattle.state_proofs.specs.declared.exclusion.ExclusionProof.TheVariants.{KeyValue, Commit}
 use Rattle.state_proofs.specs.declared.operation.Proof.{Proof}
@@ -12,7 +12,7 @@ use Rattle.state_proofs.specs.Exclusion.{by_commit, by_update}
 use Rattle.state_proofs.specs.ExclusionCode.{IsExclusionValue, form_exclusion_of}
 use Rattle.state_proofs.specs.Honest.{honest_parts}
 use Rattle.auth_store_parts.specs.Map.{Map, next_key, state_of, value_at}
-use Rattle.auth_store_parts.specs.History.{AreStates, active_location, history_of, latest_map, log_of, update_fields}
+use Rattle.auth_store_parts.specs.History.{AreStates, active_location, history_of, last_floor, latest_map, log_of, update_fields}
 use Rattle.auth_store_parts.specs.Places.{places_of}
 use Rattle.auth_store_parts.specs.Laws.Places.{place_found}
 use Rattle.auth_store_client.specs.States.{state_of_log}
@@ -22,6 +22,7 @@ use Rattle.auth_store_index.specs.Sources.{value_there}
 use Rattle.auth_store_index.specs.Laws.Sourced.{state_of-read}
 use Rattle.auth_store_client.specs.Absence.{NamesFields, honest_absence_parts, metadata_in}
 use Rattle.auth_store_client.specs.Laws.Absent.{latest_read, named_before, named_last, some_field}
+use Rattle.auth_store_ledger.proofs.Places.{active_behind}
 
 -- what is written of keys and values are fields
 pub names_fields : {F K V D C P : Type 0} (chunk : C → List ℕ) (key : K → List ℕ) (value : V → List ℕ) (digest : D → List ℕ)
@@ -47,6 +48,14 @@ pub is_found : {X : Type 0} (fields : X → List ℕ × List ℕ) (found : Optio
 is_found fields None there is some = absurd (some (sym is))
 is_found fields (Some update) there is some = refl
 
+-- the update at the location of its key stands behind the floor
+pub update_behind : (log : List Operation) (key : List ℕ) (place : ℕ) (fields : List ℕ × List ℕ) → AreStates (history_of log)
+    → log ≡ log_of (history_of log) → active_location key log ≡ place → update_fields (slice_get log place) ≡ Some fields
+    → last_floor log ≤ place
+update_behind log key place fields states whole at is =
+    subst (λ (n : ℕ). last_floor log ≤ n) at
+    (active_behind key log fields states whole (ap (λ (n : ℕ). update_fields (slice_get log n)) at ∙ is))
+
 -- an update is found in the log
 pub update_within : (log : List Operation) (place : ℕ) (fields : List ℕ × List ℕ) → update_fields (slice_get log place) ≡ Some fields
     → place < length log
@@ -68,6 +77,7 @@ pub record IsNamed (setting : Setting) (key_size value_size : ℕ) (log : List O
   pub value : List ℕ
   pub next : List ℕ
   pub stands : update_fields (slice_get log place) ≡ Some (value, next)
+  pub at : active_location before log ≡ place
   pub parts : honest_absence_parts setting key_size value_size (history_of log) asked
       ≡ by_update (honest_parts setting (state_of_log key_size value_size log) place) before value next
 
@@ -96,6 +106,7 @@ module _ (setting : Setting) (key_size value_size : ℕ) (log : List Operation) 
         value = value;
         next = next;
         stands = ap (λ n. update_fields (slice_get log n)) (sym at) ∙ named.0;
+        at = at;
         parts = named.1
             ∙ ap (λ n. by_update (honest_parts setting (state_of_log key_size value_size log) n) before value next) at;
       }

@@ -1,10 +1,10 @@
 -- What is appended by a batch with its commit, and what is kept of the log with it, from what the code finds.
-use Rattle.std.proofs.Common.{◌≡◌, ℕ, ◌+◌, ◌-◌, ◌<◌, ◌≤◌, ◌^◌, Bool, true, List, [], ◌∷◌, ◌++◌, drop, length, map, Option, sym, ◌∙◌, ap, subst, arith, length-append}
+use Rattle.std.proofs.Common.{◌≡◌, ℕ, ◌+◌, ◌-◌, ◌<◌, ◌≤◌, ◌^◌, Bool, true, List, [], ◌∷◌, ◌++◌, drop, length, map, Option, sym, ◌∙◌, ap, subst, arith, length-append, ◌*◌}
 use Rattle.std.proofs.lemmas.List.{length-map}
 use Rattle.std.specs.List.{AllByRecursion, flat_map}
-use Rattle.state_bitmap.specs.Bits.{all_bits}
+use Rattle.state_proofs_parts.specs.Bits.{all_bits}
 use Rattle.state_ops.specs.Operation.{Operation, commit_floor}
-use Rattle.state_proofs.specs.Canonical.{Setting}
+use Rattle.state_proofs_parts.specs.Canonical.{Setting}
 use Rattle.state_current.specs.Growth.{grown}
 use Rattle.state_current.specs.Kept.{Kept, StandsFor}
 use Rattle.auth_store_parts.specs.Laws.Logs.{length-log_of}
@@ -14,7 +14,7 @@ use Rattle.auth_store_log.specs.Records.{log_bytes}
 use Rattle.auth_store_ledger.specs.History.{AreStates, history_of, last_floor, log_of, with_commit}
 use Rattle.auth_store_ledger.specs.Commits.{AreFound}
 use Rattle.auth_store_ledger.specs.Store.{IsBatch, IsKept, encodings, state_of_log}
-use Rattle.auth_store_ledger.proofs.Commits.{bits_kept, first_is, first_with, floor_kept, said_is, within}
+use Rattle.auth_store_ledger.proofs.Commits.{bits_kept, first_is, first_with, floor_kept, left_with, said_is, within}
 use Rattle.auth_store_ledger.proofs.Kept.{counted, joined_is, kept_after, places_within}
 
 -- it is found of lists that are those
@@ -54,14 +54,17 @@ module _ {B : Type 0} (setting : Setting) (key value : ℕ) (log changes said : 
   pub paired : length bits ≡ length encoded
   paired = omega (arith, many, ap length found.set, length-append (map is_no_delete changes) (true ∷ []), length-map changes is_no_delete)
 
-  pub there : AllByRecursion (λ place. place < before.operations.leaves + length encoded) places
+  pub there : AllByRecursion (λ place. (8 * setting.width * before.bits.pruned ≤ place)
+      × (place < before.operations.leaves + length encoded)) places
   there =
-      let all : AllByRecursion (λ place. place < length log) places =
-      subst (AllByRecursion (λ place. place < length log)) (sym found.taken_out)
+      let all : AllByRecursion (λ place. (last_floor log ≤ place) × (place < length log)) places =
+      subst (AllByRecursion (λ place. (last_floor log ≤ place) × (place < length log))) (sym found.taken_out)
       (within log states of_history changes batch metadata (length log - 1) last_is) in
-      places_within (length log) (before.operations.leaves + length encoded) places (omega (arith, kept.leaves)) all
+      places_within (8 * setting.width * before.bits.pruned) (last_floor log) (length log)
+      (before.operations.leaves + length encoded) places kept.behind (omega (arith, kept.leaves)) all
 
-  pub stays : (after : Kept) → after.operations.leaves ≡ before.operations.leaves + length encoded → after.bits.pruned ≡ 0
+  pub stays : (after : Kept) → after.operations.leaves ≡ before.operations.leaves + length encoded
+      → after.bits.pruned ≡ before.bits.pruned
       → StandsFor setting (grown (state_of_log key value log) (record {
         operations = map bytes encoded;
         bits = bits;
@@ -69,13 +72,14 @@ module _ {B : Type 0} (setting : Setting) (key value : ℕ) (log changes said : 
         floor = floor;
       })) after
       → IsKept setting key value (log ++ said) after
-  stays after leaves unpruned stands =
+  stays after leaves pruned stands =
       let last = length log - 1 in
+      let later : floor ≡ last_floor log + first_set (drop (last_floor log) (left_with last log changes)) = floor_first in
       kept_after setting key value log said before after bytes encoded bits places floor kept as_bytes
       (bits_kept log states of_history changes batch metadata last last_is said bits places said_with found.set found.taken_out)
       (floor_kept log states of_history changes batch metadata last last_is floor floor_first
       ∙ ap (λ (s : List Operation). last_floor (log ++ s)) (sym said_with))
-      leaves unpruned stands
+      (omega (arith, later)) leaves pruned stands
 
   pub bytes_are : flat_map bytes encoded ≡ log_bytes key value said
   bytes_are = joined_is key value bytes encoded said as_bytes

@@ -13,10 +13,6 @@ use Rattle.auth_store_ledger.specs.Map.{Map}
 use Rattle.auth_store_ledger.specs.History.{Commit, AreStates, activity_bits, batch_operations, history_of, inactivity_floor, last_floor, latest_map, log_of, replayed, with_commit}
 use Rattle.auth_store_ledger.specs.Store.{IsBatch}
 
-each : (P Q : ℕ → Type 0) (places : List ℕ) → ((place : ℕ) → P place → Q place) → AllByRecursion P places → AllByRecursion Q places
-each P Q [] leads all = tt
-each P Q (place ∷ places) leads all = (leads place all.0, each P Q places leads all.1)
-
 -- the bits of a log with those of changes and of the commit behind them, before any is cleared
 abbrev pub bits_with : List Operation → List Operation → List Bool
 bits_with log changes = activity_bits log ++ (map is_no_delete changes ++ true ∷ [])
@@ -89,16 +85,16 @@ module _ (log : List Operation) (states : AreStates (history_of log)) (whole : l
   pub floor_kept : (floor : ℕ) → floor ≡ first_with last log changes → floor ≡ last_floor (log ++ with_commit log changes metadata)
   floor_kept floor is = is ∙ (floor_told ∙ sym (last_floor-with_commit log changes metadata))
 
-  -- the places are the log's
-  pub within : AllByRecursion (λ place. place < length log) (places_with last log changes)
+  -- the places are the log's, from its floor on
+  pub within : AllByRecursion (λ place. (last_floor log ≤ place) × (place < length log)) (places_with last log changes)
   within =
-      let all : AllByRecursion (λ place. place < length old) (taken (places_of old) last (added ++ close ∷ [])) =
-      each (λ place. (last_floor old ≤ place) × (place < length old)) (λ place. place < length old) (taken (places_of old) last (added ++ close ∷ []))
-      (λ place is. is.1) (taken_after (history_of log) last at (added ++ close ∷ [])) in
-      let here : AllByRecursion (λ place. place < length old) (places_with last old added) =
-      subst (AllByRecursion (λ place. place < length old)) taken_with all in
-      subst (λ (l : List Operation). AllByRecursion (λ place. place < length l) (places_with last l changes)) (sym whole)
-      (subst (λ (c : List Operation). AllByRecursion (λ place. place < length old) (places_with last old c)) (sym are_added) here)
+      let here : AllByRecursion (λ place. (last_floor old ≤ place) × (place < length old)) (places_with last old added) =
+      subst (AllByRecursion (λ place. (last_floor old ≤ place) × (place < length old))) taken_with
+      (taken_after (history_of log) last at (added ++ close ∷ [])) in
+      subst (λ (l : List Operation). AllByRecursion (λ place. (last_floor l ≤ place) × (place < length l)) (places_with last l changes))
+      (sym whole)
+      (subst (λ (c : List Operation). AllByRecursion (λ place. (last_floor old ≤ place) × (place < length old)) (places_with last old c))
+      (sym are_added) here)
 
   -- so the bits that are kept are those of the log with the commit
   pub bits_kept : (said : List Operation) (bits : List Bool) (places : List ℕ) → said ≡ with_commit log changes metadata

@@ -5,9 +5,9 @@ use Rattle.std.proofs.lemmas.List.{length-map, map-append}
 use Rattle.std.proofs.lemmas.Nat.{mul-le, pow_pos}
 use Rattle.std.specs.List.{AllByRecursion, flat_map}
 use Rattle.state_ops.specs.Operation.{Operation, fixed_encoding}
-use Rattle.state_bitmap.specs.Bits.{Bits, bit_count}
-use Rattle.state_bitmap.specs.Laws.Bits.{length-all}
-use Rattle.state_proofs.specs.Canonical.{Setting, State}
+use Rattle.state_proofs_parts.specs.Bits.{Bits, bit_count}
+use Rattle.state_proofs_parts.specs.Laws.Bits.{length-all}
+use Rattle.state_proofs_parts.specs.Canonical.{Setting, State}
 use Rattle.state_current.specs.Growth as kept
 use Rattle.state_current.specs.Growth.{grown}
 use Rattle.state_current.specs.Kept.{Kept, StandsFor}
@@ -45,18 +45,15 @@ joined_is key value bytes encoded said are =
     joined_map f [] = refl
     joined_map f (x ∷ xs) = ap (λ l. f x ++ l) (joined_map f xs)
 
--- places stand behind what is pruned, where nothing is
-pub places_unpruned : (size pruned end : ℕ) (places : List ℕ) → pruned ≡ 0 → AllByRecursion (λ place. place < end) places
-    → AllByRecursion (λ place. (size * pruned ≤ place) × (place < end)) places
-places_unpruned size pruned end [] none all = tt
-places_unpruned size pruned end (place ∷ places) none all =
-    let start : size * pruned ≡ size * 0 = ap (λ n. size * n) none in
-    ((omega (arith, start), all.0), places_unpruned size pruned end places none all.1)
-
-pub places_within : (start end : ℕ) (places : List ℕ) → start ≤ end → AllByRecursion (λ place. place < start) places
-    → AllByRecursion (λ place. place < end) places
-places_within start end [] le all = tt
-places_within start end (place ∷ places) le all = let first = all.0 in (omega (arith, le, first), places_within start end places le all.1)
+-- places between two bounds stand between wider ones
+pub places_within : (start first last end : ℕ) (places : List ℕ) → start ≤ first → last ≤ end
+    → AllByRecursion (λ place. (first ≤ place) × (place < last)) places
+    → AllByRecursion (λ place. (start ≤ place) × (place < end)) places
+places_within start first last end [] from to all = tt
+places_within start first last end (place ∷ places) from to all =
+    let low : first ≤ place = all.0.0 in
+    let high : place < last = all.0.1 in
+    ((omega (arith, from, low), omega (arith, to, high)), places_within start first last end places from to all.1)
 
 -- what three clauses of an answer lead to
 pub all_ok : {A E : Type 0} (r : Result A E) (P Q R S : A → Type 0) → ((a : A) → P a → Q a → R a → S a) → IfOk r P → IfOk r Q → IfOk r R
@@ -64,13 +61,21 @@ pub all_ok : {A E : Type 0} (r : Result A E) (P Q R S : A → Type 0) → ((a : 
 all_ok (Ok a) P Q R S leads p q r = leads a p q r
 all_ok (Err e) P Q R S leads p q r = tt
 
--- what stands for no operations is kept of the empty log
+-- of what stands for no operations nothing is pruned
+pub nothing_pruned : (setting : Setting) (kept : Kept) → StandsFor setting (record { operations = []; bits = []; floor = 0 }) kept
+    → kept.bits.pruned ≡ 0
+nothing_pruned setting kept stands =
+    none_pruned setting.width setting.grafting_height kept.bits stands.whole
+    (sym (length-all setting.width kept.bits) ∙ sym (ap length stands.bits))
+
+-- it is kept of the empty log
 pub kept_of_nothing : (setting : Setting) (key value : ℕ) (kept : Kept)
     → StandsFor setting (record { operations = []; bits = []; floor = 0 }) kept → IsKept setting key value [] kept
 kept_of_nothing setting key value kept stands =
-    let none : bit_count setting.width kept.bits ≡ 0 = sym (length-all setting.width kept.bits) ∙ sym (ap length stands.bits) in record {
+    let none : 8 * setting.width * kept.bits.pruned ≡ 8 * setting.width * 0 =
+    ap (λ (n : ℕ). 8 * setting.width * n) (nothing_pruned setting kept stands) in record {
       leaves = stands.operations.counted;
-      unpruned = none_pruned setting.width setting.grafting_height kept.bits stands.whole none;
+      behind = omega (arith, none);
       stands = stands;
     }
 
@@ -81,8 +86,8 @@ pub kept_after : {B : Type 0} (setting : Setting) (key value : ℕ) (log said : 
     → IsKept setting key value log before
     → map bytes encoded ≡ encodings key value said
     → logged.cleared (activity_bits log ++ bits) places ≡ activity_bits (log ++ said)
-    → floor ≡ last_floor (log ++ said)
-    → after.operations.leaves ≡ before.operations.leaves + length encoded → after.bits.pruned ≡ 0
+    → floor ≡ last_floor (log ++ said) → last_floor log ≤ floor
+    → after.operations.leaves ≡ before.operations.leaves + length encoded → after.bits.pruned ≡ before.bits.pruned
     → StandsFor setting (grown (state_of_log key value log) (record {
       operations = map bytes encoded;
       bits = bits;
@@ -90,14 +95,14 @@ pub kept_after : {B : Type 0} (setting : Setting) (key value : ℕ) (log said : 
       floor = floor;
     })) after
     → IsKept setting key value (log ++ said) after
-kept_after setting key value log said before after bytes encoded bits places floor is are cleared_is floor_is leaves unpruned stands =
+kept_after setting key value log said before after bytes encoded bits places floor is are cleared_is floor_is later leaves pruned stands =
     let encoding : Operation → List ℕ = fixed_encoding key value in
     let operations : encodings key value log ++ map bytes encoded ≡ encodings key value (log ++ said) =
     ap (λ l. encodings key value log ++ l) are ∙ sym (map-append encoding log said) in
     let signs : kept.cleared (activity_bits log ++ bits) places ≡ activity_bits (log ++ said) =
     same_cleared (activity_bits log ++ bits) places ∙ cleared_is in record {
       leaves = omega (arith, leaves, is.leaves, length-append log said, length-map encoded bytes, ap length are, length-map said encoding);
-      unpruned = unpruned;
+      behind = omega (arith, ap (λ (n : ℕ). 8 * setting.width * n) pruned, is.behind, later, floor_is);
       stands = subst (λ (s : State). StandsFor setting s after) (same_state _ _ _ _ _ _ operations signs floor_is) stands;
     }
 
@@ -106,7 +111,7 @@ pub kept_of_all : {B : Type 0} (setting : Setting) (key value : ℕ) (log : List
     (encoded : List B) (bits : List Bool) (floor : ℕ)
     → StandsFor setting (record { operations = []; bits = []; floor = 0 }) empty
     → map bytes encoded ≡ encodings key value log → bits ≡ activity_bits log → floor ≡ last_floor log
-    → after.operations.leaves ≡ empty.operations.leaves + length encoded → after.bits.pruned ≡ 0
+    → after.operations.leaves ≡ empty.operations.leaves + length encoded → after.bits.pruned ≡ empty.bits.pruned
     → StandsFor setting (grown (record { operations = []; bits = []; floor = 0 }) (record {
       operations = map bytes encoded;
       bits = bits;
@@ -114,6 +119,6 @@ pub kept_of_all : {B : Type 0} (setting : Setting) (key value : ℕ) (log : List
       floor = floor;
     })) after
     → IsKept setting key value log after
-kept_of_all setting key value log empty after bytes encoded bits floor none are bits_are floor_is leaves unpruned stands =
+kept_of_all setting key value log empty after bytes encoded bits floor none are bits_are floor_is leaves pruned stands =
     kept_after setting key value [] log empty after bytes encoded bits [] floor (kept_of_nothing setting key value empty none)
-    are bits_are floor_is leaves unpruned stands
+    are bits_are floor_is (omega arith) leaves pruned stands

@@ -1,13 +1,16 @@
 -- What follows from the operations of a log: its commits, and where the value of a key stands.
-use Rattle.std.proofs.Common.{◌≡◌, ℕ, ◌+◌, ◌≤◌, List, [], ◌∷◌, Option, None, Some, option_map, slice_get, length, map, take, drop, ◌-◌, refl, ap, sym, ◌∙◌, arith}
+use Rattle.std.proofs.Common.{◌≡◌, ℕ, ◌+◌, ◌≤◌, List, [], ◌∷◌, ◌++◌, Option, None, Some, true, option_map, slice_get, length, length-append, subst, map, take, drop, ◌-◌, refl, ap, sym, ◌∙◌, arith}
 use Rattle.std.specs.Prelude.{unwrap_or}
 use Rattle.std.proofs.Math.Seq.{take-length}
 use Rattle.state_ops.specs.Operation.{Operation, delete, update, ordered, commit_floor}
 use Rattle.auth_store_ledger.specs.Map.{Map, value_at, next_key, with_entry, without_key}
-use Rattle.auth_store_ledger.specs.History.{History, AreStates, IsState, latest_map, log_of, history_of, history_from, active_location, active_update}
+use Rattle.auth_store_ledger.specs.History.{History, AreStates, IsState, activity_bits, inactivity_floor, last_floor, latest_map, log_of, history_of, history_from, active_location, active_update}
 use Rattle.auth_store_ledger.specs.Store.{commit_count, HasValueAt}
 use Rattle.auth_store_parts.specs.Laws.Lookups.{IsState-with_entry, IsState-without_key}
 use Rattle.auth_store_parts.specs.Laws.Actives.{active_stands, active_update-log_of}
+use Rattle.auth_store_parts.specs.Laws.Floors.{floor_within}
+use Rattle.auth_store_parts.specs.Laws.Places.{active_where_located}
+use Rattle.auth_store_index.specs.Laws.Floors.{active_in_log_of, ends-log_of, last_floor-committed}
 
 -- a history has a commit for each of the operations that is one
 pub length-history_from : (state : Map) (history : History) (operations : List Operation)
@@ -54,6 +57,32 @@ located key log fields states whole is =
         → option_map {U = List ℕ × List ℕ} (λ value. (value, next)) at ≡ Some fields → at ≡ Some fields.0
     has_fields next None e = absurd (cc)
     has_fields next (Some v) e = ap Some (ap (λ (o : Option (List ℕ × List ℕ)). (unwrap_or o (v, v)).0) e)
+
+-- it stands at the floor that the log's last commit records, or behind it
+pub active_behind : (key : List ℕ) (log : List Operation) (fields : List ℕ × List ℕ) → AreStates (history_of log)
+    → log ≡ log_of (history_of log) → active_update key log ≡ Some fields → last_floor log ≤ active_location key log
+active_behind key log fields states whole is =
+    let at : ℕ = active_location key log in
+    let there = located key log fields states whole is in
+    let stands : slice_get log at ≡ Some (update (ordered key there.value there.next)) =
+    ap (λ (l : List Operation). slice_get l at) whole ∙ there.stands in
+    let bit : slice_get (activity_bits log) at ≡ Some true = active_where_located log at key there.value there.next stands refl in
+    subst (λ (l : List Operation). last_floor l ≤ at) (sym whole)
+    (active_in_log_of (history_of log) at (subst (λ (l : List Operation). slice_get (activity_bits l) at ≡ Some true) whole bit))
+
+-- so does that commit, which ends the log
+pub end_behind : (log : List Operation) → log ≡ log_of (history_of log) → last_floor log ≤ length log - 1
+end_behind log whole =
+    let end = ends-log_of (history_of log) in
+    let is = whole ∙ end.whole in
+    omega (
+      arith,
+      ap last_floor is,
+      last_floor-committed end.front end.metadata,
+      floor_within end.front,
+      ap length is,
+      length-append end.front (commit_floor end.metadata (inactivity_floor end.front) ∷ []),
+    )
 
 -- where a key has no active update it has no value
 pub unlocated : (key : List ℕ) (log : List Operation) → AreStates (history_of log) → log ≡ log_of (history_of log)

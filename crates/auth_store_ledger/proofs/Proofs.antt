@@ -1,15 +1,23 @@
 -- What a store's proof of a key holds.
 use Rattle.std.proofs.Common.{◌≡◌, ℕ, subst, Bool, List, Option, None, Some, option_map, refl, ap, sym, ◌∙◌}
 use Rattle.state_ops.specs.Operation.{Operation}
-use Rattle.state_proofs.specs.Canonical.{Setting, State}
+use Rattle.state_proofs_parts.specs.Canonical.{Setting, State}
 use Rattle.state_proofs.specs.Honest.{key_value_proof}
 use Rattle.state_current.specs.Kept.{Kept}
 use Rattle.auth_store_ledger.specs.Map.{Map, value_at, next_key, entry_of}
 use Rattle.auth_store_ledger.specs.History.{History, latest_map, log_of, history_of, active_location, active_update}
-use Rattle.auth_store_ledger.specs.Store.{state_of_log, IsLedger}
+use Rattle.auth_store_ledger.specs.Store.{LedgerState, state_of_log, IsLedger}
 use Rattle.auth_store_client.specs.Proving.{honest_proof}
 use Rattle.auth_store_parts.specs.Laws.Actives.{active_update-log_of}
 use Rattle.std.specs.Prelude.{IfSome, unwrap_or}
+
+-- the history that a ledger is seen as
+abbrev pub history_in : LedgerState → History
+history_in seen = seen.history
+
+-- what a ledger of this log is seen as, of which so many chunks are pruned
+abbrev pub seen_as : List Operation → ℕ → LedgerState
+seen_as log pruned = record { history = history_of log; pruned = pruned }
 
 -- the active update of a key of what a store keeps names what the latest state has there
 pub kept_entry : (setting : Setting) (key_size value_size : ℕ) (log : List Operation) (count : ℕ) (kept : Kept)

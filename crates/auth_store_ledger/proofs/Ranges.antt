@@ -10,22 +10,13 @@ use Rattle.std.proofs.lemmas.Option.{get_or_from_slice_get, slice_get_past}
 use Rattle.std.proofs.Math.Nat.{mul_comm}
 use Rattle.merkle_core.specs.Proofs.{proof_encoding}
 use Rattle.state_ops.specs.Operation.{Operation}
-use Rattle.state_proofs.specs.Canonical.{Setting, State, chunk_bits, chunks}
-use Rattle.state_proofs.specs.Laws.Chunks.{location_chunks}
+use Rattle.state_proofs_parts.specs.Canonical.{Setting, State, chunk_bits, chunks}
+use Rattle.state_proofs_parts.specs.Laws.Chunks.{location_chunks}
 use Rattle.auth_store_client.specs.Proving.{honest_operation}
 use Rattle.auth_store_ledger.specs.declared.error.Unprovable.{Unprovable}
 use Rattle.auth_store_ledger.specs.declared.error.Unprovable.TheVariants.{EmptyRange, OutOfRange, Pruned, Inactive}
 use Rattle.auth_store_ledger.specs.History.{History, activity_bits, log_of}
 use Rattle.auth_store_ledger.specs.Proving.{OperationAnswer, RangeAnswer, SliceAnswer, answer_of_found, answer_of_operation, between, is_before_chunks, range_refusal, unless_refused}
-
--- a location stands before so many chunks where its own chunk does
-pub before_chunks : (size chunks location : ℕ) → 0 < size → nat_lt (location / size) chunks ≡ nat_lt location (size * chunks)
-before_chunks size chunks location some = elim (cases_lt location (size * chunks)) [
-  | inl lt ↦ lt-ltb (location / size) chunks (div_below location size chunks some (omega (arith, lt, mul_comm chunks size)))
-      ∙ sym (lt-ltb location (size * chunks) lt)
-  | inr le ↦ le-ltb (location / size) chunks (le-div chunks location size some (omega (arith, le, mul_comm chunks size)))
-      ∙ sym (le-ltb location (size * chunks) le)
-]
 
 module _ (setting : Setting) (history : History) (pruned start stop : ℕ) where
   pub refused_empty : stop ≤ start → Some EmptyRange ≡ range_refusal setting history pruned start stop
@@ -162,6 +153,10 @@ pub same_slice : (operations others : List Operation) (bytes proof : List ℕ) �
     → (let one : SliceAnswer = record { operations = operations; bytes = bytes } in let other : SliceAnswer =
     record { operations = others; bytes = proof } in one ≡ other)
 same_slice operations others bytes proof p q = λ i. record { operations = p i; bytes = q i }
+
+-- so many chunks that end by a location stand before its own
+pub chunks_before : (size chunks location : ℕ) → 0 < size → size * chunks ≤ location → chunks ≤ location / size
+chunks_before size chunks location some le = le-div chunks location size some (omega (arith, mul_comm chunks size, le))
 
 pub chunk_order : (size start last : ℕ) → 0 < size → start ≤ last → start / size ≤ last / size
 chunk_order size start last some le = le-div (start / size) last size some (omega (arith, div-add-mod' start size, le))

@@ -1,7 +1,7 @@
 -- What a store answers where it is asked for a proof, and when the client accepts what it answers of a key.
 use Rattle.std.specs.Prelude.{◌≡◌, ⊤, ℕ, ◌-◌, ◌*◌, nat_le, nat_lt, Bool, false, if◌then◌else◌, List, length, take, drop}
 use Rattle.std.specs.Prelude.{slice_get, slice_index_or, Option, None, Some, Result, Ok, Err}
-use Rattle.state_proofs.specs.Canonical.{Setting}
+use Rattle.state_proofs_parts.specs.Canonical.{Setting}
 use Rattle.auth_store_parts.specs.Map.{value_at}
 use Rattle.auth_store_parts.specs.History.{History, activity_bits, latest_map, log_of}
 use Rattle.state_ops.specs.Operation.{Operation}

@@ -1,16 +1,21 @@
 -- What a ledger keeps of a history, and what of it may be pruned.
 use Rattle.std.specs.Prelude.{◌≡◌, ℕ, ◌*◌, ◌/◌, ◌^◌, ◌≤◌, ◌+◌, ⊤, if◌then◌else◌, List, [], ◌∷◌, length, slice_get, Some}
 use Rattle.state_ops.specs.Operation.{Operation, update, ordered}
-use Rattle.state_proofs.specs.Canonical.{Setting}
+use Rattle.state_proofs_parts.specs.Canonical.{Setting}
 use Rattle.state_current.specs.Kept.{Kept, StandsFor}
 use Rattle.state_current.specs.Settled.{IsSettled, IsGreatestSettled}
 use Rattle.auth_store_log.specs.Records.{Format, FloorFits, IsRecorded}
 use Rattle.auth_store_ledger.specs.Map.{Map, value_at}
 use Rattle.auth_store_ledger.specs.History.{History, AreStates, IsState, batch_operations, history_of, is_commit}
-use Rattle.auth_store_ledger.specs.History.{latest_map, log_of, replayed}
+use Rattle.auth_store_ledger.specs.History.{last_floor, latest_map, log_of, replayed}
 pub use Rattle.auth_store_client.specs.States.{is_chunk_width, IsChunkWidth, grafting_height, setting_of_width}
 pub use Rattle.auth_store_client.specs.States.{encodings, state_of_log, floor_of, state_of_history, root_of_history}
 pub use Rattle.auth_store_client.specs.States.{commit_after}
+
+-- what a ledger is seen as: a history, and how many chunks are pruned of what it keeps of the history
+pub record LedgerState : Type 0 where
+  pub history : History
+  pub pruned : ℕ
 
 -- so many chunks of a history's log are settled: its trees may be pruned of them
 abbrev pub IsPrunable : Setting → History → ℕ → Type 0
@@ -23,10 +28,11 @@ IsPrunedUpTo setting history before location after =
     IsGreatestSettled setting.rule setting.grafting_height (length (log_of history)) before
     (location / (8 * setting.width)) after
 
--- what is kept of a log beside its operations stands for the log's state, and nothing of it is pruned
+-- what is kept of a log beside its operations stands for the log's state; the chunks that are pruned of it end by the
+-- log's floor
 pub record IsKept (setting : Setting) (key value : ℕ) (log : List Operation) (kept : Kept) : Type 0 where
   pub leaves : kept.operations.leaves ≡ length log
-  pub unpruned : kept.bits.pruned ≡ 0
+  pub behind : 8 * setting.width * kept.bits.pruned ≤ last_floor log
   pub stands : StandsFor setting (state_of_log key value log) kept
 
 -- what a ledger keeps of a history: its log, the number of commits, and what is kept of the log

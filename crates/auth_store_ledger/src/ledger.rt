@@ -8,8 +8,8 @@ ghost use Rattle.auth_store_ledger.specs.History as spec;
 ghost use Rattle.auth_store_ledger.specs.Map.{value_at};
 ghost use Rattle.auth_store_parts.specs.Places.{places_of};
 ghost use Rattle.auth_store_log.specs.Records.{format_of, log_bytes, AreRecorded};
-ghost use Rattle.auth_store_ledger.specs.Store.{IsChunkWidth, IsKept, IsLedger, AreWritten, HasValueAt, commit_count};
-ghost use Rattle.auth_store_ledger.specs.Store.{setting_of_width, floor_of, root_of_history, commit_after};
+ghost use Rattle.auth_store_ledger.specs.Store.{IsChunkWidth, IsKept, IsLedger, AreWritten, HasValueAt, LedgerState};
+ghost use Rattle.auth_store_ledger.specs.Store.{commit_after, commit_count, floor_of, root_of_history, setting_of_width};
 
 mod absence;
 mod between;
@@ -40,7 +40,8 @@ pub const MAX_OPERATIONS: u64 = 0x4000_0000_0000_0000;
 
 /// A history of a store of keys `K` and values `V`, whose root is hashed by `H` over trees of the family `F` and over
 /// chunks of `N` bytes. Trees, bits and floor are kept in step with the log, so that a commit takes what its batch
-/// takes, and no root or proof is made of the whole log anew. Its contracts see it as the history (own).
+/// takes, and no root or proof is made of the whole log anew; chunks of trees and bits may be pruned from the front. Its
+/// contracts see it as the history, and how many chunks are pruned (own).
 #[derive(Drop)]
 pub struct Ledger<F: Graftable, H: HashFunction, K: FixedKey, V: FixedValue, const N: usize> {
     alloc: Global,
@@ -51,9 +52,9 @@ pub struct Ledger<F: Graftable, H: HashFunction, K: FixedKey, V: FixedValue, con
 
 impl<F: Graftable, H: HashFunction, K: FixedKey, V: FixedValue, const N: usize> Model
     for Ledger<F, H, K, V, N> {
-    ghost Value = { spec.History };
+    ghost Value = { LedgerState };
 
-    ghost view = { λ s. spec.history_of s.log };
+    ghost view = { λ s. record { history = spec.history_of s.log; pruned = s.current.bits.pruned } };
 
     ghost invariant = { λ s. IsChunkWidth N
         × IsLedger (setting_of_width F.merge_rule H.hash_of N) K.SIZE V.SIZE s.log s.commits s.current
@@ -118,14 +119,15 @@ impl<F: Graftable, H: HashFunction, K: FixedKey, V: FixedValue, const N: usize> 
     V,
     N,
 > {
-    /// The history whose log this is. It is refused where the log has more than 2^62 operations, or out of memory.
+    /// The history whose log this is, of which nothing is pruned. It is refused where the log has more than 2^62 operations, or out of memory.
     pub fn of(alloc: Global, log: PlacedLog<F, K, V>) -> Result<Ledger<F, H, K, V, N>, LedgerError>
         requires width { IsChunkWidth N }
         requires log { spec.meanings K.encoding V.encoding log.operations.items
             ≡ spec.log_of (spec.history_of (spec.meanings K.encoding V.encoding log.operations.items)) }
         requires places { log.places ≡ places_of (spec.meanings K.encoding V.encoding log.operations.items) }
-        ensures ok { IfOk result (λ ledger. ledger
+        ensures ok { IfOk result (λ ledger. ledger.history
             ≡ spec.history_of (spec.meanings K.encoding V.encoding log.operations.items)) }
+        ensures whole { IfOk result (λ ledger. ledger.pruned ≡ 0) }
         ensures refused { IfErr result (λ e. (e ≡ LedgerError.Memory) ⊎ ((e ≡ LedgerError.NumberEnded)
             × (2 ^ 62 < length log.operations.items))) }
     {
@@ -153,17 +155,18 @@ impl<F: Graftable, H: HashFunction, K: FixedKey, V: FixedValue, const N: usize> 
         metadata: Option<V>,
     ) -> Result<Appended<F, H, K, V, N>, LedgerError>
         ensures operations { let said = words.meanings K.encoding V.encoding batch.now.words.items in
-            IfOk result (λ next. spec.log_of self.now ++ spec.meanings K.encoding V.encoding next.operations.items
-            ≡ spec.log_of (commit_after said (option_map V.encoding metadata) self.now)) }
+            IfOk result (λ next. spec.log_of self.now.history ++ spec.meanings K.encoding V.encoding next.operations.items
+            ≡ spec.log_of (commit_after said (option_map V.encoding metadata) self.now.history)) }
+        ensures pruned { IfOk result (λ next. next.current.bits.pruned ≡ self.now.pruned) }
         ensures kept { IfOk result (λ next. IsKept (setting_of_width F.merge_rule H.hash_of N) K.SIZE V.SIZE
-            (spec.log_of self.now ++ spec.meanings K.encoding V.encoding next.operations.items) next.current) }
+            (spec.log_of self.now.history ++ spec.meanings K.encoding V.encoding next.operations.items) next.current) }
         ensures bytes { IfOk result (λ next. next.bytes.items
             ≡ log_bytes K.SIZE V.SIZE (spec.meanings K.encoding V.encoding next.operations.items)) }
         ensures written { IfOk result (λ next. AreWritten (format_of (K.after tt) (V.after tt) K.SIZE V.SIZE)
             (spec.meanings K.encoding V.encoding next.operations.items)) }
-        ensures few { IfOk result (λ next. length (spec.log_of self.now) + length next.operations.items ≤ 2 ^ 62) }
+        ensures few { IfOk result (λ next. length (spec.log_of self.now.history) + length next.operations.items ≤ 2 ^ 62) }
         ensures refused { let said = words.meanings K.encoding V.encoding batch.now.words.items in
-            let next = commit_after said (option_map V.encoding metadata) self.now in
+            let next = commit_after said (option_map V.encoding metadata) self.now.history in
             IfErr result (λ e. (e ≡ LedgerError.Memory) ⊎ ((e ≡ LedgerError.NumberEnded)
             × (2 ^ 62 < length (spec.log_of next)))) }
     {
@@ -195,13 +198,14 @@ impl<F: Graftable, H: HashFunction, K: FixedKey, V: FixedValue, const N: usize> 
         metadata: Option<V>,
     ) -> Result<Vec<u8>, LedgerError>
         ensures ok { let said = words.meanings K.encoding V.encoding batch.words.items in
-            OnOk result (self.new ≡ commit_after said (option_map V.encoding metadata) self.old) }
-        ensures bytes { IfOk result (λ bytes. log_bytes K.SIZE V.SIZE (spec.log_of self.new)
-            ≡ log_bytes K.SIZE V.SIZE (spec.log_of self.old) ++ bytes.items) }
-        ensures within { OnOk result (length (spec.log_of self.new) ≤ 2 ^ 62) }
+            OnOk result (self.new.history ≡ commit_after said (option_map V.encoding metadata) self.old.history) }
+        ensures bytes { IfOk result (λ bytes. log_bytes K.SIZE V.SIZE (spec.log_of self.new.history)
+            ≡ log_bytes K.SIZE V.SIZE (spec.log_of self.old.history) ++ bytes.items) }
+        ensures within { OnOk result (length (spec.log_of self.new.history) ≤ 2 ^ 62) }
+        ensures pruned { self.new.pruned ≡ self.old.pruned }
         ensures err { OnErr result (self.new ≡ self.old) }
         ensures refused { let said = words.meanings K.encoding V.encoding batch.words.items in
-            let next = commit_after said (option_map V.encoding metadata) self.old in
+            let next = commit_after said (option_map V.encoding metadata) self.old.history in
             IfErr result (λ e. (e ≡ LedgerError.Memory) ⊎ ((e ≡ LedgerError.NumberEnded)
             × (2 ^ 62 < length (spec.log_of next)))) }
     {
@@ -218,8 +222,8 @@ impl<F: Graftable, H: HashFunction, K: FixedKey, V: FixedValue, const N: usize> 
 
     /// Where in the log the update stands that gives the key its value. None: the key isn't there.
     pub fn location(&self, key: &K) -> Option<u64>
-        ensures { MatchOption result (value_at (spec.latest_map self.now) (K.encoding key.now) ≡ None)
-            (λ index. HasValueAt (K.encoding key.now) self.now index) }
+        ensures { MatchOption result (value_at (spec.latest_map self.now.history) (K.encoding key.now) ≡ None)
+            (λ index. HasValueAt (K.encoding key.now) self.now.history index) }
     {
         let location = self.log.active_location(key);
         match update_at(self.log.operations(), location) {
@@ -230,7 +234,7 @@ impl<F: Graftable, H: HashFunction, K: FixedKey, V: FixedValue, const N: usize> 
 
     /// The operations of the log, the first one first.
     pub fn operations(&self) -> &[OrderedOperation<F, K, V>]
-        ensures { spec.meanings K.encoding V.encoding result.now ≡ spec.log_of self.now }
+        ensures { spec.meanings K.encoding V.encoding result.now ≡ spec.log_of self.now.history }
     {
         self.log.operations()
     }
@@ -238,35 +242,35 @@ impl<F: Graftable, H: HashFunction, K: FixedKey, V: FixedValue, const N: usize> 
     /// The root of the history.
     pub fn root(&self) -> H::Digest
         ensures { H.Digest.encoding result ≡ root_of_history
-            (setting_of_width F.merge_rule H.hash_of N) K.SIZE V.SIZE self.now }
+            (setting_of_width F.merge_rule H.hash_of N) K.SIZE V.SIZE self.now.history }
     {
         self.current.root()
     }
 
     /// How many commits the history has.
     pub fn commits(&self) -> u64
-        ensures { result ≡ length self.now }
+        ensures { result ≡ length self.now.history }
     {
         self.commits
     }
 
     /// The floor that the last commit of the log records: the location of an operation.
     pub fn floor(&self) -> u64
-        ensures { result ≡ floor_of self.now }
+        ensures { result ≡ floor_of self.now.history }
     {
         self.current.floor().as_u64()
     }
 
     /// How many operations the log has.
     pub fn len(&self) -> u64
-        ensures { result ≡ length (spec.log_of self.now) }
+        ensures { result ≡ length (spec.log_of self.now.history) }
     {
         self.log.len() as u64
     }
 
     /// What holds of every ledger: the operations of its log are read again as they were written.
     pub fn is_recorded(&self)
-        ensures { AreRecorded (format_of (K.after tt) (V.after tt) K.SIZE V.SIZE) (spec.log_of self.now) }
+        ensures { AreRecorded (format_of (K.after tt) (V.after tt) K.SIZE V.SIZE) (spec.log_of self.now.history) }
     {
         a_log_has_floors_within();
         let _ = &self.log;
@@ -276,8 +280,8 @@ impl<F: Graftable, H: HashFunction, K: FixedKey, V: FixedValue, const N: usize> 
     /// its log has at most 2^62 operations.
     pub fn holds_a_history(&self)
         ensures width { IsChunkWidth N }
-        ensures states { spec.AreStates self.now }
-        ensures few { length (spec.log_of self.now) ≤ 2 ^ 62 }
+        ensures states { spec.AreStates self.now.history }
+        ensures few { length (spec.log_of self.now.history) ≤ 2 ^ 62 }
     {
         let _ = &self.log;
     }

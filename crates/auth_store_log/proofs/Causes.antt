@@ -9,15 +9,15 @@ use Rattle.std.proofs.Math.Nat.{div-mul-le_self}
 use Rattle.paged_format.specs.Footers.{content_size}
 use Rattle.paged_format.specs.Pages.{shown_len, content_of, first_pages, recovered}
 use Rattle.paged_format.specs.Laws.Pages.{shown_within}
-use Rattle.paged_blob.specs.Calls.{content}
-use Rattle.paged_blob.specs.Answers.{Failures, IsCause}
-use Rattle.paged_blob.specs.Caches.{Cache}
-use Rattle.paged_blob.specs.CachedContent.{HoldsPagesOf, KeepsOthers}
-use Rattle.paged_blob.specs.Flushes.{physical_size}
-use Rattle.paged_blob.specs.Shrinks.{IsCutCause}
-use Rattle.paged_blob.specs.declared.error.CallKind.{CallKind}
-use Rattle.paged_blob.specs.declared.error.Error.{Error}
-use Rattle.paged_blob.specs.declared.error.Error.TheVariants.{BlobMissing, Injected, BlobInsufficientLength, NumberEnded, Memory, PowerCut, ChecksumMismatch}
+use Rattle.paged_blob_parts.specs.Calls.{content}
+use Rattle.paged_blob_parts.specs.Answers.{Failures, IsCause}
+use Rattle.paged_blob_parts.specs.Caches.{Cache}
+use Rattle.paged_blob_parts.specs.CachedContent.{HoldsPagesOf, KeepsOthers}
+use Rattle.paged_blob_parts.specs.Flushes.{physical_size}
+use Rattle.paged_blob_parts.specs.Shrinks.{IsCutCause}
+use Rattle.paged_blob_parts.specs.declared.error.CallKind.{CallKind}
+use Rattle.paged_blob_parts.specs.declared.error.Error.{Error}
+use Rattle.paged_blob_parts.specs.declared.error.Error.TheVariants.{BlobMissing, Injected, BlobInsufficientLength, NumberEnded, Memory, PowerCut, ChecksumMismatch}
 use Rattle.auth_store_log.specs.Causes.{IsLogCause, AreNamed}
 
 module _ (failures : Failures) where

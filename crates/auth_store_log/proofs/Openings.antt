@@ -2,10 +2,10 @@
 use Rattle.std.proofs.Common.{◌≡◌, ℕ, ◌+◌, ◌≤◌, List, [], length, take, drop, sym, ◌∙◌, ap, subst, arith}
 use Rattle.std.proofs.lemmas.List.{length-take, length-drop}
 use Rattle.std.proofs.Math.Seq.{take-length}
-use Rattle.paged_blob.specs.Calls.{Call}
-use Rattle.paged_blob.specs.Moments.{Through}
-use Rattle.paged_blob.specs.Laws.Moments.{weaker}
-use Rattle.paged_blob.specs.Writers.{Keeps, WriterState, IsWriter, written}
+use Rattle.paged_blob_parts.specs.Calls.{Call}
+use Rattle.paged_blob_parts.specs.Moments.{Through}
+use Rattle.paged_blob_parts.specs.Laws.Moments.{weaker}
+use Rattle.paged_blob_parts.specs.Writers.{Keeps, WriterState, IsWriter, written}
 use Rattle.auth_store_log.specs.Records.{Format, committed, history_bytes}
 use Rattle.auth_store_log.specs.Shown.{IsKeptThrough}
 use Rattle.auth_store_log.specs.Laws.Shown.{keeps_reopens, keeps_committed, keeps_begun, keeps_bytes}

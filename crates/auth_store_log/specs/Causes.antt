@@ -1,11 +1,11 @@
 -- Why a log is refused, and how the pages that are kept in memory are named.
 use Rattle.std.specs.Prelude.{◌⊎◌, ℕ, ◌<◌, ◌≤◌, ◌^◌, ⊤, max, IsFalse, List, length, Contains, Result, Ok, Err}
-use Rattle.paged_blob.specs.Answers.{Failures, failures_after, HaveEnded, IsPastNumbers}
-use Rattle.paged_blob.specs.Caches.{Cache, Page}
-use Rattle.paged_blob.specs.Flushes.{physical_size}
-use Rattle.paged_blob.specs.Reads.{IsReadingCause}
-use Rattle.paged_blob.specs.declared.error.Error.{Error}
-use Rattle.paged_blob.specs.declared.error.Error.TheVariants.{Injected, BlobMissing, NumberEnded, Memory, PowerCut}
+use Rattle.paged_blob_parts.specs.Answers.{Failures, failures_after, HaveEnded, IsPastNumbers}
+use Rattle.paged_blob_parts.specs.Caches.{Cache, Page}
+use Rattle.paged_blob_parts.specs.Flushes.{physical_size}
+use Rattle.paged_blob_parts.specs.Reads.{IsReadingCause}
+use Rattle.paged_blob_parts.specs.declared.error.Error.{Error}
+use Rattle.paged_blob_parts.specs.declared.error.Error.TheVariants.{Injected, BlobMissing, NumberEnded, Memory, PowerCut}
 use Rattle.auth_store_log.specs.declared.error.LogError.{LogError}
 use Rattle.auth_store_log.specs.declared.error.LogError.TheVariants.{Corrupt, Refused}
 use Rattle.auth_store_log.specs.Records.{Format, record_size, IsNoLog}

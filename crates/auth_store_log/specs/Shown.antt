@@ -2,9 +2,9 @@
 use Rattle.std.specs.Prelude.{◌≡◌, ◌⊎◌, ℕ, IsFalse, List, [], ◌∷◌, length, take, Option, None, Some}
 use Rattle.auth_store_parts.specs.History.{History, Commit}
 use Rattle.paged_format.specs.Pages.{recovered}
-use Rattle.paged_blob.specs.Calls.{Call, file_of}
-use Rattle.paged_blob.specs.Images.{IsImage}
-use Rattle.paged_blob.specs.Chance.{is_by_chance}
+use Rattle.paged_blob_parts.specs.Calls.{Call, file_of}
+use Rattle.paged_blob_parts.specs.Images.{IsImage}
+use Rattle.paged_blob_parts.specs.Chance.{is_by_chance}
 use Rattle.auth_store_log.specs.Records.{Format, history_bytes, recovered_log}
 
 -- the log of a history, perhaps with the commit that is pending

@@ -2,12 +2,12 @@
 
 ghost use Rattle.std.specs.Prelude.{◌≡◌, ◌≤◌, ◌⊎◌, ◌+◌, ◌<◌, ◌++◌, length, IfOk, IfErr, OnOk};
 ghost use Rattle.paged_format.specs.Footers.{content_size};
-ghost use Rattle.paged_blob.specs.Moments.{Through};
-ghost use Rattle.paged_blob.specs.Answers.{failures_after, IsCause, IsPowerOff};
-ghost use Rattle.paged_blob.specs.Flushes.{physical_size};
-ghost use Rattle.paged_blob.specs.Writers.{written, IsWriter, Keeps};
-ghost use Rattle.paged_blob.specs.CachedContent.{HoldsPagesOf, KeepsOthers};
-ghost use Rattle.paged_blob.specs.declared.error.CallKind.{CallKind};
+ghost use Rattle.paged_blob_parts.specs.Moments.{Through};
+ghost use Rattle.paged_blob_parts.specs.Answers.{failures_after, IsCause, IsPowerOff};
+ghost use Rattle.paged_blob_parts.specs.Flushes.{physical_size};
+ghost use Rattle.paged_blob_parts.specs.Writers.{written, IsWriter, Keeps};
+ghost use Rattle.paged_blob_parts.specs.CachedContent.{HoldsPagesOf, KeepsOthers};
+ghost use Rattle.paged_blob_parts.specs.declared.error.CallKind.{CallKind};
 ghost use Rattle.auth_store_log.specs.Causes.{AreNamed};
 
 use fault_storage::Checksum;

@@ -2,7 +2,7 @@
 
 ghost use Rattle.std.specs.Prelude.{◌≡◌};
 ghost use Rattle.auth_store_log.specs.declared.error.LogError.TheVariants.{Refused};
-ghost use Rattle.paged_blob.specs.declared.error.Error.TheVariants.{Memory};
+ghost use Rattle.paged_blob_parts.specs.declared.error.Error.TheVariants.{Memory};
 
 use paged_blob::Error;
 use std::alloc::{AllocError, AllocFailed};

@@ -4,8 +4,8 @@ ghost use Rattle.std.specs.Prelude.{◌≡◌, ◌⊎◌, ◌≤◌, ◌^◌, �
 ghost use Rattle.state_ops.specs.Operation.{Operation};
 ghost use Rattle.state_ops.specs.Reading.{HasEncoding};
 ghost use Rattle.auth_store_parts.specs.History.{History, Commit, AreStates, log_of};
-ghost use Rattle.paged_blob.specs.Calls.{Call};
-ghost use Rattle.paged_blob.specs.Writers.{Keeps};
+ghost use Rattle.paged_blob_parts.specs.Calls.{Call};
+ghost use Rattle.paged_blob_parts.specs.Writers.{Keeps};
 ghost use Rattle.auth_store_log.specs.Records.{Format, committed, log_bytes, history_bytes};
 ghost use Rattle.auth_store_log.specs.Records.{IsRecorded, AreRecorded, FloorsFit};
 ghost use Rattle.auth_store_log.specs.Shown.{MayShow, KeepsBytes, KeepsLog, Reopens};

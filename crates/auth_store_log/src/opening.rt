@@ -3,12 +3,12 @@
 ghost use Rattle.std.specs.Prelude.{◌≡◌, ◌+◌, ◌<◌, ◌≤◌, [], max, take, length, IsFalse, IfOk, IfErr, OnOk};
 ghost use Rattle.paged_format.specs.Footers.{IsPageSize};
 ghost use Rattle.paged_format.specs.Pages.{recovered};
-ghost use Rattle.paged_blob.specs.Calls.{content, file_of};
-ghost use Rattle.paged_blob.specs.Moments.{Through};
-ghost use Rattle.paged_blob.specs.Answers.{failures_after};
-ghost use Rattle.paged_blob.specs.Shrinks.{IsCut};
-ghost use Rattle.paged_blob.specs.Writers.{written, IsWriter, Keeps};
-ghost use Rattle.paged_blob.specs.CachedContent.{HoldsPagesOf};
+ghost use Rattle.paged_blob_parts.specs.Calls.{content, file_of};
+ghost use Rattle.paged_blob_parts.specs.Moments.{Through};
+ghost use Rattle.paged_blob_parts.specs.Answers.{failures_after};
+ghost use Rattle.paged_blob_parts.specs.Shrinks.{IsCut};
+ghost use Rattle.paged_blob_parts.specs.Writers.{written, IsWriter, Keeps};
+ghost use Rattle.paged_blob_parts.specs.CachedContent.{HoldsPagesOf};
 ghost use Rattle.auth_store_log.specs.Causes.{IsLogCause, AreNamed, log_reach};
 ghost use Rattle.auth_store_log.specs.Records.{format_of, begun, history_bytes, recovered_log};
 ghost use Rattle.auth_store_log.specs.Shown.{IsKeptThrough};

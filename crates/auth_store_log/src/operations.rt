@@ -3,8 +3,8 @@
 ghost use Rattle.std.specs.Prelude.{◌≡◌, ◌+◌, ◌*◌, ◌<◌, ◌≤◌, ◌++◌, ◌⊎◌, ℕ, List, length, take, drop, slice_get};
 ghost use Rattle.std.specs.Prelude.{Some, Err, IfOk, IfErr, IfSome, OnSome, IfNone};
 ghost use Rattle.paged_format.specs.Footers.{content_size};
-ghost use Rattle.paged_blob.specs.CachedContent.{HoldsPagesOf, KeepsOthers};
-ghost use Rattle.paged_blob.specs.Writers.{written, IsWriter};
+ghost use Rattle.paged_blob_parts.specs.CachedContent.{HoldsPagesOf, KeepsOthers};
+ghost use Rattle.paged_blob_parts.specs.Writers.{written, IsWriter};
 ghost use Rattle.state_ops.specs.Operation.{Operation, meaning_of};
 ghost use Rattle.state_ops.specs.Reading.{OperationLacks};
 ghost use Rattle.auth_store_parts.specs.History as history;

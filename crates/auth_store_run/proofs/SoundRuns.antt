@@ -94,7 +94,7 @@ module _ (m : Machine) (format : Format) where
   step_tells before after (live history pruned) ask_len answer next step = no (len_is _) answer next step.0 tt
   step_tells before after (live history pruned) (ask_prune location) answer next step = ⊎_elim
       (λ done. no (pruned_to _) answer next done.1 tt)
-      (λ past. no (refused _) answer next past.0 tt)
+      (⊎_elim (λ past. no (refused _) answer next past.0 tt) (λ lacks. no (refused _) answer next lacks.0 tt))
       step.0
   step_tells before after (failed history commit) ask_open answer next step = no still_open answer next step.0 tt
   step_tells before after (failed history commit) ask_crash answer next step = no still_open answer next step.0 tt

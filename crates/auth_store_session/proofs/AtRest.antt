@@ -1,7 +1,7 @@
 -- Steps of a closed device.
 use Rattle.std.proofs.Common.{◌≡◌, ℕ, None, refl, sym, subst, ap}
 use Rattle.fault_storage_parts.specs.declared.config.Config.{Config}
-use Rattle.paged_blob.specs.Caches.{Cache}
+use Rattle.paged_blob_parts.specs.Caches.{Cache}
 use Rattle.auth_store_device.specs.Devices.{DeviceState, after_asking}
 use Rattle.auth_store_device.specs.Logs.{HasOwnHeader}
 use Rattle.auth_store_log.specs.Records.{Format}

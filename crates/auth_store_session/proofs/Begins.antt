@@ -4,8 +4,8 @@ use Rattle.std.specs.Prelude.{true, false}
 use Rattle.fault_storage_parts.specs.Crc32.{crc32}
 use Rattle.paged_format.specs.Pages.{recovered}
 use Rattle.paged_format.specs.Laws.Pages.{recovered-none}
-use Rattle.paged_blob.specs.Caches.{Cache}
-use Rattle.paged_blob.specs.Calls.{synced}
+use Rattle.paged_blob_parts.specs.Caches.{Cache}
+use Rattle.paged_blob_parts.specs.Calls.{synced}
 use Rattle.state_ops.specs.Operation.{Operation, commit_floor}
 use Rattle.state_ops.specs.Reading.{HasEncoding}
 use Rattle.auth_store_device.specs.Devices.{DeviceState}

@@ -142,7 +142,7 @@ step_why m before after (live history pruned) ask_floor e next step = plain e (f
 step_why m before after (live history pruned) ask_len e next step = plain e (len_is _) step.0 refl
 step_why m before after (live history pruned) (ask_prune location) e next step = ⊎_elim
     (λ done. plain e (pruned_to _) done.1 refl)
-    (λ past. why_of before after e PastFloor past.0 tt)
+    (⊎_elim (λ past. why_of before after e PastFloor past.0 tt) (λ lacks. why_of before after e Memory lacks.0 tt))
     step.0
 step_why m before after (live history pruned) (ask_proof question) e next step = ⊎_elim
     (λ said. told_why before after e (proof_of m history pruned question) said)

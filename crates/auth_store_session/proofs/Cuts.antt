@@ -64,7 +64,7 @@ uncut m before after (live history pruned) ask_floor answer next step ack = plai
 uncut m before after (live history pruned) ask_len answer next step ack = plain answer (len_is _) ack step.0 refl
 uncut m before after (live history pruned) (ask_prune location) answer next step ack = ⊎_elim
     (λ done. plain answer (pruned_to _) ack done.1 refl)
-    (λ past. plain answer (refused PastFloor) ack past.0 refl)
+    (⊎_elim (λ past. plain answer (refused PastFloor) ack past.0 refl) (λ lacks. plain answer (refused Memory) ack lacks.0 refl))
     step.0
 uncut m before after (live history pruned) (ask_proof question) answer next step ack = ⊎_elim
     (λ said. plain answer (told_proof (proof_of m history pruned question)) ack said

@@ -63,7 +63,7 @@ keeps_live m before after history pruned ask_floor answer next step = stays_at h
 keeps_live m before after history pruned ask_len answer next step = stays_at history (live history pruned) next step.1 refl
 keeps_live m before after history pruned (ask_prune location) answer next step = ⊎_elim
     (λ done. stays_at history (live history done.0) next done.2 refl)
-    (λ past. stays_at history (live history pruned) next past.1 refl)
+    (⊎_elim (λ past. stays_at history (live history pruned) next past.1 refl) (λ lacks. stays_at history (live history pruned) next lacks.1 refl))
     step.0
 
 keeps_failed : (before after : Power) (history : History) (commit : Commit) (request : Request) (answer : Answer) (next : State)

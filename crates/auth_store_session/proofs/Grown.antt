@@ -2,12 +2,12 @@
 use Rattle.std.proofs.Common.{◌≡◌, ◌⊎◌, ◌+◌, ◌≤◌, ℕ, Bool, false, List, Some, None, inl, inr, refl, subst, sym, length}
 use Rattle.std.specs.Prelude.{Option, IfSome, IsSomeAnd}
 use Rattle.fault_storage_parts.specs.Crc32.{crc32}
-use Rattle.paged_blob.specs.Answers.{Failures}
-use Rattle.paged_blob.specs.Caches.{Cache}
-use Rattle.paged_blob.specs.Calls.{Call}
-use Rattle.paged_blob.specs.Writers.{Keeps, written, IsWriterOf}
+use Rattle.paged_blob_parts.specs.Answers.{Failures}
+use Rattle.paged_blob_parts.specs.Caches.{Cache}
+use Rattle.paged_blob_parts.specs.Calls.{Call}
+use Rattle.paged_blob_parts.specs.Writers.{Keeps, written, IsWriterOf}
 use Rattle.paged_format.specs.Tips.{Tip}
-use Rattle.paged_blob.specs.declared.flush.DurableSlot.{DurableSlot}
+use Rattle.paged_blob_parts.specs.declared.flush.DurableSlot.{DurableSlot}
 use Rattle.auth_store_parts.specs.History.{History, Commit}
 use Rattle.auth_store_log.specs.Records.{Format, history_bytes}
 use Rattle.auth_store_log.specs.Shown.{IsShown, MayShow}

@@ -5,10 +5,10 @@ use Rattle.std.proofs.lemmas.Bool.{cases_lt}
 use Rattle.std.proofs.Math.Seq.{take-length}
 use Rattle.fault_storage_parts.specs.Crc32.{crc32}
 use Rattle.paged_format.specs.Pages.{recovered}
-use Rattle.paged_blob.specs.Calls.{Call, file_of}
-use Rattle.paged_blob.specs.Images.{IsImage}
-use Rattle.paged_blob.specs.Laws.Moments.{at_end}
-use Rattle.paged_blob.specs.Writers.{Keeps}
+use Rattle.paged_blob_parts.specs.Calls.{Call, file_of}
+use Rattle.paged_blob_parts.specs.Images.{IsImage}
+use Rattle.paged_blob_parts.specs.Laws.Moments.{at_end}
+use Rattle.paged_blob_parts.specs.Writers.{Keeps}
 use Rattle.auth_store_parts.specs.History.{History, latest_map, log_of, appended}
 use Rattle.auth_store_log.specs.Records.{Format, begun, committed, history_bytes, recovered_log, AreRecorded}
 use Rattle.auth_store_log.specs.Shown.{KeepsLog}

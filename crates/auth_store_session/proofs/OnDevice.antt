@@ -6,13 +6,13 @@ use Rattle.std.proofs.lemmas.Bool.{false_from_ne_true, eqb-true}
 use Rattle.fault_storage_parts.specs.declared.error.HeaderError.{HeaderError}
 use Rattle.fault_storage_parts.specs.Crc32.{crc32}
 use Rattle.paged_format.specs.Tips.{Tip}
-use Rattle.paged_blob.specs.declared.flush.DurableSlot.{DurableSlot}
-use Rattle.paged_blob.specs.Caches.{Cache}
-use Rattle.paged_blob.specs.Answers.{RecordsOpening, IsPowerOff}
-use Rattle.paged_blob.specs.Calls.{Call, content, opened, file_of}
-use Rattle.paged_blob.specs.Images.{IsImage}
-use Rattle.paged_blob.specs.Moments.{Through}
-use Rattle.paged_blob.specs.Writers.{Keeps, IsWriterOf}
+use Rattle.paged_blob_parts.specs.declared.flush.DurableSlot.{DurableSlot}
+use Rattle.paged_blob_parts.specs.Caches.{Cache}
+use Rattle.paged_blob_parts.specs.Answers.{RecordsOpening, IsPowerOff}
+use Rattle.paged_blob_parts.specs.Calls.{Call, content, opened, file_of}
+use Rattle.paged_blob_parts.specs.Images.{IsImage}
+use Rattle.paged_blob_parts.specs.Moments.{Through}
+use Rattle.paged_blob_parts.specs.Writers.{Keeps, IsWriterOf}
 use Rattle.auth_store_parts.specs.Batch.{Word}
 use Rattle.auth_store_parts.specs.History.{History, log_of}
 use Rattle.auth_store_device.specs.declared.error.OpenError.{OpenError}

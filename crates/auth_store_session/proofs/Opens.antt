@@ -2,11 +2,11 @@
 use Rattle.std.proofs.Common.{◌≡◌, ⊎_elim, ℕ, List, [], ◌∷◌, Option, Some, None, sym, subst, ◌∙◌, ap, inl, inr}
 use Rattle.std.specs.Prelude.{IfSome}
 use Rattle.fault_storage_parts.specs.Crc32.{crc32}
-use Rattle.paged_blob.specs.Calls.{Call, opened, wrote, resized_to, synced, file_of}
-use Rattle.paged_blob.specs.Images.{IsImage}
-use Rattle.paged_blob.specs.Chance.{NoneByChance}
-use Rattle.paged_blob.specs.Moments.{Through, here, then, Grows}
-use Rattle.paged_blob.specs.Laws.Moments.{at_end, weaker}
+use Rattle.paged_blob_parts.specs.Calls.{Call, opened, wrote, resized_to, synced, file_of}
+use Rattle.paged_blob_parts.specs.Images.{IsImage}
+use Rattle.paged_blob_parts.specs.Chance.{NoneByChance}
+use Rattle.paged_blob_parts.specs.Moments.{Through, here, then, Grows}
+use Rattle.paged_blob_parts.specs.Laws.Moments.{at_end, weaker}
 use Rattle.auth_store_parts.specs.History.{History, Commit, AreStates, log_of}
 use Rattle.auth_store_log.specs.Records.{Format, begun, history_bytes, recovered_log, AreRecorded}
 use Rattle.auth_store_log.specs.Shown.{IsShown, MayShow, IsKeptThrough}

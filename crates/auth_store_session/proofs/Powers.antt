@@ -1,9 +1,9 @@
 -- What the calls of a request leave of the power of a device and its cache.
 use Rattle.std.proofs.Common.{◌≡◌, ◌⊎◌, inl, inr, ◌+◌, ◌≤◌, ℕ, Option, Some, None, Result, Ok, Err, is_some, refl, sym, ◌∙◌, ap, subst, arith}
-use Rattle.paged_blob.specs.Answers.{Failures, failures_after}
-use Rattle.paged_blob.specs.Caches.{Cache}
-use Rattle.paged_blob.specs.declared.error.Error.{Error}
-use Rattle.paged_blob.specs.declared.error.Error.TheVariants.{Injected, BlobMissing, BlobInsufficientLength, NumberEnded, Memory, PowerCut, ChecksumMismatch}
+use Rattle.paged_blob_parts.specs.Answers.{Failures, failures_after}
+use Rattle.paged_blob_parts.specs.Caches.{Cache}
+use Rattle.paged_blob_parts.specs.declared.error.Error.{Error}
+use Rattle.paged_blob_parts.specs.declared.error.Error.TheVariants.{Injected, BlobMissing, BlobInsufficientLength, NumberEnded, Memory, PowerCut, ChecksumMismatch}
 use Rattle.auth_store_device.specs.declared.error.OpenError.{OpenError}
 use Rattle.auth_store_device.specs.declared.error.OpenError.TheVariants as openings
 use Rattle.auth_store_device.specs.Devices.{DeviceState, calls_left, failures_of, injected_after, refused_after, left_after_opening}
@@ -153,11 +153,14 @@ leaves_of_proof (refusals.Header fault) device cache is = absurd is
 
 -- nor of a store that refuses to be pruned
 pub leaves_unpruned : {R : Type 0} (e : StoreError) (device : DeviceState R) (cache : Cache)
-    → (e ≡ refusals.PastFloor) ⊎ (e ≡ refusals.Failed) → Leaves 0 (Some e) (power_of device cache) (power_of device cache)
+    → (e ≡ refusals.PastFloor) ⊎ (e ≡ refusals.Memory) ⊎ (e ≡ refusals.Failed) → Leaves 0 (Some e) (power_of device cache) (power_of device cache)
 leaves_unpruned e device cache (inl is) =
     subst (λ x. Leaves 0 (Some x) (power_of device cache) (power_of device cache)) (sym is)
     (leaves_none (Some refusals.PastFloor) device cache refl refl)
-leaves_unpruned e device cache (inr is) = leaves_failed e device cache is
+leaves_unpruned e device cache (inr (inl is)) =
+    subst (λ x. Leaves 0 (Some x) (power_of device cache) (power_of device cache)) (sym is)
+    (leaves_none (Some refusals.Memory) device cache refl refl)
+leaves_unpruned e device cache (inr (inr is)) = leaves_failed e device cache is
 
 -- what is equal has the same power
 pub leaves_same : {R : Type 0} (old new : DeviceState R) (cache now : Cache) → power_of new now ≡ power_of old cache

@@ -1,77 +1,65 @@
--- What is pruned of a store stays settled as its log grows.
-use Rattle.std.proofs.Common.{◌≡◌, ◌⊎◌, ◌≤◌, ◌+◌, ◌++◌, ℕ, List, ◌∷◌, length, Option, None, Some, inl, inr, ⊎_elim, refl, sym, subst, arith, length-append}
-use Rattle.std.specs.Prelude.{Result, Ok, Err, IfSome, IsSomeAnd}
-use Rattle.merkle_forest.specs.Forest.{Rule}
-use Rattle.state_current.specs.Settled.{IsSettled}
-use Rattle.auth_store_parts.specs.Batch.{Word}
-use Rattle.auth_store_parts.specs.History.{History, Commit, latest_map, log_of, appended}
+-- How many chunks are pruned of a store: a batch changes it not, and a prune says it.
+use Rattle.std.proofs.Common.{◌≡◌, ◌⊎◌, ℕ, ◌<◌, ◌≤◌, List, Option, None, Some, refl, sym, ◌∙◌, subst}
+use Rattle.std.specs.Prelude.{IfSome, Result, Ok, Err, OnErr}
+use Rattle.paged_blob_parts.specs.Caches.{Cache}
+use Rattle.paged_blob_parts.specs.Calls.{Call}
+use Rattle.state_proofs_parts.specs.Canonical.{Setting}
+use Rattle.auth_store_parts.specs.History.{History}
 use Rattle.auth_store_log.specs.Records.{Format}
-use Rattle.auth_store_ledger.specs.Store.{commit_after, grafting_height}
-use Rattle.auth_store_session.specs.declared.error.StoreError.{StoreError}
-use Rattle.auth_store_session.specs.Machine.{Machine}
-use Rattle.auth_store_session.specs.Stores.{LiveState, StoreState, IsPruned}
-use Rattle.auth_store_session.proofs.OnDevice.{CommitsHere}
+use Rattle.auth_store_ledger.specs.Store.{IsPrunedUpTo, floor_of}
+use Rattle.auth_store_session.specs.Stores.{LiveState, IsLive, IsPruned, with_pruned}
 
-some_or_none : {A : Type 0} (o : Option A) → ((a : A) × (o ≡ Some a)) ⊎ (o ≡ None)
-some_or_none (Some a) = inl (a, refl)
-some_or_none None = inr refl
+-- what follows of what holds after an error
+pub on_err_so : {T E : Type 0} (r : Result T E) {P Q : Type 0} → (P → Q) → OnErr r P → OnErr r Q
+on_err_so (Ok v) so p = tt
+on_err_so (Err e) so p = so p
 
--- a log with a commit more is longer
-log_longer : (history : History) (commit : Commit) → length (log_of history) ≤ length (log_of (commit ∷ history))
-log_longer history commit =
-    omega (arith, length-append (log_of history) (appended (log_of history) (latest_map history) commit.map commit.metadata))
+-- a store that took a batch, or refused it
+pub grown_pruned : (old new : Option LiveState) (pruned : ℕ) → IfSome old (λ was. IfSome new (λ now. now.pruned ≡ was.pruned))
+    → (old ≡ None → new ≡ None) → IsPruned old pruned → IsPruned new pruned
+grown_pruned None new pruned same lost is = subst (λ l. IsPruned l pruned) (sym (lost refl)) tt
+grown_pruned (Some was) None pruned same lost is = tt
+grown_pruned (Some was) (Some now) pruned same lost is = same ∙ is
 
-module _ (rule : Rule) (width pruned : ℕ)
-    (stay : (operations more : ℕ) → operations ≤ more → IsSettled rule (grafting_height width) operations pruned
-    → IsSettled rule (grafting_height width) more pruned)
-  where
-    pruned_at : (now : Option LiveState) (history : History) → IsSomeAnd now (λ n. n.history ≡ history)
-        → IsSettled rule (grafting_height width) (length (log_of history)) pruned → IsPruned rule width now pruned
-    pruned_at (Some n) history is settled = record {
-      settled = subst (λ h. IsSettled rule (grafting_height width) (length (log_of h)) pruned) (sym is) settled;
-    }
-    pruned_at None history is settled = absurd is
+-- one that was pruned
+pub pruned_now : (live : Option LiveState) (chunks : ℕ) → IsPruned (with_pruned live chunks) chunks
+pruned_now None chunks = tt
+pruned_now (Some now) chunks = refl
 
-    pruned_of_none : (now : Option LiveState) → now ≡ None → IsPruned rule width now pruned
-    pruned_of_none now none = subst (λ l. IsPruned rule width l pruned) (sym none) (record { settled = tt })
+-- it lives on over its blob
+pub lives_on : (format : Format) (calls : List Call) (cache : Cache) (live : Option LiveState) (chunks : ℕ)
+    → IfSome live (IsLive format calls cache) → IfSome (with_pruned live chunks) (IsLive format calls cache)
+lives_on format calls cache None chunks is = tt
+lives_on format calls cache (Some now) chunks is = record {
+  writer = is.writer;
+  content = is.content;
+  synced = is.synced;
+  sized = is.sized;
+  named = is.named;
+  cached = is.cached;
+  log = is.log;
+}
 
-    pruned_after : {R D : Type 0} (m : Machine) (format : Format) (words : List Word) (metadata : Option (List ℕ))
-        (old new : StoreState R) (encoding : D → List ℕ) (result : Result D StoreError) (history : History)
-        → CommitsHere m format words metadata old new encoding result history
-        → IsSettled rule (grafting_height width) (length (log_of history)) pruned → IsPruned rule width new.live pruned
-    pruned_after m format words metadata old new encoding (Ok root) history said settled =
-        let next = commit_after words metadata history in
-        pruned_at new.live next said.1
-        (stay (length (log_of history)) (length (log_of next)) (log_longer history _) settled)
-    pruned_after m format words metadata old new encoding (Err e) history said settled = ⊎_elim
-        (λ kept. pruned_at new.live history kept settled)
-        (λ lost. pruned_of_none new.live lost.0)
-        said.1
+module _ (setting : Setting) (location pruned : ℕ) (live : Option LiveState) (now : LiveState) (history : History)
+    (is : live ≡ Some now) (same : now.history ≡ history) where
+  -- what a prune of a store with this history answers
+  pub pruned_to : (chunks : ℕ) → IsPruned live pruned
+      → IfSome live (λ was. (location ≤ floor_of was.history) × IsPrunedUpTo setting was.history was.pruned location chunks)
+      → (location ≤ floor_of history) × IsPrunedUpTo setting history pruned location chunks
+  pruned_to chunks own said =
+      let number : now.pruned ≡ pruned = subst (λ (l : Option LiveState). IsPruned l pruned) is own in
+      let of = subst (λ (l : Option LiveState). IfSome l (λ was. (location ≤ floor_of was.history)
+      × IsPrunedUpTo setting was.history was.pruned location chunks)) is said in (
+        subst (λ (h : History). location ≤ floor_of h) same of.0,
+        subst (λ (n : ℕ). IsPrunedUpTo setting history n location chunks) number
+            (subst (λ (h : History). IsPrunedUpTo setting h now.pruned location chunks) same of.1),
+      )
 
-    -- a store that took a batch, or refused it
-    pub grown_pruned : {R D : Type 0} (m : Machine) (format : Format) (words : List Word) (metadata : Option (List ℕ))
-        (old new : StoreState R) (encoding : D → List ℕ) (result : Result D StoreError)
-        → IfSome old.live (λ was. CommitsHere m format words metadata old new encoding result was.history)
-        → (old.live ≡ None → new.live ≡ None) → IsPruned rule width old.live pruned → IsPruned rule width new.live pruned
-    grown_pruned m format words metadata old new encoding result said lost settled = ⊎_elim
-        (λ some. pruned_after m format words metadata old new encoding result some.0.history
-        (subst (λ (l : Option LiveState). IfSome l (λ was. CommitsHere m format words metadata old new encoding result was.history)) some.1 said)
-        (subst (λ (l : Option LiveState). IsPruned rule width l pruned) some.1 settled).settled)
-        (λ none. pruned_of_none new.live (lost none))
-        (some_or_none old.live)
-
--- what is pruned of a store that has a history is settled of it, and what is settled of it may be pruned
-pub settled_at : (rule : Rule) (width pruned : ℕ) (live : Option LiveState) (now : LiveState) (history : History) → live ≡ Some now
-    → now.history ≡ history → IsPruned rule width live pruned
-    → IsSettled rule (grafting_height width) (length (log_of history)) pruned
-settled_at rule width pruned live now history is same settled =
-    subst (λ h. IsSettled rule (grafting_height width) (length (log_of h)) pruned) same
-    (subst (λ (l : Option LiveState). IsPruned rule width l pruned) is settled).settled
-
-pub settled_of : (rule : Rule) (width pruned : ℕ) (live : Option LiveState) (now : LiveState) (history : History) → live ≡ Some now
-    → now.history ≡ history → IsSettled rule (grafting_height width) (length (log_of history)) pruned
-    → IsPruned rule width live pruned
-settled_of rule width pruned live now history is same settled =
-    subst (λ (l : Option LiveState). IsPruned rule width l pruned) (sym is) (record {
-      settled = subst (λ h. IsSettled rule (grafting_height width) (length (log_of h)) pruned) (sym same) settled;
-    })
+  -- and why it is refused
+  pub unpruned : (PastFloor Lacks : Type 0)
+      → IfSome live (λ was. (PastFloor × (floor_of was.history < location)) ⊎ (Lacks × (location ≤ floor_of was.history)))
+      → (PastFloor × (floor_of history < location)) ⊎ (Lacks × (location ≤ floor_of history))
+  unpruned PastFloor Lacks said =
+      let of = subst (λ (l : Option LiveState). IfSome l (λ was. (PastFloor × (floor_of was.history < location))
+      ⊎ (Lacks × (location ≤ floor_of was.history)))) is said in
+      subst (λ (h : History). (PastFloor × (floor_of h < location)) ⊎ (Lacks × (location ≤ floor_of h))) same of

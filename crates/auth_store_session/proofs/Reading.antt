@@ -6,13 +6,13 @@ use Rattle.std.proofs.Math.Nat.{div-mul-le_self}
 use Rattle.std.specs.Prelude.{Err}
 use Rattle.fault_storage_parts.specs.Crc32.{crc32}
 use Rattle.paged_format.specs.Footers.{content_size}
-use Rattle.paged_blob.specs.Answers.{Failures, IsPastNumbers}
-use Rattle.paged_blob.specs.Caches.{Cache}
-use Rattle.paged_blob.specs.Calls.{Call}
-use Rattle.paged_blob.specs.Flushes.{physical_size, page_count}
-use Rattle.paged_blob.specs.Writers.{written}
-use Rattle.paged_blob.specs.declared.error.CallKind.TheVariants.{Read}
-use Rattle.paged_blob.specs.declared.error.Error.TheVariants.{Injected, BlobMissing, BlobInsufficientLength, NumberEnded, Memory, PowerCut, ChecksumMismatch}
+use Rattle.paged_blob_parts.specs.Answers.{Failures, IsPastNumbers}
+use Rattle.paged_blob_parts.specs.Caches.{Cache}
+use Rattle.paged_blob_parts.specs.Calls.{Call}
+use Rattle.paged_blob_parts.specs.Flushes.{physical_size, page_count}
+use Rattle.paged_blob_parts.specs.Writers.{written}
+use Rattle.paged_blob_parts.specs.declared.error.CallKind.TheVariants.{Read}
+use Rattle.paged_blob_parts.specs.declared.error.Error.TheVariants.{Injected, BlobMissing, BlobInsufficientLength, NumberEnded, Memory, PowerCut, ChecksumMismatch}
 use Rattle.state_ops.specs.Operation.{delete, update, ordered, commit_floor}
 use Rattle.auth_store_parts.specs.History.{log_of}
 use Rattle.auth_store_log.specs.Causes.{IsRecordCause, failures_after_reading}

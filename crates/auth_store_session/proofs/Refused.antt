@@ -2,11 +2,11 @@
 use Rattle.std.proofs.Common.{◌≡◌, refl, ap, Some, ◌⊎◌, ◌+◌, ◌<◌, ◌≤◌, ◌^◌, ℕ, true, false, inl, inr, rules, ⊎_elim, arith, max}
 use Rattle.std.proofs.lemmas.Bool.{cases_lt}
 use Rattle.std.specs.Prelude.{Result, Ok, Err, IsFalse}
-use Rattle.paged_blob.specs.Answers.{Failures, failures_after, IsPastNumbers, IsCause}
-use Rattle.paged_blob.specs.declared.error.CallKind.{CallKind}
-use Rattle.paged_blob.specs.declared.error.CallKind.TheVariants.{Write, Sync}
-use Rattle.paged_blob.specs.declared.error.Error.{Error}
-use Rattle.paged_blob.specs.declared.error.Error.TheVariants.{Injected, BlobMissing, BlobInsufficientLength, NumberEnded, Memory, PowerCut, ChecksumMismatch}
+use Rattle.paged_blob_parts.specs.Answers.{Failures, failures_after, IsPastNumbers, IsCause}
+use Rattle.paged_blob_parts.specs.declared.error.CallKind.{CallKind}
+use Rattle.paged_blob_parts.specs.declared.error.CallKind.TheVariants.{Write, Sync}
+use Rattle.paged_blob_parts.specs.declared.error.Error.{Error}
+use Rattle.paged_blob_parts.specs.declared.error.Error.TheVariants.{Injected, BlobMissing, BlobInsufficientLength, NumberEnded, Memory, PowerCut, ChecksumMismatch}
 use Rattle.auth_store_log.specs.Causes.{IsLogCause}
 use Rattle.auth_store_session.specs.Refusals.{of_blob}
 use Rattle.auth_store_session.specs.Stores.{IsRefusal, IsOpenRefusal, IsCommitRefusal}

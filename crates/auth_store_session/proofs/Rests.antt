@@ -1,11 +1,11 @@
 -- Steps of a session without an open store, and what closing leaves.
 use Rattle.std.proofs.Common.{◌≡◌, ◌⊎◌, ◌+◌, ℕ, Bool, List, ◌∷◌, Option, Some, None, true, false, is_some, refl, sym, ◌∙◌, subst, ap, inl, inr}
 use Rattle.fault_storage_parts.specs.Crc32.{crc32}
-use Rattle.paged_blob.specs.Caches.{Cache}
-use Rattle.paged_blob.specs.Calls.{Call, opened, file_of}
-use Rattle.paged_blob.specs.Chance.{NoneByChance}
-use Rattle.paged_blob.specs.Images.{IsImage}
-use Rattle.paged_blob.specs.Moments.{Grows, Through, here}
+use Rattle.paged_blob_parts.specs.Caches.{Cache}
+use Rattle.paged_blob_parts.specs.Calls.{Call, opened, file_of}
+use Rattle.paged_blob_parts.specs.Chance.{NoneByChance}
+use Rattle.paged_blob_parts.specs.Images.{IsImage}
+use Rattle.paged_blob_parts.specs.Moments.{Grows, Through, here}
 use Rattle.auth_store_parts.specs.History.{History, Commit}
 use Rattle.auth_store_log.specs.Records.{Format, begun, history_bytes, recovered_log}
 use Rattle.auth_store_log.specs.Shown.{IsShown}

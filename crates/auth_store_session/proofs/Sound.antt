@@ -4,7 +4,7 @@ use Rattle.std.specs.Prelude.{IfSome}
 use Rattle.std.specs.List.{AllByRecursion}
 use Rattle.state_ops.specs.Operation.{Operation}
 use Rattle.state_ops.specs.Reading.{IsField, IsOfFields}
-use Rattle.paged_blob.specs.Caches.{Cache}
+use Rattle.paged_blob_parts.specs.Caches.{Cache}
 use Rattle.auth_store_parts.specs.History.{History, log_of}
 use Rattle.auth_store_client.specs.Laws.Fields.{own_history}
 use Rattle.auth_store_device.specs.Devices.{DeviceState}

@@ -67,7 +67,8 @@ follows_live m before after history pruned ask_floor answer next step = follows_
 follows_live m before after history pruned ask_len answer next step = follows_same history (live history pruned) next step.1 tt refl
 follows_live m before after history pruned (ask_prune location) answer next step = ⊎_elim
     (λ done. follows_same history (live history done.0) next done.2 tt refl)
-    (λ past. follows_same history (live history pruned) next past.1 tt refl)
+    (⊎_elim (λ past. follows_same history (live history pruned) next past.1 tt refl)
+    (λ lacks. follows_same history (live history pruned) next lacks.1 tt refl))
     step.0
 
 follows_failed : (before after : Power) (history : History) (commit : Commit) (request : Request) (answer : Answer) (next : State)

@@ -1,8 +1,8 @@
 -- A call of an open store is a step of the machine.
 use Rattle.std.proofs.Common.{◌≡◌, ◌+◌, ◌<◌, ◌≤◌, ℕ, List, ◌⊎◌, Option, Some, None, refl, sym, ◌∙◌, subst, ap, inl, inr, ⊎_elim}
-use Rattle.std.specs.Prelude.{Result, Ok, Err, IfOk, IfErr, OnErr, option_map}
-use Rattle.paged_blob.specs.Calls.{Call}
-use Rattle.paged_blob.specs.Moments.{Grows, here}
+use Rattle.std.specs.Prelude.{Result, Ok, Err, IfOk, IfErr, OnOk, OnErr, option_map}
+use Rattle.paged_blob_parts.specs.Calls.{Call}
+use Rattle.paged_blob_parts.specs.Moments.{Grows, here}
 use Rattle.auth_store_parts.specs.Batch.{Word}
 use Rattle.auth_store_parts.specs.History.{History, Commit, latest_map}
 use Rattle.auth_store_parts.specs.Map.{value_at}
@@ -18,7 +18,7 @@ use Rattle.auth_store_session.specs.declared.session.Step.TheVariants as steps
 use Rattle.auth_store_session.specs.declared.sizes.Sizes.{Sizes}
 use Rattle.auth_store_session.proofs.Powers.{leaves_none, stays}
 use Rattle.auth_store_session.specs.Standing.{AnswersProof, Commits, IsLeftOpen, StandsFor, MovesOpen, StepsOpen, power_of, result_of}
-use Rattle.auth_store_session.specs.Stores.{StoreState, IsLiveAt, OpeningsShow}
+use Rattle.auth_store_session.specs.Stores.{LiveState, StoreState, IsLiveAt, OpeningsShow, with_pruned}
 
 -- what a failed store answers to a request
 abbrev pub IsRefusedOnceFailed : Request → Type 0
@@ -126,10 +126,11 @@ proves_in m format said question store result is lost (doubtful history) stands 
 
 -- a store that is pruned
 pub prunes_in : {R : Type 0} (m : Machine) (format : Format) (location : ℕ) (old new : StoreState R) (result : Result ℕ StoreError)
-    → new ≡ record old { pruned = new.pruned }
+    → OnOk result (new ≡ record old { live = with_pruned old.live new.pruned; pruned = new.pruned })
     → ((history : History) → IsLiveAt old history → IfOk result (λ chunks. (new.pruned ≡ chunks) × (location ≤ floor_of history)
     × IsPrunedUpTo m.setting history old.pruned location chunks))
-    → ((history : History) → IsLiveAt old history → IfErr result (λ e. (e ≡ PastFloor) × (floor_of history < location)))
+    → ((history : History) → IsLiveAt old history → IfErr result (λ e. ((e ≡ PastFloor) × (floor_of history < location))
+    ⊎ ((e ≡ Memory) × (location ≤ floor_of history))))
     → OnErr result (new ≡ old) → (old.live ≡ None → result ≡ Err Failed)
     → MovesOpen m format old (ask_prune location) (answer_of pruned_to result) new
 prunes_in {R = R} m format location old new (Ok chunks) rest done past same lost (live history pruned) stands =
@@ -139,14 +140,23 @@ prunes_in {R = R} m format location old new (Ok chunks) rest done past same lost
         inl (chunks, refl, refl, d.1, subst (λ n. IsPrunedUpTo m.setting history n location chunks) stands.1 d.2),
         ap (λ (s : StoreState R). power_of s.device s.cache) rest,
       ),
-      ((stands.0.0, ap (λ (s : StoreState R). s.live) rest ∙ stands.0.1, stands.0.2), d.0),
+      (
+        (
+          record stands.0.0 { pruned = new.pruned },
+          ap (λ (s : StoreState R). s.live) rest ∙ ap (λ (l : Option LiveState). with_pruned l new.pruned) stands.0.1,
+          stands.0.2,
+        ),
+        d.0,
+      ),
     )
-prunes_in {R = R} m format location old new (Err e) rest done past same lost (live history pruned) stands =
-    let p = past history stands.0 in (
-      live history pruned,
-      (inr (ap refused p.0, refl, p.1), ap (λ (s : StoreState R). power_of s.device s.cache) same),
-      subst (λ (s : StoreState R). StandsFor format None (Some s) (live history pruned)) (sym same) stands,
-    )
+prunes_in {R = R} m format location old new (Err e) rest done past same lost (live history pruned) stands = (
+  live history pruned,
+  (
+    ⊎_elim (λ p. inr (inl (ap refused p.0, refl, p.1))) (λ lacks. inr (inr (ap refused lacks.0, refl, lacks.1))) (past history stands.0),
+    ap (λ (s : StoreState R). power_of s.device s.cache) same,
+  ),
+  subst (λ (s : StoreState R). StandsFor format None (Some s) (live history pruned)) (sym same) stands,
+)
 prunes_in {R = R} m format location old new (Ok chunks) rest done past same lost (failed history commit) stands =
     absurd (ok_err chunks Failed (lost stands.0))
   where

@@ -96,5 +96,5 @@ pub prune_leaves : (m : Machine) (before after : Power) (history : History) (pru
     → IsStepLive m before after history pruned (ask_prune location) answer next → (chunks : ℕ) × (next ≡ live history chunks)
 prune_leaves m before after history pruned location answer next step = ⊎_elim
     (λ done. (done.0, done.2))
-    (λ past. (pruned, past.1))
+    (⊎_elim (λ past. (pruned, past.1)) (λ lacks. (pruned, lacks.1)))
     step.0

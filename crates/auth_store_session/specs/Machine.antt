@@ -3,9 +3,9 @@ use Rattle.std.specs.Prelude.{◌≡◌, ◌<◌, ◌≤◌, ◌+◌, ◌++◌, 
 use Rattle.std.specs.Prelude.{◌∷◌, length, Option, None, Some, Result, Ok, Err}
 use Rattle.merkle_forest.specs.Forest.{Rule}
 use Rattle.merkle_forest.specs.Hashing.{Hash}
-use Rattle.state_proofs.specs.Canonical.{Setting}
+use Rattle.state_proofs_parts.specs.Canonical.{Setting}
 use Rattle.state_ops.specs.Operation.{Operation, fixed_size}
-use Rattle.paged_blob.specs.Flushes.{physical_size}
+use Rattle.paged_blob_parts.specs.Flushes.{physical_size}
 use Rattle.auth_store_parts.specs.Batch.{Word, map_after}
 use Rattle.auth_store_parts.specs.Map.{value_at}
 use Rattle.auth_store_device.specs.Devices.{after_asking, is_cut}
@@ -316,13 +316,14 @@ IsCommitting m before after history pruned words metadata answer next =
     × ((next ≡ live history pruned) ⊎ ((next ≡ failed history (commit_of words metadata history))
     × (length (log_of later) ≤ 2 ^ 62))))
 
--- Pruning up to a location keeps all but the chunks that are settled before it, and changes nothing else; past the
--- floor it is refused.
+-- Pruning up to a location keeps all but the chunks that are settled before it, and changes nothing else; it is refused
+-- past the floor, or out of memory.
 abbrev pub IsPruning : Machine → History → ℕ → ℕ → Answer → State → Type 0
 IsPruning m history pruned location answer next =
     ((chunks : ℕ) × (answer ≡ pruned_to chunks) × (next ≡ live history chunks) × (location ≤ floor_of history)
     × IsPrunedUpTo m.setting history pruned location chunks)
     ⊎ ((answer ≡ refused refusals.PastFloor) × (next ≡ live history pruned) × (floor_of history < location))
+    ⊎ ((answer ≡ refused refusals.Memory) × (next ≡ live history pruned) × (location ≤ floor_of history))
 
 -- a step of an open store that has not failed
 abbrev pub IsStepLive : Machine → Power → Power → History → ℕ → Request → Answer → State → Type 0

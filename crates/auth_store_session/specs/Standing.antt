@@ -3,11 +3,11 @@ use Rattle.std.specs.Prelude.{◌≡◌, ◌⊎◌, ◌+◌, ◌≤◌, ◌^◌,
 use Rattle.std.specs.Prelude.{is_some, Result, Ok, Err, MatchResult}
 use Rattle.fault_storage_parts.specs.Crc32.{crc32}
 use Rattle.fault_storage_parts.specs.declared.config.Config.{Config}
-use Rattle.paged_blob.specs.Caches.{Cache}
-use Rattle.paged_blob.specs.Calls.{Call, opened, file_of}
-use Rattle.paged_blob.specs.Images.{IsImage}
-use Rattle.paged_blob.specs.Moments.{Grows, Through}
-use Rattle.paged_blob.specs.Chance.{NoneByChance}
+use Rattle.paged_blob_parts.specs.Caches.{Cache}
+use Rattle.paged_blob_parts.specs.Calls.{Call, opened, file_of}
+use Rattle.paged_blob_parts.specs.Images.{IsImage}
+use Rattle.paged_blob_parts.specs.Moments.{Grows, Through}
+use Rattle.paged_blob_parts.specs.Chance.{NoneByChance}
 use Rattle.auth_store_parts.specs.Batch.{Word}
 use Rattle.auth_store_parts.specs.History.{History, log_of}
 use Rattle.auth_store_device.specs.Devices.{DeviceState, is_cut, log_fault}

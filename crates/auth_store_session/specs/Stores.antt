@@ -1,19 +1,16 @@
 -- An open store over its device: what holds of it while it has not failed, and what its calls say.
 use Rattle.std.specs.Prelude.{◌≡◌, ◌⊎◌, ◌+◌, ◌<◌, ◌≤◌, ◌^◌, ℕ, ⊤, true, List, [], ◌∷◌, length, Option, Some, is_some}
-use Rattle.std.specs.Prelude.{IfSome}
+use Rattle.std.specs.Prelude.{IfSome, None}
 use Rattle.fault_storage_parts.specs.Crc32.{crc32}
 use Rattle.paged_format.specs.Footers.{IsPageSize}
-use Rattle.paged_blob.specs.Answers.{Failures, HaveEnded}
-use Rattle.paged_blob.specs.Caches.{Cache}
-use Rattle.paged_blob.specs.CachedContent.{HoldsPagesOf}
-use Rattle.paged_blob.specs.Calls.{Call}
-use Rattle.merkle_forest.specs.Forest.{Rule}
-use Rattle.state_current.specs.Settled.{IsSettled}
+use Rattle.paged_blob_parts.specs.Answers.{Failures, HaveEnded}
+use Rattle.paged_blob_parts.specs.Caches.{Cache}
+use Rattle.paged_blob_parts.specs.CachedContent.{HoldsPagesOf}
+use Rattle.paged_blob_parts.specs.Calls.{Call}
 use Rattle.state_ops.specs.Operation.{fixed_size}
-use Rattle.paged_blob.specs.Flushes.{physical_size}
-use Rattle.paged_blob.specs.Writers.{WriterState, IsWriter, written}
+use Rattle.paged_blob_parts.specs.Flushes.{physical_size}
+use Rattle.paged_blob_parts.specs.Writers.{WriterState, IsWriter, written}
 use Rattle.auth_store_parts.specs.History.{History, Commit, AreStates, log_of}
-use Rattle.auth_store_ledger.specs.Store.{grafting_height}
 use Rattle.auth_store_device.specs.Devices.{DeviceState}
 use Rattle.auth_store_log.specs.Records.{Format, AreRecorded, begun, history_bytes}
 use Rattle.auth_store_log.specs.Causes.{AreNamed}
@@ -24,10 +21,11 @@ use Rattle.auth_store_session.specs.declared.error.StoreError.TheVariants.{Corru
 use Rattle.auth_store_session.specs.Refusals.{IsOfChange, IsOfRead}
 use Rattle.auth_store_session.specs.Machine.{faults_in, cuts_in}
 
--- an open store that has not failed: its history, and the writer of its log
+-- an open store that has not failed: its history, the writer of its log, and how many chunks are pruned of what it keeps
 pub record LiveState : Type 0 where
   pub history : History
   pub writer : WriterState
+  pub pruned : ℕ
 
 -- an open store: its device and its cache, what it has while it has not failed, and how many chunks are pruned
 pub record StoreState (R : Type 0) : Type 0 where
@@ -64,9 +62,14 @@ pub record IsStore {R : Type 0} (format : Format) (state : StoreState R) : Type 
   pub cache : IsCache state.cache
   pub live : IfSome state.live (IsLive format state.device.calls state.cache)
 
--- the chunks that are pruned of a store that has not failed are settled
-pub record IsPruned (rule : Rule) (width : ℕ) (live : Option LiveState) (pruned : ℕ) : Type 0 where
-  pub settled : IfSome live (λ now. IsSettled rule (grafting_height width) (length (log_of now.history)) pruned)
+-- so many chunks are pruned of a store that has not failed
+abbrev pub IsPruned : Option LiveState → ℕ → Type 0
+IsPruned live pruned = IfSome live (λ now. now.pruned ≡ pruned)
+
+-- what is not failed of a store, with so many chunks pruned
+abbrev pub with_pruned : Option LiveState → ℕ → Option LiveState
+with_pruned None pruned = None
+with_pruned (Some now) pruned = Some (record now { pruned = pruned })
 
 -- What the calls of a request leave of what has refused calls, of which the last was refused for that, or none: an
 -- injected fault and a call that a cut refuses are counted, and none asks for a cut.

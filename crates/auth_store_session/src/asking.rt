@@ -1,7 +1,7 @@
 //! What an open store answers to a step of its session.
 
 ghost use Rattle.std.specs.Prelude.{◌≡◌, ◌+◌, Option, Some, option_map, true};
-ghost use Rattle.paged_blob.specs.Moments.{Grows};
+ghost use Rattle.paged_blob_parts.specs.Moments.{Grows};
 ghost use Rattle.auth_store_log.specs.Records.{format_of};
 ghost use Rattle.auth_store_session.specs.Machine.{machine, IsAnswerTo};
 ghost use Rattle.auth_store_parts.specs.Batch as words;

@@ -2,11 +2,11 @@
 
 ghost use Rattle.std.specs.Prelude.{◌≡◌, ◌+◌, ◌≤◌, ◌++◌, ℕ, IsFalse, IsTrue, List, [], ◌∷◌, Option, Some, None};
 ghost use Rattle.fault_storage_parts.specs.Crc32.{crc32};
-ghost use Rattle.paged_blob.specs.Caches.{Cache};
-ghost use Rattle.paged_blob.specs.Calls.{Call, opened, file_of};
-ghost use Rattle.paged_blob.specs.Chance.{NoneByChance};
-ghost use Rattle.paged_blob.specs.Images.{IsImage};
-ghost use Rattle.paged_blob.specs.Moments.{Grows};
+ghost use Rattle.paged_blob_parts.specs.Caches.{Cache};
+ghost use Rattle.paged_blob_parts.specs.Calls.{Call, opened, file_of};
+ghost use Rattle.paged_blob_parts.specs.Chance.{NoneByChance};
+ghost use Rattle.paged_blob_parts.specs.Images.{IsImage};
+ghost use Rattle.paged_blob_parts.specs.Moments.{Grows};
 ghost use Rattle.auth_store_parts.specs.History.{History, Commit};
 ghost use Rattle.auth_store_device.specs.Devices.{DeviceState};
 ghost use Rattle.auth_store_device.specs.Settings.{IsNew};

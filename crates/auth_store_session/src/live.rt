@@ -4,22 +4,23 @@ ghost use Rattle.std.specs.Prelude.{◌≡◌, ◌⊎◌, ◌+◌, ◌++◌, ◌
 ghost use Rattle.std.specs.Prelude.{IfErr, OnOk, OnErr, IfSome};
 ghost use Rattle.std.specs.Prelude.{List, option_map, Some, None, Err, MatchResult, IsSomeAnd};
 ghost use Rattle.fault_storage_parts.specs.Crc32.{crc32};
-ghost use Rattle.paged_blob.specs.Answers.{IsPowerOff};
-ghost use Rattle.paged_blob.specs.CachedContent.{HoldsPagesOf};
-ghost use Rattle.paged_blob.specs.Caches.{Cache};
-ghost use Rattle.paged_blob.specs.Calls.{Call, content, file_of};
-ghost use Rattle.paged_blob.specs.Moments.{Grows, Through};
-ghost use Rattle.paged_blob.specs.Writers.{IsWriter, Keeps, written};
+ghost use Rattle.paged_blob_parts.specs.Answers.{IsPowerOff};
+ghost use Rattle.paged_blob_parts.specs.CachedContent.{HoldsPagesOf};
+ghost use Rattle.paged_blob_parts.specs.Caches.{Cache};
+ghost use Rattle.paged_blob_parts.specs.Calls.{Call, content, file_of};
+ghost use Rattle.paged_blob_parts.specs.Moments.{Grows, Through};
+ghost use Rattle.paged_blob_parts.specs.Writers.{IsWriter, Keeps, written};
 ghost use Rattle.auth_store_parts.specs.Batch as words;
 ghost use Rattle.auth_store_parts.specs.History.{latest_map, log_of};
 ghost use Rattle.auth_store_parts.specs.Map.{value_at};
-ghost use Rattle.auth_store_ledger.specs.Store.{IsChunkWidth, commit_after, root_of_history, setting_of_width};
+ghost use Rattle.auth_store_ledger.specs.Store.{IsChunkWidth, IsPrunedUpTo, commit_after, floor_of, root_of_history};
+ghost use Rattle.auth_store_ledger.specs.Store.{setting_of_width};
 ghost use Rattle.auth_store_log.specs.Records.{format_of, begun, history_bytes, recovered_log};
 ghost use Rattle.auth_store_log.specs.Shown.{IsKeptThrough};
 ghost use Rattle.auth_store_session.specs.Machine.{commit_of, refusal_of, PassesLimit};
 ghost use Rattle.auth_store_session.specs.Stores.{IsCache, IsLive, IsNoHistory, IsReadRefusal, IsOpenRefusal};
 ghost use Rattle.auth_store_session.specs.Stores.{IsCommitRefusal, Raises, EndsDisk, EndsOpening, IsWritten};
-ghost use Rattle.auth_store_session.specs.Stores.{OpeningsShow};
+ghost use Rattle.auth_store_session.specs.Stores.{OpeningsShow, with_pruned};
 
 use crate::error::StoreError;
 use auth_store_ledger::{Batch, Ledger};
@@ -48,7 +49,7 @@ impl<F: Graftable, H: HashFunction, K: FixedKey, V: FixedValue, const N: usize> 
 
     ghost Value = { LiveState };
 
-    ghost view = { λ l. record { history = l.ledger; writer = l.writer } };
+    ghost view = { λ l. record { history = l.ledger.history; writer = l.writer; pruned = l.ledger.pruned } };
 }
 
 impl<F: Graftable, H: HashFunction, K: FixedKey, V: FixedValue, const N: usize> Live<
@@ -98,6 +99,7 @@ where
         live.history ≡ begun (format_of (K.after tt) (V.after tt) K.SIZE V.SIZE)
         (recovered_log (format_of (K.after tt) (V.after tt) K.SIZE V.SIZE) crc32 (cache.old.page_size + 12)
         (content (B.calls blob.old)))) }
+    ensures whole { IfOk result (λ live. live.pruned ≡ 0) }
     ensures capacity { IfOk result (λ live. live.writer.tip.capacity ≡ max capacity (cache.old.page_size + 12)) }
     ensures any_moment { Through (IsKeptThrough (format_of (K.after tt) (V.after tt) K.SIZE V.SIZE) crc32
         (cache.old.page_size + 12) (recovered_log (format_of (K.after tt) (V.after tt) K.SIZE V.SIZE) crc32
@@ -140,18 +142,19 @@ where
     requires cache { IsCache cache.old }
     requires open { (B.failures blob.old).is_open ≡ true }
     requires writer { IsWriter crc32 (B.calls blob.old) writer }
-    requires grown { history_bytes (format_of (K.after tt) (V.after tt) K.SIZE V.SIZE) ledger
+    requires grown { history_bytes (format_of (K.after tt) (V.after tt) K.SIZE V.SIZE) ledger.history
         ≡ written crc32 (B.calls blob.old) writer ++ bytes.now }
     requires synced { writer.synced ≡ length (written crc32 (B.calls blob.old) writer) }
     requires sized { writer.page_size ≡ cache.old.page_size + 12 }
     requires named { writer.blob_id < cache.old.next_id }
     requires cached { HoldsPagesOf (written crc32 (B.calls blob.old) writer) cache.old writer.blob_id }
-    requires log { IsWritten (format_of (K.after tt) (V.after tt) K.SIZE V.SIZE) ledger }
+    requires log { IsWritten (format_of (K.after tt) (V.after tt) K.SIZE V.SIZE) ledger.history }
     ensures live { IfOk result (IsLive (format_of (K.after tt) (V.after tt) K.SIZE V.SIZE) (B.calls blob.new)
         cache.new) }
-    ensures history { IfOk result (λ now. now.history ≡ ledger) }
+    ensures history { IfOk result (λ now. now.history ≡ ledger.history) }
+    ensures pruned { IfOk result (λ now. now.pruned ≡ ledger.pruned) }
     ensures any_moment { Through (Keeps crc32 (cache.old.page_size + 12)
-        (history_bytes (format_of (K.after tt) (V.after tt) K.SIZE V.SIZE) ledger)
+        (history_bytes (format_of (K.after tt) (V.after tt) K.SIZE V.SIZE) ledger.history)
         (length (written crc32 (B.calls blob.old) writer))) (B.calls blob.old) (B.calls blob.new) }
     ensures cache { IsCache cache.new }
     ensures page_size { cache.new.page_size ≡ cache.old.page_size }
@@ -163,7 +166,7 @@ where
     ensures names { cache.new.next_id ≡ cache.old.next_id }
     ensures refused { IfErr result (IsCommitRefusal (B.failures blob.old) (B.failures blob.new)
         (EndsDisk (cache.old.page_size + 12) (history_bytes (format_of (K.after tt) (V.after tt) K.SIZE V.SIZE)
-        ledger))) }
+        ledger.history))) }
 {
     let appended = append_batch(writer, blob, cache, bytes)?;
     Ok(Live {
@@ -191,23 +194,25 @@ where
     requires cache { IsCache cache.old }
     requires open { (B.failures blob.old).is_open ≡ true }
     requires live { IsLive (format_of (K.after tt) (V.after tt) K.SIZE V.SIZE) (B.calls blob.old) cache.old
-        (record { history = ledger; writer = writer }) }
+        (record { history = ledger.history; writer = writer; pruned = ledger.pruned }) }
     ensures live { IfOk result (IsLive (format_of (K.after tt) (V.after tt) K.SIZE V.SIZE) (B.calls blob.new)
         cache.new) }
     ensures next { let said = words.meanings K.encoding V.encoding batch.words.items in
-        let next = commit_after said (option_map V.encoding metadata) ledger in
+        let next = commit_after said (option_map V.encoding metadata) ledger.history in
         IfOk result (λ now. (now.history ≡ next) × (length (log_of next) ≤ 2 ^ 62)) }
+    ensures pruned { MatchResult result (λ now. now.pruned ≡ ledger.pruned)
+        (λ refused. IfSome refused.0 (λ kept. kept.pruned ≡ ledger.pruned)) }
     // Under a cut of the power nothing is made durable.
     ensures powered { OnOk result (IsPowerOff (B.failures blob.old) (B.left blob.old) → ⊥) }
-    ensures kept { IfErr result (λ refused. IfSome refused.0 (λ kept. (kept.history ≡ ledger)
+    ensures kept { IfErr result (λ refused. IfSome refused.0 (λ kept. (kept.history ≡ ledger.history)
         × IsLive (format_of (K.after tt) (V.after tt) K.SIZE V.SIZE) (B.calls blob.new) cache.new kept)) }
     ensures failed { let said = words.meanings K.encoding V.encoding batch.words.items in
         let noted = option_map V.encoding metadata in
-        IfErr result (λ refused. refused.0 ≡ None → (length (log_of (commit_after said noted ledger)) ≤ 2 ^ 62)
-        × OpeningsShow (format_of (K.after tt) (V.after tt) K.SIZE V.SIZE) (cache.old.page_size + 12) ledger
-        (Some (commit_of said noted ledger)) (B.calls blob.new)) }
+        IfErr result (λ refused. refused.0 ≡ None → (length (log_of (commit_after said noted ledger.history)) ≤ 2 ^ 62)
+        × OpeningsShow (format_of (K.after tt) (V.after tt) K.SIZE V.SIZE) (cache.old.page_size + 12) ledger.history
+        (Some (commit_of said noted ledger.history)) (B.calls blob.new)) }
     ensures refused { let said = words.meanings K.encoding V.encoding batch.words.items in
-        let next = commit_after said (option_map V.encoding metadata) ledger in
+        let next = commit_after said (option_map V.encoding metadata) ledger.history in
         IfErr result (λ refused. IsCommitRefusal (B.failures blob.old) (B.failures blob.new)
         (PassesLimit next ⊎ EndsDisk (cache.old.page_size + 12)
         (history_bytes (format_of (K.after tt) (V.after tt) K.SIZE V.SIZE) next)) refused.1) }
@@ -271,6 +276,7 @@ where
         × (IsSomeAnd store.new (λ now. now.history ≡ was.history) ⊎ ((store.new ≡ None)
         × (length (log_of next) ≤ 2 ^ 62) × OpeningsShow (format_of (K.after tt) (V.after tt) K.SIZE V.SIZE)
         (cache.old.page_size + 12) was.history (Some (commit_of said noted was.history)) (B.calls blob.new))))) }
+    ensures pruned { IfSome store.old (λ was. IfSome store.new (λ now. now.pruned ≡ was.pruned)) }
     ensures cache { IsCache cache.new }
     ensures page_size { cache.new.page_size ≡ cache.old.page_size }
     ensures open { (B.failures blob.new).is_open ≡ true }
@@ -294,6 +300,53 @@ where
             Err(error)
         }
     }
+}
+
+// Prunes what a ledger keeps up to a location, and answers how many chunks are pruned then. S7: the location stands past
+// the floor. S4: out of memory. Refused, it stays as it was.
+fn prune_ledger<F: Graftable, H: HashFunction, K: FixedKey, V: FixedValue, const N: usize>(
+    ledger: &mut Ledger<F, H, K, V, N>,
+    location: u64,
+) -> Result<u64, StoreError>
+    ensures ok { IfOk result (λ chunks. (ledger.new ≡ record ledger.old { pruned = chunks })
+        × (location ≤ floor_of ledger.old.history)
+        × IsPrunedUpTo (setting_of_width F.merge_rule H.hash_of N) ledger.old.history ledger.old.pruned location chunks) }
+    ensures refused { IfErr result (λ e. ((e ≡ StoreError.PastFloor) × (floor_of ledger.old.history < location))
+        ⊎ ((e ≡ StoreError.Memory) × (location ≤ floor_of ledger.old.history))) }
+    ensures unchanged { OnErr result (ledger.new ≡ ledger.old) }
+{
+    if ledger.floor() < location {
+        return Err(StoreError::PastFloor);
+    }
+    match ledger.prune(location) {
+        Ok(chunks) => Ok(chunks),
+        Err(error) => Err(StoreError::from(error)),
+    }
+}
+
+/// Prunes the chunks that are settled and end by the location, and answers how many are pruned then: no fewer than
+/// before. S7: the location stands past the floor. S4: out of memory. S6: the store has failed. Refused, it stays as it
+/// was.
+pub fn prune_live<F: Graftable, H: HashFunction, K: FixedKey, V: FixedValue, const N: usize>(
+    store: &mut Option<Live<F, H, K, V, N>>,
+    location: u64,
+) -> Result<u64, StoreError>
+    ensures ok { let setting = setting_of_width F.merge_rule H.hash_of N in
+        IfSome store.old (λ was. IfOk result (λ chunks. (location ≤ floor_of was.history)
+        × IsPrunedUpTo setting was.history was.pruned location chunks)) }
+    ensures pruned { IfOk result (λ chunks. store.new ≡ with_pruned store.old chunks) }
+    ensures refused { IfSome store.old (λ was. IfErr result (λ e.
+        ((e ≡ StoreError.PastFloor) × (floor_of was.history < location))
+        ⊎ ((e ≡ StoreError.Memory) × (location ≤ floor_of was.history)))) }
+    ensures unchanged { OnErr result (store.new ≡ store.old) }
+    ensures failed { store.old ≡ None → result ≡ Err StoreError.Failed }
+{
+    let Some(Live { mut ledger, writer }) = store.take() else {
+        return Err(StoreError::Failed);
+    };
+    let chunks = prune_ledger(&mut ledger, location);
+    *store = Some(Live { ledger, writer });
+    chunks
 }
 
 /// The value of the key in the latest state, read from the log through the cache, or `None` where there is none. S1 to

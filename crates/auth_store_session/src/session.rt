@@ -12,8 +12,8 @@
 
 ghost use Rattle.std.specs.Prelude.{◌≡◌, ◌+◌, ℕ, max, Option, None, Some, IfSome, is_some, true, false};
 ghost use Rattle.fault_storage_parts.specs.declared.config.Config as settings;
-ghost use Rattle.paged_blob.specs.Caches.{Cache};
-ghost use Rattle.paged_blob.specs.Moments.{Grows};
+ghost use Rattle.paged_blob_parts.specs.Caches.{Cache};
+ghost use Rattle.paged_blob_parts.specs.Moments.{Grows};
 ghost use Rattle.auth_store_ledger.specs.Store.{IsChunkWidth};
 ghost use Rattle.auth_store_log.specs.Records.{Format, format_of};
 ghost use Rattle.auth_store_session.specs.Machine.{machine, Machine, State, at_rest, IsAnswerTo, is_open_after};

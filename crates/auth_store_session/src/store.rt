@@ -2,7 +2,7 @@
 
 ghost use Rattle.std.specs.Prelude.{◌≡◌, ◌⊎◌, ◌+◌, ◌≤◌, ◌<◌, max, length, option_map, Ok, Err, None, Some, true};
 ghost use Rattle.std.specs.Prelude.{is_some, IfOk, IfErr, OnOk, OnErr, IsFalse, MatchResult};
-ghost use Rattle.paged_blob.specs.Moments.{Grows};
+ghost use Rattle.paged_blob_parts.specs.Moments.{Grows};
 ghost use Rattle.auth_store_parts.specs.Batch as words;
 ghost use Rattle.auth_store_parts.specs.History.{History, latest_map, log_of};
 ghost use Rattle.auth_store_parts.specs.Map.{value_at};
@@ -23,10 +23,10 @@ ghost use Rattle.auth_store_session.specs.Sound.{IsSoundState};
 ghost use Rattle.auth_store_session.specs.Standing.{AnswersProof, Commits, IsOpenError, IsOpenedThrough, IsRecovered};
 ghost use Rattle.auth_store_session.specs.Standing.{IsShownThrough, StandsFor};
 ghost use Rattle.auth_store_session.specs.Standing.{power_of, result_of, shown_of};
-ghost use Rattle.auth_store_session.specs.Stores.{HasBuffer, IsCache, IsLive, IsLiveAt, OpeningsShow};
+ghost use Rattle.auth_store_session.specs.Stores.{HasBuffer, IsCache, IsLive, IsLiveAt, OpeningsShow, with_pruned};
 
 use crate::error::StoreError;
-use crate::live::{Live, commit_live, get_live, recover_live};
+use crate::live::{Live, commit_live, get_live, prune_live, recover_live};
 use crate::sizes::Sizes;
 use auth_store_device::Device;
 use auth_store_ledger::{Batch, KeyProof, ProvedOperation, ProvedRange, ProvedSlice};
@@ -34,7 +34,6 @@ use fault_storage::Config;
 use merkle_forest::{Graftable, HashFunction, PendingOf};
 use paged_blob::CacheRef;
 use rand_core::Rng;
-use state_current::laws::settled_chunks_stay_settled;
 use state_ops::{FixedKey, FixedValue};
 use std::alloc::Global;
 use std::marker::Model;
@@ -70,7 +69,7 @@ impl<R: Rng, F: Graftable, H: HashFunction, K: FixedKey, V: FixedValue, const N:
 
     ghost invariant = { λ s. IsChunkWidth N × IsStore (format_of (K.after tt) (V.after tt) K.SIZE V.SIZE)
         (record { device = s.device; cache = s.cache; live = s.live; pruned = s.pruned })
-        × IsPruned F.merge_rule N s.live s.pruned };
+        × IsPruned s.live s.pruned };
 }
 
 /// A store that was not opened: why, and the device, closed, and the cache (own).
@@ -104,6 +103,7 @@ where
         IfOk result (IsLive format device.new.calls cache.new) }
     ensures recovers { let format = format_of (K.after tt) (V.after tt) K.SIZE V.SIZE in
         IfOk result (λ live. IsRecovered format (cache.old.page_size + 12) (shown_of device.old) live.history) }
+    ensures whole { IfOk result (λ live. live.pruned ≡ 0) }
     ensures capacity { IfOk result (λ live. live.writer.tip.capacity ≡ max capacity (cache.old.page_size + 12)) }
     ensures shown { let format = format_of (K.after tt) (V.after tt) K.SIZE V.SIZE in
         OnOk result (IsShownThrough format (cache.old.page_size + 12) (shown_of device.old) device.old.calls
@@ -182,7 +182,6 @@ where
     {
         let mut device = device;
         let mut cache = cache;
-        settled_chunks_stay_settled::<F>();
         match open_live(alloc, &mut device, &mut cache, sizes.write_buffer) {
             Ok(live) => Ok(Store {
                 alloc,
@@ -234,7 +233,6 @@ where
             (power_of self.new.device self.new.cache) }
         ensures grows { Grows self.old.device.calls self.new.device.calls }
     {
-        settled_chunks_stay_settled::<F>();
         let answer = commit_live(
             &mut self.live,
             &mut self.device,
@@ -315,26 +313,31 @@ where
     }
 
     /// Prunes the chunks that are settled and end by the location, and answers how many are pruned then: no fewer than
-    /// before. Root, values and proofs of keys stay as they were. S6: the store has failed. S7: the location stands
-    /// past the floor.
+    /// before. Root, values and proofs of keys stay as they were, and what led to the pruned ones alone is let go. S6: the
+    /// store has failed. S7: the location stands past the floor. S4: out of memory.
     pub fn prune(&mut self, location: u64) -> Result<u64, StoreError>
         ensures ok { let setting = setting_of_width F.merge_rule H.hash_of N in
             (history : History) → IsLiveAt self.old history → IfOk result (λ chunks. (self.new.pruned ≡ chunks)
             × (location ≤ floor_of history) × IsPrunedUpTo setting history self.old.pruned location chunks) }
         ensures past { (history : History) → IsLiveAt self.old history
-            → IfErr result (λ e. (e ≡ StoreError.PastFloor) × (floor_of history < location)) }
+            → IfErr result (λ e. ((e ≡ StoreError.PastFloor) × (floor_of history < location))
+            ⊎ ((e ≡ StoreError.Memory) × (location ≤ floor_of history))) }
         ensures failed { self.old.live ≡ None → result ≡ Err StoreError.Failed }
-        ensures rest { self.new ≡ record self.old { pruned = self.new.pruned } }
+        ensures rest { OnOk result (self.new ≡ record self.old {
+          live = with_pruned self.old.live self.new.pruned;
+          pruned = self.new.pruned;
+        }) }
         ensures kept { OnErr result (self.new ≡ self.old) }
-        ensures err { IfErr result (λ e. (e ≡ StoreError.PastFloor) ⊎ (e ≡ StoreError.Failed)) }
+        ensures err { IfErr result (λ e. (e ≡ StoreError.PastFloor) ⊎ (e ≡ StoreError.Memory)
+            ⊎ (e ≡ StoreError.Failed)) }
     {
-        let live = self.live.as_ref().ok_or(StoreError::Failed)?;
-        if live.ledger.floor() < location {
-            return Err(StoreError::PastFloor);
+        match prune_live(&mut self.live, location) {
+            Ok(chunks) => {
+                self.pruned = chunks;
+                Ok(chunks)
+            }
+            Err(error) => Err(error),
         }
-        let chunks = live.ledger.settled_up_to(self.pruned, location);
-        self.pruned = chunks;
-        Ok(chunks)
     }
 
     /// The value of the key, or that it is absent, and the honest bytes that prove it under the root of this moment:
@@ -378,7 +381,7 @@ where
         ensures err { IfErr result IsOfProof }
     {
         let live = self.live.as_ref().ok_or(StoreError::Failed)?;
-        Ok(live.ledger.prove_operation(self.pruned, location)?)
+        Ok(live.ledger.prove_operation(location)?)
     }
 
     /// The operations from `start` up to `stop` with a bit for each that says whether it is active, and the honest
@@ -399,7 +402,7 @@ where
         ensures err { IfErr result IsOfProof }
     {
         let live = self.live.as_ref().ok_or(StoreError::Failed)?;
-        Ok(live.ledger.prove_range(self.pruned, start, stop)?)
+        Ok(live.ledger.prove_range(start, stop)?)
     }
 
     /// The operations from `start` up to `stop`, and the honest bytes that prove under the root of this moment that the
@@ -419,7 +422,7 @@ where
         ensures err { IfErr result IsOfProof }
     {
         let live = self.live.as_ref().ok_or(StoreError::Failed)?;
-        Ok(live.ledger.prove_log(self.pruned, start, stop)?)
+        Ok(live.ledger.prove_log(start, stop)?)
     }
 
     /// The settings by which the device fails, also of a store that has failed.

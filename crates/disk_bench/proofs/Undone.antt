@@ -3,8 +3,8 @@ use Rattle.std.proofs.Common.{◌≡◌, ℕ, ◌+◌, ◌-◌, ◌<◌, ◌≤�
 use Rattle.std.proofs.Common.{sym, ◌∙◌, ap, ⊎_elim, refl, arith}
 use Rattle.std.proofs.lemmas.Bool.{cases_lt}
 use Rattle.std.proofs.lemmas.List.{append-nil, take_at, take_all, drop_at, take-append-le, take-append-drop, drop-drop, length-append}
-use Rattle.paged_blob.specs.Calls.{wrote, resized_to, resized, with_bytes}
-use Rattle.paged_blob.proofs.Bytes.{length-resized}
+use Rattle.paged_blob_parts.specs.Calls.{wrote, resized_to, resized, with_bytes}
+use Rattle.paged_blob_parts.proofs.Bytes.{length-resized}
 use Rattle.disk_bench.specs.Undone.{before_write, before_resize, calls_from}
 use Rattle.disk_bench.specs.declared.pages.step.Step.{Step}
 

@@ -1,6 +1,6 @@
 -- The calls that made a file, read off the file and what it takes to go back before each.
 use Rattle.std.specs.Prelude.{ℕ, ◌+◌, true, List, [], ◌∷◌, ◌++◌, take, drop}
-use Rattle.paged_blob.specs.Calls.{Call, wrote, resized_to, synced}
+use Rattle.paged_blob_parts.specs.Calls.{Call, wrote, resized_to, synced}
 use Rattle.disk_bench.specs.declared.pages.step.Step.{Step}
 use Rattle.disk_bench.specs.declared.pages.step.Step.TheVariants.{Wrote, Resized, Synced}
 

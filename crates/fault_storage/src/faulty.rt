@@ -15,11 +15,12 @@ ghost use Rattle.fault_storage_parts.specs.declared.error.Call.TheVariants.{Open
 ghost use Rattle.fault_storage.specs.Changes.{FaultyWrites, FaultyResizes, is_injected};
 ghost use Rattle.fault_storage.specs.Faults.{IsFaultyCall, FaultyOpens, unwrapped};
 
-use crate::config::Config;
+pub use crate::config::{Config, ResizeConfig, WriteConfig};
+pub use crate::draws::PartialWriteMode;
 use crate::error::{Call, Error};
 use crate::header::Versions;
 use crate::memory;
-use crate::probability::Probability;
+pub use crate::probability::Probability;
 use crate::storage::{Blob as _, Opened, Storage as _, WriteMode};
 use rand_core::Rng;
 

@@ -61,6 +61,7 @@ ghost use Rattle.fault_storage_parts.specs.Headers.{
 use crate::checksum::{Checksum, Crc32};
 use crate::error::HeaderError;
 use std::alloc::{AllocError, Global};
+use std::ops::RangeInclusive;
 
 /// How the beginning of a file is laid out. In the Rust: `commonware_runtime::storage::Layout`.
 #[derive(Clone, Copy, Debug, PartialEq, Eq, PartialOrd, Ord)]
@@ -149,6 +150,16 @@ impl Layouts {
     }
 }
 
+/// The layouts from the range's start to its end. In the Rust: the range itself.
+impl From<RangeInclusive<Layout>> for Layouts {
+    ghost from_gives = { λ range layouts. layouts ≡ record { least = range.start; greatest = range.end } };
+
+    fn from(range: RangeInclusive<Layout>) -> Layouts {
+        let (least, greatest) = range.into_inner();
+        Layouts { least, greatest }
+    }
+}
+
 /// The blob versions that are accepted, from the least to the greatest, with which a file is created (own; in the Rust an inclusive
 /// range).
 #[derive(Clone, Copy, Debug, PartialEq, Eq)]
@@ -165,6 +176,16 @@ impl Versions {
         ensures { result ≡ is_version self.now version }
     {
         self.least <= version && version <= self.greatest
+    }
+}
+
+/// The versions from the range's start to its end. In the Rust: the range itself.
+impl From<RangeInclusive<u16>> for Versions {
+    ghost from_gives = { λ range versions. versions ≡ record { least = range.start; greatest = range.end } };
+
+    fn from(range: RangeInclusive<u16>) -> Versions {
+        let (least, greatest) = range.into_inner();
+        Versions { least, greatest }
     }
 }
 

@@ -134,13 +134,22 @@ fn of_key<F: Graftable + PendingOf<Root>, const N: usize>(
             let is_same = same_root_and_proof(ledger, ledger, &key).map_err(refusals::of_ledger)?;
             Ok(format!(in alloc; "{is_same}")?)
         }
-        ["prune", pruned, location] => {
-            let chunks = ledger.settled_up_to(pruned.parse()?, location.parse()?);
-            Ok(format!(in alloc; "{chunks}")?)
-        }
         ["operations"] => Ok(operations(alloc, ledger)?),
         _ => Err(Unanswered::BadLine),
     }
+}
+
+// Prunes a ledger up to a location, and tells how many chunks are pruned then. Past the floor it stays.
+fn pruned<F: Graftable + PendingOf<Root>, const N: usize>(
+    alloc: Global,
+    ledger: &mut Small<F, N>,
+    location: u64,
+) -> Result<String, Unanswered> {
+    if ledger.floor() < location {
+        return Ok("past the floor".to_string(alloc)?);
+    }
+    let chunks = ledger.prune(location).map_err(refusals::of_ledger)?;
+    Ok(format!(in alloc; "{chunks}")?)
 }
 
 // What is asked of a ledger, or said to it: its batch ends with a commit.
@@ -161,6 +170,7 @@ fn answer<F: Graftable + PendingOf<Root>, const N: usize>(
             digits(alloc, &bytes)
         }
         ["read", log] => read(alloc, ledger, &bytes(alloc, log)?),
+        ["prune", location] => pruned(alloc, ledger, location.parse()?),
         ["root"] => Ok(hex::encode(alloc, ledger.root().as_bytes())?),
         ["commits"] => Ok(format!(in alloc; "{}", ledger.commits())?),
         ["floor"] => Ok(format!(in alloc; "{}", ledger.floor())?),

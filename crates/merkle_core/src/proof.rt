@@ -78,6 +78,20 @@ impl<F: Family, D: Digest> Proof<F, D> {
         }
     }
 
+    /// A proof that is equal to this one. It fails only when out of memory (own). In the Rust: `Clone::clone`.
+    pub fn try_copy(&self) -> Result<Proof<F, D>, AllocError>
+        ensures leaves { IfOk result (λ copy. copy.leaves ≡ self.now.leaves) }
+        ensures inactive { IfOk result (λ copy. copy.inactive_peaks ≡ self.now.inactive_peaks) }
+        ensures digests { IfOk result (λ copy. copy.digests.items ≡ self.now.digests.items) }
+    {
+        let digests = Vec::from_slice(*self.digests.allocator(), &self.digests)?;
+        Ok(Proof {
+            leaves: self.leaves,
+            inactive_peaks: self.inactive_peaks,
+            digests,
+        })
+    }
+
     /// The greatest length in bytes of the encoding of a proof of at most `MAX_LEAVES` leaves with at most so many
     /// digests. A proof of `MAX_LEAVES` leaves, with the greatest count of inactive peaks and so many digests, reaches
     /// it. Where it does not fit it is None. In the Rust: `merkle::proof::Proof::max_encode_size`, a usize.

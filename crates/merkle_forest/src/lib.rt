@@ -28,9 +28,13 @@ pub use bagging::Bagging;
 pub use error::Error;
 pub use family::{Family, MAX_LEAVES, MAX_NODES, MAX_PINNED_NODES};
 pub use graftable::Graftable;
-pub use hasher::{ByteHash, HashFunction};
+pub use hasher::{ByteHash, HashFunction, Hasher, Standard};
 pub use location::Location;
 pub use location_range::LocationRangeExt;
+pub use merkle_forest_parts::codec::{
+    Cursor, Decode, Encode, EncodeSize, FixedBytes, FixedSize, MaxEncodeSize, RangeCfg, Read, UInt,
+    Write,
+};
 pub use merkle_forest_parts::{Digest, codec, digest};
 pub use pending::{PendingOf, Unused};
 pub use position::Position;

@@ -91,7 +91,7 @@ fn first_leaf(position: u64, height: u32) -> u64
 
 /// The family of Merkle Mountain Belts: once for each leaf, the rightmost two peaks of one height merge.
 /// In the Rust: `merkle::mmb::Family`.
-#[derive(Clone, Copy, Debug, PartialEq, Eq)]
+#[derive(Clone, Copy, Debug, Default, PartialEq, Eq)]
 pub struct Family;
 
 impl family::Family for Family {

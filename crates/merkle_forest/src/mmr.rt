@@ -47,7 +47,7 @@ fn root_position(first: u64, height: u32) -> u64
 
 /// The family of Merkle Mountain Ranges: the last two peaks merge while their heights are equal.
 /// In the Rust: `merkle::mmr::Family`.
-#[derive(Clone, Copy, Debug, PartialEq, Eq)]
+#[derive(Clone, Copy, Debug, Default, PartialEq, Eq)]
 pub struct Family;
 
 impl family::Family for Family {

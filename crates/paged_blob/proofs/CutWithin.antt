@@ -4,15 +4,15 @@ use Rattle.std.proofs.Common.{sym, ◌∙◌, ap, subst, refl, arith}
 use Rattle.paged_format.specs.declared.footer.Slot.{Slot}
 use Rattle.paged_format.specs.Footers.{content_size}
 use Rattle.paged_format.specs.Pages.{counted_slot, recovered}
-use Rattle.paged_blob.specs.Calls.{Call, resized_to, file_of}
-use Rattle.paged_blob.specs.Chance.{page_at}
-use Rattle.paged_blob.specs.Moments.{Through}
-use Rattle.paged_blob.specs.Answers.{Records, IsSlice}
-use Rattle.paged_blob.specs.Writers.{Keeps}
-use Rattle.paged_blob.specs.Shrinks.{IsLastPage, IsTrimmed}
+use Rattle.paged_blob_parts.specs.Calls.{Call, resized_to, file_of}
+use Rattle.paged_blob_parts.specs.Chance.{page_at}
+use Rattle.paged_blob_parts.specs.Moments.{Through}
+use Rattle.paged_blob_parts.specs.Answers.{Records, IsSlice}
+use Rattle.paged_blob_parts.specs.Writers.{Keeps}
+use Rattle.paged_blob_parts.specs.Shrinks.{IsLastPage, IsTrimmed}
 use Rattle.paged_blob.specs.ShrinksCode.{IsLeftAlone}
-use Rattle.paged_blob.specs.declared.error.Error.{Error}
-use Rattle.paged_blob.specs.Laws.Moments.{joined}
+use Rattle.paged_blob_parts.specs.declared.error.Error.{Error}
+use Rattle.paged_blob_parts.specs.Laws.Moments.{joined}
 use Rattle.paged_blob.proofs.Settled.{last_there, start_moments, resized_moments, last_page, trimmed, Left, left_alone, read_page, read_long, counted_here}
 
 module _ (sum : List ℕ → ℕ) (size : ℕ) (footer : 12 < size) (calls : List Call) (settled : (file_of calls).changes ≡ []) (page part : ℕ)

@@ -9,17 +9,17 @@ use Rattle.paged_format.specs.declared.footer.Slot.TheVariants.{First, Second}
 use Rattle.paged_format.specs.Footers.{content_size, slot_len, slot_crc}
 use Rattle.paged_format.specs.Pages.{verifies}
 use Rattle.paged_format.specs.Laws.Pages.{vouched}
-use Rattle.paged_blob.specs.Calls.{Call, Change, whole, file_of}
-use Rattle.paged_blob.specs.Images.{least_length}
-use Rattle.paged_blob.specs.Chance.{page_at, slot_in, IsBeginning}
-use Rattle.paged_blob.specs.Writers.{HoldsContent, EachBeginning, IsDurablePage, share, AreShown, IsBegun, pages_begun, IsWriterOf}
-use Rattle.paged_blob.specs.Flushes.{physical_size}
-use Rattle.paged_blob.specs.Shrinks.{other_slot, IsCut}
+use Rattle.paged_blob_parts.specs.Calls.{Call, Change, whole, file_of}
+use Rattle.paged_blob_parts.specs.Images.{least_length}
+use Rattle.paged_blob_parts.specs.Chance.{page_at, slot_in, IsBeginning}
+use Rattle.paged_blob_parts.specs.Writers.{HoldsContent, EachBeginning, IsDurablePage, share, AreShown, IsBegun, pages_begun, IsWriterOf}
+use Rattle.paged_blob_parts.specs.Flushes.{physical_size}
+use Rattle.paged_blob_parts.specs.Shrinks.{other_slot, IsCut}
 use Rattle.paged_blob.specs.ShrinksCode.{EndsWith, tip_of, slot_of}
 use Rattle.paged_blob.specs.declared.shrink.LastPage.{LastPage}
-use Rattle.paged_blob.proofs.FlushedPages.{pages_apart}
-use Rattle.paged_blob.proofs.FlushLaws.{said_len}
-use Rattle.paged_blob.proofs.Regions.{says_len}
+use Rattle.paged_blob_parts.proofs.FlushedPages.{pages_apart}
+use Rattle.paged_blob_parts.proofs.FlushLaws.{said_len}
+use Rattle.paged_blob_parts.proofs.Regions.{says_len}
 
 same_or_other : (a b : Slot) → (a ≡ b) ⊎ (a ≡ other_slot b)
 same_or_other First First = inl refl

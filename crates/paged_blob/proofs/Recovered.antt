@@ -5,16 +5,16 @@ use Rattle.std.proofs.lemmas.List.{drop_all}
 use Rattle.std.proofs.lemmas.Nat.{div-add-mod'}
 use Rattle.paged_format.specs.Footers.{content_size}
 use Rattle.paged_format.specs.Pages.{recovered}
-use Rattle.paged_blob.specs.Calls.{Call, Change, whole, content, file_of}
-use Rattle.paged_blob.specs.Moments.{Through, here}
-use Rattle.paged_blob.specs.Flushes.{physical_size}
-use Rattle.paged_blob.specs.Shrinks.{Withstands, IsCut}
+use Rattle.paged_blob_parts.specs.Calls.{Call, Change, whole, content, file_of}
+use Rattle.paged_blob_parts.specs.Moments.{Through, here}
+use Rattle.paged_blob_parts.specs.Flushes.{physical_size}
+use Rattle.paged_blob_parts.specs.Shrinks.{Withstands, IsCut}
 use Rattle.paged_blob.specs.ShrinksCode.{EndsWith, tip_of, slot_of, bytes_of}
-use Rattle.paged_blob.specs.Writers.{IsWriterOf, WriterState, Keeps}
-use Rattle.paged_blob.specs.Laws.Durable.{withstands_keeps}
+use Rattle.paged_blob_parts.specs.Writers.{IsWriterOf, WriterState, Keeps}
+use Rattle.paged_blob_parts.specs.Laws.Durable.{withstands_keeps}
 use Rattle.paged_blob.specs.declared.shrink.LastPage.{LastPage}
-use Rattle.paged_blob.proofs.CutBlob.{keeps_less}
-use Rattle.paged_blob.proofs.Shown.{shown_withstands}
+use Rattle.paged_blob_parts.proofs.CutBlob.{keeps_less}
+use Rattle.paged_blob_parts.proofs.Shown.{shown_withstands}
 use Rattle.paged_blob.proofs.CutWriter.{cut_writer}
 
 -- the bytes of the last page are those of the content from there on

@@ -11,26 +11,26 @@ use Rattle.paged_format.specs.declared.footer.Slot.TheVariants.{First, Second}
 use Rattle.paged_format.specs.Footers.{content_size, slot_len}
 use Rattle.paged_format.specs.Pages.{verifies, vouched_len, shown_len, counted_slot, recovered}
 use Rattle.paged_format.specs.Laws.Pages.{vouched_cases}
-use Rattle.paged_blob.specs.Calls.{Call, resized_to, synced, Change, resize, changed, whole, File, file_of, content}
-use Rattle.paged_blob.specs.Chance.{page_at, slot_in}
-use Rattle.paged_blob.specs.Moments.{Through, here}
-use Rattle.paged_blob.specs.Answers.{Failures, Records, RecordsSync, MakesDurable, IsSlice, IsCause, IsReadCause}
-use Rattle.paged_blob.specs.Writers.{from_page, Keeps}
-use Rattle.paged_blob.specs.Shrinks.{other_slot, slot_at, handed_over, IsLastPage, IsTrimmed, IsCut, IsCutCause, EndsWithSync}
+use Rattle.paged_blob_parts.specs.Calls.{Call, resized_to, synced, Change, resize, changed, whole, File, file_of, content}
+use Rattle.paged_blob_parts.specs.Chance.{page_at, slot_in}
+use Rattle.paged_blob_parts.specs.Moments.{Through, here}
+use Rattle.paged_blob_parts.specs.Answers.{Failures, Records, RecordsSync, MakesDurable, IsSlice, IsCause, IsReadCause}
+use Rattle.paged_blob_parts.specs.Writers.{from_page, Keeps}
+use Rattle.paged_blob_parts.specs.Shrinks.{other_slot, slot_at, handed_over, IsLastPage, IsTrimmed, IsCut, IsCutCause, EndsWithSync}
 use Rattle.paged_blob.specs.ShrinksCode.{StandsAlone, IsLeftAlone, IsLast}
 use Rattle.paged_blob.specs.declared.shrink.LastPage.{LastPage}
-use Rattle.paged_blob.specs.declared.error.CallKind.{CallKind}
-use Rattle.paged_blob.specs.declared.error.Error.{Error}
-use Rattle.paged_blob.specs.declared.error.Error.TheVariants.{Injected, BlobMissing, BlobInsufficientLength, NumberEnded, Memory, PowerCut, ChecksumMismatch}
-use Rattle.paged_blob.specs.Laws.Moments.{goes_on, goes_on_sync}
-use Rattle.paged_blob.proofs.Bytes.{length-resized}
-use Rattle.paged_blob.proofs.Scanned.{sliced, proven_pages}
-use Rattle.paged_blob.proofs.Shown.{reached, counts, page_shown}
-use Rattle.paged_blob.proofs.Regions.{resize_avoids, avoided_same, same_slot, says_len, SameSlot}
-use Rattle.paged_blob.proofs.Stages.{SureSlot, sure_base, sure_change, Stage, stage_holds, first_stage, stage_change, holds_resized, which}
-use Rattle.paged_blob.proofs.Cut.{twice_other, third_says}
-use Rattle.paged_blob.proofs.Handed.{trimmed_here, third_here}
-use Rattle.paged_blob.proofs.Done.{Done, Exact, done_keeps, done_synced, done_cut}
+use Rattle.paged_blob_parts.specs.declared.error.CallKind.{CallKind}
+use Rattle.paged_blob_parts.specs.declared.error.Error.{Error}
+use Rattle.paged_blob_parts.specs.declared.error.Error.TheVariants.{Injected, BlobMissing, BlobInsufficientLength, NumberEnded, Memory, PowerCut, ChecksumMismatch}
+use Rattle.paged_blob_parts.specs.Laws.Moments.{goes_on, goes_on_sync}
+use Rattle.paged_blob_parts.proofs.Bytes.{length-resized}
+use Rattle.paged_blob_parts.proofs.Scanned.{sliced, proven_pages}
+use Rattle.paged_blob_parts.proofs.Shown.{reached, counts, page_shown}
+use Rattle.paged_blob_parts.proofs.Regions.{resize_avoids, avoided_same, same_slot, says_len, SameSlot}
+use Rattle.paged_blob_parts.proofs.Stages.{SureSlot, sure_base, sure_change, Stage, stage_holds, first_stage, stage_change, holds_resized, which}
+use Rattle.paged_blob_parts.proofs.Cut.{twice_other, third_says}
+use Rattle.paged_blob_parts.proofs.Handed.{trimmed_here, third_here}
+use Rattle.paged_blob_parts.proofs.Done.{Done, Exact, done_keeps, done_synced, done_cut}
 
 abbrev slot_or : Slot → Option (Slot × ℕ) → Slot
 slot_or slot None = slot

@@ -1,7 +1,7 @@
 -- A writer's sync that was started.
 use Rattle.std.proofs.Common.{◌≡◌, ℕ, ◌+◌, ◌-◌, ◌*◌, ◌/◌, ◌%◌, ◌<◌, ◌≤◌, ◌^◌, true, false, Result, Ok, Err, OnOk, IsTrue, IsFalse}
 use Rattle.std.proofs.lemmas.Bool.{eqb-true}
-use Rattle.paged_blob.specs.Images.{IsImage, may_hold}
+use Rattle.paged_blob_parts.specs.Images.{IsImage, may_hold}
 use Rattle.std.proofs.Common.{List, [], ◌∷◌, ◌++◌, length, take, drop, sym, ◌∙◌, ap, subst, refl, arith}
 use Rattle.std.proofs.lemmas.List.{length-append, length-take, length-take-le, take-take, take_all, drop_at}
 use Rattle.std.proofs.lemmas.List.{take-append-le, drop-append-le, take-append-drop, append_assoc}
@@ -9,24 +9,24 @@ use Rattle.std.proofs.lemmas.Nat.{div-add-mod'}
 use Rattle.paged_format.specs.Footers.{content_size}
 use Rattle.paged_format.specs.Pages.{recovered}
 use Rattle.paged_format.specs.Tips.{Tip}
-use Rattle.paged_blob.specs.Calls.{Call, synced, file_of, content}
-use Rattle.paged_blob.specs.Moments.{Through}
-use Rattle.paged_blob.specs.Answers.{RecordsSync}
-use Rattle.paged_blob.specs.Caches.{Cache, AreGiven}
-use Rattle.paged_blob.specs.CachedContent.{HoldsPagesOf}
-use Rattle.paged_blob.specs.Flushes.{last_slot, physical_size}
-use Rattle.paged_blob.specs.Laws.Durable.{file_keeps}
-use Rattle.paged_blob.specs.Laws.Moments.{at_end}
-use Rattle.paged_blob.specs.Writers.{from_page, WriterState, written, IsWriterOf, IsWriter, IsFlushed, Keeps}
-use Rattle.paged_blob.specs.Stands.{Stand, pages_of}
+use Rattle.paged_blob_parts.specs.Calls.{Call, synced, file_of, content}
+use Rattle.paged_blob_parts.specs.Moments.{Through}
+use Rattle.paged_blob_parts.specs.Answers.{RecordsSync}
+use Rattle.paged_blob_parts.specs.Caches.{Cache, AreGiven}
+use Rattle.paged_blob_parts.specs.CachedContent.{HoldsPagesOf}
+use Rattle.paged_blob_parts.specs.Flushes.{last_slot, physical_size}
+use Rattle.paged_blob_parts.specs.Laws.Durable.{file_keeps}
+use Rattle.paged_blob_parts.specs.Laws.Moments.{at_end}
+use Rattle.paged_blob_parts.specs.Writers.{from_page, WriterState, written, IsWriterOf, IsWriter, IsFlushed, Keeps}
+use Rattle.paged_blob_parts.specs.Stands.{Stand, pages_of}
 use Rattle.paged_blob.specs.Syncs.{IsUnderWay, settled_tip, settled_slot}
-use Rattle.paged_blob.specs.declared.flush.DurableSlot.{DurableSlot}
-use Rattle.paged_blob.specs.declared.error.Error.{Error}
-use Rattle.paged_blob.specs.declared.error.Error.TheVariants.{Injected, BlobMissing, BlobInsufficientLength, NumberEnded, Memory, PowerCut, ChecksumMismatch}
+use Rattle.paged_blob_parts.specs.declared.flush.DurableSlot.{DurableSlot}
+use Rattle.paged_blob_parts.specs.declared.error.Error.{Error}
+use Rattle.paged_blob_parts.specs.declared.error.Error.TheVariants.{Injected, BlobMissing, BlobInsufficientLength, NumberEnded, Memory, PowerCut, ChecksumMismatch}
 use Rattle.paged_blob.specs.declared.writer.syncing.WriterSync.{WriterSync}
-use Rattle.paged_blob.proofs.CachedLaws.{holds_pages_given}
-use Rattle.paged_blob.proofs.WriterLaws.{size_is, more_writer, writer_more, keeps_more, sync_moments, settled_after, flushed_recovered, written_is, is_writer}
-use Rattle.paged_blob.proofs.WriterViews.{writer_stands, pages_number}
+use Rattle.paged_blob_parts.proofs.CachedLaws.{holds_pages_given}
+use Rattle.paged_blob_parts.proofs.WriterLaws.{size_is, more_writer, writer_more, keeps_more, sync_moments, settled_after, flushed_recovered, written_is, is_writer}
+use Rattle.paged_blob_parts.proofs.WriterViews.{writer_stands, pages_number}
 
 -- a sync, answered as it may be, leaves the content of what did not fail
 abbrev Stays : List Call → List Call → Type 0

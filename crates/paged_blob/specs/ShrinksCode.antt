@@ -3,11 +3,11 @@ use Rattle.std.specs.Prelude.{◌≡◌, ◌⊎◌, ℕ, ◌*◌, ◌/◌, ◌%�
 use Rattle.paged_format.specs.declared.footer.Slot.{Slot}
 use Rattle.paged_format.specs.Footers.{content_size, slot_bytes}
 use Rattle.paged_format.specs.Tips.{Tip}
-use Rattle.paged_blob.specs.Calls.{Call, file_of, content}
-use Rattle.paged_blob.specs.Chance.{page_at, slot_in}
-use Rattle.paged_blob.specs.Writers.{from_page}
-use Rattle.paged_blob.specs.Shrinks.{other_slot, handed_over}
-use Rattle.paged_blob.specs.declared.flush.DurableSlot.{DurableSlot}
+use Rattle.paged_blob_parts.specs.Calls.{Call, file_of, content}
+use Rattle.paged_blob_parts.specs.Chance.{page_at, slot_in}
+use Rattle.paged_blob_parts.specs.Writers.{from_page}
+use Rattle.paged_blob_parts.specs.Shrinks.{other_slot, handed_over}
+use Rattle.paged_blob_parts.specs.declared.flush.DurableSlot.{DurableSlot}
 use Rattle.paged_blob.specs.declared.shrink.LastPage.{LastPage}
 
 -- a slot of a page says so many bytes with this checksum, and the other one is zero

@@ -2,12 +2,12 @@
 use Rattle.std.specs.Prelude.{◌≡◌, ℕ, ◌+◌, ◌-◌, ◌*◌, ◌/◌, ◌<◌, ◌≤◌, ◌^◌, Option, Result, Ok, Err, OnOk, List, length, take, drop}
 use Rattle.paged_format.specs.Footers.{content_size}
 use Rattle.paged_format.specs.Tips.{Tip}
-use Rattle.paged_blob.specs.Calls.{Call}
-use Rattle.paged_blob.specs.Flushes.{physical_size, last_slot}
-use Rattle.paged_blob.specs.Writers.{WriterState, IsWriterOf, IsWriter, Keeps, written}
-use Rattle.paged_blob.specs.Stands.{Stand, pages_of}
-use Rattle.paged_blob.specs.declared.flush.DurableSlot.{DurableSlot}
-use Rattle.paged_blob.specs.declared.error.Error.{Error}
+use Rattle.paged_blob_parts.specs.Calls.{Call}
+use Rattle.paged_blob_parts.specs.Flushes.{physical_size, last_slot}
+use Rattle.paged_blob_parts.specs.Writers.{WriterState, IsWriterOf, IsWriter, Keeps, written}
+use Rattle.paged_blob_parts.specs.Stands.{Stand, pages_of}
+use Rattle.paged_blob_parts.specs.declared.flush.DurableSlot.{DurableSlot}
+use Rattle.paged_blob_parts.specs.declared.error.Error.{Error}
 use Rattle.paged_blob.specs.declared.writer.syncing.WriterSync.{WriterSync}
 
 -- A tip of which so many bytes were made durable: it begins behind the whole pages of these.

@@ -1,10 +1,10 @@
 -- Why a call of a writer that takes bytes into memory may be refused.
 use Rattle.std.specs.Prelude.{ℕ, ◌+◌, ⊤, length}
-use Rattle.paged_blob.specs.Answers.{IsPastNumbers}
-use Rattle.paged_blob.specs.Flushes.{physical_size}
-use Rattle.paged_blob.specs.Writers.{WriterState}
-use Rattle.paged_blob.specs.declared.error.Error.{Error}
-use Rattle.paged_blob.specs.declared.error.Error.TheVariants.{NumberEnded, Memory}
+use Rattle.paged_blob_parts.specs.Answers.{IsPastNumbers}
+use Rattle.paged_blob_parts.specs.Flushes.{physical_size}
+use Rattle.paged_blob_parts.specs.Writers.{WriterState}
+use Rattle.paged_blob_parts.specs.declared.error.Error.{Error}
+use Rattle.paged_blob_parts.specs.declared.error.Error.TheVariants.{NumberEnded, Memory}
 
 -- memory is wanting, or a number of the list with so many bytes more would end
 abbrev pub IsTakingCause : WriterState → ℕ → Error → Type 0

@@ -3,16 +3,15 @@
 ghost use Rattle.std.specs.Prelude.{◌≡◌, ◌+◌, ◌-◌, ◌*◌, ◌/◌, ◌<◌, ◌≤◌, length, take, drop, IsFalse, IfOk, IfErr};
 ghost use Rattle.paged_format.specs.Footers.{IsPageSize, content_size};
 ghost use Rattle.paged_format.specs.Pages.{recovered};
-ghost use Rattle.paged_blob.specs.Answers.{failures_after, IsCause};
-ghost use Rattle.paged_blob.specs.Calls.{content, file_of};
-ghost use Rattle.paged_blob.specs.Chance.{page_at};
-ghost use Rattle.paged_blob.specs.Flushes.{physical_size};
-ghost use Rattle.paged_blob.specs.declared.error.CallKind.TheVariants.{Read};
+ghost use Rattle.paged_blob_parts.specs.Answers.{failures_after, IsCause};
+ghost use Rattle.paged_blob_parts.specs.Calls.{content, file_of};
+ghost use Rattle.paged_blob_parts.specs.Chance.{page_at};
+ghost use Rattle.paged_blob_parts.specs.Flushes.{physical_size};
+ghost use Rattle.paged_blob_parts.specs.declared.error.CallKind.TheVariants.{Read};
 
-use crate::blob::Blob;
-use crate::error::Error;
 use crate::writer::Writer;
 use fault_storage::Checksum;
+use paged_blob_parts::{Blob, Error};
 use paged_format::prefix_len;
 use std::alloc::Global;
 

@@ -1,21 +1,20 @@
 //! What holds of all blobs, and of all writers over them.
 
 ghost use Rattle.std.specs.Prelude.{◌≡◌, ◌<◌, ◌≤◌, ◌+◌, ◌^◌, ℕ, List, Option, Result, [], length};
-ghost use Rattle.std.specs.Bool.{Decides};
 ghost use Rattle.paged_format.specs.Pages.{recovered};
 ghost use Rattle.paged_format.specs.Tips.{Tip};
-ghost use Rattle.paged_blob.specs.Calls.{Call, File, content, file_of};
-ghost use Rattle.paged_blob.specs.Answers.{RecordsSync};
-ghost use Rattle.paged_blob.specs.Images.{IsImage};
-ghost use Rattle.paged_blob.specs.Chance.{is_by_chance};
-ghost use Rattle.paged_blob.specs.Laws.Chance.{IsByChance};
-ghost use Rattle.paged_blob.specs.Writers.{IsWriterOf, WriterState, written, Keeps};
-ghost use Rattle.paged_blob.specs.declared.error.Error.{Error};
-ghost use Rattle.paged_blob.specs.declared.flush.DurableSlot.{DurableSlot};
-ghost use Rattle.paged_blob.specs.Flushes.{physical_size};
-ghost use Rattle.paged_blob.specs.Shrinks.{Withstands, IsCut};
+ghost use Rattle.paged_blob_parts.specs.Calls.{Call, content, file_of};
+ghost use Rattle.paged_blob_parts.specs.Answers.{RecordsSync};
+ghost use Rattle.paged_blob_parts.specs.Images.{IsImage};
+ghost use Rattle.paged_blob_parts.specs.Writers.{IsWriterOf, WriterState, written, Keeps};
+ghost use Rattle.paged_blob_parts.specs.declared.error.Error.{Error};
+ghost use Rattle.paged_blob_parts.specs.declared.flush.DurableSlot.{DurableSlot};
+ghost use Rattle.paged_blob_parts.specs.Flushes.{physical_size};
+ghost use Rattle.paged_blob_parts.specs.Shrinks.{Withstands, IsCut};
 ghost use Rattle.paged_blob.specs.ShrinksCode.{EndsWith, tip_of, slot_of};
 ghost use Rattle.paged_blob.specs.declared.shrink.LastPage.{LastPage};
+
+pub use paged_blob_parts::laws::chance_is_decided;
 
 /// What holds between a writer and its blob is enough: what is recovered of each image of the calls keeps the durable
 /// bytes of the content, and is a beginning of the content unless it is there by chance.
@@ -51,11 +50,4 @@ pub fn a_writer_stands_on_a_cut_blob()
 pub fn a_sync_leaves_what_stood_before_it()
     ensures { (answer : Result Unit Error) (old new : List Call) → RecordsSync answer old new
         → (image : List ℕ) → IsImage (file_of new) image → IsImage (file_of old) image }
-{}
-
-/// An opening is found to be by chance exactly where a slot of it verifies that the base and no beginning of the
-/// changes since, each whole, has there.
-pub fn chance_is_decided()
-    ensures { (sum : List ℕ → ℕ) (size : ℕ) (file : File) (shown : List ℕ)
-        → Decides (is_by_chance sum size file shown) (IsByChance sum size file shown) }
 {}

@@ -4,17 +4,17 @@ ghost use Rattle.std.specs.Prelude.{◌≡◌, ◌+◌, ◌*◌, ◌<◌, ◌≤
 ghost use Rattle.std.specs.Prelude.{◌⊎◌, min, OnOk, IfOk, IfErr};
 ghost use Rattle.paged_format.specs.Footers.{IsPageSize, content_size, slot_bytes, slot_start};
 ghost use Rattle.paged_format.specs.Pages.{recovered};
-ghost use Rattle.paged_blob.specs.Calls.{file_of, content};
-ghost use Rattle.paged_blob.specs.Moments.{Through};
-ghost use Rattle.paged_blob.specs.Answers.{failures_after, RecordsSync};
-ghost use Rattle.paged_blob.specs.Chance.{page_at, slot_in};
-ghost use Rattle.paged_blob.specs.Writers.{Keeps};
-ghost use Rattle.paged_blob.specs.Shrinks.{other_slot, handed_over, Withstands, IsTrimmed, IsCut, IsCutCause, EndsWithSync};
+ghost use Rattle.paged_blob_parts.specs.Calls.{file_of, content};
+ghost use Rattle.paged_blob_parts.specs.Moments.{Through};
+ghost use Rattle.paged_blob_parts.specs.Answers.{failures_after, RecordsSync};
+ghost use Rattle.paged_blob_parts.specs.Chance.{page_at, slot_in};
+ghost use Rattle.paged_blob_parts.specs.Writers.{Keeps};
+ghost use Rattle.paged_blob_parts.specs.Shrinks.{other_slot, handed_over, Withstands, IsTrimmed, IsCut, IsCutCause};
+ghost use Rattle.paged_blob_parts.specs.Shrinks.{EndsWithSync};
 ghost use Rattle.paged_blob.specs.ShrinksCode.{StandsAlone, IsLeftAlone, IsLast, EndsWith, IsSettled};
 
-use crate::blob::{Blob, WriteMode};
-use crate::error::Error;
 use fault_storage::Checksum;
+use paged_blob_parts::{Blob, Error, WriteMode};
 use paged_format::{Footer, Slot};
 use std::alloc::Global;
 
@@ -89,7 +89,7 @@ fn hand_over<B: Blob, C: Checksum>(
     blob.write_at(old, &slot_of(0, 0), WriteMode::Sync)
 }
 
-#[tactic(auto, unfolding(crate::specs::Chance::slot_in))]
+#[tactic(auto, unfolding(paged_blob_parts::specs::Chance::slot_in))]
 // A slot's six bytes in a page.
 fn slot_in(page: &[u8], slot: Slot) -> &[u8]
     requires { IsPageSize (length page.now) }

@@ -2,8 +2,8 @@
 
 ghost use Rattle.std.specs.Prelude.{◌≡◌, ◌+◌, [], IfOk};
 ghost use Rattle.paged_format.specs.Footers.{IsPageSize, content_size};
-ghost use Rattle.paged_blob.specs.CachedContent.{HoldsPagesOf};
-ghost use Rattle.paged_blob.specs.Writers.{IsWriter, written};
+ghost use Rattle.paged_blob_parts.specs.CachedContent.{HoldsPagesOf};
+ghost use Rattle.paged_blob_parts.specs.Writers.{IsWriter, written};
 
 mod explorer;
 

@@ -15,6 +15,7 @@ pub mod footer;
 pub mod prefix;
 pub mod tip;
 
+pub use fault_storage::{Checksum, Crc32};
 pub use footer::{CHECKSUM_SIZE, Footer, Slot, is_page_size, page_size};
 pub use prefix::prefix_len;
 pub use tip::TipBuffer;

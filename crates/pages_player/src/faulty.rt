@@ -1,8 +1,8 @@
 //! A blob in memory of which a sync is refused by a fault.
 
 ghost use Rattle.std.specs.Prelude.{◌≡◌, ◌∷◌, [], true, false, None, IfOk};
-ghost use Rattle.paged_blob.specs.Calls.{opened};
-ghost use Rattle.paged_blob.specs.MemoryDisks.{calls_in};
+ghost use Rattle.paged_blob_parts.specs.Calls.{opened};
+ghost use Rattle.paged_blob_parts.specs.MemoryDisks.{calls_in};
 ghost use Rattle.pages_player.specs.Faulty.{calls_then, faults};
 
 use paged_blob::bench::MemoryDisk;

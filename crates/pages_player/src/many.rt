@@ -1,7 +1,7 @@
 //! Slices that are read at once, in words: `4:0,10` is four bytes from 0 on and from 10 on, `0+4,10+2` are two ranges.
 
 ghost use Rattle.std.specs.Prelude.{◌≡◌, ◌*◌, length, IfOk};
-ghost use Rattle.paged_blob.specs.Served.{total};
+ghost use Rattle.paged_blob_parts.specs.Served.{total};
 
 use crate::told::{Told, number};
 use case_lines::{Unanswered, digits};

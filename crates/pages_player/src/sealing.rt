@@ -2,10 +2,10 @@
 
 ghost use Rattle.std.specs.Prelude.{◌≡◌, IfOk};
 ghost use Rattle.paged_format.specs.Footers.{content_size};
-ghost use Rattle.paged_blob.specs.CachedContent.{HoldsPagesOf};
-ghost use Rattle.paged_blob.specs.Reads.{ServesPages};
-ghost use Rattle.paged_blob.specs.Stands.{Stand, on_blob};
-ghost use Rattle.paged_blob.specs.Writers.{IsWriter, written};
+ghost use Rattle.paged_blob_parts.specs.CachedContent.{HoldsPagesOf};
+ghost use Rattle.paged_blob_parts.specs.Reads.{ServesPages};
+ghost use Rattle.paged_blob_parts.specs.Stands.{Stand, on_blob};
+ghost use Rattle.paged_blob_parts.specs.Writers.{IsWriter, written};
 
 use crate::many::{
     buffer_of_items, buffer_of_ranges, items, ranges, told_missing, told_read, told_tried,

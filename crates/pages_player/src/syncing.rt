@@ -2,11 +2,11 @@
 
 ghost use Rattle.std.specs.Prelude.{◌≡◌, ◌+◌, [], length, IfOk, IsFalse};
 ghost use Rattle.paged_format.specs.Footers.{IsPageSize, content_size};
-ghost use Rattle.paged_blob.specs.CachedContent.{HoldsPagesOf};
-ghost use Rattle.paged_blob.specs.Calls.{content, file_of};
-ghost use Rattle.paged_blob.specs.Stands.{Stand, pages_of};
+ghost use Rattle.paged_blob_parts.specs.CachedContent.{HoldsPagesOf};
+ghost use Rattle.paged_blob_parts.specs.Calls.{content, file_of};
+ghost use Rattle.paged_blob_parts.specs.Stands.{Stand, pages_of};
 ghost use Rattle.paged_blob.specs.Syncs.{IsUnderWay};
-ghost use Rattle.paged_blob.specs.Writers.{IsWriter, written};
+ghost use Rattle.paged_blob_parts.specs.Writers.{IsWriter, written};
 
 use crate::told::Told;
 use crate::writers::{self, End};

@@ -1,12 +1,12 @@
 //! Lists of bits in chunks, of which chunks are pruned from the front: `bits NEW | CHANGE | QUESTION`.
 
-ghost use Rattle.state_bitmap.specs.Bits.{IsChunkWidth};
+ghost use Rattle.state_proofs_parts.specs.Bits.{IsChunkWidth};
 
 use crate::arguments::{
     Answer, Line, array_digits, bit, bit_told, bits, chunk_told, done, done_if, number, truth,
 };
 use case_lines::{Unanswered, bytes, digits};
-use state_bitmap::Prunable;
+use state_proofs::Prunable;
 use std::alloc::Global;
 
 // The most bits that a case may have, and the most that a line may add.

@@ -1,6 +1,6 @@
 //! Proofs that are built out of trees and bits.
 
-ghost use Rattle.state_bitmap.specs.Bits.{IsChunkWidth};
+ghost use Rattle.state_proofs_parts.specs.Bits.{IsChunkWidth};
 
 use crate::arguments::{Answer, Hash, Line, array_digits, encoded, numbers, numbers_told, refused};
 use crate::grafted::both;
@@ -85,7 +85,7 @@ fn build_one<F: Graftable + PendingOf<Hash>, S: Readable<F, Digest = Hash>, cons
         Ok(plan) => plan,
         Err(error) => return refused(alloc, of_tree(error)),
     };
-    let proof = operation::Proof::build::<ByteHash, _, _, N>(
+    let proof = operation::Proof::<F, Hash>::build::<ByteHash, _, _, N>(
         alloc,
         &source.bits,
         plan,
@@ -174,7 +174,7 @@ fn new_one<F: Graftable + PendingOf<Hash>, S: Readable<F, Digest = Hash>, const 
 ) -> Answer
     requires { IsChunkWidth N }
 {
-    let proof = operation::Proof::new::<ByteHash, _, _, N>(
+    let proof = operation::Proof::<F, Hash>::new::<ByteHash, _, _, N>(
         alloc,
         &source.bits,
         nodes,

@@ -12,7 +12,7 @@ use merkle_core::{ExtractionError, Mem, Proof, ProofStore};
 use merkle_forest::codec::Decode;
 use merkle_forest::hasher::Standard;
 use merkle_forest::{Bagging, ByteHash, Graftable, Location, Position};
-use state_proofs::log_proofs::{
+use state_proofs::verify::{
     create_multi_proof, create_proof_store, verify_multi_proof, verify_proof,
     verify_proof_and_extract_digests, verify_proof_and_pinned_nodes,
 };

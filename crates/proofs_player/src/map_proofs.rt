@@ -1,6 +1,6 @@
 //! Proofs of bits: made by a map, shown as they are, and shown with other leaves.
 
-ghost use Rattle.state_bitmap.specs.Bits.{IsChunkWidth};
+ghost use Rattle.state_proofs_parts.specs.Bits.{IsChunkWidth};
 
 use crate::arguments::{
     Answer, Hash, Line, all_numbers, array, array_digits, digest, digest_list, digest_or_none,
@@ -12,8 +12,8 @@ use merkle_core::Proof;
 use merkle_forest::hasher::Standard;
 use merkle_forest::mmr::Family;
 use merkle_forest::{ByteHash, Location};
-use state_bitmap::MerkleizedBitMap;
-use state_bitmap::inclusion::root_of_bit;
+use state_proofs::MerkleizedBitMap;
+use state_proofs::inclusion::root_of_bit;
 use std::alloc::{AllocError, Global};
 
 /// A proof of a bit, and the chunk with it.

@@ -1,11 +1,11 @@
 //! What a map answers whether it knows its root or not.
 
-ghost use Rattle.state_bitmap.specs.Bits.{IsChunkWidth};
+ghost use Rattle.state_proofs_parts.specs.Bits.{IsChunkWidth};
 
 use crate::arguments::{Answer, Hash, Line, array_digits, bit_told, chunk_told, number, truth};
 use case_lines::Unanswered;
-use state_bitmap::BitMap;
-use state_bitmap::authenticated::State;
+use state_proofs::BitMap;
+use state_proofs::authenticated::State;
 use std::alloc::Global;
 
 // Whether a bit that is kept is set.

@@ -1,6 +1,6 @@
 //! Bits with a root over them: `map NEW | CHANGE | QUESTION`.
 
-ghost use Rattle.state_bitmap.specs.Bits.{IsChunkWidth};
+ghost use Rattle.state_proofs_parts.specs.Bits.{IsChunkWidth};
 
 use crate::arguments::{
     Answer, Hash, Line, bagging, bit, bits, digest_list, digest_or_none, digest_told, digests,
@@ -11,7 +11,8 @@ use crate::map_told::{told, told_at};
 use case_lines::{Unanswered, bytes};
 use merkle_forest::hasher::Standard;
 use merkle_forest::{Bagging, ByteHash, Position};
-use state_bitmap::{Error, MerkleizedBitMap, UnmerkleizedBitMap};
+use state_proofs::bitmap_error::Error;
+use state_proofs::{MerkleizedBitMap, UnmerkleizedBitMap};
 use std::alloc::Global;
 use std::mem;
 

@@ -11,13 +11,14 @@ use Rattle.merkle_core_parts.specs.declared.error.Error.{Error as MerkleError}
 use Rattle.merkle_core_parts.specs.declared.error.Error.TheVariants.{Memory as NoMemory, LocationOverflow, Empty, RangeOutOfBounds, LeafOutOfBounds, ElementPruned, InvalidInactivePeaks}
 use Rattle.merkle_core.specs.MadeRoots.{peaks_of}
 use Rattle.merkle_core.specs.Plans.{Asked as Span, IsRefusalOfElement, IsRefusalOfRange, IsRefusalToProveNow, IsWithinTree, Lookup, first_missing, range_positions}
-use Rattle.state_bitmap.specs.Bits.{all_bits, bit_count}
-use Rattle.state_bitmap.specs.Laws.Bits.{length-all}
+use Rattle.state_proofs_parts.specs.Bits.{all_bits, bit_count}
+use Rattle.state_proofs_parts.specs.Laws.Bits.{length-all}
 use Rattle.state_proofs.specs.declared.error.Error.{Error}
 use Rattle.state_proofs.specs.declared.error.Error.TheVariants.{DataCorrupted, OperationPruned, Merkle, Memory}
-use Rattle.state_proofs.specs.Built.{AreApart, IsRefusalOfLocated, IsRefusalOfPlanned, IsUnknown, Source, chunks_asked, unknown_node}
+use Rattle.state_proofs.specs.Built.{AreApart, IsRefusalOfLocated, IsRefusalOfPlanned, IsUnknown, chunks_asked, unknown_node}
+use Rattle.state_proofs_parts.specs.Sources.{Source}
 use Rattle.state_proofs.specs.BuiltCode.{measures_with, source_of, span_of}
-use Rattle.state_proofs.specs.Laws.Heights.{same_power, some_height}
+use Rattle.state_proofs_parts.specs.Laws.Heights.{same_power, some_height}
 use Rattle.state_proofs.specs.Required.{Measures}
 use Rattle.state_current.specs.Kept.{AreTogether, Kept, read_of}
 use Rattle.state_current.specs.Settled.{IsSettled}

@@ -15,8 +15,8 @@ use Rattle.merkle_forest.specs.Trees.{Located, located}
 use Rattle.merkle_core.specs.MadeRoots.{peaks_of}
 use Rattle.merkle_core.specs.Plans.{Lookup, first_missing, sibling_nodes, inner_nodes, range_nodes, range_positions}
 use Rattle.merkle_core.specs.Ranges.{is_before, is_after, meets}
-use Rattle.state_bitmap.specs.Laws.Known.{all_if, all_append, all_filter, all_flat, all_located, meets_after, none_missing}
-use Rattle.state_proofs.specs.Laws.GraftedNodes.{Aligned}
+use Rattle.state_proofs_parts.specs.Laws.Known.{all_if, all_append, all_filter, all_flat, all_located, meets_after, none_missing}
+use Rattle.state_proofs_parts.specs.Laws.GraftedNodes.{Aligned}
 use Rattle.state_current.specs.Settled.{IsAbove}
 use Rattle.state_current.proofs.PrunedLemmas.{low_block}
 

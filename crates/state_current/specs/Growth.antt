@@ -6,8 +6,8 @@ use Rattle.merkle_forest.specs.Forest.{Tree, height}
 use Rattle.merkle_forest.specs.Nodes.{IsNodeAt, nodes_of_height}
 use Rattle.merkle_forest.specs.Trees.{plain_digest}
 use Rattle.merkle_core_parts.specs.Mem.{Replacement}
-use Rattle.state_proofs.specs.Canonical.{Setting, State, chunk, forest}
-use Rattle.state_proofs.specs.Grafting.{grafted}
+use Rattle.state_proofs_parts.specs.Canonical.{Setting, State, chunk, forest}
+use Rattle.state_proofs_parts.specs.Grafting.{grafted}
 
 -- bits after those at these places are cleared, one after the other
 abbrev pub cleared : List Bool → List ℕ → List Bool

@@ -1,16 +1,14 @@
 //! The state that is kept.
 
 ghost use Rattle.std.specs.Prelude.{◌≡◌, ◌<◌, ◌≤◌, ◌*◌, ◌^◌, [], ℕ, Some, slice_get};
-ghost use Rattle.state_bitmap.specs.Bits.{IsChunkWidth, all_bits, bit_count};
-ghost use Rattle.state_proofs.specs.BuiltCode.{setting_with};
-ghost use Rattle.state_proofs.specs.Canonical.{State, chunk};
+ghost use Rattle.state_proofs_parts.specs.Bits.{IsChunkWidth, all_bits, bit_count};
+ghost use Rattle.state_proofs_parts.specs.Canonical.{State, chunk, setting_with};
 ghost use Rattle.state_current.specs.Kept.{StandsFor};
 
 use merkle_core::Mem;
 use merkle_forest::hasher::HashFunction;
 use merkle_forest::{Graftable, Location};
-use state_bitmap::Prunable;
-use state_proofs::ChunkSize;
+use state_proofs::{ChunkSize, Prunable};
 use std::alloc::Global;
 use std::marker::Model;
 
@@ -73,6 +71,14 @@ impl<F: Graftable, H: HashFunction, const N: usize> Current<F, H, N> {
         ensures few { result ≤ 2 ^ 62 }
     {
         self.bits.pruned_chunks()
+    }
+
+    /// The location of the first operation whose chunk is not pruned, or that of the next one (own).
+    pub fn kept_from(&self) -> Location<F>
+        ensures { result ≡ 8 * N * self.now.bits.pruned }
+    {
+        let _floor = self.floor;
+        Location::new(self.bits.pruned_bits())
     }
 
     /// The location before which no operation is active (own).

@@ -2,8 +2,7 @@
 
 ghost use Rattle.std.specs.Prelude.{◌≡◌, ◌<◌, ◌≤◌, ◌+◌, ◌*◌, ◌^◌, ℕ, map, length, IfOk, IfErr};
 ghost use Rattle.std.specs.List.{AllByRecursion};
-ghost use Rattle.state_proofs.specs.BuiltCode.{setting_with};
-ghost use Rattle.state_proofs.specs.Canonical.{State};
+ghost use Rattle.state_proofs_parts.specs.Canonical.{State, setting_with};
 ghost use Rattle.state_current.specs.Growth.{grown};
 ghost use Rattle.state_current.specs.Kept.{StandsFor};
 

@@ -1,8 +1,7 @@
 //! What is kept, with less before a location.
 
 ghost use Rattle.std.specs.Prelude.{◌≡◌, ◌≤◌, ◌-◌, ◌*◌, ◌/◌, ◌^◌, ℕ, false, take, replicate, IfErr, OnOk, OnErr};
-ghost use Rattle.state_proofs.specs.BuiltCode.{setting_with};
-ghost use Rattle.state_proofs.specs.Canonical.{State};
+ghost use Rattle.state_proofs_parts.specs.Canonical.{State, setting_with};
 ghost use Rattle.state_current.specs.Kept.{StandsFor, AreClearBefore};
 ghost use Rattle.state_current.specs.Settled.{IsSettled, IsGreatestSettled};
 
@@ -28,11 +27,9 @@ impl<F: Graftable, H: HashFunction, const N: usize> Current<F, H, N> {
     {
         let size = self.chunk_size();
         let _leaves = self.operations.leaves();
-        let mut operations = self.operations.try_copy()?;
-        operations.prune(Location::new(chunk * size.bits()))?;
         let mut chunks = self.chunks.try_copy()?;
         chunks.prune(Location::new(chunk))?;
-        self.operations = operations;
+        self.operations.prune(Location::new(chunk * size.bits()))?;
         self.chunks = chunks;
         self.bits.prune_to_chunk(chunk);
         Ok(())

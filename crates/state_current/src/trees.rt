@@ -4,13 +4,13 @@ ghost use Rattle.std.specs.Prelude.{◌≡◌, ◌<◌, ◌≤◌, ◌+◌, ◌-
 ghost use Rattle.std.specs.Prelude.{IfErr, OnOk};
 ghost use Rattle.merkle_forest.specs.Forest.{forest_of};
 ghost use Rattle.merkle_forest.specs.Nodes.{nodes_of_height};
-ghost use Rattle.state_proofs.specs.GraftedNodes.{chunks_node};
+ghost use Rattle.state_proofs_parts.specs.GraftedNodes.{chunks_node};
 ghost use Rattle.state_current.specs.Growth.{cleared};
-ghost use Rattle.state_bitmap.specs.Bits.{all_bits};
+ghost use Rattle.state_proofs_parts.specs.Bits.{all_bits};
 ghost use Rattle.std.specs.List.{AllByRecursion};
 ghost use Rattle.merkle_core_parts.specs.Mem.{AreNodesOf, base_of, plain_leaf_digests, plain_node, replaced};
 ghost use Rattle.merkle_core_parts.specs.Mem.{with_leaves};
-ghost use Rattle.state_bitmap.specs.Bits.{IsChunkWidth, bit_count};
+ghost use Rattle.state_proofs_parts.specs.Bits.{IsChunkWidth, bit_count};
 ghost use Rattle.state_current.specs.ChunkLeaves.{IsReady, chunk_leaf, leaves_from, leaves_over};
 
 use merkle_core::Mem;
@@ -18,10 +18,9 @@ use merkle_core::batch::UnmerkleizedBatch;
 use merkle_core::error::Error;
 use merkle_forest::hasher::{HashFunction, Hasher, Standard};
 use merkle_forest::{Bagging, Digest, Family, Graftable, Location, Position};
-use state_bitmap::Prunable;
-use state_proofs::ChunkSize;
 use state_proofs::grafting::hasher::GraftedHasher;
 use state_proofs::grafting::{graft, graftable_chunks};
+use state_proofs::{ChunkSize, Prunable};
 use std::alloc::AllocError;
 
 // A copy of the tree to which the batch is applied.

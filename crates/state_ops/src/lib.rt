@@ -6,10 +6,14 @@
 pub mod ordered;
 
 pub use ordered::{OrderedOperation, OrderedUpdate};
+pub use state_ops_parts::codec::OperationCodec;
 pub use state_ops_parts::key::{FixedKey, Key};
-pub use state_ops_parts::operation::Operation;
-pub use state_ops_parts::update::Update;
-pub use state_ops_parts::value::{FixedEncoding, FixedValue};
+pub use state_ops_parts::operation::{COMMIT_CONTEXT, DELETE_CONTEXT, Operation, UPDATE_CONTEXT};
+pub use state_ops_parts::traits::{Committable, Floored};
+pub use state_ops_parts::update::{Parts, Update};
+pub use state_ops_parts::value::{
+    FixedEncoding, FixedValue, ValueEncoding, VariableEncoding, VariableValue,
+};
 pub use state_ops_parts::{
     codec, copy, display, fixed, hexadecimal, key, laws, operation, traits, update, value, variable,
 };

@@ -8,8 +8,8 @@ pub mod reading;
 
 use crate::key::Key;
 use crate::operation::{COMMIT_CONTEXT, DELETE_CONTEXT, Operation, UPDATE_CONTEXT};
-use crate::update::Update;
-use crate::value::VariableValue;
+use crate::update::{Ordered, Unordered, Update};
+use crate::value::{VariableEncoding, VariableValue};
 use merkle_forest::Family;
 use merkle_forest::codec::{EncodeSize, Write, or_undo};
 pub use reading::read_operation;
@@ -81,5 +81,23 @@ where
         Operation::Delete(key) => key.encode_size(),
         Operation::Update(update) => update.encode_size(),
         Operation::CommitFloor(metadata, floor) => metadata.encode_size() + floor.encode_size(),
+    }
+}
+
+/// The length of an ordered operation's variable encoding, by `operation_size`.
+/// In the Rust: `EncodeSize` of `qmdb::any::operation::Operation`, one impl for all updates.
+impl<F: Family, K: Key + EncodeSize, V: VariableValue> EncodeSize
+    for Operation<F, Ordered<K, VariableEncoding<V>>> {
+    fn encode_size(&self) -> usize {
+        operation_size::<F, K, V, Ordered<K, VariableEncoding<V>>>(self)
+    }
+}
+
+/// The length of an unordered operation's variable encoding, by `operation_size`.
+/// In the Rust: `EncodeSize` of `qmdb::any::operation::Operation`, one impl for all updates.
+impl<F: Family, K: Key + EncodeSize, V: VariableValue> EncodeSize
+    for Operation<F, Unordered<K, VariableEncoding<V>>> {
+    fn encode_size(&self) -> usize {
+        operation_size::<F, K, V, Unordered<K, VariableEncoding<V>>>(self)
     }
 }

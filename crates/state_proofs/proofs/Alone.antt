@@ -1,12 +1,12 @@
 -- A proof of one operation is one over a range that holds the operation alone.
 use Rattle.std.proofs.Common.{◌≡◌, ℕ, zero, suc, ◌+◌, ◌*◌, ◌/◌, ◌%◌, ◌<◌, true, List, [], ◌∷◌, length, Option, Some, None, refl, sym, ◌∙◌, ap, subst, arith}
 use Rattle.std.specs.Prelude.{slice_get, slice_index_or}
-use Rattle.state_proofs.specs.Bits.{is_set}
-use Rattle.state_proofs.specs.Canonical.{Setting, State, chunk_bits, chunk}
+use Rattle.state_proofs_parts.specs.SetBits.{is_set}
+use Rattle.state_proofs_parts.specs.Canonical.{Setting, State, chunk_bits, chunk}
 use Rattle.state_proofs.specs.Honest.{honest_range, honest_parts}
 use Rattle.state_proofs.specs.MadeRanges.{HasActive, HasRange}
 use Rattle.state_proofs.specs.Verified.{RangeParts, Parts, bit_of, shown_alone, IsShaped}
-use Rattle.state_proofs.specs.Laws.Chunks.{length-chunk, active_bit, bit_of_chunk}
+use Rattle.state_proofs_parts.specs.Laws.Chunks.{length-chunk, active_bit, bit_of_chunk}
 use Rattle.state_proofs.proofs.StateParts.{get_some}
 
 -- the bit of the operation is set in the proof's chunk

@@ -14,19 +14,21 @@ use Rattle.merkle_forest.specs.declared.bagging.Bagging.TheVariants.{BackwardFol
 use Rattle.merkle_forest.specs.Hashing.{Hash}
 use Rattle.merkle_forest.specs.Forest.{Rule, Tree, forest_of, position}
 use Rattle.merkle_forest.specs.Nodes.{IsNodeAt, nodes_of_height}
-use Rattle.state_bitmap.specs.Bits.{chunk_of}
-use Rattle.state_proofs.specs.Built.{chunks_asked, IsRefusalOfLocated, IsRefusalOfNodes, IsRefusalOfOperation, IsRefusalOfPlanned, IsRefusalOfSource, IsSourceOf, Source, lifted, unknown_node}
+use Rattle.state_proofs_parts.specs.Bits.{chunk_of}
+use Rattle.state_proofs.specs.Built.{chunks_asked, IsRefusalOfLocated, IsRefusalOfNodes, IsRefusalOfOperation, IsRefusalOfPlanned, IsRefusalOfSource, lifted, unknown_node}
+use Rattle.state_proofs_parts.specs.Sources.{IsSourceOf, Source}
 use Rattle.state_proofs.specs.Required.{IsPruned, Measures}
 use Rattle.state_proofs.specs.declared.error.Error.{Error}
 use Rattle.state_proofs.specs.declared.error.Error.TheVariants.{DataCorrupted, OperationPruned, Merkle, Memory}
-use Rattle.state_proofs.specs.BuiltCode.{measures_with, setting_with}
-use Rattle.state_proofs.specs.Grafting.{chunk_aligned_inactive_peaks}
-use Rattle.state_proofs.specs.Canonical.{Setting, State, chunk_bits, full_chunks, next_bit, chunks, chunk, forest, peaks, grafted_digests, grafted_inactive, pending_digest, partial_digest}
+use Rattle.state_proofs.specs.BuiltCode.{measures_with}
+use Rattle.state_proofs_parts.specs.Canonical.{setting_with}
+use Rattle.state_proofs_parts.specs.Grafting.{chunk_aligned_inactive_peaks}
+use Rattle.state_proofs_parts.specs.Canonical.{Setting, State, chunk_bits, full_chunks, next_bit, chunks, chunk, forest, peaks, grafted_digests, grafted_inactive, pending_digest, partial_digest}
 use Rattle.state_proofs.specs.Honest.{grafted_range}
 use Rattle.state_proofs.specs.Verified.{Parts, RangeParts}
-use Rattle.state_proofs.specs.Laws.ChunkCounts.{aligned-few}
-use Rattle.state_proofs.specs.Laws.Chunks.{chunk_at}
-use Rattle.state_proofs.specs.Laws.Heights.{same_power}
+use Rattle.state_proofs_parts.specs.Laws.ChunkCounts.{aligned-few}
+use Rattle.state_proofs_parts.specs.Laws.Chunks.{chunk_at}
+use Rattle.state_proofs_parts.specs.Laws.Heights.{same_power}
 use Rattle.state_proofs.proofs.KnownNodes.{known_digests}
 
 -- a chunk, from its bits

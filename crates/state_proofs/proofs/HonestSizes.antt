@@ -13,14 +13,14 @@ use Rattle.merkle_forest.specs.Perfect.{IsPairing}
 use Rattle.merkle_forest.specs.Trees.{located, tree_root}
 use Rattle.merkle_core.specs.Ranges.{Digests, range_digests}
 use Rattle.merkle_core.specs.Laws.Sized.{AreSized, IsSized, Gives, range_sized}
-use Rattle.state_proofs.specs.Bits.{is_zero}
-use Rattle.state_proofs.specs.Canonical.{Setting, State, chunk_bits, full_chunks, next_bit, chunk, forest, peaks, grafted_digests, grafted_inactive, operations_root, pending_digest, partial_digest}
-use Rattle.state_proofs.specs.Grafting.{grafted, grafted_digest}
+use Rattle.state_proofs_parts.specs.SetBits.{is_zero}
+use Rattle.state_proofs_parts.specs.Canonical.{Setting, State, chunk_bits, full_chunks, next_bit, chunk, forest, peaks, grafted_digests, grafted_inactive, operations_root, pending_digest, partial_digest}
+use Rattle.state_proofs_parts.specs.Grafting.{grafted, grafted_digest}
 use Rattle.state_proofs.specs.Honest.{grafted_range, honest_parts}
 use Rattle.state_proofs.specs.Encoded.{Fits}
-use Rattle.state_proofs.specs.Laws.ChunkCounts.{inactive-few}
-use Rattle.state_proofs.specs.Laws.Chunks.{length-chunk}
-use Rattle.state_proofs.specs.Laws.Heights.{some_height}
+use Rattle.state_proofs_parts.specs.Laws.ChunkCounts.{inactive-few}
+use Rattle.state_proofs_parts.specs.Laws.Chunks.{length-chunk}
+use Rattle.state_proofs_parts.specs.Laws.Heights.{some_height}
 
 graft_sized : (size : ℕ) (hash : Hash) (chunk own : List ℕ) (test : Bool) → IsSized size hash → length own ≡ size
     → length (cond test own (hash (chunk ++ own))) ≡ size

@@ -1,5 +1,3 @@
-pub mod BitLemmas
-pub mod WidthLemmas
 pub mod HonestLemmas
 pub mod HonestSizes
 pub mod Extending
@@ -15,14 +13,7 @@ pub mod KnownNodes
 pub mod BuiltLemmas
 pub mod WitnessLemmas
 pub mod RequiredLemmas
-pub mod PeakSteps
 pub mod ExclusionLemmas
-pub mod OneEachLists
-pub mod OneEachTrees
-pub mod OneEachBags
-pub mod OneEachRoots
-pub mod OneEachCanonical
-pub mod OneEachStates
 pub mod OneEachProofs
 pub mod RangeLed
 pub mod RangeTold

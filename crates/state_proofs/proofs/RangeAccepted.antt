@@ -18,19 +18,19 @@ use Rattle.merkle_core.specs.MadeRoots.{Naming}
 use Rattle.merkle_core.specs.MadeTrees.{Over, from}
 use Rattle.merkle_core.specs.Ranges.{Digests, meets, is_before, is_after, range_digests}
 use Rattle.merkle_core.specs.Reads.{Agrees, range_root}
-use Rattle.state_proofs.specs.Bits.{is_zero}
-use Rattle.state_proofs.specs.Canonical.{Setting, State, chunk_bits, full_chunks, next_bit, chunks, chunk, forest, peaks, grafted_digests, grafted_inactive, grafted_root, operations_root, pending_digest, partial_digest, canonical_string, canonical_root}
-use Rattle.state_proofs.specs.Grafting.{grafted_digest}
+use Rattle.state_proofs_parts.specs.SetBits.{is_zero}
+use Rattle.state_proofs_parts.specs.Canonical.{Setting, State, chunk_bits, full_chunks, next_bit, chunks, chunk, forest, peaks, grafted_digests, grafted_inactive, grafted_root, operations_root, pending_digest, partial_digest, canonical_string, canonical_root}
+use Rattle.state_proofs_parts.specs.Grafting.{grafted_digest}
 use Rattle.state_proofs.specs.Honest.{grafted_range, honest_range}
-use Rattle.state_proofs.specs.Laws.MadeStates.{branch_grafted}
-use Rattle.state_proofs.specs.MadeGrafted.{joined_in, grafted_case, grafted_over, grafted_names}
+use Rattle.state_proofs_parts.specs.Laws.MadeStates.{branch_grafted}
+use Rattle.state_proofs_parts.specs.MadeGrafted.{joined_in, grafted_case, grafted_over, grafted_names}
 use Rattle.state_proofs.specs.MadeRanges.{HasRange}
-use Rattle.state_proofs.specs.MadeStates.{made_chunk}
+use Rattle.state_proofs_parts.specs.MadeStates.{made_chunk}
 use Rattle.state_proofs.specs.Verified.{Shown, shown_bits, stop_of, first_index, last_index, Covers, covering, given_by, shown_grafted, IsShaped, FitsShown, VerifiesRange, FitsChunk}
-use Rattle.state_proofs.specs.Verifier.{Given, given_chunk, claimed_chunk}
-use Rattle.state_proofs.specs.Laws.ChunkCounts.{Aligned, inactive-few}
-use Rattle.state_proofs.specs.Laws.Chunks.{any_default, location_chunks}
-use Rattle.state_proofs.specs.Laws.Heights.{some_height}
+use Rattle.state_proofs_parts.specs.Verifier.{Given, given_chunk, claimed_chunk}
+use Rattle.state_proofs_parts.specs.Laws.ChunkCounts.{Aligned, inactive-few}
+use Rattle.state_proofs_parts.specs.Laws.Chunks.{any_default, location_chunks}
+use Rattle.state_proofs_parts.specs.Laws.Heights.{some_height}
 use Rattle.state_proofs.proofs.RangeIsTrue.{both_on}
 use Rattle.state_proofs.proofs.SameReading.{Alike, AllAlike, range_same}
 use Rattle.state_proofs.proofs.StateParts.{Counted}

@@ -12,17 +12,17 @@ use Rattle.merkle_core.specs.HonestReads.{AreDigestsOver, ReadsHonestly}
 use Rattle.merkle_core.specs.Laws.HonestReads.{read_at}
 use Rattle.merkle_core.specs.MadeTrees.{Over, whole}
 use Rattle.merkle_core.specs.Ranges.{Digests}
-use Rattle.state_proofs.specs.Canonical.{Setting, State, chunk_bits, full_chunks, next_bit, chunks, chunk, forest, grafted_digests, grafted_inactive, pending_digest, partial_digest, canonical_root}
-use Rattle.state_proofs.specs.Grafting.{grafted_digest}
+use Rattle.state_proofs_parts.specs.Canonical.{Setting, State, chunk_bits, full_chunks, next_bit, chunks, chunk, forest, grafted_digests, grafted_inactive, pending_digest, partial_digest, canonical_root}
+use Rattle.state_proofs_parts.specs.Grafting.{grafted_digest}
 use Rattle.state_proofs.specs.Honest.{grafted_range, honest_range}
-use Rattle.state_proofs.specs.Laws.MadeGrafted.{grafted_fits}
-use Rattle.state_proofs.specs.Laws.MadeStates.{branch_grafted}
-use Rattle.state_proofs.specs.MadeCanonical.{if_made, next_made, chunk_made}
-use Rattle.state_proofs.specs.MadeGrafted.{grafted_over, grafted_names}
+use Rattle.state_proofs_parts.specs.Laws.MadeGrafted.{grafted_fits}
+use Rattle.state_proofs_parts.specs.Laws.MadeStates.{branch_grafted}
+use Rattle.state_proofs_parts.specs.MadeCanonical.{if_made, next_made, chunk_made}
+use Rattle.state_proofs_parts.specs.MadeGrafted.{grafted_over, grafted_names}
 use Rattle.state_proofs.specs.MadeRanges.{held_or_made, is_covered, range_strings, HasDigestsOf}
-use Rattle.state_proofs.specs.MadeStates.{made_chunk, hashed_strings}
+use Rattle.state_proofs_parts.specs.MadeStates.{made_chunk, hashed_strings}
 use Rattle.state_proofs.specs.Verified.{Shown, shown_bits, stop_of, full_shown, graftable_shown, Covers, covering, given_by, IsShaped, VerifiesRange, RangeParts, FitsChunk}
-use Rattle.state_proofs.specs.Verifier.{claimed_chunk}
+use Rattle.state_proofs_parts.specs.Verifier.{claimed_chunk}
 use Rattle.state_proofs.proofs.RangeIsTrue.{RangeTold, range_told, covered_is, claimed_widths, made_widths}
 use Rattle.state_proofs.proofs.StateParts.{not_forty, value_operations}
 

@@ -13,20 +13,20 @@ use Rattle.merkle_core.specs.MadeTrees.{Over, from}
 use Rattle.merkle_core.specs.Plans.{honest_digests}
 use Rattle.merkle_core.specs.Ranges.{Digests}
 use Rattle.merkle_core.specs.Reads.{range_root}
-use Rattle.state_proofs.specs.Canonical.{Setting, State, chunk_bits, chunks, grafted_digests, grafted_inactive}
-use Rattle.state_proofs.specs.Grafting.{grafted, grafted_digest}
+use Rattle.state_proofs_parts.specs.Canonical.{Setting, State, chunk_bits, chunks, grafted_digests, grafted_inactive}
+use Rattle.state_proofs_parts.specs.Grafting.{grafted, grafted_digest}
 use Rattle.state_proofs.specs.Honest.{grafted_range, honest_range}
-use Rattle.state_proofs.specs.Laws.MadeStates.{no_chunk}
-use Rattle.state_proofs.specs.MadeGrafted.{grafted_names}
+use Rattle.state_proofs_parts.specs.Laws.MadeStates.{no_chunk}
+use Rattle.state_proofs_parts.specs.MadeGrafted.{grafted_names}
 use Rattle.state_proofs.specs.MadeRanges.{HasRange}
-use Rattle.state_proofs.specs.MadeStates.{made_chunk}
+use Rattle.state_proofs_parts.specs.MadeStates.{made_chunk}
 use Rattle.state_proofs.specs.RangeExtracted.{AreMadeOfShown, ShowsDigests}
 use Rattle.state_proofs.specs.Verified.{Shown, shown_bits, stop_of, given_by, graftable_shown, shown_over, shown_grafted, IsShaped, VerifiesRange, RangeParts}
-use Rattle.state_proofs.specs.Verifier.{Given, claimed_chunk, grafted_node, joined_chunk}
-use Rattle.state_proofs.specs.Laws.ChunkCounts.{Aligned}
+use Rattle.state_proofs_parts.specs.Verifier.{Given, claimed_chunk, grafted_node, joined_chunk}
+use Rattle.state_proofs_parts.specs.Laws.ChunkCounts.{Aligned}
 use Rattle.state_proofs.proofs.RangeAccepted.{met_in, same_at, agrees}
 use Rattle.state_proofs.proofs.RangeIsTrue.{at_level}
-use Rattle.state_proofs.specs.Laws.Verifier.{joined_is, node_at-is}
+use Rattle.state_proofs_parts.specs.Laws.Verifier.{joined_is, node_at-is}
 use Rattle.state_proofs.proofs.StateParts.{Counted}
 
 -- the law that an honest proof gives the digests of the nodes that it tells

@@ -10,11 +10,11 @@ use Rattle.merkle_core.specs.Extracted.{AreMadeOf, AreGiven, told_nodes, inner_t
 use Rattle.merkle_core.specs.MadeRoots.{peaks_of}
 use Rattle.merkle_core.specs.MadeTrees.{from}
 use Rattle.merkle_core.specs.Ranges.{Digests, is_before, is_after, meets, singly, siblings, inner_digests}
-use Rattle.state_proofs.specs.Grafting.{grafted}
+use Rattle.state_proofs_parts.specs.Grafting.{grafted}
 use Rattle.state_proofs.specs.RangeExtracted.{AreMadeOfShown, told_by}
 use Rattle.state_proofs.specs.Verified.{Shown, stop_of, given_by, graftable_shown, RangeParts}
-use Rattle.state_proofs.specs.Verifier.{Given, grafted_node, joined_chunk}
-use Rattle.state_proofs.specs.Laws.Verifier.{node_at-is}
+use Rattle.state_proofs_parts.specs.Verifier.{Given, grafted_node, joined_chunk}
+use Rattle.state_proofs_parts.specs.Laws.Verifier.{node_at-is}
 
 case_of : (P : Bool → Type 0) (test : Bool) → P true → P false → P test
 case_of P true one other = one

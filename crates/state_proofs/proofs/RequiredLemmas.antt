@@ -5,7 +5,7 @@ use Rattle.std.specs.List.Sorted.{IsStrictlyIncreasing}
 use Rattle.std.proofs.lemmas.Bool.{cases_lt, ltb-true, lt-ltb}
 use Rattle.std.proofs.lemmas.List.Elements.{Contains-append_left, Contains-append_right, Contains-append_cases}
 use Rattle.state_proofs.specs.RequiredCode.{as_list, option_below}
-use Rattle.state_proofs.specs.Laws.ChunkCounts.{index-few}
+use Rattle.state_proofs_parts.specs.Laws.ChunkCounts.{index-few}
 use Rattle.state_proofs.proofs.StateParts.{left_over}
 
 -- each of three that may be there is below the next ones

@@ -18,17 +18,17 @@ use Rattle.merkle_core.specs.Laws.MadeRoots.{peak_count}
 use Rattle.merkle_core.specs.Laws.Sound.{all_parts}
 use Rattle.merkle_core.specs.Laws.Values.{value_root}
 use Rattle.merkle_core.specs.MadeTrees.{Elements, whole, plain_over}
-use Rattle.state_proofs.specs.Canonical.{Setting, State, chunk_bits, full_chunks, next_bit, chunks, chunk, forest, peaks, grafted_inactive, grafted_digests, grafted_root, operations_root, pending_digest, partial_digest, canonical_string, canonical_root}
-use Rattle.state_proofs.specs.Grafting.{grafted_digest}
-use Rattle.state_proofs.specs.Laws.MadeCanonical.{SizedIf, SizedNext, MatchIf, MatchNext, value_canonical}
-use Rattle.state_proofs.specs.Laws.MadeStates.{value_grafted, told_in}
-use Rattle.state_proofs.specs.MadeCanonical.{if_made, next_made, chunk_made}
-use Rattle.state_proofs.specs.MadeGrafted.{grafted_over, grafted_names}
+use Rattle.state_proofs_parts.specs.Canonical.{Setting, State, chunk_bits, full_chunks, next_bit, chunks, chunk, forest, peaks, grafted_inactive, grafted_digests, grafted_root, operations_root, pending_digest, partial_digest, canonical_string, canonical_root}
+use Rattle.state_proofs_parts.specs.Grafting.{grafted_digest}
+use Rattle.state_proofs_parts.specs.Laws.MadeCanonical.{SizedIf, SizedNext, MatchIf, MatchNext, value_canonical}
+use Rattle.state_proofs_parts.specs.Laws.MadeStates.{value_grafted, told_in}
+use Rattle.state_proofs_parts.specs.MadeCanonical.{if_made, next_made, chunk_made}
+use Rattle.state_proofs_parts.specs.MadeGrafted.{grafted_over, grafted_names}
 use Rattle.state_proofs.specs.MadeRanges.{held_or_made}
-use Rattle.state_proofs.specs.MadeStates.{operations_names, made_operations, made_chunk, made_grafted, made_pending, made_partial, made_state}
+use Rattle.state_proofs_parts.specs.MadeStates.{operations_names, made_operations, made_chunk, made_grafted, made_pending, made_partial, made_state}
 use Rattle.state_proofs.specs.Verified.{FitsChunk}
-use Rattle.state_proofs.specs.Laws.ChunkCounts.{inactive-few}
-use Rattle.state_proofs.specs.Laws.Heights.{pow_le}
+use Rattle.state_proofs_parts.specs.Laws.ChunkCounts.{inactive-few}
+use Rattle.state_proofs_parts.specs.Laws.Heights.{pow_le}
 
 -- digests of chunks, as they are held, made and given
 pub held_value : (hash : Hash) (site : Site) (chunk : List ℕ) (There Covered : Type 0) (test : Bool) (held : Option (List ℕ)) → (test ≡ true → Covered)

@@ -6,10 +6,10 @@ use Rattle.merkle_forest.specs.Laws.Matching.{Agrees, agrees_or_collides}
 use Rattle.merkle_forest.specs.Made.{at_pending, at_partial, Made, bytes, value, strings, Collision}
 use Rattle.merkle_forest.specs.Nodes.{nodes_of_height}
 use Rattle.merkle_core.specs.Laws.MadeRoots.{number_same}
-use Rattle.state_proofs.specs.Canonical.{Setting, State, chunk_bits, full_chunks, next_bit, chunk, forest, operations_root, grafted_root, pending_digest, partial_digest, canonical_string, canonical_root}
-use Rattle.state_proofs.specs.Laws.MadeCanonical.{SizedIf, SizedNext, MatchIf, MatchNext, canonical_matches}
-use Rattle.state_proofs.specs.MadeCanonical.{CanonicalParts, if_made, next_made}
-use Rattle.state_proofs.specs.MadeStates.{made_operations, made_grafted, made_pending, made_partial, made_state, hashed_strings}
+use Rattle.state_proofs_parts.specs.Canonical.{Setting, State, chunk_bits, full_chunks, next_bit, chunk, forest, operations_root, grafted_root, pending_digest, partial_digest, canonical_string, canonical_root}
+use Rattle.state_proofs_parts.specs.Laws.MadeCanonical.{SizedIf, SizedNext, MatchIf, MatchNext, canonical_matches}
+use Rattle.state_proofs_parts.specs.MadeCanonical.{CanonicalParts, if_made, next_made}
+use Rattle.state_proofs_parts.specs.MadeStates.{made_operations, made_grafted, made_pending, made_partial, made_state, hashed_strings}
 use Rattle.state_proofs.specs.Witness.{WitnessParts, HasWitnessOf, next_of, witnessed_string, witnessed_made, honest_witness}
 use Rattle.state_proofs.proofs.StateParts.{value_state, value_operations, value_grafted_root, next_sized, some_sized, none_sized, some_value, none_value}
 

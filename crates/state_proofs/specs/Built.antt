@@ -1,24 +1,15 @@
--- What proofs are built from: known nodes of a tree, and bits of which chunks may be pruned.
-use Rattle.std.specs.Prelude.{◌≡◌, ◌≢◌, ◌<◌, ◌^◌, ◌⊎◌, ℕ, Bool, List, length, None, Some, Option}
+-- Which proofs are built, and why one is not.
+use Rattle.std.specs.Prelude.{◌≡◌, ◌≢◌, ◌<◌, ◌^◌, ◌⊎◌, ℕ, length, None, Some, Option}
 use Rattle.merkle_core_parts.specs.declared.error.Error.{Error as MerkleError}
 use Rattle.merkle_core_parts.specs.declared.error.Error.TheVariants.{ElementPruned, LocationOverflow}
 use Rattle.merkle_core_parts.specs.declared.error.Error.TheVariants.{Memory as NoMemory}
 use Rattle.merkle_core.specs.Plans.{Asked as Span, IsRefusalOfElement, IsRefusalOfRange, IsWithinTree, Lookup}
 use Rattle.merkle_core.specs.Plans.{first_missing, range_positions}
-use Rattle.merkle_forest.specs.Forest.{Rule, Tree, position}
-use Rattle.merkle_forest.specs.Nodes.{IsNodeAt}
+use Rattle.merkle_forest.specs.Forest.{Rule}
 use Rattle.state_proofs.specs.declared.error.Error.{Error}
 use Rattle.state_proofs.specs.declared.error.Error.TheVariants.{DataCorrupted, OperationPruned, Merkle, Memory}
-use Rattle.state_proofs.specs.Canonical.{Setting, State, forest, grafted_digests}
 use Rattle.state_proofs.specs.Required.{Measures, Asked, IsCorrupted, IsPruned}
-
--- how many operations there are and which are shown, the bits and how many chunks of them are pruned, and the digests
--- that are known of the nodes
-pub record Source : Type 0 where
-  pub span : Span
-  pub bits : List Bool
-  pub pruned : ℕ
-  pub known : Lookup
+use Rattle.state_proofs_parts.specs.Sources.{Source}
 
 -- what the chunks are asked for
 abbrev pub chunks_asked : Source → Asked
@@ -67,13 +58,6 @@ IsRefusalOfOperation measures source location (OperationPruned asked) =
 IsRefusalOfOperation measures source location Memory = Unit {0}
 IsRefusalOfOperation measures source location error =
     (IsPruned measures (chunks_asked source) location → ⊥) × IsRefusalOfSource measures source error
-
--- the bits are a state's, and so are the digests that are known of the nodes of its grafted tree
-pub record IsSourceOf (setting : Setting) (state : State) (source : Source) : Type 0 where
-  pub leaves : source.span.leaves ≡ length state.operations
-  pub bits : source.bits ≡ state.bits
-  pub known : (first : ℕ) (tree : Tree) (digest : List ℕ) → IsNodeAt first tree (forest setting state)
-      → source.known (position tree) ≡ Some digest → digest ≡ grafted_digests setting state first tree
 
 -- an error of the Merkle layer as one of this crate: out of memory is the same
 abbrev pub lifted : {F : Type 0} → MerkleError F → Error F

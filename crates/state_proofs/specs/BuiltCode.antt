@@ -2,10 +2,8 @@
 use Rattle.std.specs.Prelude.{ℕ, Bool, List, ◌*◌}
 use Rattle.merkle_core.specs.Plans.{Asked, Lookup}
 use Rattle.merkle_forest.specs.Forest.{Rule}
-use Rattle.merkle_forest.specs.Hashing.{Hash}
-use Rattle.state_proofs.specs.Built.{Source}
-use Rattle.state_proofs.specs.Canonical.{Setting}
 use Rattle.state_proofs.specs.Required.{Measures}
+use Rattle.state_proofs_parts.specs.Sources.{Source}
 
 -- the operations from one location up to another, in a tree of so many
 abbrev pub span_of : ℕ → ℕ → ℕ → Asked
@@ -14,14 +12,10 @@ span_of leaves start stop = record { leaves = leaves; start = start; stop = stop
 abbrev pub source_of : Asked → List Bool → ℕ → Lookup → Source
 source_of span bits pruned known = record { span = span; bits = bits; pruned = pruned; known = known }
 
--- what is measured, and the setting, from the bytes of a chunk and the grafting height
+-- what is measured, from the bytes of a chunk and the grafting height
 abbrev pub measures_with : Rule → ℕ → ℕ → Measures
 measures_with rule width grafting_height = record {
   rule = rule;
   chunk_bits = 8 * width;
   grafting_height = grafting_height;
 }
-
-abbrev pub setting_with : Rule → Hash → ℕ → ℕ → Setting
-setting_with rule hash width grafting_height = record
-    { rule = rule; hash = hash; width = width; grafting_height = grafting_height }

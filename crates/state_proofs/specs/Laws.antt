@@ -1,20 +1,7 @@
 -- Lemmas that crates above cite, and the laws of the traits.
-pub mod Bits
-pub mod ChunkCounts
-pub mod Chunks
 pub mod Encoded
 pub mod Exclusion
-pub mod GraftedNodes
-pub mod GraftedReads
-pub mod GraftedTrees
-pub mod Heights
-pub mod MadeCanonical
-pub mod MadeGrafted
-pub mod MadeStates
 pub mod Once
 pub mod Reading
-pub mod Roots
-pub mod SameNodes
 pub mod Showing
-pub mod Verifier
 pub mod Witness

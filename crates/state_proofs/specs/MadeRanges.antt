@@ -3,8 +3,8 @@ use Rattle.std.specs.Prelude.{◌≡◌, ℕ, ◌+◌, ◌%◌, ◌<◌, ◌&&�
 use Rattle.std.specs.Prelude.{Option, Some, option_map, slice_get, IfSome}
 use Rattle.std.specs.List.{All}
 use Rattle.merkle_forest.specs.Made.{at_pending, at_partial, Made, bytes, Strings, strings}
-use Rattle.state_proofs.specs.Canonical.{Setting, State, chunk}
-use Rattle.state_proofs.specs.MadeCanonical.{if_made, canonical_made, chunk_made}
+use Rattle.state_proofs_parts.specs.Canonical.{Setting, State, chunk}
+use Rattle.state_proofs_parts.specs.MadeCanonical.{if_made, canonical_made, chunk_made}
 use Rattle.state_proofs.specs.Verified.{Shown, shown_bits, first_index, covering, full_shown, graftable_shown}
 use Rattle.state_proofs.specs.Verified.{shown_grafted, RangeParts, Parts, shown_alone}
 

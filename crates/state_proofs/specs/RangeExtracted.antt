@@ -21,10 +21,10 @@ use Rattle.merkle_core.specs.MadeTrees.{from}
 use Rattle.merkle_core.specs.Ranges.{Digests, meets}
 use Rattle.merkle_core.specs.declared.extraction.ExtractionError.{ExtractionError}
 use Rattle.merkle_core.specs.declared.extraction.ExtractionError.TheVariants.{InvalidProof, RootMismatch, Memory}
-use Rattle.state_proofs.specs.Grafting.{grafted}
+use Rattle.state_proofs_parts.specs.Grafting.{grafted}
 use Rattle.state_proofs.specs.Verified.{Shown, shown_bits, stop_of, IsShaped, FitsShown, VerifiesRange, given_by}
 use Rattle.state_proofs.specs.Verified.{graftable_shown, shown_grafted, RangeParts}
-use Rattle.state_proofs.specs.Verifier.{joined_chunk}
+use Rattle.state_proofs_parts.specs.Verifier.{joined_chunk}
 
 -- operations from a location on, and chunks over them, of so many bytes each
 abbrev pub shown_with : ℕ → List (List ℕ) → List (List ℕ) → ℕ → Shown

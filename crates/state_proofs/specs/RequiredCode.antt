@@ -1,7 +1,7 @@
 -- Required chunks, as the code holds them.
 use Rattle.std.specs.Prelude.{ℕ, ◌*◌, List, [], ◌∷◌, Option, None, Some, nat_lt, if◌then◌else◌}
 use Rattle.merkle_forest.specs.Forest.{Rule}
-use Rattle.state_proofs.specs.declared.chunk_size.ChunkSize.{ChunkSize}
+use Rattle.state_proofs_parts.specs.declared.chunk_size.ChunkSize.{ChunkSize}
 use Rattle.state_proofs.specs.Required.{Measures, Asked}
 
 -- a number that may be there as a list

@@ -16,10 +16,10 @@ use Rattle.merkle_forest.specs.Made.{Made, value}
 use Rattle.merkle_forest.specs.Nodes.{nodes_of_height}
 use Rattle.merkle_core.specs.MadeTrees.{Over}
 use Rattle.merkle_core.specs.Reads.{range_root}
-use Rattle.state_proofs.specs.Bits.{is_set}
-use Rattle.state_proofs.specs.Canonical.{canonical_string}
-use Rattle.state_proofs.specs.MadeGrafted.{grafted_over, grafted_names}
-use Rattle.state_proofs.specs.Verifier.{Given, claimed_chunk}
+use Rattle.state_proofs_parts.specs.SetBits.{is_set}
+use Rattle.state_proofs_parts.specs.Canonical.{canonical_string}
+use Rattle.state_proofs_parts.specs.MadeGrafted.{grafted_over, grafted_names}
+use Rattle.state_proofs_parts.specs.Verifier.{Given, claimed_chunk}
 
 -- what a proof over a range of operations holds: the Merkle proof in the grafted tree, and the other parts of the
 -- canonical string

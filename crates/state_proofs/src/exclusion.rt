@@ -11,19 +11,77 @@ use crate::operation::Proof;
 use crate::ordered::encoded_update;
 use merkle_forest::{Digest, Family, Graftable, HashFunction, Location, PendingOf};
 use state_ops::ordered::encode;
+use state_ops::update::Ordered;
 use state_ops::{FixedKey, FixedValue, Operation, OrderedOperation, OrderedUpdate};
+use state_proofs_parts::chunk_form::ChunkForm;
 use std::alloc::{AllocError, Global};
 use std::cmp::Ordering;
 use std::convert::AsSlice;
 
 /// A proof that a key is not in a state.
 /// In the Rust: `qmdb::current::ordered::proof::ExclusionProof`.
-#[derive(Drop)]
+#[derive(Debug, PartialEq, Eq, Drop)]
 pub enum ExclusionProof<F: PendingOf<D>, K: FixedKey, V: FixedValue, D: Digest, C = Vec<u8>> {
     /// An update whose cyclic span, from its key up to its next key, holds the key, which is not its own.
     KeyValue(Proof<F, D, C>, OrderedUpdate<K, V>),
     /// The last commit of an empty map, with its metadata: its floor is its own place.
     Commit(Proof<F, D, C>, Option<V>),
+}
+
+// An update with the same encodings. It fails only when out of memory.
+fn copied_update<K: FixedKey, V: FixedValue>(
+    update: &OrderedUpdate<K, V>,
+) -> Result<OrderedUpdate<K, V>, AllocError>
+    ensures key { IfOk result (λ copy. K.encoding copy.key ≡ K.encoding update.now.key) }
+    ensures value { IfOk result (λ copy. V.encoding copy.value ≡ V.encoding update.now.value) }
+    ensures next { IfOk result (λ copy. K.encoding copy.next_key ≡ K.encoding update.now.next_key) }
+{
+    let key = update.key.clone()?;
+    let value = update.value.clone()?;
+    let next_key = update.next_key.clone()?;
+    Ok(Ordered {
+        key,
+        value,
+        next_key,
+    })
+}
+
+// Metadata with the same encoding, or none. It fails only when out of memory.
+fn copied_metadata<V: FixedValue>(metadata: &Option<V>) -> Result<Option<V>, AllocError>
+    ensures { IfOk result (λ copy. option_map V.encoding copy ≡ option_map V.encoding metadata.now) }
+{
+    match metadata {
+        None => Ok(None),
+        Some(value) => Ok(Some(value.clone()?)),
+    }
+}
+
+impl<F, K, V, D, C> ExclusionProof<F, K, V, D, C>
+where
+    F: PendingOf<D>,
+    K: FixedKey,
+    V: FixedValue,
+    D: Digest,
+    C: ChunkForm,
+{
+    /// A proof that holds the same. It fails only when out of memory (own). In the Rust: `Clone::clone`.
+    pub fn try_copy(&self) -> Result<ExclusionProof<F, K, V, D, C>, AllocError>
+        ensures { IfOk result (λ copy. form_exclusion_of C.items K.encoding V.encoding D.encoding F.held copy
+            ≡ form_exclusion_of C.items K.encoding V.encoding D.encoding F.held self.now) }
+    {
+        match self {
+            ExclusionProof::KeyValue(proof, update) => {
+                let copy = proof.try_copy()?;
+                let update = copied_update(update)?;
+                Ok(ExclusionProof::KeyValue(copy, update))
+            }
+            ExclusionProof::Commit(proof, metadata) => {
+                let copy = proof.try_copy()?;
+                let metadata = copied_metadata(metadata)?;
+                Ok(ExclusionProof::Commit(copy, metadata))
+            }
+        }
+    }
 }
 
 // Whether a key stands before another.

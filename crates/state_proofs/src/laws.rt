@@ -10,16 +10,15 @@ ghost use Rattle.merkle_core.specs.declared.extraction.ExtractionError.TheVarian
 ghost use Rattle.merkle_core.specs.OneEach.{OneEach};
 ghost use Rattle.merkle_core.specs.Ranges.{Digests};
 ghost use Rattle.state_ops.specs.Reading.{IsField};
-ghost use Rattle.state_proofs.specs.Canonical.{Setting, State, canonical_root, grafted_digests, operations_root};
+ghost use Rattle.state_proofs_parts.specs.Canonical.{Setting, State, canonical_root, grafted_digests, operations_root};
 ghost use Rattle.state_proofs.specs.Encoded.{format_of, ShowsOperation, ShowsUpdate};
 ghost use Rattle.state_proofs.specs.Exclusion.{ExclusionParts, proof_of, operation_of, LeavesOut, Excludes};
 ghost use Rattle.state_proofs.specs.Honest.{honest_parts, honest_range, operation_proof, key_value_proof};
 ghost use Rattle.state_proofs.specs.MadeRanges.{HasActive, HasDigestsOf, HasRange, range_strings, rebuilt_strings};
-ghost use Rattle.state_proofs.specs.MadeStates.{hashed_strings};
+ghost use Rattle.state_proofs_parts.specs.MadeStates.{hashed_strings};
 ghost use Rattle.state_proofs.specs.RangeExtracted.{IsRefusalToTell, LeadsNowhere, ShowsDigests};
 ghost use Rattle.state_proofs.specs.Verified.{Shown, IsShaped, VerifiesRange, shown_bits, stop_of, RangeParts, Parts};
 ghost use Rattle.state_proofs.specs.Verified.{Verifies};
-ghost use Rattle.state_proofs.specs.SameNodes.{IsSameNode};
 ghost use Rattle.state_proofs.specs.Witness.{WitnessParts, HasWitnessOf, witnessed_string, witnessed_made};
 ghost use Rattle.state_proofs.specs.Witness.{honest_witness};
 
@@ -30,6 +29,7 @@ use merkle_core::laws::{
 };
 use merkle_forest::{Graftable, HashFunction, PendingOf};
 use state_ops::FixedKey;
+pub use state_proofs_parts::grafting::laws::a_node_has_one_position_in_each_tree;
 
 /// The honest proof of an active operation verifies under the canonical root of its state.
 pub fn honest_proofs_verify<F: Graftable>()
@@ -203,15 +203,6 @@ pub fn honest_ranges_verify<F: Graftable>()
 {
     honest_ranges_lead_to_the_root::<F>();
 }
-
-/// A node over whole chunks has one position in the tree of the operations and one in the tree of the chunks: so the
-/// two conversions of positions undo each other.
-pub fn a_node_has_one_position_in_each_tree<F: Graftable>()
-    ensures chunks { (grafting_height ops grafted other : ℕ) → IsSameNode F.merge_rule grafting_height ops grafted
-        → IsSameNode F.merge_rule grafting_height ops other → grafted ≡ other }
-    ensures operations { (grafting_height ops other grafted : ℕ) → IsSameNode F.merge_rule grafting_height ops grafted
-        → IsSameNode F.merge_rule grafting_height other grafted → ops ≡ other }
-{}
 
 /// The honest witness of a state leads from the root of its operations' tree to its canonical root.
 pub fn honest_witnesses_lead_to_the_root()

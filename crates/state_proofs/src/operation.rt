@@ -9,10 +9,10 @@ ghost use Rattle.state_proofs.specs.ProofsCode.{form_parts_of};
 pub mod building;
 pub mod verifying;
 
-use crate::chunk_form::ChunkForm;
 use crate::proof::RangeProof;
 use merkle_forest::codec::{Cursor, EncodeSize, Error, Read, Write, or_undo};
 use merkle_forest::{Digest, Location, PendingOf};
+use state_proofs_parts::chunk_form::ChunkForm;
 use std::alloc::{AllocError, Global};
 use std::convert::AsSlice;
 
@@ -29,6 +29,22 @@ pub struct Proof<F: PendingOf<D>, D: Digest, C = Vec<u8>> {
     pub chunk: C,
     /// The proof over the operation.
     pub range_proof: RangeProof<F, D>,
+}
+
+impl<F: PendingOf<D>, D: Digest, C: ChunkForm> Proof<F, D, C> {
+    /// A proof that holds the same. It fails only when out of memory (own). In the Rust: `Clone::clone`.
+    pub fn try_copy(&self) -> Result<Proof<F, D, C>, AllocError>
+        ensures { IfOk result (λ copy. form_parts_of C.items D.encoding F.held copy
+            ≡ form_parts_of C.items D.encoding F.held self.now) }
+    {
+        let chunk = self.chunk.try_copy()?;
+        let range_proof = self.range_proof.try_copy()?;
+        Ok(Proof {
+            loc: self.loc,
+            chunk,
+            range_proof,
+        })
+    }
 }
 
 // Appends the encoding. Out of memory, some of its bytes may have been appended.

@@ -10,7 +10,6 @@ ghost use Rattle.state_proofs.specs.Forms.{after_form, after_key_value_form, For
 ghost use Rattle.state_proofs.specs.ProofsCode.{form_parts_of};
 ghost use Rattle.state_proofs.specs.Verified.{Verifies};
 
-use crate::chunk_form::ChunkForm;
 use crate::operation;
 use merkle_core::MAX_PROOF_DIGESTS_PER_ELEMENT;
 use merkle_forest::codec::{Cursor, EncodeSize, Error, Read, Write, or_undo};
@@ -18,6 +17,7 @@ use merkle_forest::{Digest, Family, Graftable, HashFunction, PendingOf};
 use state_ops::ordered::encode;
 use state_ops::update::Ordered;
 use state_ops::{FixedKey, FixedValue, Operation, OrderedOperation};
+use state_proofs_parts::chunk_form::ChunkForm;
 use std::alloc::{AllocError, Global};
 use std::convert::AsSlice;
 
@@ -30,6 +30,19 @@ pub struct KeyValueProof<F: PendingOf<D>, K: FixedKey, D: Digest, C = Vec<u8>> {
     pub proof: operation::Proof<F, D, C>,
     /// The next key that the update names.
     pub next_key: K,
+}
+
+impl<F: PendingOf<D>, K: FixedKey, D: Digest, C: ChunkForm> KeyValueProof<F, K, D, C> {
+    /// A proof that holds the same. It fails only when out of memory (own). In the Rust: `Clone::clone`.
+    pub fn try_copy(&self) -> Result<KeyValueProof<F, K, D, C>, AllocError>
+        ensures proof { IfOk result (λ copy. form_parts_of C.items D.encoding F.held copy.proof
+            ≡ form_parts_of C.items D.encoding F.held self.now.proof) }
+        ensures key { IfOk result (λ copy. K.encoding copy.next_key ≡ K.encoding self.now.next_key) }
+    {
+        let proof = self.proof.try_copy()?;
+        let next_key = self.next_key.clone()?;
+        Ok(KeyValueProof { proof, next_key })
+    }
 }
 
 // Appends the encoding. Out of memory, some of its bytes may have been appended.

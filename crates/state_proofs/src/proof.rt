@@ -1,6 +1,6 @@
 //! Proofs over a range of operations.
 
-ghost use Rattle.std.specs.Prelude.{◌≡◌, ◌<◌, ◌≤◌, ◌^◌, ◌++◌, length, Ok, OnOk, OnErr, IfSome};
+ghost use Rattle.std.specs.Prelude.{◌≡◌, ◌<◌, ◌≤◌, ◌^◌, ◌++◌, length, Ok, OnOk, OnErr, IfOk, IfSome};
 ghost use Rattle.merkle_forest.specs.Codec.{Extends, option_encoding};
 ghost use Rattle.merkle_core.specs.Proofs.{ProofLacks};
 ghost use Rattle.state_proofs.specs.Encoded.{range_proof_encoding, after_range_proof};
@@ -14,7 +14,7 @@ pub mod verifying;
 pub use extracting::verify_proof_and_extract_digests;
 use merkle_core::Proof;
 use merkle_forest::codec::{Cursor, EncodeSize, Error, Read, Write, or_undo};
-use merkle_forest::{Digest, PendingOf};
+use merkle_forest::{Digest, Family, PendingOf};
 use std::alloc::{AllocError, Global};
 
 /// A proof over a range of operations: the Merkle proof in the grafted tree, and the other parts of the canonical
@@ -30,6 +30,36 @@ pub struct RangeProof<F: PendingOf<D>, D: Digest> {
     pub partial_chunk_digest: Option<D>,
     /// The root of the operations' tree.
     pub ops_root: D,
+}
+
+// A Merkle proof with the same fields. It fails only when out of memory.
+fn copied_proof<F: Family, D: Digest>(proof: &Proof<F, D>) -> Result<Proof<F, D>, AllocError>
+    ensures leaves { IfOk result (λ copy. copy.leaves ≡ proof.now.leaves) }
+    ensures inactive { IfOk result (λ copy. copy.inactive_peaks ≡ proof.now.inactive_peaks) }
+    ensures digests { IfOk result (λ copy. copy.digests.items ≡ proof.now.digests.items) }
+{
+    let digests = Vec::from_slice(*proof.digests.allocator(), &proof.digests)?;
+    Ok(Proof {
+        leaves: proof.leaves,
+        inactive_peaks: proof.inactive_peaks,
+        digests,
+    })
+}
+
+impl<F: PendingOf<D>, D: Digest> RangeProof<F, D> {
+    /// A proof that holds the same. It fails only when out of memory (own). In the Rust: `Clone::clone`.
+    pub fn try_copy(&self) -> Result<RangeProof<F, D>, AllocError>
+        ensures { IfOk result (λ copy. range_parts_of D.encoding F.held copy
+            ≡ range_parts_of D.encoding F.held self.now) }
+    {
+        let proof = copied_proof(&self.proof)?;
+        Ok(RangeProof {
+            proof,
+            pending_chunk_digest: self.pending_chunk_digest,
+            partial_chunk_digest: self.partial_chunk_digest,
+            ops_root: self.ops_root,
+        })
+    }
 }
 
 // Appends the encoding. Out of memory, some of its bytes may have been appended.

@@ -1,21 +1,23 @@
 //! The chunks that a proof needs: the partial one, the pending one, and that of the location that is asked for.
 
-ghost use Rattle.std.specs.Prelude.{◌≡◌, ◌↔◌, ◌<◌, ◌≤◌, ◌+◌, ◌*◌, ◌/◌, ◌⊎◌, ℕ, Contains, IfOk, IfErr, OnOk};
+ghost use Rattle.std.specs.Prelude.{◌≡◌, ◌↔◌, ◌<◌, ◌≤◌, ◌+◌, ◌*◌, ◌/◌, ◌^◌, ◌⊎◌, ℕ, Contains, IfOk, IfErr, OnOk};
 ghost use Rattle.std.specs.Prelude.{MatchOption, MatchResult, min, if◌then◌else◌};
 ghost use Rattle.std.specs.List.Sorted.{IsStrictlyIncreasing};
 ghost use Rattle.std.specs.Iterator.{YieldsFirst, item_count};
 ghost use Rattle.merkle_forest.specs.Forest.{forest_of};
 ghost use Rattle.merkle_forest.specs.Nodes.{nodes_of_height};
 ghost use Rattle.merkle_core_parts.specs.declared.error.Error.TheVariants.{RangeOutOfBounds};
+ghost use Rattle.state_proofs_parts.specs.Bits.{IsChunkWidth};
 ghost use Rattle.state_proofs.specs.declared.error.Error.TheVariants.{Merkle, OperationPruned};
+ghost use Rattle.state_proofs.specs.BuiltCode.{measures_with};
 ghost use Rattle.state_proofs.specs.Required.{IsGranted, IsRefusal, IsNeeded};
 ghost use Rattle.state_proofs.specs.RequiredCode.{measures_of, asked_of, option_below};
 
-use crate::chunk_size::ChunkSize;
 use crate::error::Error;
-use crate::grafting::graftable_chunks_of;
 use merkle_core::error;
 use merkle_forest::{Graftable, Location, MAX_LEAVES};
+use state_proofs_parts::chunk_size::ChunkSize;
+use state_proofs_parts::grafting::graftable_chunks_of;
 use std::marker::Model;
 
 /// The chunks that a proof needs, by their indexes, ascending and each once. Contracts see those that are left.
@@ -124,8 +126,7 @@ fn where_true(test: bool, index: u64) -> Option<u64>
 /// The chunks that are read for a proof of a state with so many operations and bits, of which so many chunks are
 /// pruned: the partial chunk if the bits don't fill their chunks, the pending one if any, and that of the location if
 /// one is given. Where more than one full chunk has no node yet, or a pruned one has none: Q1; where no operation or
-/// bit is at the location: Q3 with M5; where its chunk is pruned: Q2.
-/// In the Rust: `qmdb::current::proof::required_chunks`, whose chunk size is a constant.
+/// bit is at the location: Q3 with M5; where its chunk is pruned: Q2 (own).
 pub fn required_chunks_of<F: Graftable>(
     chunk_size: ChunkSize,
     ops_leaves: Location<F>,
@@ -163,4 +164,28 @@ pub fn required_chunks_of<F: Graftable>(
         pending: where_true(graftable < complete, graftable),
         partial: where_true(chunk_size.bit_of(bitmap_len) > 0, complete),
     })
+}
+
+/// The chunks that are read for a proof of a state whose chunks have N bytes: as `required_chunks_of` answers and
+/// refuses.
+/// In the Rust: `qmdb::current::proof::required_chunks`.
+pub fn required_chunks<F: Graftable, const N: usize>(
+    ops_leaves: Location<F>,
+    bitmap_len: u64,
+    pruned_chunks: u64,
+    location: Option<Location<F>>,
+) -> Result<RequiredChunks, Error<F>>
+    requires width { IsChunkWidth N }
+    requires leaves { ops_leaves ≤ MAX_LEAVES }
+    ensures ascending { IfOk result (λ chunks. IsStrictlyIncreasing chunks) }
+    ensures needed { (height : ℕ) → 8 * N ≡ 2 ^ height → IfOk result (λ chunks. (index : ℕ) → Contains chunks index
+        ↔ IsNeeded (measures_with F.merge_rule N height) (asked_of ops_leaves bitmap_len pruned_chunks
+        location) index) }
+    ensures granted { (height : ℕ) → 8 * N ≡ 2 ^ height → OnOk result
+        (IsGranted (measures_with F.merge_rule N height) (asked_of ops_leaves bitmap_len pruned_chunks location)) }
+    ensures refused { (height : ℕ) → 8 * N ≡ 2 ^ height → IfErr result
+        (IsRefusal (measures_with F.merge_rule N height) (asked_of ops_leaves bitmap_len pruned_chunks location)) }
+{
+    let chunk_size = ChunkSize::of_bytes::<N>();
+    required_chunks_of(chunk_size, ops_leaves, bitmap_len, pruned_chunks, location)
 }

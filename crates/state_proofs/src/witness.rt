@@ -1,18 +1,18 @@
 //! Witnesses of the root of the operations' tree.
 
-ghost use Rattle.std.specs.Prelude.{◌≡◌, ◌<◌, ◌≤◌, ◌^◌, ◌++◌, ◌↔◌, IsTrue, IfSome, IfOk, length, Ok, OnOk, OnErr};
+ghost use Rattle.std.specs.Prelude.{◌≡◌, ◌<◌, ◌≤◌, ◌^◌, ◌++◌, ◌↔◌, IsTrue, IsOk, IfSome, IfOk, length, Ok, OnOk, OnErr};
 ghost use Rattle.std.specs.Prelude.{option_map, ⊤};
 ghost use Rattle.merkle_forest.specs.Codec.{Extends, Reads, option_encoding, after_option};
 ghost use Rattle.merkle_forest.specs.Varint.{varint};
 ghost use Rattle.state_proofs.specs.Witness.{witness_of, witnessed_string, witness_encoding, next_encoding, after_next};
 ghost use Rattle.state_proofs.specs.Witness.{after_witness, HasNext};
 
-use crate::seal::seal;
 use merkle_forest::codec::{
     Cursor, EncodeSize, Error, Read, Write, number_size, or_undo, read_number, write_number,
 };
 use merkle_forest::hasher::HashFunction;
 use merkle_forest::{Digest, PendingOf};
+use state_proofs_parts::seal::seal;
 use std::alloc::{AllocError, Global};
 
 /// What leads from the root of the operations' tree to the canonical one: the other parts of the canonical string. Its
@@ -40,6 +40,18 @@ fn split_partial<D: Digest>(partial: &Option<(u64, D)>) -> (u64, Option<D>)
 }
 
 impl<F: PendingOf<D>, D: Digest> OpsRootWitness<F, D> {
+    /// An equal witness. It takes no memory (own). In the Rust: `Clone::clone`.
+    pub fn try_copy(&self) -> Result<OpsRootWitness<F, D>, AllocError>
+        ensures same { IfOk result (λ copy. copy ≡ self.now) }
+        ensures always { IsOk result }
+    {
+        Ok(OpsRootWitness {
+            grafted_root: self.grafted_root,
+            pending_chunk_digest: self.pending_chunk_digest,
+            partial_chunk: self.partial_chunk,
+        })
+    }
+
     /// The canonical root over this root of the operations' tree.
     /// In the Rust: `qmdb::current::proof::OpsRootWitness::root`.
     pub fn root<H: HashFunction<Digest = D>>(&self, ops_root: &D) -> D

@@ -27,9 +27,16 @@ impl<F: Family + PartialEq> Shelves<F> {
     fn call_known_proof(&mut self, alloc: Global, name: &str, call: &[&str]) -> Answer {
         match call {
             ["empty"] => put(alloc, &mut self.proofs, name, Proof::empty(alloc)),
+            ["copy", other] => self.copy_proof(alloc, name, other),
             ["equals", other] => self.are_same(alloc, name, other),
             call => call_of(alloc, named_mut(&mut self.proofs, name)?, call),
         }
+    }
+
+    // Gives the name to a copy of another proof.
+    fn copy_proof(&mut self, alloc: Global, name: &str, other: &str) -> Answer {
+        let copy = named(&self.proofs, other)?.try_copy()?;
+        put(alloc, &mut self.proofs, name, copy)
     }
 
     // Whether two proofs are the same.

@@ -3,8 +3,8 @@ use Rattle.std.proofs.Common.{ℕ, List, [], ◌∷◌, ◌++◌, length, subst,
 use Rattle.std.specs.Prelude.{All}
 use Rattle.std.proofs.lemmas.List.{get_or_append_left, get_or_push, length-append}
 use Rattle.std.proofs.lemmas.List.Elements.{All-push}
-use Rattle.paged_blob.specs.Calls.{Call, opened, wrote, resized_to, synced}
-use Rattle.paged_blob.specs.Chance.{NoneByChance}
+use Rattle.paged_blob_parts.specs.Calls.{Call, opened, wrote, resized_to, synced}
+use Rattle.paged_blob_parts.specs.Chance.{NoneByChance}
 use Rattle.auth_store_device.specs.Openings.{Showing, openings_of, IsNotByChance}
 
 module _ (sum : List ℕ → ℕ) (size : ℕ)

@@ -1,7 +1,7 @@
 //! The parts of what is proved of a range of operations: copies of them, their activity bits, and the bytes of their
 //! proofs.
 
-ghost use Rattle.std.specs.Prelude.{◌≡◌, ◌<◌, ◌≤◌, ◌*◌, ◌++◌, Some, nat_lt, slice_get, length, map, option_map, IfOk};
+ghost use Rattle.std.specs.Prelude.{◌≡◌, ◌<◌, ◌≤◌, ◌*◌, ◌++◌, Some, slice_get, length, map, option_map, IfOk};
 ghost use Rattle.std.specs.Prelude.{OnOk};
 ghost use Rattle.std.specs.List.{flat_map};
 ghost use Rattle.state_ops.specs.Operation.{meaning_of};
@@ -9,7 +9,7 @@ ghost use Rattle.auth_store_client.specs.Proving.{chunks_over, honest_operation,
 ghost use Rattle.auth_store_client.specs.Proving.{honest_slice_bytes, log_digests, log_inactive};
 ghost use Rattle.auth_store_ledger.specs.History.{activity_bits, log_of, meanings};
 ghost use Rattle.auth_store_ledger.specs.Proving.{between};
-ghost use Rattle.auth_store_ledger.specs.Store.{IsChunkWidth, setting_of_width, state_of_history};
+ghost use Rattle.auth_store_ledger.specs.Store.{setting_of_width, state_of_history};
 ghost use Rattle.state_proofs.specs.Honest.{honest_range};
 ghost use Rattle.state_proofs.specs.ProofsCode.{range_parts_of};
 
@@ -83,14 +83,6 @@ fn copies_of<F: Family, K: FixedKey, V: FixedValue>(
     Ok(copies)
 }
 
-/// Whether a location stands before so many chunks of `N` bytes.
-pub(super) fn is_before_chunks<const N: usize>(chunks: u64, location: u64) -> bool
-    requires { IsChunkWidth N }
-    ensures { result ≡ nat_lt location (8 * N * chunks) }
-{
-    chunk_size::<N>().index_of(location) < chunks
-}
-
 impl<F: Graftable, H: HashFunction, K: FixedKey, V: FixedValue, const N: usize> Ledger<
     F,
     H,
@@ -105,9 +97,9 @@ impl<F: Graftable, H: HashFunction, K: FixedKey, V: FixedValue, const N: usize> 
         stop: u64,
     ) -> Result<Vec<OrderedOperation<F, K, V>>, AllocError>
         requires ordered { start ≤ stop }
-        requires within { stop ≤ length (log_of self.now) }
+        requires within { stop ≤ length (log_of self.now.history) }
         ensures { IfOk result (λ copies. meanings K.encoding V.encoding copies.items
-            ≡ between start stop (log_of self.now)) }
+            ≡ between start stop (log_of self.now.history)) }
     {
         copies_of(
             self.alloc,
@@ -115,19 +107,28 @@ impl<F: Graftable, H: HashFunction, K: FixedKey, V: FixedValue, const N: usize> 
         )
     }
 
-    // Whether the operation at a location is active.
+    // The location of the first operation whose chunk is not pruned, or that of the next one.
+    pub(super) fn kept_from(&self) -> u64
+        ensures { result ≡ 8 * N * self.now.pruned }
+    {
+        self.current.kept_from().as_u64()
+    }
+
+    // Whether the operation at a location, whose chunk is not pruned, is active.
     pub(super) fn is_active(&self, location: u64) -> bool
-        requires { location < length (log_of self.now) }
-        ensures { slice_get (activity_bits (log_of self.now)) location ≡ Some result }
+        requires kept { 8 * N * self.now.pruned ≤ location }
+        requires within { location < length (log_of self.now.history) }
+        ensures { slice_get (activity_bits (log_of self.now.history)) location ≡ Some result }
     {
         self.current.bit(location)
     }
 
     // Whether each of the operations from `start` up to `stop` is active. It fails only when out of memory.
     pub(super) fn bits_between(&self, start: u64, stop: u64) -> Result<Vec<bool>, AllocError>
+        requires kept { 8 * N * self.now.pruned ≤ start }
         requires ordered { start ≤ stop }
-        requires within { stop ≤ length (log_of self.now) }
-        ensures { IfOk result (λ bits. bits.items ≡ between start stop (activity_bits (log_of self.now))) }
+        requires within { stop ≤ length (log_of self.now.history) }
+        ensures { IfOk result (λ bits. bits.items ≡ between start stop (activity_bits (log_of self.now.history))) }
     {
         let mut bits = Vec::new(self.alloc);
         for location in start..stop {
@@ -139,10 +140,11 @@ impl<F: Graftable, H: HashFunction, K: FixedKey, V: FixedValue, const N: usize> 
     // Appends the chunks over the operations from `start` up to `stop`, of which there is one. It fails only when out
     // of memory.
     fn write_chunks(&self, start: u64, stop: u64, out: &mut Vec<u8>) -> Result<(), AllocError>
+        requires kept { 8 * N * self.now.pruned ≤ start }
         requires some { start < stop }
-        requires within { stop ≤ length (log_of self.now) }
+        requires within { stop ≤ length (log_of self.now.history) }
         ensures { let setting = setting_of_width F.merge_rule H.hash_of N in OnOk result (out.new.items ≡ out.old.items
-            ++ flat_map (λ chunk. chunk) (chunks_over setting (state_of_history K.SIZE V.SIZE self.now) start stop)) }
+            ++ flat_map (λ chunk. chunk) (chunks_over setting (state_of_history K.SIZE V.SIZE self.now.history) start stop)) }
     {
         self.holds_a_history();
         let size = chunk_size::<N>();
@@ -164,10 +166,11 @@ impl<
 > Ledger<F, H, K, V, N> {
     // The honest bytes that prove the operation at a location active. It fails only when out of memory.
     pub(super) fn operation_bytes(&self, location: u64) -> Result<Vec<u8>, AllocError>
-        requires { location < length (log_of self.now) }
+        requires kept { 8 * N * self.now.pruned ≤ location }
+        requires within { location < length (log_of self.now.history) }
         ensures { let setting = setting_of_width F.merge_rule H.hash_of N in
             IfOk result (λ bytes. bytes.items
-            ≡ honest_operation F.pending_encoding setting K.SIZE V.SIZE self.now location) }
+            ≡ honest_operation F.pending_encoding setting K.SIZE V.SIZE self.now.history location) }
     {
         let proof = operation_proof(self.alloc, &self.current, location as usize)?;
         let mut bytes = Vec::new(self.alloc);
@@ -177,11 +180,12 @@ impl<
 
     // The honest proof over the operations from `start` up to `stop`. It fails only when out of memory.
     fn proof_between(&self, start: u64, stop: u64) -> Result<RangeProof<F, H::Digest>, AllocError>
+        requires kept { 8 * N * self.now.pruned ≤ start }
         requires some { start < stop }
-        requires within { stop ≤ length (log_of self.now) }
+        requires within { stop ≤ length (log_of self.now.history) }
         ensures { let setting = setting_of_width F.merge_rule H.hash_of N in
             IfOk result (λ proof. range_parts_of H.Digest.encoding F.held proof
-            ≡ honest_range setting (state_of_history K.SIZE V.SIZE self.now) start stop) }
+            ≡ honest_range setting (state_of_history K.SIZE V.SIZE self.now.history) start stop) }
     {
         match self
             .current
@@ -195,11 +199,12 @@ impl<
     // The honest bytes that prove the operations from `start` up to `stop` and their activity bits. It fails only when
     // out of memory.
     pub(super) fn range_bytes(&self, start: u64, stop: u64) -> Result<Vec<u8>, AllocError>
+        requires kept { 8 * N * self.now.pruned ≤ start }
         requires some { start < stop }
-        requires within { stop ≤ length (log_of self.now) }
+        requires within { stop ≤ length (log_of self.now.history) }
         ensures { let setting = setting_of_width F.merge_rule H.hash_of N in
             IfOk result (λ bytes. bytes.items
-            ≡ honest_range_bytes F.pending_encoding setting K.SIZE V.SIZE self.now start stop) }
+            ≡ honest_range_bytes F.pending_encoding setting K.SIZE V.SIZE self.now.history start stop) }
     {
         let proof = self.proof_between(start, stop)?;
         let mut bytes = Vec::new(self.alloc);
@@ -211,10 +216,11 @@ impl<
     // The proof over the operations from `start` up to `stop` in the tree of the operations. It fails only when out of
     // memory.
     fn log_proof_between(&self, start: u64, stop: u64) -> Result<LogProof<F, H::Digest>, AllocError>
+        requires kept { 8 * N * self.now.pruned ≤ start }
         requires some { start < stop }
-        requires within { stop ≤ length (log_of self.now) }
+        requires within { stop ≤ length (log_of self.now.history) }
         ensures { let setting = setting_of_width F.merge_rule H.hash_of N in
-            let state = state_of_history K.SIZE V.SIZE self.now in IfOk result (λ proof.
+            let state = state_of_history K.SIZE V.SIZE self.now.history in IfOk result (λ proof.
             (proof.leaves ≡ length state.operations) × (proof.inactive_peaks ≡ log_inactive setting state)
             × (map H.Digest.encoding proof.digests.items ≡ log_digests setting state start stop)) }
     {
@@ -230,11 +236,12 @@ impl<
     // The honest bytes that prove that the operations from `start` up to `stop` stand in the log. It fails only when
     // out of memory.
     pub(super) fn slice_bytes(&self, start: u64, stop: u64) -> Result<Vec<u8>, AllocError>
+        requires kept { 8 * N * self.now.pruned ≤ start }
         requires some { start < stop }
-        requires within { stop ≤ length (log_of self.now) }
+        requires within { stop ≤ length (log_of self.now.history) }
         ensures { let setting = setting_of_width F.merge_rule H.hash_of N in
             IfOk result (λ bytes. bytes.items
-            ≡ honest_slice_bytes F.pending_encoding setting K.SIZE V.SIZE self.now start stop) }
+            ≡ honest_slice_bytes F.pending_encoding setting K.SIZE V.SIZE self.now.history start stop) }
     {
         let proof = self.log_proof_between(start, stop)?;
         let mut bytes = Vec::new(self.alloc);

@@ -9,7 +9,7 @@ ghost use Rattle.auth_store_ledger.specs.Batch.{map_after};
 ghost use Rattle.auth_store_ledger.specs.Commits.{AreFound};
 ghost use Rattle.auth_store_ledger.specs.History.{batch_operations, meanings, replayed};
 ghost use Rattle.auth_store_parts.specs.Places.{places_of};
-ghost use Rattle.state_bitmap.specs.Bits.{all_bits};
+ghost use Rattle.state_proofs_parts.specs.Bits.{all_bits};
 ghost use Rattle.state_ops.specs.Operation.{meaning_of};
 
 use super::log::Log;
@@ -140,7 +140,7 @@ fn next_floor<F: Graftable, H: HashFunction, const N: usize>(
     places: &[usize],
 ) -> Result<u64, AllocError>
     requires few { current.now.operations.leaves + length more.now ≤ 2 ^ 62 }
-    requires unpruned { current.now.bits.pruned ≡ 0 }
+    requires behind { 8 * N * current.now.bits.pruned ≤ current.now.floor }
     ensures { IfOk result (λ next. next ≡ current.now.floor
         + first_set (drop current.now.floor (cleared (all_bits N current.now.bits ++ more.now) places.now))) }
 {
@@ -176,7 +176,7 @@ where
     V: FixedValue,
     requires some { 0 < length log.now }
     requires few { current.now.operations.leaves + length changes.items < 2 ^ 62 }
-    requires unpruned { current.now.bits.pruned ≡ 0 }
+    requires behind { 8 * N * current.now.bits.pruned ≤ current.now.floor }
     ensures { IfOk result (λ found. AreFound log.now (meanings K.encoding V.encoding changes.items)
         (option_map V.encoding metadata) (all_bits N current.now.bits) current.now.floor
         (meanings K.encoding V.encoding found.operations.items) found.bits.items found.places.items found.floor) }

@@ -1,7 +1,7 @@
 //! What is kept of a log beside its operations: their tree, the tree of the chunks of their bits, the bits and the
 //! floor.
 
-ghost use Rattle.std.specs.Prelude.{◌≡◌, ◌<◌, ◌≤◌, ◌+◌, ◌^◌, map, length, IfOk, OnOk};
+ghost use Rattle.std.specs.Prelude.{◌≡◌, ◌<◌, ◌≤◌, ◌+◌, ◌*◌, ◌^◌, map, length, IfOk, OnOk};
 ghost use Rattle.std.specs.List.{AllByRecursion, flat_map};
 ghost use Rattle.auth_store_ledger.specs.History.{last_floor};
 ghost use Rattle.auth_store_ledger.specs.Store.{IsChunkWidth, IsKept, AreWritten};
@@ -9,7 +9,7 @@ ghost use Rattle.auth_store_ledger.specs.Store.{grafting_height, setting_of_widt
 ghost use Rattle.auth_store_log.specs.Records.{format_of};
 ghost use Rattle.state_current.specs.Growth.{grown};
 ghost use Rattle.state_current.specs.Kept.{StandsFor};
-ghost use Rattle.state_proofs.specs.Canonical.{State};
+ghost use Rattle.state_proofs_parts.specs.Canonical.{State};
 
 use super::log::Log;
 use merkle_core::error::Error;
@@ -38,8 +38,8 @@ pub(super) fn out_of_memory<F: Family>(error: Error<F>) -> AllocError
     }
 }
 
-/// What is kept, of which nothing is pruned, with more operations and a bit for each, after which the bits at these
-/// places are cleared, and another floor. It fails only when out of memory.
+/// What is kept, with more operations and a bit for each, after which the bits at these places, whose chunks are not
+/// pruned, are cleared, and another floor. It fails only when out of memory.
 pub fn grown_by<F: Graftable, H: HashFunction, const N: usize>(
     current: &Current<F, H, N>,
     operations: &[Vec<u8>],
@@ -48,12 +48,12 @@ pub fn grown_by<F: Graftable, H: HashFunction, const N: usize>(
     floor: u64,
 ) -> Result<Current<F, H, N>, AllocError>
     requires few { current.now.operations.leaves + length operations.now ≤ 2 ^ 62 }
-    requires unpruned { current.now.bits.pruned ≡ 0 }
     requires paired { length bits.now ≡ length operations.now }
-    requires there { AllByRecursion (λ at. at < current.now.operations.leaves + length operations.now) cleared.now }
+    requires there { AllByRecursion (λ at. (8 * N * current.now.bits.pruned ≤ at)
+        × (at < current.now.operations.leaves + length operations.now)) cleared.now }
     ensures leaves { IfOk result (λ after. after.operations.leaves
         ≡ current.now.operations.leaves + length operations.now) }
-    ensures unpruned { IfOk result (λ after. after.bits.pruned ≡ 0) }
+    ensures pruned { IfOk result (λ after. after.bits.pruned ≡ current.now.bits.pruned) }
     ensures stands { (state : State) → let setting = setting_of_width F.merge_rule H.hash_of N in
         StandsFor setting state current.now → IfOk result (λ after. StandsFor setting (grown state (record {
           operations = map (λ e. e.items) operations.now;
@@ -78,6 +78,7 @@ pub fn kept_of_log<F: Graftable, H: HashFunction, K: FixedKey, V: FixedValue, co
     requires width { IsChunkWidth N }
     requires few { length log.now ≤ 2 ^ 62 }
     requires last { floor ≡ last_floor log.now }
+    ensures whole { IfOk result (λ kept. kept.bits.pruned ≡ 0) }
     ensures kept { IfOk result (IsKept (setting_of_width F.merge_rule H.hash_of N) K.SIZE V.SIZE log.now) }
     ensures written { OnOk result (AreWritten (format_of (K.after tt) (V.after tt) K.SIZE V.SIZE) log.now) }
 {

@@ -9,7 +9,7 @@ use merkle_forest::{Graftable, HashFunction, PendingOf};
 use state_ops::{FixedKey, FixedValue};
 
 /// Whether two ledgers answer the same root, and of the key the same bytes, of its value or of its absence. They do
-/// where their histories are equal. It fails only when out of memory.
+/// where their histories are equal, whatever is pruned of each. It fails only when out of memory.
 pub fn same_root_and_proof<F, H, K, V, const N: usize>(
     one: &Ledger<F, H, K, V, N>,
     other: &Ledger<F, H, K, V, N>,
@@ -20,7 +20,7 @@ where
     H: HashFunction,
     K: FixedKey,
     V: FixedValue,
-    ensures same { one.now ≡ other.now → IfOk result (λ same. IsTrue same) }
+    ensures same { one.now.history ≡ other.now.history → IfOk result (λ same. IsTrue same) }
     ensures err { IfErr result (λ e. e ≡ LedgerError.Memory) }
 {
     if one.root() != other.root() {

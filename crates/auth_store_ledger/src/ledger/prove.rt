@@ -1,9 +1,10 @@
 //! Proofs that a store answers.
 
-ghost use Rattle.std.specs.Prelude.{◌≡◌, ◌<◌, ℕ, List, IfOk, IfErr, IfSome};
+ghost use Rattle.std.specs.Prelude.{◌≡◌, ◌<◌, ◌≤◌, ◌*◌, ℕ, List, IfOk, IfErr, IfSome};
 ghost use Rattle.std.specs.Prelude.{length, option_map, slice_get};
 ghost use Rattle.auth_store_ledger.specs.History as spec;
-ghost use Rattle.auth_store_ledger.specs.History.{active_location, active_update, update_fields};
+ghost use Rattle.auth_store_ledger.specs.History.{AreStates, active_location, active_update, history_of, log_of};
+ghost use Rattle.auth_store_ledger.specs.History.{update_fields};
 ghost use Rattle.auth_store_client.specs.Claims.{terms};
 ghost use Rattle.auth_store_ledger.specs.Proving.{IsAccepted, honest_answer};
 ghost use Rattle.auth_store_ledger.specs.ProvingCode.{key_answer_of};
@@ -63,7 +64,8 @@ pub(super) fn out_of_memory<F: Graftable>(error: Error<F>) -> AllocError
     }
 }
 
-// The honest proof of the operation at a location, of what is kept of a log. It fails only when out of memory.
+// The honest proof of the operation at a location, whose chunk is not pruned, of what is kept of a log. It fails only
+// when out of memory.
 pub(super) fn operation_proof<F, H, const N: usize>(
     alloc: Global,
     current: &Current<F, H, N>,
@@ -72,7 +74,7 @@ pub(super) fn operation_proof<F, H, const N: usize>(
 where
     F: Graftable + PendingOf<H::Digest>,
     H: HashFunction,
-    requires unpruned { current.now.bits.pruned ≡ 0 }
+    requires behind { 8 * N * current.now.bits.pruned ≤ location }
     requires within { location < current.now.operations.leaves }
     ensures { (key value : ℕ) (log : List meaning.Operation)
         → let setting = setting_of_width F.merge_rule H.hash_of N in
@@ -85,7 +87,8 @@ where
     }
 }
 
-// The honest bytes that prove the update at a location of the log, which names this next key.
+// The honest bytes that prove the update at a location of the log, whose chunk is not pruned and which names this next
+// key.
 fn proof_at<F, H, K: FixedKey, V: FixedValue, const N: usize>(
     alloc: Global,
     log: &Log<F, K, V>,
@@ -97,6 +100,7 @@ where
     F: Graftable + PendingOf<H::Digest>,
     H: HashFunction,
     requires kept { IsKept (setting_of_width F.merge_rule H.hash_of N) K.SIZE V.SIZE log.now current.now }
+    requires behind { 8 * N * current.now.bits.pruned ≤ location }
     requires within { location < length log.now }
     ensures next { IfOk result (λ _. IsField (K.after tt) K.SIZE (K.encoding next_key.now)) }
     ensures bytes { IfOk result (λ bytes. bytes.items
@@ -124,6 +128,8 @@ where
     F: Graftable + PendingOf<H::Digest>,
     H: HashFunction,
     requires kept { IsKept (setting_of_width F.merge_rule H.hash_of N) K.SIZE V.SIZE log.now current.now }
+    requires states { AreStates (history_of log.now) }
+    requires whole { log.now ≡ log_of (history_of log.now) }
     ensures next { IfOk result (λ found. IfSome found (λ _.
         IfSome (active_update (K.encoding key.now) log.now) (λ update. IsField (K.after tt) K.SIZE update.1))) }
     ensures found { IfOk result (λ found.
@@ -138,6 +144,9 @@ where
     let Some(update) = update_at(log.operations(), location) else {
         return Ok(None);
     };
+    // What is active stands behind the floor, and what is pruned before it.
+    let kept_from = current.kept_from().as_u64();
+    prove!(kept_from <= location as u64);
     let bytes = proof_at(alloc, log, current, location, &update.next_key)?;
     Ok(Some((update.value.clone()?, bytes)))
 }
@@ -154,10 +163,10 @@ impl<
     pub fn prove_key(&self, key: &K) -> Result<KeyProof<V>, LedgerError>
         ensures ok { let setting = setting_of_width F.merge_rule H.hash_of N in
             IfOk result (λ found. key_answer_of V.encoding found
-            ≡ honest_answer F.pending_encoding setting K.SIZE V.SIZE self.now (K.encoding key.now)) }
+            ≡ honest_answer F.pending_encoding setting K.SIZE V.SIZE self.now.history (K.encoding key.now)) }
         ensures shown { let terms = terms F.merge_rule H.hash_of N H.Digest.SIZE F.is_pending F.pending_encoding
             (K.after tt) (V.after tt) K.SIZE V.SIZE in
-            let root = root_of_history (setting_of_width F.merge_rule H.hash_of N) K.SIZE V.SIZE self.now in
+            let root = root_of_history (setting_of_width F.merge_rule H.hash_of N) K.SIZE V.SIZE self.now.history in
             IfOk result (λ found. IsAccepted terms root (K.encoding key.now) (key_answer_of V.encoding found)) }
         ensures err { IfErr result (λ e. e ≡ LedgerError.Memory) }
     {

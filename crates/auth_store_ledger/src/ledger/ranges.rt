@@ -1,7 +1,7 @@
 //! Proofs of operations by their locations: of one that is active, of a range with its activity bits, and of a slice of
 //! the log.
 
-ghost use Rattle.std.specs.Prelude.{◌≡◌, ◌<◌, ◌≤◌, length, Ok, IfOk, IfErr};
+ghost use Rattle.std.specs.Prelude.{◌≡◌, ◌<◌, ◌≤◌, ◌*◌, length, Ok, IfOk, IfErr};
 ghost use Rattle.auth_store_client.specs.Claims.{terms};
 ghost use Rattle.auth_store_ledger.specs.History.{log_of};
 ghost use Rattle.auth_store_ledger.specs.Proving.{IsUnproved, answer_of_operation, answer_of_range, answer_of_slice};
@@ -11,7 +11,7 @@ ghost use Rattle.auth_store_ledger.specs.ProvingCode.{operation_answer_of, range
 ghost use Rattle.auth_store_ledger.specs.Store.{root_of_history, setting_of_width};
 
 use super::Ledger;
-use super::between::{copy_of, is_before_chunks};
+use super::between::copy_of;
 use crate::error::{ProofError, Unprovable};
 use auth_store_client::laws::{
     honest_operations_are_shown, honest_ranges_are_shown, honest_slices_are_shown,
@@ -60,11 +60,12 @@ impl<
     // The operations from `start` up to `stop` with their activity bits and the proof of both. It fails only when out
     // of memory.
     fn range_between(&self, start: u64, stop: u64) -> Result<ProvedRange<F, K, V>, AllocError>
+        requires kept { 8 * N * self.now.pruned ≤ start }
         requires some { start < stop }
-        requires within { stop ≤ length (log_of self.now) }
+        requires within { stop ≤ length (log_of self.now.history) }
         ensures { let setting = setting_of_width F.merge_rule H.hash_of N in
             IfOk result (λ proved. range_answer_of K.encoding V.encoding proved
-            ≡ range_answer F.pending_encoding setting K.SIZE V.SIZE self.now start stop) }
+            ≡ range_answer F.pending_encoding setting K.SIZE V.SIZE self.now.history start stop) }
     {
         let operations = self.copies_between(start, stop)?;
         let active = self.bits_between(start, stop)?;
@@ -78,43 +79,40 @@ impl<
 
     // The operations from `start` up to `stop` with the proof that the log has them. It fails only when out of memory.
     fn slice_between(&self, start: u64, stop: u64) -> Result<ProvedSlice<F, K, V>, AllocError>
+        requires kept { 8 * N * self.now.pruned ≤ start }
         requires some { start < stop }
-        requires within { stop ≤ length (log_of self.now) }
+        requires within { stop ≤ length (log_of self.now.history) }
         ensures { let setting = setting_of_width F.merge_rule H.hash_of N in
             IfOk result (λ proved. slice_answer_of K.encoding V.encoding proved
-            ≡ slice_answer F.pending_encoding setting K.SIZE V.SIZE self.now start stop) }
+            ≡ slice_answer F.pending_encoding setting K.SIZE V.SIZE self.now.history start stop) }
     {
         let operations = self.copies_between(start, stop)?;
         let bytes = self.slice_bytes(start, stop)?;
         Ok(ProvedSlice { operations, bytes })
     }
 
-    /// The operation at a location with the proof that it is active, where so many chunks are pruned: the client
-    /// accepts it under the root of this moment. It is refused where the log has no such operation, then where its
-    /// chunk is pruned, then where it is not active; or out of memory.
-    pub fn prove_operation(
-        &self,
-        pruned: u64,
-        location: u64,
-    ) -> Result<ProvedOperation<F, K, V>, ProofError>
+    /// The operation at a location with the proof that it is active: the client accepts it under the root of this
+    /// moment. It is refused where the log has no such operation, then where its chunk is pruned, then where it is not
+    /// active; or out of memory.
+    pub fn prove_operation(&self, location: u64) -> Result<ProvedOperation<F, K, V>, ProofError>
         ensures ok { let setting = setting_of_width F.merge_rule H.hash_of N in
             IfOk result (λ proved. Ok (operation_answer_of K.encoding V.encoding proved)
-            ≡ answer_of_operation F.pending_encoding setting K.SIZE V.SIZE self.now pruned location) }
+            ≡ answer_of_operation F.pending_encoding setting K.SIZE V.SIZE self.now.history self.now.pruned location) }
         ensures shown { let terms = terms F.merge_rule H.hash_of N H.Digest.SIZE F.is_pending F.pending_encoding
             (K.after tt) (V.after tt) K.SIZE V.SIZE in
-            let root = root_of_history (setting_of_width F.merge_rule H.hash_of N) K.SIZE V.SIZE self.now in
+            let root = root_of_history (setting_of_width F.merge_rule H.hash_of N) K.SIZE V.SIZE self.now.history in
             IfOk result (λ proved. IsAcceptedOperation terms root location
             (operation_answer_of K.encoding V.encoding proved)) }
         ensures err { let setting = setting_of_width F.merge_rule H.hash_of N in
             IfErr result (IsUnproved
-            (answer_of_operation F.pending_encoding setting K.SIZE V.SIZE self.now pruned location)) }
+            (answer_of_operation F.pending_encoding setting K.SIZE V.SIZE self.now.history self.now.pruned location)) }
     {
         honest_operations_are_shown::<F, H, K, V, N>();
         let Some(operation) = self.operations().get(location as usize) else {
             return Err(ProofError::Unprovable(Unprovable::OutOfRange));
         };
         self.holds_a_history();
-        if is_before_chunks::<N>(pruned, location) {
+        if location < self.kept_from() {
             return Err(ProofError::Unprovable(Unprovable::Pruned));
         }
         if !self.is_active(location) {
@@ -125,25 +123,20 @@ impl<
         Ok(ProvedOperation { operation, bytes })
     }
 
-    /// The operations from `start` up to `stop` with their activity bits and the proof of both, where so many chunks
-    /// are pruned: the client accepts it under the root of this moment. It is refused where the range is empty, then
-    /// where the log has not all of them, then where the chunk over the first is pruned; or out of memory.
-    pub fn prove_range(
-        &self,
-        pruned: u64,
-        start: u64,
-        stop: u64,
-    ) -> Result<ProvedRange<F, K, V>, ProofError>
+    /// The operations from `start` up to `stop` with their activity bits and the proof of both: the client accepts it
+    /// under the root of this moment. It is refused where the range is empty, then where the log has not all of them,
+    /// then where the chunk over the first is pruned; or out of memory.
+    pub fn prove_range(&self, start: u64, stop: u64) -> Result<ProvedRange<F, K, V>, ProofError>
         ensures ok { let setting = setting_of_width F.merge_rule H.hash_of N in
             IfOk result (λ proved. Ok (range_answer_of K.encoding V.encoding proved)
-            ≡ answer_of_range F.pending_encoding setting K.SIZE V.SIZE self.now pruned start stop) }
+            ≡ answer_of_range F.pending_encoding setting K.SIZE V.SIZE self.now.history self.now.pruned start stop) }
         ensures shown { let terms = terms F.merge_rule H.hash_of N H.Digest.SIZE F.is_pending F.pending_encoding
             (K.after tt) (V.after tt) K.SIZE V.SIZE in
-            let root = root_of_history (setting_of_width F.merge_rule H.hash_of N) K.SIZE V.SIZE self.now in
+            let root = root_of_history (setting_of_width F.merge_rule H.hash_of N) K.SIZE V.SIZE self.now.history in
             IfOk result (λ proved. IsAcceptedRange terms root start (range_answer_of K.encoding V.encoding proved)) }
         ensures err { let setting = setting_of_width F.merge_rule H.hash_of N in
             IfErr result (IsUnproved
-            (answer_of_range F.pending_encoding setting K.SIZE V.SIZE self.now pruned start stop)) }
+            (answer_of_range F.pending_encoding setting K.SIZE V.SIZE self.now.history self.now.pruned start stop)) }
     {
         honest_ranges_are_shown::<F, H, K, V, N>();
         self.holds_a_history();
@@ -153,7 +146,7 @@ impl<
         if self.len() < stop {
             return Err(ProofError::Unprovable(Unprovable::OutOfRange));
         }
-        if is_before_chunks::<N>(pruned, start) {
+        if start < self.kept_from() {
             return Err(ProofError::Unprovable(Unprovable::Pruned));
         }
         match self.range_between(start, stop) {
@@ -162,24 +155,19 @@ impl<
         }
     }
 
-    /// The operations from `start` up to `stop` with the proof that the log has them, where so many chunks are pruned:
-    /// the client accepts it under the root of this moment. It is refused as `prove_range` is.
-    pub fn prove_log(
-        &self,
-        pruned: u64,
-        start: u64,
-        stop: u64,
-    ) -> Result<ProvedSlice<F, K, V>, ProofError>
+    /// The operations from `start` up to `stop` with the proof that the log has them: the client accepts it under the
+    /// root of this moment. It is refused as `prove_range` is.
+    pub fn prove_log(&self, start: u64, stop: u64) -> Result<ProvedSlice<F, K, V>, ProofError>
         ensures ok { let setting = setting_of_width F.merge_rule H.hash_of N in
             IfOk result (λ proved. Ok (slice_answer_of K.encoding V.encoding proved)
-            ≡ answer_of_slice F.pending_encoding setting K.SIZE V.SIZE self.now pruned start stop) }
+            ≡ answer_of_slice F.pending_encoding setting K.SIZE V.SIZE self.now.history self.now.pruned start stop) }
         ensures shown { let terms = terms F.merge_rule H.hash_of N H.Digest.SIZE F.is_pending F.pending_encoding
             (K.after tt) (V.after tt) K.SIZE V.SIZE in
-            let root = root_of_history (setting_of_width F.merge_rule H.hash_of N) K.SIZE V.SIZE self.now in
+            let root = root_of_history (setting_of_width F.merge_rule H.hash_of N) K.SIZE V.SIZE self.now.history in
             IfOk result (λ proved. IsAcceptedSlice terms root start (slice_answer_of K.encoding V.encoding proved)) }
         ensures err { let setting = setting_of_width F.merge_rule H.hash_of N in
             IfErr result (IsUnproved
-            (answer_of_slice F.pending_encoding setting K.SIZE V.SIZE self.now pruned start stop)) }
+            (answer_of_slice F.pending_encoding setting K.SIZE V.SIZE self.now.history self.now.pruned start stop)) }
     {
         honest_slices_are_shown::<F, H, K, V, N>();
         self.holds_a_history();
@@ -189,7 +177,7 @@ impl<
         if self.len() < stop {
             return Err(ProofError::Unprovable(Unprovable::OutOfRange));
         }
-        if is_before_chunks::<N>(pruned, start) {
+        if start < self.kept_from() {
             return Err(ProofError::Unprovable(Unprovable::Pruned));
         }
         match self.slice_between(start, stop) {

@@ -6,8 +6,8 @@ use Rattle.std.proofs.lemmas.Grind.{flat_map-append}
 use Rattle.std.proofs.Math.Seq.{take-append_seam, take-length}
 use Rattle.auth_store_parts.specs.History.{History, Commit, latest_map, log_of, appended}
 use Rattle.paged_format.specs.Pages.{recovered}
-use Rattle.paged_blob.specs.Calls.{Call}
-use Rattle.paged_blob.specs.Writers.{Keeps}
+use Rattle.paged_blob_parts.specs.Calls.{Call}
+use Rattle.paged_blob_parts.specs.Writers.{Keeps}
 use Rattle.auth_store_log.specs.Records.{Format, record_of, committed, log_bytes, history_bytes, AreRecorded}
 use Rattle.auth_store_log.specs.Shown.{MayShow, KeepsBytes, KeepsLog, Reopens}
 use Rattle.auth_store_log.specs.Laws.Records.{committed_whole, committed_history, committed_first, committed_again}

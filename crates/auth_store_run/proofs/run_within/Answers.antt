@@ -1,5 +1,5 @@
 use Rattle.std.proofs.Common.{◌∙◌, sym, subst}
-use Rattle.paged_blob.specs.Moments.{Grows}
+use Rattle.paged_blob_parts.specs.Moments.{Grows}
 use Rattle.auth_store_log.specs.Records.{Format, format_of}
 use Rattle.auth_store_session.specs.Machine.{Machine, machine}
 use Rattle.auth_store_session.specs.MachineCode.{requests_of, meanings_of}

@@ -7,7 +7,7 @@
 //!     before  abcdefgh     and so on with the steps before it
 
 ghost use Rattle.std.specs.Prelude.{◌≡◌, [], true, false, None, take, drop, reverse, IfOk};
-ghost use Rattle.paged_blob.specs.Calls.{content};
+ghost use Rattle.paged_blob_parts.specs.Calls.{content};
 ghost use Rattle.disk_bench.specs.Undone.{calls_from};
 
 use crate::pages::step::Step;

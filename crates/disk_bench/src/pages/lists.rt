@@ -3,10 +3,10 @@
 
 ghost use Rattle.std.specs.Prelude.{◌≡◌};
 ghost use Rattle.paged_format.specs.Footers.{content_size};
-ghost use Rattle.paged_blob.specs.CachedContent.{HoldsPagesOf};
-ghost use Rattle.paged_blob.specs.Reads.{ServesPages};
-ghost use Rattle.paged_blob.specs.Stands.{Stand, on_blob};
-ghost use Rattle.paged_blob.specs.Writers.{IsWriter, written};
+ghost use Rattle.paged_blob_parts.specs.CachedContent.{HoldsPagesOf};
+ghost use Rattle.paged_blob_parts.specs.Reads.{ServesPages};
+ghost use Rattle.paged_blob_parts.specs.Stands.{Stand, on_blob};
+ghost use Rattle.paged_blob_parts.specs.Writers.{IsWriter, written};
 
 use crate::pages::disk::UndoDisk;
 use crate::pages::work::{append_pieces, read_often};

@@ -1,13 +1,14 @@
 //! What is measured, once. Each answers a number that depends on all that was computed.
 
 ghost use Rattle.std.specs.Prelude.{◌≤◌};
-ghost use Rattle.state_bitmap.specs.Bits.{IsChunkWidth};
+ghost use Rattle.state_proofs_parts.specs.Bits.{IsChunkWidth};
 
 use merkle_forest::bagging::Bagging;
 use merkle_forest::codec::FixedBytes;
 use merkle_forest::hasher::{ByteHash, Standard};
 use sha2::{Digest, Sha256};
-use state_bitmap::{Error, MerkleizedBitMap, UnmerkleizedBitMap};
+use state_proofs::bitmap_error::Error;
+use state_proofs::{MerkleizedBitMap, UnmerkleizedBitMap};
 use std::alloc::{AllocError, Global};
 
 /// How many bits a map has.

@@ -17,7 +17,7 @@ pub struct FixedBytes<const M: usize> {
 }
 
 impl<const M: usize> FixedBytes<M> {
-    /// The value with these `M` bytes. In the Rust: `commonware_utils::sequence::FixedBytes::from`.
+    /// The value with these `M` bytes. In the Rust: `commonware_utils::sequence::FixedBytes::new`.
     pub fn new(bytes: [u8; M]) -> FixedBytes<M>
         ensures { result.bytes ≡ bytes.entry }
     {
@@ -29,6 +29,15 @@ impl<const M: usize> FixedBytes<M> {
         ensures { result.now ≡ self.now.bytes }
     {
         &self.bytes
+    }
+}
+
+/// The value with these `M` bytes. In the Rust: `From` of an array for `commonware_utils::sequence::FixedBytes`.
+impl<const M: usize> From<[u8; M]> for FixedBytes<M> {
+    ghost from_gives = { λ bytes v. v.bytes ≡ bytes };
+
+    fn from(bytes: [u8; M]) -> FixedBytes<M> {
+        FixedBytes::new(bytes)
     }
 }
 

@@ -1,6 +1,6 @@
 //! Lists: a count as a varint, and that many items.
 
-ghost use Rattle.std.specs.Prelude.{◌≡◌, ◌<◌, ◌≤◌, ◌^◌, ◌++◌, IfOk, OnOk, OnErr, length};
+ghost use Rattle.std.specs.Prelude.{◌≡◌, ◌<◌, ◌≤◌, ◌-◌, ◌^◌, ◌++◌, IfOk, OnOk, OnErr, length};
 ghost use Rattle.std.specs.List.{All, each_same};
 ghost use Rattle.std.proofs.Common.{ap};
 ghost use Rattle.merkle_forest_parts.specs.Varint.{varint, Finds};
@@ -15,6 +15,7 @@ use super::undo::or_undo;
 use super::varint::{number_size, read_number, write_number};
 use crate::digest::Digest;
 use std::alloc::{AllocError, Global};
+use std::ops::{RangeFull, RangeInclusive};
 
 /// The counts of items that a list may have, both ends among them. In the Rust: `commonware_codec::RangeCfg`.
 #[derive(Clone, Copy, Debug, PartialEq, Eq)]
@@ -27,12 +28,31 @@ pub struct RangeCfg {
 
 impl RangeCfg {
     /// The counts from the least to the greatest. No count is allowed where the least is the greater.
-    /// In the Rust: `commonware_codec::RangeCfg::from`, over a range.
+    /// In the Rust: `commonware_codec::RangeCfg::new`, over a range.
     pub fn new(least: usize, greatest: usize) -> RangeCfg
         ensures least { result.least ≡ least }
         ensures greatest { result.greatest ≡ greatest }
     {
         RangeCfg { least, greatest }
+    }
+}
+
+/// All counts. In the Rust: `From` of `..` for `commonware_codec::RangeCfg`.
+impl From<RangeFull> for RangeCfg {
+    ghost from_gives = { λ _ cfg. cfg ≡ record { least = 0; greatest = 2 ^ 64 - 1 } };
+
+    fn from(_range: RangeFull) -> RangeCfg {
+        RangeCfg::new(0, usize::MAX)
+    }
+}
+
+/// The counts from the range's start to its end. In the Rust: `From` of an inclusive range for
+/// `commonware_codec::RangeCfg`.
+impl From<RangeInclusive<usize>> for RangeCfg {
+    ghost from_gives = { λ range cfg. cfg ≡ record { least = range.start; greatest = range.end } };
+
+    fn from(range: RangeInclusive<usize>) -> RangeCfg {
+        RangeCfg::new(*range.start(), *range.end())
     }
 }
 

@@ -3,19 +3,17 @@
 ghost use Rattle.std.specs.Prelude.{◌≡◌, ◌⊎◌, ◌+◌, ◌*◌, ◌≤◌, ◌↔◌, List, length, take, drop};
 ghost use Rattle.std.specs.Prelude.{IsTrue, IsFalse, IfOk, IfErr, OnOk, IsErr};
 ghost use Rattle.paged_format.specs.Footers.{content_size};
-ghost use Rattle.paged_blob.specs.Calls.{Call};
-ghost use Rattle.paged_blob.specs.Answers.{failures_after};
-ghost use Rattle.paged_blob.specs.CachedContent.{HoldsPagesOf, KeepsOthers};
-ghost use Rattle.paged_blob.specs.Writers.{written, IsWriter};
-ghost use Rattle.paged_blob.specs.Stands.{pages_of};
-ghost use Rattle.paged_blob.specs.Served.{slices, total, items_of, are_within, IsRangesCause};
-ghost use Rattle.paged_blob.specs.Served.{IsServed, AreServed};
+ghost use Rattle.paged_blob_parts.specs.Calls.{Call};
+ghost use Rattle.paged_blob_parts.specs.Answers.{failures_after};
+ghost use Rattle.paged_blob_parts.specs.CachedContent.{HoldsPagesOf, KeepsOthers};
+ghost use Rattle.paged_blob_parts.specs.Writers.{written, IsWriter};
+ghost use Rattle.paged_blob_parts.specs.Stands.{pages_of};
+ghost use Rattle.paged_blob_parts.specs.Served.{slices, total, items_of, are_within, IsRangesCause};
+ghost use Rattle.paged_blob_parts.specs.Served.{IsServed, AreServed};
 
 use super::Writer;
-use crate::blob::Blob;
-use crate::cache::CacheRef;
-use crate::error::Error;
 use fault_storage::Checksum;
+use paged_blob_parts::{Blob, CacheRef, Error};
 
 impl<C: Checksum, Phase> Writer<C, Phase> {
     /// Reads the slices of ranges, each an offset and a length, one behind the other into `out`, and answers a

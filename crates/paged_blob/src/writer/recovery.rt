@@ -4,23 +4,21 @@ ghost use Rattle.std.specs.Prelude.{◌≡◌, ◌⊎◌, ◌+◌, ◌*◌, ◌/
 ghost use Rattle.std.specs.Prelude.{None, Some, Option, IsFalse, IfOk, IfErr, OnOk, OnErr, IfSome};
 ghost use Rattle.paged_format.specs.Footers.{IsPageSize, content_size};
 ghost use Rattle.paged_format.specs.Pages.{recovered};
-ghost use Rattle.paged_blob.specs.Calls.{content, file_of};
-ghost use Rattle.paged_blob.specs.Moments.{Through};
-ghost use Rattle.paged_blob.specs.Answers.{failures_after, IsReadCause};
-ghost use Rattle.paged_blob.specs.Flushes.{physical_size};
-ghost use Rattle.paged_blob.specs.Scans.{recoverable, AreProven};
-ghost use Rattle.paged_blob.specs.Shrinks.{Withstands, IsCut, IsCutCause, EndsWithSync};
+ghost use Rattle.paged_blob_parts.specs.Calls.{content, file_of};
+ghost use Rattle.paged_blob_parts.specs.Moments.{Through};
+ghost use Rattle.paged_blob_parts.specs.Answers.{failures_after, IsReadCause};
+ghost use Rattle.paged_blob_parts.specs.Flushes.{physical_size};
+ghost use Rattle.paged_blob_parts.specs.Scans.{recoverable, AreProven};
+ghost use Rattle.paged_blob_parts.specs.Shrinks.{Withstands, IsCut, IsCutCause, EndsWithSync};
 ghost use Rattle.paged_blob.specs.ShrinksCode.{slot_of, bytes_of};
-ghost use Rattle.paged_blob.specs.Writers.{written, IsWriter, Keeps};
+ghost use Rattle.paged_blob_parts.specs.Writers.{written, IsWriter, Keeps};
 
 use super::{Append, Writer, is_within_numbers};
-use crate::blob::Blob;
-use crate::cache::CacheRef;
-use crate::error::Error;
-use crate::flush::DurableSlot;
-use crate::scan::{prefix_of_blob, prefix_of_blob_at_most};
 use crate::shrink::{LastPage, cut_blob};
 use fault_storage::Checksum;
+use paged_blob_parts::{
+    Blob, CacheRef, DurableSlot, Error, prefix_of_blob, prefix_of_blob_at_most,
+};
 use paged_format::TipBuffer;
 use std::alloc::Global;
 use std::marker::PhantomData;

@@ -3,22 +3,17 @@
 ghost use Rattle.std.specs.Prelude.{◌≡◌, ◌⊎◌, ◌+◌, ◌*◌, ◌<◌, ◌≤◌, ◌↔◌, [], List, max, length, drop};
 ghost use Rattle.std.specs.Prelude.{IsNone, IfSome, IfOk, IfErr, OnOk};
 ghost use Rattle.paged_format.specs.Footers.{content_size};
-ghost use Rattle.paged_blob.specs.Calls.{Call};
-ghost use Rattle.paged_blob.specs.Moments.{Through};
-ghost use Rattle.paged_blob.specs.Answers.{failures_after, IsCause};
-ghost use Rattle.paged_blob.specs.CachedContent.{HoldsPagesOf, KeepsOthers};
-ghost use Rattle.paged_blob.specs.Writers.{written, IsWriter, Keeps};
-ghost use Rattle.paged_blob.specs.Stands.{IsSealed, pages_of};
-ghost use Rattle.paged_blob.specs.declared.error.CallKind.{CallKind};
+ghost use Rattle.paged_blob_parts.specs.Calls.{Call};
+ghost use Rattle.paged_blob_parts.specs.Moments.{Through};
+ghost use Rattle.paged_blob_parts.specs.Answers.{failures_after, IsCause};
+ghost use Rattle.paged_blob_parts.specs.CachedContent.{HoldsPagesOf, KeepsOthers};
+ghost use Rattle.paged_blob_parts.specs.Writers.{written, IsWriter, Keeps};
+ghost use Rattle.paged_blob_parts.specs.Stands.{IsSealed, pages_of};
+ghost use Rattle.paged_blob_parts.specs.declared.error.CallKind.{CallKind};
 
 use super::Writer;
-use crate::blob::Blob;
-use crate::cache::CacheRef;
-use crate::error::Error;
-use crate::replay::Replay;
-use crate::sealed::Sealed;
-use crate::view::View;
 use fault_storage::Checksum;
+use paged_blob_parts::{Blob, CacheRef, Error, Replay, Sealed, View};
 use std::alloc::AllocError;
 use std::marker::PhantomData;
 

@@ -3,22 +3,19 @@
 ghost use Rattle.std.specs.Prelude.{◌≡◌, ◌+◌, ◌-◌, ◌/◌, ◌%◌, ◌<◌, ◌≤◌, ◌↔◌, List, Ok, Err, length, take};
 ghost use Rattle.std.specs.Prelude.{IsTrue, IfOk, IfErr, OnOk, OnErr};
 ghost use Rattle.paged_format.specs.Footers.{content_size};
-ghost use Rattle.paged_blob.specs.Calls.{Call};
-ghost use Rattle.paged_blob.specs.Moments.{Through};
-ghost use Rattle.paged_blob.specs.Answers.{failures_after, IsCause, IsPowerOff, RecordsSync};
-ghost use Rattle.paged_blob.specs.Caches.{AreGiven};
-ghost use Rattle.paged_blob.specs.CachedContent.{HoldsPagesOf, KeepsOthers};
-ghost use Rattle.paged_blob.specs.Writers.{written, IsWriter, Keeps};
+ghost use Rattle.paged_blob_parts.specs.Calls.{Call};
+ghost use Rattle.paged_blob_parts.specs.Moments.{Through};
+ghost use Rattle.paged_blob_parts.specs.Answers.{failures_after, IsCause, IsPowerOff, RecordsSync};
+ghost use Rattle.paged_blob_parts.specs.Caches.{AreGiven};
+ghost use Rattle.paged_blob_parts.specs.CachedContent.{HoldsPagesOf, KeepsOthers};
+ghost use Rattle.paged_blob_parts.specs.Writers.{written, IsWriter, Keeps};
 ghost use Rattle.paged_blob.specs.Syncs.{IsUnderWay, outcome, settled_tip, settled_slot};
-ghost use Rattle.paged_blob.specs.declared.error.CallKind.{CallKind};
+ghost use Rattle.paged_blob_parts.specs.declared.error.CallKind.{CallKind};
 
 use super::Writer;
-use crate::blob::Blob;
-use crate::cache::CacheRef;
-use crate::error::Error;
-use crate::flush::last_slot;
-use crate::started::StartedSync;
 use fault_storage::Checksum;
+use paged_blob_parts::flush::last_slot;
+use paged_blob_parts::{Blob, CacheRef, Error, StartedSync};
 
 /// A sync of a writer that was started: how many bytes of its list it makes durable, and the blob's sync, which keeps
 /// its answer until it is waited for. In the Rust a handle of a task that runs.

@@ -10,7 +10,8 @@ use Rattle.state_proofs.specs.declared.operation.Proof.{Proof}
 use Rattle.state_proofs.specs.declared.proof.RangeProof.{RangeProof}
 use Rattle.state_proofs.specs.Encoded.{range_proof_encoding, operation_proof_encoding, key_value_proof_encoding}
 use Rattle.state_proofs.specs.Encoded.{after_range_proof, after_operation_proof, FitsRange, Fits}
-use Rattle.state_proofs.specs.Forms.{Told, after_told, after_form}
+use Rattle.state_proofs.specs.Forms.{after_told, after_form}
+use Rattle.state_proofs_parts.specs.Told.{Told}
 use Rattle.state_proofs.specs.Laws.Encoded.{Grammar, range_again, operation_again, operation_within}
 use Rattle.state_proofs.specs.ProofsCode.{range_parts_of, form_parts_of}
 

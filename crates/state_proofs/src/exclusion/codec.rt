@@ -11,11 +11,11 @@ ghost use Rattle.state_proofs.specs.Forms.{after_form, FormLacks};
 ghost use Rattle.state_proofs.specs.ProofsCode.{form_parts_of};
 
 use super::ExclusionProof;
-use crate::chunk_form::ChunkForm;
 use crate::operation::Proof;
 use merkle_forest::codec::{Cursor, EncodeSize, Error, Read, Write, or_undo};
 use merkle_forest::{Digest, PendingOf};
 use state_ops::{FixedKey, FixedValue, OrderedUpdate};
+use state_proofs_parts::chunk_form::ChunkForm;
 use std::alloc::{AllocError, Global};
 use std::convert::AsSlice;
 

@@ -1,13 +1,13 @@
 //! The check of a proof of one operation: its bit is set, and the proof over a range shows the operation and its chunk.
 
 ghost use Rattle.std.specs.Prelude.{◌≡◌, ◌/◌, ◌↔◌, IsTrue, slice_get};
-ghost use Rattle.state_proofs.specs.Bits.{is_set};
+ghost use Rattle.state_proofs_parts.specs.SetBits.{is_set};
 ghost use Rattle.state_proofs.specs.ProofsCode.{form_parts_of};
 ghost use Rattle.state_proofs.specs.Verified.{Verifies};
 
-use crate::chunk_size::ChunkSize;
 use crate::operation::Proof;
 use merkle_forest::{Digest, Graftable, HashFunction, PendingOf};
+use state_proofs_parts::chunk_size::ChunkSize;
 use std::convert::AsSlice;
 
 // Whether this bit of the chunk is set.

@@ -9,28 +9,29 @@ ghost use Rattle.merkle_forest.specs.declared.bagging.Bagging.TheVariants.{Backw
 ghost use Rattle.merkle_forest.specs.Forest.{forest_of};
 ghost use Rattle.merkle_forest.specs.Nodes.{nodes_of_height};
 ghost use Rattle.state_proofs.specs.declared.error.Error.TheVariants.{DataCorrupted};
-ghost use Rattle.state_bitmap.specs.Bits.{IsChunkWidth, chunk_of};
+ghost use Rattle.state_proofs_parts.specs.Bits.{IsChunkWidth, chunk_of};
 ghost use Rattle.state_proofs.specs.Built.{AreApart, IsBuildable, IsRefusalOfNodes, IsRefusalOfPlanned};
-ghost use Rattle.state_proofs.specs.Built.{IsRefusalOfSource, IsSourceOf, lifted};
-ghost use Rattle.state_proofs.specs.BuiltCode.{measures_with, setting_with, source_of, span_of};
-ghost use Rattle.state_proofs.specs.Canonical.{State, operations_root, partial_digest as partial_of};
-ghost use Rattle.state_proofs.specs.Canonical.{pending_digest as pending_of};
-ghost use Rattle.state_proofs.specs.Grafting.{chunk_aligned_inactive_peaks as aligned_peaks};
+ghost use Rattle.state_proofs.specs.Built.{IsRefusalOfSource, lifted};
+ghost use Rattle.state_proofs_parts.specs.Sources.{IsSourceOf};
+ghost use Rattle.state_proofs.specs.BuiltCode.{measures_with, source_of, span_of};
+ghost use Rattle.state_proofs_parts.specs.Canonical.{State, operations_root, partial_digest as partial_of};
+ghost use Rattle.state_proofs_parts.specs.Canonical.{pending_digest as pending_of, setting_with};
+ghost use Rattle.state_proofs_parts.specs.Grafting.{chunk_aligned_inactive_peaks as aligned_peaks};
 ghost use Rattle.state_proofs.specs.Honest.{honest_range};
 ghost use Rattle.state_proofs.specs.ProofsCode.{range_parts_of};
 ghost use Rattle.state_proofs.specs.Required.{IsCorrupted};
 ghost use Rattle.state_proofs.specs.RequiredCode.{measures_of, asked_of};
 
-use crate::bitmap::BitmapReadable;
-use crate::chunk_size::ChunkSize;
 use crate::error::Error;
-use crate::grafting::chunk_aligned_inactive_peaks;
 use crate::proof::RangeProof;
 use crate::required::graftable_window;
 use merkle_core::{Proof, RangePlan, Readable, error};
 use merkle_forest::bagging::Bagging;
 use merkle_forest::hasher::{HashFunction, Standard};
 use merkle_forest::{Digest, Graftable, Location, MAX_LEAVES, PendingOf};
+use state_proofs_parts::bitmap::BitmapReadable;
+use state_proofs_parts::chunk_size::ChunkSize;
+use state_proofs_parts::grafting::chunk_aligned_inactive_peaks;
 use std::alloc::Global;
 use std::ops::Range;
 

@@ -8,16 +8,16 @@ ghost use Rattle.state_proofs.specs.RangeExtracted.{IsRefusalToTell, ShowsDigest
 ghost use Rattle.state_proofs.specs.Verified.{IsShaped, VerifiesRange};
 ghost use Rattle.state_proofs.specs.ShownCode.{shown_of};
 
-use crate::chunk_size::ChunkSize;
-use crate::grafting::graftable_chunks_of;
-use crate::log_proofs::{encodings, lent};
 use crate::proof::RangeProof;
 use crate::proof::verifying::{Shown, led_root, shown_hasher};
+use crate::verify::{encodings, lent};
 use merkle_core::ExtractionError;
 use merkle_core::extraction::extract;
 use merkle_core::verifying::peaks::Reader;
 use merkle_forest::codec::Encode;
 use merkle_forest::{Graftable, HashFunction, Location, PendingOf, Position};
+use state_proofs_parts::chunk_size::ChunkSize;
+use state_proofs_parts::grafting::graftable_chunks_of;
 use std::alloc::{AllocError, Global};
 use std::marker::PhantomData;
 

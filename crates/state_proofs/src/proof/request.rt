@@ -5,28 +5,29 @@ ghost use Rattle.std.specs.Prelude.{IfErr, OnOk};
 ghost use Rattle.std.specs.List.{range_with_len};
 ghost use Rattle.std.specs.NonZero.{non_zero_u64_get};
 ghost use Rattle.state_proofs.specs.declared.error.Error.TheVariants.{Memory};
-ghost use Rattle.state_bitmap.specs.Bits.{IsChunkWidth, chunks_of};
-ghost use Rattle.state_proofs.specs.Built.{IsBuildable, IsSourceOf};
-ghost use Rattle.state_proofs.specs.BuiltCode.{measures_with, setting_with, source_of, span_of};
-ghost use Rattle.state_proofs.specs.Canonical.{State, operations_root};
+ghost use Rattle.state_proofs_parts.specs.Bits.{IsChunkWidth, chunks_of};
+ghost use Rattle.state_proofs.specs.Built.{IsBuildable};
+ghost use Rattle.state_proofs_parts.specs.Sources.{IsSourceOf};
+ghost use Rattle.state_proofs.specs.BuiltCode.{measures_with, source_of, span_of};
+ghost use Rattle.state_proofs_parts.specs.Canonical.{State, operations_root, setting_with};
 ghost use Rattle.state_proofs.specs.Honest.{honest_range};
 ghost use Rattle.state_proofs.specs.ProofsCode.{range_parts_of};
 ghost use Rattle.state_proofs.specs.Requests.{HasStart, IsRefusalOfRequest, chunks_between, end_of};
 
-use crate::bitmap::BitmapReadable;
-use crate::chunk_size::ChunkSize;
 use crate::error::Error;
 use crate::log_read::LogRead;
 use crate::proof::RangeProof;
 use merkle_core::{Readable, error};
 use merkle_forest::hasher::HashFunction;
 use merkle_forest::{Digest, Graftable, Location, PendingOf};
+use state_proofs_parts::bitmap::BitmapReadable;
+use state_proofs_parts::chunk_size::ChunkSize;
 use std::alloc::{AllocError, Global};
 use std::num::NonZeroU64;
 
 /// What is asked for: at most so many operations from a location on, with a proof over them, of a state with this floor
 /// and this root of its operations' tree. In the Rust: `qmdb::current::proof::RangeProofSpec`.
-#[derive(Debug, Drop)]
+#[derive_where(Clone, Copy, Debug, PartialEq, Eq)]
 pub struct RangeProofSpec<F: Graftable, D: Digest> {
     /// The location of the first operation.
     pub start_loc: Location<F>,

@@ -4,21 +4,21 @@ ghost use Rattle.std.specs.Prelude.{◌≡◌, ◌↔◌, ◌<◌, ◌≤◌, �
 ghost use Rattle.std.specs.Prelude.{length, option_map, slice_index_or};
 ghost use Rattle.std.specs.List.{AllByRecursion};
 ghost use Rattle.merkle_forest.specs.Made.{value};
-ghost use Rattle.state_proofs.specs.Canonical.{canonical_string};
+ghost use Rattle.state_proofs_parts.specs.Canonical.{canonical_string};
 ghost use Rattle.state_proofs.specs.ProofsCode.{range_parts_of};
 ghost use Rattle.state_proofs.specs.RangeExtracted.{LeadsNowhere};
 ghost use Rattle.state_proofs.specs.Verified.{Covers, covering, FitsShown, IsShaped, VerifiesRange, given_by};
 ghost use Rattle.state_proofs.specs.Verified.{graftable_shown, shown_grafted, FitsChunk};
 ghost use Rattle.state_proofs.specs.ShownCode.{form_shown_of};
-ghost use Rattle.state_proofs.specs.VerifierCode.{form_given_of};
+ghost use Rattle.state_proofs_parts.specs.VerifierCode.{form_given_of};
 
-use crate::chunk_size::ChunkSize;
-use crate::grafting::graftable_chunks_of;
-use crate::grafting::verifier::{Verifier, covering_chunk};
 use crate::proof::RangeProof;
-use crate::seal::seal;
 use merkle_core::verifying::reconstruct_range;
 use merkle_forest::{Digest, Graftable, HashFunction, Location, MAX_LEAVES, PendingOf};
+use state_proofs_parts::chunk_size::ChunkSize;
+use state_proofs_parts::grafting::graftable_chunks_of;
+use state_proofs_parts::grafting::verifier::{Verifier, covering_chunk};
+use state_proofs_parts::seal::seal;
 use std::convert::AsSlice;
 
 /// What is shown with a proof over a range: encoded operations from a location on, and the chunks over them, slices or

@@ -6,18 +6,13 @@ ghost use Rattle.merkle_forest.specs.Forest.{leaves, forest_of};
 ghost use Rattle.merkle_forest.specs.Shape.{shape};
 ghost use Rattle.merkle_forest.specs.Trees.{Within};
 ghost use Rattle.merkle_forest.specs.TreesCode.{shapes};
-ghost use Rattle.state_proofs.specs.Canonical.{chunks as all_chunks, grafted_inactive, pending_digest};
+ghost use Rattle.state_proofs_parts.specs.Canonical.{chunks as all_chunks, grafted_inactive, pending_digest};
 ghost use Rattle.state_proofs.specs.Honest.{grafted_range, honest_range as range_of, honest_parts};
 ghost use Rattle.state_proofs.specs.ProofsCode.{range_parts_of, parts_of};
-ghost use Rattle.state_proofs.specs.Snapshot.{state_of, setting_of};
+ghost use Rattle.state_proofs_parts.specs.Snapshot.{state_of, setting_of};
 
-use crate::canonical::{
-    chunks_of_state, grafted_trees, partial_digest_of, pending_digest_of, root_of_operations,
-};
-use crate::grafting::{Grafted, aligned_count_of, chunk_over};
 use crate::operation;
 use crate::proof::RangeProof;
-use crate::snapshot::Snapshot;
 use merkle_core::Proof;
 use merkle_core::building::plain::range_digests_of;
 use merkle_forest::bagging::Bagging;
@@ -25,6 +20,11 @@ use merkle_forest::forest::{Tree, grow};
 use merkle_forest::hasher::{HashFunction, Standard};
 use merkle_forest::trees::locate;
 use merkle_forest::{Graftable, Location, PendingOf};
+use state_proofs_parts::canonical::{
+    chunks_of_state, grafted_trees, partial_digest_of, pending_digest_of, root_of_operations,
+};
+use state_proofs_parts::grafting::{Grafted, aligned_count_of, chunk_over};
+use state_proofs_parts::snapshot::Snapshot;
 use std::alloc::{AllocError, Global};
 
 // The inactive peaks and the active ones after them.

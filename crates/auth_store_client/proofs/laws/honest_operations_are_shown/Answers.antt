@@ -2,7 +2,7 @@ use Rattle.std.proofs.Common.{◌≡◌, ◌<◌, ℕ, List, length, sym, subst,
 use Rattle.std.proofs.lemmas.List.{length-map}
 use Rattle.std.proofs.lemmas.Option.{slice_get_within}
 use Rattle.state_ops.specs.Operation.{Operation, fixed_encoding}
-use Rattle.state_proofs.specs.Canonical.{State}
+use Rattle.state_proofs_parts.specs.Canonical.{State}
 use Rattle.state_proofs.specs.Encoded.{ShowsOperation}
 use Rattle.state_proofs.specs.Laws.Once.{numbers_once}
 use Rattle.auth_store_parts.specs.History.{log_of}

@@ -2,7 +2,7 @@ use Rattle.std.proofs.Common.{◌≡◌, ◌<◌, ◌≤◌, ◌+◌, ◌^◌, �
 use Rattle.std.proofs.lemmas.List.{length-map}
 use Rattle.std.proofs.lemmas.Nat.{pow_pos}
 use Rattle.state_ops.specs.Operation.{fixed_encoding}
-use Rattle.state_proofs.specs.Canonical.{Setting, State}
+use Rattle.state_proofs_parts.specs.Canonical.{Setting, State}
 use Rattle.state_proofs.specs.Honest.{honest_range}
 use Rattle.state_proofs.specs.MadeRanges.{HasDigestsOf}
 use Rattle.state_proofs.specs.Verified.{RangeParts, Shown, IsShaped}

@@ -1,5 +1,5 @@
 use Rattle.std.proofs.Common.{◌≡◌}
-use Rattle.paged_blob.specs.Chance.{has_chance_slot}
+use Rattle.paged_blob_parts.specs.Chance.{has_chance_slot}
 use Rattle.auth_store_device.specs.Devices.{shown_file}
 use Rattle.auth_store_device.specs.OpeningsCode.{file_from}
 use Rattle.auth_store_device.proofs.chance.has_chance_slot.Given as goal

@@ -1,5 +1,5 @@
 use Rattle.std.proofs.Common.{rules, arith, ◌≡◌, ◌<◌, length, ap, ◌∙◌}
-use Rattle.paged_blob.specs.Calls.{File}
+use Rattle.paged_blob_parts.specs.Calls.{File}
 use Rattle.auth_store_device.specs.Devices.{shown_file}
 use Rattle.auth_store_device.specs.OpeningsCode.{file_from}
 use Rattle.auth_store_device.proofs.Chances.{chance-none, chance-some, page-long}

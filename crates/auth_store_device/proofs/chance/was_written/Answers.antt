@@ -1,6 +1,6 @@
 use Rattle.std.proofs.Common.{rules, ◌≡◌, ◌+◌, ◌<◌, ◌||◌, false, [], length, take, get_or, ap, sym, ◌∙◌}
-use Rattle.paged_blob.specs.Calls.{File, opened, whole}
-use Rattle.paged_blob.specs.Chance.{has_slot, page_at, was_written}
+use Rattle.paged_blob_parts.specs.Calls.{File, opened, whole}
+use Rattle.paged_blob_parts.specs.Chance.{has_slot, page_at, was_written}
 use Rattle.auth_store_device.specs.Devices.{shown_file}
 use Rattle.auth_store_device.specs.OpeningsCode.{change_in, file_after, file_from, is_base}
 use Rattle.auth_store_device.specs.RecordsCode.{call_of, changes_of}

@@ -1,6 +1,6 @@
 use Rattle.std.proofs.Common.{◌≡◌, length, take}
-use Rattle.paged_blob.specs.Calls.{whole}
-use Rattle.paged_blob.specs.Chance.{was_written}
+use Rattle.paged_blob_parts.specs.Calls.{whole}
+use Rattle.paged_blob_parts.specs.Chance.{was_written}
 use Rattle.auth_store_device.specs.Devices.{shown_file}
 use Rattle.auth_store_device.specs.OpeningsCode.{file_from}
 use Rattle.auth_store_device.proofs.chance.was_written.Given as goal

@@ -1,7 +1,7 @@
 use Rattle.std.proofs.Common.{rules, arith, ◌≡◌, ◌≤◌, ◌+◌, ◌++◌, ℕ, List, length, take, drop, ap, sym, ◌∙◌}
 use Rattle.std.proofs.lemmas.List.{take_at}
-use Rattle.paged_blob.specs.Calls.{resized, with_bytes}
-use Rattle.paged_blob.proofs.Bytes.{length-resized, with_bytes-long, with_bytes-resized}
+use Rattle.paged_blob_parts.specs.Calls.{resized, with_bytes}
+use Rattle.paged_blob_parts.proofs.Bytes.{length-resized, with_bytes-long, with_bytes-resized}
 use Rattle.auth_store_device.proofs.file.put_bytes.Goals as goal
 
 -- bytes that are written over a slice of the file

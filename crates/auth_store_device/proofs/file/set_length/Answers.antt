@@ -1,5 +1,5 @@
 use Rattle.std.proofs.Common.{rules}
-use Rattle.paged_blob.specs.Calls.{resized}
+use Rattle.paged_blob_parts.specs.Calls.{resized}
 use Rattle.auth_store_device.proofs.file.set_length.Goals as goal
 
 pub returns : goal.returns

@@ -1,5 +1,5 @@
 use Rattle.std.proofs.Common.{ap, sym, [], get_or}
-use Rattle.paged_blob.specs.Calls.{content}
+use Rattle.paged_blob_parts.specs.Calls.{content}
 use Rattle.auth_store_device.specs.RecordsCode.{call_in}
 use Rattle.auth_store_device.proofs.kept.entry_of.Goals as goal
 

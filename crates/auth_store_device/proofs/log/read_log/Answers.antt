@@ -1,5 +1,5 @@
 use Rattle.std.proofs.Common.{rules, subst, sym}
-use Rattle.paged_blob.specs.Answers.{IsReadCause}
+use Rattle.paged_blob_parts.specs.Answers.{IsReadCause}
 use Rattle.auth_store_device.proofs.Changes.{read_slice, read_cause}
 use Rattle.auth_store_device.proofs.log.read_log.Goals as goal
 

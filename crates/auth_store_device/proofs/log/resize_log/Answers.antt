@@ -1,5 +1,5 @@
 use Rattle.std.proofs.Common.{rules, ◌≡◌, ◌∷◌, true, false}
-use Rattle.paged_blob.specs.Calls.{resized_to}
+use Rattle.paged_blob_parts.specs.Calls.{resized_to}
 use Rattle.auth_store_device.specs.Records.{calls_of}
 use Rattle.auth_store_device.specs.Devices.{told_of}
 use Rattle.auth_store_device.proofs.Changes.{resize_made, resize_failed}

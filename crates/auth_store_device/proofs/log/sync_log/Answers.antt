@@ -1,6 +1,6 @@
 use Rattle.std.proofs.Common.{rules, ◌≡◌, ◌∷◌, ◌∙◌, true}
 use Rattle.fault_storage.specs.Stores.{has_number, is_there}
-use Rattle.paged_blob.specs.Calls.{synced}
+use Rattle.paged_blob_parts.specs.Calls.{synced}
 use Rattle.auth_store_device.specs.Records.{calls_of}
 use Rattle.auth_store_device.specs.declared.log.Told.TheVariants.{Made}
 use Rattle.auth_store_device.specs.Devices.{told_of}

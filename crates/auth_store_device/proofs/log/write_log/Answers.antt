@@ -1,7 +1,7 @@
 use Rattle.std.proofs.Common.{rules, ◌≡◌, ◌∷◌, true, false}
-use Rattle.paged_blob.specs.Calls.{wrote}
+use Rattle.paged_blob_parts.specs.Calls.{wrote}
 use Rattle.auth_store_device.specs.Records.{calls_of}
-use Rattle.paged_blob.specs.WriteModes.{is_sync, place_of}
+use Rattle.paged_blob_parts.specs.WriteModes.{is_sync, place_of}
 use Rattle.auth_store_device.specs.Devices.{told_of}
 use Rattle.auth_store_device.proofs.Changes.{write_made, write_failed}
 use Rattle.auth_store_device.specs.declared.log.Told.TheVariants.{Made, Failed}

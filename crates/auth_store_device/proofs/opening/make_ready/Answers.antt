@@ -1,6 +1,6 @@
 use Rattle.std.proofs.Common.{rules, ◌≡◌, sym, subst}
-use Rattle.paged_blob.specs.Calls.{file_of}
-use Rattle.paged_blob.specs.Images.{IsImage}
+use Rattle.paged_blob_parts.specs.Calls.{file_of}
+use Rattle.paged_blob_parts.specs.Images.{IsImage}
 use Rattle.auth_store_device.specs.Logs.{behind_header, durable_log}
 use Rattle.auth_store_device.specs.Records.{calls_of}
 use Rattle.auth_store_device.proofs.Steps.{shown_is}

@@ -1,6 +1,6 @@
 use Rattle.std.proofs.Common.{rules, arith, ◌≡◌, ◌+◌, ◌-◌, ◌<◌, false, length, drop, reverse, sym, ◌∙◌, ap}
 use Rattle.std.specs.List.{list_any}
-use Rattle.paged_blob.specs.Calls.{file_of}
+use Rattle.paged_blob_parts.specs.Calls.{file_of}
 use Rattle.auth_store_device.specs.Devices.{shown_file}
 use Rattle.auth_store_device.specs.OpeningsCode.{file_from, is_base}
 use Rattle.auth_store_device.specs.RecordsCode.{begins}

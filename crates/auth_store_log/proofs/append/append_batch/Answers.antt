@@ -2,15 +2,15 @@ use Rattle.std.proofs.Common.{◌≡◌, ℕ, ◌+◌, ◌++◌, ◌∙◌, List
 use Rattle.std.proofs.lemmas.List.{length-drop}
 use Rattle.std.proofs.lemmas.Result.{on_ok_weaker}
 use Rattle.paged_format.specs.Tips.{Tip}
-use Rattle.paged_blob.specs.Answers.{Failures}
-use Rattle.paged_blob.specs.CachedContent.{KeepsOthers}
-use Rattle.paged_blob.specs.declared.flush.DurableSlot.{DurableSlot}
-use Rattle.paged_blob.proofs.CachedLaws.{others_joined}
-use Rattle.paged_blob.specs.Calls.{Call}
-use Rattle.paged_blob.specs.Moments.{Through}
-use Rattle.paged_blob.specs.Writers.{written, Keeps, IsWriterOf}
-use Rattle.paged_blob.specs.Laws.Moments.{joined}
-use Rattle.paged_blob.specs.Caches.{Cache}
+use Rattle.paged_blob_parts.specs.Answers.{Failures}
+use Rattle.paged_blob_parts.specs.CachedContent.{KeepsOthers}
+use Rattle.paged_blob_parts.specs.declared.flush.DurableSlot.{DurableSlot}
+use Rattle.paged_blob_parts.proofs.CachedLaws.{others_joined}
+use Rattle.paged_blob_parts.specs.Calls.{Call}
+use Rattle.paged_blob_parts.specs.Moments.{Through}
+use Rattle.paged_blob_parts.specs.Writers.{written, Keeps, IsWriterOf}
+use Rattle.paged_blob_parts.specs.Laws.Moments.{joined}
+use Rattle.paged_blob_parts.specs.Caches.{Cache}
 use Rattle.auth_store_log.proofs.Causes.{names_kept}
 use Rattle.auth_store_log.proofs.append.append_batch.Goals as goal
 

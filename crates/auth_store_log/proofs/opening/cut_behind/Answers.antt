@@ -1,10 +1,10 @@
 use Rattle.std.proofs.Common.{rules, ◌≡◌, ℕ, ◌+◌, ◌<◌, ◌≤◌, List, length, subst, ap, ◌∙◌, min, arith}
 use Rattle.paged_format.specs.Pages.{recovered}
-use Rattle.paged_blob.specs.Calls.{Call, content, file_of, whole}
-use Rattle.paged_blob.specs.Moments.{Through}
-use Rattle.paged_blob.specs.Writers.{Keeps, written}
-use Rattle.paged_blob.specs.Answers.{Failures}
-use Rattle.paged_blob.specs.Flushes.{physical_size}
+use Rattle.paged_blob_parts.specs.Calls.{Call, content, file_of, whole}
+use Rattle.paged_blob_parts.specs.Moments.{Through}
+use Rattle.paged_blob_parts.specs.Writers.{Keeps, written}
+use Rattle.paged_blob_parts.specs.Answers.{Failures}
+use Rattle.paged_blob_parts.specs.Flushes.{physical_size}
 use Rattle.std.proofs.lemmas.Result.{IfErr-weaker}
 use Rattle.auth_store_log.specs.Causes.{IsLogCause}
 use Rattle.auth_store_log.proofs.Causes.{truncation_cause, reach_within}

@@ -1,9 +1,9 @@
 use Rattle.std.proofs.Common.{rules, ◌≡◌, ℕ, ◌<◌, List, take, subst, arith}
-use Rattle.paged_blob.specs.Calls.{Call}
-use Rattle.paged_blob.specs.Moments.{here}
-use Rattle.paged_blob.specs.Writers.{Keeps, written}
+use Rattle.paged_blob_parts.specs.Calls.{Call}
+use Rattle.paged_blob_parts.specs.Moments.{here}
+use Rattle.paged_blob_parts.specs.Writers.{Keeps, written}
 use Rattle.auth_store_log.proofs.Openings.{written_len}
-use Rattle.paged_blob.specs.CachedContent.{HoldsPagesOf}
+use Rattle.paged_blob_parts.specs.CachedContent.{HoldsPagesOf}
 use Rattle.std.proofs.lemmas.Result.{IfOk-weaker}
 use Rattle.auth_store_log.proofs.Causes.{names_stay, none_named}
 use Rattle.auth_store_log.proofs.opening.keep_front.Goals as goal

@@ -1,20 +1,20 @@
 use Rattle.std.proofs.Common.{rules, ◌≡◌, ℕ, ◌+◌, ◌*◌, List, [], ◌∷◌, ◌++◌, length, refl, sym, ap, subst, ⊎_elim, ◌∙◌, arith}
 use Rattle.std.specs.Vec.{vec_len}
 use Rattle.std.proofs.lemmas.Bool.{eqb-true}
-use Rattle.paged_blob.specs.Calls.{Call, content}
-use Rattle.paged_blob.specs.Laws.Moments.{joined}
-use Rattle.paged_blob.specs.Writers.{WriterState, written}
+use Rattle.paged_blob_parts.specs.Calls.{Call, content}
+use Rattle.paged_blob_parts.specs.Laws.Moments.{joined}
+use Rattle.paged_blob_parts.specs.Writers.{WriterState, written}
 use Rattle.auth_store_log.specs.Records.{Format, format_of, record_size, begun, recovered_log}
 use Rattle.auth_store_log.specs.Shown.{IsKeptThrough}
 use Rattle.auth_store_log.proofs.Openings.{begins}
 use Rattle.std.specs.Prelude.{IfErr}
 use Rattle.std.proofs.lemmas.Result.{err_from_is_err_and}
 use Rattle.auth_store_parts.specs.History.{log_of}
-use Rattle.paged_blob.specs.Answers.{Failures}
-use Rattle.paged_blob.specs.CachedContent.{HoldsPagesOf}
-use Rattle.paged_blob.specs.Flushes.{physical_size}
-use Rattle.paged_blob.specs.declared.error.CallKind.TheVariants.{Write, Sync}
-use Rattle.paged_blob.specs.declared.error.Error.{Error}
+use Rattle.paged_blob_parts.specs.Answers.{Failures}
+use Rattle.paged_blob_parts.specs.CachedContent.{HoldsPagesOf}
+use Rattle.paged_blob_parts.specs.Flushes.{physical_size}
+use Rattle.paged_blob_parts.specs.declared.error.CallKind.TheVariants.{Write, Sync}
+use Rattle.paged_blob_parts.specs.declared.error.Error.{Error}
 use Rattle.auth_store_log.specs.Causes.{IsLogCause, log_reach}
 use Rattle.auth_store_log.specs.Laws.Records.{log_sized}
 use Rattle.auth_store_log.specs.Laws.First.{empty_recorded}

@@ -1,11 +1,11 @@
 use Rattle.std.proofs.Common.{◌≡◌, ℕ, ◌+◌, List, length, take, sym, subst, ap, ◌∙◌, arith}
 use Rattle.std.specs.Prelude.{Contains}
 use Rattle.paged_format.specs.Pages.{recovered}
-use Rattle.paged_blob.specs.Calls.{Call, content}
-use Rattle.paged_blob.specs.Caches.{Cache}
-use Rattle.paged_blob.specs.Moments.{Through}
-use Rattle.paged_blob.specs.Laws.Moments.{joined}
-use Rattle.paged_blob.specs.Writers.{written}
+use Rattle.paged_blob_parts.specs.Calls.{Call, content}
+use Rattle.paged_blob_parts.specs.Caches.{Cache}
+use Rattle.paged_blob_parts.specs.Moments.{Through}
+use Rattle.paged_blob_parts.specs.Laws.Moments.{joined}
+use Rattle.paged_blob_parts.specs.Writers.{written}
 use Rattle.auth_store_log.specs.Records.{Format, format_of, committed}
 use Rattle.auth_store_log.specs.Shown.{IsKeptThrough}
 use Rattle.auth_store_log.specs.Laws.Records.{committed-le}

@@ -1,14 +1,14 @@
 use Rattle.std.proofs.Common.{rules, ◌≡◌, ℕ, ◌+◌, ◌<◌, ◌≤◌, List, length, ap, subst, sym, ◌∙◌, min, arith}
 use Rattle.paged_format.specs.Pages.{recovered}
-use Rattle.paged_blob.specs.Calls.{Call, content, file_of}
-use Rattle.paged_blob.specs.Moments.{Through, here}
-use Rattle.paged_blob.specs.Shrinks.{Withstands}
-use Rattle.paged_blob.specs.Writers.{Keeps}
-use Rattle.paged_blob.specs.Answers.{Failures}
-use Rattle.paged_blob.specs.Caches.{Cache}
-use Rattle.paged_blob.specs.Flushes.{physical_size}
+use Rattle.paged_blob_parts.specs.Calls.{Call, content, file_of}
+use Rattle.paged_blob_parts.specs.Moments.{Through, here}
+use Rattle.paged_blob_parts.specs.Shrinks.{Withstands}
+use Rattle.paged_blob_parts.specs.Writers.{Keeps}
+use Rattle.paged_blob_parts.specs.Answers.{Failures}
+use Rattle.paged_blob_parts.specs.Caches.{Cache}
+use Rattle.paged_blob_parts.specs.Flushes.{physical_size}
 use Rattle.std.proofs.lemmas.Result.{IfErr-weaker}
-use Rattle.paged_blob.specs.Laws.Durable.{withstands_keeps}
+use Rattle.paged_blob_parts.specs.Laws.Durable.{withstands_keeps}
 use Rattle.auth_store_log.specs.Causes.{IsLogCause}
 use Rattle.auth_store_log.proofs.Causes.{further, truncation_cause, reach_within}
 use Rattle.auth_store_log.proofs.opening.settle.Goals as goal

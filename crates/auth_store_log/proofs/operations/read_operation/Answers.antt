@@ -1,9 +1,9 @@
 use Rattle.std.proofs.Common.{rules, ◌≡◌, ℕ, ◌+◌, ◌*◌, ◌≤◌, List, length, take, drop, Some, sym, ap, subst, ⊎_elim, ◌∙◌, arith}
 use Rattle.std.specs.Prelude.{slice_get}
-use Rattle.paged_blob.specs.Answers.{Failures}
-use Rattle.paged_blob.specs.Caches.{Cache}
-use Rattle.paged_blob.specs.Calls.{Call}
-use Rattle.paged_blob.specs.Writers.{written}
+use Rattle.paged_blob_parts.specs.Answers.{Failures}
+use Rattle.paged_blob_parts.specs.Caches.{Cache}
+use Rattle.paged_blob_parts.specs.Calls.{Call}
+use Rattle.paged_blob_parts.specs.Writers.{written}
 use Rattle.state_ops.specs.Operation.{Operation, meaning_of}
 use Rattle.auth_store_log.specs.Causes.{IsRecordCause}
 use Rattle.auth_store_log.specs.Records.{Format, format_of, record_size, log_bytes, AreRecorded}

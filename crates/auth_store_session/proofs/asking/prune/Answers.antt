@@ -39,4 +39,4 @@ returns-in-Ok-clause-grows g c =
 
 pub returns-in-Err-clause-grows : goal.returns-in-Err-clause-grows
 returns-in-Err-clause-grows g c =
-    same_grows _ _ (ap (λ (s : StoreState g.row.R.Denot). s.device.calls) c.in-Err.ensures.rest)
+    same_grows _ _ (ap (λ (s : StoreState g.row.R.Denot). s.device.calls) c.in-Err.ensures.kept)

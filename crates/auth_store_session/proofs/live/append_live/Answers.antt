@@ -3,11 +3,11 @@ use Rattle.std.specs.Prelude.{IfErr}
 use Rattle.std.proofs.lemmas.Result.{err_from_is_err_and}
 use Rattle.fault_storage_parts.specs.Crc32.{crc32}
 use Rattle.paged_format.specs.Footers.{IsPageSize}
-use Rattle.paged_blob.specs.Answers.{Failures}
-use Rattle.paged_blob.specs.Caches.{Cache}
-use Rattle.paged_blob.specs.CachedContent.{HoldsPagesOf}
-use Rattle.paged_blob.specs.Flushes.{physical_size}
-use Rattle.paged_blob.specs.Writers.{written}
+use Rattle.paged_blob_parts.specs.Answers.{Failures}
+use Rattle.paged_blob_parts.specs.Caches.{Cache}
+use Rattle.paged_blob_parts.specs.CachedContent.{HoldsPagesOf}
+use Rattle.paged_blob_parts.specs.Flushes.{physical_size}
+use Rattle.paged_blob_parts.specs.Writers.{written}
 use Rattle.auth_store_log.specs.Records.{format_of, history_bytes}
 use Rattle.auth_store_session.specs.declared.error.StoreError.{StoreError}
 use Rattle.auth_store_session.specs.Machine.{refusal_of}
@@ -30,7 +30,7 @@ returns-in_err-appended-clause-refused g c =
     let size = c.args.cache.now.page_size + 12 in
     let list = written crc32 (g.B.Blob.calls c.args.blob.now) c.args.writer in
     let e = c.in_err-appended.field-0.0 in
-    let log = history_bytes (format_of (g.K.Read.after tt) (g.V.Read.after tt) g.K.FixedSize.SIZE g.V.FixedSize.SIZE) c.args.ledger in
+    let log = history_bytes (format_of (g.K.Read.after tt) (g.V.Read.after tt) g.K.FixedSize.SIZE g.V.FixedSize.SIZE) c.args.ledger.history in
     let long : length log ≡ length list + length c.args.bytes.now = ap length c.requires.grown ∙ length-append list c.args.bytes.now in
     let p = err_from_is_err_and c.from_residual.result c.from_residual.ensures.1 in
     let why = append_refused (Unit {0}) before (physical_size c.args.writer.page_size (length list + length c.args.bytes.now)) e c.requires.open
@@ -52,7 +52,7 @@ returns-clause-live g c =
       sized = omega (arith, same.0, c.requires.sized, cache);
       named = omega (arith, same.1, c.requires.named, next);
       cached = subst (λ id. HoldsPagesOf (history_bytes (format_of (g.K.Read.after tt) (g.V.Read.after tt) g.K.FixedSize.SIZE g.V.FixedSize.SIZE)
-          c.args.ledger) c.append_batch.new.cache id) (sym same.1)
+          c.args.ledger.history) c.append_batch.new.cache id) (sym same.1)
           (subst (λ l. HoldsPagesOf l c.append_batch.new.cache c.args.writer.blob_id) (sym c.requires.grown)
           (c.append_batch.ensures.cached c.requires.cached));
       log = c.requires.log;

@@ -1,5 +1,5 @@
 use Rattle.std.proofs.Common.{◌∙◌, Some, ap, refl, sym}
-use Rattle.paged_blob.specs.Moments.{here}
+use Rattle.paged_blob_parts.specs.Moments.{here}
 use Rattle.auth_store_session.proofs.Grown.{kept_or, kept_live}
 use Rattle.auth_store_ledger.specs.Store.{root_of_history, setting_of_width}
 use Rattle.auth_store_session.specs.Stores.{LiveState}
@@ -32,6 +32,18 @@ returns-in-Err-clause-commits g c =
     let view = rw c.in-Some.is at c.take-2.view_is in
     let is = sym c.take.ensures.value ∙ sym view in
     rw is (c.in-Err.ensures.refused, kept_or c.in-Err.kept _ _ _ _ c.in-Err.ensures.kept c.in-Err.ensures.failed)
+
+pub returns-in-Ok-clause-pruned : goal.returns-in-Ok-clause-pruned
+returns-in-Ok-clause-pruned g c =
+    let view = rw c.in-Some.is at c.take-2.view_is in
+    let is = sym c.take.ensures.value ∙ sym view in
+    rw is c.in-Ok.ensures.pruned
+
+pub returns-in-Err-clause-pruned : goal.returns-in-Err-clause-pruned
+returns-in-Err-clause-pruned g c =
+    let view = rw c.in-Some.is at c.take-2.view_is in
+    let is = sym c.take.ensures.value ∙ sym view in
+    rw is c.in-Err.ensures.pruned
 
 pub returns-in_default-clause-raised : goal.returns-in_default-clause-raised
 returns-in_default-clause-raised g c = raises_none (Some Failed) (g.B.Blob.failures c.args.blob.now) refl refl

@@ -1,7 +1,7 @@
 use Rattle.std.proofs.Common.{◌≡◌, ◌∙◌, ap, sym, refl, subst, None, Some, rules}
 use Rattle.std.specs.Prelude.{IfErr}
 use Rattle.std.proofs.lemmas.Result.{err_from_is_err_and}
-use Rattle.paged_blob.specs.Answers.{Failures}
+use Rattle.paged_blob_parts.specs.Answers.{Failures}
 use Rattle.auth_store_parts.specs.History.{latest_map, log_of}
 use Rattle.auth_store_parts.specs.Map.{value_at}
 use Rattle.auth_store_log.specs.Records.{Format, format_of}
@@ -16,7 +16,7 @@ pub returns-in_err-operation-clause-refused : goal.returns-in_err-operation-clau
 returns-in_err-operation-clause-refused g c =
     let format : Format = format_of (g.K.Read.after tt) (g.V.Read.after tt) g.K.FixedSize.SIZE g.V.FixedSize.SIZE in
     let failures : Failures = g.B.Blob.failures c.args.blob.now in
-    let now : LiveState = record { history = c.live.inside.ledger; writer = c.live.inside.writer } in
+    let now : LiveState = record { history = c.live.inside.ledger.history; writer = c.live.inside.writer; pruned = c.live.inside.ledger.pruned } in
     let is : IsLive format (g.B.Blob.calls c.args.blob.now) c.args.cache.now now =
     subst (IsLive format (g.B.Blob.calls c.args.blob.now) c.args.cache.now) (sym c.live.view_is) c.requires.live in
     let Why : StoreError → Type 0 = IsReadRefusal failures (g.B.Blob.failures c.read_operation.new.blob) in
@@ -30,7 +30,7 @@ returns-in_err-operation-clause-refused g c =
 pub returns-in-Update-clause-ok : goal.returns-in-Update-clause-ok
 returns-in-Update-clause-ok g c =
     let format : Format = format_of (g.K.Read.after tt) (g.V.Read.after tt) g.K.FixedSize.SIZE g.V.FixedSize.SIZE in
-    let now : LiveState = record { history = c.live.inside.ledger; writer = c.live.inside.writer } in
+    let now : LiveState = record { history = c.live.inside.ledger.history; writer = c.live.inside.writer; pruned = c.live.inside.ledger.pruned } in
     let is : IsLive format (g.B.Blob.calls c.args.blob.now) c.args.cache.now now =
     subst (IsLive format (g.B.Blob.calls c.args.blob.now) c.args.cache.now) (sym c.live.view_is) c.requires.live in
     let there = c.in-Some.ensures in
@@ -44,7 +44,7 @@ returns-in-Update-clause-ok g c =
 pub returns-in-Delete-clause-refused : goal.returns-in-Delete-clause-refused
 returns-in-Delete-clause-refused g c =
     let format : Format = format_of (g.K.Read.after tt) (g.V.Read.after tt) g.K.FixedSize.SIZE g.V.FixedSize.SIZE in
-    let now : LiveState = record { history = c.live.inside.ledger; writer = c.live.inside.writer } in
+    let now : LiveState = record { history = c.live.inside.ledger.history; writer = c.live.inside.writer; pruned = c.live.inside.ledger.pruned } in
     let is : IsLive format (g.B.Blob.calls c.args.blob.now) c.args.cache.now now =
     subst (IsLive format (g.B.Blob.calls c.args.blob.now) c.args.cache.now) (sym c.live.view_is) c.requires.live in
     let same = sym (c.in_ok-operation.ensures.operation (log_of now.history) is.log.recorded (sym is.content)) ∙ c.in-Some.ensures.stands in
@@ -54,7 +54,7 @@ returns-in-Delete-clause-refused g c =
 pub returns-clause-refused : goal.returns-clause-refused
 returns-clause-refused g c =
     let format : Format = format_of (g.K.Read.after tt) (g.V.Read.after tt) g.K.FixedSize.SIZE g.V.FixedSize.SIZE in
-    let now : LiveState = record { history = c.live.inside.ledger; writer = c.live.inside.writer } in
+    let now : LiveState = record { history = c.live.inside.ledger.history; writer = c.live.inside.writer; pruned = c.live.inside.ledger.pruned } in
     let is : IsLive format (g.B.Blob.calls c.args.blob.now) c.args.cache.now now =
     subst (IsLive format (g.B.Blob.calls c.args.blob.now) c.args.cache.now) (sym c.live.view_is) c.requires.live in
     let same = sym (c.in_ok-operation.ensures.operation (log_of now.history) is.log.recorded (sym is.content)) ∙ c.in-Some.ensures.stands in

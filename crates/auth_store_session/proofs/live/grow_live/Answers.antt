@@ -1,10 +1,10 @@
 use Rattle.std.proofs.Common.{◌⊎◌, ◌+◌, ◌≤◌, ◌^◌, Some, ap, sym, subst, inr, List, ℕ, length, length-append, option_map, arith}
 use Rattle.fault_storage_parts.specs.Crc32.{crc32}
-use Rattle.paged_blob.specs.Answers.{Failures}
-use Rattle.paged_blob.specs.Calls.{Call}
-use Rattle.paged_blob.specs.Moments.{here}
-use Rattle.paged_blob.specs.Laws.Moments.{at_end, weaker}
-use Rattle.paged_blob.specs.Writers.{Keeps, written}
+use Rattle.paged_blob_parts.specs.Answers.{Failures}
+use Rattle.paged_blob_parts.specs.Calls.{Call}
+use Rattle.paged_blob_parts.specs.Moments.{here}
+use Rattle.paged_blob_parts.specs.Laws.Moments.{at_end, weaker}
+use Rattle.paged_blob_parts.specs.Writers.{Keeps, written}
 use Rattle.auth_store_parts.specs.Batch as words
 use Rattle.auth_store_parts.specs.Batch.{Word}
 use Rattle.auth_store_parts.specs.History.{History, Commit, AreStates, log_of}
@@ -24,7 +24,7 @@ pub returns-in-Err-clause-refused : goal.returns-in-Err-clause-refused
 returns-in-Err-clause-refused g c =
     let format : Format = format_of (g.K.Read.after tt) (g.V.Read.after tt) g.K.FixedSize.SIZE g.V.FixedSize.SIZE in
     let said : List Word = words.meanings g.K.Write.encoding g.V.Write.encoding c.args.batch.words.items in
-    let next : History = commit_after said (option_map g.V.Write.encoding c.args.metadata) c.args.ledger in
+    let next : History = commit_after said (option_map g.V.Write.encoding c.args.metadata) c.args.ledger.history in
     let before : Failures = g.B.Blob.failures c.args.blob.now in
     let Ends : Type 0 = EndsDisk (c.args.cache.now.page_size + 12) (history_bytes format next) in
     subst (λ (e : StoreError). IsCommitRefusal before before (PassesLimit next ⊎ Ends) e) (sym c.from.ensures)
@@ -43,13 +43,13 @@ pub returns-clause-failed : goal.returns-clause-failed
 returns-clause-failed g c = λ none.
     let format : Format = format_of (g.K.Read.after tt) (g.V.Read.after tt) g.K.FixedSize.SIZE g.V.FixedSize.SIZE in
     let said : List Word = words.meanings g.K.Write.encoding g.V.Write.encoding c.args.batch.words.items in
-    let commit : Commit = commit_of said (option_map g.V.Write.encoding c.args.metadata) c.args.ledger in
+    let commit : Commit = commit_of said (option_map g.V.Write.encoding c.args.metadata) c.args.ledger.history in
     let calls : List Call = g.B.Blob.calls c.append_live.new.blob in
     let size : ℕ = c.args.cache.now.page_size + 12 in
     let is = c.in-Ok.ensures.ok in
     let few = subst (λ (h : History). length (log_of h) ≤ 2 ^ 62) is c.in-Ok.ensures.within in
     let recorded = subst (λ (h : History). AreRecorded format (log_of h)) is c.is_recorded.ensures in
-    let kept = subst (λ n. Keeps crc32 size (history_bytes format (commit_after said (option_map g.V.Write.encoding c.args.metadata) c.args.ledger)) n calls)
+    let kept = subst (λ n. Keeps crc32 size (history_bytes format (commit_after said (option_map g.V.Write.encoding c.args.metadata) c.args.ledger.history)) n calls)
     (ap length c.requires.live.content)
     (subst (λ (h : History). Keeps crc32 size (history_bytes format h)
     (length (written crc32 (g.B.Blob.calls c.args.blob.now) c.args.writer)) calls) is (at_end c.append_live.ensures.any_moment)) in (
@@ -57,8 +57,8 @@ returns-clause-failed g c = λ none.
       record {
         written = c.requires.live.log;
         next = record { states = subst AreStates is c.holds_a_history.ensures.states; recorded = recorded; few = few };
-        shown = c.a_kept_log_is_shown.ensures.pending format crc32 size calls c.args.ledger commit recorded kept;
-        kept = keeps_before format size c.args.ledger calls (keeps_log format crc32 size calls c.args.ledger commit kept);
+        shown = c.a_kept_log_is_shown.ensures.pending format crc32 size calls c.args.ledger.history commit recorded kept;
+        kept = keeps_before format size c.args.ledger.history calls (keeps_log format crc32 size calls c.args.ledger.history commit kept);
       },
     )
 
@@ -66,7 +66,7 @@ pub returns-clause-refused : goal.returns-clause-refused
 returns-clause-refused g c =
     let format : Format = format_of (g.K.Read.after tt) (g.V.Read.after tt) g.K.FixedSize.SIZE g.V.FixedSize.SIZE in
     let said : List Word = words.meanings g.K.Write.encoding g.V.Write.encoding c.args.batch.words.items in
-    let next : History = commit_after said (option_map g.V.Write.encoding c.args.metadata) c.args.ledger in
+    let next : History = commit_after said (option_map g.V.Write.encoding c.args.metadata) c.args.ledger.history in
     let size : ℕ = c.args.cache.now.page_size + 12 in
     let before : Failures = g.B.Blob.failures c.args.blob.now in
     let after : Failures = g.B.Blob.failures c.append_live.new.blob in
@@ -84,17 +84,17 @@ pub returns-in-Ok-append_live-clause-powered : goal.returns-in-Ok-append_live-cl
 returns-in-Ok-append_live-clause-powered g c =
     let format : Format = format_of (g.K.Read.after tt) (g.V.Read.after tt) g.K.FixedSize.SIZE g.V.FixedSize.SIZE in
     let said : List Word = words.meanings g.K.Write.encoding g.V.Write.encoding c.args.batch.words.items in
-    let commit : Commit = commit_of said (option_map g.V.Write.encoding c.args.metadata) c.args.ledger in
+    let commit : Commit = commit_of said (option_map g.V.Write.encoding c.args.metadata) c.args.ledger.history in
     let is = c.in-Ok.ensures.ok in
     let more = ap (λ (h : History). length (history_bytes format h)) is in
     let bytes = ap length c.in-Ok.ensures.bytes in
     let recorded = subst (λ (h : History). AreRecorded format (log_of h)) is c.is_recorded.ensures in
-    let long = commit_long format c.args.ledger commit c.requires.live.log.recorded recorded in
+    let long = commit_long format c.args.ledger.history commit c.requires.live.log.recorded recorded in
     c.in-Ok-append_live.ensures.powered (omega (
       arith,
       more,
       bytes,
       long,
-      length-append (history_bytes format c.args.ledger) c.in-Ok.bytes.items,
+      length-append (history_bytes format c.args.ledger.history) c.in-Ok.bytes.items,
       c.deref.ensures.len,
     ))

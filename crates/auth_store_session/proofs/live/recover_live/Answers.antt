@@ -4,10 +4,10 @@ use Rattle.std.proofs.lemmas.List.{length-map}
 use Rattle.std.proofs.lemmas.Result.{err_from_is_err_and}
 use Rattle.fault_storage_parts.specs.Crc32.{crc32}
 use Rattle.paged_format.specs.Footers.{IsPageSize}
-use Rattle.paged_blob.specs.Answers.{Failures}
-use Rattle.paged_blob.specs.Caches.{Cache}
-use Rattle.paged_blob.specs.CachedContent.{HoldsPagesOf}
-use Rattle.paged_blob.specs.Calls.{content}
+use Rattle.paged_blob_parts.specs.Answers.{Failures}
+use Rattle.paged_blob_parts.specs.Caches.{Cache}
+use Rattle.paged_blob_parts.specs.CachedContent.{HoldsPagesOf}
+use Rattle.paged_blob_parts.specs.Calls.{content}
 use Rattle.state_ops.specs.Operation.{Operation, meaning_of}
 use Rattle.auth_store_parts.specs.History.{meanings, log_of}
 use Rattle.auth_store_ledger.specs.declared.error.LedgerError.{LedgerError}
@@ -46,8 +46,8 @@ returns-clause-live g c =
     let format : Format = format_of (g.K.Read.after tt) (g.V.Read.after tt) g.K.FixedSize.SIZE g.V.FixedSize.SIZE in
     let list : List ℕ = c.in_ok-writer.bytes.items in
     let ops : List Operation = meanings g.K.Write.encoding g.V.Write.encoding c.in_ok-log.log.operations.items in
-    let log : ops ≡ log_of c.in_ok-ledger.ledger = c.in_ok-log.ensures.whole ∙ ap log_of (sym c.in_ok-ledger.ensures.ok) in
-    let bytes : list ≡ history_bytes format c.in_ok-ledger.ledger = sym c.deref.ensures.value
+    let log : ops ≡ log_of c.in_ok-ledger.ledger.history = c.in_ok-log.ensures.whole ∙ ap log_of (sym c.in_ok-ledger.ensures.ok) in
+    let bytes : list ≡ history_bytes format c.in_ok-ledger.ledger.history = sym c.deref.ensures.value
     ∙ (sym c.in_ok-log.ensures.bytes ∙ ap (log_bytes g.K.FixedSize.SIZE g.V.FixedSize.SIZE) log) in
     record {
       writer = c.in_ok-writer.ensures.writer;

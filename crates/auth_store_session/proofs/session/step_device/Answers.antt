@@ -1,7 +1,7 @@
 use Rattle.std.proofs.Common.{refl, ap}
 use Rattle.rand_core.specs.Stream.{Stream}
 use Rattle.fault_storage.specs.Stores.{Store}
-use Rattle.paged_blob.specs.Moments.{here}
+use Rattle.paged_blob_parts.specs.Moments.{here}
 use Rattle.auth_store_device.specs.Devices.{DeviceState}
 use Rattle.auth_store_session.specs.MachineCode.{request_of, meaning_of}
 use Rattle.auth_store_session.proofs.AtRest.{crash_rests, config_rests, cut_rests, refused_rests, rests_as}

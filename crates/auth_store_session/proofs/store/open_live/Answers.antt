@@ -1,7 +1,7 @@
 use Rattle.std.proofs.Common.{◌+◌, Ok, None, Some, ap, sym, subst, arith}
 use Rattle.std.specs.Prelude.{IfErr}
 use Rattle.std.proofs.lemmas.Result.{err_from_is_err_and}
-use Rattle.paged_blob.specs.Calls.{content}
+use Rattle.paged_blob_parts.specs.Calls.{content}
 use Rattle.auth_store_log.specs.Records.{Format, format_of}
 use Rattle.auth_store_session.specs.declared.error.StoreError.{StoreError}
 use Rattle.auth_store_session.specs.Machine.{Machine, machine, refusal_of, Leaves}

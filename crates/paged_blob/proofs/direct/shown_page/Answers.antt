@@ -1,12 +1,12 @@
 use Rattle.std.proofs.Common.{rules, ◌≡◌, ◌<◌, ◌*◌, ℕ, length, take, ap, subst, ◌∙◌}
 use Rattle.std.proofs.lemmas.Result.{err_from_is_err_and}
 use Rattle.paged_format.specs.Pages.{recovered}
-use Rattle.paged_blob.specs.Calls.{file_of, content}
-use Rattle.paged_blob.specs.Chance.{page_at}
-use Rattle.paged_blob.specs.Answers.{IsSlice, IsReadCause}
-use Rattle.paged_blob.proofs.DirectLaws.{direct_there, direct_shown}
-use Rattle.paged_blob.proofs.ReadPages.{page_cause}
-use Rattle.paged_blob.proofs.Scanned.{sliced}
+use Rattle.paged_blob_parts.specs.Calls.{file_of, content}
+use Rattle.paged_blob_parts.specs.Chance.{page_at}
+use Rattle.paged_blob_parts.specs.Answers.{IsSlice, IsReadCause}
+use Rattle.paged_blob_parts.proofs.DirectLaws.{direct_there, direct_shown}
+use Rattle.paged_blob_parts.proofs.ReadPages.{page_cause}
+use Rattle.paged_blob_parts.proofs.Scanned.{sliced}
 use Rattle.paged_blob.proofs.direct.shown_page.Goals as goal
 
 pub returns-in_err-bytes-clause-cause : goal.returns-in_err-bytes-clause-cause

@@ -1,4 +1,4 @@
-use Rattle.paged_blob.specs.Laws.Durable.{file_keeps}
+use Rattle.paged_blob_parts.specs.Laws.Durable.{file_keeps}
 use Rattle.paged_blob.proofs.laws.each_image_keeps_what_is_durable.Goals as goal
 
 pub returns : goal.returns

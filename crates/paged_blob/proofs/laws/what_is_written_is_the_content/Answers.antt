@@ -1,4 +1,4 @@
-use Rattle.paged_blob.proofs.WriterLaws.{written_is}
+use Rattle.paged_blob_parts.proofs.WriterLaws.{written_is}
 use Rattle.paged_blob.proofs.laws.what_is_written_is_the_content.Goals as goal
 
 pub returns : goal.returns

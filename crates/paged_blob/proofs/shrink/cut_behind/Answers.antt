@@ -2,13 +2,13 @@ use Rattle.std.proofs.Common.{rules, ◌≡◌, ◌≤◌, ◌<◌, ◌+◌, ◌
 use Rattle.std.proofs.lemmas.Result.{err_from_is_err_and}
 use Rattle.paged_format.specs.Footers.{content_size}
 use Rattle.paged_format.specs.Pages.{recovered}
-use Rattle.paged_blob.specs.Calls.{Call, resized_to, file_of, content}
-use Rattle.paged_blob.specs.Moments.{Through}
-use Rattle.paged_blob.specs.Writers.{Keeps}
-use Rattle.paged_blob.specs.Shrinks.{IsCut}
-use Rattle.paged_blob.specs.declared.error.CallKind.TheVariants.{Resize}
+use Rattle.paged_blob_parts.specs.Calls.{Call, resized_to, file_of, content}
+use Rattle.paged_blob_parts.specs.Moments.{Through}
+use Rattle.paged_blob_parts.specs.Writers.{Keeps}
+use Rattle.paged_blob_parts.specs.Shrinks.{IsCut}
+use Rattle.paged_blob_parts.specs.declared.error.CallKind.TheVariants.{Resize}
 use Rattle.paged_blob.proofs.Settled.{pages_there, resized_moments, sync_moments, resized_done, still_sound, call_cause, synced_cut_if, ends_by, behind_exact}
-use Rattle.paged_blob.proofs.Done.{Done, Exact}
+use Rattle.paged_blob_parts.proofs.Done.{Done, Exact}
 use Rattle.paged_blob.proofs.shrink.cut_behind.Goals as goal
 
 -- a cut behind the last page leaves no part of one

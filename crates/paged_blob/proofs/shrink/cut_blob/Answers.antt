@@ -1,11 +1,11 @@
 use Rattle.std.proofs.Common.{rules, ◌≡◌, ◌<◌, ◌+◌, ◌-◌, ◌*◌, ◌/◌, ◌%◌, min, ℕ, List, ap, sym, subst, arith}
 use Rattle.paged_format.specs.Footers.{content_size}
 use Rattle.paged_format.specs.Pages.{recovered}
-use Rattle.paged_blob.specs.Calls.{file_of, content}
-use Rattle.paged_blob.specs.Shrinks.{IsCut}
+use Rattle.paged_blob_parts.specs.Calls.{file_of, content}
+use Rattle.paged_blob_parts.specs.Shrinks.{IsCut}
 use Rattle.paged_blob.specs.ShrinksCode.{IsLast}
-use Rattle.paged_blob.specs.Laws.Moments.{weaker}
-use Rattle.paged_blob.proofs.CutBlob.{keeps_less, settle_moments, part_moments, cut_taken}
+use Rattle.paged_blob_parts.specs.Laws.Moments.{weaker}
+use Rattle.paged_blob_parts.proofs.CutBlob.{keeps_less, settle_moments, part_moments, cut_taken}
 use Rattle.paged_blob.proofs.shrink.cut_blob.Goals as goal
 
 -- so many whole pages, and a part of the next

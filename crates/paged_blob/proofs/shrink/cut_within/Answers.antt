@@ -1,9 +1,9 @@
 use Rattle.std.proofs.Common.{rules, ◌≡◌, ◌<◌, ◌+◌, ◌*◌, ◌^◌, ℕ, List, take, ap, sym, subst, refl, ◌∙◌, arith}
 use Rattle.std.proofs.lemmas.Result.{err_from_is_err_and}
 use Rattle.std.proofs.lemmas.Grind.{common_steps}
-use Rattle.paged_blob.specs.Calls.{file_of, content}
-use Rattle.paged_blob.specs.Chance.{page_at}
-use Rattle.paged_blob.specs.Answers.{IsReadCause}
+use Rattle.paged_blob_parts.specs.Calls.{file_of, content}
+use Rattle.paged_blob_parts.specs.Chance.{page_at}
+use Rattle.paged_blob_parts.specs.Answers.{IsReadCause}
 use Rattle.paged_blob.specs.ShrinksCode.{StandsAlone}
 use Rattle.paged_blob.proofs.Settled.{last_there, sync_moments, synced_cut, some_shown, found_none, alone_exact, is_last, read_cause}
 use Rattle.paged_blob.proofs.CutWithin.{unchanged, page_read, slot_found, cut_off, is_trimmed, told, left}

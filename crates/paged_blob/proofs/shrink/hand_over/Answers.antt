@@ -1,11 +1,11 @@
 use Rattle.std.proofs.Common.{rules, ◌≡◌, ◌+◌, ◌*◌, ◌<◌, ◌^◌, true, ◌∷◌, ◌∙◌, ap, refl}
 use Rattle.std.specs.Int.{w16, to_be_bytes}
-use Rattle.paged_blob.specs.Calls.{wrote}
-use Rattle.paged_blob.specs.WriteModes.{place_of}
-use Rattle.paged_blob.specs.declared.blob.WriteMode.TheVariants.{Sync}
+use Rattle.paged_blob_parts.specs.Calls.{wrote}
+use Rattle.paged_blob_parts.specs.WriteModes.{place_of}
+use Rattle.paged_blob_parts.specs.declared.blob.WriteMode.TheVariants.{Sync}
 use Rattle.paged_format.specs.Footers.{slot_bytes}
-use Rattle.paged_blob.specs.Shrinks.{other_slot, slot_at}
-use Rattle.paged_blob.proofs.Handed.{same_write, first_moments, second_moments, third_moments}
+use Rattle.paged_blob_parts.specs.Shrinks.{other_slot, slot_at}
+use Rattle.paged_blob_parts.proofs.Handed.{same_write, first_moments, second_moments, third_moments}
 use Rattle.paged_blob.proofs.shrink.hand_over.Goals as goal
 
 pub returns-in_err-write_at-clause-any_moment : goal.returns-in_err-write_at-clause-any_moment

@@ -1,5 +1,5 @@
 use Rattle.std.proofs.Common.{rules, ◌<◌, ◌^◌, length}
-use Rattle.paged_blob.proofs.Handed.{no_moments}
+use Rattle.paged_blob_parts.proofs.Handed.{no_moments}
 use Rattle.paged_blob.proofs.shrink.leave_one_slot.Goals as goal
 
 pub returns-then-stands_alone-clause-any_moment : goal.returns-then-stands_alone-clause-any_moment

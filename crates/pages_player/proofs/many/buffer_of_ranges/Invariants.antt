@@ -1,5 +1,5 @@
 use Rattle.std.proofs.Common.{◌≡◌, take}
-use Rattle.paged_blob.specs.Served.{total}
+use Rattle.paged_blob_parts.specs.Served.{total}
 use Rattle.pages_player.proofs.many.buffer_of_ranges.Given as goal
 
 abbrev pub invariant-loop-range : goal.invariant-loop-range

@@ -1,9 +1,9 @@
 use Rattle.std.proofs.Common.{◌≡◌, ◌≤◌, ℕ, List, ◌++◌, sym, ◌∙◌, ap, subst}
 use Rattle.std.proofs.lemmas.List.{append_assoc}
-use Rattle.paged_blob.specs.CachedContent.{HoldsPagesOf}
-use Rattle.paged_blob.specs.Moments.{Through}
-use Rattle.paged_blob.specs.Stands.{on_blob}
-use Rattle.paged_blob.specs.Writers.{Keeps, written}
+use Rattle.paged_blob_parts.specs.CachedContent.{HoldsPagesOf}
+use Rattle.paged_blob_parts.specs.Moments.{Through}
+use Rattle.paged_blob_parts.specs.Stands.{on_blob}
+use Rattle.paged_blob_parts.specs.Writers.{Keeps, written}
 use Rattle.pages_player.proofs.sealing.snapshot.Goals as goal
 
 pub returns-clause-stand : goal.returns-clause-stand

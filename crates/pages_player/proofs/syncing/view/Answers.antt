@@ -1,9 +1,9 @@
 use Rattle.std.proofs.Common.{List, ℕ, sym, subst}
-use Rattle.paged_blob.specs.CachedContent.{HoldsPagesOf}
-use Rattle.paged_blob.specs.Reads.{ServesPages, StaysKept}
-use Rattle.paged_blob.specs.Stands.{Stand, on_blob}
-use Rattle.paged_blob.specs.declared.read.FlushedPages.{FlushedPages}
-use Rattle.paged_blob.proofs.WriterViews.{listed_is}
+use Rattle.paged_blob_parts.specs.CachedContent.{HoldsPagesOf}
+use Rattle.paged_blob_parts.specs.Reads.{ServesPages, StaysKept}
+use Rattle.paged_blob_parts.specs.Stands.{Stand, on_blob}
+use Rattle.paged_blob_parts.specs.declared.read.FlushedPages.{FlushedPages}
+use Rattle.paged_blob_parts.proofs.WriterViews.{listed_is}
 use Rattle.pages_player.proofs.syncing.view.Goals as goal
 
 pub read_at-requires-clause-stand : goal.read_at-requires-clause-stand

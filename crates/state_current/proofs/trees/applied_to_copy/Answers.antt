@@ -5,7 +5,7 @@ use Rattle.merkle_core_parts.specs.declared.error.Error.TheVariants.{Memory}
 use Rattle.merkle_core_parts.specs.Laws.Batches.{led-nodes}
 use Rattle.merkle_core_parts.specs.Layers.{AreLed}
 use Rattle.merkle_core_parts.specs.Mem.{Base, Layer, Nodes, AreNodesOf, base_of, own_layer, with_batch, with_leaves}
-use Rattle.state_bitmap.specs.Laws.Refusals.{onto_memory}
+use Rattle.state_proofs_parts.specs.Laws.Refusals.{onto_memory}
 use Rattle.state_current.proofs.TreeLemmas.{applied_alone}
 use Rattle.state_current.proofs.trees.applied_to_copy.Goals as goal
 

@@ -1,9 +1,9 @@
 use Rattle.std.proofs.Common.{◌*◌, ◌≤◌, ◌<◌, ◌-◌, ℕ, false, length, get_or, take, refl, sym, ◌∙◌, ap, arith}
 use Rattle.std.specs.Prelude.{slice_set}
 use Rattle.std.proofs.lemmas.List.{take_all, take_more, length-set}
-use Rattle.state_bitmap.specs.Bits.{Bits, bit_count}
+use Rattle.state_proofs_parts.specs.Bits.{Bits, bit_count}
 use Rattle.state_current.specs.Growth.{cleared}
-use Rattle.state_bitmap.specs.Bits.{all_bits}
+use Rattle.state_proofs_parts.specs.Bits.{all_bits}
 use Rattle.state_current.proofs.GrownLemmas.{cleared_more, all_set}
 use Rattle.state_current.proofs.TreeLemmas.{all_at}
 use Rattle.state_current.proofs.trees.clear_bits.Goals as goal

@@ -1,6 +1,6 @@
 use Rattle.std.proofs.Common.{◌≡◌, length, take}
 use Rattle.state_current.specs.Growth.{cleared}
-use Rattle.state_bitmap.specs.Bits.{all_bits}
+use Rattle.state_proofs_parts.specs.Bits.{all_bits}
 use Rattle.state_current.proofs.trees.clear_bits.Given as goal
 
 abbrev pub invariant-loop-place : goal.invariant-loop-place

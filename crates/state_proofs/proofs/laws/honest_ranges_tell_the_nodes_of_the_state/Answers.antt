@@ -3,7 +3,7 @@ use Rattle.merkle_forest.specs.Hashing.{Hash}
 use Rattle.merkle_forest.specs.Forest.{Rule}
 use Rattle.merkle_core.specs.declared.extraction.ExtractionError.{ExtractionError}
 use Rattle.merkle_core.specs.declared.extraction.ExtractionError.TheVariants.{InvalidProof, RootMismatch, Memory}
-use Rattle.state_proofs.specs.Canonical.{Setting}
+use Rattle.state_proofs_parts.specs.Canonical.{Setting}
 use Rattle.state_proofs.specs.RangeExtracted.{IsRefusalToTell}
 use Rattle.state_proofs.specs.Verified.{Shown, VerifiesRange, RangeParts}
 use Rattle.state_proofs.proofs.RangeLed.{one_led, none_led}

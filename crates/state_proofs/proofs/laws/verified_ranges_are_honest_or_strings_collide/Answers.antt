@@ -1,4 +1,4 @@
-use Rattle.state_proofs.specs.Canonical.{Setting}
+use Rattle.state_proofs_parts.specs.Canonical.{Setting}
 use Rattle.state_proofs.proofs.RangeIsHonest.{range_is_honest}
 use Rattle.state_proofs.proofs.laws.verified_ranges_are_honest_or_strings_collide.Goals as goal
 

@@ -1,5 +1,5 @@
 use Rattle.std.proofs.Common.{rules, ◌≡◌, ◌<◌, [], ◌∷◌, List, length, get_or, sym, subst}
-use Rattle.paged_blob.specs.Calls.{Call, content}
+use Rattle.paged_blob_parts.specs.Calls.{Call, content}
 use Rattle.auth_store_device.specs.declared.kept.Kept.TheVariants.{SyncFailed}
 use Rattle.auth_store_device.specs.RecordsCode.{call_in, calls_in, IsBase}
 use Rattle.auth_store_device.proofs.KeptCalls.{within-at}

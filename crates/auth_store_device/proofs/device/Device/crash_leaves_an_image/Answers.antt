@@ -1,8 +1,8 @@
 use Rattle.std.proofs.Common.{List, ℕ, [], subst}
 use Rattle.fault_storage_parts.specs.Files.{IsLeftOf}
-use Rattle.paged_blob.specs.Calls.{file_of}
-use Rattle.paged_blob.specs.Images.{IsImage}
-use Rattle.paged_blob.proofs.Live.{reached_image}
+use Rattle.paged_blob_parts.specs.Calls.{file_of}
+use Rattle.paged_blob_parts.specs.Images.{IsImage}
+use Rattle.paged_blob_parts.proofs.Live.{reached_image}
 use Rattle.auth_store_device.specs.Devices.{DeviceState}
 use Rattle.auth_store_device.specs.Logs.{log_of, behind_header}
 use Rattle.auth_store_device.proofs.device.Device.crash_leaves_an_image.Goals as goal

@@ -1,6 +1,6 @@
 use Rattle.std.proofs.Common.{rules, ◌≡◌, ◌∷◌, ◌<◌, ◌∙◌, length, Some, Ok, Err, inl, ap, subst, sym}
-use Rattle.paged_blob.specs.Calls.{opened, file_of}
-use Rattle.paged_blob.specs.Images.{IsImage}
+use Rattle.paged_blob_parts.specs.Calls.{opened, file_of}
+use Rattle.paged_blob_parts.specs.Images.{IsImage}
 use Rattle.auth_store_device.specs.Records.{calls_of}
 use Rattle.auth_store_device.specs.Logs.{behind_header, durable_log, log_of, HasOwnHeader}
 use Rattle.auth_store_device.specs.Devices.{DeviceState, IsLetThrough, stopped_opening}

@@ -2,8 +2,8 @@ use Rattle.std.proofs.Common.{rules, ◌≡◌, Result, subst, sym}
 use Rattle.fault_storage_parts.specs.declared.error.Call.{Call}
 use Rattle.fault_storage.specs.Directory.{MemorySyncs}
 use Rattle.fault_storage.specs.Faults.{IsFaultyCall}
-use Rattle.paged_blob.specs.declared.error.CallKind.{CallKind}
-use Rattle.paged_blob.specs.declared.error.Error.{Error}
+use Rattle.paged_blob_parts.specs.declared.error.CallKind.{CallKind}
+use Rattle.paged_blob_parts.specs.declared.error.Error.{Error}
 use Rattle.auth_store_device.specs.Devices.{IsDeviceCall}
 use Rattle.auth_store_device.proofs.device.DeviceBlob.start_sync.Goals as goal
 

@@ -1,5 +1,5 @@
 use Rattle.std.proofs.Common.{ap, reverse, ◌∙◌}
-use Rattle.paged_blob.specs.Calls.{file_of}
+use Rattle.paged_blob_parts.specs.Calls.{file_of}
 use Rattle.auth_store_device.specs.Openings.{mutations_of}
 use Rattle.auth_store_device.proofs.Replays.{mutations-since}
 use Rattle.auth_store_device.proofs.openings.Opening.mutations.Goals as goal

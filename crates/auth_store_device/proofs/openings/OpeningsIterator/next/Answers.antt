@@ -1,5 +1,5 @@
 use Rattle.std.proofs.Common.{rules, arith, ◌≡◌, ◌+◌, ◌<◌, [], ◌++◌, length, take, drop, ap, sym, ◌∙◌}
-use Rattle.paged_blob.specs.Calls.{opened}
+use Rattle.paged_blob_parts.specs.Calls.{opened}
 use Rattle.auth_store_device.specs.OpeningsCode.{opening_in, openings_from}
 use Rattle.auth_store_device.specs.RecordsCode.{call_of}
 use Rattle.auth_store_device.proofs.Replays.{opening-next, openings-more}

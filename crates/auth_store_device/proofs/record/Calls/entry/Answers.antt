@@ -1,6 +1,6 @@
 use Rattle.std.proofs.Common.{rules, ◌-◌, ◌<◌, List, drop, get_or, ap, sym, ◌∙◌}
 use Rattle.std.proofs.lemmas.List.{get_or-drop, get_or-take}
-use Rattle.paged_blob.specs.Calls.{Call}
+use Rattle.paged_blob_parts.specs.Calls.{Call}
 use Rattle.auth_store_device.proofs.record.Calls.entry.Goals as goal
 
 pub returns : goal.returns

@@ -1,9 +1,9 @@
 use Rattle.std.proofs.Common.{rules, ◌≡◌, ◌==◌, ◌<◌, List, [], true, length, reverse, sym, subst, refl, ◌∙◌}
 use Rattle.std.proofs.lemmas.Bool.{eqb-true}
-use Rattle.paged_blob.specs.Calls.{Call, file_of}
+use Rattle.paged_blob_parts.specs.Calls.{Call, file_of}
 use Rattle.auth_store_device.specs.RecordsCode.{calls_in}
 use Rattle.auth_store_device.proofs.Bases.{base-in-image, nothing-since}
-use Rattle.paged_blob.specs.Images.{IsImage}
+use Rattle.paged_blob_parts.specs.Images.{IsImage}
 use Rattle.auth_store_device.proofs.Reached.{image_settled}
 use Rattle.auth_store_device.proofs.Untouched.{untouched-image}
 use Rattle.auth_store_device.proofs.KeptCalls.{length-in}

@@ -1,5 +1,5 @@
 use Rattle.std.proofs.Common.{◌∷◌, [], false, ap, refl, ◌∙◌}
-use Rattle.paged_blob.specs.Calls.{synced}
+use Rattle.paged_blob_parts.specs.Calls.{synced}
 use Rattle.auth_store_device.specs.declared.kept.Kept.TheVariants.{SyncFailed}
 use Rattle.auth_store_device.specs.Records.{Recording, calls_of}
 use Rattle.auth_store_device.proofs.Helds.{gains-none}

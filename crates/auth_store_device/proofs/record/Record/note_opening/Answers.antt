@@ -1,6 +1,6 @@
 use Rattle.std.proofs.Common.{◌≡◌, ◌==◌, ◌∷◌, true, [], get_or, reverse, subst, ap, refl, sym, ◌∙◌}
 use Rattle.std.proofs.lemmas.Bool.{eqb-true}
-use Rattle.paged_blob.specs.Calls.{opened, file_of}
+use Rattle.paged_blob_parts.specs.Calls.{opened, file_of}
 use Rattle.auth_store_device.specs.declared.kept.Kept.TheVariants.{Opened}
 use Rattle.auth_store_device.specs.Records.{Recording, calls_of}
 use Rattle.auth_store_device.specs.RecordsCode.{calls_in}

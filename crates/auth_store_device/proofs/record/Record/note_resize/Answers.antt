@@ -1,5 +1,5 @@
 use Rattle.std.proofs.Common.{◌∷◌, not, ◌||◌, [], reverse, ap, refl, sym, subst, ◌∙◌}
-use Rattle.paged_blob.specs.Calls.{file_of, resized_to}
+use Rattle.paged_blob_parts.specs.Calls.{file_of, resized_to}
 use Rattle.auth_store_device.specs.declared.kept.Kept.TheVariants.{ResizedTo}
 use Rattle.auth_store_device.specs.RecordsCode.{calls_in}
 use Rattle.auth_store_device.specs.Records.{Recording, calls_of}

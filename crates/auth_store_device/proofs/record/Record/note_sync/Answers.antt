@@ -1,5 +1,5 @@
 use Rattle.std.proofs.Common.{rules, ◌∷◌, true, [], get_or, subst, ap, refl, sym, ◌∙◌}
-use Rattle.paged_blob.specs.Calls.{synced, content}
+use Rattle.paged_blob_parts.specs.Calls.{synced, content}
 use Rattle.auth_store_device.specs.declared.kept.Kept.TheVariants.{SyncedAs}
 use Rattle.auth_store_device.specs.Records.{Recording, calls_of}
 use Rattle.auth_store_device.proofs.Helds.{gains-none}

@@ -2,15 +2,16 @@ use Rattle.std.proofs.Common.{◌≡◌, refl, flat_map, ℕ, ◌+◌, ◌∙◌
 use Rattle.std.proofs.lemmas.List.{length-map}
 use Rattle.std.specs.declared.alloc.Global.{Global}
 use Rattle.std.specs.declared.vec.Vec.{Vec}
-use Rattle.state_bitmap.specs.Bits.{all_bits}
+use Rattle.state_proofs_parts.specs.Bits.{all_bits}
 use Rattle.state_ops.specs.Operation.{Operation, meaning_of}
-use Rattle.state_proofs.specs.Canonical.{Setting}
+use Rattle.state_proofs_parts.specs.Canonical.{Setting}
 use Rattle.auth_store_ledger.specs.Batch as words
 use Rattle.auth_store_ledger.specs.History as spec
 use Rattle.auth_store_ledger.specs.History.{History, log_of}
-use Rattle.auth_store_ledger.specs.Store.{IsKept, commit_after, encodings, setting_of_width, state_of_log}
+use Rattle.auth_store_ledger.specs.Store.{IsKept, LedgerState, commit_after, encodings, setting_of_width, state_of_log}
 use Rattle.auth_store_ledger.proofs.Appends.{bytes_are, few, found_in, paired, said_with, stays, there}
 use Rattle.auth_store_ledger.proofs.Stores.{committed_length, is_batch, next_length, next_log}
+use Rattle.auth_store_ledger.proofs.Proofs.{history_in}
 use Rattle.auth_store_ledger.proofs.ledger.Ledger.next_commit.Goals as goal
 
 pub returns-then-len-clause-refused : goal.returns-then-len-clause-refused
@@ -21,7 +22,7 @@ returns-then-len-clause-refused g c =
     (spec.meanings g.K.Write.encoding g.V.Write.encoding c.in_ok-changes.changes.items) _ _ c.self.invariant.1
     c.in_ok-changes.ensures in
     let count = length-map c.in_ok-changes.changes.items (meaning_of g.K.Write.encoding g.V.Write.encoding) in
-    let seen = ap (λ (old : History). length (log_of (commit_after said noted old))) c.self.view_is in
+    let seen = ap (λ (old : History). length (log_of (commit_after said noted old))) (ap history_in c.self.view_is) in
     inr (refl, omega (arith, long, count, seen))
 
 pub grown_by-requires : goal.grown_by-requires
@@ -47,9 +48,12 @@ grown_by-requires g c =
       (
         few setting key value log changes said noted items _ _ _ _ c.self.inside.current of.states of.whole of.current batch found as_bytes
             (omega (arith, of.few, length-map c.in_ok-changes.changes.items meaning)),
-        (of.current.unpruned, (paired setting key value log changes said noted items _ _ _ _ c.self.inside.current of.states of.whole of.current batch found as_bytes, there setting key value log changes said noted items _ _ _ _ c.self.inside.current of.states of.whole of.current batch found as_bytes)),
+        (paired setting key value log changes said noted items _ _ _ _ c.self.inside.current of.states of.whole of.current batch found as_bytes, there setting key value log changes said noted items _ _ _ _ c.self.inside.current of.states of.whole of.current batch found as_bytes),
       ),
     )
+
+pub returns-clause-pruned : goal.returns-clause-pruned
+returns-clause-pruned g c = c.in_ok-current.ensures.pruned ∙ ap (λ (s : LedgerState). s.pruned) c.self.view_is
 
 pub returns-clause-operations : goal.returns-clause-operations
 returns-clause-operations g c =
@@ -70,13 +74,13 @@ returns-clause-operations g c =
     let found = found_in log changes noted (all_bits setting.width c.self.inside.current.bits) c.self.inside.current.floor
     said all.bits.items c.deref-3.result.now all.places.items c.deref-4.result.now all.floor c.in_ok-operations.ensures
     c.deref-3.ensures.value c.deref-4.ensures.value in
-    let seen = of.whole ∙ ap log_of c.self.view_is in
+    let seen = of.whole ∙ ap log_of (ap history_in c.self.view_is) in
     let said_words = words.meanings g.K.Write.encoding g.V.Write.encoding c.args.batch.now.words.items in
     ap (λ (l : List Operation). l ++ said) (sym seen)
     ∙ (ap (λ (l : List Operation). log ++ l) (said_with setting key value log changes said noted items _ _ _ _ c.self.inside.current of.states of.whole of.current batch found as_bytes)
     ∙ (ap (λ (l : List Operation). log ++ spec.with_commit log l noted) c.in_ok-changes.ensures
     ∙ (next_log setting key value said_words noted log _ _ of
-    ∙ ap (λ (h : History). log_of (commit_after said_words noted h)) c.self.view_is)))
+    ∙ ap (λ (h : History). log_of (commit_after said_words noted h)) (ap history_in c.self.view_is))))
 
 pub returns-clause-kept : goal.returns-clause-kept
 returns-clause-kept g c =
@@ -97,10 +101,10 @@ returns-clause-kept g c =
     let found = found_in log changes noted (all_bits setting.width c.self.inside.current.bits) c.self.inside.current.floor
     said all.bits.items c.deref-3.result.now all.places.items c.deref-4.result.now all.floor c.in_ok-operations.ensures
     c.deref-3.ensures.value c.deref-4.ensures.value in
-    let seen = of.whole ∙ ap log_of c.self.view_is in
+    let seen = of.whole ∙ ap log_of (ap history_in c.self.view_is) in
     subst (λ (l : List Operation). IsKept setting key value (l ++ said) c.in_ok-current.current) seen
     (stays setting key value log changes said noted items _ _ _ _ c.self.inside.current of.states of.whole of.current batch found as_bytes
-    c.in_ok-current.current c.in_ok-current.ensures.leaves c.in_ok-current.ensures.unpruned
+    c.in_ok-current.current c.in_ok-current.ensures.leaves c.in_ok-current.ensures.pruned
     (c.in_ok-current.ensures.stands (state_of_log key value log) of.current.stands))
 
 pub returns-clause-bytes : goal.returns-clause-bytes
@@ -144,7 +148,7 @@ returns-clause-few g c =
     let found = found_in log changes noted (all_bits setting.width c.self.inside.current.bits) c.self.inside.current.floor
     said all.bits.items c.deref-3.result.now all.places.items c.deref-4.result.now all.floor c.in_ok-operations.ensures
     c.deref-3.ensures.value c.deref-4.ensures.value in
-    let seen = of.whole ∙ ap log_of c.self.view_is in
+    let seen = of.whole ∙ ap log_of (ap history_in c.self.view_is) in
     let long = committed_length log changes (log ++ said) noted (ap (λ (l : List Operation). log ++ l)
     (said_with setting key value log changes said noted items _ _ _ _ c.self.inside.current of.states of.whole of.current batch found as_bytes)) in
     omega (

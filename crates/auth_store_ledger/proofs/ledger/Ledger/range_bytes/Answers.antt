@@ -1,5 +1,5 @@
 use Rattle.std.proofs.Common.{◌∙◌, ◌++◌, ℕ, List, flat_map, ap}
-use Rattle.state_proofs.specs.Canonical.{Setting, State}
+use Rattle.state_proofs_parts.specs.Canonical.{Setting, State}
 use Rattle.state_proofs.specs.Encoded.{range_proof_encoding}
 use Rattle.state_proofs.specs.ProofsCode.{range_parts_of}
 use Rattle.auth_store_client.specs.Proving.{chunks_over}
@@ -9,7 +9,7 @@ use Rattle.auth_store_ledger.proofs.ledger.Ledger.range_bytes.Goals as goal
 pub returns : goal.returns
 returns g c =
     let setting : Setting = setting_of_width g.F.Family.merge_rule g.H.HashFunction.hash_of g.row.N in
-    let state : State = state_of_history g.K.FixedSize.SIZE g.V.FixedSize.SIZE c.args.self.now in
+    let state : State = state_of_history g.K.FixedSize.SIZE g.V.FixedSize.SIZE c.args.self.now.history in
     let parts = range_parts_of g.H.Digest.Write.encoding g.F.PendingOf.held c.in_ok-proof.proof in
     let chunks : List ℕ = flat_map (λ chunk. chunk) (chunks_over setting state c.args.start c.args.stop) in
     c.in_ok-write_chunks.ensures ∙ ap (λ (l : List ℕ). l ++ chunks) (c.in_ok-write.ensures.ok

@@ -2,18 +2,19 @@ use Rattle.std.proofs.Common.{◌≡◌, ℕ, ◌+◌, ◌-◌, ◌*◌, ◌/◌
 use Rattle.std.proofs.lemmas.List.{length-map}
 use Rattle.std.proofs.lemmas.Nat.{pow_pos}
 use Rattle.state_ops.specs.Operation.{Operation, fixed_encoding}
-use Rattle.state_proofs.specs.Canonical.{Setting, State, chunk, chunks}
-use Rattle.state_proofs.specs.Laws.Chunks.{location_chunks}
+use Rattle.state_proofs_parts.specs.Canonical.{Setting, State, chunk, chunks}
+use Rattle.state_proofs_parts.specs.Laws.Chunks.{location_chunks}
 use Rattle.auth_store_client.specs.Laws.Widths.{width_is_whole}
 use Rattle.auth_store_ledger.specs.History.{log_of}
-use Rattle.auth_store_ledger.specs.Store.{grafting_height, setting_of_width, state_of_history, state_of_log}
-use Rattle.auth_store_ledger.proofs.Ranges.{chunk_below, chunk_more, chunk_order, chunk_within}
+use Rattle.auth_store_ledger.specs.Store.{LedgerState, grafting_height, setting_of_width, state_of_history, state_of_log}
+use Rattle.auth_store_ledger.proofs.Ranges.{chunk_below, chunk_more, chunk_order, chunk_within, chunks_before}
+use Rattle.auth_store_ledger.proofs.Proofs.{history_in}
 use Rattle.auth_store_ledger.proofs.ledger.Ledger.write_chunks.Goals as goal
 
 pub loop-chunk-init : goal.loop-chunk-init
 loop-chunk-init g c =
     let all : List (List ℕ) = chunks (setting_of_width g.F.Family.merge_rule g.H.HashFunction.hash_of g.row.N)
-    (state_of_history g.K.FixedSize.SIZE g.V.FixedSize.SIZE c.args.self.now) in
+    (state_of_history g.K.FixedSize.SIZE g.V.FixedSize.SIZE c.args.self.now.history) in
     let first : ℕ = c.index_of-first.result in
     let none : 0 ≡ first - first = omega arith in
     sym (append-nil c.args.out.now.items)
@@ -22,15 +23,22 @@ loop-chunk-init g c =
 pub chunk-requires : goal.chunk-requires
 chunk-requires g c =
     let keeps = c.self.invariant.1 in
-    let seen = keeps.whole ∙ ap log_of c.self.view_is in
+    let seen = keeps.whole ∙ ap log_of (ap history_in c.self.view_is) in
     let size : ℕ = 8 * g.row.N in
     let some : c.args.stop - 1 + 1 ≡ c.args.stop = omega (arith, c.requires.some) in
     let last : c.loop-chunk.chunk ≤ (c.args.stop - 1) / size =
     omega (arith, c.loop-chunk-test.true, c.index_of-end.ensures, ap (λ w. (c.args.stop - 1) / (8 * w)) c.chunk_size-size.ensures.width) in
-    let below = chunk_below size (c.args.stop - 1) c.loop-chunk.chunk last in (
+    let below = chunk_below size (c.args.stop - 1) c.loop-chunk.chunk last in
+    let whole = width_is_whole g.row.N c.self.invariant.0 in
+    let pruned = ap (λ (s : LedgerState). size * s.pruned) c.self.view_is in
+    let before : c.self.inside.current.bits.pruned ≤ c.args.start / size =
+    chunks_before size c.self.inside.current.bits.pruned c.args.start (omega (arith, whole.0, pow_pos (grafting_height g.row.N)))
+    (omega (arith, pruned, c.requires.kept)) in
+    let first : c.index_of-first.result ≡ c.args.start / size =
+    c.index_of-first.ensures ∙ ap (λ w. c.args.start / (8 * w)) c.chunk_size-size.ensures.width in (
       omega arith,
       (
-        omega (arith, keeps.current.unpruned),
+        omega (arith, before, first, c.loop-chunk-test.true),
         omega (arith, below, some, keeps.current.leaves, ap length seen, c.requires.within),
       ),
     )
@@ -40,15 +48,15 @@ loop-chunk-preserved g c =
     let key : ℕ = g.K.FixedSize.SIZE in
     let value : ℕ = g.V.FixedSize.SIZE in
     let setting : Setting = setting_of_width g.F.Family.merge_rule g.H.HashFunction.hash_of g.row.N in
-    let state : State = state_of_history key value c.args.self.now in
+    let state : State = state_of_history key value c.args.self.now.history in
     let all : List (List ℕ) = chunks setting state in
     let keeps = c.self.invariant.1 in
-    let seen = keeps.whole ∙ ap log_of c.self.view_is in
+    let seen = keeps.whole ∙ ap log_of (ap history_in c.self.view_is) in
     let first : ℕ = c.index_of-first.result in
     let index : ℕ = c.loop-chunk.chunk in
     let whole = width_is_whole g.row.N c.self.invariant.0 in
     let wide : 0 < g.row.N = omega (arith, whole.0, pow_pos (grafting_height g.row.N)) in
-    let count : length state.operations ≡ length (log_of c.args.self.now) = length-map (log_of c.args.self.now) (fixed_encoding key value) in
+    let count : length state.operations ≡ length (log_of c.args.self.now.history) = length-map (log_of c.args.self.now.history) (fixed_encoding key value) in
     let last : index ≤ (c.args.stop - 1) / (8 * g.row.N) =
     omega (arith, c.loop-chunk-test.true, c.index_of-end.ensures, ap (λ w. (c.args.stop - 1) / (8 * w)) c.chunk_size-size.ensures.width) in
     let there : index < length all =
@@ -65,7 +73,7 @@ loop-chunk-preserved g c =
 pub returns : goal.returns
 returns g c =
     let setting : Setting = setting_of_width g.F.Family.merge_rule g.H.HashFunction.hash_of g.row.N in
-    let state : State = state_of_history g.K.FixedSize.SIZE g.V.FixedSize.SIZE c.args.self.now in
+    let state : State = state_of_history g.K.FixedSize.SIZE g.V.FixedSize.SIZE c.args.self.now.history in
     let all : List (List ℕ) = chunks setting state in
     let size : ℕ = 8 * g.row.N in
     let first : c.index_of-first.result ≡ c.args.start / size =

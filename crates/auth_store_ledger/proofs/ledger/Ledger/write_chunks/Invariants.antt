@@ -1,5 +1,5 @@
 use Rattle.std.proofs.Common.{◌≡◌, ◌-◌, ◌++◌, flat_map, take, drop}
-use Rattle.state_proofs.specs.Canonical.{Setting, State, chunks}
+use Rattle.state_proofs_parts.specs.Canonical.{Setting, State, chunks}
 use Rattle.auth_store_ledger.specs.Store.{setting_of_width, state_of_history}
 use Rattle.auth_store_ledger.proofs.ledger.Ledger.write_chunks.Given as goal
 
@@ -7,4 +7,4 @@ abbrev pub invariant-loop-chunk : goal.invariant-loop-chunk
 invariant-loop-chunk g l =
     l.out.items ≡ l.fn.out.items ++ flat_map (λ chunk. chunk) (take (l.chunk - l.first)
     (drop l.first (chunks (setting_of_width g.F.Family.merge_rule g.H.HashFunction.hash_of g.row.N)
-    (state_of_history g.K.FixedSize.SIZE g.V.FixedSize.SIZE l.self))))
+    (state_of_history g.K.FixedSize.SIZE g.V.FixedSize.SIZE l.self.history))))

@@ -3,7 +3,7 @@ use Rattle.std.specs.declared.alloc.Global.{Global}
 use Rattle.std.specs.declared.vec.Vec.{Vec}
 use Rattle.std.specs.Prelude.{slice_get, unwrap_or}
 use Rattle.std.proofs.lemmas.Result.{IfOk-weaker}
-use Rattle.state_proofs.specs.Canonical.{Setting}
+use Rattle.state_proofs_parts.specs.Canonical.{Setting}
 use Rattle.state_proofs.specs.Exclusion.{ExclusionParts, by_commit, by_update}
 use Rattle.state_proofs.specs.ExclusionCode.{form_exclusion_of}
 use Rattle.state_proofs.specs.Honest.{honest_parts}
@@ -14,7 +14,8 @@ use Rattle.auth_store_client.specs.Laws.Absent.{has_some}
 use Rattle.auth_store_ledger.specs.History.{history_of}
 use Rattle.auth_store_ledger.specs.Map.{state_of}
 use Rattle.auth_store_ledger.specs.Store.{setting_of_width, state_of_log}
-use Rattle.auth_store_ledger.proofs.Absences.{is_named, last_named, update_within}
+use Rattle.auth_store_ledger.proofs.Absences.{is_named, last_named, update_behind, update_within}
+use Rattle.auth_store_ledger.proofs.Places.{end_behind}
 use Rattle.auth_store_ledger.proofs.ledger.absence.exclusion_proof.Goals as goal
 
 pub operation_proof-requires : goal.operation_proof-requires
@@ -24,7 +25,9 @@ operation_proof-requires g c =
     (g.K.Write.encoding c.args.key.now) (g.K.Write.encoding c.in-Some.before.now) c.in-Some.location.now
     (c.locations.ensures ∙ c.places.ensures) c.in-Some.ensures in
     let within = update_within c.args.log.now c.in-Some.location.now (it.value, it.next) it.stands in
-    (omega arith, (c.requires.kept.unpruned, omega (arith, c.requires.kept.leaves, within)))
+    let behind = update_behind c.args.log.now (g.K.Write.encoding c.in-Some.before.now) c.in-Some.location.now (it.value, it.next)
+    c.requires.states c.requires.whole it.at it.stands in
+    (omega arith, (omega (arith, c.requires.kept.behind, behind), omega (arith, c.requires.kept.leaves, within)))
 
 pub proof_by_update-requires : goal.proof_by_update-requires
 proof_by_update-requires g c none =
@@ -57,7 +60,10 @@ pub operation_proof-requires-in-None : goal.operation_proof-requires-in-None
 operation_proof-requires-in-None g c =
     let some = has_some (setting_of_width g.F.Family.merge_rule g.H.HashFunction.hash_of g.row.N) g.K.FixedSize.SIZE g.V.FixedSize.SIZE
     c.args.log.now c.requires.states c.requires.whole in
-    (omega arith, (c.requires.kept.unpruned, omega (arith, c.requires.kept.leaves, c.len.ensures, some)))
+    let behind = end_behind c.args.log.now c.requires.whole in (
+      omega arith,
+      (omega (arith, c.requires.kept.behind, behind, c.len.ensures), omega (arith, c.requires.kept.leaves, c.len.ensures, some)),
+    )
 
 pub returns-in_ok-proof-in-None : goal.returns-in_ok-proof-in-None
 returns-in_ok-proof-in-None g c =

@@ -1,10 +1,10 @@
 use Rattle.std.proofs.Common.{◌≡◌, ◌+◌, ◌*◌, ◌≤◌, ◌^◌, ◌<◌, length, ap, arith}
-use Rattle.state_bitmap.specs.Laws.Bits.{length-all}
+use Rattle.state_proofs_parts.specs.Laws.Bits.{length-all}
 use Rattle.auth_store_ledger.proofs.ledger.commit.next_floor.Goals as goal
 
 pub first_set_from-requires : goal.first_set_from-requires
 first_set_from-requires g c =
-    let none : 8 * g.row.N * c.args.current.now.bits.pruned ≡ 8 * g.row.N * 0 = ap (λ n. 8 * g.row.N * n) c.requires.unpruned in record {
+    record {
       few = omega (
         arith,
         length-all g.row.N c.args.current.now.bits,
@@ -12,7 +12,7 @@ first_set_from-requires g c =
         c.leaves-leaves.ensures.leaves,
         c.requires.few,
       );
-      kept = omega (arith, none);
+      kept = omega (arith, c.requires.behind, c.floor.ensures, c.as_u64-floor.ensures);
     }
 
 pub returns : goal.returns

@@ -1,11 +1,12 @@
 use Rattle.std.proofs.Common.{◌≡◌, ◌+◌, ◌*◌, ◌≤◌, ◌^◌, ◌∙◌, [], length, map, ap, arith}
-use Rattle.state_proofs.specs.Canonical.{Setting, State}
+use Rattle.std.proofs.lemmas.Result.{IfOk-weaker}
+use Rattle.state_proofs_parts.specs.Canonical.{Setting, State}
 use Rattle.state_current.specs.Growth.{grown}
 use Rattle.state_current.specs.Kept.{StandsFor}
 use Rattle.auth_store_client.specs.Laws.Widths.{width_is_whole}
 use Rattle.auth_store_parts.specs.Laws.Places.{length-activity_bits}
 use Rattle.auth_store_ledger.specs.Store.{IsKept, encodings, grafting_height, setting_of_width}
-use Rattle.auth_store_ledger.proofs.Kept.{all_ok, counted, kept_of_all, kept_of_nothing}
+use Rattle.auth_store_ledger.proofs.Kept.{all_ok, counted, kept_of_all, kept_of_nothing, nothing_pruned}
 use Rattle.auth_store_ledger.proofs.ledger.kept.kept_of_log.Goals as goal
 
 pub new-empty-requires : goal.new-empty-requires
@@ -26,14 +27,18 @@ grown_by-requires g c =
       (
         omega (arith, empty.leaves, count, ap length c.deref.ensures.value, c.requires.few),
         (
-          empty.unpruned,
-          (
-            omega (arith, bits, count, ap length c.deref.ensures.value, ap length c.deref-2.ensures.value, ap length c.in_ok-bits.ensures),
-            tt,
-          ),
+          omega (arith, bits, count, ap length c.deref.ensures.value, ap length c.deref-2.ensures.value, ap length c.in_ok-bits.ensures),
+          tt,
         ),
       ),
     )
+
+pub returns-clause-whole : goal.returns-clause-whole
+returns-clause-whole g c =
+    let setting : Setting = setting_of_width g.F.Family.merge_rule g.H.HashFunction.hash_of g.row.N in
+    let stands = c.new-empty.ensures (grafting_height g.row.N) (width_is_whole g.row.N c.requires.width).0 in
+    IfOk-weaker c.grown_by.result (λ after. after.bits.pruned ≡ c.new-empty.result.bits.pruned) (λ after. after.bits.pruned ≡ 0)
+    (λ after is. is ∙ nothing_pruned setting c.new-empty.result stands) c.grown_by.ensures.pruned
 
 pub returns-clause-kept : goal.returns-clause-kept
 returns-clause-kept g c =
@@ -47,7 +52,7 @@ returns-clause-kept g c =
     let are : map (λ e. e.items) encoded ≡ encodings key value c.args.log.now =
     ap (map (λ e. e.items)) c.deref.ensures.value ∙ c.in_ok-encodings.ensures.encoded in
     all_ok c.grown_by.result (λ after. after.operations.leaves ≡ c.new-empty.result.operations.leaves + length encoded)
-    (λ after. after.bits.pruned ≡ 0)
+    (λ after. after.bits.pruned ≡ c.new-empty.result.bits.pruned)
     (λ after. StandsFor setting (grown nothing (record {
       operations = map (λ e. e.items) encoded;
       bits = bits;
@@ -55,6 +60,6 @@ returns-clause-kept g c =
       floor = c.args.floor;
     })) after)
     (IsKept setting key value c.args.log.now)
-    (λ after leaves unpruned stands_after. kept_of_all setting key value c.args.log.now c.new-empty.result after (λ e. e.items) encoded bits
-    c.args.floor stands are (c.deref-2.ensures.value ∙ c.in_ok-bits.ensures) c.requires.last leaves unpruned stands_after)
-    c.grown_by.ensures.leaves c.grown_by.ensures.unpruned (c.grown_by.ensures.stands nothing stands)
+    (λ after leaves pruned stands_after. kept_of_all setting key value c.args.log.now c.new-empty.result after (λ e. e.items) encoded bits
+    c.args.floor stands are (c.deref-2.ensures.value ∙ c.in_ok-bits.ensures) c.requires.last leaves pruned stands_after)
+    c.grown_by.ensures.leaves c.grown_by.ensures.pruned (c.grown_by.ensures.stands nothing stands)

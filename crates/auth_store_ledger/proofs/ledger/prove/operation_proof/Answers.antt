@@ -1,5 +1,5 @@
-use Rattle.std.proofs.Common.{◌≡◌, ◌*◌, ◌≤◌, ◌∙◌, ap, arith}
-use Rattle.state_proofs.specs.Canonical.{Setting}
+use Rattle.std.proofs.Common.{◌∙◌, ap, arith}
+use Rattle.state_proofs_parts.specs.Canonical.{Setting}
 use Rattle.state_proofs.specs.Honest.{honest_parts}
 use Rattle.auth_store_ledger.specs.Store.{grafting_height, setting_of_width, state_of_log}
 use Rattle.auth_store_ledger.proofs.ledger.prove.operation_proof.Goals as goal
@@ -12,5 +12,4 @@ returns-in-Ok g c key value log kept =
 
 pub out_of_memory-requires : goal.out_of_memory-requires
 out_of_memory-requires g c =
-    let none : 8 * g.row.N * c.args.current.now.bits.pruned ≡ 8 * g.row.N * 0 = ap (λ n. 8 * g.row.N * n) c.requires.unpruned in
-    c.in-Err.ensures.there (omega (arith, none)) (omega (arith, c.new.ensures, c.requires.within))
+    c.in-Err.ensures.there (omega (arith, c.new.ensures, c.requires.behind)) (omega (arith, c.new.ensures, c.requires.within))

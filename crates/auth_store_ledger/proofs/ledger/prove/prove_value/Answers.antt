@@ -1,12 +1,24 @@
-use Rattle.std.proofs.Common.{◌≡◌, ◌∙◌, ℕ, List, Some, option_map, ap}
+use Rattle.std.proofs.Common.{◌≡◌, ◌∙◌, ℕ, List, Some, option_map, ap, sym, arith}
 use Rattle.std.specs.Prelude.{slice_get}
 use Rattle.state_ops.specs.Operation.{Operation}
-use Rattle.state_proofs.specs.Canonical.{Setting}
+use Rattle.state_proofs_parts.specs.Canonical.{Setting}
 use Rattle.state_proofs.specs.Honest.{key_value_proof}
 use Rattle.auth_store_ledger.specs.History.{active_location, active_update, update_fields}
 use Rattle.auth_store_ledger.specs.Store.{setting_of_width, state_of_log}
+use Rattle.auth_store_ledger.proofs.Places.{active_behind}
 use Rattle.auth_store_ledger.proofs.Proofs.{shown}
 use Rattle.auth_store_ledger.proofs.ledger.prove.prove_value.Goals as goal
+
+pub prove-unreachable-requires : goal.prove-unreachable-requires
+prove-unreachable-requires g c =
+    let key : List ℕ = g.K.Write.encoding c.args.key.now in
+    let log : List Operation = c.args.log.now in
+    let place : ℕ = c.active_location-location.result in
+    let location : place ≡ active_location key log = c.active_location-location.ensures.location in
+    let named = c.in-Some.ensures.update ∙ (ap (λ (l : List Operation). update_fields (slice_get l place)) c.operations.ensures
+    ∙ ap (λ (n : ℕ). update_fields (slice_get log n)) location) in
+    let behind = active_behind key log _ c.requires.states c.requires.whole (sym named) in
+    omega (arith, c.requires.kept.behind, behind, location, c.kept_from.ensures, c.as_u64-kept_from.ensures)
 
 pub returns-clause-found : goal.returns-clause-found
 returns-clause-found g c =

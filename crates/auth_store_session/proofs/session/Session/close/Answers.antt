@@ -1,6 +1,6 @@
 use Rattle.std.proofs.Common.{◌≡◌, ◌+◌, Some, sym, ap, ◌∙◌}
 use Rattle.auth_store_device.specs.Devices.{DeviceState}
-use Rattle.paged_blob.specs.Caches.{Cache}
+use Rattle.paged_blob_parts.specs.Caches.{Cache}
 use Rattle.auth_store_log.specs.Records.{format_of}
 use Rattle.auth_store_session.specs.Machine.{machine, ask_close, has_closed}
 use Rattle.auth_store_session.specs.Standing.{closed_at, page_size_in, power_of, SessionState, config_in, left_in}

@@ -1,5 +1,5 @@
 use Rattle.std.proofs.Common.{◌∙◌, ◌+◌, ap, sym, subst, option_map, List}
-use Rattle.paged_blob.specs.Caches.{Cache}
+use Rattle.paged_blob_parts.specs.Caches.{Cache}
 use Rattle.auth_store_parts.specs.Batch as words
 use Rattle.auth_store_parts.specs.Batch.{Word}
 use Rattle.auth_store_parts.specs.History.{History}
@@ -10,34 +10,21 @@ use Rattle.auth_store_session.specs.Stores.{StoreState, IsLiveAt}
 use Rattle.auth_store_session.proofs.OnDevice.{commits_on_device, same_store, store_of}
 use Rattle.auth_store_session.specs.Machine.{Leaves, refusal_of}
 use Rattle.auth_store_session.specs.Standing.{power_of}
-use Rattle.auth_store_ledger.specs.Store.{grafting_height}
 use Rattle.auth_store_session.proofs.Powers.{leaves_named}
 use Rattle.auth_store_session.proofs.Pruned.{grown_pruned}
 use Rattle.auth_store_session.proofs.store.Store.commit.Goals as goal
 
 pub invariant_of-self : goal.invariant_of-self
-invariant_of-self g c =
-    let format : Format = format_of (g.K.Read.after tt) (g.V.Read.after tt) g.K.FixedSize.SIZE g.V.FixedSize.SIZE in
-    let said : List Word = words.meanings g.K.Write.encoding g.V.Write.encoding c.args.batch.words.items in
-    let noted = option_map g.V.Write.encoding c.args.metadata in
-    let m : Machine = machine g.F.Family.merge_rule g.H.HashFunction.hash_of g.F.PendingOf.pending_encoding g.row.N
-    g.K.FixedSize.SIZE g.V.FixedSize.SIZE (c.self.inside.cache.page_size + 12) in
-    let pruned = c.self.inside.pruned in
-    let new : StoreState g.row.R.Denot =
-    store_of c.commit_live-answer.new.blob c.commit_live-answer.new.cache c.commit_live-answer.new.store pruned in
-    let old : StoreState g.row.R.Denot = store_of c.self.inside.device c.self.inside.cache c.self.inside.live pruned in (
-      c.self.invariant.0,
-      record {
-        opened = c.commit_live-answer.ensures.open;
-        cache = c.commit_live-answer.ensures.cache;
-        live = c.commit_live-answer.ensures.live;
-      },
-      grown_pruned g.F.Family.merge_rule g.row.N pruned
-          (λ operations more fewer settled. c.settled_chunks_stay_settled.ensures.stay (grafting_height g.row.N) operations more
-          pruned fewer settled)
-          m format said noted old new g.H.Digest.Write.encoding c.commit_live-answer.result c.commit_live-answer.ensures.commits
-          (λ none. (c.commit_live-answer.ensures.failed none).1) c.self.invariant.2,
-    )
+invariant_of-self g c = (
+  c.self.invariant.0,
+  record {
+    opened = c.commit_live-answer.ensures.open;
+    cache = c.commit_live-answer.ensures.cache;
+    live = c.commit_live-answer.ensures.live;
+  },
+  grown_pruned c.self.inside.live c.commit_live-answer.new.store c.self.inside.pruned c.commit_live-answer.ensures.pruned
+      (λ none. (c.commit_live-answer.ensures.failed none).1) c.self.invariant.2,
+)
 
 pub returns-clause-commits : goal.returns-clause-commits
 returns-clause-commits g c =

@@ -1,7 +1,7 @@
 use Rattle.std.proofs.Common.{◌∙◌, ◌+◌, None, ap, sym, subst, List}
 use Rattle.std.specs.Prelude.{IfSome}
-use Rattle.paged_blob.specs.Caches.{Cache}
-use Rattle.paged_blob.specs.Calls.{Call}
+use Rattle.paged_blob_parts.specs.Caches.{Cache}
+use Rattle.paged_blob_parts.specs.Calls.{Call}
 use Rattle.auth_store_device.specs.Devices.{DeviceState}
 use Rattle.auth_store_device.specs.Logs.{HasOwnHeader}
 use Rattle.auth_store_log.specs.Records.{Format, format_of}

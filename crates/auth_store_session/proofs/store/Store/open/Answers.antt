@@ -13,7 +13,7 @@ pub invariant_of-result : goal.invariant_of-result
 invariant_of-result g c = (
   c.requires.width,
   record { opened = c.in-Ok.ensures.is_open; cache = c.open_live.ensures.cache; live = c.in-Ok.ensures.live },
-  record { settled = c.settled_chunks_stay_settled.ensures.none _ _ },
+  c.in-Ok.ensures.whole,
 )
 
 pub returns-in-Ok-clause-recovers : goal.returns-in-Ok-clause-recovers

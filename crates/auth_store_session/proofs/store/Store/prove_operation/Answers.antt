@@ -1,4 +1,4 @@
-use Rattle.std.proofs.Common.{◌≡◌, ◌∙◌, ℕ, Some, Ok, ap, sym, subst}
+use Rattle.std.proofs.Common.{◌≡◌, ◌∙◌, ℕ, Some, Ok, ap, sym, subst, Option}
 use Rattle.std.proofs.lemmas.Result.{err_from_is_err_and}
 use Rattle.std.specs.Option.{option_copied}
 use Rattle.auth_store_parts.specs.History.{History}
@@ -7,7 +7,7 @@ use Rattle.auth_store_ledger.specs.Proving.{IsAcceptedOperation, IsUnproved, ans
 use Rattle.auth_store_ledger.specs.ProvingCode.{operation_answer_of}
 use Rattle.auth_store_ledger.specs.Store.{root_of_history, setting_of_width}
 use Rattle.auth_store_session.specs.Machine.{as_proved, operation_is}
-use Rattle.auth_store_session.specs.Stores.{LiveState, StoreState}
+use Rattle.auth_store_session.specs.Stores.{LiveState, StoreState, IsPruned}
 use Rattle.auth_store_session.proofs.OnDevice.{one_history}
 use Rattle.auth_store_session.proofs.Proving.{refused_proof, refuses_proof}
 use Rattle.auth_store_session.proofs.store.Store.prove_operation.Goals as goal
@@ -19,12 +19,14 @@ returns-in_err-prove_operation-clause-proof g c = λ history live.
     let has : c.self.inside.live ≡ Some c.in_ok-live.live.now = sym c.as_ref.ensures.value ∙ ap option_copied c.in_ok-live.ensures.ok_part in
     let same = one_history c.self.inside.device c.self.inside.cache c.self.inside.live c.self.inside.pruned c.args.self.now c.in_ok-live.live.now
     history c.self.view_is has live in
+    let number : c.live.inside.ledger.pruned ≡ c.args.self.now.pruned = ap (λ (now : LiveState). now.pruned) c.live.view_is
+    ∙ (subst (λ (l : Option LiveState). IsPruned l c.self.inside.pruned) has c.self.invariant.2 ∙ ap (λ (s : StoreState _). s.pruned) c.self.view_is) in
     let error = c.in_err-prove_operation.field-0.0 in
     let p = err_from_is_err_and c.from_residual-in_err-prove_operation.result c.from_residual-in_err-prove_operation.ensures.1 in
     let why = subst
     (λ (n : ℕ). IsUnproved (answer_of_operation pending setting g.K.FixedSize.SIZE g.V.FixedSize.SIZE history n c.args.location) error)
-    (ap (λ (s : StoreState _). s.pruned) c.self.view_is)
-    (subst (λ (h : History). IsUnproved (answer_of_operation pending setting g.K.FixedSize.SIZE g.V.FixedSize.SIZE h c.self.inside.pruned
+    number
+    (subst (λ (h : History). IsUnproved (answer_of_operation pending setting g.K.FixedSize.SIZE g.V.FixedSize.SIZE h c.live.inside.ledger.pruned
     c.args.location) error) (ap (λ (now : LiveState). now.history) c.live.view_is ∙ same) c.in_err-prove_operation.ensures.err) in
     refused_proof operation_is (operation_answer_of g.K.Write.encoding g.V.Write.encoding)
     (answer_of_operation pending setting g.K.FixedSize.SIZE g.V.FixedSize.SIZE history c.args.self.now.pruned c.args.location) error p.0
@@ -42,11 +44,13 @@ returns-clause-proof g c = λ history live.
     let has : c.self.inside.live ≡ Some c.in_ok-live.live.now = sym c.as_ref.ensures.value ∙ ap option_copied c.in_ok-live.ensures.ok_part in
     let same = one_history c.self.inside.device c.self.inside.cache c.self.inside.live c.self.inside.pruned c.args.self.now c.in_ok-live.live.now
     history c.self.view_is has live in
+    let number : c.live.inside.ledger.pruned ≡ c.args.self.now.pruned = ap (λ (now : LiveState). now.pruned) c.live.view_is
+    ∙ (subst (λ (l : Option LiveState). IsPruned l c.self.inside.pruned) has c.self.invariant.2 ∙ ap (λ (s : StoreState _). s.pruned) c.self.view_is) in
     let found = operation_answer_of g.K.Write.encoding g.V.Write.encoding c.in_ok-prove_operation.field-0 in
     let is = subst
     (λ (n : ℕ). Ok found ≡ answer_of_operation pending setting g.K.FixedSize.SIZE g.V.FixedSize.SIZE history n c.args.location)
-    (ap (λ (s : StoreState _). s.pruned) c.self.view_is)
-    (subst (λ (h : History). Ok found ≡ answer_of_operation pending setting g.K.FixedSize.SIZE g.V.FixedSize.SIZE h c.self.inside.pruned c.args.location)
+    number
+    (subst (λ (h : History). Ok found ≡ answer_of_operation pending setting g.K.FixedSize.SIZE g.V.FixedSize.SIZE h c.live.inside.ledger.pruned c.args.location)
     (ap (λ (now : LiveState). now.history) c.live.view_is ∙ same) c.in_ok-prove_operation.ensures.ok) in
     sym (ap (as_proved operation_is) is)
 

@@ -1,7 +1,7 @@
 use Rattle.std.proofs.Common.{◌≡◌}
 use Rattle.paged_format.specs.Footers.{content_size}
-use Rattle.paged_blob.specs.Reads.{ServesPages}
-use Rattle.paged_blob.specs.Stands.{on_blob}
+use Rattle.paged_blob_parts.specs.Reads.{ServesPages}
+use Rattle.paged_blob_parts.specs.Stands.{on_blob}
 use Rattle.disk_bench.proofs.pages.lists.view_often.Given as goal
 
 abbrev pub invariant-loop : goal.invariant-loop

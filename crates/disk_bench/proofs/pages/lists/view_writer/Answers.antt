@@ -1,8 +1,8 @@
 use Rattle.std.proofs.Common.{rules, ◌≡◌, ◌<◌, sym, subst}
-use Rattle.paged_blob.specs.Reads.{ServesPages}
-use Rattle.paged_blob.specs.Stands.{Stand, on_blob}
-use Rattle.paged_blob.specs.declared.read.FlushedPages.{FlushedPages}
-use Rattle.paged_blob.proofs.WriterViews.{writer_stands, writer_serves}
+use Rattle.paged_blob_parts.specs.Reads.{ServesPages}
+use Rattle.paged_blob_parts.specs.Stands.{Stand, on_blob}
+use Rattle.paged_blob_parts.specs.declared.read.FlushedPages.{FlushedPages}
+use Rattle.paged_blob_parts.proofs.WriterViews.{writer_stands, writer_serves}
 use Rattle.disk_bench.proofs.pages.lists.view_writer.Goals as goal
 
 pub view_often-requires-clause-stand : goal.view_often-requires-clause-stand

@@ -1,7 +1,7 @@
 use Rattle.std.proofs.Common.{◌≡◌}
 use Rattle.paged_format.specs.Footers.{content_size}
-use Rattle.paged_blob.specs.CachedContent.{HoldsPagesOf}
-use Rattle.paged_blob.specs.Writers.{IsWriter, written}
+use Rattle.paged_blob_parts.specs.CachedContent.{HoldsPagesOf}
+use Rattle.paged_blob_parts.specs.Writers.{IsWriter, written}
 use Rattle.disk_bench.proofs.pages.work.append_pieces.Given as goal
 
 abbrev pub invariant-loop-k : goal.invariant-loop-k

@@ -1,7 +1,7 @@
 use Rattle.std.proofs.Common.{◌≡◌}
 use Rattle.paged_format.specs.Footers.{content_size}
-use Rattle.paged_blob.specs.CachedContent.{HoldsPagesOf}
-use Rattle.paged_blob.specs.Writers.{written}
+use Rattle.paged_blob_parts.specs.CachedContent.{HoldsPagesOf}
+use Rattle.paged_blob_parts.specs.Writers.{written}
 use Rattle.disk_bench.proofs.pages.work.read_often.Given as goal
 
 abbrev pub invariant-loop : goal.invariant-loop

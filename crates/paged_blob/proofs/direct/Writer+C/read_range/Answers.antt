@@ -3,10 +3,10 @@ use Rattle.std.proofs.lemmas.List.{length-drop, drop-drop}
 use Rattle.std.proofs.lemmas.Nat.{div-add-mod', mod_below}
 use Rattle.paged_format.specs.Footers.{content_size}
 use Rattle.paged_format.specs.Pages.{recovered}
-use Rattle.paged_blob.specs.Calls.{Call, file_of, content}
-use Rattle.paged_blob.specs.Chance.{page_at}
-use Rattle.paged_blob.specs.Laws.Durable.{further}
-use Rattle.paged_blob.proofs.ReadPages.{piece_of}
+use Rattle.paged_blob_parts.specs.Calls.{Call, file_of, content}
+use Rattle.paged_blob_parts.specs.Chance.{page_at}
+use Rattle.paged_blob_parts.specs.Laws.Durable.{further}
+use Rattle.paged_blob_parts.proofs.ReadPages.{piece_of}
 use Rattle.paged_blob.proofs.direct.Writer+C.read_range.Goals as goal
 
 pub shown_page-requires-clause-sound : goal.shown_page-requires-clause-sound

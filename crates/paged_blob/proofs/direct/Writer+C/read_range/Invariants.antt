@@ -1,6 +1,6 @@
 use Rattle.std.proofs.Common.{◌≡◌, ◌-◌, ◌≤◌, take, drop}
 use Rattle.paged_format.specs.Pages.{recovered}
-use Rattle.paged_blob.specs.Calls.{content}
+use Rattle.paged_blob_parts.specs.Calls.{content}
 use Rattle.paged_blob.proofs.direct.Writer+C.read_range.Given as goal
 
 abbrev pub invariant-loop-at : goal.invariant-loop-at

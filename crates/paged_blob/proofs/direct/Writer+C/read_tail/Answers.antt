@@ -4,12 +4,12 @@ use Rattle.std.proofs.lemmas.Nat.{div-add-mod'}
 use Rattle.std.proofs.lemmas.Result.{err_from_is_err_and}
 use Rattle.paged_format.specs.Footers.{content_size}
 use Rattle.paged_format.specs.Pages.{recovered}
-use Rattle.paged_blob.specs.Calls.{Call, content}
-use Rattle.paged_blob.specs.Flushes.{physical_size}
-use Rattle.paged_blob.specs.Answers.{Failures, IsCause}
-use Rattle.paged_blob.specs.declared.error.CallKind.TheVariants.{Read}
-use Rattle.paged_blob.proofs.DirectLaws.{recovered_within, physical_within}
-use Rattle.paged_blob.proofs.ReadPages.{further_cause}
+use Rattle.paged_blob_parts.specs.Calls.{Call, content}
+use Rattle.paged_blob_parts.specs.Flushes.{physical_size}
+use Rattle.paged_blob_parts.specs.Answers.{Failures, IsCause}
+use Rattle.paged_blob_parts.specs.declared.error.CallKind.TheVariants.{Read}
+use Rattle.paged_blob_parts.proofs.DirectLaws.{recovered_within, physical_within}
+use Rattle.paged_blob_parts.proofs.ReadPages.{further_cause}
 use Rattle.paged_blob.proofs.direct.Writer+C.read_tail.Goals as goal
 
 pub returns-in_default-clause-size : goal.returns-in_default-clause-size

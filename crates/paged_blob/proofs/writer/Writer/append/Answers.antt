@@ -1,5 +1,5 @@
 use Rattle.std.proofs.Common.{rules, ◌<◌}
-use Rattle.paged_blob.proofs.WriterLaws.{moments_before}
+use Rattle.paged_blob_parts.proofs.WriterLaws.{moments_before}
 use Rattle.paged_blob.proofs.writer.Writer.append.Goals as goal
 
 pub returns-then-not-is_within_numbers-clause-any_moment : goal.returns-then-not-is_within_numbers-clause-any_moment

@@ -2,15 +2,15 @@ use Rattle.std.proofs.Common.{rules, arith, ◌≡◌, ◌≤◌, ◌+◌, ◌<�
 use Rattle.std.proofs.lemmas.List.{append-nil, append_assoc, length-append, length-take-le, length-drop, take_all, drop-drop, take-append-drop}
 use Rattle.std.proofs.Math.Seq.{take-add}
 use Rattle.paged_format.specs.Tips.{Tip}
-use Rattle.paged_blob.specs.Moments.{Through}
-use Rattle.paged_blob.specs.Laws.Moments.{joined}
-use Rattle.paged_blob.specs.Flushes.{physical_size}
-use Rattle.paged_blob.specs.Calls.{Call}
-use Rattle.paged_blob.specs.Caches.{Cache}
-use Rattle.paged_blob.specs.CachedContent.{HoldsPagesOf, KeepsOthers}
-use Rattle.paged_blob.proofs.CachedLaws.{holds_pages_more, others_same, others_joined}
-use Rattle.paged_blob.specs.Writers.{WriterState, IsWriter, Keeps, written}
-use Rattle.paged_blob.proofs.WriterLaws.{physical_above, size_is, more_written, more_writer, moments_before}
+use Rattle.paged_blob_parts.specs.Moments.{Through}
+use Rattle.paged_blob_parts.specs.Laws.Moments.{joined}
+use Rattle.paged_blob_parts.specs.Flushes.{physical_size}
+use Rattle.paged_blob_parts.specs.Calls.{Call}
+use Rattle.paged_blob_parts.specs.Caches.{Cache}
+use Rattle.paged_blob_parts.specs.CachedContent.{HoldsPagesOf, KeepsOthers}
+use Rattle.paged_blob_parts.proofs.CachedLaws.{holds_pages_more, others_same, others_joined}
+use Rattle.paged_blob_parts.specs.Writers.{WriterState, IsWriter, Keeps, written}
+use Rattle.paged_blob_parts.proofs.WriterLaws.{physical_above, size_is, more_written, more_writer, moments_before}
 use Rattle.paged_blob.proofs.writer.Writer.extend.Goals as goal
 
 pub loop-rest-init : goal.loop-rest-init

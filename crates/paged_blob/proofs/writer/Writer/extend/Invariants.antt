@@ -1,7 +1,7 @@
 use Rattle.std.proofs.Common.{◌≡◌, ◌≤◌, ◌+◌, ◌++◌, ℕ, length, take, drop}
-use Rattle.paged_blob.specs.CachedContent.{HoldsPagesOf, KeepsOthers}
-use Rattle.paged_blob.specs.Moments.{Through}
-use Rattle.paged_blob.specs.Writers.{IsWriter, Keeps, written}
+use Rattle.paged_blob_parts.specs.CachedContent.{HoldsPagesOf, KeepsOthers}
+use Rattle.paged_blob_parts.specs.Moments.{Through}
+use Rattle.paged_blob_parts.specs.Writers.{IsWriter, Keeps, written}
 use Rattle.paged_blob.proofs.writer.Writer.extend.Given as goal
 
 abbrev pub invariant-loop-rest : goal.invariant-loop-rest

@@ -1,6 +1,6 @@
 use Rattle.std.proofs.Common.{rules, ◌≡◌, ◌<◌, ◌∙◌}
-use Rattle.paged_blob.specs.Writers.{WriterState, written}
-use Rattle.paged_blob.proofs.Taken.{still_there, taken_writer, taken_content, taken_moments, taken_cached}
+use Rattle.paged_blob_parts.specs.Writers.{WriterState, written}
+use Rattle.paged_blob_parts.proofs.Taken.{still_there, taken_writer, taken_content, taken_moments, taken_cached}
 use Rattle.paged_blob.proofs.writer.Writer.fill.Goals as goal
 
 pub returns-in_err-count-clause-any_moment : goal.returns-in_err-count-clause-any_moment

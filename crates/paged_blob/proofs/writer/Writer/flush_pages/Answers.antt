@@ -1,10 +1,10 @@
 use Rattle.std.proofs.Common.{rules, ◌≡◌, ◌+◌, ◌*◌, ◌/◌, ◌<◌, ◌≤◌, length, take, drop, subst, sym, ap}
 use Rattle.paged_format.specs.Footers.{content_size}
-use Rattle.paged_blob.specs.Caches.{Cache}
-use Rattle.paged_blob.specs.CachedContent.{KeepsOthers}
-use Rattle.paged_blob.specs.Writers.{WriterState}
-use Rattle.paged_blob.proofs.CachedLaws.{others_given}
-use Rattle.paged_blob.proofs.Taken.{flushed_moments, flushed_writer, flushed_content, flushed_cached}
+use Rattle.paged_blob_parts.specs.Caches.{Cache}
+use Rattle.paged_blob_parts.specs.CachedContent.{KeepsOthers}
+use Rattle.paged_blob_parts.specs.Writers.{WriterState}
+use Rattle.paged_blob_parts.proofs.CachedLaws.{others_given}
+use Rattle.paged_blob_parts.proofs.Taken.{flushed_moments, flushed_writer, flushed_content, flushed_cached}
 use Rattle.paged_blob.proofs.writer.Writer.flush_pages.Goals as goal
 
 pub returns-in_err-flush-clause-any_moment : goal.returns-in_err-flush-clause-any_moment

@@ -2,11 +2,11 @@ use Rattle.std.proofs.Common.{rules, arith, ◌≡◌, ◌+◌, ◌*◌, ◌/◌
 use Rattle.std.proofs.lemmas.Bool.{cases_lt, both_ways}
 use Rattle.std.proofs.lemmas.List.{nil_from_length}
 use Rattle.paged_format.specs.Footers.{content_size}
-use Rattle.paged_blob.specs.Calls.{wrote}
-use Rattle.paged_blob.specs.Moments.{Through}
-use Rattle.paged_blob.specs.Flushes.{last_slot, flushed_bytes, page_count, SumsFit}
-use Rattle.paged_blob.specs.Writers.{WriterState, IsWriter, IsFlushed, Keeps, written}
-use Rattle.paged_blob.proofs.WriterLaws.{nothing_flushed, nothing_moments, all_flushed, all_moments, records_ok, on_both}
+use Rattle.paged_blob_parts.specs.Calls.{wrote}
+use Rattle.paged_blob_parts.specs.Moments.{Through}
+use Rattle.paged_blob_parts.specs.Flushes.{last_slot, flushed_bytes, page_count, SumsFit}
+use Rattle.paged_blob_parts.specs.Writers.{WriterState, IsWriter, IsFlushed, Keeps, written}
+use Rattle.paged_blob_parts.proofs.WriterLaws.{nothing_flushed, nothing_moments, all_flushed, all_moments, records_ok, on_both}
 use Rattle.paged_blob.proofs.writer.Writer.flush_tip.Goals as goal
 
 some_bytes : (bytes : List ℕ) (empty : Bool) → (bytes ≡ [] → empty ≡ true) → empty ≡ false → 0 < length bytes

@@ -1,10 +1,10 @@
 use Rattle.std.proofs.Common.{rules, ◌≡◌, ◌<◌, ℕ, List, OnOk, sym, subst}
-use Rattle.paged_blob.specs.Stands.{Stand, on_blob, listed, pages_of}
-use Rattle.paged_blob.specs.Served.{slices}
-use Rattle.paged_blob.specs.Reads.{ServesPages, StaysKept}
-use Rattle.paged_blob.specs.CachedContent.{KeepsOthers}
-use Rattle.paged_blob.specs.declared.read.FlushedPages.{FlushedPages}
-use Rattle.paged_blob.proofs.WriterViews.{writer_stands, writer_serves, writer_kept, listed_is}
+use Rattle.paged_blob_parts.specs.Stands.{Stand, on_blob, listed, pages_of}
+use Rattle.paged_blob_parts.specs.Served.{slices}
+use Rattle.paged_blob_parts.specs.Reads.{ServesPages, StaysKept}
+use Rattle.paged_blob_parts.specs.CachedContent.{KeepsOthers}
+use Rattle.paged_blob_parts.specs.declared.read.FlushedPages.{FlushedPages}
+use Rattle.paged_blob_parts.proofs.WriterViews.{writer_stands, writer_serves, writer_kept, listed_is}
 use Rattle.paged_blob.proofs.writer.Writer.read_ranges_into.Goals as goal
 
 pub read_ranges_into-requires-clause-stand : goal.read_ranges_into-requires-clause-stand

@@ -1,9 +1,9 @@
 use Rattle.std.proofs.Common.{rules, ◌≡◌, ◌≤◌, ◌<◌, ℕ, List, IfOk, length, take, drop, sym, subst}
 use Rattle.paged_format.specs.Pages.{recovered}
-use Rattle.paged_blob.specs.Calls.{content}
-use Rattle.paged_blob.specs.CachedContent.{KeepsOthers}
-use Rattle.paged_blob.specs.declared.read.FlushedPages.{FlushedPages}
-use Rattle.paged_blob.proofs.WriterReads.{tip_shown, readable_of, kept_asked, kept_left}
+use Rattle.paged_blob_parts.specs.Calls.{content}
+use Rattle.paged_blob_parts.specs.CachedContent.{KeepsOthers}
+use Rattle.paged_blob_parts.specs.declared.read.FlushedPages.{FlushedPages}
+use Rattle.paged_blob_parts.proofs.WriterReads.{tip_shown, readable_of, kept_asked, kept_left}
 use Rattle.paged_blob.proofs.writer.Writer.read_up_to.Goals as goal
 
 pub read_up_to-requires-clause-shown : goal.read_up_to-requires-clause-shown

@@ -1,8 +1,8 @@
 use Rattle.std.proofs.Common.{rules, arith, ◌≡◌, ◌+◌, ◌/◌, ◌<◌, ◌≤◌, Ok, length}
 use Rattle.paged_format.specs.Footers.{content_size}
-use Rattle.paged_blob.specs.Flushes.{last_slot}
-use Rattle.paged_blob.specs.Writers.{written}
-use Rattle.paged_blob.proofs.WriterLaws.{nothing_moments, sync_moments}
+use Rattle.paged_blob_parts.specs.Flushes.{last_slot}
+use Rattle.paged_blob_parts.specs.Writers.{written}
+use Rattle.paged_blob_parts.proofs.WriterLaws.{nothing_moments, sync_moments}
 use Rattle.paged_blob.proofs.Syncing.{nothing_started, started_content, sync_started}
 use Rattle.paged_blob.proofs.writer.Writer.start_sync.Goals as goal
 

@@ -1,10 +1,10 @@
 use Rattle.std.proofs.Common.{rules, arith, ◌≡◌, ◌+◌, ◌/◌, ◌<◌, ◌≤◌, length, ap}
 use Rattle.paged_format.specs.Footers.{content_size}
-use Rattle.paged_blob.specs.Flushes.{last_slot}
-use Rattle.paged_blob.specs.Writers.{written}
-use Rattle.paged_blob.proofs.WriterLaws.{nothing_moments, tip_cached, sync_moments, settled_after, written_is, is_writer}
-use Rattle.paged_blob.specs.Caches.{Cache}
-use Rattle.paged_blob.proofs.CachedLaws.{others_given}
+use Rattle.paged_blob_parts.specs.Flushes.{last_slot}
+use Rattle.paged_blob_parts.specs.Writers.{written}
+use Rattle.paged_blob_parts.proofs.WriterLaws.{nothing_moments, tip_cached, sync_moments, settled_after, written_is, is_writer}
+use Rattle.paged_blob_parts.specs.Caches.{Cache}
+use Rattle.paged_blob_parts.proofs.CachedLaws.{others_given}
 use Rattle.paged_blob.proofs.writer.Writer.sync.Goals as goal
 
 pub returns-then-not-needs_sync-clause-any_moment : goal.returns-then-not-needs_sync-clause-any_moment

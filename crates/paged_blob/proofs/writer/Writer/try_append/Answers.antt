@@ -1,13 +1,13 @@
 use Rattle.std.proofs.Common.{rules, arith, ◌≡◌, ◌+◌, ◌<◌, ◌^◌, ◌++◌, length, take, subst, sym, ap, ◌∙◌}
 use Rattle.std.proofs.lemmas.List.{take_all}
 use Rattle.paged_format.specs.Tips.{Tip}
-use Rattle.paged_blob.specs.Flushes.{physical_size}
-use Rattle.paged_blob.specs.Writers.{WriterState, IsWriter, written}
-use Rattle.paged_blob.specs.CachedContent.{HoldsPagesOf}
-use Rattle.paged_blob.proofs.CachedLaws.{holds_pages_more}
+use Rattle.paged_blob_parts.specs.Flushes.{physical_size}
+use Rattle.paged_blob_parts.specs.Writers.{WriterState, IsWriter, written}
+use Rattle.paged_blob_parts.specs.CachedContent.{HoldsPagesOf}
+use Rattle.paged_blob_parts.proofs.CachedLaws.{holds_pages_more}
 use Rattle.paged_blob.specs.Syncs.{IsUnderWay}
 use Rattle.paged_blob.proofs.Syncing.{more_under_way, more_list}
-use Rattle.paged_blob.proofs.WriterLaws.{more_written, more_writer}
+use Rattle.paged_blob_parts.proofs.WriterLaws.{more_written, more_writer}
 use Rattle.paged_blob.proofs.writer.Writer.try_append.Goals as goal
 
 pub returns-clause-writer : goal.returns-clause-writer

@@ -1,8 +1,8 @@
 use Rattle.std.proofs.Common.{rules, ◌<◌, ◌++◌, ℕ, List, IfOk, subst}
-use Rattle.paged_blob.specs.Stands.{on_blob, pages_of}
-use Rattle.paged_blob.specs.Served.{Serves, AreServed, items_of}
-use Rattle.paged_blob.specs.declared.read.FlushedPages.{FlushedPages}
-use Rattle.paged_blob.proofs.WriterViews.{writer_serves, listed_is}
+use Rattle.paged_blob_parts.specs.Stands.{on_blob, pages_of}
+use Rattle.paged_blob_parts.specs.Served.{Serves, AreServed, items_of}
+use Rattle.paged_blob_parts.specs.declared.read.FlushedPages.{FlushedPages}
+use Rattle.paged_blob_parts.proofs.WriterViews.{writer_serves, listed_is}
 use Rattle.paged_blob.proofs.writer.Writer.try_read_many_sync_into.Goals as goal
 
 pub returns-clause-served : goal.returns-clause-served

@@ -1,9 +1,9 @@
 use Rattle.std.proofs.Common.{rules, arith, ◌≡◌, ◌+◌, ◌-◌, ◌/◌, ◌<◌, ◌≤◌, Ok, length, take, ap}
 use Rattle.paged_format.specs.Footers.{content_size}
-use Rattle.paged_blob.specs.Caches.{Cache}
-use Rattle.paged_blob.specs.Writers.{written}
-use Rattle.paged_blob.proofs.CachedLaws.{others_given}
-use Rattle.paged_blob.proofs.WriterLaws.{written_is, is_writer}
+use Rattle.paged_blob_parts.specs.Caches.{Cache}
+use Rattle.paged_blob_parts.specs.Writers.{written}
+use Rattle.paged_blob_parts.proofs.CachedLaws.{others_given}
+use Rattle.paged_blob_parts.proofs.WriterLaws.{written_is, is_writer}
 use Rattle.paged_blob.proofs.Syncing.{waited, waited_cached}
 use Rattle.paged_blob.proofs.writer.Writer.wait_for_sync.Goals as goal
 

@@ -1,9 +1,10 @@
 use Rattle.std.proofs.Common.{rules, ◌≡◌, ℕ, List, Bool, sym, ◌∙◌, ap, subst}
 use Rattle.std.specs.Prelude.{IfOk, IfErr}
 use Rattle.merkle_core.specs.Plans.{Asked, IsWithinTree, Lookup}
-use Rattle.state_proofs.specs.Built.{IsRefusalOfPlanned, IsRefusalOfSource, IsSourceOf}
-use Rattle.state_proofs.specs.BuiltCode.{measures_with, setting_with, source_of, span_of}
-use Rattle.state_proofs.specs.Canonical.{Setting}
+use Rattle.state_proofs.specs.Built.{IsRefusalOfPlanned, IsRefusalOfSource}
+use Rattle.state_proofs_parts.specs.Sources.{IsSourceOf}
+use Rattle.state_proofs.specs.BuiltCode.{measures_with, source_of, span_of}
+use Rattle.state_proofs_parts.specs.Canonical.{Setting, setting_with}
 use Rattle.state_proofs.specs.Honest.{honest_range}
 use Rattle.state_proofs.specs.ProofsCode.{range_parts_of}
 use Rattle.state_proofs.specs.Required.{Measures}

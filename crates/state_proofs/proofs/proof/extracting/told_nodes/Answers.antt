@@ -12,8 +12,8 @@ use Rattle.state_proofs.specs.ProofsCode.{range_parts_of}
 use Rattle.state_proofs.specs.RangeExtracted.{told_by}
 use Rattle.state_proofs.specs.Verified.{Shown, given_by, graftable_shown, RangeParts}
 use Rattle.state_proofs.specs.ShownCode.{shown_of}
-use Rattle.state_proofs.specs.Verifier.{Given, grafted_node}
-use Rattle.state_proofs.specs.VerifierCode.{given_of}
+use Rattle.state_proofs_parts.specs.Verifier.{Given, grafted_node}
+use Rattle.state_proofs_parts.specs.VerifierCode.{given_of}
 use Rattle.state_proofs.proofs.RangeTold.{remade, remade_made, remade_given, told_as_shown}
 use Rattle.state_proofs.proofs.proof.extracting.told_nodes.Goals as goal
 

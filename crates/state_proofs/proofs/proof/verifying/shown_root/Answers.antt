@@ -5,13 +5,13 @@ use Rattle.merkle_forest.specs.Hashing.{Hash, leaf_string}
 use Rattle.merkle_forest.specs.Made.{value}
 use Rattle.merkle_core.specs.MadeTrees.{Over}
 use Rattle.merkle_core.specs.Reads.{HashesAs, range_root}
-use Rattle.state_proofs.specs.MadeGrafted.{grafted_names}
+use Rattle.state_proofs_parts.specs.MadeGrafted.{grafted_names}
 use Rattle.state_proofs.specs.ProofsCode.{range_parts_of}
 use Rattle.state_proofs.specs.Verified.{Shown, given_by, shown_over, graftable_shown, RangeParts}
 use Rattle.state_proofs.specs.ShownCode.{form_shown_of}
-use Rattle.state_proofs.specs.Verifier.{Given, grafted_node}
-use Rattle.state_proofs.specs.VerifierCode.{form_given_of}
-use Rattle.state_proofs.specs.Laws.Verifier.{hashes_grafted}
+use Rattle.state_proofs_parts.specs.Verifier.{Given, grafted_node}
+use Rattle.state_proofs_parts.specs.VerifierCode.{form_given_of}
+use Rattle.state_proofs_parts.specs.Laws.Verifier.{hashes_grafted}
 use Rattle.state_proofs.proofs.proof.verifying.shown_root.Goals as goal
 
 pub returns : goal.returns

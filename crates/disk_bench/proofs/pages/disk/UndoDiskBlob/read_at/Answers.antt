@@ -1,6 +1,6 @@
 use Rattle.std.proofs.Common.{rules, arith, ◌≡◌, ◌+◌, ◌≤◌, ◌<◌, length, take, drop, reverse, ap, ◌∙◌}
-use Rattle.paged_blob.specs.Calls.{content, file_of}
-use Rattle.paged_blob.proofs.Live.{whole_live}
+use Rattle.paged_blob_parts.specs.Calls.{content, file_of}
+use Rattle.paged_blob_parts.proofs.Live.{whole_live}
 use Rattle.disk_bench.specs.Undone.{calls_from}
 use Rattle.disk_bench.proofs.pages.disk.UndoDiskBlob.read_at.Goals as goal
 

@@ -1,6 +1,6 @@
 use Rattle.std.proofs.Common.{rules, arith, ◌≡◌, ◌∷◌, true, length, drop, reverse, ap, sym, ◌∙◌}
 use Rattle.std.proofs.lemmas.Grind.{common_steps}
-use Rattle.paged_blob.specs.Calls.{resized_to, content, resized}
+use Rattle.paged_blob_parts.specs.Calls.{resized_to, content, resized}
 use Rattle.disk_bench.specs.Undone.{calls_from}
 use Rattle.disk_bench.specs.declared.pages.step.Step.TheVariants.{Resized}
 use Rattle.disk_bench.proofs.Undone.{resize_read}

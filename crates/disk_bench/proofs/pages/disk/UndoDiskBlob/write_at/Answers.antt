@@ -1,7 +1,7 @@
 use Rattle.std.proofs.Common.{rules, arith, ◌≡◌, ◌∷◌, true, length, take, drop, reverse, ap, refl, sym, ◌∙◌}
 use Rattle.std.proofs.lemmas.Grind.{common_steps}
-use Rattle.paged_blob.specs.Calls.{wrote, content, with_bytes}
-use Rattle.paged_blob.specs.WriteModes.{is_sync}
+use Rattle.paged_blob_parts.specs.Calls.{wrote, content, with_bytes}
+use Rattle.paged_blob_parts.specs.WriteModes.{is_sync}
 use Rattle.disk_bench.specs.Undone.{calls_from}
 use Rattle.disk_bench.specs.declared.pages.step.Step.TheVariants.{Wrote}
 use Rattle.disk_bench.proofs.Undone.{write_read}

@@ -1,11 +1,11 @@
 use Rattle.std.proofs.Common.{rules, ◌≡◌, ◌+◌, ◌^◌, ◌<◌, ◌≤◌, min, length, take, sym, ◌∙◌, ap, subst, arith}
 use Rattle.std.proofs.lemmas.List.{length-take}
 use Rattle.paged_format.specs.Pages.{recovered}
-use Rattle.paged_blob.specs.Calls.{content}
-use Rattle.paged_blob.specs.Flushes.{physical_size}
-use Rattle.paged_blob.specs.Writers.{WriterState}
+use Rattle.paged_blob_parts.specs.Calls.{content}
+use Rattle.paged_blob_parts.specs.Flushes.{physical_size}
+use Rattle.paged_blob_parts.specs.Writers.{WriterState}
 use Rattle.paged_blob.proofs.Recovered.{still, goes_on}
-use Rattle.paged_blob.proofs.WriterLaws.{written_is, is_writer}
+use Rattle.paged_blob_parts.proofs.WriterLaws.{written_is, is_writer}
 use Rattle.paged_blob.proofs.writer.recovery.Writer+C+Recovering.truncate.Goals as goal
 
 pub returns-then-not-is_within_numbers-clause-any_moment : goal.returns-then-not-is_within_numbers-clause-any_moment

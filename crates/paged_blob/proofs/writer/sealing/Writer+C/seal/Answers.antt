@@ -1,6 +1,6 @@
 use Rattle.std.proofs.Common.{rules, ◌<◌, ℕ, List, subst, arith}
-use Rattle.paged_blob.specs.Laws.Durable.{file_keeps}
-use Rattle.paged_blob.specs.Writers.{Keeps, written}
+use Rattle.paged_blob_parts.specs.Laws.Durable.{file_keeps}
+use Rattle.paged_blob_parts.specs.Writers.{Keeps, written}
 use Rattle.paged_blob.proofs.writer.sealing.Writer+C.seal.Goals as goal
 
 pub returns-clause-durable : goal.returns-clause-durable

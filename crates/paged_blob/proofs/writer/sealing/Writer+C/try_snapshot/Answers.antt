@@ -1,5 +1,5 @@
 use Rattle.std.proofs.Common.{rules, ◌<◌}
-use Rattle.paged_blob.proofs.WriterViews.{writer_sealed}
+use Rattle.paged_blob_parts.proofs.WriterViews.{writer_sealed}
 use Rattle.paged_blob.proofs.writer.sealing.Writer+C.try_snapshot.Goals as goal
 
 pub returns-clause-sealed : goal.returns-clause-sealed

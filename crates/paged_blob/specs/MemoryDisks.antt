@@ -1,9 +1,0 @@
--- A blob in memory.
-use Rattle.std.specs.Prelude.{List}
-use Rattle.paged_blob.specs.Calls.{Call}
-use Rattle.paged_blob.specs.Recorded.{calls_of}
-use Rattle.paged_blob.specs.declared.bench.MemoryDisk.{MemoryDisk}
-
--- the calls that were made of it
-abbrev pub calls_in : MemoryDisk → List Call
-calls_in disk = calls_of disk.record_kept.items

@@ -1,5 +1,0 @@
-use Rattle.state_bitmap.proofs.KeptLemmas.{kept-set}
-use Rattle.state_bitmap.proofs.laws.a_changed_bit_is_changed_in_the_list.Goals as goal
-
-pub returns : goal.returns
-returns c = kept-set

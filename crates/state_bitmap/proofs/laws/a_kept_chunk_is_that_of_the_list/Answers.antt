@@ -1,5 +1,0 @@
-use Rattle.state_bitmap.proofs.KeptLemmas.{chunk-kept}
-use Rattle.state_bitmap.proofs.laws.a_kept_chunk_is_that_of_the_list.Goals as goal
-
-pub returns : goal.returns
-returns c = chunk-kept

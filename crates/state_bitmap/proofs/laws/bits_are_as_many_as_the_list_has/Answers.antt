@@ -1,5 +1,0 @@
-use Rattle.state_bitmap.proofs.KeptLemmas.{count-kept}
-use Rattle.state_bitmap.proofs.laws.bits_are_as_many_as_the_list_has.Goals as goal
-
-pub returns : goal.returns
-returns c = count-kept

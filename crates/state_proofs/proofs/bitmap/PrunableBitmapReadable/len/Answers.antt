@@ -1,6 +1,0 @@
-use Rattle.std.proofs.Common.{sym, ◌∙◌}
-use Rattle.state_bitmap.specs.Laws.Bits.{length-all}
-use Rattle.state_proofs.proofs.bitmap.PrunableBitmapReadable.len.Goals as goal
-
-pub returns : goal.returns
-returns g c = c.len.ensures.length ∙ sym (length-all g.row.N c.args.self.now)

@@ -1,7 +1,0 @@
-use Rattle.std.proofs.Common.{◌≡◌, ◌-◌, ◌++◌, take, length}
-use Rattle.state_bitmap.specs.Bits.{chunk_of}
-use Rattle.state_proofs.proofs.bits.chunk_array.Given as goal
-
-abbrev pub invariant-loop-index : goal.invariant-loop-index
-invariant-loop-index g l =
-    (length l.chunk ≡ g.row.N) × (take l.index l.chunk ++ chunk_of (g.row.N - l.index) l.rest ≡ chunk_of g.row.N l.bits)

@@ -1,5 +1,0 @@
-use Rattle.std.proofs.Common.{◌-◌}
-use Rattle.state_proofs.proofs.grafting.counts.+aligned_from.Given as goal
-
-abbrev pub decreases-aligned_from : goal.decreases-aligned_from
-decreases-aligned_from g l = l.leaves - l.first

@@ -1,0 +1,42 @@
+use Rattle.std.proofs.Common.{rules, ◌≡◌, ◌<◌, ◌+◌, ℕ, List, Bool, ◌∙◌, ap, subst}
+use Rattle.std.specs.Prelude.{IfOk, IfErr}
+use Rattle.merkle_core.specs.Plans.{Asked, Lookup}
+use Rattle.state_proofs.specs.Built.{IsRefusalOfLocated, IsRefusalOfOperation}
+use Rattle.state_proofs_parts.specs.Sources.{IsSourceOf}
+use Rattle.state_proofs.specs.BuiltCode.{measures_with, source_of, span_of}
+use Rattle.state_proofs_parts.specs.Canonical.{Setting, setting_with}
+use Rattle.state_proofs.specs.Honest.{honest_parts}
+use Rattle.state_proofs.specs.ProofsCode.{form_parts_of}
+use Rattle.state_proofs.specs.Required.{Measures}
+use Rattle.state_proofs.proofs.BuiltLemmas.{err_as, located}
+use Rattle.state_proofs.proofs.operation.Proof.new.Goals as goal
+
+pub returns-clause-honest : goal.returns-clause-honest
+returns-clause-honest g c = λ height state whole is floor root.
+    let setting : Setting = setting_with g.F.Family.merge_rule g.H.HashFunction.hash_of g.row.N height in
+    let bits : List Bool = g.B.BitmapReadable.bits c.args.status.now in
+    let pruned : ℕ = g.B.BitmapReadable.pruned c.args.status.now in
+    let known : Lookup = g.S.Readable.digest_at c.args.storage.now in
+    let span : Asked = span_of (g.S.Readable.leaf_total c.args.storage.now) c.args.loc (c.args.loc + 1) in
+    let plan_is : c.in-Ok.plan ≡ span =
+    c.in-Ok.ensures.plan ∙ ap (λ n. span_of n c.args.loc (c.args.loc + 1)) (c.new-leaves.ensures ∙ c.leaf_count.ensures.count) in
+    subst (λ (s : Asked). IsSourceOf setting state (source_of s bits pruned known)
+    → IfOk c.build.result (λ proof. form_parts_of g.C.AsSlice.items g.D.Write.encoding g.F.PendingOf.held proof ≡ honest_parts setting state s.start)) plan_is
+    (λ it. c.build.ensures.honest height known state whole (search rules) it floor root) is
+
+pub returns-clause-refused : goal.returns-clause-refused
+returns-clause-refused g c = λ height whole.
+    let measures : Measures = measures_with g.F.Family.merge_rule g.row.N height in
+    let bits : List Bool = g.B.BitmapReadable.bits c.args.status.now in
+    let pruned : ℕ = g.B.BitmapReadable.pruned c.args.status.now in
+    let known : Lookup = g.S.Readable.digest_at c.args.storage.now in
+    let span : Asked = span_of (g.S.Readable.leaf_total c.args.storage.now) c.args.loc (c.args.loc + 1) in
+    let plan_is : c.in-Ok.plan ≡ span =
+    c.in-Ok.ensures.plan ∙ ap (λ n. span_of n c.args.loc (c.args.loc + 1)) (c.new-leaves.ensures ∙ c.leaf_count.ensures.count) in
+    let inside : c.args.loc < g.S.Readable.leaf_total c.args.storage.now =
+    subst (λ (n : ℕ). c.args.loc < n) (c.new-leaves.ensures ∙ c.leaf_count.ensures.count) c.in-Ok.ensures.within.0 in
+    err_as c.build.result (IsRefusalOfOperation measures (source_of span bits pruned known) c.args.loc)
+    (IsRefusalOfLocated measures (source_of span bits pruned known) c.args.loc)
+    (subst (λ (s : Asked). IfErr c.build.result (IsRefusalOfOperation measures (source_of s bits pruned known) s.start)) plan_is
+    (c.build.ensures.refused height known whole (search rules)))
+    (λ e is. located measures (source_of span bits pruned known) c.args.loc e inside is)

@@ -1,0 +1,16 @@
+use Rattle.std.proofs.Common.{sym, ◌∙◌, ap, subst}
+use Rattle.state_proofs_parts.specs.Maps.{IsMapOf, AreLeavesOf, merkleized}
+use Rattle.state_proofs_parts.proofs.MapLemmas.{root_is}
+use Rattle.state_proofs_parts.proofs.WidthLemmas.{wide-some}
+use Rattle.state_proofs_parts.proofs.authenticated.BitMap+D+N+Unmerkleized.merkleize.Goals as goal
+
+pub returns-clause-root_of_list : goal.returns-clause-root_of_list
+returns-clause-root_of_list g c all of =
+    let here = subst (IsMapOf (g.H.Hasher.leaf_of c.args.hasher.now) (g.H.Hasher.node_of c.args.hasher.now) g.row.N all) (sym c.self.view_is) of in
+    let are = c.in_ok-tree.ensures.of_list all here.bits (subst (λ ns. AreLeavesOf (g.H.Hasher.leaf_of c.args.hasher.now)
+    (g.H.Hasher.node_of c.args.hasher.now) g.row.N all c.self.inside.tree ns)
+    (sym (c.deref.ensures.value ∙ c.in_ok-chunks.ensures)) here.leaves) in
+    ap merkleized (c.root_over-root.ensures.of_list are.digests are.nodes
+    ∙ root_is g.H.Hasher.hash_of (g.H.Hasher.leaf_of c.args.hasher.now) (g.H.Hasher.node_of c.args.hasher.now)
+    (g.H.Hasher.bagging_of c.args.hasher.now) g.row.N all c.self.inside.bits c.in_ok-tree.tree (wide-some g.row.N c.self.invariant.wide)
+    here.bits c.in_ok-tree.ensures.leaves are)

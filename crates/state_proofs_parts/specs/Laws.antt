@@ -1,0 +1,23 @@
+-- Lemmas that crates above cite.
+pub mod Bits
+pub mod ChunkCounts
+pub mod ChunkSteps
+pub mod Chunks
+pub mod GraftedNodes
+pub mod GraftedReads
+pub mod GraftedTrees
+pub mod Heights
+pub mod Known
+pub mod MadeCanonical
+pub mod MadeGrafted
+pub mod MadeStates
+pub mod OneEachBags
+pub mod OneEachCanonical
+pub mod OneEachLists
+pub mod OneEachRoots
+pub mod OneEachStates
+pub mod OneEachTrees
+pub mod Refusals
+pub mod Roots
+pub mod SameNodes
+pub mod Verifier
