@@ -1,5 +1,5 @@
 -- The honest witness of a state and the honest proof in its tree of operations are within the limits of a slice.
-use Rattle.std.proofs.Common.{◌≡◌, ℕ, ◌+◌, ◌-◌, ◌*◌, ◌^◌, ◌<◌, ◌≤◌, List, [], length, take, drop, Option, Some, None, refl, sym, subst, arith}
+use Rattle.std.proofs.Common.{◌≡◌, ℕ, ◌+◌, ◌*◌, ◌^◌, ◌<◌, ◌≤◌, List, [], length, take, drop, Option, Some, None, refl, sym, subst, arith}
 use Rattle.std.specs.Prelude.{IfSome, option_map, slice_index_or}
 use Rattle.std.proofs.Math.Nat.{div-add-mod}
 use Rattle.merkle_forest.specs.declared.bagging.Bagging.TheVariants.{BackwardFold}
@@ -14,13 +14,13 @@ use Rattle.merkle_core.specs.Laws.MadeRoots.{peak_count}
 use Rattle.merkle_core.specs.Laws.Sized.{AreSized, IsSized, Gives, range_sized}
 use Rattle.merkle_core.specs.MadeRoots.{peaks_of}
 use Rattle.merkle_core.specs.Plans.{honest_digests}
-use Rattle.merkle_core.specs.Ranges.{Digests, range_digests}
+use Rattle.merkle_core.specs.Ranges.{Digests}
 use Rattle.state_proofs_parts.specs.Canonical.{Setting, State, next_bit, chunk_bits, grafted_root, operations_root, partial_digest}
+use Rattle.state_proofs.specs.Laws.FewDigests.{AreFew, ranges_are_few}
+use Rattle.state_proofs.specs.Laws.HonestSizes.{MayHold, may_hold, partial_of_size}
 use Rattle.state_proofs.specs.Witness.{honest_witness}
 use Rattle.auth_store_client.specs.Proving.{log_inactive, log_digests}
 use Rattle.auth_store_client.specs.Slices.{SliceParts, FitsSlice}
-use Rattle.auth_store_client.proofs.FewDigests.{range_few}
-use Rattle.auth_store_client.proofs.HonestSizes.{AreFew, MayHold, may_hold, partial_of_size}
 use Rattle.auth_store_client.proofs.SameDigests.{range_same}
 use Rattle.auth_store_client.proofs.SoundSlices.{inactive_few}
 
@@ -75,17 +75,7 @@ module _ (setting : Setting) (state : State) (pairs : IsPairing setting.rule) (f
 
   digests_few : (start stop : ℕ) → AreFew setting.rule → start < stop → stop ≤ total → length (log_digests setting state start stop) ≤ 244
   digests_few start stop law some within =
-      let inactive : ℕ = log_inactive setting state in
-      let last : ℕ = stop - 1 in
-      let end : last + 1 ≡ stop = omega (arith, some) in
-      omega (
-        arith,
-        range_few held setting.hash start stop (take inactive (peaks_of setting.rule total)) (drop inactive (peaks_of setting.rule total)) some,
-        law setting.hash BackwardFold held total inactive start few (omega (arith, some, within)) inactive_within,
-        subst (λ (n : ℕ). length (range_digests setting.hash held BackwardFold last n (take inactive (peaks_of setting.rule total))
-            (drop inactive (peaks_of setting.rule total))) ≤ 122) end
-            (law setting.hash BackwardFold held total inactive last few (omega (arith, some, within)) inactive_within),
-      )
+      ranges_are_few setting.rule law setting.hash held total (log_inactive setting state) start stop few some within inactive_within
 
   grafted_sized : (size : ℕ) → IsSized size setting.hash → length (grafted_root setting state) ≡ size
   unfolding grafted_root root_of

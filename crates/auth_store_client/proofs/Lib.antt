@@ -3,13 +3,11 @@ pub mod Alone
 pub mod Bits
 pub mod Chunks
 pub mod Decoding
-pub mod FewDigests
 pub mod Fitting
 pub mod HonestAbsences
 pub mod HonestBytes
 pub mod HonestChunks
 pub mod HonestRanges
-pub mod HonestSizes
 pub mod HonestSlices
 pub mod HonestValues
 pub mod Lists

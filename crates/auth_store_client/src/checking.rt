@@ -41,7 +41,7 @@ where
 {
     match read_exclusion::<F, H, K, V>(alloc, width, bytes)? {
         None => Ok(false),
-        Some(proof) => proof.verify::<H>(alloc, root, key),
+        Some(proof) => proof.verify::<H>(alloc, key, root),
     }
 }
 
@@ -74,7 +74,7 @@ where
                 return Ok(false);
             }
             let operation = encode(alloc, operation)?;
-            Ok(proof.verify::<H>(root, &operation))
+            Ok(proof.verify::<H>(&operation, root))
         }
     }
 }

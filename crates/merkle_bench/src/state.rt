@@ -18,7 +18,7 @@ fn measure_one<R: Print + Eprint + CpuClock>(rt: &R, alloc: Global, count: u64) 
         work::bare_one(round)
     })?;
     let checked = measure(rt, "proof of one operation checked", count, |_round| {
-        u64::from(proof.verify::<ByteHash>(&root, &operation))
+        u64::from(proof.verify::<ByteHash>(&operation, &root))
     })?;
     report_ratio(rt, "check of one over its strings", checked, bare)
 }

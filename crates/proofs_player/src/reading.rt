@@ -84,7 +84,7 @@ fn operation_told<F: Graftable + PendingOf<Hash>, C: ChunkForm>(
         ["parts"] => operation_parts(alloc, proof),
         ["shows", operation] => {
             let operation = case_lines::bytes(alloc, operation)?;
-            truth(alloc, proof.verify::<ByteHash>(root, &operation))
+            truth(alloc, proof.verify::<ByteHash>(&operation, root))
         }
         _ => Err(Unanswered::BadLine),
     }
@@ -147,7 +147,7 @@ fn shows_value<F: Graftable + PendingOf<Hash>, C: ChunkForm>(
 ) -> Answer {
     truth_if(
         alloc,
-        proof.verify::<ByteHash, u64>(alloc, root, key, &value),
+        proof.verify::<ByteHash, u64>(alloc, key, &value, root),
     )
 }
 
@@ -178,7 +178,7 @@ fn absence_told<F: Graftable + PendingOf<Hash>, C: ChunkForm>(
 ) -> Answer {
     match words {
         ["written"] => written(alloc, proof),
-        ["shows", asked] => { truth_if(alloc, proof.verify::<ByteHash>(alloc, root, &key(asked)?)) }
+        ["shows", asked] => { truth_if(alloc, proof.verify::<ByteHash>(alloc, &key(asked)?, root)) }
         _ => Err(Unanswered::BadLine),
     }
 }

@@ -1,5 +1,5 @@
-//! A state that is kept in step as it grows and is pruned: the tree of its operations, the tree of its chunks, its bits and
-//! its floor. Root and proofs are read of what is kept, and are those of the state that it stands for.
+//! A state that is kept in step as it grows and is pruned: the tree of its operations, the tree of its chunks, its bits
+//! and its floor. Root and proofs are read of what is kept, and are those of the state that it stands for.
 //!
 //! ```text
 //!    operations   o o o o o o o o   o o o o o o o o   o o o       a leaf each, in a tree

@@ -13,10 +13,15 @@ use Rattle.state_proofs.proofs.StateParts.{get_some}
 abbrev pub IsActive : Parts → Type 0
 IsActive proof = is_set (slice_get proof.chunk (bit_of proof / 8)) (bit_of proof) ≡ true
 
-within_list : (xs : List (List ℕ)) (i : ℕ) (x : List ℕ) → slice_get xs i ≡ Some x → i < length xs
+pub within_list : (xs : List (List ℕ)) (i : ℕ) (x : List ℕ) → slice_get xs i ≡ Some x → i < length xs
 within_list [] i x is = absurd (let e : ◌≡◌ {A = Option (List ℕ)} None (Some x) = is in cc)
 within_list (y ∷ xs) zero x is = omega arith
 within_list (y ∷ xs) (suc i) x is = omega (arith, within_list xs i x is)
+
+pub at_place : (xs : List (List ℕ)) (i : ℕ) (x : List ℕ) → slice_get xs i ≡ Some x → slice_index_or xs i [] ≡ x
+at_place [] i x is = absurd (let e : ◌≡◌ {A = Option (List ℕ)} None (Some x) = is in cc)
+at_place (y ∷ xs) zero x is = let e : Some y ≡ Some x = is in cc
+at_place (y ∷ xs) (suc i) x is = at_place xs i x is
 
 -- the chunk's bits at another size that is the same
 at_bits : (proof : Parts) (m n : ℕ) → m ≡ n → is_set (slice_get proof.chunk (proof.location % m / 8)) (proof.location % m) ≡ true

@@ -1,5 +1,4 @@
 pub mod HonestLemmas
-pub mod HonestSizes
 pub mod Extending
 pub mod StateParts
 pub mod RangeIsTrue

@@ -2,7 +2,8 @@
 use Rattle.std.specs.Prelude.{ℕ, ◌+◌, ◌/◌, List, length, take, drop, Option}
 use Rattle.merkle_forest.specs.declared.bagging.Bagging.TheVariants.{BackwardFold}
 use Rattle.merkle_core.specs.Ranges.{range_digests}
-use Rattle.state_proofs_parts.specs.Canonical.{Setting, State, chunk_bits, chunk, peaks, grafted_digests, grafted_inactive}
+use Rattle.state_proofs_parts.specs.Canonical.{Setting, State, chunk_bits, chunk, peaks, grafted_digests}
+use Rattle.state_proofs_parts.specs.Canonical.{grafted_inactive}
 use Rattle.state_proofs_parts.specs.Canonical.{operations_root, pending_digest, partial_digest}
 use Rattle.state_proofs.specs.Encoded.{operation_proof_encoding, key_value_proof_encoding}
 use Rattle.state_proofs.specs.Verified.{RangeParts, Parts}

@@ -141,8 +141,8 @@ where
     pub fn verify<H: HashFunction<Digest = D>>(
         &self,
         alloc: Global,
-        root: &D,
         key: &K,
+        root: &D,
     ) -> Result<bool, AllocError>
         ensures { IfOk result (λ yes. IsTrue yes ↔ Excludes F.merge_rule H.hash_of K.SIZE V.SIZE (D.encoding root.now)
             (form_exclusion_of C.items K.encoding V.encoding D.encoding F.held self.now) (K.encoding key.now)) }
@@ -161,11 +161,11 @@ where
                     &update.value,
                     &update.next_key,
                 )?;
-                Ok(proof.verify::<H>(root, &operation))
+                Ok(proof.verify::<H>(&operation, root))
             }
             ExclusionProof::Commit(proof, metadata) => {
                 let operation = encoded_commit::<F, K, V>(alloc, metadata, proof.loc)?;
-                Ok(proof.verify::<H>(root, &operation))
+                Ok(proof.verify::<H>(&operation, root))
             }
         }
     }

@@ -1,14 +1,16 @@
 //! What holds of all proofs.
 
 ghost use Rattle.std.specs.Prelude.{◌≡◌, ◌<◌, ◌≤◌, ◌*◌, ◌^◌, ◌⊎◌, ℕ, List, [], length, slice_get, slice_index_or};
-ghost use Rattle.std.specs.Prelude.{IfSome, Some, true};
-ghost use Rattle.merkle_forest.specs.Forest.{Rule};
+ghost use Rattle.std.specs.Prelude.{drop, take, IfSome, Some, true};
+ghost use Rattle.merkle_forest.specs.declared.bagging.Bagging.TheVariants.{BackwardFold};
+ghost use Rattle.merkle_forest.specs.Forest.{forest_of, Rule};
 ghost use Rattle.merkle_forest.specs.Hashing.{Hash};
 ghost use Rattle.merkle_forest.specs.Made.{Collision, strings};
+ghost use Rattle.merkle_forest.specs.Trees.{located};
 ghost use Rattle.merkle_core.specs.declared.extraction.ExtractionError.{ExtractionError};
 ghost use Rattle.merkle_core.specs.declared.extraction.ExtractionError.TheVariants.{Memory};
 ghost use Rattle.merkle_core.specs.OneEach.{OneEach};
-ghost use Rattle.merkle_core.specs.Ranges.{Digests};
+ghost use Rattle.merkle_core.specs.Ranges.{Digests, range_digests};
 ghost use Rattle.state_ops.specs.Reading.{IsField};
 ghost use Rattle.state_proofs_parts.specs.Canonical.{Setting, State, canonical_root, grafted_digests, operations_root};
 ghost use Rattle.state_proofs.specs.Encoded.{format_of, ShowsOperation, ShowsUpdate};
@@ -47,6 +49,17 @@ pub fn honest_proofs_verify<F: Graftable>()
         (slice_index_or state.operations location [])) }
 {
     honest_ranges_verify::<F>();
+}
+
+/// The honest proof over several leaves of a tree has at most 244 digests, twice as many as that of one.
+pub fn honest_range_digests_are_few<F: Graftable>()
+    ensures { (hash : Hash) (digest : Digests) (leaves inactive start stop : ℕ) → leaves ≤ 2 ^ 62 → start < stop
+        → stop ≤ leaves → inactive ≤ length (forest_of F.merge_rule leaves)
+        → length (range_digests hash digest BackwardFold start stop
+        (take inactive (located (forest_of F.merge_rule leaves)))
+        (drop inactive (located (forest_of F.merge_rule leaves)))) ≤ 244 }
+{
+    honest_digests_are_few::<F>();
 }
 
 /// The honest bytes of an active operation are those of a proof within the limits, which shows it under the canonical
@@ -234,6 +247,26 @@ pub fn verified_witnesses_are_honest_or_strings_collide()
         ⊎ Collision setting.hash (hashed_strings setting state)
         (strings setting.hash (witnessed_made witness operations)) }
 {}
+
+/// Where an operation is active in a state and leaves a key out, the honest proof of it shows that the key is not in
+/// the state, under its canonical root.
+pub fn honest_absences_verify<F: Graftable>()
+    ensures { (hash : Hash) (width grafting_height key_size value_size : ℕ) (state : State) (proof : ExclusionParts)
+        (key : List ℕ)
+        → 8 * width ≡ 2 ^ grafting_height → grafting_height ≤ 62 → length state.operations ≤ 2 ^ 62
+        → (let setting : Setting = record {
+          rule = F.merge_rule;
+          hash = hash;
+          width = width;
+          grafting_height =
+              grafting_height;
+        } in
+        proof_of proof ≡ honest_parts setting state (proof_of proof).location
+        → HasActive state (proof_of proof).location (operation_of key_size value_size proof) → LeavesOut proof key
+        → Excludes F.merge_rule hash key_size value_size (canonical_root setting state) proof key) }
+{
+    honest_proofs_verify::<F>();
+}
 
 /// Where a proof of absence verifies under the canonical root of a state, its operation stands at its location in the
 /// state, is active there and leaves the key out, or the strings hashed for the state and those rebuilt from the proof

@@ -158,9 +158,9 @@ impl<F: Graftable + PendingOf<D>, K: FixedKey, D: Digest, C: AsSlice<u8>> KeyVal
     pub fn verify<H: HashFunction<Digest = D>, V: FixedValue>(
         &self,
         alloc: Global,
-        root: &D,
         key: &K,
         value: &V,
+        root: &D,
     ) -> Result<bool, AllocError>
         ensures exact { let operation = fixed_encoding K.SIZE V.SIZE
             (update (ordered (K.encoding key.now) (V.encoding value.now) (K.encoding self.now.next_key))) in
@@ -170,7 +170,7 @@ impl<F: Graftable + PendingOf<D>, K: FixedKey, D: Digest, C: AsSlice<u8>> KeyVal
         ensures value { OnOk result (IsField (V.after tt) V.SIZE (V.encoding value.now)) }
     {
         let operation = encoded_update::<F, K, V>(alloc, key, value, &self.next_key)?;
-        Ok(self.proof.verify::<H>(root, &operation))
+        Ok(self.proof.verify::<H>(&operation, root))
     }
 }
 
@@ -224,7 +224,7 @@ where
             if !cursor.is_empty() {
                 return Ok(false);
             }
-            proof.verify::<H, V>(alloc, root, key, value)
+            proof.verify::<H, V>(alloc, key, value, root)
         }
     }
 }

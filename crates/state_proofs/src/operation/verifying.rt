@@ -24,7 +24,7 @@ impl<F: Graftable + PendingOf<D>, D: Digest, C: AsSlice<u8>> Proof<F, D, C> {
     /// Whether the proof shows that the encoded operation stands at its location in the state of this root and is
     /// active there. It takes no memory.
     /// In the Rust: `qmdb::current::proof::operation::Proof::verify`, which encodes the operation itself.
-    pub fn verify<H: HashFunction<Digest = D>>(&self, root: &D, operation: &[u8]) -> bool
+    pub fn verify<H: HashFunction<Digest = D>>(&self, operation: &[u8], root: &D) -> bool
         ensures { IsTrue result ↔ Verifies F.merge_rule H.hash_of (D.encoding root.now)
             (form_parts_of C.items D.encoding F.held self.now) operation.now }
     {

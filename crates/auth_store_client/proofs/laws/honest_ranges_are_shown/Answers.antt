@@ -4,6 +4,7 @@ use Rattle.std.proofs.lemmas.Nat.{pow_pos}
 use Rattle.state_ops.specs.Operation.{Operation, fixed_encoding}
 use Rattle.state_proofs_parts.specs.Canonical.{Setting, State}
 use Rattle.state_proofs.specs.Honest.{honest_range}
+use Rattle.state_proofs.specs.Laws.HonestSizes.{honest_range_fits}
 use Rattle.state_proofs.specs.Verified.{Shown, VerifiesRange}
 use Rattle.auth_store_parts.specs.History.{log_of}
 use Rattle.auth_store_parts.specs.Laws.Places.{length-activity_bits}
@@ -12,7 +13,6 @@ use Rattle.auth_store_client.specs.Laws.Widths.{width_is_whole}
 use Rattle.auth_store_client.specs.Proving.{chunks_over}
 use Rattle.auth_store_client.specs.States.{grafting_height, root_of_history, setting_of_width, state_of_history}
 use Rattle.auth_store_client.proofs.HonestRanges.{shown, count, shaped, has, bits_are, map-part}
-use Rattle.auth_store_client.proofs.HonestSizes.{honest_fits}
 use Rattle.auth_store_client.proofs.laws.honest_ranges_are_shown.Goals as goal
 
 pub returns : goal.returns
@@ -42,7 +42,7 @@ returns g c history start stop is_width few some within =
       proof = honest_range setting state start stop;
       chunks = over;
       is = refl;
-      fits = honest_fits setting state start stop g.H.Digest.FixedSize.SIZE g.F.PendingOf.is_pending g.met.F.Family.merges_equals
+      fits = honest_range_fits setting state start stop g.H.Digest.FixedSize.SIZE g.F.PendingOf.is_pending g.met.F.Family.merges_equals
           g.met.H.HashFunction.sized c.honest_digests_are_few.ensures g.met.F.PendingOf.none_pending g.met.F.PendingOf.some_pending
           whole.0 whole.1 small some there;
       verifies = subst (λ (es : List (List ℕ)). VerifiesRange rule hash root (honest_range setting state start stop) (record {

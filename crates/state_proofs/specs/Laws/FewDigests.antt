@@ -1,13 +1,15 @@
--- The honest proof of several operations has at most as many digests as those of the first and of the last of them.
-use Rattle.std.proofs.Common.{◌≡◌, ℕ, ◌+◌, ◌-◌, ◌<◌, ◌≤◌, cond, Bool, true, false, inl, inr, List, [], ◌∷◌, ◌++◌, length, filter, refl, ◌∙◌, ap, arith, length-append}
+-- The honest proof of several leaves has at most as many digests as those of the first and of the last of them.
+use Rattle.std.proofs.Common.{◌≡◌, ℕ, ◌+◌, ◌-◌, ◌<◌, ◌≤◌, ◌^◌, cond, Bool, true, false, inl, inr, List, [], ◌∷◌, ◌++◌}
+use Rattle.std.proofs.Common.{length, take, drop, filter, refl, ◌∙◌, ap, subst, arith, length-append}
 use Rattle.std.specs.List.{flat_map}
 use Rattle.std.proofs.lemmas.Bool.{cases_lt, le-leb, lt-leb}
 use Rattle.std.proofs.lemmas.List.Concat.{flat_map-cons}
+use Rattle.merkle_forest.specs.declared.bagging.Bagging.{Bagging}
 use Rattle.merkle_forest.specs.declared.bagging.Bagging.TheVariants.{BackwardFold}
-use Rattle.merkle_forest.specs.Forest.{Tree, leaf, branch, leaf_count}
+use Rattle.merkle_forest.specs.Forest.{Tree, leaf, branch, leaf_count, Rule, forest_of}
 use Rattle.merkle_forest.specs.Hashing.{Hash}
 use Rattle.merkle_forest.specs.Laws.Peaks.{leaf_count-pos}
-use Rattle.merkle_forest.specs.Trees.{Located}
+use Rattle.merkle_forest.specs.Trees.{Located, located}
 use Rattle.merkle_core.specs.Ranges.{Digests, before_digests, after_digests, inner_digests, meets, siblings, range_digests}
 
 -- where a tree meets a range
@@ -267,3 +269,28 @@ module _ (digest : Digests) where
           let one : List (List ℕ) = inner_digests digest from to inactive in
           let other : List (List ℕ) = inner_digests digest from to active in
           omega (arith, length-append ((before ++ after) ++ one) other, length-append (before ++ after) one, length-append before after)
+
+-- the law that the honest proof of one leaf has few digests
+abbrev pub AreFew : Rule → Type 0
+AreFew rule = (hash : Hash) (bagging : Bagging) (digest : Digests) (leaf_total inactive location : ℕ)
+    → leaf_total ≤ 2 ^ 62 → location < leaf_total → inactive ≤ length (forest_of rule leaf_total)
+    → length (range_digests hash digest bagging location (location + 1)
+    (take inactive (located (forest_of rule leaf_total))) (drop inactive (located (forest_of rule leaf_total)))) ≤ 122
+
+-- so has that of several
+pub ranges_are_few : (rule : Rule) → AreFew rule → (hash : Hash) (digest : Digests) (leaf_total inactive start stop : ℕ)
+    → leaf_total ≤ 2 ^ 62 → start < stop → stop ≤ leaf_total → inactive ≤ length (forest_of rule leaf_total)
+    → length (range_digests hash digest BackwardFold start stop
+    (take inactive (located (forest_of rule leaf_total))) (drop inactive (located (forest_of rule leaf_total)))) ≤ 244
+ranges_are_few rule law hash digest leaf_total inactive start stop few some within enough =
+    let before : List Located = take inactive (located (forest_of rule leaf_total)) in
+    let after : List Located = drop inactive (located (forest_of rule leaf_total)) in
+    let last : ℕ = stop - 1 in
+    let end : last + 1 ≡ stop = omega (arith, some) in
+    omega (
+      arith,
+      range_few digest hash start stop before after some,
+      law hash BackwardFold digest leaf_total inactive start few (omega (arith, some, within)) enough,
+      subst (λ (n : ℕ). length (range_digests hash digest BackwardFold last n before after) ≤ 122) end
+          (law hash BackwardFold digest leaf_total inactive last few (omega (arith, some, within)) enough),
+    )

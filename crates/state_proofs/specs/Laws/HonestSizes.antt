@@ -1,23 +1,25 @@
--- The parts of an honest proof are within the limits of a proof.
-use Rattle.std.proofs.Common.{◌≡◌, ℕ, suc, ◌+◌, ◌*◌, ◌/◌, ◌^◌, ◌<◌, ◌≤◌, eqb, ltb, cond, Bool, true, false, List, [], ◌++◌, length, take, drop, Option, Some, None, refl, subst, arith}
+-- The parts of an honest proof, of one operation or over several, are within the limits of a proof.
+use Rattle.std.proofs.Common.{◌≡◌, ℕ, suc, ◌+◌, ◌*◌, ◌/◌, ◌^◌, ◌<◌, ◌≤◌, eqb, ltb, cond, Bool, true, false, List, []}
+use Rattle.std.proofs.Common.{◌++◌, length, take, drop, Option, Some, None, refl, subst, arith}
 use Rattle.std.specs.Prelude.{IfSome, slice_index_or}
 use Rattle.std.proofs.lemmas.Bool.{ltb-true}
 use Rattle.std.proofs.lemmas.Nat.{pow_pos}
-use Rattle.merkle_forest.specs.declared.bagging.Bagging.{Bagging}
 use Rattle.merkle_forest.specs.declared.bagging.Bagging.TheVariants.{BackwardFold}
 use Rattle.merkle_forest.specs.Forest.{leaf, branch, height, leaf_count, Rule, forest_of}
 use Rattle.merkle_forest.specs.Laws.ForestGrowth.{size-twice, leaves-forest_of}
 use Rattle.merkle_forest.specs.Hashing.{Hash, node_string, root_of}
 use Rattle.merkle_forest.specs.Nodes.{nodes_of_height}
 use Rattle.merkle_forest.specs.Perfect.{IsPairing}
-use Rattle.merkle_forest.specs.Trees.{located, tree_root}
-use Rattle.merkle_core.specs.Ranges.{Digests, range_digests}
+use Rattle.merkle_forest.specs.Trees.{tree_root}
 use Rattle.merkle_core.specs.Laws.Sized.{AreSized, IsSized, Gives, range_sized}
 use Rattle.state_proofs_parts.specs.SetBits.{is_zero}
-use Rattle.state_proofs_parts.specs.Canonical.{Setting, State, chunk_bits, full_chunks, next_bit, chunk, forest, peaks, grafted_digests, grafted_inactive, operations_root, pending_digest, partial_digest}
+use Rattle.state_proofs_parts.specs.Canonical.{Setting, State, chunk_bits, full_chunks, next_bit, chunk, forest, peaks}
+use Rattle.state_proofs_parts.specs.Canonical.{grafted_digests, grafted_inactive, operations_root, pending_digest}
+use Rattle.state_proofs_parts.specs.Canonical.{partial_digest}
 use Rattle.state_proofs_parts.specs.Grafting.{grafted, grafted_digest}
-use Rattle.state_proofs.specs.Honest.{grafted_range, honest_parts}
-use Rattle.state_proofs.specs.Encoded.{Fits}
+use Rattle.state_proofs.specs.Honest.{grafted_range, honest_parts, honest_range}
+use Rattle.state_proofs.specs.Encoded.{Fits, FitsRange}
+use Rattle.state_proofs.specs.Laws.FewDigests.{AreFew, ranges_are_few}
 use Rattle.state_proofs_parts.specs.Laws.ChunkCounts.{inactive-few}
 use Rattle.state_proofs_parts.specs.Laws.Chunks.{length-chunk}
 use Rattle.state_proofs_parts.specs.Laws.Heights.{some_height}
@@ -98,20 +100,21 @@ inactive_fits setting state pairs few =
       few,
     )
 
--- the law that honest digests are few
-abbrev pub AreFew : Rule → Type 0
-AreFew rule = (hash : Hash) (bagging : Bagging) (digest : Digests) (leaf_total inactive location : ℕ)
-    → leaf_total ≤ 2 ^ 62 → location < leaf_total → inactive ≤ length (forest_of rule leaf_total)
-    → length (range_digests hash digest bagging location (location + 1)
-    (take inactive (located (forest_of rule leaf_total))) (drop inactive (located (forest_of rule leaf_total)))) ≤ 122
-
-pub range_is_few : (setting : Setting) (state : State) (location : ℕ) → AreFew setting.rule
+one_is_few : (setting : Setting) (state : State) (location : ℕ) → AreFew setting.rule
     → length state.operations ≤ 2 ^ 62 → location < length state.operations
     → length (grafted_range setting state location (location + 1)) ≤ 122
 unfolding grafted_range
-range_is_few setting state location law few within =
+one_is_few setting state location law few within =
     law setting.hash BackwardFold (grafted_digests setting state) (length state.operations)
     (grafted_inactive setting state) location few within (inactive-few setting state)
+
+range_is_few : (setting : Setting) (state : State) (start stop : ℕ) → AreFew setting.rule
+    → length state.operations ≤ 2 ^ 62 → start < stop → stop ≤ length state.operations
+    → length (grafted_range setting state start stop) ≤ 244
+unfolding grafted_range
+range_is_few setting state start stop law few some within =
+    ranges_are_few setting.rule law setting.hash (grafted_digests setting state) (length state.operations)
+    (grafted_inactive setting state) start stop few some within (inactive-few setting state)
 
 -- the law that a proof may hold a digest where some full chunk has no node
 abbrev pub MayHold : Rule → (Option (List ℕ) → Type 0) → ℕ → Type 0
@@ -132,7 +135,23 @@ may_hold setting state size IsPending sized none held whole low few =
     (subst (λ (bits : ℕ). nodes_of_height setting.grafting_height
     (forest setting state) < length state.operations / bits) whole more) is)
 
--- the honest parts are within the limits of a proof
+-- what is within the limits of a proof over operations, but for how many digests it has
+range_fits : (setting : Setting) (state : State) (start stop size most : ℕ) (IsPending : Option (List ℕ) → Type 0)
+    → IsPairing setting.rule → IsSized size setting.hash → IsPending None → MayHold setting.rule IsPending size
+    → 8 * setting.width ≡ 2 ^ setting.grafting_height → setting.grafting_height ≤ 62
+    → length state.operations ≤ 2 ^ 62 → length (grafted_range setting state start stop) ≤ most
+    → FitsRange IsPending size most (honest_range setting state start stop)
+range_fits setting state start stop size most IsPending pairs sized none held whole low few digests = record {
+  leaves = few;
+  inactive = inactive_fits setting state pairs few;
+  few = digests;
+  digests = range_of_size size setting state start stop sized;
+  pending = may_hold setting state size IsPending sized none held whole low few;
+  partial = partial_of_size size setting state sized;
+  operations_root = root_of_size size setting state sized;
+}
+
+-- the honest parts are within the limits of a proof of one operation
 pub honest_fits : (setting : Setting) (state : State) (location size : ℕ) (IsPending : Option (List ℕ) → Type 0)
     → IsPairing setting.rule
     → IsSized size setting.hash → AreFew setting.rule → IsPending None → MayHold setting.rule IsPending size
@@ -142,13 +161,17 @@ pub honest_fits : (setting : Setting) (state : State) (location size : ℕ) (IsP
 honest_fits setting state location size IsPending pairs sized law none held whole low few within = record {
   location = omega (arith, few, within);
   chunk = length-chunk setting state location (omega (arith, whole, pow_pos setting.grafting_height)) within;
-  range = record {
-    leaves = few;
-    inactive = inactive_fits setting state pairs few;
-    few = range_is_few setting state location law few within;
-    digests = range_of_size size setting state location (location + 1) sized;
-    pending = may_hold setting state size IsPending sized none held whole low few;
-    partial = partial_of_size size setting state sized;
-    operations_root = root_of_size size setting state sized;
-  };
+  range = range_fits setting state location (location + 1) size 122 IsPending pairs sized none held whole low few
+      (one_is_few setting state location law few within);
 }
+
+-- and of one over several
+pub honest_range_fits : (setting : Setting) (state : State) (start stop size : ℕ)
+    (IsPending : Option (List ℕ) → Type 0) → IsPairing setting.rule
+    → IsSized size setting.hash → AreFew setting.rule → IsPending None → MayHold setting.rule IsPending size
+    → 8 * setting.width ≡ 2 ^ setting.grafting_height → setting.grafting_height ≤ 62
+    → length state.operations ≤ 2 ^ 62 → start < stop → stop ≤ length state.operations
+    → FitsRange IsPending size 244 (honest_range setting state start stop)
+honest_range_fits setting state start stop size IsPending pairs sized law none held whole low few some within =
+    range_fits setting state start stop size 244 IsPending pairs sized none held whole low few
+    (range_is_few setting state start stop law few some within)
