@@ -472,6 +472,12 @@ class Case:
                 self.check_sizes()
                 at_once = max(number(buffer) // self.size, 1)
                 return self.sealed(unhex(first), b"", lambda sealed: Replay(sealed, at_once).play(words, []))
+            case ["replay-recovered", cut, buffer, *words]:
+                self.check_sizes()
+                at_once = max(number(buffer) // self.size, 1)
+                writer = Writer(self.cut_pages(number(cut)), self.size, self.capacity, self.room)
+                self.pages, self.durable = writer.pages(), writer.durable
+                return Replay(Sealed(writer), at_once).play(words, [])
             case ["recover", cut, *words]:
                 self.check_sizes()
                 found = len(self.pages_now().content)

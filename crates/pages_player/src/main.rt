@@ -257,6 +257,39 @@ impl PagesPlayer {
         told.finish(alloc)
     }
 
+    // Recovers the file, cuts it to so many bytes, and makes the calls of a line on a replay of what is left.
+    fn replay_recovery(
+        &mut self,
+        alloc: Global,
+        cut: u64,
+        buffer_size: usize,
+        words: &[&str],
+    ) -> Result<String, Unanswered> {
+        let mut cache = self.cache(alloc)?;
+        let mut told = Told::new(alloc);
+        let mut disk = MemoryDisk::showing(alloc, self.file.to_vec(alloc)?)?;
+        let size = disk.as_bytes().len() as u64;
+        let recovery = match Recovery::<Crc32>::open(
+            alloc,
+            &mut disk,
+            &mut cache,
+            size,
+            self.capacity,
+        ) {
+            Ok(recovery) => recovery,
+            Err(error) => return Ok(number(error).to_string(alloc)?),
+        };
+        match sealing::replayed_recovery(recovery, &mut disk, &mut cache, cut, buffer_size) {
+            Ok(replay) => {
+                let mut replay = replay;
+                sealing::play_replay(alloc, &mut replay, &mut disk, words, &mut told)?;
+            }
+            Err(error) => told.push(number(error))?,
+        }
+        self.keep(alloc, &disk)?;
+        told.finish(alloc)
+    }
+
     // How many bytes a recovery finds, in reads of so many bytes, and at most so many.
     fn found(&self, alloc: Global, buffer: usize, most: u64) -> Result<String, Unanswered> {
         let mut cache = self.cache(alloc)?;
@@ -458,6 +491,9 @@ impl Player for PagesPlayer {
             ["seal", first, words @ ..] => self.seal(alloc, &bytes(alloc, first)?, None, words),
             ["replay", first, buffer, words @ ..] => {
                 self.replay(alloc, &bytes(alloc, first)?, buffer.parse()?, words)
+            }
+            ["replay-recovered", cut, buffer, words @ ..] => {
+                self.replay_recovery(alloc, cut.parse()?, buffer.parse()?, words)
             }
             ["cut", size] => self.cut(alloc, size.parse()?),
             ["text", number] => text(alloc, number),

@@ -1,8 +1,10 @@
 //! Lists that are sealed, and replays of them.
 
-ghost use Rattle.std.specs.Prelude.{◌≡◌, IfOk};
+ghost use Rattle.std.specs.Prelude.{◌≡◌, ◌+◌, ◌<◌, ◌^◌, [], length, IfOk, IsFalse};
 ghost use Rattle.paged_format.specs.Footers.{content_size};
 ghost use Rattle.paged_blob_parts.specs.CachedContent.{HoldsPagesOf};
+ghost use Rattle.paged_blob_parts.specs.Calls.{content, file_of};
+ghost use Rattle.paged_format.specs.Pages.{recovered};
 ghost use Rattle.paged_blob_parts.specs.Reads.{ServesPages};
 ghost use Rattle.paged_blob_parts.specs.Stands.{Stand, on_blob};
 ghost use Rattle.paged_blob_parts.specs.Writers.{IsWriter, written};
@@ -14,7 +16,7 @@ use crate::told::{Told, number};
 use case_lines::{Unanswered, digits};
 use fault_storage::Checksum;
 use paged_blob::sealed::a_sealed_list_stays;
-use paged_blob::{Blob, CacheRef, Error, Replay, Sealed, Writer};
+use paged_blob::{Blob, CacheRef, Error, Recovery, Replay, Sealed, Writer};
 use std::alloc::Global;
 
 // Appends bytes and takes a snapshot, whose writer then goes on by more bytes and a sync, which may be refused.
@@ -98,6 +100,28 @@ pub fn replayed<B: Blob, C: Checksum>(
     let writer = writer?;
     let (writer, _size) = writer.append(blob, cache, first)?;
     let (_writer, replay) = writer.replay(blob, cache, buffer_size)?;
+    Ok(replay)
+}
+
+/// Cuts a recovery to so many bytes, and replays what is left before it becomes a writer.
+pub fn replayed_recovery<B: Blob, C: Checksum>(
+    recovery: Recovery<C>,
+    blob: &mut B,
+    cache: &mut CacheRef,
+    size: u64,
+    buffer_size: usize,
+) -> Result<Replay<C>, Error>
+    requires page { cache.old.page_size ≡ content_size recovery.page_size }
+    requires sound { IsFalse (file_of (B.calls blob.old)).failed }
+    requires settled { (file_of (B.calls blob.old)).changes ≡ [] }
+    requires numbers { length (content (B.calls blob.old)) < 2 ^ 64 }
+    requires known { recovery.tip.offset + length recovery.tip.bytes
+        ≡ length (recovered C.checksum_of recovery.page_size (content (B.calls blob.old))) }
+    requires empty { cache.old.pages ≡ [] }
+    ensures { IfOk result (λ r. Stand C.checksum_of (B.calls blob.new) r.sealed.pages) }
+{
+    let recovery = recovery.truncate(blob, cache, size)?;
+    let (_recovery, replay) = recovery.replay(blob, cache, buffer_size)?;
     Ok(replay)
 }
 

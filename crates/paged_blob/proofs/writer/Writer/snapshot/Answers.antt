@@ -1,7 +1,7 @@
 use Rattle.std.proofs.Common.{rules, ◌<◌, ℕ, List, subst}
 use Rattle.paged_blob_parts.specs.Stands.{IsSealed}
 use Rattle.paged_blob_parts.proofs.WriterViews.{writer_sealed}
-use Rattle.paged_blob.proofs.writer.sealing.Writer+C.snapshot.Goals as goal
+use Rattle.paged_blob.proofs.writer.Writer.snapshot.Goals as goal
 
 pub returns-clause-sealed : goal.returns-clause-sealed
 returns-clause-sealed g c =
