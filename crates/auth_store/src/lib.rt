@@ -8,8 +8,7 @@ pub use auth_store_client as client;
 pub use auth_store_client::{Claim, check, is_chunk_width};
 pub use auth_store_device::{Device, Image, Mutation, Mutations, OpenError, Opening, Openings};
 pub use auth_store_ledger::{
-    Batch, KeyProof, ProvedOperation, ProvedRange, ProvedSlice, Unprovable, Word, batch, history,
-    state,
+    Batch, KeyProof, ProvedOperation, ProvedRange, ProvedSlice, Word, batch, history, state,
 };
 pub use auth_store_run::{Ran, run, run_session};
 pub use auth_store_session::{Answer, NotOpened, Session, Sizes, Step, Store, StoreError};

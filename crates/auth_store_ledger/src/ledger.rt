@@ -9,7 +9,8 @@ ghost use Rattle.auth_store_ledger.specs.Map.{value_at};
 ghost use Rattle.auth_store_parts.specs.Places.{places_of};
 ghost use Rattle.auth_store_log.specs.Records.{format_of, log_bytes, AreRecorded};
 ghost use Rattle.auth_store_ledger.specs.Store.{IsChunkWidth, IsKept, IsLedger, AreWritten, HasValueAt, LedgerState};
-ghost use Rattle.auth_store_ledger.specs.Store.{commit_after, commit_count, floor_of, root_of_history, setting_of_width};
+ghost use Rattle.auth_store_ledger.specs.Store.{commit_after, commit_count, floor_of, root_of_history};
+ghost use Rattle.auth_store_ledger.specs.Store.{setting_of_width};
 
 mod absence;
 mod between;
@@ -40,8 +41,8 @@ pub const MAX_OPERATIONS: u64 = 0x4000_0000_0000_0000;
 
 /// A history of a store of keys `K` and values `V`, whose root is hashed by `H` over trees of the family `F` and over
 /// chunks of `N` bytes. Trees, bits and floor are kept in step with the log, so that a commit takes what its batch
-/// takes, and no root or proof is made of the whole log anew; chunks of trees and bits may be pruned from the front. Its
-/// contracts see it as the history, and how many chunks are pruned (own).
+/// takes, and no root or proof is made of the whole log anew; chunks of trees and bits may be pruned from the front.
+/// Its contracts see it as the history, and how many chunks are pruned (own).
 #[derive(Drop)]
 pub struct Ledger<F: Graftable, H: HashFunction, K: FixedKey, V: FixedValue, const N: usize> {
     alloc: Global,
@@ -119,7 +120,8 @@ impl<F: Graftable, H: HashFunction, K: FixedKey, V: FixedValue, const N: usize> 
     V,
     N,
 > {
-    /// The history whose log this is, of which nothing is pruned. It is refused where the log has more than 2^62 operations, or out of memory.
+    /// The history whose log this is, of which nothing is pruned. It is refused where the log has more than 2^62
+    /// operations, or out of memory.
     pub fn of(alloc: Global, log: PlacedLog<F, K, V>) -> Result<Ledger<F, H, K, V, N>, LedgerError>
         requires width { IsChunkWidth N }
         requires log { spec.meanings K.encoding V.encoding log.operations.items
@@ -155,7 +157,8 @@ impl<F: Graftable, H: HashFunction, K: FixedKey, V: FixedValue, const N: usize> 
         metadata: Option<V>,
     ) -> Result<Appended<F, H, K, V, N>, LedgerError>
         ensures operations { let said = words.meanings K.encoding V.encoding batch.now.words.items in
-            IfOk result (λ next. spec.log_of self.now.history ++ spec.meanings K.encoding V.encoding next.operations.items
+            IfOk result (λ next. spec.log_of self.now.history
+            ++ spec.meanings K.encoding V.encoding next.operations.items
             ≡ spec.log_of (commit_after said (option_map V.encoding metadata) self.now.history)) }
         ensures pruned { IfOk result (λ next. next.current.bits.pruned ≡ self.now.pruned) }
         ensures kept { IfOk result (λ next. IsKept (setting_of_width F.merge_rule H.hash_of N) K.SIZE V.SIZE
@@ -164,7 +167,8 @@ impl<F: Graftable, H: HashFunction, K: FixedKey, V: FixedValue, const N: usize> 
             ≡ log_bytes K.SIZE V.SIZE (spec.meanings K.encoding V.encoding next.operations.items)) }
         ensures written { IfOk result (λ next. AreWritten (format_of (K.after tt) (V.after tt) K.SIZE V.SIZE)
             (spec.meanings K.encoding V.encoding next.operations.items)) }
-        ensures few { IfOk result (λ next. length (spec.log_of self.now.history) + length next.operations.items ≤ 2 ^ 62) }
+        ensures few { IfOk result (λ next. length (spec.log_of self.now.history) + length next.operations.items
+            ≤ 2 ^ 62) }
         ensures refused { let said = words.meanings K.encoding V.encoding batch.now.words.items in
             let next = commit_after said (option_map V.encoding metadata) self.now.history in
             IfErr result (λ e. (e ≡ LedgerError.Memory) ⊎ ((e ≡ LedgerError.NumberEnded)

@@ -4,8 +4,9 @@ use Rattle.std.specs.Prelude.{⊤, IsTrue, Result, Ok, Err}
 use Rattle.auth_store_parts.specs.History.{History}
 use Rattle.auth_store_ledger.specs.Store.{commit_after}
 use Rattle.auth_store_ledger.specs.declared.error.Unprovable.{Unprovable as NoProof}
+use Rattle.auth_store_ledger.specs.declared.error.Unprovable.TheVariants as reasons
 use Rattle.auth_store_session.specs.declared.error.StoreError.{StoreError}
-use Rattle.auth_store_session.specs.declared.error.StoreError.TheVariants.{Fault, PowerCut, NumberEnded, Memory, Corrupt, Failed, PastFloor, Unprovable, Header}
+use Rattle.auth_store_session.specs.declared.error.StoreError.TheVariants.{Fault, PowerCut, NumberEnded, Memory, Corrupt, Failed, PastFloor, Inactive, OutOfRange, Pruned, EmptyRange, Header}
 use Rattle.auth_store_device.specs.Devices.{is_cut}
 use Rattle.auth_store_session.specs.Machine.{Machine, Power, State, closed, live, failed, doubtful, Request, ask_open, ask_commit, ask_get, ask_root, ask_commits, ask_floor, ask_len, ask_prune, ask_proof, ask_close, ask_crash, ask_config, ask_cut, Answer, Proved, proof_of, told_proof, opened, committed, value, root_is, commits_are, floor_is, len_is, pruned_to, proof, has_closed, has_crashed, is_set, refused, not_open, still_open, MayRefuseRead, MayRefuseOpening, MayRefuseCommit, IsStep, IsRun, IsSpent, Passes, turned, refusal_in, faults_in, faults_told, AskNoCut, TellNoCut}
 
@@ -18,7 +19,10 @@ Why before after Memory = ⊤
 Why before after Corrupt = ⊤
 Why before after Failed = ⊤
 Why before after PastFloor = ⊤
-Why before after (Unprovable why) = ⊤
+Why before after Inactive = ⊤
+Why before after OutOfRange = ⊤
+Why before after Pruned = ⊤
+Why before after EmptyRange = ⊤
 Why before after (Header fault) = ⊤
 
 read_why : (before after : Power) (e : StoreError) → MayRefuseRead before after e → Why before after e
@@ -29,7 +33,10 @@ read_why before after Memory cause = tt
 read_why before after Corrupt cause = tt
 read_why before after Failed cause = tt
 read_why before after PastFloor cause = tt
-read_why before after (Unprovable why) cause = tt
+read_why before after Inactive cause = tt
+read_why before after OutOfRange cause = tt
+read_why before after Pruned cause = tt
+read_why before after EmptyRange cause = tt
 read_why before after (Header fault) cause = tt
 
 opening_why : (m : Machine) (before after : Power) (e : StoreError) → MayRefuseOpening m before after e → Why before after e
@@ -40,7 +47,10 @@ opening_why m before after Memory cause = tt
 opening_why m before after Corrupt cause = tt
 opening_why m before after Failed cause = tt
 opening_why m before after PastFloor cause = tt
-opening_why m before after (Unprovable why) cause = tt
+opening_why m before after Inactive cause = tt
+opening_why m before after OutOfRange cause = tt
+opening_why m before after Pruned cause = tt
+opening_why m before after EmptyRange cause = tt
 opening_why m before after (Header fault) cause = tt
 
 commit_why : (m : Machine) (before after : Power) (next : History) (e : StoreError) → MayRefuseCommit m before after next e
@@ -52,7 +62,10 @@ commit_why m before after next Memory cause = tt
 commit_why m before after next Corrupt cause = tt
 commit_why m before after next Failed cause = tt
 commit_why m before after next PastFloor cause = tt
-commit_why m before after next (Unprovable why) cause = tt
+commit_why m before after next Inactive cause = tt
+commit_why m before after next OutOfRange cause = tt
+commit_why m before after next Pruned cause = tt
+commit_why m before after next EmptyRange cause = tt
 commit_why m before after next (Header fault) cause = tt
 
 -- an answer that is no refusal
@@ -86,7 +99,10 @@ why_of before after e error is why = subst (Why before after) (sym (same_refusal
 
 told_why : (before after : Power) (e : StoreError) (found : Result Proved NoProof) → refused e ≡ told_proof found → Why before after e
 told_why before after e (Ok proved) is = plain e (proof proved) is refl
-told_why before after e (Err why) is = why_of before after e (Unprovable why) is tt
+told_why before after e (Err reasons.Inactive) is = why_of before after e Inactive is tt
+told_why before after e (Err reasons.OutOfRange) is = why_of before after e OutOfRange is tt
+told_why before after e (Err reasons.Pruned) is = why_of before after e Pruned is tt
+told_why before after e (Err reasons.EmptyRange) is = why_of before after e EmptyRange is tt
 
 -- what a step tells
 step_why : (m : Machine) (before after : Power) (state : State) (request : Request) (e : StoreError) (next : State)
@@ -282,7 +298,10 @@ uncut_told m before after state request (refused Memory) next answers step uncut
 uncut_told m before after state request (refused Corrupt) next answers step uncut rest = rest
 uncut_told m before after state request (refused Failed) next answers step uncut rest = rest
 uncut_told m before after state request (refused PastFloor) next answers step uncut rest = rest
-uncut_told m before after state request (refused (Unprovable why)) next answers step uncut rest = rest
+uncut_told m before after state request (refused Inactive) next answers step uncut rest = rest
+uncut_told m before after state request (refused OutOfRange) next answers step uncut rest = rest
+uncut_told m before after state request (refused Pruned) next answers step uncut rest = rest
+uncut_told m before after state request (refused EmptyRange) next answers step uncut rest = rest
 uncut_told m before after state request (refused (Header fault)) next answers step uncut rest = rest
 uncut_told m before after state request not_open next answers step uncut rest = rest
 uncut_told m before after state request still_open next answers step uncut rest = rest

@@ -12,7 +12,7 @@ use Rattle.auth_store_parts.specs.History.{History, Commit}
 use Rattle.auth_store_log.specs.Records.{Format, history_bytes}
 use Rattle.auth_store_log.specs.Shown.{IsShown, MayShow}
 use Rattle.auth_store_session.specs.declared.error.StoreError.{StoreError}
-use Rattle.auth_store_session.specs.declared.error.StoreError.TheVariants.{Fault, PowerCut, NumberEnded, Memory, Corrupt, Failed, PastFloor, Unprovable, Header}
+use Rattle.auth_store_session.specs.declared.error.StoreError.TheVariants.{Fault, PowerCut, NumberEnded, Memory, Corrupt, Failed, PastFloor, Inactive, OutOfRange, Pruned, EmptyRange, Header}
 use Rattle.auth_store_ledger.specs.declared.error.LedgerError.{LedgerError}
 use Rattle.auth_store_ledger.specs.declared.error.LedgerError.TheVariants as ledgers
 use Rattle.auth_store_session.specs.Refusals.{of_ledger}
@@ -29,7 +29,10 @@ wider before after One Other Memory more cause = cause
 wider before after One Other Corrupt more cause = cause
 wider before after One Other Failed more cause = cause
 wider before after One Other PastFloor more cause = cause
-wider before after One Other (Unprovable why) more cause = cause
+wider before after One Other Inactive more cause = cause
+wider before after One Other OutOfRange more cause = cause
+wider before after One Other Pruned more cause = cause
+wider before after One Other EmptyRange more cause = cause
 wider before after One Other (Header fault) more cause = cause
 
 -- what a writer keeps of a live store

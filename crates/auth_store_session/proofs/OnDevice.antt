@@ -23,10 +23,11 @@ use Rattle.auth_store_ledger.specs.Store.{commit_after, root_of_history}
 use Rattle.auth_store_log.specs.Records.{Format, recovered_log, history_bytes, log_bytes, AreRecorded}
 use Rattle.auth_store_log.specs.Shown.{MayShow, IsKeptThrough}
 use Rattle.auth_store_session.specs.declared.error.StoreError.{StoreError}
-use Rattle.auth_store_session.specs.declared.error.StoreError.TheVariants.{Fault, PowerCut, NumberEnded, Memory, Corrupt, Failed, PastFloor, Unprovable, Header}
+use Rattle.auth_store_session.specs.declared.error.StoreError.TheVariants.{Fault, PowerCut, NumberEnded, Memory, Corrupt, Failed, PastFloor, Inactive, OutOfRange, Pruned, EmptyRange, Header}
 use Rattle.auth_store_session.specs.Refusals.{of_opening}
 use Rattle.auth_store_session.specs.Machine.{Machine, IsEndingOpening, MayRefuseRead, MayRefuseCommit, PassesLimit, commit_of}
-use Rattle.auth_store_session.specs.Stores.{StoreState, LiveState, IsStore, IsLive, IsLiveAt, IsNoHistory, OpeningsShow, IsReadRefusal, IsOpenRefusal, IsCommitRefusal, EndsDisk, EndsOpening}
+use Rattle.auth_store_session.specs.Stores.{StoreState, LiveState, IsStore, IsLive, IsLiveAt, IsNoHistory, IsPruned, OpeningsShow}
+use Rattle.auth_store_session.specs.Stores.{IsReadRefusal, IsOpenRefusal, IsCommitRefusal, EndsDisk, EndsOpening}
 use Rattle.auth_store_session.proofs.Kept.{keeps_history}
 use Rattle.auth_store_session.specs.Standing.{power_of, shown_of, result_of, Commits, IsOpenError, IsShownThrough}
 use Rattle.auth_store_session.proofs.Grown.{keeps_live}
@@ -99,7 +100,10 @@ module _ {R : Type 0} (m : Machine) (format : Format) (old mid new : DeviceState
         (subst (λ bytes. IsNoHistory format (recovered_log format crc32 m.page_size bytes)) shown cause, through)
     recovery_on_device Failed injected refused shown law through cause = absurd cause
     recovery_on_device PastFloor injected refused shown law through cause = absurd cause
-    recovery_on_device (Unprovable why) injected refused shown law through cause = absurd cause
+    recovery_on_device Inactive injected refused shown law through cause = absurd cause
+    recovery_on_device OutOfRange injected refused shown law through cause = absurd cause
+    recovery_on_device Pruned injected refused shown law through cause = absurd cause
+    recovery_on_device EmptyRange injected refused shown law through cause = absurd cause
     recovery_on_device (Header fault) injected refused shown law through cause = absurd cause
 
 -- a read that is refused
@@ -116,7 +120,10 @@ module _ {R : Type 0} (old new : DeviceState R) (cache now : Cache)
     read_on_device Corrupt law cause = absurd cause
     read_on_device Failed law cause = absurd cause
     read_on_device PastFloor law cause = absurd cause
-    read_on_device (Unprovable why) law cause = absurd cause
+    read_on_device Inactive law cause = absurd cause
+    read_on_device OutOfRange law cause = absurd cause
+    read_on_device Pruned law cause = absurd cause
+    read_on_device EmptyRange law cause = absurd cause
     read_on_device (Header fault) law cause = absurd cause
 
     -- and a commit
@@ -134,7 +141,10 @@ module _ {R : Type 0} (old new : DeviceState R) (cache now : Cache)
     commit_on_device m next Corrupt law cause = absurd cause
     commit_on_device m next Failed law cause = absurd cause
     commit_on_device m next PastFloor law cause = absurd cause
-    commit_on_device m next (Unprovable why) law cause = absurd cause
+    commit_on_device m next Inactive law cause = absurd cause
+    commit_on_device m next OutOfRange law cause = absurd cause
+    commit_on_device m next Pruned law cause = absurd cause
+    commit_on_device m next EmptyRange law cause = absurd cause
     commit_on_device m next (Header fault) law cause = absurd cause
 
 -- a store of which this is true has not failed
@@ -192,6 +202,17 @@ pub one_history : {R : Type 0} (device : DeviceState R) (cache : Cache) (live : 
 one_history {R = R} device cache live pruned at now history view is (other, stands, same) =
     let all : Some now ≡ Some other = sym is ∙ (ap (λ (s : StoreState R). s.live) view ∙ stands) in
     let one : now ≡ other = cc in ap (λ (l : LiveState). l.history) one ∙ same
+
+-- what holds of the history and of the pruned chunks that it has holds of the store's
+pub carried : {R : Type 0} (P : History → ℕ → Type 0) (device : DeviceState R) (cache : Cache) (live : Option LiveState) (pruned : ℕ)
+    (at : StoreState R) (now made : LiveState) (history : History) → store_of device cache live pruned ≡ at → live ≡ Some now
+    → IsPruned live pruned → made ≡ now → IsLiveAt at history → P made.history made.pruned → P history at.pruned
+carried {R = R} P device cache live pruned at now made history view is are same stands holds =
+    let one : made.history ≡ history = ap (λ (l : LiveState). l.history) same
+    ∙ one_history device cache live pruned at now history view is stands in
+    let number : made.pruned ≡ at.pruned = ap (λ (l : LiveState). l.pruned) same
+    ∙ (subst (λ (l : Option LiveState). IsPruned l pruned) is are ∙ ap (λ (s : StoreState R). s.pruned) view) in
+    subst (P history) number (subst (λ (h : History). P h made.pruned) one holds)
 
 -- what a live store has on its blob shows its history
 pub live_shows : (format : Format) (calls : List Call) (cache : Cache) (now : LiveState)
@@ -252,5 +273,8 @@ refused_closed m format old new cache now Memory why = why
 refused_closed m format old new cache now Corrupt why = why
 refused_closed m format old new cache now Failed why = why
 refused_closed m format old new cache now PastFloor why = why
-refused_closed m format old new cache now (Unprovable which) why = why
+refused_closed m format old new cache now Inactive why = why
+refused_closed m format old new cache now OutOfRange why = why
+refused_closed m format old new cache now Pruned why = why
+refused_closed m format old new cache now EmptyRange why = why
 refused_closed m format old new cache now (Header fault) why = why

@@ -141,7 +141,10 @@ leaves_unproved e device cache (inr is) = leaves_failed e device cache is
 
 pub leaves_of_proof : {R : Type 0} (e : StoreError) (device : DeviceState R) (cache : Cache) → IsOfProof e
     → Leaves 0 (Some e) (power_of device cache) (power_of device cache)
-leaves_of_proof (refusals.Unprovable why) device cache is = leaves_none (Some (refusals.Unprovable why)) device cache refl refl
+leaves_of_proof refusals.Inactive device cache is = leaves_none (Some refusals.Inactive) device cache refl refl
+leaves_of_proof refusals.OutOfRange device cache is = leaves_none (Some refusals.OutOfRange) device cache refl refl
+leaves_of_proof refusals.Pruned device cache is = leaves_none (Some refusals.Pruned) device cache refl refl
+leaves_of_proof refusals.EmptyRange device cache is = leaves_none (Some refusals.EmptyRange) device cache refl refl
 leaves_of_proof refusals.Memory device cache is = leaves_none (Some refusals.Memory) device cache refl refl
 leaves_of_proof refusals.Failed device cache is = leaves_none (Some refusals.Failed) device cache refl refl
 leaves_of_proof (refusals.Fault kind) device cache is = absurd is

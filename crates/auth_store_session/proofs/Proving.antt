@@ -5,6 +5,7 @@ use Rattle.auth_store_ledger.specs.Proving.{IsUnproved}
 use Rattle.auth_store_ledger.specs.declared.error.ProofError.{ProofError}
 use Rattle.auth_store_ledger.specs.declared.error.ProofError.TheVariants as given
 use Rattle.auth_store_ledger.specs.declared.error.Unprovable.{Unprovable as NoProof}
+use Rattle.auth_store_ledger.specs.declared.error.Unprovable.TheVariants as reasons
 use Rattle.auth_store_session.specs.declared.error.StoreError.{StoreError}
 use Rattle.auth_store_session.specs.Machine.{Proved, as_proved}
 use Rattle.auth_store_session.specs.Refusals.{IsOfProof, of_proof}
@@ -19,7 +20,10 @@ refused_proof wrap meaning expected error e result is from why =
   where
     told : (error : ProofError) → IsUnproved expected error
         → AnswersProof (λ p. wrap (meaning p)) (as_proved wrap expected) (Err (of_proof error))
-    told (given.Unprovable why) is = ap (as_proved wrap) is
+    told (given.Unprovable reasons.Inactive) is = ap (as_proved wrap) is
+    told (given.Unprovable reasons.OutOfRange) is = ap (as_proved wrap) is
+    told (given.Unprovable reasons.Pruned) is = ap (as_proved wrap) is
+    told (given.Unprovable reasons.EmptyRange) is = ap (as_proved wrap) is
     told given.Memory is = tt
 
 pub refuses_proof : {P : Type 0} (error : ProofError) (e : StoreError) (result : Result P StoreError) → result ≡ Err e → e ≡ of_proof error
@@ -27,5 +31,8 @@ pub refuses_proof : {P : Type 0} (error : ProofError) (e : StoreError) (result :
 refuses_proof error e result is from = subst (λ r. IfErr r IsOfProof) (sym (is ∙ ap Err from)) (told error)
   where
     told : (error : ProofError) → IsOfProof (of_proof error)
-    told (given.Unprovable why) = tt
+    told (given.Unprovable reasons.Inactive) = tt
+    told (given.Unprovable reasons.OutOfRange) = tt
+    told (given.Unprovable reasons.Pruned) = tt
+    told (given.Unprovable reasons.EmptyRange) = tt
     told given.Memory = tt

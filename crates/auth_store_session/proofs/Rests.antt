@@ -14,7 +14,7 @@ use Rattle.std.specs.Prelude.{IsFalse, IfSome}
 use Rattle.fault_storage.specs.Stores.{Store}
 use Rattle.auth_store_device.specs.Logs.{HasOwnHeader}
 use Rattle.auth_store_session.specs.declared.error.StoreError.{StoreError}
-use Rattle.auth_store_session.specs.declared.error.StoreError.TheVariants.{Fault, PowerCut, NumberEnded, Memory, Corrupt, Failed, PastFloor, Unprovable, Header}
+use Rattle.auth_store_session.specs.declared.error.StoreError.TheVariants.{Fault, PowerCut, NumberEnded, Memory, Corrupt, Failed, PastFloor, Inactive, OutOfRange, Pruned, EmptyRange, Header}
 use Rattle.auth_store_session.specs.Machine as machine
 use Rattle.auth_store_session.specs.Machine.{Machine, Power, State, closed, live, failed, doubtful, Request, ask_open, Answer, refused, at_rest, IsShownOf, IsStepClosed, IsStepInDoubt, IsAnswerTo, IsSaid, is_open_after, MayRefuseOpening}
 use Rattle.auth_store_session.specs.MachineCode.{request_of, config_after, config_after_all, IsLeftBy}
@@ -108,7 +108,10 @@ refuses_for m format device new cache now history pending NumberEnded shows own 
 refuses_for m format device new cache now history pending Memory shows own none cause = cause
 refuses_for m format device new cache now history pending Failed shows own none cause = cause
 refuses_for m format device new cache now history pending PastFloor shows own none cause = cause
-refuses_for m format device new cache now history pending (Unprovable why) shows own none cause = cause
+refuses_for m format device new cache now history pending Inactive shows own none cause = cause
+refuses_for m format device new cache now history pending OutOfRange shows own none cause = cause
+refuses_for m format device new cache now history pending Pruned shows own none cause = cause
+refuses_for m format device new cache now history pending EmptyRange shows own none cause = cause
 
 -- and in doubt
 doubts_for : {R : Type 0} (m : Machine) (format : Format) (device new : DeviceState R) (cache now : Cache) (e : StoreError)
@@ -122,7 +125,10 @@ doubts_for m format device new cache now NumberEnded own cause = inr cause
 doubts_for m format device new cache now Memory own cause = inr cause
 doubts_for m format device new cache now Failed own cause = inr cause
 doubts_for m format device new cache now PastFloor own cause = inr cause
-doubts_for m format device new cache now (Unprovable why) own cause = inr cause
+doubts_for m format device new cache now Inactive own cause = inr cause
+doubts_for m format device new cache now OutOfRange own cause = inr cause
+doubts_for m format device new cache now Pruned own cause = inr cause
+doubts_for m format device new cache now EmptyRange own cause = inr cause
 
 -- an opening that is refused
 pub refused_in : {R : Type 0} (m : Machine) (format : Format) (device new : DeviceState R) (cache now : Cache) (e : StoreError)

@@ -10,7 +10,7 @@ use Rattle.auth_store_log.specs.Records.{Format}
 use Rattle.auth_store_ledger.specs.Store.{commit_after, floor_of, IsPrunedUpTo}
 use Rattle.auth_store_ledger.specs.declared.error.Unprovable.{Unprovable as NoProof}
 use Rattle.auth_store_session.specs.declared.error.StoreError.{StoreError}
-use Rattle.auth_store_session.specs.declared.error.StoreError.TheVariants.{Fault, PowerCut, NumberEnded, Memory, Corrupt, Failed, PastFloor, Unprovable, Header}
+use Rattle.auth_store_session.specs.declared.error.StoreError.TheVariants.{Fault, PowerCut, NumberEnded, Memory, Corrupt, Failed, PastFloor, Inactive, OutOfRange, Pruned, EmptyRange, Header}
 use Rattle.auth_store_session.specs.Machine.{Machine, Power, State, closed, live, failed, doubtful, Request, ask_open, ask_crash, ask_commit, ask_get, ask_prune, ask_proof, Answer, still_open, committed, value, pruned_to, proof, refused, IsStep, IsStepLive, IsStepFailed, MayRefuseRead, commit_of, Question, Proved, proof_of, told_proof}
 use Rattle.auth_store_session.specs.MachineCode.{answer_of, request_of}
 use Rattle.auth_store_session.specs.declared.session.Step.{Step}
@@ -101,7 +101,22 @@ proves_in m format said question store (Ok found) is lost (live history pruned) 
   (refl, inl (sym (ap told_proof (ap (λ (n : ℕ). proof_of m history n question) (sym stands.1) ∙ is history stands.0))), refl),
   stands,
 )
-proves_in m format said question store (Err (Unprovable why)) is lost (live history pruned) stands = (
+proves_in m format said question store (Err Inactive) is lost (live history pruned) stands = (
+  live history pruned,
+  (refl, inl (sym (ap told_proof (ap (λ (n : ℕ). proof_of m history n question) (sym stands.1) ∙ is history stands.0))), refl),
+  stands,
+)
+proves_in m format said question store (Err OutOfRange) is lost (live history pruned) stands = (
+  live history pruned,
+  (refl, inl (sym (ap told_proof (ap (λ (n : ℕ). proof_of m history n question) (sym stands.1) ∙ is history stands.0))), refl),
+  stands,
+)
+proves_in m format said question store (Err Pruned) is lost (live history pruned) stands = (
+  live history pruned,
+  (refl, inl (sym (ap told_proof (ap (λ (n : ℕ). proof_of m history n question) (sym stands.1) ∙ is history stands.0))), refl),
+  stands,
+)
+proves_in m format said question store (Err EmptyRange) is lost (live history pruned) stands = (
   live history pruned,
   (refl, inl (sym (ap told_proof (ap (λ (n : ℕ). proof_of m history n question) (sym stands.1) ∙ is history stands.0))), refl),
   stands,

@@ -17,7 +17,7 @@ use Rattle.auth_store_ledger.specs.Proving.{answer_of_operation, answer_of_range
 use Rattle.auth_store_ledger.specs.declared.error.Unprovable.{Unprovable}
 use Rattle.auth_store_session.specs.declared.error.StoreError.{StoreError}
 use Rattle.auth_store_session.specs.declared.error.StoreError.TheVariants as refusals
-use Rattle.auth_store_session.specs.Refusals.{IsOfChange, IsOfRead}
+use Rattle.auth_store_session.specs.Refusals.{IsOfChange, IsOfRead, of_reason}
 
 -- what stays the same in a run: trees, hashes and chunks, how the family encodes a pending digest, the sizes of keys
 -- and of values, and how many bytes a page of the disk has
@@ -214,7 +214,7 @@ proof_of m history pruned (of_slice start stop) =
 -- the answer that tells it
 abbrev pub told_proof : Result Proved Unprovable → Answer
 told_proof (Ok proved) = proof proved
-told_proof (Err why) = refused (refusals.Unprovable why)
+told_proof (Err why) = refused (of_reason why)
 
 -- the history, or the history with the pending commit
 abbrev pub IsShownOf : History → Option Commit → History → Type 0

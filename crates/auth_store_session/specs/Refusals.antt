@@ -12,19 +12,12 @@ use Rattle.auth_store_ledger.specs.declared.error.LedgerError.{LedgerError}
 use Rattle.auth_store_ledger.specs.declared.error.LedgerError.TheVariants as ledgers
 use Rattle.auth_store_ledger.specs.declared.error.ProofError.{ProofError}
 use Rattle.auth_store_ledger.specs.declared.error.ProofError.TheVariants as proofs
-use Rattle.auth_store_ledger.specs.declared.error.Unprovable.{Unprovable as Why}
-use Rattle.auth_store_ledger.specs.declared.error.Unprovable.TheVariants.{EmptyRange, OutOfRange, Pruned, Inactive}
+use Rattle.auth_store_ledger.specs.declared.error.Unprovable.{Unprovable}
+use Rattle.auth_store_ledger.specs.declared.error.Unprovable.TheVariants as reasons
 use Rattle.auth_store_session.specs.declared.error.StoreError.{StoreError}
 use Rattle.auth_store_session.specs.declared.error.StoreError.TheVariants.{Fault, PowerCut, NumberEnded, Memory}
-use Rattle.auth_store_session.specs.declared.error.StoreError.TheVariants.{Corrupt, Failed, PastFloor, Unprovable}
-use Rattle.auth_store_session.specs.declared.error.StoreError.TheVariants.{Header}
-
--- of there being no proof
-abbrev pub number_of_proof : Why → List ℕ
-number_of_proof Inactive = codes "S8"
-number_of_proof OutOfRange = codes "S9"
-number_of_proof Pruned = codes "S10"
-number_of_proof EmptyRange = codes "S11"
+use Rattle.auth_store_session.specs.declared.error.StoreError.TheVariants.{Corrupt, Failed, PastFloor, Inactive}
+use Rattle.auth_store_session.specs.declared.error.StoreError.TheVariants.{OutOfRange, Pruned, EmptyRange, Header}
 
 abbrev pub number_of : StoreError → List ℕ
 number_of (Fault kind) = codes "S1"
@@ -34,7 +27,10 @@ number_of Memory = codes "S4"
 number_of Corrupt = codes "S5"
 number_of Failed = codes "S6"
 number_of PastFloor = codes "S7"
-number_of (Unprovable why) = number_of_proof why
+number_of Inactive = codes "S8"
+number_of OutOfRange = codes "S9"
+number_of Pruned = codes "S10"
+number_of EmptyRange = codes "S11"
 number_of (Header fault) = codes "S12"
 
 -- what a ledger refuses
@@ -42,14 +38,24 @@ abbrev pub of_ledger : LedgerError → StoreError
 of_ledger ledgers.NumberEnded = NumberEnded
 of_ledger ledgers.Memory = Memory
 
+-- that there is no proof
+abbrev pub of_reason : Unprovable → StoreError
+of_reason reasons.Inactive = Inactive
+of_reason reasons.OutOfRange = OutOfRange
+of_reason reasons.Pruned = Pruned
+of_reason reasons.EmptyRange = EmptyRange
+
 -- what it refuses where it is asked for a proof
 abbrev pub of_proof : ProofError → StoreError
-of_proof (proofs.Unprovable why) = Unprovable why
+of_proof (proofs.Unprovable why) = of_reason why
 of_proof proofs.Memory = Memory
 
 -- why a call that is asked for a proof may refuse: there is none, memory was lacking, or the store had failed
 abbrev pub IsOfProof : StoreError → Type 0
-IsOfProof (Unprovable why) = ⊤
+IsOfProof Inactive = ⊤
+IsOfProof OutOfRange = ⊤
+IsOfProof Pruned = ⊤
+IsOfProof EmptyRange = ⊤
 IsOfProof Memory = ⊤
 IsOfProof Failed = ⊤
 IsOfProof _ = ⊥

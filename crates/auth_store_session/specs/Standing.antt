@@ -16,6 +16,7 @@ use Rattle.auth_store_log.specs.Records.{Format, begun, history_bytes, recovered
 use Rattle.auth_store_log.specs.Shown.{IsKeptThrough}
 use Rattle.auth_store_ledger.specs.Store.{commit_after, root_of_history}
 use Rattle.auth_store_ledger.specs.declared.error.Unprovable.{Unprovable}
+use Rattle.auth_store_ledger.specs.declared.error.Unprovable.TheVariants.{EmptyRange, OutOfRange, Pruned, Inactive}
 use Rattle.auth_store_session.specs.declared.error.StoreError.{StoreError}
 use Rattle.auth_store_session.specs.declared.error.StoreError.TheVariants as refusals
 use Rattle.auth_store_session.specs.Machine.{Machine, Power, State, closed, live, failed, doubtful, Request, ask_open}
@@ -54,7 +55,10 @@ result_of encoding (Err e) = Err e
 -- lacking
 abbrev pub AnswersProof : {A : Type 0} → (A → Proved) → Result Proved Unprovable → Result A StoreError → Type 0
 AnswersProof said expected (Ok found) = expected ≡ Ok (said found)
-AnswersProof said expected (Err (refusals.Unprovable why)) = expected ≡ Err why
+AnswersProof said expected (Err refusals.Inactive) = expected ≡ Err Inactive
+AnswersProof said expected (Err refusals.OutOfRange) = expected ≡ Err OutOfRange
+AnswersProof said expected (Err refusals.Pruned) = expected ≡ Err Pruned
+AnswersProof said expected (Err refusals.EmptyRange) = expected ≡ Err EmptyRange
 AnswersProof said expected (Err refusals.Memory) = ⊤
 AnswersProof said expected (Err error) = ⊥
 

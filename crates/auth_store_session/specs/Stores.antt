@@ -21,7 +21,8 @@ use Rattle.auth_store_session.specs.declared.error.StoreError.TheVariants.{Corru
 use Rattle.auth_store_session.specs.Refusals.{IsOfChange, IsOfRead}
 use Rattle.auth_store_session.specs.Machine.{faults_in, cuts_in}
 
--- an open store that has not failed: its history, the writer of its log, and how many chunks are pruned of what it keeps
+-- an open store that has not failed: its history, the writer of its log, and how many chunks are pruned of what it
+-- keeps
 pub record LiveState : Type 0 where
   pub history : History
   pub writer : WriterState

@@ -2,8 +2,8 @@
 
 ghost use Rattle.std.specs.Prelude.{◌≡◌, codes};
 ghost use Rattle.auth_store_session.specs.declared.error.StoreError.TheVariants.{Memory};
-ghost use Rattle.auth_store_session.specs.Refusals.{number_of, number_of_proof, of_blob, of_ledger, of_log, of_opening};
-ghost use Rattle.auth_store_session.specs.Refusals.{of_proof};
+ghost use Rattle.auth_store_session.specs.Refusals.{number_of, of_blob, of_ledger, of_log, of_opening};
+ghost use Rattle.auth_store_session.specs.Refusals.{of_proof, of_reason};
 
 use auth_store_device::OpenError;
 use auth_store_ledger::{LedgerError, ProofError, Unprovable};
@@ -36,24 +36,21 @@ pub enum StoreError {
     /// S7: pruning past the floor.
     #[error("S7: past the floor")]
     PastFloor,
-    /// S8 to S11: there is no proof of what was asked for.
-    #[error("{0}")]
-    Unprovable(Unprovable),
+    /// S8: of a proof: the operation is not active.
+    #[error("S8: the operation is not active")]
+    Inactive,
+    /// S9: of a proof: the log has no such operation, or the range ends past it.
+    #[error("S9: past the end of the log")]
+    OutOfRange,
+    /// S10: of a proof: the operation, or the first of the range, stands before the pruned chunks.
+    #[error("S10: before the pruned chunks")]
+    Pruned,
+    /// S11: of a proof: the range is empty; it starts at its end or past it.
+    #[error("S11: the range is empty")]
+    EmptyRange,
     /// S12: the log's header is refused.
     #[error("S12: {0}")]
     Header(HeaderError),
-}
-
-// The number of the refusal: `"S8"` to `"S11"`.
-fn number_of_proof(why: Unprovable) -> &'static str
-    ensures { result.now ≡ number_of_proof why }
-{
-    match why {
-        Unprovable::Inactive => "S8",
-        Unprovable::OutOfRange => "S9",
-        Unprovable::Pruned => "S10",
-        Unprovable::EmptyRange => "S11",
-    }
 }
 
 impl StoreError {
@@ -69,7 +66,10 @@ impl StoreError {
             StoreError::Corrupt => "S5",
             StoreError::Failed => "S6",
             StoreError::PastFloor => "S7",
-            StoreError::Unprovable(why) => number_of_proof(*why),
+            StoreError::Inactive => "S8",
+            StoreError::OutOfRange => "S9",
+            StoreError::Pruned => "S10",
+            StoreError::EmptyRange => "S11",
             StoreError::Header(_) => "S12",
         }
     }
@@ -102,12 +102,25 @@ impl From<LedgerError> for StoreError {
     }
 }
 
+impl From<Unprovable> for StoreError {
+    ghost from_gives = { λ why e. e ≡ of_reason why };
+
+    fn from(why: Unprovable) -> StoreError {
+        match why {
+            Unprovable::Inactive => StoreError::Inactive,
+            Unprovable::OutOfRange => StoreError::OutOfRange,
+            Unprovable::Pruned => StoreError::Pruned,
+            Unprovable::EmptyRange => StoreError::EmptyRange,
+        }
+    }
+}
+
 impl From<ProofError> for StoreError {
     ghost from_gives = { λ refused e. e ≡ of_proof refused };
 
     fn from(refused: ProofError) -> StoreError {
         match refused {
-            ProofError::Unprovable(why) => StoreError::Unprovable(why),
+            ProofError::Unprovable(why) => StoreError::from(why),
             ProofError::Memory => StoreError::Memory,
         }
     }

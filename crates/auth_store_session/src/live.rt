@@ -302,15 +302,16 @@ where
     }
 }
 
-// Prunes what a ledger keeps up to a location, and answers how many chunks are pruned then. S7: the location stands past
-// the floor. S4: out of memory. Refused, it stays as it was.
+// Prunes what a ledger keeps up to a location, and answers how many chunks are pruned then. S7: the location stands
+// past the floor. S4: out of memory. Refused, it stays as it was.
 fn prune_ledger<F: Graftable, H: HashFunction, K: FixedKey, V: FixedValue, const N: usize>(
     ledger: &mut Ledger<F, H, K, V, N>,
     location: u64,
 ) -> Result<u64, StoreError>
     ensures ok { IfOk result (λ chunks. (ledger.new ≡ record ledger.old { pruned = chunks })
         × (location ≤ floor_of ledger.old.history)
-        × IsPrunedUpTo (setting_of_width F.merge_rule H.hash_of N) ledger.old.history ledger.old.pruned location chunks) }
+        × IsPrunedUpTo (setting_of_width F.merge_rule H.hash_of N) ledger.old.history ledger.old.pruned location
+        chunks) }
     ensures refused { IfErr result (λ e. ((e ≡ StoreError.PastFloor) × (floor_of ledger.old.history < location))
         ⊎ ((e ≡ StoreError.Memory) × (location ≤ floor_of ledger.old.history))) }
     ensures unchanged { OnErr result (ledger.new ≡ ledger.old) }

@@ -313,8 +313,8 @@ where
     }
 
     /// Prunes the chunks that are settled and end by the location, and answers how many are pruned then: no fewer than
-    /// before. Root, values and proofs of keys stay as they were, and what led to the pruned ones alone is let go. S6: the
-    /// store has failed. S7: the location stands past the floor. S4: out of memory.
+    /// before. Root, values and proofs of keys stay as they were, and what led to the pruned ones alone is let go. S6:
+    /// the store has failed. S7: the location stands past the floor. S4: out of memory.
     pub fn prune(&mut self, location: u64) -> Result<u64, StoreError>
         ensures ok { let setting = setting_of_width F.merge_rule H.hash_of N in
             (history : History) → IsLiveAt self.old history → IfOk result (λ chunks. (self.new.pruned ≡ chunks)

@@ -3,7 +3,7 @@
 //! A text is one word. In it `~` stands for a space, `!` for a carriage return and `^` for a tab; `-` alone is the
 //! empty text.
 
-use auth_store_ledger::{Unprovable, is_chunk_width};
+use auth_store_ledger::is_chunk_width;
 use auth_store_parts::script::{
     FaultKind, InputError, Line, TornMode, TreeFamily, parse_key, parse_line, parse_number,
 };
@@ -113,13 +113,15 @@ fn of_line(alloc: Global, line: Line) -> Result<String, AllocError> {
     }
 }
 
-// The reason of this name why there is no proof.
-fn unprovable(name: &str) -> Result<Unprovable, Unanswered> {
-    match name {
-        "S8" => Ok(Unprovable::Inactive),
-        "S9" => Ok(Unprovable::OutOfRange),
-        "S10" => Ok(Unprovable::Pruned),
-        "S11" => Ok(Unprovable::EmptyRange),
+// The refusal of a store of this number, of those that name nothing else.
+fn refusal(number: &str) -> Result<StoreError, Unanswered> {
+    match number {
+        "S6" => Ok(StoreError::Failed),
+        "S7" => Ok(StoreError::PastFloor),
+        "S8" => Ok(StoreError::Inactive),
+        "S9" => Ok(StoreError::OutOfRange),
+        "S10" => Ok(StoreError::Pruned),
+        "S11" => Ok(StoreError::EmptyRange),
         _ => Err(Unanswered::BadLine),
     }
 }
@@ -127,11 +129,9 @@ fn unprovable(name: &str) -> Result<Unprovable, Unanswered> {
 // The text of a refusal of this name.
 fn of_refusal(alloc: Global, name: &str) -> Result<String, Unanswered> {
     match name {
-        "S6" => Ok(format!(in alloc; "{}", StoreError::Failed)?),
-        "S7" => Ok(format!(in alloc; "{}", StoreError::PastFloor)?),
         "memory" => Ok(format!(in alloc; "{}", InputError::Memory)?),
         "read" => Ok(format!(in alloc; "{}", InputError::Read)?),
-        name => Ok(format!(in alloc; "{}", StoreError::Unprovable(unprovable(name)?))?),
+        name => Ok(format!(in alloc; "{}", refusal(name)?)?),
     }
 }
 

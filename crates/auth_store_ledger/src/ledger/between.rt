@@ -144,7 +144,8 @@ impl<F: Graftable, H: HashFunction, K: FixedKey, V: FixedValue, const N: usize> 
         requires some { start < stop }
         requires within { stop ≤ length (log_of self.now.history) }
         ensures { let setting = setting_of_width F.merge_rule H.hash_of N in OnOk result (out.new.items ≡ out.old.items
-            ++ flat_map (λ chunk. chunk) (chunks_over setting (state_of_history K.SIZE V.SIZE self.now.history) start stop)) }
+            ++ flat_map (λ chunk. chunk)
+            (chunks_over setting (state_of_history K.SIZE V.SIZE self.now.history) start stop)) }
     {
         self.holds_a_history();
         let size = chunk_size::<N>();

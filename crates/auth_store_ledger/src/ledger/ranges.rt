@@ -1,11 +1,11 @@
 //! Proofs of operations by their locations: of one that is active, of a range with its activity bits, and of a slice of
 //! the log.
 
-ghost use Rattle.std.specs.Prelude.{◌≡◌, ◌<◌, ◌≤◌, ◌*◌, length, Ok, IfOk, IfErr};
+ghost use Rattle.std.specs.Prelude.{◌≡◌, ◌<◌, ◌≤◌, ◌*◌, length, None, Ok, IfOk, IfErr};
 ghost use Rattle.auth_store_client.specs.Claims.{terms};
 ghost use Rattle.auth_store_ledger.specs.History.{log_of};
 ghost use Rattle.auth_store_ledger.specs.Proving.{IsUnproved, answer_of_operation, answer_of_range, answer_of_slice};
-ghost use Rattle.auth_store_ledger.specs.Proving.{range_answer, slice_answer};
+ghost use Rattle.auth_store_ledger.specs.Proving.{range_answer, range_refusal, slice_answer};
 ghost use Rattle.auth_store_ledger.specs.Proving.{IsAcceptedOperation, IsAcceptedRange, IsAcceptedSlice};
 ghost use Rattle.auth_store_ledger.specs.ProvingCode.{operation_answer_of, range_answer_of, slice_answer_of};
 ghost use Rattle.auth_store_ledger.specs.Store.{root_of_history, setting_of_width};
@@ -57,6 +57,26 @@ impl<
     V: FixedValue,
     const N: usize,
 > Ledger<F, H, K, V, N> {
+    // Why the operations from `start` up to `stop` are not proved, or None where they are.
+    fn range_refusal(&self, start: u64, stop: u64) -> Option<Unprovable>
+        ensures refusal { result ≡ range_refusal (setting_of_width F.merge_rule H.hash_of N) self.now.history
+            self.now.pruned start stop }
+        ensures kept { result ≡ None → 8 * N * self.now.pruned ≤ start }
+        ensures some { result ≡ None → start < stop }
+        ensures within { result ≡ None → stop ≤ length (log_of self.now.history) }
+    {
+        if stop <= start {
+            return Some(Unprovable::EmptyRange);
+        }
+        if self.len() < stop {
+            return Some(Unprovable::OutOfRange);
+        }
+        if start < self.kept_from() {
+            return Some(Unprovable::Pruned);
+        }
+        None
+    }
+
     // The operations from `start` up to `stop` with their activity bits and the proof of both. It fails only when out
     // of memory.
     fn range_between(&self, start: u64, stop: u64) -> Result<ProvedRange<F, K, V>, AllocError>
@@ -140,14 +160,8 @@ impl<
     {
         honest_ranges_are_shown::<F, H, K, V, N>();
         self.holds_a_history();
-        if stop <= start {
-            return Err(ProofError::Unprovable(Unprovable::EmptyRange));
-        }
-        if self.len() < stop {
-            return Err(ProofError::Unprovable(Unprovable::OutOfRange));
-        }
-        if start < self.kept_from() {
-            return Err(ProofError::Unprovable(Unprovable::Pruned));
+        if let Some(why) = self.range_refusal(start, stop) {
+            return Err(ProofError::Unprovable(why));
         }
         match self.range_between(start, stop) {
             Ok(proved) => Ok(proved),
@@ -171,14 +185,8 @@ impl<
     {
         honest_slices_are_shown::<F, H, K, V, N>();
         self.holds_a_history();
-        if stop <= start {
-            return Err(ProofError::Unprovable(Unprovable::EmptyRange));
-        }
-        if self.len() < stop {
-            return Err(ProofError::Unprovable(Unprovable::OutOfRange));
-        }
-        if start < self.kept_from() {
-            return Err(ProofError::Unprovable(Unprovable::Pruned));
+        if let Some(why) = self.range_refusal(start, stop) {
+            return Err(ProofError::Unprovable(why));
         }
         match self.slice_between(start, stop) {
             Ok(proved) => Ok(proved),

@@ -1,4 +1,4 @@
-use Rattle.std.proofs.Common.{◌≡◌, ◌∙◌, ℕ, Some, ap, sym, subst, Option, Ok}
+use Rattle.std.proofs.Common.{◌≡◌, ◌∙◌, ℕ, Some, Ok, ap, sym}
 use Rattle.std.proofs.lemmas.Result.{err_from_is_err_and}
 use Rattle.std.specs.Option.{option_copied}
 use Rattle.auth_store_parts.specs.History.{History}
@@ -7,8 +7,7 @@ use Rattle.auth_store_ledger.specs.Proving.{IsAcceptedRange, IsUnproved, answer_
 use Rattle.auth_store_ledger.specs.ProvingCode.{range_answer_of}
 use Rattle.auth_store_ledger.specs.Store.{root_of_history, setting_of_width}
 use Rattle.auth_store_session.specs.Machine.{as_proved, range_is}
-use Rattle.auth_store_session.specs.Stores.{LiveState, StoreState, IsPruned}
-use Rattle.auth_store_session.proofs.OnDevice.{one_history}
+use Rattle.auth_store_session.proofs.OnDevice.{carried}
 use Rattle.auth_store_session.proofs.Proving.{refused_proof, refuses_proof}
 use Rattle.auth_store_session.proofs.store.Store.prove_range.Goals as goal
 
@@ -17,20 +16,14 @@ returns-in_err-prove_range-clause-proof g c = λ history live.
     let setting = setting_of_width g.F.Family.merge_rule g.H.HashFunction.hash_of g.row.N in
     let pending = g.F.PendingOf.pending_encoding in
     let has : c.self.inside.live ≡ Some c.in_ok-live.live.now = sym c.as_ref.ensures.value ∙ ap option_copied c.in_ok-live.ensures.ok_part in
-    let same = one_history c.self.inside.device c.self.inside.cache c.self.inside.live c.self.inside.pruned c.args.self.now c.in_ok-live.live.now
-    history c.self.view_is has live in
-    let number : c.live.inside.ledger.pruned ≡ c.args.self.now.pruned = ap (λ (now : LiveState). now.pruned) c.live.view_is
-    ∙ (subst (λ (l : Option LiveState). IsPruned l c.self.inside.pruned) has c.self.invariant.2 ∙ ap (λ (s : StoreState _). s.pruned) c.self.view_is) in
     let error = c.in_err-prove_range.field-0.0 in
     let p = err_from_is_err_and c.from_residual-in_err-prove_range.result c.from_residual-in_err-prove_range.ensures.1 in
-    let why = subst
-    (λ (n : ℕ). IsUnproved (answer_of_range pending setting g.K.FixedSize.SIZE g.V.FixedSize.SIZE history n c.args.start c.args.stop) error)
-    number
-    (subst (λ (h : History). IsUnproved (answer_of_range pending setting g.K.FixedSize.SIZE g.V.FixedSize.SIZE h c.live.inside.ledger.pruned
-    c.args.start c.args.stop) error) (ap (λ (now : LiveState). now.history) c.live.view_is ∙ same) c.in_err-prove_range.ensures.err) in
     refused_proof range_is (range_answer_of g.K.Write.encoding g.V.Write.encoding)
     (answer_of_range pending setting g.K.FixedSize.SIZE g.V.FixedSize.SIZE history c.args.self.now.pruned c.args.start c.args.stop) error p.0
-    c.from_residual-in_err-prove_range.result p.1 p.2 why
+    c.from_residual-in_err-prove_range.result p.1 p.2
+    (carried (λ (h : History) (n : ℕ). IsUnproved (answer_of_range pending setting g.K.FixedSize.SIZE g.V.FixedSize.SIZE h n c.args.start c.args.stop) error)
+    c.self.inside.device c.self.inside.cache c.self.inside.live c.self.inside.pruned c.args.self.now c.in_ok-live.live.now _ history
+    c.self.view_is has c.self.invariant.2 c.live.view_is live c.in_err-prove_range.ensures.err)
 
 pub returns-in_err-prove_range-clause-err : goal.returns-in_err-prove_range-clause-err
 returns-in_err-prove_range-clause-err g c =
@@ -40,19 +33,12 @@ returns-in_err-prove_range-clause-err g c =
 pub returns-clause-proof : goal.returns-clause-proof
 returns-clause-proof g c = λ history live.
     let setting = setting_of_width g.F.Family.merge_rule g.H.HashFunction.hash_of g.row.N in
-    let pending = g.F.PendingOf.pending_encoding in
     let has : c.self.inside.live ≡ Some c.in_ok-live.live.now = sym c.as_ref.ensures.value ∙ ap option_copied c.in_ok-live.ensures.ok_part in
-    let same = one_history c.self.inside.device c.self.inside.cache c.self.inside.live c.self.inside.pruned c.args.self.now c.in_ok-live.live.now
-    history c.self.view_is has live in
-    let number : c.live.inside.ledger.pruned ≡ c.args.self.now.pruned = ap (λ (now : LiveState). now.pruned) c.live.view_is
-    ∙ (subst (λ (l : Option LiveState). IsPruned l c.self.inside.pruned) has c.self.invariant.2 ∙ ap (λ (s : StoreState _). s.pruned) c.self.view_is) in
     let found = range_answer_of g.K.Write.encoding g.V.Write.encoding c.in_ok-prove_range.field-0 in
-    let is = subst
-    (λ (n : ℕ). Ok found ≡ answer_of_range pending setting g.K.FixedSize.SIZE g.V.FixedSize.SIZE history n c.args.start c.args.stop)
-    number
-    (subst (λ (h : History). Ok found ≡ answer_of_range pending setting g.K.FixedSize.SIZE g.V.FixedSize.SIZE h c.live.inside.ledger.pruned c.args.start c.args.stop)
-    (ap (λ (now : LiveState). now.history) c.live.view_is ∙ same) c.in_ok-prove_range.ensures.ok) in
-    sym (ap (as_proved range_is) is)
+    sym (ap (as_proved range_is) (carried (λ (h : History) (n : ℕ). Ok found
+    ≡ answer_of_range g.F.PendingOf.pending_encoding setting g.K.FixedSize.SIZE g.V.FixedSize.SIZE h n c.args.start c.args.stop)
+    c.self.inside.device c.self.inside.cache c.self.inside.live c.self.inside.pruned c.args.self.now c.in_ok-live.live.now _ history
+    c.self.view_is has c.self.invariant.2 c.live.view_is live c.in_ok-prove_range.ensures.ok))
 
 pub returns-clause-shown : goal.returns-clause-shown
 returns-clause-shown g c = λ history live.
@@ -60,8 +46,7 @@ returns-clause-shown g c = λ history live.
     let those : Terms = terms g.F.Family.merge_rule g.H.HashFunction.hash_of g.row.N g.H.Digest.FixedSize.SIZE g.F.PendingOf.is_pending
     g.F.PendingOf.pending_encoding (g.K.Read.after tt) (g.V.Read.after tt) g.K.FixedSize.SIZE g.V.FixedSize.SIZE in
     let has : c.self.inside.live ≡ Some c.in_ok-live.live.now = sym c.as_ref.ensures.value ∙ ap option_copied c.in_ok-live.ensures.ok_part in
-    let same = one_history c.self.inside.device c.self.inside.cache c.self.inside.live c.self.inside.pruned c.args.self.now c.in_ok-live.live.now
-    history c.self.view_is has live in
-    subst (λ (h : History). IsAcceptedRange those (root_of_history setting g.K.FixedSize.SIZE g.V.FixedSize.SIZE h) c.args.start
+    carried (λ (h : History) (n : ℕ). IsAcceptedRange those (root_of_history setting g.K.FixedSize.SIZE g.V.FixedSize.SIZE h) c.args.start
     (range_answer_of g.K.Write.encoding g.V.Write.encoding c.in_ok-prove_range.field-0))
-    (ap (λ (now : LiveState). now.history) c.live.view_is ∙ same) c.in_ok-prove_range.ensures.shown
+    c.self.inside.device c.self.inside.cache c.self.inside.live c.self.inside.pruned c.args.self.now c.in_ok-live.live.now _ history
+    c.self.view_is has c.self.invariant.2 c.live.view_is live c.in_ok-prove_range.ensures.shown

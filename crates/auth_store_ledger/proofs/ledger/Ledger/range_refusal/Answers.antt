@@ -1,0 +1,31 @@
+use Rattle.std.proofs.Common.{ℕ, sym, arith, ◌*◌}
+use Rattle.std.proofs.lemmas.Bool.{le-ltb, lt-ltb}
+use Rattle.state_proofs_parts.specs.Canonical.{Setting}
+use Rattle.auth_store_ledger.specs.Store.{setting_of_width}
+use Rattle.auth_store_ledger.proofs.Ranges.{not_refused, refused_empty, refused_past, refused_pruned}
+use Rattle.auth_store_ledger.proofs.ledger.Ledger.range_refusal.Goals as goal
+
+pub returns-then-stop-start-clause-refusal : goal.returns-then-stop-start-clause-refusal
+returns-then-stop-start-clause-refusal g c =
+    let setting : Setting = setting_of_width g.F.Family.merge_rule g.H.HashFunction.hash_of g.row.N in
+    refused_empty setting c.args.self.now.history c.args.self.now.pruned c.args.start c.args.stop (omega arith)
+
+pub returns-then-len-stop-clause-refusal : goal.returns-then-len-stop-clause-refusal
+returns-then-len-stop-clause-refusal g c =
+    let setting : Setting = setting_of_width g.F.Family.merge_rule g.H.HashFunction.hash_of g.row.N in
+    refused_past setting c.args.self.now.history c.args.self.now.pruned c.args.start c.args.stop (omega arith)
+    (omega (arith, c.len.ensures))
+
+pub returns-then-start-kept_from-clause-refusal : goal.returns-then-start-kept_from-clause-refusal
+returns-then-start-kept_from-clause-refusal g c =
+    let setting : Setting = setting_of_width g.F.Family.merge_rule g.H.HashFunction.hash_of g.row.N in
+    refused_pruned setting c.args.self.now.history c.args.self.now.pruned c.args.start c.args.stop (omega arith)
+    (omega (arith, c.len.ensures))
+    (lt-ltb c.args.start (8 * g.row.N * c.args.self.now.pruned) (omega (arith, c.kept_from.ensures)))
+
+pub returns-clause-refusal : goal.returns-clause-refusal
+returns-clause-refusal g c =
+    let setting : Setting = setting_of_width g.F.Family.merge_rule g.H.HashFunction.hash_of g.row.N in
+    not_refused setting c.args.self.now.history c.args.self.now.pruned c.args.start c.args.stop (omega arith)
+    (omega (arith, c.len.ensures))
+    (le-ltb c.args.start (8 * g.row.N * c.args.self.now.pruned) (omega (arith, c.kept_from.ensures)))
