@@ -31,8 +31,8 @@ fn time_above<R: CpuClock>(rt: &R, alloc: Global, calls: Calls) -> io::Result<Do
     time(rt, 1, |_round| calls::made(alloc, &mut device, calls))
 }
 
-// What calls cost on the device, and on the store under it. They are made in rounds, in which now the one comes first and
-// now the other, since memory that the first gave back may serve the second.
+// What calls cost on the device, and on the store under it. They are made in rounds, in which now the one comes first
+// and now the other, since memory that the first gave back may serve the second.
 fn measure_calls<R: Print + Eprint + CpuClock>(
     rt: &R,
     alloc: Global,

@@ -1,10 +1,12 @@
-//! Measures openings of a store beside reading its log (`openings`), reads of values beside lookups of their keys (`reads`),
-//! and calls of the device beside those of the faulty store under it (`device`), each for so many thousands of operations.
-//! It reads from standard input what is measured, a line each: a subject, and a number that says how much of it. Standard
-//! output gets what was done and a sum of the answers, standard error the processor time of one.
+//! Measures openings of a store beside reading its log (`openings`), reads of values beside lookups of their keys
+//! (`reads`), commits over many keys beside those over few (`commits`), and calls of the device beside those of the
+//! faulty store under it (`device`), each for so many thousands of operations. It reads from standard input what is
+//! measured, a line each: a subject, and a number that says how much of it. Standard output gets what was done and a
+//! sum of the answers, standard error the processor time of one.
 #![tactic(auto)]
 
 mod calls;
+mod commits;
 mod device;
 mod openings;
 mod plain_hash;
@@ -24,6 +26,7 @@ fn measure_subject<R: Print + Eprint + CpuClock>(
     let words: Vec<&str> = line.split_whitespace().collect(alloc)?;
     match words.as_slice() {
         ["openings", count] => openings::measure_all(rt, alloc, count.parse().unwrap_or(1)),
+        ["commits", count] => commits::measure_all(rt, alloc, count.parse().unwrap_or(1)),
         ["reads", count] => reads::measure_all(rt, alloc, count.parse().unwrap_or(1)),
         ["device", count] => device::measure_all(rt, alloc, count.parse().unwrap_or(1)),
         _ => println!(rt; "bad line"),

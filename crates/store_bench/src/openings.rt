@@ -9,8 +9,8 @@ use std::time::CpuClock;
 // How often a store is opened in a measure.
 const OPENINGS: u64 = 20;
 
-// What it costs to open the device of a store that is filled so, to read its log, and to make this of it, so many times.
-// How the store is made is not measured.
+// What it costs to open the device of a store that is filled so, to read its log, and to make this of it, so many
+// times. How the store is made is not measured.
 fn measure_use<R: Print + Eprint + CpuClock>(
     rt: &R,
     alloc: Global,
@@ -80,8 +80,8 @@ fn measure_openings<R: Print + Eprint + CpuClock>(
     report_ratio(rt, "opening over decoding", opened, read)
 }
 
-/// What openings cost of logs that came in one batch, in fifty, in fifty of a tenth as many keys, and in a hundred that put the
-/// same keys anew.
+/// What openings cost of logs that came in one batch, in fifty, in fifty of a tenth as many keys, and in a hundred that
+/// put the same keys anew.
 pub fn measure_all<R: Print + Eprint + CpuClock>(
     rt: &R,
     alloc: Global,

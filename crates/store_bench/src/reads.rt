@@ -1,5 +1,5 @@
-//! What a read of a value costs in a small store, in one with a long log and in one with many keys, beside the lookup of
-//! the key.
+//! What a read of a value costs in a small store, in one with a long log and in one with many keys, beside the lookup
+//! of the key.
 
 use crate::stores::{self, Filling};
 use measurement::{measure, report_ratio};

@@ -32,8 +32,8 @@ fn key_of(number: u64) -> Key {
     FixedBytes::new(number.wrapping_mul(0x9e37_79b9_7f4a_7c15).to_be_bytes())
 }
 
-/// What a store is filled with: so many keys, in batches of so many, and all of them so many times, each time with other
-/// values.
+/// What a store is filled with: so many keys, in batches of so many, and all of them so many times, each time with
+/// other values.
 #[derive(Clone, Copy, Debug)]
 pub struct Filling {
     pub keys: u64,
@@ -66,6 +66,14 @@ fn commit_keys(
     }
     store.commit(batch, None)?;
     Ok(())
+}
+
+/// Commits so many keys from a number on: 1, or 0 where that is refused.
+pub fn commit_new(alloc: Global, store: &mut Measured, from: u64, keys: u64) -> u64 {
+    match commit_keys(alloc, store, from, keys, 0) {
+        Ok(()) => 1,
+        Err(_) => 0,
+    }
 }
 
 // A device with a store that is filled so. The first time the value of a key is its number, and each time one more.
