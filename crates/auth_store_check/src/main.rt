@@ -1,5 +1,6 @@
-//! Checks a claim about a store under a root, without the store: the light client for people and for scripts. It reads four
-//! lines and prints `yes` or `no`. Root and proof stand as `auth_store_script` prints them, so that its lines may be pasted.
+//! Checks a claim about a store under a root, without the store: the light client for people and for scripts. It reads
+//! four lines and prints `yes` or `no`. Root and proof stand as `auth_store_script` prints them, so that its lines may
+//! be pasted.
 //!
 //! ```text
 //! mmr                          the family of the trees: mmr or mmb
@@ -10,8 +11,8 @@
 //! proof 0338..                 the bytes of the proof
 //! ```
 //!
-//! A line of another form, or a missing one, prints `bad line N`. Status 0: it is answered; 1: reading or printing failed; 2: a
-//! line is bad; 3: out of memory.
+//! A line of another form, or a missing one, prints `bad line N`. Status 0: it is answered; 1: reading or printing
+//! failed; 2: a line is bad; 3: out of memory.
 #![tactic(auto)]
 
 use auth_store_client::{Claim, check};

@@ -99,8 +99,8 @@ impl User {
         }
     }
 
-    // Takes a step, prints its answer, and keeps the root in it. What is proved is the value of c, the absence of a, the
-    // last operation, those from the floor on, and the whole log.
+    // Takes a step, prints its answer, and keeps the root in it. What is proved is the value of c, the absence of a,
+    // the last operation, those from the floor on, and the whole log.
     fn take(&mut self, rt: &HostRuntime, step: Step<Name, u64>) -> io::Result<()> {
         match self.session.step(step) {
             Answer::Opened => println!(rt; "opened"),

@@ -1,5 +1,5 @@
-//! Runs a script of the authenticated store over a device that fails: reads it from standard input, and writes a line for
-//! most of its lines.
+//! Runs a script of the authenticated store over a device that fails: reads it from standard input, and writes a line
+//! for most of its lines.
 #![tactic(auto)]
 
 use auth_store::script::run_script;
