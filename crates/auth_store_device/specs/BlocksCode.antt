@@ -24,7 +24,8 @@ bytes_in blocks part = take part.count (drop part.start (get_or blocks part.bloc
 
 -- a part lies in its block
 abbrev pub IsPartWithin : List (List ℕ) → Part → Type 0
-IsPartWithin blocks part = (part.block < length blocks) × (part.start + part.count ≤ length (get_or blocks part.block []))
+IsPartWithin blocks part =
+    (part.block < length blocks) × (part.start + part.count ≤ length (get_or blocks part.block []))
 
 -- the pieces of an image, and its bytes
 abbrev pub pieces_in : List (List ℕ) → List Part → List (List ℕ)
@@ -44,5 +45,6 @@ AreCut parts = (k : ℕ) (d : Part) → k + 1 < length parts → (get_or parts k
 -- later each block is there, with bytes behind it or none, and so is each image, with others behind them or none
 pub record Gains (held later : Held) : Type 0 where
   pub longer : length held.blocks ≤ length later.blocks
-  pub blocks : (k : ℕ) → k < length held.blocks → (more : List ℕ) × (get_or later.blocks k [] ≡ get_or held.blocks k [] ++ more)
+  pub blocks : (k : ℕ) → k < length held.blocks → (more : List ℕ)
+      × (get_or later.blocks k [] ≡ get_or held.blocks k [] ++ more)
   pub images : (more : List (List ℕ)) × (later.images ≡ held.images ++ more)

@@ -1,10 +1,12 @@
 -- The device: a log of the store that fails, the calls that were made of it, and a cut of the power.
-use Rattle.std.specs.Prelude.{◌≡◌, ℕ, ◌+◌, ◌-◌, ◌<◌, ◌^◌, ◌==◌, Bool, false, if◌then◌else◌, ◌⊎◌, Option, Some, None, is_some, IfSome}
+use Rattle.std.specs.Prelude.{◌≡◌, ℕ, ◌+◌, ◌-◌, ◌<◌, ◌^◌, ◌==◌, Bool, false, if◌then◌else◌, ◌⊎◌, Option, Some, None}
+use Rattle.std.specs.Prelude.{is_some, IfSome}
 use Rattle.std.specs.Prelude.{Result, Ok, Err, IsOk, List, []}
 use Rattle.rand_core.specs.Stream.{Stream}
 use Rattle.fault_storage_parts.specs.declared.error.Call.TheVariants.{Open}
 use Rattle.fault_storage_parts.specs.declared.error.Error.{Error as StorageError}
-use Rattle.fault_storage_parts.specs.declared.error.Error.TheVariants.{Header, Injected, BlobInsufficientLength, NumberEnded, Memory}
+use Rattle.fault_storage_parts.specs.declared.error.Error.TheVariants.{Header, Injected, BlobInsufficientLength}
+use Rattle.fault_storage_parts.specs.declared.error.Error.TheVariants.{NumberEnded, Memory}
 use Rattle.fault_storage_parts.specs.declared.error.HeaderError.{HeaderError}
 use Rattle.fault_storage.specs.declared.storage.Opened.{Opened}
 use Rattle.fault_storage.specs.declared.faulty.Blob.{Blob}
@@ -25,10 +27,11 @@ use Rattle.auth_store_device.specs.declared.error.OpenError.{OpenError}
 use Rattle.auth_store_device.specs.declared.error.OpenError.TheVariants as openings
 use Rattle.auth_store_device.specs.declared.log.Told.{Told}
 use Rattle.auth_store_device.specs.declared.log.Told.TheVariants.{Made, Failed, Ended, Unmade}
-use Rattle.auth_store_device.specs.Logs.{log_partition, log_name, log_versions, IsOrderly, has_log, log_of, Stands, IsHandleOf}
+use Rattle.auth_store_device.specs.Logs.{log_partition, log_name, log_versions, IsOrderly, has_log, log_of, Stands}
+use Rattle.auth_store_device.specs.Logs.{IsHandleOf}
 
--- A device: the store below, the open log, the calls so far, the newest first, how many more the power lasts for, where a cut was asked
--- for, and how many were refused since the last crash.
+-- A device: the store below, the open log, the calls so far, the newest first, how many more the power lasts for, where
+-- a cut was asked for, and how many were refused since the last crash.
 pub record DeviceState (R : Type 0) : Type 0 where
   pub storage : Storage Store R
   pub log : Option (Blob Handle)
@@ -83,11 +86,13 @@ answer_of kind (Ok value) = Ok value
 answer_of kind (Err e) = Err (refusal_of kind e)
 
 -- The call is that of the store, with its answer; or there was no room for its record, and nothing has changed.
-abbrev pub Passes : {R T : Type 0} → CallKind → (Blob Handle → Storage Store R → Result T StorageError → Blob Handle → Storage Store R → Type 0)
+abbrev pub Passes : {R T : Type 0} → CallKind → (Blob Handle → Storage Store R → Result T StorageError → Blob Handle
+    → Storage Store R → Type 0)
     → Blob Handle → Storage Store R → Result T Error → Blob Handle → Storage Store R → Type 0
 Passes {T = T} kind Answers log storage result log_now storage_now =
     ((result ≡ Err refusals.Memory) × (log_now ≡ log) × (storage_now ≡ storage))
-    ⊎ ((answer : Result T StorageError) × Answers log storage answer log_now storage_now × (result ≡ answer_of kind answer))
+    ⊎ ((answer : Result T StorageError) × Answers log storage answer log_now storage_now
+    × (result ≡ answer_of kind answer))
 
 -- how many calls are left after one
 abbrev pub left_after : {T : Type 0} → Result T Error → Option ℕ → Option ℕ
@@ -117,11 +122,13 @@ failures_of state = failures_in state.storage state.refused (is_some state.log) 
 abbrev pub HasEnded : {R : Type 0} → DeviceState R → Type 0
 HasEnded state = (state.storage.injections ≡ 2 ^ 64 - 1) ⊎ (state.refused ≡ 2 ^ 64 - 1)
 
--- A call before it reaches the store: where a count has ended it is not made; under a cut it is refused, and that is counted.
+-- A call before it reaches the store: where a count has ended it is not made; under a cut it is refused, and that is
+-- counted.
 abbrev pub IsStopped : {R T : Type 0} → DeviceState R → Result T Error → DeviceState R → Type 0
 IsStopped old result new =
     (HasEnded old × (result ≡ Err refusals.NumberEnded) × (new ≡ old))
-    ⊎ ((old.storage.injections < 2 ^ 64 - 1) × (old.refused < 2 ^ 64 - 1) × (old.left ≡ Some 0) × (result ≡ Err refusals.PowerCut)
+    ⊎ ((old.storage.injections < 2 ^ 64 - 1) × (old.refused < 2 ^ 64 - 1) × (old.left ≡ Some 0)
+    × (result ≡ Err refusals.PowerCut)
     × (new ≡ record old { refused = old.refused + 1 }))
 
 -- no count has ended, and no cut of the power stands
@@ -130,13 +137,15 @@ IsLetThrough state =
     (state.storage.injections < 2 ^ 64 - 1) × (state.refused < 2 ^ 64 - 1) × (state.left ≡ Some 0 → ⊥)
 
 -- A call of the device: it is stopped; or it is let through, and the log is not open, or it is the store's own.
-abbrev pub IsDeviceCall : {R T : Type 0} → CallKind → (Blob Handle → Storage Store R → Result T StorageError → Blob Handle → Storage Store R → Type 0)
+abbrev pub IsDeviceCall : {R T : Type 0} → CallKind → (Blob Handle → Storage Store R → Result T StorageError
+    → Blob Handle → Storage Store R → Type 0)
     → DeviceState R → Result T Error → DeviceState R → Type 0
 IsDeviceCall kind Answers old result new =
     IsStopped old result new
     ⊎ (IsLetThrough old × (old.log ≡ None) × (result ≡ Err refusals.BlobMissing) × (new ≡ old))
     ⊎ (IsLetThrough old × (new.left ≡ left_after result old.left) × (new.refused ≡ old.refused)
-    × ((log : Blob Handle) × (now : Blob Handle) × (old.log ≡ Some log) × (new.log ≡ Some now) × Passes kind Answers log old.storage result now new.storage))
+    × ((log : Blob Handle) × (now : Blob Handle) × (old.log ≡ Some log) × (new.log ≡ Some now)
+    × Passes kind Answers log old.storage result now new.storage))
 
 -- the first fault of the log's header, where it is opened in that version
 abbrev pub log_fault : Store → Option HeaderError
@@ -185,7 +194,8 @@ stopped_opening refusals.NumberEnded = openings.NumberEnded
 stopped_opening refusals.PowerCut = openings.PowerCut
 stopped_opening _ = openings.Memory
 
--- a store that an opening left, after a log that was there is admitted; of one that was made anew there is nothing to admit
+-- a store that an opening left, after a log that was there is admitted; of one that was made anew there is nothing to
+-- admit
 abbrev pub after_admission : Store → Result (Opened (Blob Handle)) StorageError → Store → Store
 after_admission old (Ok opened) left = if has_log old then admitted log_partition log_name left else left
 after_admission old (Err e) left = left
@@ -195,13 +205,16 @@ abbrev pub TellsOpening : Result (Opened (Blob Handle)) StorageError → Result 
 TellsOpening (Ok opened) result = IsOk result
 TellsOpening (Err e) result = result ≡ Err (opening_refusal e)
 
--- An opening of the device: it is stopped; or it is let through, and there is no memory for what it shows, and nothing has changed; or it is
--- the store's own, whose draws and count of faults stay, and after one that opened the log that is admitted, and nothing else.
+-- An opening of the device: it is stopped; or it is let through, and there is no memory for what it shows, and nothing
+-- has changed; or it is the store's own, whose draws and count of faults stay, and after one that opened the log that
+-- is admitted, and nothing else.
 abbrev pub IsOpeningCall : {R : Type 0} → (R → Stream) → DeviceState R → Result ℕ OpenError → DeviceState R → Type 0
 IsOpeningCall {R = R} stream old result new =
     ((e : Error) × IsStopped {T = Unit} old (Err e) new × (result ≡ Err (stopped_opening e)))
     ⊎ (IsLetThrough old × (result ≡ Err openings.Memory) × (new ≡ old))
     ⊎ (IsLetThrough old
     × ((answer : Result (Opened (Blob Handle)) StorageError) × (below : Storage Store R)
-    × IsFaultyCall stream Open old.storage.config.«open» (FaultyOpens log_partition log_name log_versions) old.storage answer below
-    × TellsOpening answer result × (new.storage ≡ record below { inner = after_admission old.storage.inner answer below.inner })))
+    × IsFaultyCall stream Open old.storage.config.«open» (FaultyOpens log_partition log_name log_versions)
+    old.storage answer below
+    × TellsOpening answer result
+    × (new.storage ≡ record below { inner = after_admission old.storage.inner answer below.inner })))

@@ -1,5 +1,6 @@
 -- The device's log: one file of the store, whose bytes behind the header are those of a blob.
-use Rattle.std.specs.Prelude.{◌≡◌, ◌⊎◌, ⊤, ℕ, ◌≤◌, Bool, true, false, not, ◌&&◌, nat_lt, Option, Some, List, [], ◌∷◌, length, take, drop}
+use Rattle.std.specs.Prelude.{◌≡◌, ◌⊎◌, ⊤, ℕ, ◌≤◌, Bool, true, false, not, ◌&&◌, nat_lt, Option, Some, List, [], ◌∷◌}
+use Rattle.std.specs.Prelude.{length, take, drop}
 use Rattle.std.specs.List.{list_any}
 use Rattle.fault_storage.specs.declared.stored.StoredFile.{StoredFile}
 use Rattle.fault_storage_parts.specs.declared.header.Layout.TheVariants.{V0}
@@ -77,8 +78,8 @@ abbrev pub IsFirst : (StoredFile → Bool) → (StoredFile → Bool) → List St
 IsFirst test other [] = ⊤
 IsFirst test other (stored ∷ later) = (test stored ≡ other stored) × (other stored ≡ false → IsFirst test other later)
 
--- Its numbers are those of one file each, and the log, where it is there, is in its partition and has a header of eight bytes that no
--- mutation reaches, or one that each opening refuses.
+-- Its numbers are those of one file each, and the log, where it is there, is in its partition and has a header of eight
+-- bytes that no mutation reaches, or one that each opening refuses.
 pub record IsOrderly (store : Store) : Type 0 where
   pub numbered : are_numbered store.next store.files ≡ true
   pub listed : has_log store ≡ true → has_partition log_partition store.partitions ≡ true
@@ -89,7 +90,8 @@ pub record IsOrderly (store : Store) : Type 0 where
 pub record Stands (file : File) (log : files.File) : Type 0 where
   pub each : (left : List ℕ) → IsLeftOf log.base log.log left [] → IsReached file (behind_header left)
 
--- the handle is one of the log, begins as that does, as a log that the device makes, and shows bytes that a read of the blob may find
+-- the handle is one of the log, begins as that does, as a log that the device makes, and shows bytes that a read of the
+-- blob may find
 pub record IsHandleOf (store : Store) (file : File) (handle : Handle) : Type 0 where
   pub there : has_log store ≡ true
   pub first : IsFirst (has_number handle.number) is_log store.files

@@ -21,7 +21,8 @@ abbrev pub plain : Change → Change
 plain (write offset bytes kept) = write offset bytes false
 plain (resize size) = resize size
 
--- the writes and resizes between an opening's base and the opening, whole, the oldest first; those that failed stand among them
+-- the writes and resizes between an opening's base and the opening, whole, the oldest first; those that failed stand
+-- among them
 abbrev pub mutations_of : Showing → List Change
 mutations_of opening = reverse (map plain (file_of opening.before).changes)
 

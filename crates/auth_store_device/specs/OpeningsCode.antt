@@ -1,6 +1,7 @@
 -- The openings of calls of which the oldest comes first.
 use Rattle.std.specs.Prelude.{Bool, true, false, ◌&&◌, List, [], ◌∷◌, ◌++◌, reverse}
-use Rattle.paged_blob_parts.specs.Calls.{Call, opened, wrote, resized_to, synced, Change, write, resize, File, after_change, after_sync}
+use Rattle.paged_blob_parts.specs.Calls.{Call, opened, wrote, resized_to, synced, Change, write, resize, File}
+use Rattle.paged_blob_parts.specs.Calls.{after_change, after_sync}
 use Rattle.auth_store_device.specs.Openings.{Showing}
 
 -- the opening that a call is, where it is one

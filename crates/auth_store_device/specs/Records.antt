@@ -2,8 +2,8 @@
 use Rattle.std.specs.Prelude.{◌≡◌, ℕ, ◌≤◌, Bool, true, List, reverse}
 use Rattle.paged_blob_parts.specs.Calls.{Call}
 
--- A record: its calls, the oldest first, whether there is a place for one more, for how many more bytes there is room, whether the bytes with
--- which the file began last are an image, and those of the image that was made ready last.
+-- A record: its calls, the oldest first, whether there is a place for one more, for how many more bytes there is room,
+-- whether the bytes with which the file began last are an image, and those of the image that was made ready last.
 pub record Recording : Type 0 where
   pub in_order : List Call
   pub has_place : Bool

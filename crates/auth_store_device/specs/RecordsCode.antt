@@ -1,9 +1,12 @@
 -- How a record keeps its calls: their bytes lie in blocks, and what was durable in images.
-use Rattle.std.specs.Prelude.{◌≡◌, ⊤, ℕ, ◌<◌, ◌≤◌, Bool, true, false, ◌&&◌, List, [], ◌∷◌, length, take, get_or, reverse}
-use Rattle.paged_blob_parts.specs.Calls.{Call, opened, wrote, resized_to, synced, Change, write, resize, content, file_of}
+use Rattle.std.specs.Prelude.{◌≡◌, ⊤, ℕ, ◌<◌, ◌≤◌, Bool, true, false, ◌&&◌, List, [], ◌∷◌, length, take, get_or}
+use Rattle.std.specs.Prelude.{reverse}
+use Rattle.paged_blob_parts.specs.Calls.{Call, opened, wrote, resized_to, synced, Change, write, resize, content}
+use Rattle.paged_blob_parts.specs.Calls.{file_of}
 use Rattle.auth_store_device.specs.declared.base.Base.{Base}
 use Rattle.auth_store_device.specs.declared.kept.Kept.{Kept}
-use Rattle.auth_store_device.specs.declared.kept.Kept.TheVariants.{Opened, Wrote, ResizedTo, SyncedWhole, SyncedAs, SyncFailed}
+use Rattle.auth_store_device.specs.declared.kept.Kept.TheVariants.{Opened, Wrote, ResizedTo, SyncedWhole, SyncedAs}
+use Rattle.auth_store_device.specs.declared.kept.Kept.TheVariants.{SyncFailed}
 use Rattle.auth_store_device.specs.declared.kept.Entry.{Entry}
 use Rattle.auth_store_device.specs.declared.kept.Entry.TheVariants as entries
 use Rattle.auth_store_device.specs.Touches.{IsOutside, AllLeave}

@@ -190,8 +190,8 @@ impl Blocks {
         None
     }
 
-    // A part of these bytes: that of the base at this place, where that is known to have them; that of the image like it,
-    // where it is seen to have them; else one that is put. It fails only when out of memory.
+    // A part of these bytes: that of the base at this place, where that is known to have them; that of the image like
+    // it, where it is seen to have them; else one that is put. It fails only when out of memory.
     fn put_piece(
         &mut self,
         bytes: &[u8],
@@ -241,10 +241,10 @@ impl Blocks {
         self.parts(image) == parts
     }
 
-    /// Puts an image of these bytes, and answers its number. Bytes that are not touched are those of the base, and are not
-    /// compared; a piece with others is that of the image like it, where this has the same bytes at its place, and else
-    /// it is put. Where all parts are those of the image like it, that one's number is answered. It fails only when out of
-    /// memory.
+    /// Puts an image of these bytes, and answers its number. Bytes that are not touched are those of the base, and are
+    /// not compared; a piece with others is that of the image like it, where this has the same bytes at its place, and
+    /// else it is put. Where all parts are those of the image like it, that one's number is answered. It fails only
+    /// when out of memory.
     pub(crate) fn put_image(
         &mut self,
         bytes: &[u8],

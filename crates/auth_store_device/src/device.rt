@@ -18,7 +18,8 @@ ghost use Rattle.paged_blob_parts.specs.Images.{IsImage};
 ghost use Rattle.paged_blob_parts.specs.Calls.{opened, content, synced, wrote, resized_to, file_of};
 ghost use Rattle.paged_blob_parts.specs.WriteModes.{is_sync, place_of};
 ghost use Rattle.paged_blob_parts.specs.declared.error.CallKind.{CallKind};
-ghost use Rattle.auth_store_device.specs.Devices.{calls_left, left_after, left_after_opening, stopped_opening, is_cut, log_fault};
+ghost use Rattle.auth_store_device.specs.Devices.{calls_left, left_after, left_after_opening, stopped_opening, is_cut};
+ghost use Rattle.auth_store_device.specs.Devices.{log_fault};
 ghost use Rattle.auth_store_device.specs.Openings.{openings_of};
 ghost use Rattle.auth_store_device.specs.Settings.{AreFirst};
 ghost use Rattle.auth_store_device.specs.Logs.{has_log, log_of, behind_header, durable_log, HasOwnHeader};
@@ -202,7 +203,8 @@ impl<R: Rng + Drop> Device<R> {
     /// The law that each outcome of a crash of the log is an image of the calls (own).
     pub fn crash_leaves_an_image(&self)
         ensures { let log = log_of self.now.storage.inner in
-            (left : List ℕ) → IsLeftOf log.base log.log left [] → IsImage (file_of self.now.calls) (behind_header left) }
+            (left : List ℕ) → IsLeftOf log.base log.log left []
+            → IsImage (file_of self.now.calls) (behind_header left) }
     {
         let _ = &self.record_kept;
     }
@@ -276,9 +278,9 @@ impl<R: Rng + Drop> Device<R> {
     ghost use Rattle.auth_store_device.specs.Devices.{injected_after, refused_after, HasNoNumber};
 
     /// Opens the log, or makes it where there is none, admits what it shows, and answers how many bytes that is. It
-    /// asks for a closed device. F8: a count has ended, or the numbers of files; F10: a cut of the power stands; F9: out
-    /// of memory; F6: a fault was injected; F5: its header is refused. After a refusal the device is closed, with files
-    /// and record as they were.
+    /// asks for a closed device. F8: a count has ended, or the numbers of files; F10: a cut of the power stands; F9:
+    /// out of memory; F6: a fault was injected; F5: its header is refused. After a refusal the device is closed, with
+    /// files and record as they were.
     pub fn open(&mut self) -> Result<u64, OpenError>
         requires { self.old.log ≡ None }
         ensures shows { OnOk result (self.new.calls
@@ -350,8 +352,8 @@ impl<R: Rng + Drop> Blob for Device<R> {
 
     ghost left = { λ d. calls_left d.left };
 
-    /// So many bytes from an offset on. F8: a count has ended; F10: a cut of the power stands; F1: no opening stands; F9:
-    /// out of memory; F6: a fault was injected; F7: they are not all there. After a refusal the log is as it was.
+    /// So many bytes from an offset on. F8: a count has ended; F10: a cut of the power stands; F1: no opening stands;
+    /// F9: out of memory; F6: a fault was injected; F7: they are not all there. After a refusal the log is as it was.
     fn read_at(&mut self, _alloc: Global, offset: u64, len: usize) -> Result<Vec<u8>, Error>
         ensures slice { IfOk result (λ bytes. IsSlice (file_of self.old.calls) offset len bytes.items) }
         ensures cause { IfErr result (IsReadCause (failures_of self.old) (file_of self.old.calls) offset len) }
@@ -438,8 +440,8 @@ impl<R: Rng + Drop> Blob for Device<R> {
         answer
     }
 
-    /// Cuts the log to a length, or grows it to that by zeros. F8: a count has ended, or its end would pass a u64; F10: a
-    /// cut of the power stands; F1: no opening stands; F9: out of memory; the log is then as it was. F6: a fault was
+    /// Cuts the log to a length, or grows it to that by zeros. F8: a count has ended, or its end would pass a u64; F10:
+    /// a cut of the power stands; F1: no opening stands; F9: out of memory; the log is then as it was. F6: a fault was
     /// injected; it may then have another length.
     fn resize(&mut self, len: u64) -> Result<(), Error>
         ensures calls { Records result (resized_to len) self.old.calls self.new.calls }

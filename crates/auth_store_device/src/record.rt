@@ -127,8 +127,8 @@ impl Record {
         Ok(())
     }
 
-    /// Makes ready for an opening that shows these bytes, which a crash may leave: there is then a place for it, and they
-    /// and the base are images. It fails only when out of memory.
+    /// Makes ready for an opening that shows these bytes, which a crash may leave: there is then a place for it, and
+    /// they and the base are images. It fails only when out of memory.
     pub(crate) fn make_ready_to_open(&mut self, shown: &[u8]) -> Result<(), AllocError>
         requires { IsImage (file_of (calls_of self.old)) shown.now }
         ensures calls { self.new.in_order ≡ self.old.in_order }
@@ -178,8 +178,8 @@ impl Record {
         self.base.change(len, u64::MAX, is_made);
     }
 
-    /// Notes a sync, which made durable what the calls make of the file, or where one failed since the base the image that
-    /// was made ready. There is a place for it.
+    /// Notes a sync, which made durable what the calls make of the file, or where one failed since the base the image
+    /// that was made ready. There is a place for it.
     pub(crate) fn note_sync(&mut self)
         requires { self.old.has_place ≡ true }
         ensures whole { (file_of (calls_of self.old)).failed ≡ false

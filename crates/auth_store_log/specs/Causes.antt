@@ -5,7 +5,8 @@ use Rattle.paged_blob_parts.specs.Caches.{Cache, Page}
 use Rattle.paged_blob_parts.specs.Flushes.{physical_size}
 use Rattle.paged_blob_parts.specs.Reads.{IsReadingCause}
 use Rattle.paged_blob_parts.specs.declared.error.Error.{Error}
-use Rattle.paged_blob_parts.specs.declared.error.Error.TheVariants.{Injected, BlobMissing, NumberEnded, Memory, PowerCut}
+use Rattle.paged_blob_parts.specs.declared.error.Error.TheVariants.{Injected, BlobMissing, NumberEnded, Memory}
+use Rattle.paged_blob_parts.specs.declared.error.Error.TheVariants.{PowerCut}
 use Rattle.auth_store_log.specs.declared.error.LogError.{LogError}
 use Rattle.auth_store_log.specs.declared.error.LogError.TheVariants.{Corrupt, Refused}
 use Rattle.auth_store_log.specs.Records.{Format, record_size, IsNoLog}

@@ -16,6 +16,8 @@ before_resize size lost file = take size (file ++ lost)
 abbrev pub calls_from : List Step → List ℕ → List Call
 calls_from [] file = []
 calls_from (Wrote offset len is_sync size lost ∷ earlier) file =
-    wrote offset (take len (drop offset file)) is_sync true ∷ calls_from earlier (before_write offset len size lost.items file)
-calls_from (Resized to size lost ∷ earlier) file = resized_to to true ∷ calls_from earlier (before_resize size lost.items file)
+    wrote offset (take len (drop offset file)) is_sync true
+    ∷ calls_from earlier (before_write offset len size lost.items file)
+calls_from (Resized to size lost ∷ earlier) file =
+    resized_to to true ∷ calls_from earlier (before_resize size lost.items file)
 calls_from (Synced ∷ earlier) file = synced file true ∷ calls_from earlier file

@@ -1,7 +1,7 @@
-//! Measures the fault storage (`storage`), writers of pages (`pages`) and lists of so many MiB that are replayed, lent and
-//! sealed (`lists`), each beside copies and bare checksums.
-//! It reads from standard input what is measured, a line each: a subject, and numbers that say how much of it. Standard
-//! output gets what was done and a sum of the answers, standard error the processor time of one.
+//! Measures the fault storage (`storage`), writers of pages (`pages`) and lists of so many MiB that are replayed, lent
+//! and sealed (`lists`), each beside copies and bare checksums. It reads from standard input what is measured, a line
+//! each: a subject, and numbers that say how much of it. Standard output gets what was done and a sum of the answers,
+//! standard error the processor time of one.
 #![tactic(auto)]
 
 mod pages;

@@ -1,5 +1,5 @@
-//! What appending and syncing cost beside the checksums and one copy alone, what a read of a kept page costs in a small and
-//! in a large list, and what lists cost that are replayed, lent and sealed.
+//! What appending and syncing cost beside the checksums and one copy alone, what a read of a kept page costs in a small
+//! and in a large list, and what lists cost that are replayed, lent and sealed.
 
 mod disk;
 mod lists;

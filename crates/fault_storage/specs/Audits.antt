@@ -13,7 +13,8 @@ framed bytes = to_be_bytes w64 (length bytes) ++ bytes
 
 -- what is told of a file: its partition, its name, and what is durable of it, its header first
 unfoldable pub file_told : StoredFile → List ℕ
-file_told stored = framed stored.name.0 ++ framed stored.name.1 ++ framed (durable_bytes stored.file.base stored.file.log)
+file_told stored =
+    framed stored.name.0 ++ framed stored.name.1 ++ framed (durable_bytes stored.file.base stored.file.log)
 
 -- what is told of all files, which stand in the order of their names
 abbrev pub files_told : List StoredFile → List ℕ

@@ -8,7 +8,8 @@ use Rattle.fault_storage_parts.specs.declared.error.Error.TheVariants.{BlobMissi
 use Rattle.fault_storage_parts.specs.declared.error.HeaderError.{HeaderError}
 use Rattle.fault_storage_parts.specs.declared.header.Versions.{Versions}
 use Rattle.fault_storage.specs.declared.stored.StoredFile.{StoredFile}
-use Rattle.fault_storage.specs.Directory.{HasPartition, LacksPartition, IsMade, IsMissing, has_name, fault_in, shown_in, durable_in}
+use Rattle.fault_storage.specs.Directory.{HasPartition, LacksPartition, IsMade, IsMissing, has_name, fault_in, shown_in}
+use Rattle.fault_storage.specs.Directory.{durable_in}
 use Rattle.fault_storage.specs.Stores.{Store}
 
 -- whatever version a blob has
@@ -23,7 +24,8 @@ behind_header partition name files = drop (shown_in partition name files).data_o
 -- its header is refused in every version
 abbrev pub ShowsContent : List ℕ → List ℕ → Store → Result (Vec ℕ Global) Error → Type 0
 ShowsContent partition name store result = MatchResult result
-    (λ bytes. HasPartition partition store × IsMade partition name store.files × (fault_in partition name any_version store.files ≡ None)
+    (λ bytes. HasPartition partition store × IsMade partition name store.files
+    × (fault_in partition name any_version store.files ≡ None)
     × (bytes.items ≡ behind_header partition name store.files))
     (λ e. LacksPartition partition store e
     ⊎ ((e ≡ BlobMissing) × HasPartition partition store × IsMissing partition name store.files)

@@ -1,33 +1,7 @@
--- The files of a store by their names, in byte order: partitions first, then names, shorter ones before their continuations.
-use Rattle.std.specs.Prelude.{
-  ◌≡◌,
-  ℕ,
-  ◌+◌,
-  ◌-◌,
-  ◌^◌,
-  ◌<◌,
-  ◌≤◌,
-  ◌⊎◌,
-  nat_le,
-  Bool,
-  true,
-  false,
-  not,
-  if◌then◌else◌,
-  Option,
-  Some,
-  None,
-  Result,
-  MatchResult,
-  List,
-  [],
-  ◌∷◌,
-  ◌++◌,
-  length,
-  take,
-  filter,
-  map,
-}
+-- The files of a store by their names, in byte order: partitions first, then names, shorter ones before their
+-- continuations.
+use Rattle.std.specs.Prelude.{◌≡◌, ℕ, ◌+◌, ◌-◌, ◌^◌, ◌<◌, ◌≤◌, ◌⊎◌, nat_le, Bool, true, false, not, if◌then◌else◌}
+use Rattle.std.specs.Prelude.{Option, Some, None, Result, MatchResult, List, [], ◌∷◌, ◌++◌, length, take, filter, map}
 use Rattle.std.specs.List.{list_any}
 use Rattle.std.specs.Str.{bytes_eq}
 use Rattle.std.specs.declared.vec.Vec.{Vec}
@@ -39,15 +13,9 @@ use Rattle.fault_storage_parts.specs.declared.header.Versions.{Versions}
 use Rattle.fault_storage_parts.specs.declared.error.HeaderError.{HeaderError}
 use Rattle.fault_storage_parts.specs.declared.header.Layout.TheVariants.{V0, V1}
 use Rattle.fault_storage_parts.specs.declared.error.Error.{Error}
-use Rattle.fault_storage_parts.specs.declared.error.Error.TheVariants.{
-  BlobInsufficientLength,
-  BlobMissing,
-  PartitionMissing,
-  PartitionNameInvalid,
-  Header,
-  NumberEnded,
-  Memory,
-}
+use Rattle.fault_storage_parts.specs.declared.error.Error.TheVariants.{BlobInsufficientLength, BlobMissing}
+use Rattle.fault_storage_parts.specs.declared.error.Error.TheVariants.{PartitionMissing, PartitionNameInvalid, Header}
+use Rattle.fault_storage_parts.specs.declared.error.Error.TheVariants.{NumberEnded, Memory}
 use Rattle.fault_storage.specs.declared.storage.Opened.{Opened}
 use Rattle.fault_storage.specs.declared.storage.WriteMode.{WriteMode}
 use Rattle.fault_storage_parts.specs.Draws.{never}
@@ -55,21 +23,8 @@ use Rattle.fault_storage_parts.specs.Names.{is_partition_name}
 use Rattle.fault_storage_parts.specs.Files.{durable_bytes}
 use Rattle.fault_storage_parts.specs.Headers.{created, IsUnmade, first_fault, file_checks, resolved_of}
 use Rattle.fault_storage.specs.Opens.{is_before, is_name}
-use Rattle.fault_storage.specs.Stores.{
-  Store,
-  Handle,
-  file_with,
-  number_with,
-  changed,
-  without,
-  settled_at,
-  has_bytes,
-  bytes_at,
-  is_there,
-  published,
-  memory_write,
-  resizing,
-}
+use Rattle.fault_storage.specs.Stores.{Store, Handle, file_with, number_with, changed, without, settled_at, has_bytes}
+use Rattle.fault_storage.specs.Stores.{bytes_at, is_there, published, memory_write, resizing}
 
 abbrev pub has_name : List ℕ → List ℕ → StoredFile → Bool
 has_name partition name stored = is_name partition name stored.name
@@ -83,11 +38,13 @@ has_partition partition partitions = list_any (λ other. bytes_eq other partitio
 -- a file put in its place in order
 abbrev pub in_order : StoredFile → List StoredFile → List StoredFile
 in_order added [] = added ∷ []
-in_order added (stored ∷ later) = if is_before added.name stored.name then added ∷ stored ∷ later else stored ∷ in_order added later
+in_order added (stored ∷ later) =
+    if is_before added.name stored.name then added ∷ stored ∷ later else stored ∷ in_order added later
 
 -- the partitions with this one, where it is not among them
 abbrev pub with_partition : List ℕ → List (List ℕ) → List (List ℕ)
-with_partition partition partitions = if has_partition partition partitions then partitions else partitions ++ partition ∷ []
+with_partition partition partitions =
+    if has_partition partition partitions then partitions else partitions ++ partition ∷ []
 
 -- a file made anew under a name, with the next number: a file that had the name is gone
 abbrev pub placed : List ℕ → List ℕ → List ℕ → Store → Store
@@ -100,7 +57,8 @@ placed partition name bytes store = record store {
 
 -- what is durable of the file of a name
 abbrev pub durable_in : List ℕ → List ℕ → List StoredFile → List ℕ
-durable_in partition name files = let file = file_with (has_name partition name) files in durable_bytes file.base file.log
+durable_in partition name files =
+    let file = file_with (has_name partition name) files in durable_bytes file.base file.log
 
 -- a file of which what is durable is the base, and no mutation is left
 abbrev pub admitted : List ℕ → List ℕ → Store → Store
@@ -111,7 +69,10 @@ admitted partition name store = record store {
 
 -- without the file of a name
 abbrev pub removed : List ℕ → List ℕ → Store → Store
-removed partition name store = record store { files = filter (λ stored. not (has_name partition name stored)) store.files }
+removed partition name store = record store {
+  files = filter
+      (λ stored. not (has_name partition name stored)) store.files;
+}
 
 -- without a partition and its files
 abbrev pub removed_partition : List ℕ → Store → Store
@@ -136,7 +97,8 @@ HasFile partition name store = HasPartition partition store × (list_any (has_na
 abbrev pub LacksPartition : List ℕ → Store → Error → Type 0
 LacksPartition partition store e =
     ((e ≡ PartitionNameInvalid) × (is_partition_name partition ≡ false))
-    ⊎ ((e ≡ PartitionMissing) × (is_partition_name partition ≡ true) × (has_partition partition store.partitions ≡ false))
+    ⊎ ((e ≡ PartitionMissing) × (is_partition_name partition ≡ true)
+    × (has_partition partition store.partitions ≡ false))
 
 -- the name is refused: its partition is, or there is no file of the name
 abbrev pub LacksName : List ℕ → List ℕ → Store → Error → Type 0
@@ -156,7 +118,8 @@ front_of bytes = take (if nat_le (length bytes) 4096 then length bytes else 12) 
 abbrev pub IsMissing : List ℕ → List ℕ → List StoredFile → Type 0
 IsMissing partition name files =
     (list_any (has_name partition name) files ≡ false)
-    ⊎ ((list_any (has_name partition name) files ≡ true) × IsUnmade (front_of (durable_in partition name files)) (length (durable_in partition name files)))
+    ⊎ ((list_any (has_name partition name) files ≡ true)
+    × IsUnmade (front_of (durable_in partition name files)) (length (durable_in partition name files)))
 
 -- there is a file of a name, which is neither under eight bytes nor what a crash in its creation left
 abbrev pub IsMade : List ℕ → List ℕ → List StoredFile → Type 0
@@ -170,7 +133,8 @@ new_handle number versions = record { number = number; offset = 8; live = create
 
 -- the handle of a blob that is there, and what its header says
 abbrev pub shown_in : List ℕ → List ℕ → List StoredFile → Resolved
-shown_in partition name files = let bytes = durable_in partition name files in resolved_of (front_of bytes) (length bytes)
+shown_in partition name files =
+    let bytes = durable_in partition name files in resolved_of (front_of bytes) (length bytes)
 
 abbrev pub handle_in : List ℕ → List ℕ → List StoredFile → Handle
 handle_in partition name files = record {
@@ -183,10 +147,12 @@ abbrev pub fault_in : List ℕ → List ℕ → Versions → List StoredFile →
 fault_in partition name versions files = let bytes = durable_in partition name files in first_fault
     (file_checks both_layouts versions (front_of bytes) (length bytes))
 
--- why an opening under a valid name is refused: the header of a file that is there, the end of numbers where one would be given, or memory
+-- why an opening under a valid name is refused: the header of a file that is there, the end of numbers where one would
+-- be given, or memory
 abbrev pub RefusesOpening : Store → List ℕ → List ℕ → Versions → Error → Type 0
 RefusesOpening store partition name versions e =
-    ((fault : HeaderError) × IsMade partition name store.files × (e ≡ Header fault) × (fault_in partition name versions store.files ≡ Some fault))
+    ((fault : HeaderError) × IsMade partition name store.files × (e ≡ Header fault)
+    × (fault_in partition name versions store.files ≡ Some fault))
     ⊎ ((e ≡ NumberEnded) × IsMissing partition name store.files × (store.next ≡ 2 ^ 64 - 1))
     ⊎ (e ≡ Memory)
 
@@ -239,7 +205,8 @@ MemoryFills handle offset buffer filled old result new = (new ≡ old) × Fills 
 
 -- what a write gives
 abbrev pub MemoryWrites : Handle → ℕ → List ℕ → WriteMode → Store → Result Unit Error → Handle → Store → Type 0
-MemoryWrites handle offset bytes mode old result changed new = let end = handle.offset + offset + length bytes in MatchResult result
+MemoryWrites handle offset bytes mode old result changed new =
+    let end = handle.offset + offset + length bytes in MatchResult result
     (λ _. (end < 2 ^ 64) × ((changed, new) ≡ memory_write mode offset bytes handle old))
     (λ e. (changed ≡ handle) × (new ≡ old) × (((e ≡ NumberEnded) × (2 ^ 64 ≤ end)) ⊎ ((e ≡ Memory) × (end < 2 ^ 64))))
 

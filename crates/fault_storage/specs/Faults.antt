@@ -18,8 +18,8 @@ use Rattle.fault_storage_parts.specs.DrawsCode.{rate_of}
 abbrev pub IsNotMade : {T : Type 0} → Result T Error → Type 0
 IsNotMade result = (result ≡ Err NumberEnded) ⊎ (result ≡ Err Memory)
 
--- A call of a store beside a generator. Refused as not made it takes no word; else one draw decides whether a fault is injected or
--- the store answers.
+-- A call of a store beside a generator. Refused as not made it takes no word; else one draw decides whether a fault is
+-- injected or the store answers.
 abbrev pub IsDrawnCall : {S R T : Type 0} → (R → Stream) → Call → Probability → (S → Result T Error → S → Type 0)
     → S → R → Result T Error → S → R → Type 0
 IsDrawnCall stream call rate Answers old rng result new left = let drawn = sample (rate_of rate) (stream rng) in
@@ -27,8 +27,9 @@ IsDrawnCall stream call rate Answers old rng result new left = let drawn = sampl
     ⊎ ((drawn.0 ≡ true) × (result ≡ Err (Injected call)) × (new ≡ old) × (stream left ≡ drawn.1))
     ⊎ ((drawn.0 ≡ false) × (IsNotMade result → ⊥) × Answers old result new × (stream left ≡ drawn.1))
 
--- A call that may fail. Where the count of faults has ended, it is not made; nor where the store below refuses it so: no word is
--- taken. Else one draw decides: it injects a fault, which is counted, and the store below stays, or that store answers.
+-- A call that may fail. Where the count of faults has ended, it is not made; nor where the store below refuses it so:
+-- no word is taken. Else one draw decides: it injects a fault, which is counted, and the store below stays, or that
+-- store answers.
 abbrev pub IsFaultyCall : {S R T : Type 0} → (R → Stream) → Call → Probability → (S → Result T Error → S → Type 0)
     → Storage S R → Result T Error → Storage S R → Type 0
 IsFaultyCall stream call rate Answers old result new = let drawn = sample (rate_of rate) (stream old.rng) in
@@ -45,13 +46,16 @@ unwrapped opened = record { blob = opened.blob.inner; size = opened.size; versio
 
 -- an opening of the store in memory, told of blobs of the store that fails
 abbrev pub FaultyOpens : List ℕ → List ℕ → Versions → Store → Result (Opened (Blob Handle)) Error → Store → Type 0
-FaultyOpens partition name versions old (Ok opened) new = MemoryOpens old partition name versions (Ok (unwrapped opened)) new
+FaultyOpens partition name versions old (Ok opened) new =
+    MemoryOpens old partition name versions (Ok (unwrapped opened)) new
 FaultyOpens partition name versions old (Err e) new = MemoryOpens old partition name versions (Err e) new
 
 -- The store below answers: no word is taken, and no fault is counted.
-abbrev pub IsPlainCall : {S R T : Type 0} → (R → Stream) → (S → Result T Error → S → Type 0) → Storage S R → Result T Error → Storage S R → Type 0
+abbrev pub IsPlainCall : {S R T : Type 0} → (R → Stream) → (S → Result T Error → S → Type 0) → Storage S R
+    → Result T Error → Storage S R → Type 0
 IsPlainCall stream Answers old result new =
-    Answers old.inner result new.inner × (stream new.rng ≡ stream old.rng) × (new.injections ≡ old.injections) × (new.config ≡ old.config)
+    Answers old.inner result new.inner × (stream new.rng ≡ stream old.rng) × (new.injections ≡ old.injections)
+    × (new.config ≡ old.config)
 
 -- A fault is told of exactly where it is counted.
 abbrev pub IsCounted : {S R T : Type 0} → Call → Storage S R → Result T Error → Storage S R → Type 0

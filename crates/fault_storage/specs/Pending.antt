@@ -1,38 +1,9 @@
 -- The debts of names. A name that is admitted anew begins a generation, and later opens of it are of that generation
 -- until the next one begins. An open has a ticket, with its generation and a number that no other open has; a
 -- generation has the number of its first open.
-use Rattle.std.specs.Prelude.{
-  ◌≡◌,
-  ⊤,
-  ℕ,
-  ◌+◌,
-  ◌-◌,
-  ◌^◌,
-  ◌<◌,
-  ◌⊎◌,
-  ◌==◌,
-  ◌&&◌,
-  Bool,
-  true,
-  false,
-  not,
-  if◌then◌else◌,
-  Option,
-  Some,
-  None,
-  is_some,
-  Result,
-  MatchResult,
-  List,
-  [],
-  ◌∷◌,
-  ◌++◌,
-  filter,
-  find,
-  length,
-  slice_index_or,
-  slice_set,
-}
+use Rattle.std.specs.Prelude.{◌≡◌, ⊤, ℕ, ◌+◌, ◌-◌, ◌^◌, ◌<◌, ◌⊎◌, ◌==◌, ◌&&◌, Bool, true, false, not, if◌then◌else◌}
+use Rattle.std.specs.Prelude.{Option, Some, None, is_some, Result, MatchResult, List, [], ◌∷◌, ◌++◌, filter, find}
+use Rattle.std.specs.Prelude.{length, slice_index_or, slice_set}
 use Rattle.std.specs.List.{list_any}
 use Rattle.fault_storage_parts.specs.declared.error.Error.{Error}
 use Rattle.fault_storage_parts.specs.declared.error.Error.TheVariants.{NumberEnded, Memory, Retained}
@@ -127,7 +98,14 @@ forgotten partition name registry = record registry { entries = without_name par
 
 -- a name in a new generation, with neither debt nor failure
 abbrev pub fresh : Name → ℕ → Entry
-fresh name number = record { name = name; generation = number; latest = number; unsettled = number ∷ []; debt = false; failure = None }
+fresh name number = record {
+  name = name;
+  generation = number;
+  latest = number;
+  unsettled = number ∷ [];
+  debt = false;
+  failure = None;
+}
 
 abbrev pub first_ticket : Name → ℕ → Ticket
 first_ticket name number = record { name = name; generation = number; number = number; before = None }
@@ -143,7 +121,12 @@ begun partition name registry = (
 
 -- a further open of a name, behind the latest
 abbrev pub next_ticket : Name → ℕ → Entry → Ticket
-next_ticket name number entry = record { name = name; generation = entry.generation; number = number; before = Some entry.latest }
+next_ticket name number entry = record {
+  name = name;
+  generation = entry.generation;
+  number = number;
+  before = Some entry.latest;
+}
 
 abbrev pub continued : List ℕ → List ℕ → Entry → Registry → Ticket × Registry
 continued partition name entry registry = (
@@ -162,7 +145,8 @@ admitted_by partition name true None registry = begun partition name registry
 admitted_by partition name true (Some entry) registry = continued partition name entry registry
 
 abbrev pub admitted : List ℕ → List ℕ → Bool → Registry → Ticket × Registry
-admitted partition name existing registry = admitted_by partition name existing (entry_of partition name registry) registry
+admitted partition name existing registry =
+    admitted_by partition name existing (entry_of partition name registry) registry
 
 -- an existing name is asked for, of which a failure is retained
 abbrev pub is_barred : List ℕ → List ℕ → Bool → Registry → Bool
@@ -171,7 +155,8 @@ is_barred partition name existing registry = existing && is_some (failure_in (en
 -- what an admission answers, and why it is refused
 abbrev pub Admits : List ℕ → List ℕ → Bool → Registry → Result Ticket Error → Registry → Type 0
 Admits partition name existing old result new = MatchResult result
-    (λ ticket. (old.next < 2 ^ 64 - 1) × (is_barred partition name existing old ≡ false) × ((ticket, new) ≡ admitted partition name existing old))
+    (λ ticket. (old.next < 2 ^ 64 - 1) × (is_barred partition name existing old ≡ false)
+    × ((ticket, new) ≡ admitted partition name existing old))
     (λ e. (new ≡ old)
     × (((e ≡ NumberEnded) × (old.next ≡ 2 ^ 64 - 1))
     ⊎ ((e ≡ Retained) × (old.next < 2 ^ 64 - 1) × (is_barred partition name existing old ≡ true))

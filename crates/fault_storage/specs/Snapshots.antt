@@ -32,14 +32,21 @@ emptied store = record { partitions = []; files = []; order = []; next = store.n
 -- files numbered from a number on, each with what was durable as its base
 abbrev pub numbered : ℕ → List Durable → List StoredFile
 numbered number [] = []
-numbered number (durable ∷ later) = record { name = durable.0; number = number; file = settled_at durable.1 } ∷ numbered (number + 1) later
+numbered number (durable ∷ later) = record { name = durable.0; number = number; file = settled_at durable.1 }
+    ∷ numbered (number + 1) later
 
 -- the store that is made of a snapshot
 abbrev pub store_of : Kept → Store
-store_of kept = record { partitions = kept.partitions; files = numbered kept.next kept.files; order = []; next = kept.next + length kept.files }
+store_of kept = record {
+  partitions = kept.partitions;
+  files = numbered kept.next kept.files;
+  order = [];
+  next = kept.next + length kept.files;
+}
 
 -- what the making of a store of a snapshot gives, and why it is refused
 abbrev pub Rebuilds : Kept → Result Store Error → Type 0
 Rebuilds kept result = MatchResult result
     (λ store. (kept.next + length kept.files < 2 ^ 64) × (store ≡ store_of kept))
-    (λ e. ((e ≡ NumberEnded) × (2 ^ 64 ≤ kept.next + length kept.files)) ⊎ ((e ≡ Memory) × (kept.next + length kept.files < 2 ^ 64)))
+    (λ e. ((e ≡ NumberEnded) × (2 ^ 64 ≤ kept.next + length kept.files))
+    ⊎ ((e ≡ Memory) × (kept.next + length kept.files < 2 ^ 64)))

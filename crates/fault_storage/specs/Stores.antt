@@ -1,29 +1,8 @@
--- A store of files. Its files stand in the order of their names; each has a number of its own, so that a value of a blob that is gone
--- finds no file. The order of issue is kept over all files: a number for each mutation that is not settled.
-use Rattle.std.specs.Prelude.{
-  ◌≡◌,
-  ⊤,
-  ℕ,
-  ◌+◌,
-  ◌<◌,
-  ◌==◌,
-  nat_le,
-  Bool,
-  true,
-  not,
-  if◌then◌else◌,
-  List,
-  [],
-  ◌∷◌,
-  ◌++◌,
-  length,
-  take,
-  drop,
-  replicate,
-  filter,
-  slice_index_or,
-  slice_set,
-}
+-- A store of files. Its files stand in the order of their names; each has a number of its own, so that a value of a
+-- blob that is gone finds no file. The order of issue is kept over all files: a number for each mutation that is not
+-- settled.
+use Rattle.std.specs.Prelude.{◌≡◌, ⊤, ℕ, ◌+◌, ◌<◌, ◌==◌, nat_le, Bool, true, not, if◌then◌else◌, List, [], ◌∷◌, ◌++◌}
+use Rattle.std.specs.Prelude.{length, take, drop, replicate, filter, slice_index_or, slice_set}
 use Rattle.std.specs.List.{list_any}
 use Rattle.rand_core.specs.Stream.{Stream}
 use Rattle.fault_storage.specs.declared.stored.StoredFile.{StoredFile}
@@ -31,9 +10,11 @@ use Rattle.fault_storage.specs.declared.storage.WriteMode.{WriteMode}
 use Rattle.fault_storage.specs.declared.storage.WriteMode.TheVariants.{Plain, Sync}
 use Rattle.fault_storage_parts.specs.Draws.{Mode, Rate, prefix, never}
 use Rattle.fault_storage_parts.specs.Revisions.{file_recast, file_without_last, without_last}
-use Rattle.fault_storage_parts.specs.Files.{Mutation, written, fixed, resized_to, File, IsLeftOf, with_bytes, with_kept, resized, settled}
+use Rattle.fault_storage_parts.specs.Files.{Mutation, written, fixed, resized_to, File, IsLeftOf, with_bytes, with_kept}
+use Rattle.fault_storage_parts.specs.Files.{resized, settled}
 
--- a store: the names of its partitions, its files, the numbers of the files whose mutations were issued, and the next number
+-- a store: the names of its partitions, its files, the numbers of the files whose mutations were issued, and the next
+-- number
 pub record Store : Type 0 where
   pub partitions : List (List ℕ)
   pub files : List StoredFile
@@ -62,7 +43,8 @@ number_with test (stored ∷ later) = if test stored then stored.number else num
 -- the files with the first that passes changed
 abbrev pub changed : (StoredFile → Bool) → (File → File) → List StoredFile → List StoredFile
 changed test change [] = []
-changed test change (stored ∷ later) = if test stored then record stored { file = change stored.file } ∷ later else stored ∷ changed test change later
+changed test change (stored ∷ later) =
+    if test stored then record stored { file = change stored.file } ∷ later else stored ∷ changed test change later
 
 -- the place of the first file that passes
 pub record IsPlace (test : StoredFile → Bool) (files : List StoredFile) (place : ℕ) : Type 0 where
@@ -71,7 +53,9 @@ pub record IsPlace (test : StoredFile → Bool) (files : List StoredFile) (place
   pub is : (d : StoredFile) → file_with test files ≡ (slice_index_or files place d).file
   pub number : (d : StoredFile) → number_with test files ≡ (slice_index_or files place d).number
   pub change : (change : File → File) (d : StoredFile)
-      → changed test change files ≡ slice_set files place (record (slice_index_or files place d) { file = change (slice_index_or files place d).file })
+      → changed test change files
+      ≡ slice_set files place
+      (record (slice_index_or files place d) { file = change (slice_index_or files place d).file })
 
 abbrev pub is_there : ℕ → Store → Bool
 is_there number store = list_any (has_number number) store.files
@@ -102,7 +86,10 @@ revised number change store = record store { files = changed (has_number number)
 abbrev pub withdrawn : ℕ → Store → Store
 withdrawn number store =
     if is_there number store
-    then record store { files = changed (has_number number) file_without_last store.files; order = without_last store.order }
+    then record store {
+      files = changed (has_number number) file_without_last store.files;
+      order = without_last store.order;
+    }
     else store
 
 -- without the turns of a file
@@ -124,7 +111,10 @@ published number bytes store = record store {
 abbrev pub settled_in : ℕ → List StoredFile → Stream → List StoredFile × Stream
 settled_in number files words =
     if list_any (has_number number) files
-    then (changed (has_number number) (λ file. (settled file words).0) files, (settled (file_with (has_number number) files) words).1)
+    then (
+      changed (has_number number) (λ file. (settled file words).0) files,
+      (settled (file_with (has_number number) files) words).1,
+    )
     else (files, words)
 
 -- what a crash leaves of the files by choices drawn in the order of issue, and the words left

@@ -1,30 +1,7 @@
 //! The names of a store's files.
 
-ghost use Rattle.std.specs.Prelude.{
-  ◌≡◌,
-  ℕ,
-  ◌<◌,
-  ◌≤◌,
-  ◌++◌,
-  ◌∷◌,
-  length,
-  take,
-  drop,
-  [],
-  true,
-  false,
-  not,
-  filter,
-  map,
-  IfOk,
-  IfNone,
-  IfSome,
-  OnOk,
-  OnErr,
-  MatchOption,
-  List,
-  IsTrue,
-};
+ghost use Rattle.std.specs.Prelude.{◌≡◌, ℕ, ◌<◌, ◌≤◌, ◌++◌, ◌∷◌, length, take, drop, [], true, false, not, filter, map};
+ghost use Rattle.std.specs.Prelude.{IfOk, IfNone, IfSome, OnOk, OnErr, MatchOption, List, IsTrue};
 ghost use Rattle.std.specs.List.{list_any};
 ghost use Rattle.std.specs.Str.{bytes_eq};
 ghost use Rattle.std.specs.Vec.{vec_len, vec_capacity};
@@ -83,7 +60,8 @@ pub fn has_partition(partitions: &[PartitionName], partition: &str) -> bool
 
 /// The place of the file of this name, or None where there is none.
 pub fn place_of_name(files: &[StoredFile], partition: &str, name: &[u8]) -> Option<usize>
-    ensures { MatchOption result (list_any (has_name partition.now name.now) files.now ≡ false) (IsPlace (has_name partition.now name.now) files.now) }
+    ensures { MatchOption result (list_any (has_name partition.now name.now) files.now
+        ≡ false) (IsPlace (has_name partition.now name.now) files.now) }
 {
     for (place, stored) in files.iter().enumerate() {
         if stored.name.is(partition, name) {
@@ -135,7 +113,8 @@ pub fn names_in(
 // The place that a file of this name has in order.
 fn place_for(files: &[StoredFile], name: &BlobName) -> usize
     ensures within { result ≤ length files.now }
-    ensures is { (added : StoredFile) → added.name ≡ name.now → in_order added files.now ≡ take result files.now ++ (added ∷ drop result files.now) }
+    ensures is { (added : StoredFile) → added.name ≡ name.now → in_order added files.now ≡ take result files.now
+        ++ (added ∷ drop result files.now) }
 {
     for (place, stored) in files.iter().enumerate() {
         if name.is_before(&stored.name) {
@@ -171,8 +150,10 @@ pub fn durable_of(
     name: &[u8],
 ) -> Result<Option<Durable>, AllocError>
     ensures none { IfOk result (λ found. IfNone found (list_any (has_name partition.now name.now) files.now ≡ false)) }
-    ensures some { IfOk result (λ found. IfSome found (λ it. (list_any (has_name partition.now name.now) files.now ≡ true)
-        × (it.number ≡ number_with (has_name partition.now name.now) files.now) × (it.bytes.items ≡ durable_in partition.now name.now files.now))) }
+    ensures some { IfOk result
+        (λ found. IfSome found (λ it. (list_any (has_name partition.now name.now) files.now ≡ true)
+        × (it.number ≡ number_with (has_name partition.now name.now) files.now)
+        × (it.bytes.items ≡ durable_in partition.now name.now files.now))) }
     ensures err { OnErr result (list_any (has_name partition.now name.now) files.now ≡ true) }
 {
     let Some(place) = place_of_name(files, partition, name) else {
@@ -188,7 +169,8 @@ pub fn durable_of(
 
 /// Makes the bytes the base of the file of this name, where it is there, and empties its log.
 pub fn publish_name(files: &mut Vec<StoredFile>, partition: &str, name: &[u8], bytes: Vec<u8>)
-    ensures { files.new.items ≡ changed (has_name partition.now name.now) (λ _. settled_at bytes.items) files.old.items }
+    ensures { files.new.items
+        ≡ changed (has_name partition.now name.now) (λ _. settled_at bytes.items) files.old.items }
 {
     if let Some(place) = place_of_name(files, partition, name) {
         files[place].file.publish(bytes);

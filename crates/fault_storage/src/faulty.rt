@@ -4,14 +4,17 @@
 //!   a call    count full: F8 -> room for all that it may do: F9 -> draw: F6 -> the store in memory answers
 //! ```
 //!
-//! A call that answers F8 or F9 has taken no word and changed nothing. The draw comes before every other check of the store.
+//! A call that answers F8 or F9 has taken no word and changed nothing. The draw comes before every other check of the
+//! store.
 
 ghost use Rattle.std.specs.Prelude.{◌≡◌, ◌+◌, ◌-◌, ◌^◌, ◌<◌, ◌⊎◌, Err, Ok, IfErr, OnOk, OnErr, length, if◌then◌else◌};
 ghost use Rattle.fault_storage_parts.specs.Draws.{sample};
 ghost use Rattle.fault_storage_parts.specs.DrawsCode.{rate_of};
 ghost use Rattle.fault_storage.specs.Stores.{resizing, without_retired, published, crashed_store};
-ghost use Rattle.fault_storage.specs.Directory.{admitted, HasFile, LacksName, MemoryRemoves, MemoryScans, MemoryReads, MemoryFills, MemorySyncs};
-ghost use Rattle.fault_storage_parts.specs.declared.error.Call.TheVariants.{Open, Read, Write, Sync, Resize, Remove, Scan};
+ghost use Rattle.fault_storage.specs.Directory.{admitted, HasFile, LacksName, MemoryRemoves, MemoryScans, MemoryReads};
+ghost use Rattle.fault_storage.specs.Directory.{MemoryFills, MemorySyncs};
+ghost use Rattle.fault_storage_parts.specs.declared.error.Call.TheVariants.{Open, Read, Write, Sync, Resize, Remove};
+ghost use Rattle.fault_storage_parts.specs.declared.error.Call.TheVariants.{Scan};
 ghost use Rattle.fault_storage.specs.Changes.{FaultyWrites, FaultyResizes, is_injected};
 ghost use Rattle.fault_storage.specs.Faults.{IsFaultyCall, FaultyOpens, unwrapped};
 
@@ -122,13 +125,16 @@ impl<R: Rng> Storage<memory::Storage, R> {
         self.inner.remove_retired();
     }
 
-    /// Makes what is durable of the file the base, and forgets its other mutations: what an opening showed stays. F3, F2, F1, F9; no
-    /// word is taken. In the Rust: `commonware_runtime::storage::faulty::Storage::admit`.
+    /// Makes what is durable of the file the base, and forgets its other mutations: what an opening showed stays. F3,
+    /// F2, F1, F9; no word is taken. In the Rust: `commonware_runtime::storage::faulty::Storage::admit`.
     pub fn admit(&mut self, partition: &str, name: &[u8]) -> Result<(), Error>
-        ensures ok { OnOk result (HasFile partition.now name.now self.old.inner × (self.new.inner ≡ admitted partition.now name.now self.old.inner)) }
+        ensures ok { OnOk result (HasFile partition.now name.now self.old.inner
+            × (self.new.inner ≡ admitted partition.now name.now self.old.inner)) }
         ensures err { IfErr result (λ e. (self.new.inner ≡ self.old.inner)
-            × (LacksName partition.now name.now self.old.inner e ⊎ ((e ≡ Error.Memory) × HasFile partition.now name.now self.old.inner))) }
-        ensures rest { (R.stream self.new.rng ≡ R.stream self.old.rng) × (self.new.injections ≡ self.old.injections) × (self.new.config ≡ self.old.config) }
+            × (LacksName partition.now name.now self.old.inner e
+            ⊎ ((e ≡ Error.Memory) × HasFile partition.now name.now self.old.inner))) }
+        ensures rest { (R.stream self.new.rng ≡ R.stream self.old.rng) × (self.new.injections ≡ self.old.injections)
+            × (self.new.config ≡ self.old.config) }
     {
         self.inner.admit(partition, name)
     }
@@ -150,13 +156,14 @@ impl<R: Rng> crate::storage::Storage for Storage<memory::Storage, R> {
     ghost opens = { λ old partition name versions result new. IsFaultyCall (R.stream) Open old.config.«open»
         (FaultyOpens partition name versions) old result new };
 
-    ghost scans = { λ old partition result new. IsFaultyCall (R.stream) Scan old.config.scan (MemoryScans partition) old result new };
+    ghost scans = { λ old partition result new. IsFaultyCall (R.stream) Scan old.config.scan
+        (MemoryScans partition) old result new };
 
     ghost removes = { λ old partition name result new. IsFaultyCall (R.stream) Remove old.config.remove
         (λ below. MemoryRemoves below partition name) old result new };
 
-    /// Opens the blob of this name, which it creates in the greatest of the versions where there is none, or none with a
-    /// header. F8: the count of faults has ended, or numbers where one would be given; F9; F6; F3; F5: its header is
+    /// Opens the blob of this name, which it creates in the greatest of the versions where there is none, or none with
+    /// a header. F8: the count of faults has ended, or numbers where one would be given; F9; F6; F3; F5: its header is
     /// refused. In the Rust: `commonware_runtime::Storage::open_versioned`.
     fn open_versioned(
         &mut self,
@@ -256,16 +263,19 @@ impl<B> Blob<B> {
 }
 
 impl<R: Rng> crate::storage::Blob<Storage<memory::Storage, R>> for Blob<memory::Blob> {
-    ghost reads = { λ blob offset count old result new. IsFaultyCall (R.stream) Read old.config.read (MemoryReads blob.inner offset count) old result new };
+    ghost reads = { λ blob offset count old result new. IsFaultyCall (R.stream) Read old.config.read
+        (MemoryReads blob.inner offset count) old result new };
 
     ghost fills = { λ blob offset buffer filled old result new.
-        IsFaultyCall (R.stream) Read old.config.read (MemoryFills blob.inner offset buffer filled) old result new × OnErr result (filled ≡ buffer) };
+        IsFaultyCall (R.stream) Read old.config.read (MemoryFills blob.inner offset buffer filled) old result new
+        × OnErr result (filled ≡ buffer) };
 
     ghost writes = { FaultyWrites (R.stream) };
 
     ghost resizes = { FaultyResizes (R.stream) };
 
-    ghost syncs = { λ blob old result new. IsFaultyCall (R.stream) Sync old.config.sync (MemorySyncs blob.inner) old result new };
+    ghost syncs = { λ blob old result new. IsFaultyCall (R.stream) Sync old.config.sync
+        (MemorySyncs blob.inner) old result new };
 
     /// So many bytes from an offset on. F8: the count of faults has ended; F9; F6; F7: they are not all there.
     fn read_at(
@@ -287,8 +297,8 @@ impl<R: Rng> crate::storage::Blob<Storage<memory::Storage, R>> for Blob<memory::
         bytes
     }
 
-    /// Reads into the buffer from an offset on, and fills it; refused, it stays as it is. F8: the count of faults has ended; F6; F7: the
-    /// bytes are not all there.
+    /// Reads into the buffer from an offset on, and fills it; refused, it stays as it is. F8: the count of faults has
+    /// ended; F6; F7: the bytes are not all there.
     fn read_at_buf(
         &self,
         storage: &mut Storage<memory::Storage, R>,
@@ -304,8 +314,9 @@ impl<R: Rng> crate::storage::Blob<Storage<memory::Storage, R>> for Blob<memory::
         self.inner.read_at_buf(&mut storage.inner, offset, buffer)
     }
 
-    /// Writes the bytes at an offset, with zeros in a gap before them. F8: the count of faults has ended, or their end would pass a u64;
-    /// F9; F6: the bytes that are drawn are durable at once, and live. A crash keeps bytes of a plain write by the settings of now.
+    /// Writes the bytes at an offset, with zeros in a gap before them. F8: the count of faults has ended, or their end
+    /// would pass a u64; F9; F6: the bytes that are drawn are durable at once, and live. A crash keeps bytes of a plain
+    /// write by the settings of now.
     fn write_at(
         &mut self,
         storage: &mut Storage<memory::Storage, R>,
@@ -330,8 +341,8 @@ impl<R: Rng> crate::storage::Blob<Storage<memory::Storage, R>> for Blob<memory::
         written
     }
 
-    /// Cuts the blob to a length, or grows it to that by zeros. F8: the count of faults has ended, or its end would pass a u64; F9; F6:
-    /// it goes a part of the way, or nowhere, as is drawn. A crash keeps it by the settings of now.
+    /// Cuts the blob to a length, or grows it to that by zeros. F8: the count of faults has ended, or its end would
+    /// pass a u64; F9; F6: it goes a part of the way, or nowhere, as is drawn. A crash keeps it by the settings of now.
     fn resize(
         &mut self,
         storage: &mut Storage<memory::Storage, R>,
@@ -352,7 +363,8 @@ impl<R: Rng> crate::storage::Blob<Storage<memory::Storage, R>> for Blob<memory::
         resized
     }
 
-    /// Makes the live bytes durable. F8: the count of faults has ended; F9; F6, and nothing is published; F1: the blob is gone.
+    /// Makes the live bytes durable. F8: the count of faults has ended; F9; F6, and nothing is published; F1: the blob
+    /// is gone.
     fn sync(&self, storage: &mut Storage<memory::Storage, R>) -> Result<(), Error> {
         if storage.injections == u64::MAX {
             return Err(Error::NumberEnded);

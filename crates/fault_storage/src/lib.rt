@@ -1,5 +1,5 @@
-//! Named blobs that fail, tear writes and crash as they are told to. The crate ports the fault storage of commonware-runtime
-//! 2026.10.0; `In the Rust` names what an item is there.
+//! Named blobs that fail, tear writes and crash as they are told to. The crate ports the fault storage of
+//! commonware-runtime 2026.10.0; `In the Rust` names what an item is there.
 #![tactic(auto)]
 
 pub mod directory;

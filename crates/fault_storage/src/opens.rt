@@ -1,6 +1,7 @@
 //! Which names are open: a name is opened once at a time, and neither removed nor replaced while it is open.
 
-ghost use Rattle.std.specs.Prelude.{◌≡◌, ℕ, ◌++◌, ◌∷◌, [], true, false, List, Err, Ok, IfOk, IfErr, MatchResult, ◌⊎◌, option_map};
+ghost use Rattle.std.specs.Prelude.{◌≡◌, ℕ, ◌++◌, ◌∷◌, [], true, false, List, Err, Ok, IfOk, IfErr, MatchResult, ◌⊎◌};
+ghost use Rattle.std.specs.Prelude.{option_map};
 ghost use Rattle.std.specs.Borrow.{sem, Lends};
 ghost use Rattle.std.specs.Str.{bytes_eq};
 ghost use Rattle.fault_storage.specs.Opens.{Name, is_before, is_name, is_open, is_held, closed};
@@ -175,8 +176,8 @@ impl Opens {
         self.names.retain(|other| !other.is_same(name));
     }
 
-    /// Opens the blob of this name in the store. F4, and nothing is changed, where the name is open; else the store's refusals, or F9
-    /// with nothing changed. In the Rust: `commonware_runtime::storage::Opens::open`.
+    /// Opens the blob of this name in the store. F4, and nothing is changed, where the name is open; else the store's
+    /// refusals, or F9 with nothing changed. In the Rust: `commonware_runtime::storage::Opens::open`.
     pub fn open<S: Storage>(
         &mut self,
         storage: &mut S,
@@ -184,8 +185,10 @@ impl Opens {
         name: &[u8],
         versions: Versions,
     ) -> Result<OpenBlob<S::Blob>, Error>
-        ensures open { is_open partition.now name.now self.old ≡ true → (result ≡ Err Error.AlreadyOpen) × (self.new ≡ self.old) × (storage.new ≡ storage.old) }
-        ensures ok { IfOk result (λ made. (made.name ≡ (partition.now, name.now)) × (self.new ≡ self.old ++ (partition.now, name.now) ∷ [])
+        ensures open { is_open partition.now name.now self.old ≡ true → (result ≡ Err Error.AlreadyOpen)
+            × (self.new ≡ self.old) × (storage.new ≡ storage.old) }
+        ensures ok { IfOk result (λ made. (made.name ≡ (partition.now, name.now))
+            × (self.new ≡ self.old ++ (partition.now, name.now) ∷ [])
             × S.opens storage.old partition.now name.now versions (Ok made.opened) storage.new) }
         ensures err { IfErr result (λ error. self.new ≡ self.old) }
         ensures refused { is_open partition.now name.now self.old ≡ false
@@ -206,15 +209,16 @@ impl Opens {
         })
     }
 
-    /// Removes the blob of this name from the store, or without a name the partition. F4, and nothing is changed, where one of them is
-    /// open. In the Rust: `commonware_runtime::storage::Opens::remove`.
+    /// Removes the blob of this name from the store, or without a name the partition. F4, and nothing is changed, where
+    /// one of them is open. In the Rust: `commonware_runtime::storage::Opens::remove`.
     pub fn remove<S: Storage>(
         &self,
         storage: &mut S,
         partition: &str,
         name: Option<&[u8]>,
     ) -> Result<(), Error>
-        ensures open { is_held partition.now (option_map (λ x. x.now) name.entry) self.now ≡ true → (result ≡ Err Error.AlreadyOpen)
+        ensures open { is_held partition.now (option_map (λ x. x.now) name.entry) self.now ≡ true
+            → (result ≡ Err Error.AlreadyOpen)
             × (storage.new ≡ storage.old) }
         ensures closed { is_held partition.now (option_map (λ x. x.now) name.entry) self.now ≡ false
             → S.removes storage.old partition.now (option_map (λ x. x.now) name.entry) result storage.new }

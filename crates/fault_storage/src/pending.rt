@@ -13,7 +13,8 @@ ghost use Rattle.std.specs.Prelude.{false, IfOk, OnErr, MatchResult, MatchOption
 ghost use Rattle.std.specs.List.{list_any};
 ghost use Rattle.std.specs.Vec.{vec_len, vec_capacity};
 ghost use Rattle.fault_storage.specs.Pending.{Registry, Entry, Admits, IsFirst, changed, changed_for, settled, cleared};
-ghost use Rattle.fault_storage.specs.Pending.{failed, followed, forgotten, first_ticket, next_ticket, fresh, without_name};
+ghost use Rattle.fault_storage.specs.Pending.{failed, followed, forgotten, first_ticket, next_ticket, fresh};
+ghost use Rattle.fault_storage.specs.Pending.{without_name};
 ghost use Rattle.fault_storage.specs.Pending.{is_of, is_settled_in, has_name, has_debt, has_settled, failure_in};
 ghost use Rattle.fault_storage.specs.Pending.{entry_of, entry_for};
 

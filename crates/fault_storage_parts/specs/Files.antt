@@ -1,6 +1,7 @@
--- A file is a base and one uncut log of mutations in the order of issue. What is durable is the base with the fixed mutations
--- alone; what a crash leaves is the base with all of them, the others by choices that are drawn.
-use Rattle.std.specs.Prelude.{◌≡◌, ℕ, ⊤, ◌+◌, ◌-◌, ◌≤◌, Bool, true, false, if◌then◌else◌, List, [], ◌∷◌, ◌++◌, length, take, drop, replicate}
+-- A file is a base and one uncut log of mutations in the order of issue. What is durable is the base with the fixed
+-- mutations alone; what a crash leaves is the base with all of them, the others by choices that are drawn.
+use Rattle.std.specs.Prelude.{◌≡◌, ℕ, ⊤, ◌+◌, ◌-◌, ◌≤◌, Bool, true, false, if◌then◌else◌, List, [], ◌∷◌, ◌++◌, length}
+use Rattle.std.specs.Prelude.{take, drop, replicate}
 use Rattle.rand_core.specs.Stream.{Stream}
 use Rattle.fault_storage_parts.specs.Draws.{Rate, Mode, sample, kept_bytes}
 
@@ -20,11 +21,13 @@ with_bytes offset bytes file = take offset (grown offset file) ++ (bytes ++ drop
 abbrev pub with_kept : ℕ → List ℕ → List Bool → List ℕ → List ℕ
 with_kept offset [] kept file = file
 with_kept offset (byte ∷ bytes) [] file = file
-with_kept offset (byte ∷ bytes) (true ∷ kept) file = with_kept (offset + 1) bytes kept (with_bytes offset (byte ∷ []) file)
+with_kept offset (byte ∷ bytes) (true ∷ kept) file =
+    with_kept (offset + 1) bytes kept (with_bytes offset (byte ∷ []) file)
 with_kept offset (byte ∷ bytes) (false ∷ kept) file = with_kept (offset + 1) bytes kept file
 
--- A mutation as it was issued: a plain write, of which a crash keeps bytes by this mode and rate; one that is durable already, of
--- which these bytes are kept (a synced write keeps all, a failed one what was drawn); a resize, which a crash keeps by this rate.
+-- A mutation as it was issued: a plain write, of which a crash keeps bytes by this mode and rate; one that is durable
+-- already, of which these bytes are kept (a synced write keeps all, a failed one what was drawn); a resize, which a
+-- crash keeps by this rate.
 pub data Mutation : Type 0 where
   written : ℕ → List ℕ → Mode → Rate → Mutation
   fixed : ℕ → List ℕ → List Bool → Mutation
@@ -58,7 +61,8 @@ left_by choices base [] = base
 left_by [] base (mutation ∷ later) = base
 left_by (choice ∷ choices) base (mutation ∷ later) = left_by choices (applied choice mutation base) later
 
--- what is left of a file where choices were made for the first of its log: its base by them, and the others still in its log
+-- what is left of a file where choices were made for the first of its log: its base by them, and the others still in
+-- its log
 pub record IsLeftOf (base : List ℕ) (log : List Mutation) (left : List ℕ) (later : List Mutation) : Type 0 where
   pub choices : List (List Bool)
   pub is : left ≡ left_by choices base log
@@ -96,7 +100,8 @@ pub record File : Type 0 where
 unfoldable pub settled : File → Stream → File × Stream
 settled file words = elim file.log [
   | [] ↦ (file, words)
-  | mutation ∷ later ↦ let drawn = drawn_choice mutation words in (record { base = applied drawn.0 mutation file.base; log = later }, drawn.1)
+  | mutation ∷ later ↦ let drawn = drawn_choice mutation words in
+      (record { base = applied drawn.0 mutation file.base; log = later }, drawn.1)
 ]
 
 -- a file of this size has room for what the mutation writes

@@ -1,34 +1,8 @@
--- The headers of files. A created file begins with a region of its layout; what a crash leaves of a region that was being written is
--- a beginning of it, followed by zeros. A header that is read has to pass its checks, in their order.
-use Rattle.std.specs.Prelude.{
-  ◌≡◌,
-  ℕ,
-  ◌-◌,
-  ◌<◌,
-  ◌≤◌,
-  ◌^◌,
-  ◌==◌,
-  ◌&&◌,
-  ◌⊎◌,
-  nat_le,
-  Bool,
-  true,
-  if◌then◌else◌,
-  Option,
-  Some,
-  None,
-  is_some,
-  unwrap_or,
-  List,
-  [],
-  ◌∷◌,
-  ◌++◌,
-  length,
-  take,
-  drop,
-  replicate,
-  slice_index,
-}
+-- The headers of files. A created file begins with a region of its layout; what a crash leaves of a region that was
+-- being written is a beginning of it, followed by zeros. A header that is read has to pass its checks, in their order.
+use Rattle.std.specs.Prelude.{◌≡◌, ℕ, ◌-◌, ◌<◌, ◌≤◌, ◌^◌, ◌==◌, ◌&&◌, ◌⊎◌, nat_le, Bool, true, if◌then◌else◌, Option}
+use Rattle.std.specs.Prelude.{Some, None, is_some, unwrap_or, List, [], ◌∷◌, ◌++◌, length, take, drop, replicate}
+use Rattle.std.specs.Prelude.{slice_index}
 use Rattle.std.specs.Int.{w16, w32, to_be_bytes, from_be_bytes}
 use Rattle.std.specs.Str.{bytes_eq}
 use Rattle.fault_storage_parts.specs.declared.header.Layout.{Layout}
@@ -38,7 +12,8 @@ use Rattle.fault_storage_parts.specs.declared.header.Versions.{Versions}
 use Rattle.fault_storage_parts.specs.declared.header.Header.{Header}
 use Rattle.fault_storage_parts.specs.declared.header.Resolved.{Resolved}
 use Rattle.fault_storage_parts.specs.declared.error.HeaderError.{HeaderError}
-use Rattle.fault_storage_parts.specs.declared.error.HeaderError.TheVariants.{Magic, LayoutNotAllowed, Short, LayoutVersion, Checksum, BlobVersion}
+use Rattle.fault_storage_parts.specs.declared.error.HeaderError.TheVariants.{Magic, LayoutNotAllowed, Short}
+use Rattle.fault_storage_parts.specs.declared.error.HeaderError.TheVariants.{LayoutVersion, Checksum, BlobVersion}
 use Rattle.fault_storage_parts.specs.Crc32.{crc32}
 
 -- the first four bytes
@@ -94,7 +69,8 @@ version_in bytes = from_be_bytes w16 (slice_index bytes 6 ∷ slice_index bytes 
 
 -- the layout whose headers begin with these four bytes
 abbrev pub layout_with : List ℕ → Option Layout
-layout_with magic = if bytes_eq magic (magic_of V0) then Some V0 else (if bytes_eq magic (magic_of V1) then Some V1 else None)
+layout_with magic =
+    if bytes_eq magic (magic_of V0) then Some V0 else (if bytes_eq magic (magic_of V1) then Some V1 else None)
 
 abbrev pub layout_of : Header → Layout
 layout_of header = unwrap_or (layout_with header.magic) V0
@@ -110,7 +86,8 @@ header_of bytes = record {
 -- within the layouts, or the versions, that are accepted
 abbrev pub is_among : Layouts → Layout → Bool
 is_among layouts layout =
-    nat_le (layout_number layouts.least) (layout_number layout) && nat_le (layout_number layout) (layout_number layouts.greatest)
+    nat_le (layout_number layouts.least) (layout_number layout)
+    && nat_le (layout_number layout) (layout_number layouts.greatest)
 
 abbrev pub is_version : Versions → ℕ → Bool
 is_version versions version = nat_le versions.least version && nat_le version versions.greatest
@@ -150,7 +127,8 @@ file_checks layouts versions bytes size = let header = header_of bytes in
     ∷ (is_version versions header.blob_version, BlobVersion)
     ∷ []
 
--- what a file of this size shows, where its header passes: the size after the header, the blob version, and where the data begin
+-- what a file of this size shows, where its header passes: the size after the header, the blob version, and where the
+-- data begin
 abbrev pub resolved_of : List ℕ → ℕ → Resolved
 resolved_of bytes size = let header = header_of bytes in record {
   size = size - data_offset_of (layout_of header);

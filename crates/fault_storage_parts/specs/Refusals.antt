@@ -1,7 +1,8 @@
 -- Refusals.
 use Rattle.std.specs.Prelude.{Bool, true, false}
 use Rattle.fault_storage_parts.specs.declared.error.HeaderError.{HeaderError}
-use Rattle.fault_storage_parts.specs.declared.error.HeaderError.TheVariants.{Magic, LayoutNotAllowed, Short, LayoutVersion, Checksum, BlobVersion}
+use Rattle.fault_storage_parts.specs.declared.error.HeaderError.TheVariants.{Magic, LayoutNotAllowed, Short}
+use Rattle.fault_storage_parts.specs.declared.error.HeaderError.TheVariants.{LayoutVersion, Checksum, BlobVersion}
 
 -- what a creation that a crash cut short may be refused for
 abbrev pub may_be_torn : HeaderError → Bool

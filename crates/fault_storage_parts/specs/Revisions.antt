@@ -1,4 +1,5 @@
--- A mutation that was issued, put otherwise once it is drawn what became of its call: so a call finds all its room before its draw.
+-- A mutation that was issued, put otherwise once it is drawn what became of its call: so a call finds all its room
+-- before its draw.
 use Rattle.std.specs.Prelude.{ℕ, ◌-◌, min, Bool, List, [], ◌∷◌, length, take}
 use Rattle.fault_storage_parts.specs.Files.{Mutation, written, fixed, resized_to, File}
 

@@ -53,8 +53,9 @@ fn shortened(mutation: Mutation, size: usize) -> Mutation
     }
 }
 
-/// A file: a base, which was durable at the last published sync, admission or crash, else at creation, and the uncut log of its
-/// mutations since, in the order of issue. It has room for all that the log writes, so that a crash asks for none.
+/// A file: a base, which was durable at the last published sync, admission or crash, else at creation, and the uncut
+/// log of its mutations since, in the order of issue. It has room for all that the log writes, so that a crash asks for
+/// none.
 #[derive(Debug, Drop)]
 pub struct BlobFile {
     base: Vec<u8>,
@@ -73,7 +74,8 @@ impl Model for BlobFile {
 
     ghost view = { λ it. record { base = it.base.items; log = log_of it.log.items } };
 
-    ghost invariant = { λ it. All (λ m. HasRoomFor (vec_capacity it.base) (mutation_of m) × (chosen_bytes (mutation_of m) ≤ vec_capacity it.choice))
+    ghost invariant = { λ it. All (λ m. HasRoomFor (vec_capacity it.base) (mutation_of m)
+        × (chosen_bytes (mutation_of m) ≤ vec_capacity it.choice))
         it.log.items };
 }
 
@@ -108,7 +110,11 @@ impl BlobFile {
 
     /// Issues the mutation. It fails only when out of memory, and then nothing is changed.
     pub fn issue(&mut self, mutation: Mutation) -> Result<(), AllocError>
-        ensures ok { OnOk result (self.new ≡ record { base = self.old.base; log = self.old.log ++ mutation_of mutation ∷ [] }) }
+        ensures ok { OnOk result (self.new ≡ record {
+          base = self.old.base;
+          log = self.old.log
+              ++ mutation_of mutation ∷ [];
+        }) }
         ensures err { OnErr result (self.new ≡ self.old) }
     {
         let missing = size_for(&mutation).saturating_sub(self.base.len());

@@ -57,7 +57,8 @@ fn note_samples<R: Rng>(choice: &mut Vec<bool>, count: usize, retention: Probabi
     }
 }
 
-/// Notes for each of `count` bytes of a torn write whether it is kept. There is room for it, so that it always succeeds.
+/// Notes for each of `count` bytes of a torn write whether it is kept. There is room for it, so that it always
+/// succeeds.
 pub fn note_kept_bytes<R: Rng>(
     choice: &mut Vec<bool>,
     mode: PartialWriteMode,
@@ -67,7 +68,8 @@ pub fn note_kept_bytes<R: Rng>(
 )
     requires none { choice.old.items ≡ [] }
     requires room { vec_len choice.old + count ≤ vec_capacity choice.old }
-    ensures drawn { (choice.new.items, R.stream rng.new) ≡ kept_bytes (mode_of mode) (rate_of retention) count (R.stream rng.old) }
+    ensures drawn { (choice.new.items, R.stream rng.new)
+        ≡ kept_bytes (mode_of mode) (rate_of retention) count (R.stream rng.old) }
     ensures capacity { vec_capacity choice.old ≤ vec_capacity choice.new }
 {
     match mode {
@@ -79,8 +81,8 @@ pub fn note_kept_bytes<R: Rng>(
     }
 }
 
-/// For each of `count` bytes of a torn write whether it is kept. Room is found before any word is taken: a refusal, which comes
-/// only when out of memory, takes none.
+/// For each of `count` bytes of a torn write whether it is kept. Room is found before any word is taken: a refusal,
+/// which comes only when out of memory, takes none.
 pub fn draw_kept_bytes<R: Rng>(
     alloc: Global,
     mode: PartialWriteMode,
@@ -88,7 +90,8 @@ pub fn draw_kept_bytes<R: Rng>(
     count: usize,
     rng: &mut R,
 ) -> Result<Vec<bool>, AllocError>
-    ensures ok { IfOk result (λ choice. (choice.items, R.stream rng.new) ≡ kept_bytes (mode_of mode) (rate_of retention) count (R.stream rng.old)) }
+    ensures ok { IfOk result (λ choice. (choice.items, R.stream rng.new)
+        ≡ kept_bytes (mode_of mode) (rate_of retention) count (R.stream rng.old)) }
     ensures err { OnErr result (R.stream rng.new ≡ R.stream rng.old) }
 {
     let mut choice = Vec::with_capacity(alloc, count)?;

@@ -94,7 +94,8 @@ pub enum Error {
     /// In the Rust: `commonware_runtime::Error::BlobInsufficientLength`.
     #[error("F7: blob too short")]
     BlobInsufficientLength,
-    /// F8: a number would pass its type; the call counts as not made. In the Rust: `commonware_runtime::Error::OffsetOverflow`.
+    /// F8: a number would pass its type; the call counts as not made. In the Rust:
+    /// `commonware_runtime::Error::OffsetOverflow`.
     #[error("F8: number ended")]
     NumberEnded,
     /// F9: out of memory; the call counts as not made (own).

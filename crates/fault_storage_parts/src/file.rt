@@ -10,8 +10,8 @@
 //!   a crash that drops   "abcd" 0 0 0 0 "zw"
 //! ```
 //!
-//! Nothing is cut out of the log before it ends, since a later durable write says nothing of an earlier one that overlaps it: only
-//! the replay in order tells what stands at last.
+//! Nothing is cut out of the log before it ends, since a later durable write says nothing of an earlier one that
+//! overlaps it: only the replay in order tells what stands at last.
 
 ghost use Rattle.std.specs.Prelude.{◌<◌, ◌+◌, ◌^◌, length};
 
@@ -33,7 +33,8 @@ pub struct Written {
 pub enum Mutation {
     /// A plain write: a crash keeps bytes of it by this mode and retention rate.
     Plain(Written, PartialWriteMode, Probability),
-    /// A write that is durable already, of which these bytes are kept: all of a synced one, of a failed one those that were drawn.
+    /// A write that is durable already, of which these bytes are kept: all of a synced one, of a failed one those that
+    /// were drawn.
     Fixed(Written, Vec<bool>),
     /// A resize to this length: a crash keeps it by this retention rate.
     ResizedTo(usize, Probability),

@@ -5,58 +5,18 @@
 //!   V1   43 57 49 31  00 01  version  checksum  zeros ..    data from 4096
 //! ```
 //!
-//! A V0 header is written at once; the region of V1 fills a page, so that a crash in its creation leaves a beginning of it and zeros,
-//! which is told from a header that was changed since.
+//! A V0 header is written at once; the region of V1 fills a page, so that a crash in its creation leaves a beginning of
+//! it and zeros, which is told from a header that was changed since.
 
-ghost use Rattle.std.specs.Prelude.{
-  ◌≡◌,
-  ◌≢◌,
-  ℕ,
-  ◌≤◌,
-  ◌<◌,
-  ◌++◌,
-  min,
-  nat_lt,
-  nat_le,
-  length,
-  take,
-  drop,
-  replicate,
-  if◌then◌else◌,
-  IfOk,
-  IfErr,
-  IfSome,
-  IfNone,
-  MatchResult,
-  IsTrue,
-  ◌↔◌,
-  EachIndex,
-  slice_index,
-};
+ghost use Rattle.std.specs.Prelude.{◌≡◌, ◌≢◌, ℕ, ◌≤◌, ◌<◌, ◌++◌, min, nat_lt, nat_le, length, take, drop, replicate};
+ghost use Rattle.std.specs.Prelude.{if◌then◌else◌, IfOk, IfErr, IfSome, IfNone, MatchResult, IsTrue, ◌↔◌, EachIndex};
+ghost use Rattle.std.specs.Prelude.{slice_index};
 ghost use Rattle.std.specs.Int.{w32, to_be_bytes};
 ghost use Rattle.fault_storage_parts.specs.Crc32.{crc32};
-ghost use Rattle.fault_storage_parts.specs.Headers.{
-  IsTornCreation,
-  IsInterrupted,
-  IsUnmade,
-  front,
-  version_in,
-  magic_of,
-  layout_number,
-  data_offset_of,
-  prelude,
-  created,
-  layout_with,
-  is_among,
-  is_version,
-  has_region,
-  has_checksum,
-  header_of,
-  first_fault,
-  header_checks,
-  file_checks,
-  resolved_of,
-};
+ghost use Rattle.fault_storage_parts.specs.Headers.{IsTornCreation, IsInterrupted, IsUnmade, front, version_in};
+ghost use Rattle.fault_storage_parts.specs.Headers.{magic_of, layout_number, data_offset_of, prelude, created};
+ghost use Rattle.fault_storage_parts.specs.Headers.{layout_with, is_among, is_version, has_region, has_checksum};
+ghost use Rattle.fault_storage_parts.specs.Headers.{header_of, first_fault, header_checks, file_checks, resolved_of};
 
 use crate::checksum::{Checksum, Crc32};
 use crate::error::HeaderError;
@@ -108,8 +68,8 @@ impl Layout {
         None
     }
 
-    /// Whether a crash in the creation of a file of this layout may have left these bytes, which are all of it: for V1 a beginning of
-    /// its region, followed by zeros, that is no whole one; for V0 never.
+    /// Whether a crash in the creation of a file of this layout may have left these bytes, which are all of it: for V1
+    /// a beginning of its region, followed by zeros, that is no whole one; for V0 never.
     /// In the Rust: `commonware_runtime::storage::Layout::interrupted_creation`.
     pub fn interrupted_creation(self, bytes: &[u8]) -> bool
         ensures { IsTrue result ↔ IsInterrupted self bytes.now }
@@ -131,7 +91,8 @@ impl Layout {
     }
 }
 
-/// The layouts that are accepted, from the least to the greatest, in which a file is created (own; in the Rust an inclusive range).
+/// The layouts that are accepted, from the least to the greatest, in which a file is created (own; in the Rust an
+/// inclusive range).
 #[derive(Clone, Copy, Debug, PartialEq, Eq)]
 pub struct Layouts {
     /// The least.
@@ -160,8 +121,8 @@ impl From<RangeInclusive<Layout>> for Layouts {
     }
 }
 
-/// The blob versions that are accepted, from the least to the greatest, with which a file is created (own; in the Rust an inclusive
-/// range).
+/// The blob versions that are accepted, from the least to the greatest, with which a file is created (own; in the Rust
+/// an inclusive range).
 #[derive(Clone, Copy, Debug, PartialEq, Eq)]
 pub struct Versions {
     /// The least.
@@ -245,7 +206,8 @@ fn version_said(bytes: &[u8]) -> u16
 fn matching(bytes: &[u8], front: &[u8; 12]) -> usize
     ensures within { (result ≤ length bytes.now) × (result ≤ 12) }
     ensures same { (k : ℕ) → k < result → slice_index bytes.now k ≡ slice_index front.now k }
-    ensures all { result < length bytes.now → result < 12 → slice_index bytes.now result ≢ slice_index front.now result }
+    ensures all { result < length bytes.now → result < 12
+        → slice_index bytes.now result ≢ slice_index front.now result }
 {
     for index in 0..bytes.len().min(12) {
         if bytes[index] != front[index] {
@@ -278,7 +240,8 @@ fn is_torn_creation(bytes: &[u8]) -> bool
 
 // The region of layout V1, from its first eight bytes. It fails only when out of memory.
 fn checked_region(alloc: Global, prelude: &[u8; 8]) -> Result<Vec<u8>, AllocError>
-    ensures { IfOk result (λ region. region.items ≡ prelude.now ++ (to_be_bytes w32 (crc32 prelude.now) ++ replicate 4084 0)) }
+    ensures { IfOk result (λ region. region.items ≡ prelude.now
+        ++ (to_be_bytes w32 (crc32 prelude.now) ++ replicate 4084 0)) }
 {
     let mut region = prelude.to_vec(alloc)?;
     region.extend_from_slice(&Crc32::checksum(prelude).to_be_bytes())?;
@@ -358,21 +321,23 @@ impl Header {
         if size <= 4096 { size } else { 12 }
     }
 
-    /// The region of a new file, in the greatest layout and blob version, and that version. It fails only when out of memory.
+    /// The region of a new file, in the greatest layout and blob version, and that version. It fails only when out of
+    /// memory.
     /// In the Rust: `commonware_runtime::storage::Header::create`.
     pub fn create(
         alloc: Global,
         layouts: Layouts,
         versions: Versions,
     ) -> Result<(Vec<u8>, u16), AllocError>
-        ensures { IfOk result (λ made. (made.0.items ≡ created layouts.greatest versions.greatest) × (made.1 ≡ versions.greatest)) }
+        ensures { IfOk result (λ made. (made.0.items ≡ created layouts.greatest versions.greatest)
+            × (made.1 ≡ versions.greatest)) }
     {
         let region = created_region(alloc, layouts.greatest, versions.greatest)?;
         Ok((region, versions.greatest))
     }
 
-    /// Whether the header's magic, layout, layout version and blob version pass. It names the first of these checks that fails: H1,
-    /// H2, H4 or H6. In the Rust: `commonware_runtime::storage::Header::validate`.
+    /// Whether the header's magic, layout, layout version and blob version pass. It names the first of these checks
+    /// that fails: H1, H2, H4 or H6. In the Rust: `commonware_runtime::storage::Header::validate`.
     pub fn validate(&self, layouts: Layouts, versions: Versions) -> Result<(), HeaderError>
         ensures { MatchResult result (λ _. first_fault (header_checks layouts versions self.now) ≡ None)
             (λ fault. first_fault (header_checks layouts versions self.now) ≡ Some fault) }
@@ -392,8 +357,8 @@ impl Header {
         Ok(())
     }
 
-    /// What a file of this size, which begins with these bytes, shows. It names the first check that fails, of H1 to H6 in their
-    /// order. In the Rust: `commonware_runtime::storage::Header::parse`.
+    /// What a file of this size, which begins with these bytes, shows. It names the first check that fails, of H1 to H6
+    /// in their order. In the Rust: `commonware_runtime::storage::Header::parse`.
     pub fn parse(
         bytes: &[u8],
         size: u64,
@@ -402,7 +367,8 @@ impl Header {
     ) -> Result<Resolved, HeaderError>
         requires present { 8 ≤ size }
         requires enough { min size 12 ≤ length bytes.now }
-        ensures { MatchResult result (λ shown. (first_fault (file_checks layouts versions bytes.now size) ≡ None) × (shown ≡ resolved_of bytes.now size))
+        ensures { MatchResult result (λ shown. (first_fault (file_checks layouts versions bytes.now size) ≡ None)
+            × (shown ≡ resolved_of bytes.now size))
             (λ fault. first_fault (file_checks layouts versions bytes.now size) ≡ Some fault) }
     {
         let header = header_from(bytes);
@@ -432,8 +398,9 @@ impl Header {
     }
 }
 
-/// What a file of this size shows, of which these are the first `resolve_len` bytes. None: it has no header yet, since it is under 8
-/// bytes or a crash cut its creation short in layout V1. Else it names the first check that fails, of H1 to H6 in their order.
+/// What a file of this size shows, of which these are the first `resolve_len` bytes. None: it has no header yet, since
+/// it is under 8 bytes or a crash cut its creation short in layout V1. Else it names the first check that fails, of H1
+/// to H6 in their order.
 /// In the Rust: `commonware_runtime::storage::resolve`.
 pub fn resolve(
     bytes: &[u8],
@@ -443,7 +410,8 @@ pub fn resolve(
 ) -> Result<Option<Resolved>, HeaderError>
     requires { length bytes.now ≡ (if nat_le size 4096 then size else 12) }
     ensures none { (result ≡ Ok None) ↔ IsUnmade bytes.now size }
-    ensures shown { IfOk result (λ found. IfSome found (λ shown. (first_fault (file_checks layouts versions bytes.now size) ≡ None)
+    ensures shown { IfOk result
+        (λ found. IfSome found (λ shown. (first_fault (file_checks layouts versions bytes.now size) ≡ None)
         × (shown ≡ resolved_of bytes.now size))) }
     ensures refused { IfErr result (λ fault. first_fault (file_checks layouts versions bytes.now size) ≡ Some fault) }
 {

@@ -1,5 +1,5 @@
-//! What the fault storage is made of that knows no store: errors, headers, checksum, settings, draws, and one file. The crate ports
-//! these parts of the storage of commonware-runtime 2026.10.0; `In the Rust` names what an item is there.
+//! What the fault storage is made of that knows no store: errors, headers, checksum, settings, draws, and one file. The
+//! crate ports these parts of the storage of commonware-runtime 2026.10.0; `In the Rust` names what an item is there.
 #![tactic(auto)]
 
 pub mod blob_file;

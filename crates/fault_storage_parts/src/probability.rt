@@ -4,7 +4,8 @@ ghost use Rattle.std.specs.Prelude.{◌≡◌, ◌<◌, ◌≤◌, ◌==◌, ◌
 
 use rand_core::Rng;
 
-/// How often something comes about: `numerator` times in `denominator`, kept as it was given (2/4 is another fraction than 1/2).
+/// How often something comes about: `numerator` times in `denominator`, kept as it was given (2/4 is another fraction
+/// than 1/2).
 /// In the Rust: `commonware_runtime::storage::faulty::Probability`, there over floats.
 #[derive(Clone, Copy, Debug, PartialEq, Eq)]
 pub struct Probability {
@@ -60,8 +61,8 @@ impl Probability {
         self.numerator == 0 || self.numerator == self.denominator
     }
 
-    /// Whether it comes about this time. A fraction that is zero or one takes no word of the generator, any other takes one
-    /// `next_u64`. In the Rust: `commonware_runtime::storage::faulty::Probability::sample`.
+    /// Whether it comes about this time. A fraction that is zero or one takes no word of the generator, any other takes
+    /// one `next_u64`. In the Rust: `commonware_runtime::storage::faulty::Probability::sample`.
     pub fn sample<R: Rng>(&self, rng: &mut R) -> bool
         ensures { (result, R.stream rng.new) ≡ sample (rate_of self.now) (R.stream rng.old) }
     {

@@ -4,7 +4,8 @@ ghost use Rattle.std.specs.Prelude.{◌≡◌, ◌≤◌, length, if◌then◌el
 ghost use Rattle.std.specs.Vec.{vec_capacity};
 ghost use Rattle.fault_storage_parts.specs.Draws.{sample};
 ghost use Rattle.fault_storage_parts.specs.DrawsCode.{rate_of};
-ghost use Rattle.fault_storage_parts.specs.Files.{durable_step, applied, resized, drawn_choice, HasRoomFor, chosen_bytes};
+ghost use Rattle.fault_storage_parts.specs.Files.{durable_step, applied, resized, drawn_choice, HasRoomFor};
+ghost use Rattle.fault_storage_parts.specs.Files.{chosen_bytes};
 ghost use Rattle.fault_storage_parts.specs.FilesCode.{mutation_of};
 
 use crate::draws::note_kept_bytes;
@@ -70,7 +71,9 @@ pub fn apply_drawn<R: Rng>(
 )
     requires room { HasRoomFor (vec_capacity bytes.old) (mutation_of mutation.now) }
     requires room_for_choice { chosen_bytes (mutation_of mutation.now) ≤ vec_capacity choice.old }
-    ensures applied { bytes.new.items ≡ applied (drawn_choice (mutation_of mutation.now) (R.stream rng.old)).0 (mutation_of mutation.now) bytes.old.items }
+    ensures applied { bytes.new.items
+        ≡ applied (drawn_choice (mutation_of mutation.now) (R.stream rng.old)).0
+        (mutation_of mutation.now) bytes.old.items }
     ensures words { R.stream rng.new ≡ (drawn_choice (mutation_of mutation.now) (R.stream rng.old)).1 }
     ensures capacity { vec_capacity bytes.old ≤ vec_capacity bytes.new }
     ensures choice_capacity { vec_capacity choice.old ≤ vec_capacity choice.new }

@@ -55,8 +55,8 @@ fn peaks<F: Graftable>(alloc: Global, leaves: u64) -> Result<String, Unanswered>
     words.finish(alloc)
 }
 
-// The greatest size up to this one that a forest has, and the leaves of that forest, as the way over its peaks tells them
-// at its beginning and behind the first peak.
+// The greatest size up to this one that a forest has, and the leaves of that forest, as the way over its peaks tells
+// them at its beginning and behind the first peak.
 fn peaks_within<F: Graftable>(alloc: Global, size: u64) -> Result<String, Unanswered> {
     let nearest = Peaks::<F>::to_nearest_size(Position::new(size));
     let mut peaks = Peaks::<F>::new(nearest);

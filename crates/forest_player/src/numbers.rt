@@ -17,7 +17,8 @@ fn shown_twice<T: Display + Debug + Drop>(alloc: Global, value: T) -> Result<Str
     Ok(format!(in alloc; "{value} {value:?}")?)
 }
 
-// How many bytes a value says that its encoding has, and the most of its type; the bytes themselves where they are not so many.
+// How many bytes a value says that its encoding has, and the most of its type; the bytes themselves where they are not
+// so many.
 fn size<T: EncodeSize + MaxEncodeSize>(alloc: Global, value: &T) -> Result<String, Unanswered> {
     let bytes = value.encode(alloc)?;
     let (size, most) = (value.encode_size(), T::MAX_SIZE);

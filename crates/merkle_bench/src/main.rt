@@ -1,7 +1,7 @@
-//! Measures digests, positions and varints (`forest`), trees in memory (`trees`), encodings of operations (`operations`),
-//! the bitmap (`bitmap`) and checks of state proofs (`state`), each beside the bare hashes or copies that it needs.
-//! It reads from standard input what is measured, a line each: a subject, and a number that says how much of it. Standard
-//! output gets what was done and a sum of the answers, standard error the processor time of one.
+//! Measures digests, positions and varints (`forest`), trees in memory (`trees`), encodings of operations
+//! (`operations`), the bitmap (`bitmap`) and checks of state proofs (`state`), each beside the bare hashes or copies
+//! that it needs. It reads from standard input what is measured, a line each: a subject, and a number that says how
+//! much of it. Standard output gets what was done and a sum of the answers, standard error the processor time of one.
 #![tactic(auto)]
 
 mod bitmap;

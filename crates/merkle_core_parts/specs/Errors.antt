@@ -1,14 +1,18 @@
 -- The printed texts of the errors, and which calls refuse what.
-use Rattle.std.specs.Prelude.{◌≡◌, true, ℕ, List, length, ◌+◌, ◌++◌, ◌<◌, ◌≤◌, ◌^◌, codes, nat_le, nat_lt, ◌||◌, find, Option, option_map, Some, None}
+use Rattle.std.specs.Prelude.{◌≡◌, true, ℕ, List, length, ◌+◌, ◌++◌, ◌<◌, ◌≤◌, ◌^◌, codes, nat_le, nat_lt, ◌||◌, find}
+use Rattle.std.specs.Prelude.{Option, option_map, Some, None}
 use Rattle.std.specs.Fmt.{decimal}
 use Rattle.merkle_forest.specs.Forest.{Rule}
 use Rattle.merkle_forest.specs.Nodes.{IsSize}
 use Rattle.merkle_core_parts.specs.Layers.{Layered, HasNone, known_at, bases, oldest_leaves}
 use Rattle.merkle_core_parts.specs.Mem.{Base, Growth, Replacement, node_count, pinned_positions}
 use Rattle.merkle_core_parts.specs.declared.error.Error.{Error}
-use Rattle.merkle_core_parts.specs.declared.error.Error.TheVariants.{LocationOverflow, Empty, RangeOutOfBounds, InvalidSize}
-use Rattle.merkle_core_parts.specs.declared.error.Error.TheVariants.{LeafOutOfBounds, DuplicateLocation, UnsortedLocation}
-use Rattle.merkle_core_parts.specs.declared.error.Error.TheVariants.{ElementPruned, InvalidPinnedNodes, StaleBatch, AncestorDropped}
+use Rattle.merkle_core_parts.specs.declared.error.Error.TheVariants.{LocationOverflow, Empty, RangeOutOfBounds}
+use Rattle.merkle_core_parts.specs.declared.error.Error.TheVariants.{InvalidSize}
+use Rattle.merkle_core_parts.specs.declared.error.Error.TheVariants.{LeafOutOfBounds, DuplicateLocation}
+use Rattle.merkle_core_parts.specs.declared.error.Error.TheVariants.{UnsortedLocation}
+use Rattle.merkle_core_parts.specs.declared.error.Error.TheVariants.{ElementPruned, InvalidPinnedNodes, StaleBatch}
+use Rattle.merkle_core_parts.specs.declared.error.Error.TheVariants.{AncestorDropped}
 use Rattle.merkle_core_parts.specs.declared.error.Error.TheVariants.{InvalidInactivePeaks, MissingNode, Memory}
 
 -- an error's number and what it means
@@ -28,8 +32,8 @@ error_text InvalidInactivePeaks = codes "M16: fewer peaks than inactive ones"
 error_text (MissingNode position) = codes "M20: node " ++ decimal position ++ codes " is missing"
 error_text Memory = codes "M23: out of memory"
 
--- why nodes may not be made, of which those before a position are needed and these are known: out of memory, or one that is
--- needed is not known, which only a batch had that was given up where it is none of the tree's
+-- why nodes may not be made, of which those before a position are needed and these are known: out of memory, or one
+-- that is needed is not known, which only a batch had that was given up where it is none of the tree's
 abbrev pub IsRefusalOver : {F : Type 0} → Rule → ℕ → Layered → Error F → Type 0
 IsRefusalOver rule needed known (MissingNode position) = (position < needed) × (known_at rule known position ≡ None)
     × (known.dropped ≡ true → position < node_count rule known.tree.leaves)
@@ -44,7 +48,8 @@ IsRefusalPast leaves (LocationOverflow location) = (location ≡ leaves) × (2 ^
 IsRefusalPast leaves Memory = Unit {0}
 IsRefusalPast leaves other = ⊥
 
--- why so many leaves may not be added after so many: out of memory, or the first location past the limit is one of theirs
+-- why so many leaves may not be added after so many: out of memory, or the first location past the limit is one of
+-- theirs
 abbrev pub IsRefusalOfMany : {F : Type 0} → ℕ → ℕ → Error F → Type 0
 IsRefusalOfMany leaves more (LocationOverflow location) = (location ≡ 2 ^ 62) × (2 ^ 62 < leaves + more)
 IsRefusalOfMany leaves more Memory = Unit {0}
@@ -64,7 +69,8 @@ abbrev pub first_refused : ℕ → ℕ → List Replacement → Option ℕ
 first_refused boundary leaves updates =
     option_map (λ one. one.0) (find (λ one. nat_lt one.0 boundary || nat_le leaves one.0) updates)
 
--- why leaves may not get these digests: out of memory, or one is pruned or none of the leaves, of which the first is named
+-- why leaves may not get these digests: out of memory, or one is pruned or none of the leaves, of which the first is
+-- named
 abbrev pub IsRefusalOfUpdates : {F : Type 0} → Rule → ℕ → ℕ → List Replacement → Error F → Type 0
 IsRefusalOfUpdates rule boundary leaves updates (LeafOutOfBounds location) =
     (first_refused boundary leaves updates ≡ Some location) × (leaves ≤ location)
@@ -74,8 +80,8 @@ IsRefusalOfUpdates rule boundary leaves updates (ElementPruned position) =
 IsRefusalOfUpdates rule boundary leaves updates Memory = Unit {0}
 IsRefusalOfUpdates rule boundary leaves updates other = ⊥
 
--- why a batch may not be applied to a tree: out of memory, or the tree is none of the bases that the batch knows; batches were
--- given up that may have known it where it has fewer leaves than the oldest of these
+-- why a batch may not be applied to a tree: out of memory, or the tree is none of the bases that the batch knows;
+-- batches were given up that may have known it where it has fewer leaves than the oldest of these
 abbrev pub IsRefusalOnto : {F : Type 0} → Growth → Base → Error F → Type 0
 IsRefusalOnto batch tree StaleBatch = HasNone tree (bases batch.base batch.below)
     × (batch.dropped ≡ true → oldest_leaves batch.base.leaves batch.below ≤ tree.leaves)
@@ -90,8 +96,9 @@ IsRefusalToPrune leaves asked (LeafOutOfBounds location) = (location ≡ asked) 
 IsRefusalToPrune leaves asked Memory = Unit {0}
 IsRefusalToPrune leaves asked other = ⊥
 
--- why no tree is made that is pruned before a location and has so many nodes from there on, and so many pinned ones: out of
--- memory, the location is past the limit, no tree has that many nodes, or there are too few or too many pinned ones
+-- why no tree is made that is pruned before a location and has so many nodes from there on, and so many pinned ones:
+-- out of memory, the location is past the limit, no tree has that many nodes, or there are too few or too many pinned
+-- ones
 abbrev pub IsRefusalOfParts : {F : Type 0} → Rule → ℕ → ℕ → ℕ → Error F → Type 0
 IsRefusalOfParts rule boundary nodes pinned (LocationOverflow location) = (location ≡ boundary) × (2 ^ 62 < boundary)
 IsRefusalOfParts rule boundary nodes pinned InvalidSize =

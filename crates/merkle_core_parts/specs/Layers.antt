@@ -1,10 +1,13 @@
--- Batches over batches: what the layers of a batch know, which of them follow a tree, and from which list to which they lead.
-use Rattle.std.specs.Prelude.{◌≡◌, ◌==◌, Bool, true, ℕ, ◌+◌, ◌-◌, ◌^◌, ◌<◌, ◌≤◌, ◌⊎◌, List, [], ◌∷◌, map, length, slice_get, Option, Some, None}
+-- Batches over batches: what the layers of a batch know, which of them follow a tree, and from which list to which they
+-- lead.
+use Rattle.std.specs.Prelude.{◌≡◌, ◌==◌, Bool, true, ℕ, ◌+◌, ◌-◌, ◌^◌, ◌<◌, ◌≤◌, ◌⊎◌, List, [], ◌∷◌, map, length}
+use Rattle.std.specs.Prelude.{slice_get, Option, Some, None}
 use Rattle.std.specs.Prelude.{nat_lt, if◌then◌else◌}
 use Rattle.std.specs.Option.{option_or}
 use Rattle.merkle_forest.specs.Forest.{Tree, position, Rule, forest_of}
 use Rattle.merkle_forest.specs.Nodes.{IsNodeAt}
-use Rattle.merkle_core_parts.specs.Mem.{Base, Layer, Nodes, NodeHash, Replacement, AreNodesOf, tree_digest, node_count, node_at}
+use Rattle.merkle_core_parts.specs.Mem.{Base, Layer, Nodes, NodeHash, Replacement, AreNodesOf, tree_digest, node_count}
+use Rattle.merkle_core_parts.specs.Mem.{node_at}
 use Rattle.merkle_core_parts.specs.Mem.{with_layer, value_after}
 
 -- the digest that replacements leave at an index, where one of them is at it
@@ -24,8 +27,8 @@ abbrev pub known_above : Rule → List Layer → (ℕ → Option (List ℕ)) →
 known_above rule [] known p = known p
 known_above rule (layer ∷ below) known p = option_or (layer_at rule layer p) (known_above rule below known p)
 
--- what the nodes that a batch needs are read from: a tree, the layers over it, the newest first, and whether others were given
--- up
+-- what the nodes that a batch needs are read from: a tree, the layers over it, the newest first, and whether others
+-- were given up
 pub record Layered : Type 0 where
   pub tree : Nodes
   pub layers : List Layer
@@ -46,7 +49,8 @@ pub record IsWhole (rule : Rule) (layer : Layer) : Type 0 where
   pub grown : layer.base.leaves ≤ layer.leaves
   pub counted : node_count rule layer.base.leaves + length layer.digests ≡ node_count rule layer.leaves
 
--- layers are whole, each begins with the leaves that the one below it has, and these are the leaves that the newest one has
+-- layers are whole, each begins with the leaves that the one below it has, and these are the leaves that the newest one
+-- has
 abbrev pub AreStacked : Rule → ℕ → List Layer → Type 0
 AreStacked rule leaves [] = Unit {0}
 AreStacked rule leaves (layer ∷ below) =
@@ -82,10 +86,12 @@ pub record IsLed (node : NodeHash) (rule : Rule) (layer : Layer) (before after :
   pub longer : length before ≤ length after
   pub counted : node_count rule (length before) + length layer.digests ≡ node_count rule (length after)
   pub old : (first : ℕ) (tree : Tree) → IsNodeAt first tree (forest_of rule (length before))
-      → value_after layer.changed (position tree) (tree_digest node before first tree) ≡ tree_digest node after first tree
+      → value_after layer.changed (position tree) (tree_digest node before first tree)
+      ≡ tree_digest node after first tree
   pub new : (first : ℕ) (tree : Tree) → IsNodeAt first tree (forest_of rule (length after))
       → node_count rule (length before) ≤ position tree
-      → slice_get layer.digests (position tree - node_count rule (length before)) ≡ Some (tree_digest node after first tree)
+      → slice_get layer.digests (position tree - node_count rule (length before))
+      ≡ Some (tree_digest node after first tree)
   pub unchanged : (p : ℕ) (digest : List ℕ) → node_count rule (length before) ≤ p
       → value_after layer.changed p digest ≡ digest
 

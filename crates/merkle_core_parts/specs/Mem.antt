@@ -1,6 +1,7 @@
 -- A tree that is kept in memory as the digests of its nodes.
 use Rattle.std.specs.Prelude.{◌≡◌, ◌==◌, Bool, ℕ, suc, ◌+◌, ◌-◌, ◌≤◌, ◌⊎◌, List, [], ◌∷◌, ◌++◌, map, length, drop, find}
-use Rattle.std.specs.Prelude.{slice_get, slice_set, slice_index_or, Option, Some, option_map, unwrap_or, nat_le, nat_lt, if◌then◌else◌}
+use Rattle.std.specs.Prelude.{slice_get, slice_set, slice_index_or, Option, Some, option_map, unwrap_or, nat_le, nat_lt}
+use Rattle.std.specs.Prelude.{if◌then◌else◌}
 use Rattle.merkle_forest.specs.Forest.{Tree, leaf, branch, position, leaf_count, size, Rule, forest_of}
 use Rattle.merkle_forest.specs.declared.bagging.Bagging.{Bagging}
 use Rattle.merkle_forest.specs.Hashing.{Hash, leaf_string, node_string, root_of}
@@ -12,8 +13,8 @@ use Rattle.merkle_forest.specs.Trees.{peak_digests as forest_digests}
 abbrev pub Replacement : Type 0
 Replacement = ℕ × List ℕ
 
--- What is kept: how many leaves the tree has, the location before which it is pruned, the digests that stay pinned before
--- it, each at its position, and the digests of all nodes from there on, in order of position.
+-- What is kept: how many leaves the tree has, the location before which it is pruned, the digests that stay pinned
+-- before it, each at its position, and the digests of all nodes from there on, in order of position.
 pub record Nodes : Type 0 where
   pub leaves : ℕ
   pub boundary : ℕ
@@ -71,12 +72,13 @@ IsPeak tree peaks = (first : ℕ) × IsPeakAt first tree peaks
 abbrev pub IsPeakPosition : Rule → ℕ → ℕ → Type 0
 IsPeakPosition rule leaves p = (tree : Tree) × IsPeak tree (forest_of rule leaves) × (position tree ≡ p)
 
--- a node at this position is kept where a tree is pruned before a location: it is none of the forest of the leaves before
--- it, or one of that forest's peaks
+-- a node at this position is kept where a tree is pruned before a location: it is none of the forest of the leaves
+-- before it, or one of that forest's peaks
 abbrev pub IsKept : Rule → ℕ → ℕ → Type 0
 IsKept rule boundary p = (node_count rule boundary ≤ p) ⊎ IsPeakPosition rule boundary p
 
--- these are the nodes of the tree over these leaf digests, as the rule grows it and branches are hashed: all that are kept
+-- these are the nodes of the tree over these leaf digests, as the rule grows it and branches are hashed: all that are
+-- kept
 pub record AreNodesOf (node : NodeHash) (rule : Rule) (leaf_digests : List (List ℕ)) (nodes : Nodes) : Type 0 where
   pub counted : nodes.leaves ≡ length leaf_digests
   pub shape : AreKeptNodes rule nodes
@@ -84,8 +86,8 @@ pub record AreNodesOf (node : NodeHash) (rule : Rule) (leaf_digests : List (List
       → IsKept rule nodes.boundary (position tree)
       → node_at rule nodes (position tree) ≡ Some (tree_digest node leaf_digests first tree)
 
--- of the tree of so many leaves with these digests at its nodes: those of the peaks that begin at a location or after it,
--- from left to right
+-- of the tree of so many leaves with these digests at its nodes: those of the peaks that begin at a location or after
+-- it, from left to right
 abbrev pub digests_from : Rule → ℕ → (ℕ → Option (List ℕ)) → ℕ → List (List ℕ)
 digests_from rule leaves digest_of first =
     map (λ peak. unwrap_or (digest_of peak.0) []) (positions_from first (forest_of rule leaves))
@@ -96,7 +98,8 @@ peak_digests rule nodes = digests_from rule nodes.leaves (node_at rule nodes) 0
 
 -- the digests of the peaks of the tree over these leaf digests, from left to right
 abbrev pub list_peaks : NodeHash → Rule → List (List ℕ) → List (List ℕ)
-list_peaks node rule leaf_digests = forest_digests (tree_digest node leaf_digests) (forest_of rule (length leaf_digests))
+list_peaks node rule leaf_digests =
+    forest_digests (tree_digest node leaf_digests) (forest_of rule (length leaf_digests))
 
 -- the root of the tree over these leaf digests, of whose peaks so many come first as inactive ones
 abbrev pub list_root : Hash → NodeHash → Bagging → Rule → List (List ℕ) → ℕ → List ℕ
@@ -146,8 +149,8 @@ replaced_at digests changes = map (λ one. (one.0, value_after changes one.0 one
 abbrev pub encoded : {D : Type 0} → (D → List ℕ) → List (ℕ × D) → List Replacement
 encoded encoding digests = map (λ one. (one.0, encoding one.1)) digests
 
--- what a batch makes of its base: how many leaves there are then, the digests of the new nodes in order of position, and the
--- nodes of the base that get another digest, each at its position
+-- what a batch makes of its base: how many leaves there are then, the digests of the new nodes in order of position,
+-- and the nodes of the base that get another digest, each at its position
 pub record Layer : Type 0 where
   pub base : Base
   pub leaves : ℕ
@@ -163,9 +166,9 @@ with_layer rule nodes layer = record {
   digests = replaced_from (node_count rule nodes.boundary) (nodes.digests ++ layer.digests) layer.changed;
 }
 
--- a batch of leaves: the base, the location before which it is pruned, the digests of the leaves that are added to it, and
--- then the leaves of either that get another digest, one after the other, each at its location; the layers of the batches
--- that it is made over, the newest first, and whether some of these were given up
+-- a batch of leaves: the base, the location before which it is pruned, the digests of the leaves that are added to it,
+-- and then the leaves of either that get another digest, one after the other, each at its location; the layers of the
+-- batches that it is made over, the newest first, and whether some of these were given up
 pub record Additions : Type 0 where
   pub base : Base
   pub boundary : ℕ
@@ -178,9 +181,10 @@ pub record Additions : Type 0 where
 abbrev pub with_leaves : List (List ℕ) → Additions → List (List ℕ)
 with_leaves leaf_digests batch = replaced (leaf_digests ++ batch.added) batch.updates
 
--- a batch of nodes: the base, the location before which it is pruned, how many leaves there are then, the digests of the new
--- nodes in order of position, the nodes of the base that get another digest, each at its position, and the digests of the
--- peaks that there are then; the layers of the batches that it is made over, and whether some of these were given up
+-- a batch of nodes: the base, the location before which it is pruned, how many leaves there are then, the digests of
+-- the new nodes in order of position, the nodes of the base that get another digest, each at its position, and the
+-- digests of the peaks that there are then; the layers of the batches that it is made over, and whether some of these
+-- were given up
 pub record Growth : Type 0 where
   pub base : Base
   pub boundary : ℕ

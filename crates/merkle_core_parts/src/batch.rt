@@ -1,7 +1,7 @@
 //! Batches of changes to a tree: first the leaves that they add over a base, then the nodes that these make.
 //!
-//! A batch may be made over another one before that is applied. It knows what the batches below it make of their bases, as
-//! layers that they share (layer.rt), and so needs no copy of the tree.
+//! A batch may be made over another one before that is applied. It knows what the batches below it make of their bases,
+//! as layers that they share (layer.rt), and so needs no copy of the tree.
 
 ghost use Rattle.std.specs.Prelude.{◌≡◌, ◌<◌, ◌≤◌, ◌+◌, ◌^◌, ◌++◌, ◌∷◌, [], ℕ, List, map, length};
 ghost use Rattle.std.specs.Prelude.{option_map, IfOk, IfErr, false};
@@ -11,7 +11,8 @@ ghost use Rattle.merkle_core_parts.specs.Errors.{first_refused, IsRefusalOfUpdat
 ghost use Rattle.merkle_core_parts.specs.Errors.{IsRefusalOnto};
 ghost use Rattle.std.specs.List.{AllByRecursion};
 ghost use Rattle.merkle_forest.specs.Hashing.{root_of};
-ghost use Rattle.merkle_core_parts.specs.Layers.{AreStacked, IsWhole, AreLed, IsLed, IsOfOne, HasNone, bases, known_above, given_up};
+ghost use Rattle.merkle_core_parts.specs.Layers.{AreStacked, IsWhole, AreLed, IsLed, IsOfOne, HasNone, bases};
+ghost use Rattle.merkle_core_parts.specs.Layers.{known_above, given_up};
 ghost use Rattle.merkle_core_parts.specs.Layers.{oldest_leaves};
 ghost use Rattle.merkle_core_parts.specs.Mem.{node_count, encoded, AreKeptNodes, base_of, peak_digests};
 ghost use Rattle.merkle_core_parts.specs.Mem.{with_leaves, own_layer, list_peaks, list_root};
@@ -494,8 +495,8 @@ impl<F: Family, D: Digest> MerkleizedBatch<F, D> {
         F::location_to_position(Location::new(self.layer.base_leaves()))
     }
 
-    /// The digest of the node at a position that the batch makes, or one of those below it. Where none of them makes one
-    /// there it is None: such nodes are the tree's.
+    /// The digest of the node at a position that the batch makes, or one of those below it. Where none of them makes
+    /// one there it is None: such nodes are the tree's.
     /// In the Rust: `merkle::batch::MerkleizedBatch::get_node`.
     pub fn get_node(&self, position: Position<F>) -> Option<D>
         ensures { option_map D.encoding result
@@ -572,8 +573,8 @@ impl<F: Family, D: Digest> MerkleizedBatch<F, D> {
         &self.below
     }
 
-    // Why the batch is not applied to a tree that is none of its bases: M14 where batches were given up and the tree has
-    // fewer leaves than the oldest base that is left, else M13.
+    // Why the batch is not applied to a tree that is none of its bases: M14 where batches were given up and the tree
+    // has fewer leaves than the oldest base that is left, else M13.
     pub(crate) fn refusal(&self, leaves: u64) -> Error<F>
         ensures { (peaks : List (List ℕ))
             → HasNone (record { leaves = leaves; peaks = peaks }) (bases self.now.base self.now.below)

@@ -31,7 +31,8 @@ pub enum Error<F: Family> {
     InvalidPinnedNodes,
     /// M13: the tree is not the one that the batch begins from. In the Rust: `merkle::Error::StaleBatch`.
     StaleBatch,
-    /// M14: what a batch had that was given up is needed. In the Rust: `merkle::Error::AncestorDropped`, with the sizes.
+    /// M14: what a batch had that was given up is needed. In the Rust: `merkle::Error::AncestorDropped`, with the
+    /// sizes.
     AncestorDropped,
     /// M16: there are fewer peaks than inactive ones. In the Rust: `merkle::Error::InvalidInactivePeaks`.
     InvalidInactivePeaks,

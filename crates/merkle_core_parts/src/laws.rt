@@ -36,8 +36,8 @@ pub fn a_batch_makes_the_nodes_of_its_list<F: Family>()
         → AreNodesOf node F.merge_rule after (with_batch F.merge_rule nodes batch) }
 {}
 
-/// The layers below a batch that follow a tree, which is one of a list that one of them leads from, make of it a tree of
-/// the list that the newest one leads to.
+/// The layers below a batch that follow a tree, which is one of a list that one of them leads from, make of it a tree
+/// of the list that the newest one leads to.
 pub fn what_follows_a_tree_makes_the_nodes_of_the_list<F: Family>()
     ensures { (node : NodeHash) (below : List Layer) (earlier : List (List (List ℕ))) (list stage : List (List ℕ))
         (count : ℕ) (nodes : Nodes) → AreLed node F.merge_rule below earlier list

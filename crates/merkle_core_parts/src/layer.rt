@@ -5,7 +5,8 @@
 //!                       (newest)
 //! ```
 
-ghost use Rattle.std.specs.Prelude.{◌≡◌, ◌≤◌, ◌+◌, ◌++◌, ◌∷◌, ◌^◌, ℕ, List, Option, map, length, option_map, IfOk, OnOk, OnErr};
+ghost use Rattle.std.specs.Prelude.{◌≡◌, ◌≤◌, ◌+◌, ◌++◌, ◌∷◌, ◌^◌, ℕ, List, Option, map, length, option_map, IfOk};
+ghost use Rattle.std.specs.Prelude.{OnOk, OnErr};
 ghost use Rattle.std.specs.Option.{option_or};
 ghost use Rattle.std.specs.Prelude.{vec_len, vec_capacity};
 ghost use Rattle.merkle_core_parts.specs.Layers.{replacement_at, layer_at, known_above, with_layers, oldest_leaves};
@@ -51,7 +52,8 @@ impl<F: Family, D: Digest> Model for Layer<F, D> {
         × AreFrom 0 (encoded D.encoding b.changed.items) };
 }
 
-// The digest that changes leave at a position, which are in order of position, where one of them is at it: the last one.
+// The digest that changes leave at a position, which are in order of position, where one of them is at it: the last
+// one.
 fn replacement_of<D: Digest>(changes: &[(u64, D)], position: u64) -> Option<D>
     requires { AreFrom 0 (encoded D.encoding changes.now) }
     ensures { option_map D.encoding result ≡ replacement_at (encoded D.encoding changes.now) position }
@@ -165,8 +167,8 @@ pub(crate) fn node_of<F: Family, D: Digest>(layers: &[Rc<Layer<F, D>>], position
     None
 }
 
-// Puts a layer's nodes after those of a tree that begin at a position, and changes those that it changes. There has to be
-// room for them.
+// Puts a layer's nodes after those of a tree that begin at a position, and changes those that it changes. There has to
+// be room for them.
 fn put_layer<F: Family, D: Digest>(
     start: u64,
     pinned: &mut Vec<(u64, D)>,

@@ -63,8 +63,8 @@ impl<'a, F: Family, D: Digest> Layered<'a, F, D> {
         }
     }
 
-    // Why nothing is made where the node at a position is needed and not known: it is one that only a batch had that was
-    // given up, M14, or it is missing, M20 with its position.
+    // Why nothing is made where the node at a position is needed and not known: it is one that only a batch had that
+    // was given up, M14, or it is missing, M20 with its position.
     pub(crate) fn refusal(&self, position: Position<F>) -> Error<F>
         ensures refused { (needed : ℕ) → position < needed → known_at F.merge_rule self.now position ≡ None
             → IsRefusalOver F.merge_rule needed self.now result }

@@ -370,11 +370,11 @@ impl<F: Family, D: Digest> Mem<F, D> {
     }
 
     /// Adds the nodes of the batch and of those below it that the tree is without, the oldest first, and changes those
-    /// that they change: of the bases that the batch knows, from its own one back, the first that is the tree, by its leaf
-    /// count and the digests of its peaks, tells which batches follow it. Where none is: M14 where batches were given
-    /// up and the tree has fewer leaves than the oldest base that is left, else M13; out of memory: M23. The tree then
-    /// stays as it was. That trees of one leaf count and equal digests of peaks stand over one list of leaf digests is for
-    /// the caller to know.
+    /// that they change: of the bases that the batch knows, from its own one back, the first that is the tree, by its
+    /// leaf count and the digests of its peaks, tells which batches follow it. Where none is: M14 where batches were
+    /// given up and the tree has fewer leaves than the oldest base that is left, else M13; out of memory: M23. The tree
+    /// then stays as it was. That trees of one leaf count and equal digests of peaks stand over one list of leaf
+    /// digests is for the caller to know.
     /// In the Rust: `merkle::mem::Mem::apply_batch`.
     pub fn apply_batch(&mut self, batch: &MerkleizedBatch<F, D>) -> Result<(), Error<F>>
         ensures applied { OnOk result ((count : ℕ)

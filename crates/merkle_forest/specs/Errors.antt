@@ -2,7 +2,8 @@
 use Rattle.std.specs.Prelude.{ℕ, List, ◌++◌, codes}
 use Rattle.std.specs.Fmt.{decimal}
 use Rattle.merkle_forest.specs.declared.error.Error.{Error}
-use Rattle.merkle_forest.specs.declared.error.Error.TheVariants.{NonLeaf, PositionOverflow, LocationOverflow, InvalidInactivePeaks}
+use Rattle.merkle_forest.specs.declared.error.Error.TheVariants.{NonLeaf, PositionOverflow, LocationOverflow}
+use Rattle.merkle_forest.specs.declared.error.Error.TheVariants.{InvalidInactivePeaks}
 
 -- an error's number and what it means
 abbrev pub error_text : {F : Type 0} → Error F → List ℕ

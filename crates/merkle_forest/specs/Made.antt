@@ -16,8 +16,8 @@ use Rattle.merkle_forest.specs.Hashing.{Hash}
 
 -- Where a string is hashed: for the canonical root; for the root of the operations' tree, of the grafted tree, or of a
 -- tree alone; for the pending and the partial chunk; for the fold of the peaks numbered a to b, of the operations' tree
--- or a tree alone, or of the grafted tree; for the node at a position, plain, or with what is joined in above and at the
--- grafting height; and for a bitmap's root and its last chunk.
+-- or a tree alone, or of the grafted tree; for the node at a position, plain, or with what is joined in above and at
+-- the grafting height; and for a bitmap's root and its last chunk.
 pub data Site : Type 0 where
   at_canonical : Site
   at_operations_root : Site

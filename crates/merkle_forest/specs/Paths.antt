@@ -1,13 +1,13 @@
 -- The way from a node of a forest down to a leaf below it.
 --
--- In the range of 11 leaves that is drawn in `mmr`, from peak 14 down to leaf 3: (14, 13, 3), then (6, 2, 2), then (5, 3, 1): each branch on the
--- way, its child beside the way, and its height.
+-- In the range of 11 leaves that is drawn in `mmr`, from peak 14 down to leaf 3: (14, 13, 3), then (6, 2, 2), then (5,
+-- 3, 1): each branch on the way, its child beside the way, and its height.
 use Rattle.std.specs.Prelude.{◌≡◌, ℕ, zero, suc, ◌+◌, ◌^◌, nat_lt, if◌then◌else◌, List, [], ◌∷◌}
 use Rattle.merkle_forest.specs.Forest.{Tree, leaf, branch, position, height, leaf_count, Rule, forest_of}
 use Rattle.merkle_forest.specs.Nodes.{IsNodeAt}
 
--- the branches on the way from a tree, whose first leaf has the location `first`, down to the leaf at a location, from the top: the position of
--- each, that of its child beside the way, and its height
+-- the branches on the way from a tree, whose first leaf has the location `first`, down to the leaf at a location, from
+-- the top: the position of each, that of its child beside the way, and its height
 abbrev pub path_down : ℕ → ℕ → Tree → List (ℕ × ℕ × ℕ)
 path_down target first (leaf p) = []
 path_down target first (branch p left right) =

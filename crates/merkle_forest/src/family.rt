@@ -3,7 +3,8 @@
 ghost use Rattle.std.specs.Prelude.{◌≡◌, ◌≤◌, ◌<◌, ◌+◌, ◌↔◌, ◌^◌, ℕ, List, Option, IfSome, IsSome, IsTrue, map, length};
 ghost use Rattle.std.specs.List.{range_with_len};
 ghost use Rattle.merkle_forest.specs.Forest.{IsPairOfEquals, size, forest_of};
-ghost use Rattle.merkle_forest.specs.Nodes.{HasPeak, IsPositionOfPeak, HasBranch, AreChildren, IsSize, StandsAt, IsHeightAt, AreParents};
+ghost use Rattle.merkle_forest.specs.Nodes.{HasPeak, IsPositionOfPeak, HasBranch, AreChildren, IsSize, StandsAt};
+ghost use Rattle.merkle_forest.specs.Nodes.{IsHeightAt, AreParents};
 ghost use Rattle.merkle_forest.specs.Peaks.{peak_positions, ArePeaksOf, IsInactiveCount};
 
 use crate::location::Location;

@@ -11,8 +11,10 @@
 //! 14           3          no neighbours have one height
 //! ```
 
-ghost use Rattle.std.specs.Prelude.{◌*◌, ◌++◌, ◌≡◌, ◌<◌, ◌≤◌, ◌+◌, ◌^◌, ℕ, suc, length, map, vec_len, IfOk, OnOk, IfSome, slice_get};
-ghost use Rattle.merkle_forest.specs.Forest.{height, leaf_count, node_count, merged, size, leaves, peaks_after_merges, with_leaf, forest_of};
+ghost use Rattle.std.specs.Prelude.{◌*◌, ◌++◌, ◌≡◌, ◌<◌, ◌≤◌, ◌+◌, ◌^◌, ℕ, suc, length, map, vec_len, IfOk, OnOk};
+ghost use Rattle.std.specs.Prelude.{IfSome, slice_get};
+ghost use Rattle.merkle_forest.specs.Forest.{height, leaf_count, node_count, merged, size, leaves, peaks_after_merges};
+ghost use Rattle.merkle_forest.specs.Forest.{with_leaf, forest_of};
 ghost use Rattle.merkle_forest.specs.Shape.{shape};
 
 use crate::family::Family;
@@ -94,8 +96,8 @@ fn next_merge<F: Family>(
     Ok(F::merge_index(merges, &heights))
 }
 
-// Merges peaks as the family's rule asks, at most `room` times. `size_before` is how many nodes there are; the answer is
-// how many there are then.
+// Merges peaks as the family's rule asks, at most `room` times. `size_before` is how many nodes there are; the answer
+// is how many there are then.
 fn merge_all<F: Family>(
     alloc: Global,
     peaks: &mut Vec<Tree>,

@@ -4,7 +4,8 @@ ghost use Rattle.std.specs.Prelude.{◌≡◌, ◌↔◌, ◌≤◌, ◌<◌, �
 ghost use Rattle.merkle_forest.specs.Forest.{Tree, position, height, forest_of};
 ghost use Rattle.merkle_forest.specs.Maximal.{AreChunkPeaks};
 ghost use Rattle.merkle_forest.specs.Laws.Nodes.{stands-counted};
-ghost use Rattle.merkle_forest.specs.Nodes.{IsNodeAt, IsPeakAt, HasNode, IsSize, IsSubtree, StandsAt, IsBirth, IsBirthAt, IsPositionOfNode, IsFirstLeaf, nodes_of_height};
+ghost use Rattle.merkle_forest.specs.Nodes.{IsNodeAt, IsPeakAt, HasNode, IsSize, IsSubtree, StandsAt, IsBirth};
+ghost use Rattle.merkle_forest.specs.Nodes.{IsBirthAt, IsPositionOfNode, IsFirstLeaf, nodes_of_height};
 
 use crate::chunk_peaks::ChunkPeaks;
 use crate::family::{Family, MAX_LEAVES};
@@ -70,8 +71,10 @@ pub trait Graftable: Family {
     /// Of the chunks of 2^height leaves those before that count have their node, and no others.
     ghost chunks_counted: { (leaves chunk height : ℕ) → leaves ≤ 2 ^ 62 → 0 < height → height ≤ 62
         → HasNode (forest_of Self.merge_rule leaves) (chunk * 2 ^ height) height
-        ↔ (chunk < nodes_of_height height (forest_of Self.merge_rule leaves)) } = { λ leaves chunk height few some low. stands-counted Self.merge_rule birth_of leaves height chunk
-            (births chunk height) (births_apart (chunk * 2 ^ height) height) (births_counted leaves height few some low) };
+        ↔ (chunk < nodes_of_height height (forest_of Self.merge_rule leaves)) } = { λ leaves chunk height few some low.
+            stands-counted Self.merge_rule birth_of leaves height chunk
+            (births chunk height) (births_apart (chunk * 2 ^ height) height)
+            (births_counted leaves height few some low) };
 
     /// The leaf count at which the node of this height at a position is born.
     /// In the Rust: `merkle::Graftable::peak_birth_size`.

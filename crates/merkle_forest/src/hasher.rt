@@ -146,7 +146,8 @@ pub trait Hasher<F: Family>: Drop {
     where
         Self: Sized,
         ensures first { Self.Digest.encoding result.0
-            ≡ node_of self.now first.entry.0 (Self.Digest.encoding first.entry.1.now) (Self.Digest.encoding first.entry.2.now) }
+            ≡ node_of self.now first.entry.0 (Self.Digest.encoding first.entry.1.now)
+            (Self.Digest.encoding first.entry.2.now) }
         ensures second { Self.Digest.encoding result.1
             ≡ node_of self.now second.entry.0 (Self.Digest.encoding second.entry.1.now)
             (Self.Digest.encoding second.entry.2.now) }

@@ -1,7 +1,7 @@
 //! The way from a peak down to a leaf.
 //!
-//! In the range of 11 leaves that is drawn in `mmr`, from peak 14 down to leaf 3: 14 with its child 13 beside the way, then
-//! 6 with 2, then 5 with 3.
+//! In the range of 11 leaves that is drawn in `mmr`, from peak 14 down to leaf 3: 14 with its child 13 beside the way,
+//! then 6 with 2, then 5 with 3.
 
 ghost use Rattle.std.specs.Prelude.{◌≡◌, ◌≤◌, ◌<◌, ◌+◌, ◌^◌, ℕ};
 ghost use Rattle.std.specs.Iterator.{YieldsFirst, item_count};
@@ -38,8 +38,8 @@ impl<F: Graftable> Model for Iterator<F> {
 }
 
 impl<F: Graftable> Iterator<F> {
-    /// The way from the node at a position, of this height and over the leaves from `first_leaf_loc` on, down to the leaf
-    /// at `target_loc`, which is one of these: from a node that is a leaf there is no branch on it.
+    /// The way from the node at a position, of this height and over the leaves from `first_leaf_loc` on, down to the
+    /// leaf at `target_loc`, which is one of these: from a node that is a leaf there is no branch on it.
     /// In the Rust: `merkle::path::Iterator::new`.
     pub fn new(
         peak_pos: Position<F>,

@@ -4,12 +4,14 @@
 //! nodes are born with their last leaf no full chunk is pending, and a proof has nothing to hold. Where they are born
 //! later, a proof holds the digest of the one that is pending, if any.
 
-ghost use Rattle.std.specs.Prelude.{◌≡◌, ◌<◌, ◌≤◌, ◌/◌, ◌^◌, ◌++◌, ◌↔◌, ℕ, List, [], length, Option, Some, None, Ok, IsSome, IfSome, option_map, refl, ⊤};
+ghost use Rattle.std.specs.Prelude.{◌≡◌, ◌<◌, ◌≤◌, ◌/◌, ◌^◌, ◌++◌, ◌↔◌, ℕ, List, [], length, Option, Some, None, Ok};
+ghost use Rattle.std.specs.Prelude.{IsSome, IfSome, option_map, refl, ⊤};
 ghost use Rattle.std.proofs.Common.{sym, ◌∙◌};
 ghost use Rattle.merkle_forest_parts.specs.Codec.{Outcome, after_fixed, after_option, option_encoding};
 ghost use Rattle.merkle_forest.specs.Forest.{forest_of};
 ghost use Rattle.merkle_forest.specs.Laws.MmrCounts.{all-mmr};
-ghost use Rattle.merkle_forest.specs.Laws.Pending.{encoded-pending, read-pending, value-pending, never-lacks_pending, same-pending, again-pending, once-pending, sized-none};
+ghost use Rattle.merkle_forest.specs.Laws.Pending.{encoded-pending, read-pending, value-pending, never-lacks_pending};
+ghost use Rattle.merkle_forest.specs.Laws.Pending.{same-pending, again-pending, once-pending, sized-none};
 ghost use Rattle.merkle_forest.specs.Nodes.{nodes_of_height};
 
 use crate::codec::{Cursor, EncodeSize, Error, Read, Write};

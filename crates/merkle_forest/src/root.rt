@@ -1,8 +1,10 @@
 //! Roots: peaks folded into one digest, and the string that is hashed.
 
-ghost use Rattle.std.specs.Prelude.{◌≡◌, ◌<◌, ◌≤◌, ◌↔◌, ◌++◌, ◌∷◌, [], ℕ, List, map, take, drop, length, IfOk, IfErr, OnErr, IsErr, IfSome, IfNone, MatchOption};
+ghost use Rattle.std.specs.Prelude.{◌≡◌, ◌<◌, ◌≤◌, ◌↔◌, ◌++◌, ◌∷◌, [], ℕ, List, map, take, drop, length, IfOk, IfErr};
+ghost use Rattle.std.specs.Prelude.{OnErr, IsErr, IfSome, IfNone, MatchOption};
 ghost use Rattle.std.specs.Option.{option_to_list};
-ghost use Rattle.merkle_forest.specs.Hashing.{folded_onto, folded_forward, folded_backward, root_of, root_string, bagged, items};
+ghost use Rattle.merkle_forest.specs.Hashing.{folded_onto, folded_forward, folded_backward, root_of, root_string};
+ghost use Rattle.merkle_forest.specs.Hashing.{bagged, items};
 
 use crate::bagging::Bagging;
 use crate::digest::Digest;

@@ -1,7 +1,9 @@
 -- The codec's grammar. Bytes are a list of numbers.
-use Rattle.std.specs.Prelude.{◌≡◌, ℕ, zero, suc, Bool, if◌then◌else◌, nat_lt, List, [], ◌∷◌, ◌++◌, length, drop, Option, Some, None, Result, Ok, Err}
+use Rattle.std.specs.Prelude.{◌≡◌, ℕ, zero, suc, Bool, if◌then◌else◌, nat_lt, List, [], ◌∷◌, ◌++◌, length, drop, Option}
+use Rattle.std.specs.Prelude.{Some, None, Result, Ok, Err}
 use Rattle.merkle_forest_parts.specs.declared.codec.error.Error.{Error}
-use Rattle.merkle_forest_parts.specs.declared.codec.error.Error.TheVariants.{EndOfBuffer, ExtraData, InvalidBool, Memory}
+use Rattle.merkle_forest_parts.specs.declared.codec.error.Error.TheVariants.{EndOfBuffer, ExtraData, InvalidBool}
+use Rattle.merkle_forest_parts.specs.declared.codec.error.Error.TheVariants.{Memory}
 
 -- the second step, if the first found no fault
 infixl 10 ◌>>=◌

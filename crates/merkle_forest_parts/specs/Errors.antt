@@ -2,7 +2,9 @@
 use Rattle.std.specs.Prelude.{ℕ, List, ◌++◌, codes}
 use Rattle.std.specs.Fmt.{decimal}
 use Rattle.merkle_forest_parts.specs.declared.codec.error.Error.{Error}
-use Rattle.merkle_forest_parts.specs.declared.codec.error.Error.TheVariants.{EndOfBuffer, ExtraData, InvalidVarint, InvalidBool, InvalidEnum, InvalidLength, Invalid, Memory}
+use Rattle.merkle_forest_parts.specs.declared.codec.error.Error.TheVariants.{EndOfBuffer, ExtraData, InvalidVarint}
+use Rattle.merkle_forest_parts.specs.declared.codec.error.Error.TheVariants.{InvalidBool, InvalidEnum, InvalidLength}
+use Rattle.merkle_forest_parts.specs.declared.codec.error.Error.TheVariants.{Invalid, Memory}
 
 -- an error's number and what it means
 abbrev pub error_text : Error → List ℕ

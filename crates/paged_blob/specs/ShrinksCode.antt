@@ -25,7 +25,8 @@ IsLeftAlone size page counted len crc old new slot =
 pub record IsLast (size : ℕ) (content file : List ℕ) (last : LastPage) : Type 0 where
   pub some : 0 < length last.bytes.items
   pub bytes : last.bytes.items ≡ from_page size (length content / content_size size) content
-  pub alone : StandsAlone size (page_at size (length content / content_size size) file) last.slot (length last.bytes.items) last.crc
+  pub alone : StandsAlone size (page_at size (length content / content_size size) file) last.slot
+      (length last.bytes.items) last.crc
 
 -- such a page, or the content fills its pages
 abbrev pub EndsWith : ℕ → List ℕ → List ℕ → Option LastPage → Type 0

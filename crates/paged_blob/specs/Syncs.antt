@@ -1,5 +1,6 @@
 -- A sync of a writer that was started and is not waited for yet.
-use Rattle.std.specs.Prelude.{◌≡◌, ℕ, ◌+◌, ◌-◌, ◌*◌, ◌/◌, ◌<◌, ◌≤◌, ◌^◌, Option, Result, Ok, Err, OnOk, List, length, take, drop}
+use Rattle.std.specs.Prelude.{◌≡◌, ℕ, ◌+◌, ◌-◌, ◌*◌, ◌/◌, ◌<◌, ◌≤◌, ◌^◌, Option, Result, Ok, Err, OnOk, List, length}
+use Rattle.std.specs.Prelude.{take, drop}
 use Rattle.paged_format.specs.Footers.{content_size}
 use Rattle.paged_format.specs.Tips.{Tip}
 use Rattle.paged_blob_parts.specs.Calls.{Call}
@@ -21,8 +22,8 @@ settled_tip size count tip = record tip {
 abbrev pub settled_slot : (List ℕ → ℕ) → WriterState → ℕ → Option DurableSlot
 settled_slot sum w count = last_slot sum w.page_size w.slot (take count w.tip.bytes)
 
--- A sync of the first bytes of a writer's list was started, and these are the blob's calls since. The list has taken bytes into memory
--- since, perhaps; no other call was made.
+-- A sync of the first bytes of a writer's list was started, and these are the blob's calls since. The list has taken
+-- bytes into memory since, perhaps; no other call was made.
 pub record IsUnderWay (sum : List ℕ → ℕ) (calls : List Call) (w : WriterState) (started : WriterSync) : Type 0 where
   -- it covers the pages, and of the tip what was there when it was started
   pub begins : w.tip.offset ≤ started.size
@@ -35,7 +36,8 @@ pub record IsUnderWay (sum : List ℕ → ℕ) (calls : List Call) (w : WriterSt
   -- where all was durable it is done
   pub idle : started.size ≤ w.synced → IsWriter sum calls w × (started.sync.answer ≡ Ok tt)
   -- else, unless it was refused, all that it covers is durable
-  pub done : w.synced < started.size → OnOk started.sync.answer (IsWriterOf sum w.page_size calls (written sum calls w) started.size
+  pub done : w.synced < started.size
+      → OnOk started.sync.answer (IsWriterOf sum w.page_size calls (written sum calls w) started.size
       (settled_tip w.page_size (started.size - w.tip.offset) w.tip) (settled_slot sum w (started.size - w.tip.offset)))
 
 -- what the blob answered to the calls of a start: the refusal of a write, or the answer of the sync

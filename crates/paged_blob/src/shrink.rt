@@ -229,10 +229,10 @@ fn settle<B: Blob>(blob: &mut B, needs_sync: bool) -> Result<(), Error>
 
 /// Cuts a blob to the first so many bytes of its content, `size`, or to all of it where it has fewer, and makes them
 /// durable; it answers the last page where the content does not fill it. The blob then is exactly the pages of the
-/// content, and a slot that a torn append left is cleared; its last call is a sync that succeeded. It is refused where a call of the blob is; what a crash then
-/// shows is a beginning of the old content with what was durable of the first `size` bytes, as at each moment before.
-/// That no call has failed, that `len` bytes of content are recovered of it, and that all is durable unless it
-/// `needs_sync` is on the caller. In the Rust a part of `paged::Recovery::truncate`.
+/// content, and a slot that a torn append left is cleared; its last call is a sync that succeeded. It is refused where
+/// a call of the blob is; what a crash then shows is a beginning of the old content with what was durable of the first
+/// `size` bytes, as at each moment before. That no call has failed, that `len` bytes of content are recovered of it,
+/// and that all is durable unless it `needs_sync` is on the caller. In the Rust a part of `paged::Recovery::truncate`.
 pub fn cut_blob<B: Blob, C: Checksum>(
     alloc: Global,
     blob: &mut B,

@@ -7,7 +7,8 @@ use Rattle.paged_blob_parts.specs.Images.{IsImage, IsLive}
 use Rattle.paged_blob_parts.specs.declared.error.CallKind.{CallKind}
 use Rattle.paged_blob_parts.specs.declared.error.CallKind.TheVariants.{Read}
 use Rattle.paged_blob_parts.specs.declared.error.Error.{Error}
-use Rattle.paged_blob_parts.specs.declared.error.Error.TheVariants.{Injected, BlobMissing, BlobInsufficientLength, NumberEnded, Memory, PowerCut}
+use Rattle.paged_blob_parts.specs.declared.error.Error.TheVariants.{Injected, BlobMissing, BlobInsufficientLength}
+use Rattle.paged_blob_parts.specs.declared.error.Error.TheVariants.{NumberEnded, Memory, PowerCut}
 
 -- A call that succeeds or fails is recorded, with that. One that a cut refuses, or that counts as not made, is not.
 abbrev pub Records : {T : Type 0} → Result T Error → (Bool → Call) → List Call → List Call → Type 0
@@ -30,9 +31,9 @@ RecordsSync (Err _) old new = new ≡ old
 abbrev pub RecordsOpening : List Call → List Call → Type 0
 RecordsOpening old new = (shown : List ℕ) × IsImage (file_of old) shown × (new ≡ opened shown ∷ old)
 
--- what has refused calls of a blob so far: how many faults were injected, how many calls a cut of the power refused, and whether an
--- opening stands, without which none is taken; whether a cut was asked for, without which none comes; and the settings by which faults
--- are drawn, where any are
+-- what has refused calls of a blob so far: how many faults were injected, how many calls a cut of the power refused,
+-- and whether an opening stands, without which none is taken; whether a cut was asked for, without which none comes;
+-- and the settings by which faults are drawn, where any are
 pub record Failures : Type 0 where
   pub injected : ℕ
   pub refused : ℕ
@@ -40,7 +41,8 @@ pub record Failures : Type 0 where
   pub is_asked : Bool
   pub settings : Option Config
 
--- this after a call: an injected fault and a call that a cut refuses are counted; no call asks for a cut or changes the settings
+-- this after a call: an injected fault and a call that a cut refuses are counted; no call asks for a cut or changes the
+-- settings
 abbrev pub failures_after : {T : Type 0} → Result T Error → Failures → Failures
 failures_after (Ok _) failures = failures
 failures_after (Err (Injected _)) failures = record failures { injected = failures.injected + 1 }

@@ -6,7 +6,8 @@ use Rattle.paged_blob_parts.specs.Chance.{page_at}
 -- each page that is kept under a blob's name is that page of the content, whole
 pub record HoldsPagesOf (content : List ℕ) (cache : Cache) (blob_id : ℕ) : Type 0 where
   pub each : (page : Page) → Contains cache.pages page → page.blob_id ≡ blob_id
-      → ((page.number + 1) * cache.page_size ≤ length content) × (page.bytes ≡ page_at cache.page_size page.number content)
+      → ((page.number + 1) * cache.page_size ≤ length content)
+      × (page.bytes ≡ page_at cache.page_size page.number content)
 
 -- each page that is kept under another name was kept before
 pub record KeepsOthers (old new : Cache) (blob_id : ℕ) : Type 0 where

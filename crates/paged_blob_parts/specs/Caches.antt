@@ -33,7 +33,8 @@ pub record Adds (old new : List Page) (given : Page) : Type 0 where
 
 -- every page that is kept is this one, or was there before, elsewhere
 pub record IsGivenOne (old new : List Page) (given : Page) : Type 0 where
-  pub each : (page : Page) → Contains new page → (page ≡ given) ⊎ (Contains old page × IsElsewhere given.blob_id given.number page)
+  pub each : (page : Page) → Contains new page → (page ≡ given)
+      ⊎ (Contains old page × IsElsewhere given.blob_id given.number page)
 
 -- a page of these bytes, of which the first is given this number
 abbrev pub page_given : ℕ → ℕ → ℕ → List ℕ → ℕ → Page
@@ -42,5 +43,6 @@ page_given blob_id first size bytes k = record { blob_id = blob_id; number = fir
 -- every page that is kept is one of the first so many of these bytes, or was there before, elsewhere
 pub record AreGiven (old new : List Page) (blob_id first size : ℕ) (bytes : List ℕ) (count : ℕ) : Type 0 where
   pub each : (page : Page) → Contains new page
-      → ((k : ℕ) × (k < count) × (page ≡ page_given blob_id first size bytes k)) ⊎ (Contains old page × ((k : ℕ) → k < count
+      → ((k : ℕ) × (k < count) × (page ≡ page_given blob_id first size bytes k))
+      ⊎ (Contains old page × ((k : ℕ) → k < count
       → IsElsewhere blob_id (first + k) page))

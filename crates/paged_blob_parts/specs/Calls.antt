@@ -1,8 +1,9 @@
 -- A blob's past: the calls that were made of it, and the file that they make.
-use Rattle.std.specs.Prelude.{ℕ, ◌+◌, ◌-◌, Bool, false, not, ◌&&◌, ◌||◌, if◌then◌else◌, List, [], ◌∷◌, ◌++◌, length, take, drop, replicate}
+use Rattle.std.specs.Prelude.{ℕ, ◌+◌, ◌-◌, Bool, false, not, ◌&&◌, ◌||◌, if◌then◌else◌, List, [], ◌∷◌, ◌++◌, length}
+use Rattle.std.specs.Prelude.{take, drop, replicate}
 
--- A call, as it was asked for, and whether it succeeded: an opening with the bytes that it showed; a write at an offset, and whether it
--- was to be durable at once; a resize; a sync with the bytes that it made durable.
+-- A call, as it was asked for, and whether it succeeded: an opening with the bytes that it showed; a write at an
+-- offset, and whether it was to be durable at once; a resize; a sync with the bytes that it made durable.
 pub data Call : Type 0 where
   opened : List ℕ → Call
   wrote : ℕ → List ℕ → Bool → Bool → Call
@@ -32,15 +33,19 @@ abbrev pub whole : List ℕ → List Change → List ℕ
 whole base [] = base
 whole base (change ∷ earlier) = changed change (whole base earlier)
 
--- What an opening showed or a sync made durable last, the writes and resizes since, the newest first, and whether one of them failed.
--- One that failed stands among them whole.
+-- What an opening showed or a sync made durable last, the writes and resizes since, the newest first, and whether one
+-- of them failed. One that failed stands among them whole.
 pub record File : Type 0 where
   pub base : List ℕ
   pub changes : List Change
   pub failed : Bool
 
 abbrev pub after_change : Change → Bool → File → File
-after_change change ok file = record { base = file.base; changes = change ∷ file.changes; failed = file.failed || not ok }
+after_change change ok file = record {
+  base = file.base;
+  changes = change ∷ file.changes;
+  failed = file.failed || not ok;
+}
 
 -- a sync that succeeds begins anew
 abbrev pub after_sync : List ℕ → Bool → File → File
@@ -50,7 +55,8 @@ after_sync bytes ok file = if ok then record { base = bytes; changes = []; faile
 abbrev pub file_of : List Call → File
 file_of [] = record { base = []; changes = []; failed = false }
 file_of (opened shown ∷ earlier) = record { base = shown; changes = []; failed = false }
-file_of (wrote offset bytes is_sync ok ∷ earlier) = after_change (write offset bytes (is_sync && ok)) ok (file_of earlier)
+file_of (wrote offset bytes is_sync ok ∷ earlier) =
+    after_change (write offset bytes (is_sync && ok)) ok (file_of earlier)
 file_of (resized_to size ok ∷ earlier) = after_change (resize size) ok (file_of earlier)
 file_of (synced bytes ok ∷ earlier) = after_sync bytes ok (file_of earlier)
 

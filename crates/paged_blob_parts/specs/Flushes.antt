@@ -35,7 +35,8 @@ page_bytes sum size kept bytes = resized (content_size size) bytes ++ footer_ove
 unfoldable pub pages_bytes : (List ℕ → ℕ) → ℕ → ℕ → Option DurableSlot → List ℕ → List ℕ
 pages_bytes sum size zero kept bytes = []
 pages_bytes sum size (suc count) kept bytes =
-    page_bytes sum size kept (take (content_size size) bytes) ++ pages_bytes sum size count None (drop (content_size size) bytes)
+    page_bytes sum size kept (take (content_size size) bytes)
+    ++ pages_bytes sum size count None (drop (content_size size) bytes)
 
 -- how many pages so many bytes of content fill, the last one perhaps in part
 abbrev pub page_count : ℕ → ℕ → ℕ

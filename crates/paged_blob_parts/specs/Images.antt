@@ -1,5 +1,6 @@
 -- What a crash may leave of a file, and what a read may find.
-use Rattle.std.specs.Prelude.{◌≡◌, ℕ, ◌+◌, ◌-◌, ◌<◌, ◌≤◌, min, max, Bool, true, not, ◌&&◌, ◌||◌, ◌==◌, nat_le, nat_lt, IsTrue, IsFalse}
+use Rattle.std.specs.Prelude.{◌≡◌, ℕ, ◌+◌, ◌-◌, ◌<◌, ◌≤◌, min, max, Bool, true, not, ◌&&◌, ◌||◌, ◌==◌, nat_le, nat_lt}
+use Rattle.std.specs.Prelude.{IsTrue, IsFalse}
 use Rattle.std.specs.Prelude.{List, [], ◌∷◌, length, get_or}
 use Rattle.paged_blob_parts.specs.Calls.{Change, write, resize, whole, File}
 
@@ -17,11 +18,12 @@ abbrev pub may_leave : Change → ℕ → Bool
 may_leave (write offset bytes kept) i = not kept || not (is_within offset (length bytes) i)
 may_leave (resize size) i = true
 
--- Whether a byte may have a value: the one that was last made durable there, one that was written there since, or zero where a gap or
--- growth reached it.
+-- Whether a byte may have a value: the one that was last made durable there, one that was written there since, or zero
+-- where a gap or growth reached it.
 abbrev pub may_hold : List ℕ → List Change → ℕ → ℕ → Bool
 may_hold base [] i value = value == get_or base i 0
-may_hold base (change ∷ earlier) i value = may_give change i value || (may_leave change i && may_hold base earlier i value)
+may_hold base (change ∷ earlier) i value =
+    may_give change i value || (may_leave change i && may_hold base earlier i value)
 
 -- the least length since the base, each change being whole
 abbrev pub least_length : List ℕ → List Change → ℕ

@@ -1,4 +1,5 @@
--- Reading a slice of a content whose first bytes are on a blob, in whole pages of which some are kept, and whose end is in memory.
+-- Reading a slice of a content whose first bytes are on a blob, in whole pages of which some are kept, and whose end is
+-- in memory.
 use Rattle.std.specs.Prelude.{ℕ, ◌*◌, ◌/◌, ◌<◌, List, ◌++◌, take}
 use Rattle.paged_format.specs.Footers.{content_size}
 use Rattle.paged_format.specs.Pages.{recovered}
@@ -20,7 +21,8 @@ ServesPages bytes cache blob_id = (more : List ℕ) × HoldsPagesOf (bytes ++ mo
 
 -- whatever content goes on from these bytes, where its pages were kept they still are
 abbrev pub StaysKept : List ℕ → Cache → Cache → ℕ → Type 0
-StaysKept bytes old new blob_id = (more : List ℕ) → HoldsPagesOf (bytes ++ more) old blob_id → HoldsPagesOf (bytes ++ more) new blob_id
+StaysKept bytes old new blob_id =
+    (more : List ℕ) → HoldsPagesOf (bytes ++ more) old blob_id → HoldsPagesOf (bytes ++ more) new blob_id
 
 -- why a read that ends there, in a content of so many bytes of which so many are on the blob, may be refused
 abbrev pub IsReadingCause : Failures → ℕ → ℕ → ℕ → ℕ → Error → Type 0

@@ -9,4 +9,5 @@ recoverable sum size calls blob_size = length (recovered sum size (take blob_siz
 
 -- where nothing has failed, so many bytes of content are recovered of these, or more
 abbrev pub AreProven : (List ℕ → ℕ) → ℕ → List Call → ℕ → ℕ → Type 0
-AreProven sum size calls blob_size proven = IsFalse (file_of calls).failed → proven ≤ recoverable sum size calls blob_size
+AreProven sum size calls blob_size proven =
+    IsFalse (file_of calls).failed → proven ≤ recoverable sum size calls blob_size

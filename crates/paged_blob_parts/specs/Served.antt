@@ -1,5 +1,6 @@
 -- Reading many slices of a list at once, and what of them is served from memory.
-use Rattle.std.specs.Prelude.{◌≡◌, ◌⊎◌, ℕ, ◌+◌, ◌*◌, ◌/◌, ◌%◌, ◌<◌, ◌≤◌, nat_le, Bool, IsFalse, List, [], ◌∷◌, length, take, drop, map, sum_by, Contains}
+use Rattle.std.specs.Prelude.{◌≡◌, ◌⊎◌, ℕ, ◌+◌, ◌*◌, ◌/◌, ◌%◌, ◌<◌, ◌≤◌, nat_le, Bool, IsFalse, List, [], ◌∷◌, length}
+use Rattle.std.specs.Prelude.{take, drop, map, sum_by, Contains}
 use Rattle.std.specs.List.{list_all, flat_map}
 use Rattle.paged_format.specs.Footers.{content_size}
 use Rattle.paged_blob_parts.specs.Answers.{Failures, IsCause}
@@ -45,7 +46,8 @@ abbrev pub AreKept : Cache → FlushedPages → ℕ → ℕ → Type 0
 AreKept cache pages offset count =
     (i : ℕ) → offset ≤ i → i < offset + count → IsKept cache pages.blob_id (i / content_size pages.physical_page_size)
 
--- A slice is in memory: it ends within a list of so many bytes, and each byte of it that is on the blob stands in a page that is kept.
+-- A slice is in memory: it ends within a list of so many bytes, and each byte of it that is on the blob stands in a
+-- page that is kept.
 pub record IsServed (cache : Cache) (pages : FlushedPages) (size offset count : ℕ) : Type 0 where
   pub within : offset + count ≤ size
   pub kept : (i : ℕ) → offset ≤ i → i < offset + count → i < pages.len

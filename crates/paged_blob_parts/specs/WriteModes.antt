@@ -7,7 +7,8 @@ abbrev pub is_sync : WriteMode → Bool
 is_sync Plain = false
 is_sync Sync = true
 
--- where a write counts as laid: one of no bytes that is durable at once makes no gap before it, so that the file does not grow
+-- where a write counts as laid: one of no bytes that is durable at once makes no gap before it, so that the file does
+-- not grow
 abbrev pub place_of : WriteMode → ℕ → List ℕ → ℕ
 place_of Plain offset bytes = offset
 place_of Sync offset [] = 0

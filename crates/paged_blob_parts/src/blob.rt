@@ -2,7 +2,8 @@
 
 ghost use Rattle.std.specs.Prelude.{◌≡◌, ◌+◌, ◌-◌, ◌≤◌, ℕ, List, Bool, map, length, IfOk, IfErr};
 ghost use Rattle.paged_blob_parts.specs.Calls.{Call, wrote, resized_to, file_of};
-ghost use Rattle.paged_blob_parts.specs.Answers.{Records, RecordsSync, Failures, failures_after, IsCause, IsSlice, IsReadCause, used_up, MeetsCut};
+ghost use Rattle.paged_blob_parts.specs.Answers.{Records, RecordsSync, Failures, failures_after, IsCause, IsSlice};
+ghost use Rattle.paged_blob_parts.specs.Answers.{IsReadCause, used_up, MeetsCut};
 ghost use Rattle.paged_blob_parts.specs.Answers.{AreSlices, IsManyCause, UsesUpInTurn, MeetsCutInTurn};
 ghost use Rattle.paged_blob_parts.specs.WriteModes.{is_sync, place_of};
 ghost use Rattle.paged_blob_parts.specs.declared.error.CallKind.TheVariants.{Write, Resize, Sync};
@@ -20,8 +21,8 @@ pub enum WriteMode {
     Sync,
 }
 
-/// Where a write counts as laid: at its offset, but at the beginning where it has no bytes and is durable at once, since
-/// it then makes no gap (own).
+/// Where a write counts as laid: at its offset, but at the beginning where it has no bytes and is durable at once,
+/// since it then makes no gap (own).
 pub fn place_of(mode: WriteMode, offset: u64, bytes: &[u8]) -> u64
     ensures is { result ≡ place_of mode offset bytes.now }
     ensures within { result ≤ offset }

@@ -127,7 +127,8 @@ impl CacheRef {
         (offset / size, offset % size)
     }
 
-    // Where a page of this number is most likely kept: pages that were kept one after the other stand so, up to the last.
+    // Where a page of this number is most likely kept: pages that were kept one after the other stand so, up to the
+    // last.
     fn likely_place(&self, number: u64) -> usize {
         match self.pages.last() {
             Some(last) => {
@@ -152,7 +153,8 @@ impl CacheRef {
         None
     }
 
-    /// The content of a page, if it is kept (own). It is looked for where it most likely stands, and then among all pages.
+    /// The content of a page, if it is kept (own). It is looked for where it most likely stands, and then among all
+    /// pages.
     pub fn page(&self, blob_id: u64, number: u64) -> Option<&[u8]>
         ensures some { IfSome result (λ bytes. Contains self.now.pages
             (record { blob_id = blob_id; number = number; bytes = bytes.now })) }

@@ -120,7 +120,8 @@ pub fn flush<C: Checksum, B: Blob>(
     ensures fits { OnOk result
         (SumsFit C.checksum_of page_size (page_count page_size (length content.now)) content.now) }
     ensures cause { IfErr result
-        (IsCause (B.failures blob.old) CallKind.Write (first * page_size + physical_size page_size (length content.now))) }
+        (IsCause (B.failures blob.old) CallKind.Write (first * page_size
+        + physical_size page_size (length content.now))) }
     ensures failures { B.failures blob.new ≡ failures_after result (B.failures blob.old) }
     ensures left { B.left blob.new ≤ B.left blob.old }
 {

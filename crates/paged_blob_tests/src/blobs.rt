@@ -69,8 +69,8 @@ fn pages_of(alloc: Global, slots: &[(u16, u16)]) -> Result<Vec<u8>, Fail> {
     Ok(bytes)
 }
 
-// What is read of a page that is on the disk and of a tip behind it: past the end, up to it, over both, and of a page that is
-// kept by then.
+// What is read of a page that is on the disk and of a tip behind it: past the end, up to it, over both, and of a page
+// that is kept by then.
 fn read_of_both(alloc: Global) -> Result<bool, Fail> {
     let mut disk = MemoryDisk::showing(alloc, pages_of(alloc, &[(52, 0)])?)?;
     let mut cache = CacheRef::new(alloc, 52, 2);

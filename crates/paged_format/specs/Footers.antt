@@ -8,7 +8,8 @@ use Rattle.paged_format.specs.declared.footer.Slot.TheVariants.{First, Second}
 -- whether a page on the disk may have so many bytes: one of the powers of two from 16 to 65536
 abbrev pub is_page_size : ℕ → Bool
 is_page_size size =
-    list_any (λ power. size == power) (16 ∷ 32 ∷ 64 ∷ 128 ∷ 256 ∷ 512 ∷ 1024 ∷ 2048 ∷ 4096 ∷ 8192 ∷ 16384 ∷ 32768 ∷ 65536 ∷ [])
+    list_any (λ power. size == power) (16 ∷ 32 ∷ 64 ∷ 128 ∷ 256 ∷ 512 ∷ 1024 ∷ 2048 ∷ 4096 ∷ 8192
+    ∷ 16384 ∷ 32768 ∷ 65536 ∷ [])
 
 -- a page on the disk may have so many bytes
 abbrev pub IsPageSize : ℕ → Type 0

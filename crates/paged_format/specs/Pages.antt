@@ -1,5 +1,6 @@
 -- Which slot of a page counts, and what is recovered of pages that stand one after the other.
-use Rattle.std.specs.Prelude.{ℕ, zero, suc, ◌/◌, ◌==◌, nat_lt, nat_le, max, Bool, ◌&&◌, if◌then◌else◌, Option, None, Some}
+use Rattle.std.specs.Prelude.{ℕ, zero, suc, ◌/◌, ◌==◌, nat_lt, nat_le, max, Bool, ◌&&◌, if◌then◌else◌, Option, None}
+use Rattle.std.specs.Prelude.{Some}
 use Rattle.std.specs.Prelude.{List, [], ◌∷◌, ◌++◌, length, take, drop}
 use Rattle.paged_format.specs.declared.footer.Slot.{Slot}
 use Rattle.paged_format.specs.declared.footer.Slot.TheVariants.{First, Second}
@@ -17,7 +18,8 @@ verifies sum size slot page = vouches sum size page (slot_len size slot page) (s
 unfoldable pub vouched_len : (List ℕ → ℕ) → ℕ → Slot → List ℕ → ℕ
 vouched_len sum size slot page = if verifies sum size slot page then slot_len size slot page else 0
 
--- of two slots that vouch for these lengths the one with the greater counts, on a tie the first, and none where both are 0
+-- of two slots that vouch for these lengths the one with the greater counts, on a tie the first, and none where both
+-- are 0
 abbrev pub greater_slot : ℕ → ℕ → Option (Slot × ℕ)
 greater_slot first second =
     if nat_lt first second then Some (Second, second) else (if nat_lt 0 first then Some (First, first) else None)
@@ -34,7 +36,8 @@ shown_len sum size page = max (vouched_len sum size First page) (vouched_len sum
 unfoldable pub content_of : (List ℕ → ℕ) → ℕ → List (List ℕ) → List ℕ
 content_of sum size [] = []
 content_of sum size (page ∷ pages) =
-    take (shown_len sum size page) page ++ (if shown_len sum size page == content_size size then content_of sum size pages else [])
+    take (shown_len sum size page) page
+    ++ (if shown_len sum size page == content_size size then content_of sum size pages else [])
 
 -- the first pages of so many bytes
 unfoldable pub first_pages : ℕ → ℕ → List ℕ → List (List ℕ)

@@ -4,7 +4,7 @@
 //! ```text
 //!    operations   o o o o o o o o   o o o o o o o o   o o o       a leaf each, in a tree
 //!    bits         1 0 1 1 0 0 0 0   0 1 0 0 0 0 0 0   1 1 .       in chunks, here of one byte
-//!    chunks            o                 o                        a leaf for each chunk whose operations have their node
+//!    chunks            o                 o                        a leaf for each chunk whose node is there
 //! ```
 //!
 //! Chunks are pruned from the front, of both trees and of the bits, as far as they are settled: then each peak of the

@@ -42,8 +42,8 @@ pub fn encode<F: Family, K: FixedKey, V: FixedValue>(
 /// The operation at the front, or the first fault from the left, as `fixed::read_operation` names it: fewer bytes than
 /// its size are C1, another tag C5, a flag that is neither 0 nor 1 C4; a byte of padding or of absent metadata that
 /// isn't zero and a floor past the greatest number of operations are C7; out of memory is C8, only where a key or a
-/// value that stands there may take memory. What is read has keys and values of their sizes, which are read again. After
-/// a refusal the cursor's position is open.
+/// value that stands there may take memory. What is read has keys and values of their sizes, which are read again.
+/// After a refusal the cursor's position is open.
 /// In the Rust: `commonware_codec::Read::read_cfg` of such an operation.
 pub fn read<F: Family, K: FixedKey, V: FixedValue>(
     alloc: Global,

@@ -1,7 +1,9 @@
--- The grammar of operations: the operation at the front of the bytes and the bytes after it, or the first fault from the left; and
--- where memory may be lacking for it. `key`, `value` and `updated` are the grammars of keys, values and updates, and memory may be
--- lacking for one of them at the bytes of which `key_lacks`, `value_lacks` or `updated_lacks` holds.
-use Rattle.std.specs.Prelude.{◌≡◌, ◌≤◌, ◌⊎◌, ◌++◌, IfSome, ℕ, zero, suc, ◌-◌, ◌^◌, nat_lt, ◌==◌, if◌then◌else◌, List, [], ◌∷◌, length, take, drop, Option, None, Some, Result, Ok, Err}
+-- The grammar of operations: the operation at the front of the bytes and the bytes after it, or the first fault from
+-- the left; and where memory may be lacking for it. `key`, `value` and `updated` are the grammars of keys, values and
+-- updates, and memory may be lacking for one of them at the bytes of which `key_lacks`, `value_lacks` or
+-- `updated_lacks` holds.
+use Rattle.std.specs.Prelude.{◌≡◌, ◌≤◌, ◌⊎◌, ◌++◌, IfSome, ℕ, zero, suc, ◌-◌, ◌^◌, nat_lt, ◌==◌, if◌then◌else◌, List}
+use Rattle.std.specs.Prelude.{[], ◌∷◌, length, take, drop, Option, None, Some, Result, Ok, Err}
 use Rattle.std.specs.Int.{w64, from_be_bytes}
 use Rattle.merkle_forest.specs.Codec.{Outcome, Refuses, ◌>>=◌, LacksAfter, OptionLacks}
 use Rattle.merkle_forest.specs.Varint.{varint_at}
@@ -13,8 +15,10 @@ use Rattle.state_ops_parts.specs.Operation.{Operation, delete, update, commit_fl
 abbrev pub Found : Type 0 → Type 0
 Found T = Result (T × List ℕ) Error
 
--- a reader found the item that the grammar finds and stands after it, or names its fault; the item stands there in its spelling
-abbrev pub ReadsAs : {T U : Type 0} → (T → U) → (T → List ℕ) → List ℕ → List ℕ → Found U → Type 0 → Result T Error → Type 0
+-- a reader found the item that the grammar finds and stands after it, or names its fault; the item stands there in its
+-- spelling
+abbrev pub ReadsAs : {T U : Type 0} → (T → U) → (T → List ℕ) → List ℕ → List ℕ → Found U → Type 0
+    → Result T Error → Type 0
 ReadsAs said encoding old new expected lacks (Ok item) = (expected ≡ Ok (said item, new)) × (old ≡ encoding item ++ new)
 ReadsAs said encoding old new expected lacks (Err e) = Refuses lacks e expected
 
@@ -61,18 +65,21 @@ fixed_floor_at bytes =
     else Ok (from_be_bytes w64 (take 8 bytes), drop 8 bytes))
 
 -- metadata and a floor, of these grammars
-abbrev pub commit_at : {U : Type 0} → (List ℕ → Found (Option (List ℕ))) → (List ℕ → Found ℕ) → List ℕ → Found (Operation U)
+abbrev pub commit_at : {U : Type 0} → (List ℕ → Found (Option (List ℕ))) → (List ℕ → Found ℕ)
+    → List ℕ → Found (Operation U)
 commit_at metadata floor bytes = metadata bytes >>= λ x. told (commit_floor x.0) (floor x.1)
 
 -- an operation, its tag taken: a key, an update, or a commit
-abbrev pub tagged_at : {U : Type 0} → (List ℕ → Outcome) → (List ℕ → Found U) → (List ℕ → Found (Operation U)) → ℕ → List ℕ → Found (Operation U)
+abbrev pub tagged_at : {U : Type 0} → (List ℕ → Outcome) → (List ℕ → Found U) → (List ℕ → Found (Operation U)) → ℕ
+    → List ℕ → Found (Operation U)
 tagged_at key updated commit tag bytes =
     if tag == 0xD1 then told delete (item_at key bytes)
     else (if tag == 0xD2 then told update (updated bytes)
     else (if tag == 0xD3 then commit bytes else Err (InvalidEnum tag)))
 
 -- an operation behind its tag
-abbrev pub operation_at : {U : Type 0} → (List ℕ → Outcome) → (List ℕ → Found U) → (List ℕ → Found (Operation U)) → List ℕ → Found (Operation U)
+abbrev pub operation_at : {U : Type 0} → (List ℕ → Outcome) → (List ℕ → Found U) → (List ℕ → Found (Operation U))
+    → List ℕ → Found (Operation U)
 operation_at key updated commit [] = Err EndOfBuffer
 operation_at key updated commit (tag ∷ bytes) = tagged_at key updated commit tag bytes
 
@@ -87,20 +94,25 @@ option_at value (b ∷ bytes) = Err InvalidBool
 abbrev pub floor_at : List ℕ → Found ℕ
 floor_at bytes = varint_at bytes >>= λ x. if nat_lt (2 ^ 62) x.0 then Err Invalid else Ok x
 
-abbrev pub variable_at : {U : Type 0} → (List ℕ → Outcome) → (List ℕ → Outcome) → (List ℕ → Found U) → List ℕ → Found (Operation U)
+abbrev pub variable_at : {U : Type 0} → (List ℕ → Outcome) → (List ℕ → Outcome) → (List ℕ → Found U)
+    → List ℕ → Found (Operation U)
 variable_at key value updated bytes = operation_at key updated (commit_at (option_at value) floor_at) bytes
 
 -- an operation of the fixed encoding without its padding
-abbrev pub unpadded_at : {U : Type 0} → (List ℕ → Outcome) → (List ℕ → Outcome) → (List ℕ → Found U) → ℕ → List ℕ → Found (Operation U)
-unpadded_at key value updated size bytes = operation_at key updated (commit_at (fixed_metadata_at value size) fixed_floor_at) bytes
+abbrev pub unpadded_at : {U : Type 0} → (List ℕ → Outcome) → (List ℕ → Outcome) → (List ℕ → Found U) → ℕ
+    → List ℕ → Found (Operation U)
+unpadded_at key value updated size bytes =
+    operation_at key updated (commit_at (fixed_metadata_at value size) fixed_floor_at) bytes
 
 -- an operation and its padding, all of the bytes
-abbrev pub padded_at : {U : Type 0} → (List ℕ → Outcome) → (List ℕ → Outcome) → (List ℕ → Found U) → ℕ → List ℕ → Found (Operation U)
+abbrev pub padded_at : {U : Type 0} → (List ℕ → Outcome) → (List ℕ → Outcome) → (List ℕ → Found U) → ℕ
+    → List ℕ → Found (Operation U)
 padded_at key value updated size bytes =
     unpadded_at key value updated size bytes >>= with_zeros
 
 -- an operation of the fixed encoding: the whole size is asked first
-abbrev pub fixed_at : {U : Type 0} → (List ℕ → Outcome) → (List ℕ → Outcome) → (List ℕ → Found U) → ℕ → ℕ → ℕ → List ℕ → Found (Operation U)
+abbrev pub fixed_at : {U : Type 0} → (List ℕ → Outcome) → (List ℕ → Outcome) → (List ℕ → Found U) → ℕ → ℕ → ℕ
+    → List ℕ → Found (Operation U)
 fixed_at key value updated key_size value_size updated_size bytes =
     let size : ℕ = fixed_size key_size value_size updated_size in
     if nat_lt (length bytes) size then Err EndOfBuffer
@@ -127,12 +139,14 @@ UnorderedLacks key key_lacks value_lacks bytes = key_lacks bytes ⊎ LacksAfter 
 -- memory may be lacking for an operation, its tag taken
 abbrev pub TagLacks : Lacks → Lacks → Lacks → ℕ → List ℕ → Type 0
 TagLacks key_lacks value_lacks updated_lacks tag bytes =
-    ((tag ≡ 0xD1) × key_lacks bytes) ⊎ (((tag ≡ 0xD2) × updated_lacks bytes) ⊎ ((tag ≡ 0xD3) × OptionLacks value_lacks bytes))
+    ((tag ≡ 0xD1) × key_lacks bytes)
+    ⊎ (((tag ≡ 0xD2) × updated_lacks bytes) ⊎ ((tag ≡ 0xD3) × OptionLacks value_lacks bytes))
 
 -- memory may be lacking for an operation behind its tag
 abbrev pub OperationLacks : Lacks → Lacks → Lacks → List ℕ → Type 0
 OperationLacks key_lacks value_lacks updated_lacks [] = ⊥
-OperationLacks key_lacks value_lacks updated_lacks (tag ∷ bytes) = TagLacks key_lacks value_lacks updated_lacks tag bytes
+OperationLacks key_lacks value_lacks updated_lacks (tag ∷ bytes) =
+    TagLacks key_lacks value_lacks updated_lacks tag bytes
 
 -- memory may be lacking for the operation of the fixed size at the front, where all of it is there
 abbrev pub FixedLacks : Lacks → Lacks → Lacks → ℕ → List ℕ → Type 0
@@ -148,7 +162,8 @@ abbrev pub IsFoundAs : {U : Type 0} → (List ℕ → Found U) → (U → List �
 IsFoundAs found spelled item = (rest : List ℕ) → found (spelled item ++ rest) ≡ Ok (item, rest)
 
 -- an operation of such fields, and of a floor that is at most the greatest number of operations
-abbrev pub HasFields : {U : Type 0} → (List ℕ → Outcome) → (List ℕ → Outcome) → (List ℕ → Found U) → (U → List ℕ) → Operation U → Type 0
+abbrev pub HasFields : {U : Type 0} → (List ℕ → Outcome) → (List ℕ → Outcome) → (List ℕ → Found U)
+    → (U → List ℕ) → Operation U → Type 0
 HasFields key value updated spelled (delete k) = Ends key k
 HasFields key value updated spelled (update u) = IsFoundAs updated spelled u
 HasFields key value updated spelled (commit_floor metadata floor) = IfSome metadata (Ends value) × (floor ≤ 2 ^ 62)

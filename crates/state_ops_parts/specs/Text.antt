@@ -1,4 +1,5 @@
--- Operations as printed. Bytes are printed in lower hexadecimal digits, two a byte; a value by the bytes that encode it.
+-- Operations as printed. Bytes are printed in lower hexadecimal digits, two a byte; a value by the bytes that encode
+-- it.
 use Rattle.std.specs.Prelude.{ℕ, List, ◌++◌, codes, Option, None, Some, option_map}
 use Rattle.std.specs.Fmt.{decimal}
 use Rattle.hex.specs.Hex.{encode_lower}

@@ -70,8 +70,8 @@ last_chunk width kept =
     else (if length kept % bits == 0 then (chunk_of width (drop (length kept - bits) kept), bits)
     else (chunk_at width kept full, length kept % bits))
 
--- The last chunk of a list of bits of which so many chunks are pruned, and how many of its bits there are. Where there are
--- no others it is zeros, and has none; where the bits fill their chunks it is the last full one.
+-- The last chunk of a list of bits of which so many chunks are pruned, and how many of its bits there are. Where there
+-- are no others it is zeros, and has none; where the bits fill their chunks it is the last full one.
 abbrev pub last_chunk_of : ℕ → List Bool → ℕ → List ℕ × ℕ
 last_chunk_of width all pruned =
     let bits = 8 * width in

@@ -3,7 +3,8 @@ use Rattle.std.specs.Prelude.{◌≡◌, ◌⊎◌, ℕ, ◌*◌, ◌<◌, ◌�
 use Rattle.merkle_forest.specs.Forest.{mmr_rule}
 use Rattle.merkle_core_parts.specs.Mem.{pinned_positions}
 use Rattle.state_proofs_parts.specs.declared.bitmap_error.Error.{Error}
-use Rattle.state_proofs_parts.specs.declared.bitmap_error.Error.TheVariants.{InvalidPinnedNodes, DataCorrupted, BitOutOfBounds, Memory}
+use Rattle.state_proofs_parts.specs.declared.bitmap_error.Error.TheVariants.{InvalidPinnedNodes, DataCorrupted}
+use Rattle.state_proofs_parts.specs.declared.bitmap_error.Error.TheVariants.{BitOutOfBounds, Memory}
 
 -- why there is no proof of a bit, of so many bits: out of memory, or it is past them
 abbrev pub IsRefusalOfBit : ℕ → ℕ → Error → Type 0
@@ -11,8 +12,8 @@ IsRefusalOfBit bits bit (BitOutOfBounds asked count) = (asked ≡ bit) × (count
 IsRefusalOfBit bits bit Memory = Unit {0}
 IsRefusalOfBit bits bit other = ⊥
 
--- why there is no tree of so many leaves, all pruned, with so many digests at its peaks: out of memory, or there are too few
--- or too many digests
+-- why there is no tree of so many leaves, all pruned, with so many digests at its peaks: out of memory, or there are
+-- too few or too many digests
 abbrev pub IsRefusalOfPinned : ℕ → ℕ → Error → Type 0
 IsRefusalOfPinned leaves count InvalidPinnedNodes = count ≡ length (pinned_positions mmr_rule leaves) → ⊥
 IsRefusalOfPinned leaves count Memory = Unit {0}

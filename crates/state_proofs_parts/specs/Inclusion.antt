@@ -4,11 +4,13 @@
 --    the bit's chunk is full    that, and the digest of the last chunk
 --    the bit's chunk is last    the tree's root alone
 use Rattle.std.specs.Prelude.{◌≡◌, ◌⊎◌, ◌==◌, ◌||◌, ℕ, ◌+◌, ◌-◌, ◌*◌, ◌/◌, ◌%◌, ◌<◌, ◌++◌, Bool, nat_le, nat_lt}
-use Rattle.std.specs.Prelude.{if◌then◌else◌, List, [], ◌∷◌, length, take, slice_index_or, Option, None, Some, option_map}
+use Rattle.std.specs.Prelude.{if◌then◌else◌, List, [], ◌∷◌, length, take, slice_index_or, Option, None, Some}
+use Rattle.std.specs.Prelude.{option_map}
 use Rattle.merkle_forest.specs.declared.bagging.Bagging.{Bagging}
 use Rattle.merkle_forest.specs.Forest.{mmr_rule}
 use Rattle.merkle_forest.specs.Hashing.{Hash, leaf_string, number}
-use Rattle.merkle_forest.specs.Made.{Site, at_bitmap_root, at_last_chunk, Made, bytes, both, hashed, value, strings, Collision}
+use Rattle.merkle_forest.specs.Made.{Site, at_bitmap_root, at_last_chunk, Made, bytes, both, hashed, value, strings}
+use Rattle.merkle_forest.specs.Made.{Collision}
 use Rattle.merkle_core_parts.specs.Mem.{NodeHash, tree_digest, plain_node}
 use Rattle.merkle_core.specs.MadeTrees.{Over}
 use Rattle.merkle_core.specs.Plans.{honest_digests}
@@ -49,7 +51,8 @@ pub record BitClaim : Type 0 where
 -- the root of the tree that the chunk and these digests lead to
 abbrev pub tree_read : Over → Bagging → ℕ → BitClaim → List (List ℕ) → Option Made
 tree_read over bagging width claim digests =
-    range_root plain_names over bagging mmr_rule (claim.bits / (8 * width)) 0 (claim.bit / (8 * width)) (claim.chunk ∷ [])
+    range_root plain_names over bagging mmr_rule (claim.bits / (8 * width)) 0 (claim.bit / (8 * width)) (claim.chunk
+    ∷ [])
     digests
 
 -- the last digest, and those before it
@@ -64,11 +67,14 @@ abbrev pub partial_read : Over → Bagging → ℕ → BitClaim → Option Made
 partial_read over bagging width claim =
     let last = last_of claim.digests in
     if claim.bits / (8 * width) == claim.bit / (8 * width)
-    then (if length claim.digests == 1 then Some (partial_made (bytes last) claim.bits (last_made claim.chunk)) else None)
+    then (if length claim.digests == 1 then Some (partial_made (bytes last) claim.bits
+    (last_made claim.chunk)) else None)
     else (if length claim.digests == 0 then None
-    else option_map (λ tree. partial_made tree claim.bits (bytes last)) (tree_read over bagging width claim (front_of claim.digests)))
+    else option_map (λ tree. partial_made tree claim.bits (bytes last))
+    (tree_read over bagging width claim (front_of claim.digests)))
 
--- The root that a proof leads to. None: the bit is past the bits, peaks are inactive, or a digest is missing or left over.
+-- The root that a proof leads to. None: the bit is past the bits, peaks are inactive, or a digest is missing or left
+-- over.
 unfoldable pub bit_root : Over → Bagging → ℕ → BitClaim → Option Made
 bit_root over bagging width claim =
     if nat_le claim.bits claim.bit || nat_lt 0 claim.inactive then None
@@ -100,7 +106,8 @@ unfoldable pub honest_bit_digests : Hash → LeafHash → NodeHash → Bagging �
 honest_bit_digests hash leaf_of node_of bagging width all bit =
     let chunks = full_chunks width all in
     let chunk = bit / (8 * width) in
-    let tree = honest_digests hash (tree_digest node_of (leaf_digests leaf_of 0 chunks)) bagging mmr_rule (length chunks) 0
+    let tree = honest_digests hash (tree_digest node_of (leaf_digests leaf_of 0 chunks)) bagging
+    mmr_rule (length chunks) 0
     chunk (chunk + 1) in
     if length all % (8 * width) == 0 then tree
     else (if length all / (8 * width) == chunk then chunks_root hash leaf_of node_of bagging width all ∷ []

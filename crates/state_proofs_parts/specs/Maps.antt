@@ -12,7 +12,8 @@ use Rattle.merkle_forest.specs.declared.bagging.Bagging.{Bagging}
 use Rattle.merkle_forest.specs.Forest.{mmr_rule}
 use Rattle.merkle_forest.specs.Hashing.{Hash, number, root_of}
 use Rattle.merkle_core_parts.specs.Mem.{Nodes, NodeHash, AreNodesOf, node_count, peak_digests, list_root}
-use Rattle.state_proofs_parts.specs.Bits.{Bits, IsChunkWidth, AreBitsOf, bit_count, chunk_at, full_chunks, last_chunk, pruned_to}
+use Rattle.state_proofs_parts.specs.Bits.{Bits, IsChunkWidth, AreBitsOf, bit_count, chunk_at, full_chunks, last_chunk}
+use Rattle.state_proofs_parts.specs.Bits.{pruned_to}
 
 -- how a leaf is hashed: from its position and its element
 abbrev pub LeafHash : Type 0
@@ -44,7 +45,8 @@ bitmap_root hash leaf_of node_of bagging width all =
     sealed_root hash width (chunks_root hash leaf_of node_of bagging width all) (length all)
     (chunk_at width all (length all / (8 * width)))
 
--- a map is merkleized, and has this root; or chunks of which the tree has leaves may have changed, those at these indices
+-- a map is merkleized, and has this root; or chunks of which the tree has leaves may have changed, those at these
+-- indices
 pub data Stage : Type 0 where
   merkleized : List ℕ → Stage
   changed : List ℕ → Stage

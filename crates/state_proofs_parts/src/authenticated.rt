@@ -13,15 +13,18 @@
 //! A map is merkleized, and knows its root; or it has changed since: bits that were pushed have no leaf yet, and the
 //! leaves of chunks with a bit that was set stand as they were. To merkleize it makes up for both.
 
-ghost use Rattle.std.specs.Prelude.{◌≡◌, ◌<◌, ◌≤◌, ◌+◌, ◌-◌, ◌*◌, ◌/◌, ◌%◌, ◌^◌, ◌++◌, [], ◌∷◌, ◌↔◌, false, Bool, ℕ, List};
-ghost use Rattle.std.specs.Prelude.{length, take, slice_set, slice_index_or, option_map, map, Some, IsTrue, OnOk, OnErr, IfOk, IfErr};
+ghost use Rattle.std.specs.Prelude.{◌≡◌, ◌<◌, ◌≤◌, ◌+◌, ◌-◌, ◌*◌, ◌/◌, ◌%◌, ◌^◌, ◌++◌, [], ◌∷◌, ◌↔◌, false, Bool, ℕ};
+ghost use Rattle.std.specs.Prelude.{List};
+ghost use Rattle.std.specs.Prelude.{length, take, slice_set, slice_index_or, option_map, map, Some, IsTrue, OnOk};
+ghost use Rattle.std.specs.Prelude.{OnErr, IfOk, IfErr};
 ghost use Rattle.merkle_forest.specs.Forest.{mmr_rule};
 ghost use Rattle.merkle_forest.specs.Made.{value};
 ghost use Rattle.merkle_core_parts.specs.Mem.{NodeHash, node_at, node_count, pinned_positions, pruned_before};
 ghost use Rattle.merkle_core.specs.MadeTrees.{Over};
 ghost use Rattle.merkle_core.specs.Reads.{HashesAs};
 ghost use Rattle.state_proofs_parts.specs.Bits.{IsChunkWidth, bits_in, chunk_at, bit_count, last_chunk};
-ghost use Rattle.state_proofs_parts.specs.Maps.{LeafHash, IsMapOf, merkleized, changed, map_root, bitmap_root, bits_before};
+ghost use Rattle.state_proofs_parts.specs.Maps.{LeafHash, IsMapOf, merkleized, changed, map_root, bitmap_root};
+ghost use Rattle.state_proofs_parts.specs.Maps.{bits_before};
 ghost use Rattle.state_proofs_parts.specs.MapsCode.{remembered};
 ghost use Rattle.state_proofs_parts.specs.Inclusion.{bit_root, honest_bit_digests};
 ghost use Rattle.state_proofs_parts.specs.Errors.{CanBePruned, IsRefusalOfBit, IsRefusalOfPruned};
@@ -504,8 +507,8 @@ impl<D: Digest, const N: usize> BitMap<D, N, Unmerkleized> {
         Ok(())
     }
 
-    /// The map with a leaf of each full chunk as it is now, and its root. It fails only when out of memory: M23. The map
-    /// is then given up.
+    /// The map with a leaf of each full chunk as it is now, and its root. It fails only when out of memory: M23. The
+    /// map is then given up.
     /// In the Rust: `bitmap::authenticated::UnmerkleizedBitMap::merkleize`.
     pub fn merkleize<H: Hasher<Family, Digest = D>>(
         self,

@@ -93,8 +93,8 @@ pub fn roots_are_values_of_what_is_made()
         → value hash (made_bitmap bagging width all) ≡ plain_root hash bagging width all }
 {}
 
-/// Where a proof of a bit leads to the root of a list of bits, there are as many bits as it says, the bit is one of them,
-/// and the chunk is that of the list, or the strings hashed for the list and those rebuilt from the proof have a
+/// Where a proof of a bit leads to the root of a list of bits, there are as many bits as it says, the bit is one of
+/// them, and the chunk is that of the list, or the strings hashed for the list and those rebuilt from the proof have a
 /// collision: at one site two strings differ that have one digest. So it is with digests of 32 bytes.
 pub fn shown_bits_are_true_or_strings_collide()
     ensures { (hash : Hash) (bagging : Bagging) (width : ℕ) (all : List Bool) (claim : BitClaim)

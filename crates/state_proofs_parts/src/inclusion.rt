@@ -1,6 +1,7 @@
 //! Proofs of a bit: their digests, and the root that one leads to.
 
-ghost use Rattle.std.specs.Prelude.{◌≡◌, ◌<◌, ◌≤◌, ◌+◌, ◌-◌, ◌*◌, ◌/◌, ◌%◌, ◌^◌, ◌++◌, ◌==◌, [], ◌∷◌, Bool, ℕ, List, Some};
+ghost use Rattle.std.specs.Prelude.{◌≡◌, ◌<◌, ◌≤◌, ◌+◌, ◌-◌, ◌*◌, ◌/◌, ◌%◌, ◌^◌, ◌++◌, ◌==◌, [], ◌∷◌, Bool, ℕ, List};
+ghost use Rattle.std.specs.Prelude.{Some};
 ghost use Rattle.std.specs.Prelude.{IfOk, IfErr, length, map, option_map, if◌then◌else◌};
 ghost use Rattle.merkle_forest.specs.Forest.{mmr_rule};
 ghost use Rattle.merkle_forest.specs.Made.{value};
@@ -35,7 +36,8 @@ fn chunk_digests<D: Digest, H: Hasher<Family, Digest = D>>(
     requires there { chunk < tree.now.leaves }
     ensures of_list { (leaves : List (List ℕ)) → AreNodesOf (H.node_of hasher.now) mmr_rule leaves tree.now
         → IfOk result (λ found. map D.encoding found.items ≡ honest_digests H.hash_of
-        (tree_digest (H.node_of hasher.now) leaves) (H.bagging_of hasher.now) mmr_rule (length leaves) 0 chunk (chunk + 1)) }
+        (tree_digest (H.node_of hasher.now) leaves) (H.bagging_of hasher.now) mmr_rule (length leaves) 0 chunk (chunk
+        + 1)) }
     ensures refused { IfErr result (λ e. e ≡ Error.Memory) }
 {
     // From its boundary on the tree misses no node, so none is missing for a chunk from there on.

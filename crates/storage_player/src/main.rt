@@ -1,4 +1,5 @@
-//! Plays cases of the fault storage: its formats, a store in memory, and one that fails over it. README.md has its words.
+//! Plays cases of the fault storage: its formats, a store in memory, and one that fails over it. README.md has its
+//! words.
 #![tactic(auto)]
 
 mod calls;

@@ -49,8 +49,8 @@ fn answer<S: Storage<Blob = B>, B: Drop>(
     }
 }
 
-/// Opens a name, answers a call that is made while it is open, and closes it. The refusal of the first opening, where it is
-/// refused.
+/// Opens a name, answers a call that is made while it is open, and closes it. The refusal of the first opening, where
+/// it is refused.
 pub fn while_open<S: Storage<Blob = B>, B: Drop>(
     alloc: Global,
     storage: &mut S,

@@ -1,4 +1,5 @@
-//! A store in memory that never fails, and one that fails over it, each with the blobs that were opened, from number 0 on.
+//! A store in memory that never fails, and one that fails over it, each with the blobs that were opened, from number 0
+//! on.
 
 use crate::calls::{blob_of, finish, of_blob, of_store, open, partition_of};
 use crate::formats::{listed, versions};

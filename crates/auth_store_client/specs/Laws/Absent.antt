@@ -52,7 +52,8 @@ pub behind : (front : List Operation) (op : Operation) → slice_get (front ++ o
 behind [] op = refl
 behind (x ∷ front) op = behind front op
 
-behind_active : (front : List Operation) (m : Option (List ℕ)) (f : ℕ) → IsActiveAt (front ++ commit_floor m f ∷ []) (length front)
+behind_active : (front : List Operation) (m : Option (List ℕ)) (f : ℕ)
+    → IsActiveAt (front ++ commit_floor m f ∷ []) (length front)
 behind_active [] m f = refl
 behind_active (x ∷ front) m f = behind_active front m f
 
@@ -78,7 +79,8 @@ some_operation history =
 
 -- Of an empty state the last commit is active, and its floor is its own place.
 record IsLast (history : History) : Type 0 where
-  at : slice_get (log_of history) (last_location history) ≡ Some (commit_floor (last_metadata history) (last_location history))
+  at : slice_get (log_of history) (last_location history)
+      ≡ Some (commit_floor (last_metadata history) (last_location history))
   bit : slice_get (activity_bits (log_of history)) (last_location history) ≡ Some true
 
 last_of_empty : (history : History) → AreStates history → latest_map history ≡ [] → IsLast history
@@ -112,7 +114,8 @@ last_of_empty history states none =
 
 -- what holds of each value's encoding holds of that of an optional one
 pub some_field : {V : Type 0} (encoding : V → List ℕ) (is_value : V → Type 0) (IsValue : List ℕ → Type 0)
-    → ((v : V) → is_value v → IsValue (encoding v)) → (m : Option V) → IfSome m is_value → IfSome (option_map encoding m) IsValue
+    → ((v : V) → is_value v → IsValue (encoding v)) → (m : Option V) → IfSome m is_value
+    → IfSome (option_map encoding m) IsValue
 some_field encoding is_value IsValue field None value = tt
 some_field encoding is_value IsValue field (Some v) value = field v value
 
@@ -152,7 +155,8 @@ module _ (terms : Terms) (setting : Setting) (history : History) (asked : List �
       let within : place < length (log_of history) = slice_get_within (log_of history) place commit at.at in
       let count : length state.operations ≡ length (log_of history) = length-map (log_of history) encoding in
       let shown = shows place (omega (arith, within, count)) at.bit in
-      let same : place ≡ shown.proof.location = one_location terms.format.pending (honest_parts setting state place) shown.proof
+      let same : place ≡ shown.proof.location = one_location terms.format.pending
+      (honest_parts setting state place) shown.proof
       (omega (arith, within, few)) (omega (arith, shown.fits.location)) shown.is in
       record {
         proof = by_commit shown.proof (last_metadata history);
@@ -167,12 +171,15 @@ module _ (terms : Terms) (setting : Setting) (history : History) (asked : List �
         };
       }
 
-  by_key : AreShown → AreStates history → (entry : List ℕ × List ℕ) (entries : Map) → latest_map history ≡ entry ∷ entries
+  by_key : AreShown → AreStates history → (entry : List ℕ × List ℕ) (entries : Map)
+      → latest_map history ≡ entry ∷ entries
       → value_at (latest_map history) asked ≡ None → (value : List ℕ)
       → value_at (latest_map history) (prev_key (latest_map history) asked) ≡ Some value
-      → NamesFields terms.IsKey terms.IsValue (absence_in setting terms.key_size terms.value_size history asked (entry ∷ entries))
+      → NamesFields terms.IsKey terms.IsValue (absence_in setting terms.key_size terms.value_size history asked (entry
+      ∷ entries))
       → ShowsAbsence terms root asked
-      (exclusion_encoding terms.format.pending (absence_in setting terms.key_size terms.value_size history asked (entry ∷ entries)))
+      (exclusion_encoding terms.format.pending (absence_in setting terms.key_size terms.value_size history asked (entry
+      ∷ entries)))
   by_key shows states entry entries some absent value there fields =
       let before : List ℕ = prev_key (latest_map history) asked in
       let next : List ℕ = next_key (latest_map history) before in
@@ -197,14 +204,18 @@ module _ (terms : Terms) (setting : Setting) (history : History) (asked : List �
           verifies = subst (λ v. Verifies terms.format.rule terms.format.hash root shown.proof
               (encoding (update (ordered before v next)))) is_said
               (subst (Verifies terms.format.rule terms.format.hash root shown.proof)
-              (encoding_at encoding (log_of history) place (update (ordered before value next)) stands.update_at) shown.verifies);
+              (encoding_at encoding (log_of history) place
+              (update (ordered before value next)) stands.update_at) shown.verifies);
         };
       }
 
   -- where the latest state lacks the key, the honest bytes show it
-  pub shows_absence : AreShown → length (log_of history) ≤ 2 ^ 62 → AreStates history → value_at (latest_map history) asked ≡ None
-      → NamesFields terms.IsKey terms.IsValue (honest_absence_parts setting terms.key_size terms.value_size history asked)
-      → ShowsAbsence terms root asked (honest_absence terms.format.pending setting terms.key_size terms.value_size history asked)
+  pub shows_absence : AreShown → length (log_of history) ≤ 2 ^ 62 → AreStates history
+      → value_at (latest_map history) asked ≡ None
+      → NamesFields terms.IsKey terms.IsValue
+      (honest_absence_parts setting terms.key_size terms.value_size history asked)
+      → ShowsAbsence terms root asked
+      (honest_absence terms.format.pending setting terms.key_size terms.value_size history asked)
   shows_absence shows few states absent fields = of (latest_map history) refl fields
     where
       of : (m : Map) → latest_map history ≡ m
@@ -240,29 +251,35 @@ module _ (setting : Setting) (key_size value_size : ℕ) (log : List Operation) 
     ap (active_update before) whole ∙ (active_update-log_of before past states
         ∙ ap (option_map {U = List ℕ × List ℕ} (λ v. (v, next_key (latest_map past) before))) there),
     of (latest_map past) refl
-        ∙ (ap (λ b. by_update (honest_parts setting (state_of_history key_size value_size past) (active_location b (log_of past))) b
+        ∙ (ap (λ b. by_update (honest_parts setting (state_of_history key_size value_size past)
+        (active_location b (log_of past))) b
         (unwrap_or (value_at (latest_map past) b) []) (next_key (latest_map past) b)) (sym is)
-        ∙ (ap (λ v. by_update (honest_parts setting (state_of_history key_size value_size past) (active_location before (log_of past))) before
+        ∙ (ap (λ v. by_update (honest_parts setting (state_of_history key_size value_size past)
+        (active_location before (log_of past))) before
         (unwrap_or v []) (next_key (latest_map past) before)) there
-        ∙ ap (λ l. by_update (honest_parts setting (state_of_log key_size value_size l) (active_location before l)) before value
+        ∙ ap (λ l. by_update (honest_parts setting (state_of_log key_size value_size l)
+        (active_location before l)) before value
         (next_key (latest_map past) before)) (sym whole))),
   )
     where
       of : (m : Map) → latest_map past ≡ m → absence_in setting key_size value_size past asked m
           ≡ by_update (honest_parts setting (state_of_history key_size value_size past)
           (active_location (prev_key (latest_map past) asked) (log_of past))) (prev_key (latest_map past) asked)
-          (unwrap_or (value_at (latest_map past) (prev_key (latest_map past) asked)) []) (next_key (latest_map past) (prev_key (latest_map past) asked))
+          (unwrap_or (value_at (latest_map past) (prev_key (latest_map past) asked)) [])
+          (next_key (latest_map past) (prev_key (latest_map past) asked))
       of [] none = absurd (let gone : None ≡ Some value = sym (ap (λ (m : Map). value_at m before) none) ∙ there in cc)
       of (e ∷ m) some = refl
 
   -- the last commit
   pub named_last : (asked : List ℕ) → latest_map past ≡ []
       → (metadata_in (slice_get log (length log - 1)) ≡ Some (last_metadata past))
-      × (honest_absence_parts setting key_size value_size past asked ≡ by_commit (parts_at (length log - 1)) (last_metadata past))
+      × (honest_absence_parts setting key_size value_size past asked
+      ≡ by_commit (parts_at (length log - 1)) (last_metadata past))
   named_last asked none = (
     ap (λ l. metadata_in (slice_get l (length l - 1))) whole ∙ last_is_commit past,
     ap (absence_in setting key_size value_size past asked) none
-        ∙ ap (λ l. by_commit (honest_parts setting (state_of_log key_size value_size l) (length l - 1)) (last_metadata past)) (sym whole),
+        ∙ ap (λ l. by_commit (honest_parts setting (state_of_log key_size value_size l) (length l - 1))
+        (last_metadata past)) (sym whole),
   )
 
   pub has_some : 0 < length log

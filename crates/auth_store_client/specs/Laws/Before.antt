@@ -2,7 +2,8 @@
 --
 -- A state with the keys c, f and m, and where a key that it lacks may stand:
 --
---      a   (c)  d   (f)  g   (m)  z        d is in the span of c, g in that of f; z and a in that of m, whose next key is c
+--      a   (c)  d   (f)  g   (m)  z        d is in the span of c, g in that of f
+--                                          z and a in that of m, whose next key is c
 use Rattle.std.proofs.Common.{◌≡◌, ℕ, Bool, true, false, T, cond, not, ◌&&◌, ◌||◌, List, [], ◌∷◌, ◌++◌, None, Some, inl}
 use Rattle.std.proofs.Common.{inr, ◌⊎◌, refl, ap, sym, ◌∙◌, subst, ⊎_elim, append_assoc, append-nil}
 use Rattle.std.specs.Prelude.{is_some}
@@ -58,7 +59,8 @@ not_below k l under = ap is_lt (nat_list_cmp_total.antisymm l k) ∙ turned (key
 below_above : (q k : List ℕ) (s : Map) → IsBelow q k → T (below_all key_order k s) → T (below_all key_order q s)
 below_above q k [] under all = tt
 below_above q k (e ∷ s) under all =
-    both _ _ (transitive q k e.0 under (first _ _ all)) (below_above q k s under (second (is_lt (key_order k e.0)) _ all))
+    both _ _ (transitive q k e.0 under (first _ _ all))
+    (below_above q k s under (second (is_lt (key_order k e.0)) _ all))
 
 -- a state in two parts: the keys below a key that it lacks, and those above it
 record Split (s : Map) (q : List ℕ) : Type 0 where
@@ -82,7 +84,8 @@ split (e ∷ s) q sorted lacks = of (λ none. split s q (IsState-tail e s sorted
         let gone : Some e.1 ≡ None = sym (ap (λ o. cond (is_eq o) (Some e.1) (value_at s q)) is) ∙ lacks in absurd cc
     of later Greater is =
         let rest = later (sym (ap (λ o. cond (is_eq o) (Some e.1) (value_at s q)) is) ∙ lacks) in
-        let down : IsBelow e.0 q = subst (λ x. T (is_lt x)) (sym (nat_list_cmp_total.antisymm e.0 q ∙ ap ordering_reverse is)) tt in
+        let down : IsBelow e.0 q = subst (λ x. T (is_lt x)) (sym (nat_list_cmp_total.antisymm e.0 q
+        ∙ ap ordering_reverse is)) tt in
         record {
           low = e ∷ rest.low;
           high = rest.high;
@@ -127,13 +130,15 @@ last_of : (s done : Map) (e : List ℕ × List ℕ) → last_key (s ++ (done ++ 
 last_of s done e = ap last_key (sym (append_assoc s done (e ∷ []))) ∙ last_append (s ++ done) e []
 
 -- a span up to a key that is above its own
-straight : (key next asked : List ℕ) → IsBelow key next → IsBelow key asked → IsBelow asked next → is_in_span key next asked ≡ true
+straight : (key next asked : List ℕ) → IsBelow key next → IsBelow key asked → IsBelow asked next
+    → is_in_span key next asked ≡ true
 straight key next asked up from before =
     ap (λ o. span_holds o (is_below asked key) (is_below asked next)) (less _ up)
     ∙ (ap (λ b. not b && is_below asked next) (not_below key asked from) ∙ is_true _ before)
 
 -- one that goes round the end
-round : (key next asked : List ℕ) → (IsBelow key next → ⊥) → IsBelow key asked ⊎ IsBelow asked next → is_in_span key next asked ≡ true
+round : (key next asked : List ℕ) → (IsBelow key next → ⊥) → IsBelow key asked ⊎ IsBelow asked next
+    → is_in_span key next asked ≡ true
 round key next asked not_up at = of (key_order key next) refl
   where
     of : (o : Ordering) → key_order key next ≡ o → is_in_span key next asked ≡ true
@@ -169,11 +174,13 @@ record IsBefore (s : Map) (q : List ℕ) : Type 0 where
   key : prev_key s q ≡ entry.0
   span : is_in_span entry.0 (next_key s entry.0) q ≡ true
 
-find : (s : Map) (q : List ℕ) (e : List ℕ × List ℕ) (more : Map) → s ≡ e ∷ more → IsState s → value_at s q ≡ None → IsBefore s q
+find : (s : Map) (q : List ℕ) (e : List ℕ × List ℕ) (more : Map) → s ≡ e ∷ more → IsState s
+    → value_at s q ≡ None → IsBefore s q
 find s q e more some sorted lacks =
     let parts = split s q sorted lacks in of parts.low parts.high parts.whole parts.is_low parts.under parts.over
   where
-    of : (low high : Map) → low ++ high ≡ s → below s q ≡ low → AllByRecursion (λ (x : List ℕ × List ℕ). IsBelow x.0 q) low
+    of : (low high : Map) → low ++ high ≡ s → below s q ≡ low
+        → AllByRecursion (λ (x : List ℕ × List ℕ). IsBelow x.0 q) low
         → T (below_all key_order q high) → IsBefore s q
     of [] high whole is_low under over =
         let last = ends e more in
@@ -221,21 +228,25 @@ find s q e more some sorted lacks =
               whole = at;
               key = prev;
               span = ap (λ n. is_in_span last.entry.0 n q) (next_behind s last.done last.entry f high at sorted)
-                  ∙ straight last.entry.0 f.0 q (behind last.done last.entry f high (subst IsState (sym at) sorted)) down (first _ _ over);
+                  ∙ straight last.entry.0 f.0 q
+                  (behind last.done last.entry f high (subst IsState (sym at) sorted)) down (first _ _ over);
             }
 
-pub in_span_before : (s : Map) (q : List ℕ) (e : List ℕ × List ℕ) (more : Map) → s ≡ e ∷ more → IsState s → value_at s q ≡ None
+pub in_span_before : (s : Map) (q : List ℕ) (e : List ℕ × List ℕ) (more : Map) → s ≡ e ∷ more
+    → IsState s → value_at s q ≡ None
     → is_in_span (prev_key s q) (next_key s (prev_key s q)) q ≡ true
 in_span_before s q e more some sorted lacks =
     let it = find s q e more some sorted lacks in
     subst (λ k. is_in_span k (next_key s k) q ≡ true) (sym it.key) it.span
 
 -- the key before it is there
-pub before_is_there : (s : Map) (q : List ℕ) (e : List ℕ × List ℕ) (more : Map) → s ≡ e ∷ more → IsState s → value_at s q ≡ None
+pub before_is_there : (s : Map) (q : List ℕ) (e : List ℕ × List ℕ) (more : Map) → s ≡ e ∷ more
+    → IsState s → value_at s q ≡ None
     → (v : List ℕ) × (value_at s (prev_key s q) ≡ Some v)
 before_is_there s q e more some sorted lacks =
     let it = find s q e more some sorted lacks in (
       it.entry.1,
       ap (value_at s) it.key
-          ∙ subst (λ (m : Map). IsState m → value_at m it.entry.0 ≡ Some it.entry.1) it.whole (there it.done it.entry it.rest) sorted,
+          ∙ subst (λ (m : Map). IsState m
+          → value_at m it.entry.0 ≡ Some it.entry.1) it.whole (there it.done it.entry it.rest) sorted,
     )

@@ -38,7 +38,8 @@ module _ (IsKey IsValue : List ℕ → Type 0) where
       ]
 
   -- the first key of some entries, behind which there is one
-  first_own : (s : Map) (e : List ℕ × List ℕ) (rest : Map) → HasEntries IsKey IsValue s → IsKey e.0 → IsKey (first_key (s ++ e ∷ rest))
+  first_own : (s : Map) (e : List ℕ × List ℕ) (rest : Map) → HasEntries IsKey IsValue s → IsKey e.0
+      → IsKey (first_key (s ++ e ∷ rest))
   first_own [] e rest all one = one
   first_own (x ∷ s) e rest all one = all.0.0
 
@@ -50,14 +51,16 @@ module _ (IsKey IsValue : List ℕ → Type 0) where
         | false ↦ above_own s q all.1
       ]
 
-  next_own : (e : List ℕ × List ℕ) (s : Map) (q : List ℕ) → HasEntries IsKey IsValue (e ∷ s) → IsKey (next_key (e ∷ s) q)
+  next_own : (e : List ℕ × List ℕ) (s : Map) (q : List ℕ) → HasEntries IsKey IsValue (e ∷ s)
+      → IsKey (next_key (e ∷ s) q)
   next_own e s q all = first_own (above (e ∷ s) q) e s (above_own (e ∷ s) q all) all.0.0
 
   own_updates : (entries old new : Map) → HasEntries IsKey IsValue entries → ((q : List ℕ) → IsKey (next_key new q))
       → HaveOwn (updates entries old new)
   own_updates [] old new all next = tt
   own_updates (e ∷ entries) old new all next =
-      elim (is_kept old new e.0 e.1) as (λ b. HaveOwn (cond b [] (update (ordered e.0 e.1 (next_key new e.0)) ∷ []) ++ updates entries old new)) [
+      elim (is_kept old new e.0 e.1) as (λ b. HaveOwn (cond b [] (update (ordered e.0 e.1 (next_key new e.0)) ∷ [])
+      ++ updates entries old new)) [
         | true ↦ own_updates entries old new all.1 next
         | false ↦ ((all.0.0, (all.0.1, next e.0)), own_updates entries old new all.1 next)
       ]
@@ -76,13 +79,16 @@ module _ (IsKey IsValue : List ℕ → Type 0) where
   own_log (c ∷ h) all few =
       let ops : List Operation = batch_operations (latest_map h) c.map in
       let floor : ℕ = inactivity_floor (log_of h ++ ops) in
-      let whole : length (log_of h ++ (ops ++ commit_floor c.metadata floor ∷ [])) ≡ length (log_of h) + length (ops ++ commit_floor c.metadata floor ∷ []) =
+      let whole : length (log_of h ++ (ops ++ commit_floor c.metadata floor ∷ [])) ≡ length (log_of h)
+      + length (ops ++ commit_floor c.metadata floor ∷ []) =
       length-append (log_of h) (ops ++ commit_floor c.metadata floor ∷ []) in
-      let more : length (ops ++ commit_floor c.metadata floor ∷ []) ≡ length ops + 1 = length-append ops (commit_floor c.metadata floor ∷ []) in
+      let more : length (ops ++ commit_floor c.metadata floor ∷ []) ≡ length ops
+      + 1 = length-append ops (commit_floor c.metadata floor ∷ []) in
       let both : length (log_of h ++ ops) ≡ length (log_of h) + length ops = length-append (log_of h) ops in
       own_append (log_of h) (ops ++ commit_floor c.metadata floor ∷ []) (own_log h all.1 (omega (arith, few, whole)))
       (own_append ops (commit_floor c.metadata floor ∷ [])
-      (own_append (deletes (latest_map h) c.map) (updates c.map (latest_map h) c.map) (own_deletes (latest_map h) c.map (latest_own h all.1))
+      (own_append (deletes (latest_map h) c.map) (updates c.map (latest_map h) c.map)
+      (own_deletes (latest_map h) c.map (latest_own h all.1))
       (own_changes (latest_map h) c.map all.0.0))
       ((all.0.1, omega (arith, floor_within (log_of h ++ ops), few, whole, more, both)), tt))
 
@@ -112,15 +118,18 @@ module _ (IsKey IsValue : List ℕ → Type 0) where
       by false here is later = later is
 
   -- an entry of the new state is one of the old state, or an update says it
-  own_entries : (entries old new : Map) → HasEntries IsKey IsValue old → NamesOwn (updates entries old new) → HasEntries IsKey IsValue entries
+  own_entries : (entries old new : Map) → HasEntries IsKey IsValue old → NamesOwn (updates entries old new)
+      → HasEntries IsKey IsValue entries
   own_entries [] old new was all = tt
   own_entries (e ∷ entries) old new was all = by (is_kept old new e.0 e.1) refl all (own_entries entries old new was)
     where
       by : (kept : Bool) → is_kept old new e.0 e.1 ≡ kept
           → NamesOwn (cond kept [] (update (ordered e.0 e.1 (next_key new e.0)) ∷ []) ++ updates entries old new)
-          → (NamesOwn (updates entries old new) → HasEntries IsKey IsValue entries) → HasEntries IsKey IsValue (e ∷ entries)
+          → (NamesOwn (updates entries old new) → HasEntries IsKey IsValue entries)
+          → HasEntries IsKey IsValue (e ∷ entries)
       by true kept is later = (
-        found_own old e.0 e.1 was (kept_value (value_at old e.0) e.1 (bytes_eq (next_key old e.0) (next_key new e.0)) kept),
+        found_own old e.0 e.1 was
+            (kept_value (value_at old e.0) e.1 (bytes_eq (next_key old e.0) (next_key new e.0)) kept),
         later is,
       )
       by false kept is later = ((is.0.0, is.0.1.0), later is.1)

@@ -25,7 +25,8 @@ module _ (key_size value_size : ℕ) where
   AreSized log = AllByRecursion IsSized log
 
   abbrev AreEntries : Map → Type 0
-  AreEntries entries = AllByRecursion (λ (entry : List ℕ × List ℕ). (length entry.0 ≡ key_size) × (length entry.1 ≡ value_size)) entries
+  AreEntries entries =
+      AllByRecursion (λ (entry : List ℕ × List ℕ). (length entry.0 ≡ key_size) × (length entry.1 ≡ value_size)) entries
 
   sized_append : (xs ys : List Operation) → AreSized xs → AreSized ys → AreSized (xs ++ ys)
   sized_append [] ys x y = y
@@ -42,7 +43,8 @@ module _ (key_size value_size : ℕ) where
   sized_updates : (entries old new : Map) → AreEntries entries → AreSized (updates entries old new)
   sized_updates [] old new all = tt
   sized_updates (e ∷ entries) old new all =
-      elim (is_kept old new e.0 e.1) as (λ b. AreSized (cond b [] (update (ordered e.0 e.1 (next_key new e.0)) ∷ []) ++ updates entries old new)) [
+      elim (is_kept old new e.0 e.1) as (λ b. AreSized (cond b [] (update (ordered e.0 e.1 (next_key new e.0)) ∷ [])
+      ++ updates entries old new)) [
         | true ↦ sized_updates entries old new all.1
         | false ↦ (all.0, sized_updates entries old new all.1)
       ]
@@ -51,9 +53,11 @@ module _ (key_size value_size : ℕ) where
   sized_log [] all = (tt, tt)
   sized_log (c ∷ h) all =
       let ops : List Operation = batch_operations (latest_map h) c.map in
-      sized_append (log_of h) (ops ++ commit_floor c.metadata (inactivity_floor (log_of h ++ ops)) ∷ []) (sized_log h all.1)
+      sized_append (log_of h) (ops ++ commit_floor c.metadata (inactivity_floor (log_of h ++ ops))
+      ∷ []) (sized_log h all.1)
       (sized_append ops (commit_floor c.metadata (inactivity_floor (log_of h ++ ops)) ∷ [])
-      (sized_append (deletes (latest_map h) c.map) (updates c.map (latest_map h) c.map) (sized_deletes (latest_map h) c.map) (sized_updates c.map
+      (sized_append (deletes (latest_map h) c.map) (updates c.map (latest_map h) c.map)
+      (sized_deletes (latest_map h) c.map) (sized_updates c.map
       (latest_map h) c.map all.0))
       (tt, tt))
 
@@ -67,10 +71,16 @@ module _ (key_size value_size : ℕ) where
     is : encoding operation ≡ bytes
     sized : IsSized operation
 
-  encoded_at : (log : List Operation) (location : ℕ) (bytes : List ℕ) → AreSized log → slice_get (map encoding log) location ≡ Some bytes
+  encoded_at : (log : List Operation) (location : ℕ) (bytes : List ℕ) → AreSized log
+      → slice_get (map encoding log) location ≡ Some bytes
       → Encoded log location bytes
   encoded_at [] location bytes all is = absurd cc
-  encoded_at (op ∷ log) zero bytes all is = record { operation = op; at = refl; is = (let e : Some (encoding op) ≡ Some bytes = is in cc); sized = all.0 }
+  encoded_at (op ∷ log) zero bytes all is = record {
+    operation = op;
+    at = refl;
+    is = (let e : Some (encoding op) ≡ Some bytes = is in cc);
+    sized = all.0;
+  }
   encoded_at (op ∷ log) (suc location) bytes all is =
       let rest = encoded_at log location bytes all.1 is in
       record { operation = rest.operation; at = rest.at; is = rest.is; sized = rest.sized }
@@ -86,25 +96,32 @@ module _ (key_size value_size : ℕ) where
     next : List ℕ
     is : operation ≡ update (ordered key value next)
 
-  update_is : (key value next : List ℕ) → length key ≡ key_size → length value ≡ value_size → (operation : Operation) → IsSized operation
+  update_is : (key value next : List ℕ) → length key ≡ key_size → length value ≡ value_size
+      → (operation : Operation) → IsSized operation
       → encoding operation ≡ encoding (update (ordered key value next)) → IsUpdateOf key value operation
-  update_is key value next wide long (delete k) sized same = absurd (let tag = head_same 0xD1 0xD2 _ _ same in omega (arith, tag))
-  update_is key value next wide long (commit_floor m f) sized same = absurd (let tag = head_same 0xD3 0xD2 _ _ same in omega (arith, tag))
+  update_is key value next wide long (delete k) sized same =
+      absurd (let tag = head_same 0xD1 0xD2 _ _ same in omega (arith, tag))
+  update_is key value next wide long (commit_floor m f) sized same =
+      absurd (let tag = head_same 0xD3 0xD2 _ _ same in omega (arith, tag))
   update_is key value next wide long (update (ordered k v n)) sized same =
-      let zeros : Operation → List ℕ = λ op. replicate (fixed_size key_size value_size - length (unpadded value_size op)) 0 in
+      let zeros : Operation
+      → List ℕ = λ op. replicate (fixed_size key_size value_size - length (unpadded value_size op)) 0 in
       let one : List ℕ = zeros (update (ordered k v n)) in
       let other : List ℕ = zeros (update (ordered key value next)) in
-      let bytes : k ++ (v ++ (n ++ one)) ≡ key ++ (value ++ (next ++ other)) = sym (regroup k v n one) ∙ ap (drop 1) same ∙ regroup key value next other in
+      let bytes : k ++ (v ++ (n ++ one)) ≡ key ++ (value ++ (next ++ other)) = sym (regroup k v n one)
+      ∙ ap (drop 1) same ∙ regroup key value next other in
       let first = append_parts k (v ++ (n ++ one)) key (value ++ (next ++ other)) (sized.0 ∙ sym wide) bytes in
       let second = append_parts v (n ++ one) value (next ++ other) (sized.1 ∙ sym long) first.1 in
       record { next = n; is = ap (λ x. update (ordered x v n)) first.0 ∙ ap (λ x. update (ordered key x n)) second.0 }
 
   -- where a state has an active operation with the encoding of an update, the update says what the key has
-  pub has_value_there : (history : History) (location : ℕ) (key value next : List ℕ) → AreStates history → HasSizes key_size value_size history
+  pub has_value_there : (history : History) (location : ℕ) (key value next : List ℕ) → AreStates history
+      → HasSizes key_size value_size history
       → length key ≡ key_size → length value ≡ value_size
       → HasActive (state_of_history key_size value_size history) location (encoding (update (ordered key value next)))
       → value_at (latest_map history) key ≡ Some value
   has_value_there history location key value next states sizes wide long there =
-      let it = encoded_at (log_of history) location (encoding (update (ordered key value next))) (sized_log history sizes) there.stands in
+      let it = encoded_at (log_of history) location (encoding (update (ordered key value next)))
+      (sized_log history sizes) there.stands in
       let own = update_is key value next wide long it.operation it.sized it.is in
       latest-active key value own.next history location states (it.at ∙ ap (λ op. Some op) own.is) there.active

@@ -102,7 +102,8 @@ compared k l = of (key_order k l) refl
     of : (o : Ordering) → key_order k l ≡ o → Compared k l
     of Less e = is_less e
     of Equal e = is_same (exact k l (ap is_eq e))
-    of Greater e = is_more (subst (λ x. T (is_lt x)) (sym (nat_list_cmp_total.antisymm l k)) (turned (key_order k l) e)) e
+    of Greater e =
+        is_more (subst (λ x. T (is_lt x)) (sym (nat_list_cmp_total.antisymm l k)) (turned (key_order k l) e)) e
 
 below_of : (k l : List ℕ) → key_order k l ≡ Less → IsBelow k l
 below_of k l is = subst (λ o. T (is_lt o)) (sym is) tt
@@ -119,25 +120,29 @@ not_itself : (k : List ℕ) → IsBelow k k → ⊥
 not_itself k one = subst (λ o. T (is_lt o)) (tied_itself nat_list_cmp_total k) one
 
 -- A key that a state has is not in the span of another one that it has.
-module _ (state : Map) (key asked value : List ℕ) (sorted : IsState state) (there : value_at state asked ≡ Some value) where
+module _ (state : Map) (key asked value : List ℕ) (sorted : IsState state) (there : value_at state asked
+    ≡ Some value) where
   -- where none is above the key, the next key is the first of all, and no key stands before it
   before_first : IsBelow asked (first_key state) → ⊥
   before_first under = of state refl
     where
       of : (s : Map) → s ≡ state → ⊥
       of [] is = let gone : None ≡ Some value = ap (λ s. value_at s asked) is ∙ there in cc
-      of (e ∷ s) is = none_below_first e s asked value (subst IsState (sym is) sorted) (ap (λ s. value_at s asked) is ∙ there)
+      of (e ∷ s) is =
+          none_below_first e s asked value (subst IsState (sym is) sorted) (ap (λ s. value_at s asked) is ∙ there)
           (subst (λ s. IsBelow asked (first_key s)) (sym is) under)
 
   -- a key above this one stands at the first one above it, or behind it
-  behind_next : IsBelow key asked → (e : List ℕ × List ℕ) (rest : Map) → above state key ≡ e ∷ rest → IsBelow asked e.0 → ⊥
+  behind_next : IsBelow key asked → (e : List ℕ × List ℕ) (rest : Map)
+      → above state key ≡ e ∷ rest → IsBelow asked e.0 → ⊥
   behind_next up e rest is under =
       none_below_first e rest asked value (subst IsState is (state_above state key sorted))
       (ap (λ s. value_at s asked) (sym is) ∙ (found_above state key asked up ∙ there)) under
 
   none_above : IsBelow key asked → above state key ≡ [] → ⊥
   none_above up is =
-      let gone : None ≡ Some value = ap (λ s. value_at s asked) (sym is) ∙ (found_above state key asked up ∙ there) in cc
+      let gone : None ≡ Some value = ap (λ s. value_at s asked) (sym is) ∙ (found_above state key asked up ∙ there) in
+      cc
 
   false_is : (b : Bool) → (T b → ⊥) → b ≡ false
   false_is true not_so = absurd (not_so tt)
@@ -152,14 +157,16 @@ module _ (state : Map) (key asked value : List ℕ) (sorted : IsState state) (th
           sym (ap (λ b. not b && is_below asked next) (is_true (is_below asked key) under)) ∙ holds in cc
       of Equal is holds = not_next (subst (IsBelow asked) (exact key next (ap is_eq is)) under)
       of Greater is holds = let f : false ≡ true =
-          sym (ap (λ b. not b || is_below asked next) (is_true (is_below asked key) under) ∙ false_is (is_below asked next) not_next)
+          sym (ap (λ b. not b || is_below asked next) (is_true (is_below asked key) under)
+          ∙ false_is (is_below asked next) not_next)
           ∙ holds in cc
 
   -- where the next key is above the key, the span begins at the key and ends before the next one
   high : (next : List ℕ) → IsBelow key next → is_in_span key next asked ≡ true
       → (is_below asked key ≡ false) × (is_below asked next ≡ true)
   high next up inside = of (is_below asked key) (is_below asked next)
-      (sym (ap (λ o. span_holds o (is_below asked key) (is_below asked next)) (less_of (key_order key next) up)) ∙ inside)
+      (sym (ap (λ o. span_holds o (is_below asked key) (is_below asked next)) (less_of (key_order key next) up))
+      ∙ inside)
     where
       less_of : (o : Ordering) → T (is_lt o) → o ≡ Less
       less_of Less t = refl
@@ -187,7 +194,8 @@ module _ (state : Map) (key asked value : List ℕ) (sorted : IsState state) (th
           let up : IsBelow key e.0 = first_above state key e rest is in
           let sides = high e.0 up (subst (λ n. is_in_span key n asked ≡ true) next inside) in
           elim (compared asked key) [
-            | is_less less ↦ let f : false ≡ true = sym sides.0 ∙ is_true (is_below asked key) (below_of asked key less) in absurd cc
+            | is_less less ↦ let f : false ≡ true =
+                sym sides.0 ∙ is_true (is_below asked key) (below_of asked key less) in absurd cc
             | is_same k ↦ other k
             | is_more above_key more ↦ behind_next above_key e rest is (subst T (sym sides.1) tt)
           ]

@@ -38,12 +38,14 @@ module _ (key value : List ℕ → Outcome) (key_size value_size : ℕ) where
   alone_in (op ∷ log) operation all read zero other at same =
       let here : op ≡ other = cc in
       same_operation other operation (subst (IsReadAgain key value key_size value_size) here all.0) read same
-  alone_in (op ∷ log) operation all read (suc location) other at same = alone_in log operation all.1 read location other at same
+  alone_in (op ∷ log) operation all read (suc location) other at same =
+      alone_in log operation all.1 read location other at same
 
 -- what stands in a log under an encoding that is of no other operation there
 pub stands : (key_size value_size : ℕ) (log : List Operation) (location : ℕ) (operation : Operation)
     → IsAlone key_size value_size log operation
-    → slice_get (map (fixed_encoding key_size value_size) log) location ≡ Some (fixed_encoding key_size value_size operation)
+    → slice_get (map (fixed_encoding key_size value_size) log) location
+    ≡ Some (fixed_encoding key_size value_size operation)
     → slice_get log location ≡ Some operation
 stands key_size value_size [] location operation alone is = absurd cc
 stands key_size value_size (op ∷ log) zero operation alone is =
@@ -55,16 +57,21 @@ stands key_size value_size (op ∷ log) (suc location) operation alone is =
 -- an active update whose span holds a key leaves no room for it
 pub no_room : (history : History) (location : ℕ) (key value next asked : List ℕ) → AreStates history
     → slice_get (log_of history) location ≡ Some (update (ordered key value next))
-    → slice_get (activity_bits (log_of history)) location ≡ Some true → (asked ≡ key → ⊥) → is_in_span key next asked ≡ true
+    → slice_get (activity_bits (log_of history)) location ≡ Some true → (asked ≡ key → ⊥)
+    → is_in_span key next asked ≡ true
     → value_at (latest_map history) asked ≡ None
 no_room history location key value next asked states at bit other inside =
     of (value_at (latest_map history) asked) refl
   where
-    entry : option_map {U = List ℕ × List ℕ} (λ v. (v, next_key (latest_map history) key)) (value_at (latest_map history) key)
+    entry : option_map {U =
+        List ℕ × List ℕ} (λ v. (v, next_key (latest_map history) key)) (value_at (latest_map history) key)
         ≡ Some (value, next)
-    entry = sym (active_update-log_of key history states) ∙ active_update-active key value next (log_of history) location at bit
+    entry =
+        sym (active_update-log_of key history states)
+        ∙ active_update-active key value next (log_of history) location at bit
 
-    second : (found : Option (List ℕ)) (v n m : List ℕ) → option_map {U = List ℕ × List ℕ} (λ w. (w, m)) found ≡ Some (v, n) → m ≡ n
+    second : (found : Option (List ℕ)) (v n m : List ℕ) → option_map {U =
+        List ℕ × List ℕ} (λ w. (w, m)) found ≡ Some (v, n) → m ≡ n
     second None v n m is = absurd (cc)
     second (Some w) v n m is = let whole : Some (w, m) ≡ Some (v, n) = is in
         ap (λ (o : Option (List ℕ × List ℕ)). (unwrap_or o (v, m)).1) whole
@@ -72,7 +79,8 @@ no_room history location key value next asked states at bit other inside =
     same_next : next_key (latest_map history) key ≡ next
     same_next = second (value_at (latest_map history) key) value next (next_key (latest_map history) key) entry
 
-    of : (found : Option (List ℕ)) → value_at (latest_map history) asked ≡ found → value_at (latest_map history) asked ≡ None
+    of : (found : Option (List ℕ)) → value_at (latest_map history) asked ≡ found
+        → value_at (latest_map history) asked ≡ None
     of None is = is
     of (Some v) is = absurd (not_in_span (latest_map history) key asked v (IsState-latest_map history states) is other
         (ap (λ n. is_in_span key n asked) same_next ∙ inside))
@@ -80,13 +88,15 @@ no_room history location key value next asked states at bit other inside =
 -- ---- the commit of an empty map
 
 -- the active update of a log stands at its floor, or behind it
-behind_floor : (log : List Operation) (location : ℕ) (k v n : List ℕ) → slice_get log location ≡ Some (update (ordered k v n))
+behind_floor : (log : List Operation) (location : ℕ) (k v n : List ℕ)
+    → slice_get log location ≡ Some (update (ordered k v n))
     → slice_get (activity_bits log) location ≡ Some true → inactivity_floor log ≤ location
 behind_floor [] location k v n at bit = absurd (cc)
 behind_floor (op ∷ later) zero k v n at bit =
     let here : op ≡ update (ordered k v n) = cc in
     let active : is_active op later ≡ true = cc in
-    let counts : is_active_update op later ≡ true = ap (λ b. not (is_commit op) && b) active ∙ ap (λ o. not (is_commit o) && true) here in
+    let counts : is_active_update op later ≡ true = ap (λ b. not (is_commit op) && b) active
+    ∙ ap (λ o. not (is_commit o) && true) here in
     rw (ap (λ b. cond b 0 (inactivity_floor later + 1)) counts) (omega arith)
 behind_floor (op ∷ later) (suc location) k v n at bit =
     let low : inactivity_floor later ≤ location = behind_floor later location k v n at bit in
@@ -105,7 +115,8 @@ same_bit : (log : List Operation) (m : Option (List ℕ)) (f location : ℕ) (k 
     → slice_get (log ++ commit_floor m f ∷ []) location ≡ Some (update (ordered k v n))
     → slice_get (activity_bits (log ++ commit_floor m f ∷ [])) location ≡ Some true
     → (slice_get log location ≡ Some (update (ordered k v n))) × (slice_get (activity_bits log) location ≡ Some true)
-same_bit [] m f zero k v n at bit = absurd (let e : ◌≡◌ {A = Operation} (commit_floor m f) (update (ordered k v n)) = cc in cc)
+same_bit [] m f zero k v n at bit =
+    absurd (let e : ◌≡◌ {A = Operation} (commit_floor m f) (update (ordered k v n)) = cc in cc)
 same_bit [] m f (suc location) k v n at bit = absurd (cc)
 same_bit (op ∷ log) m f zero k v n at bit =
     let here : op ≡ update (ordered k v n) = cc in
@@ -120,7 +131,8 @@ pub last_commit : (log : List Operation) (m n : Option (List ℕ)) (f g location
     → slice_get (log ++ commit_floor m f ∷ []) location ≡ Some (commit_floor n g)
     → slice_get (activity_bits (log ++ commit_floor m f ∷ [])) location ≡ Some true → (location ≡ length log) × (f ≡ g)
 last_commit [] m n f g zero at bit =
-    let same : ◌≡◌ {A = Option Operation} (Some (commit_floor m f)) (Some (commit_floor n g)) = at in (refl, ap floor_in same)
+    let same : ◌≡◌ {A = Option Operation} (Some (commit_floor m f)) (Some (commit_floor n g)) = at in
+    (refl, ap floor_in same)
   where
     floor_in : Option Operation → ℕ
     floor_in (Some (commit_floor m f)) = f
@@ -133,7 +145,8 @@ last_commit (op ∷ log) m n f g zero at bit =
     ap (λ o. is_active o (log ++ commit_floor m f ∷ [])) (sym here) ∙ said in
     absurd (let no : not true ≡ true = ap not (sym (has_commit log m f)) ∙ off in cc)
   where
-    has_commit : (log : List Operation) (m : Option (List ℕ)) (f : ℕ) → list_any is_commit (log ++ commit_floor m f ∷ []) ≡ true
+    has_commit : (log : List Operation) (m : Option (List ℕ)) (f : ℕ)
+        → list_any is_commit (log ++ commit_floor m f ∷ []) ≡ true
     has_commit [] m f = refl
     has_commit (op ∷ log) m f = ap (λ b. is_commit op || b) (has_commit log m f) ∙ or_true (is_commit op)
       where
@@ -145,7 +158,9 @@ last_commit (op ∷ log) m n f g (suc location) at bit =
 
 -- a log ends with a commit that records the floor of what stands before it
 ends_with : (history : History) → AreStates history
-    → (front : List Operation) × ((metadata : Option (List ℕ)) × (log_of history ≡ front ++ commit_floor metadata (inactivity_floor front) ∷ []))
+    → (front : List Operation)
+    × ((metadata : Option (List ℕ))
+    × (log_of history ≡ front ++ commit_floor metadata (inactivity_floor front) ∷ []))
 ends_with [] states = ([], (None, refl))
 ends_with (commit ∷ history) states =
     let changes : List Operation = batch_operations (latest_map history) commit.map in (
@@ -158,12 +173,14 @@ ends_with (commit ∷ history) states =
     )
 
 -- an active commit whose floor is its own place leaves room for no key
-pub no_room_at_all : (history : History) (location : ℕ) (metadata : Option (List ℕ)) (asked : List ℕ) → AreStates history
+pub no_room_at_all : (history : History) (location : ℕ) (metadata : Option (List ℕ)) (asked : List ℕ)
+    → AreStates history
     → slice_get (log_of history) location ≡ Some (commit_floor metadata location)
     → slice_get (activity_bits (log_of history)) location ≡ Some true → value_at (latest_map history) asked ≡ None
 no_room_at_all history location metadata asked states at bit = of (value_at (latest_map history) asked) refl
   where
-    of : (found : Option (List ℕ)) → value_at (latest_map history) asked ≡ found → value_at (latest_map history) asked ≡ None
+    of : (found : Option (List ℕ)) → value_at (latest_map history) asked ≡ found
+        → value_at (latest_map history) asked ≡ None
     of None is = is
     of (Some v) is =
         let whole = ends_with history states in

@@ -266,7 +266,8 @@ add_suc n = simp unary_clauses refl
 
 -- the place of a key among all places
 spot : (k : List ℕ) (log : List Operation)
-    → unwrap_or (option_map (λ _. active_location k log ∷ []) (slice_get log (active_location k log))) [] ≡ place_in k log
+    → unwrap_or (option_map (λ _. active_location k log ∷ []) (slice_get log (active_location k log))) []
+    ≡ place_in k log
 spot k [] = refl
 spot k (op ∷ later) =
     elim (is_active_on k op later) as (λ b. unwrap_or (option_map (λ _. cond b 0 (active_location k later + 1) ∷ [])
@@ -323,7 +324,8 @@ taken-out front (commit_floor n g ∷ ops) m f =
 
 pub bits_grow : (front ops : List Operation) (m : Option (List ℕ)) (f : ℕ)
     → let log : List Operation = front ++ commit_floor m f ∷ [] in
-    activity_bits (log ++ ops) ≡ cleared (activity_bits log ++ activity_bits ops) (taken (places_of log) (length front) ops)
+    activity_bits (log ++ ops)
+    ≡ cleared (activity_bits log ++ activity_bits ops) (taken (places_of log) (length front) ops)
 bits_grow front ops m f =
     bits_out (front ++ commit_floor m f ∷ []) ops
     ∙ ap (cleared (activity_bits (front ++ commit_floor m f ∷ []) ++ activity_bits ops)) (sym (taken-out front ops m f))

@@ -24,20 +24,23 @@ use Rattle.auth_store_index.specs.Laws.Floors.{IsActiveAt, active-taken, active_
 use Rattle.auth_store_index.specs.Laws.Floors.{last_floor-committed, next_floor}
 use Rattle.auth_store_index.specs.Laws.Touching.{batch_bits}
 
-last_of : (front : List Operation) (m : Option (List ℕ)) (f last : ℕ) → last + 1 ≡ length (front ++ commit_floor m f ∷ [])
+last_of : (front : List Operation) (m : Option (List ℕ)) (f last : ℕ)
+    → last + 1 ≡ length (front ++ commit_floor m f ∷ [])
     → length front ≡ last
 last_of front m f last is = omega (arith, is, length-append front (commit_floor m f ∷ []))
 
 -- the bits of the log of a history that goes on
 pub bits_after : (h : History) (last : ℕ) → last + 1 ≡ length (log_of h) → (ops : List Operation)
-    → activity_bits (log_of h ++ ops) ≡ cleared (activity_bits (log_of h) ++ activity_bits ops) (taken (places_of (log_of h)) last ops)
+    → activity_bits (log_of h ++ ops)
+    ≡ cleared (activity_bits (log_of h) ++ activity_bits ops) (taken (places_of (log_of h)) last ops)
 bits_after h last is ops =
     let e = ends-log_of h in
     subst (λ (log : List Operation). last + 1 ≡ length log → activity_bits (log ++ ops)
     ≡ cleared (activity_bits log ++ activity_bits ops) (taken (places_of log) last ops)) (sym e.whole)
     (λ at. bits_grow e.front ops e.metadata (inactivity_floor e.front)
     ∙ ap (λ n. cleared (activity_bits (committed e.front e.metadata) ++ activity_bits ops)
-    (taken (places_of (committed e.front e.metadata)) n ops)) (last_of e.front e.metadata (inactivity_floor e.front) last at)) is
+    (taken (places_of (committed e.front e.metadata)) n ops))
+    (last_of e.front e.metadata (inactivity_floor e.front) last at)) is
 
 within : (log : List Operation) (place : ℕ) → IsActiveAt log place → place < length log
 within log place is = subst (λ n. place < n) (length-activity_bits log) (some_within (activity_bits log) place is)
@@ -53,11 +56,13 @@ each P Q (p ∷ ps) leads all = (leads p all.0, each P Q ps leads all.1)
 
 -- what is taken out of the log of a history stands at its floor or behind it, and in it
 pub taken_after : (h : History) (last : ℕ) → last + 1 ≡ length (log_of h) → (ops : List Operation)
-    → AllByRecursion (λ place. (last_floor (log_of h) ≤ place) × (place < length (log_of h))) (taken (places_of (log_of h)) last ops)
+    → AllByRecursion (λ place. (last_floor (log_of h) ≤ place)
+    × (place < length (log_of h))) (taken (places_of (log_of h)) last ops)
 taken_after h last is ops =
     let e = ends-log_of h in
     subst (λ (log : List Operation). last + 1 ≡ length log
-    → AllByRecursion (λ place. (last_floor log ≤ place) × (place < length log)) (taken (places_of log) last ops)) (sym e.whole)
+    → AllByRecursion (λ place. (last_floor log ≤ place)
+    × (place < length log)) (taken (places_of log) last ops)) (sym e.whole)
     (λ at. let log : List Operation = committed e.front e.metadata in
     each (IsActiveAt log) (λ place. (last_floor log ≤ place) × (place < length log)) (taken (places_of log) last ops)
     (λ p active. (active_in_committed e.front e.metadata p active, within log p active))
@@ -68,21 +73,25 @@ taken_after h last is ops =
 -- the floor of the log of a history that goes on with changes and a commit
 pub floor_after_commit : (h : History) (changes : List Operation) (m : Option (List ℕ))
     → last_floor (log_of h ++ with_commit (log_of h) changes m)
-    ≡ last_floor (log_of h) + first_set (drop (last_floor (log_of h)) (activity_bits (log_of h ++ with_commit (log_of h) changes m)))
+    ≡ last_floor (log_of h)
+    + first_set (drop (last_floor (log_of h)) (activity_bits (log_of h ++ with_commit (log_of h) changes m)))
 floor_after_commit h changes m =
     let e = ends-log_of h in
     subst (λ (log : List Operation). last_floor (log ++ with_commit log changes m)
-    ≡ last_floor log + first_set (drop (last_floor log) (activity_bits (log ++ with_commit log changes m)))) (sym e.whole)
+    ≡ last_floor log + first_set (drop (last_floor log) (activity_bits (log ++ with_commit log changes m))))
+    (sym e.whole)
     (let log : List Operation = committed e.front e.metadata in
     last_floor-with_commit log changes m
     ∙ (next_floor e.front changes e.metadata m (inactivity_floor e.front) (inactivity_floor (log ++ changes))
-    ∙ ap (λ n. n + first_set (drop n (activity_bits (log ++ with_commit log changes m)))) (sym (last_floor-committed e.front e.metadata))))
+    ∙ ap (λ n. n + first_set (drop n (activity_bits (log ++ with_commit log changes m))))
+    (sym (last_floor-committed e.front e.metadata))))
 
 -- a batch with its commit
 pub commit_bits : (h : History) (c : Commit) (last : ℕ) → IsState c.map → last + 1 ≡ length (log_of h)
     → let log : List Operation = log_of h in
     let said : List Operation = appended log (latest_map h) c.map c.metadata in
-    activity_bits (log_of (c ∷ h)) ≡ cleared (activity_bits log ++ map is_no_delete said) (taken (places_of log) last said)
+    activity_bits (log_of (c ∷ h))
+    ≡ cleared (activity_bits log ++ map is_no_delete said) (taken (places_of log) last said)
 commit_bits h c last is at =
     let log : List Operation = log_of h in
     let said : List Operation = appended log (latest_map h) c.map c.metadata in

@@ -108,7 +108,8 @@ pub update_at_floor : (front : List Operation) (m : Option (List ℕ)) (f : ℕ)
     → (inactivity_floor front ≡ length front) ⊎ IsUpdateAtFloor front m f
 update_at_floor [] m f = inl refl
 update_at_floor (op ∷ later) m f =
-    ⊎_elim here (λ away. ⊎_elim (λ ended. inl (last away ended)) (λ found. inr (behind away found)) (update_at_floor later m f))
+    ⊎_elim here (λ away. ⊎_elim (λ ended. inl (last away ended)) (λ found. inr (behind away found))
+    (update_at_floor later m f))
     (cases_Bool (is_active_update op later))
   where
     floor_here : is_active_update op later ≡ true → inactivity_floor (op ∷ later) ≡ 0
@@ -145,7 +146,8 @@ update_at_floor (op ∷ later) m f =
       value = found.value;
       next = found.next;
       at = ap (λ i. slice_get (op ∷ (later ++ commit_floor m f ∷ [])) i) (floor_there away) ∙ found.at;
-      bit = ap (λ i. slice_get (activity_bits (op ∷ (later ++ commit_floor m f ∷ []))) i) (floor_there away) ∙ found.bit;
+      bit = ap (λ i. slice_get (activity_bits (op ∷ (later ++ commit_floor m f ∷ []))) i) (floor_there away)
+          ∙ found.bit;
     }
 
 -- the first bit that is set, looked for from a place before it on
@@ -210,7 +212,8 @@ active_in_log_of h place is =
 pub behind_chunks : (width floor chunks place : ℕ) → chunks ≤ floor / (8 * width) → floor ≤ place
     → 8 * width * chunks ≤ place
 behind_chunks width floor chunks place few behind =
-    let up : 8 * width * chunks ≤ 8 * width * (floor / (8 * width)) = mul-mono (8 * width) chunks (floor / (8 * width)) few in
+    let up : 8 * width * chunks ≤ 8 * width
+    * (floor / (8 * width)) = mul-mono (8 * width) chunks (floor / (8 * width)) few in
     omega (arith, up, mul-div-le floor (8 * width), behind)
   where
     mul-mono : (k a b : ℕ) → a ≤ b → k * a ≤ k * b
@@ -223,7 +226,8 @@ pub next_floor : (front changes : List Operation) (m n : Option (List ℕ)) (f g
     inactivity_floor (log ++ changes) ≡ inactivity_floor front + first_set (drop (inactivity_floor front) bits)
 next_floor front changes m n f g =
     let log : List Operation = front ++ commit_floor m f ∷ [] in
-    let whole : activity_bits ((log ++ changes) ++ commit_floor n g ∷ []) ≡ activity_bits (log ++ (changes ++ commit_floor n g ∷ [])) =
+    let whole : activity_bits ((log ++ changes) ++ commit_floor n g ∷ [])
+    ≡ activity_bits (log ++ (changes ++ commit_floor n g ∷ [])) =
     ap activity_bits (append_assoc log changes (commit_floor n g ∷ [])) in
     let is : inactivity_floor (log ++ changes) ≡ first_set (activity_bits (log ++ (changes ++ commit_floor n g ∷ []))) =
     floor_of_bits (log ++ changes) n g ∙ ap first_set whole in

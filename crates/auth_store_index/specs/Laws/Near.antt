@@ -116,7 +116,8 @@ least_staying : (gone s : Map) (p : List ℕ → Bool) (g : List ℕ × List ℕ
 least_staying gone s p g more y h is stays passes there under =
     let at = found (value_at s y) there in
     none_below_first g more y at.0
-    (subst IsState is (IsState-where (λ k. not (is_some (value_at gone k))) (filter (λ e. p e.0) s) (IsState-where p s h)))
+    (subst IsState is (IsState-where (λ k. not (is_some (value_at gone k)))
+    (filter (λ e. p e.0) s) (IsState-where p s h)))
     (sym (ap (λ m. value_at m y) is) ∙ (found_staying gone s p y stays passes ∙ at.1)) under
 
 none_staying : (gone s : Map) (p : List ℕ → Bool) (y : List ℕ)
@@ -239,7 +240,8 @@ module _ (old gone near new : Map) (told : IsTold old gone near new) where
       around none [] nor = next_is_first new e.0 least told.new_is (ap is_some (near_there least start) ∙ start)
           (none_over none)
           (λ y there under. let as_before = far y (away_too y under) there in
-          none_staying gone old before y nor as_before.stays (is_above y least under) (ap is_some (sym as_before.same) ∙ there))
+          none_staying gone old before y nor as_before.stays (is_above y least under) (ap is_some (sym as_before.same)
+          ∙ there))
       around none (g ∷ more) some =
           let one = first_staying gone old before g more some in
           let under : IsBelow g.0 least = is_under g.0 least one.passes in
@@ -265,7 +267,8 @@ module _ (old gone near new : Map) (told : IsTold old gone near new) where
   -- what is near is a part of the new state
   near_part : near ≡ filter (λ e. is_some (value_at near e.0)) new
   near_part =
-      same_entries key_order nat_list_cmp_total exact_bytes near (filter (λ e. is_some (value_at near e.0)) new) told.near_is
+      same_entries key_order nat_list_cmp_total exact_bytes near
+      (filter (λ e. is_some (value_at near e.0)) new) told.near_is
       (IsState-where (λ q. is_some (value_at near q)) new told.new_is)
       (λ q. sym (value_at-find q near) ∙ (of q (is_some (value_at near q)) refl
       ∙ (sym (value_at-where (λ q. is_some (value_at near q)) new q)
@@ -282,7 +285,8 @@ module _ (old gone near new : Map) (told : IsTold old gone near new) where
 
   gone_part : gone ≡ filter (λ e. is_some (value_at gone e.0)) old
   gone_part =
-      same_entries key_order nat_list_cmp_total exact_bytes gone (filter (λ e. is_some (value_at gone e.0)) old) told.gone_is
+      same_entries key_order nat_list_cmp_total exact_bytes gone
+      (filter (λ e. is_some (value_at gone e.0)) old) told.gone_is
       (IsState-where (λ q. is_some (value_at gone q)) old told.old_is)
       (λ q. sym (value_at-find q gone) ∙ (of q (value_at gone q) refl
       ∙ (sym (value_at-where (λ q. is_some (value_at gone q)) old q)

@@ -23,18 +23,23 @@ use Rattle.auth_store_index.specs.Laws.Near.{next_told, next_round_told}
 use Rattle.auth_store_index.specs.Laws.Told.{near_told, near_tell}
 
 -- ---- a walk over entries for the first that stays
-pub stays_first : {K X : Type 0} (key : K → List ℕ) (value : X → List ℕ) (gone : Map) (left rest : List (K × X)) (k : K) (x : X)
+pub stays_first : {K X : Type 0} (key : K → List ℕ) (value : X
+    → List ℕ) (gone : Map) (left rest : List (K × X)) (k : K) (x : X)
     (whole : Option (List ℕ)) → left ≡ (k, x) ∷ rest → false ≡ is_some (value_at gone (key k))
     → first_of (staying gone (state_of key value left)) ≡ whole → Some (key k) ≡ whole
 stays_first key value gone left rest k x whole steps stays here =
-    ap (λ b. first_of (cond (not b) ((key k, value x) ∷ staying gone (state_of key value rest)) (staying gone (state_of key value rest)))) stays
+    ap (λ b. first_of (cond (not b) ((key k, value x)
+    ∷ staying gone (state_of key value rest)) (staying gone (state_of key value rest)))) stays
     ∙ (ap (λ l. first_of (staying gone (state_of key value l))) (sym steps) ∙ here)
 
-pub goes_first : {K X : Type 0} (key : K → List ℕ) (value : X → List ℕ) (gone : Map) (left rest : List (K × X)) (k : K) (x : X)
+pub goes_first : {K X : Type 0} (key : K → List ℕ) (value : X
+    → List ℕ) (gone : Map) (left rest : List (K × X)) (k : K) (x : X)
     (whole : Option (List ℕ)) → left ≡ (k, x) ∷ rest → true ≡ is_some (value_at gone (key k))
-    → first_of (staying gone (state_of key value left)) ≡ whole → first_of (staying gone (state_of key value rest)) ≡ whole
+    → first_of (staying gone (state_of key value left)) ≡ whole
+    → first_of (staying gone (state_of key value rest)) ≡ whole
 goes_first key value gone left rest k x whole steps goes here =
-    ap (λ b. first_of (cond (not b) ((key k, value x) ∷ staying gone (state_of key value rest)) (staying gone (state_of key value rest)))) goes
+    ap (λ b. first_of (cond (not b) ((key k, value x)
+    ∷ staying gone (state_of key value rest)) (staying gone (state_of key value rest)))) goes
     ∙ (ap (λ l. first_of (staying gone (state_of key value l))) (sym steps) ∙ here)
 
 -- ---- the first of entries, before others
@@ -73,7 +78,8 @@ there_at (y ∷ xs) x is = omega arith
 module _ {K X : Type 0} (key : K → List ℕ) (value : X → List ℕ) (cmp : K → K → Ordering)
     (ordered : (a b : K) → cmp a b ≡ key_order (key a) (key b)) where
   pub state_of-below : (es : List (K × X)) (k : K)
-      → state_of key value (filter (λ e. range_contains cmp Unbounded (Excluded k) e.0) es) ≡ below (state_of key value es) (key k)
+      → state_of key value (filter (λ e. range_contains cmp Unbounded (Excluded k) e.0) es)
+      ≡ below (state_of key value es) (key k)
   state_of-below [] k = refl
   state_of-below (e ∷ es) k =
       rw (← ordered k e.0) (elim (cmp k e.0) as (λ o. state_of key value
@@ -121,7 +127,8 @@ module _ {K X : Type 0} (key : K → List ℕ) (value : X → List ℕ) (cmp : K
   prev_below es range rest k found is ends =
       sym (ap (λ b. last_key (state_of key value es ++ b))
       (sym (state_of-below es k) ∙ (ap (state_of key value) (sym is ∙ ends) ∙ last_map rest))
-      ∙ (ap last_key (sym (append_assoc (state_of key value es) (state_of key value rest) ((key found.0, value found.1) ∷ [])))
+      ∙ (ap last_key (sym (append_assoc (state_of key value es) (state_of key value rest) ((key found.0, value found.1)
+      ∷ [])))
       ∙ last_append (state_of key value es ++ state_of key value rest) (key found.0, value found.1) []))
     where
       last_map : (rest : List (K × X)) → state_of key value (rest ++ found ∷ [])
@@ -151,7 +158,8 @@ gone_some old puts gone next k v none there is =
     is ∙ (ap (with_found gone k) there ∙ ap (λ b. cond b gone (with_found gone k (value_at old k))) none)
 
 -- ---- keys that are near
-pub kept_some : (old gone near next : Map) (k v : List ℕ) → false ≡ is_some (value_at gone k) → false ≡ is_some (value_at near k)
+pub kept_some : (old gone near next : Map) (k v : List ℕ) → false ≡ is_some (value_at gone k)
+    → false ≡ is_some (value_at near k)
     → value_at old k ≡ Some v → next ≡ with_entry near k v → next ≡ with_kept old gone near k
 kept_some old gone near next k v none nor there is =
     is ∙ (ap (with_found near k) (sym there)
@@ -159,7 +167,8 @@ kept_some old gone near next k v none nor there is =
     ∙ ap (λ b. cond (b || is_some (value_at near k)) near (with_found near k (value_at old k))) none))
 
 -- ---- words are passed
-pub gone_passed : {W : Type 0} (says : W → Word) (old puts : Map) (items : List W) (at : ℕ) (word : W) (before after whole : Map)
+pub gone_passed : {W : Type 0} (says : W
+    → Word) (old puts : Map) (items : List W) (at : ℕ) (word : W) (before after whole : Map)
     → at < length items → word ≡ get_or items at word → after ≡ with_gone old puts before (key_of (says word))
     → gone_after old puts before (map says (drop at items)) ≡ whole
     → gone_after old puts after (map says (drop (at + 1) items)) ≡ whole
@@ -173,8 +182,10 @@ pub gone_ended : {W : Type 0} (says : W → Word) (old puts : Map) (items : List
 gone_ended says old puts items at after whole past here =
     sym (at_drop_all (λ ws. gone_after old puts after (map says ws)) items at past) ∙ here
 
-pub near_passed : {W : Type 0} (says : W → Word) (old gone : Map) (items : List W) (at : ℕ) (word : W) (before after whole : Map)
-    → at < length items → word ≡ get_or items at word → after ≡ with_kept old gone before (prev_key old (key_of (says word)))
+pub near_passed : {W : Type 0} (says : W
+    → Word) (old gone : Map) (items : List W) (at : ℕ) (word : W) (before after whole : Map)
+    → at < length items → word ≡ get_or items at word
+    → after ≡ with_kept old gone before (prev_key old (key_of (says word)))
     → near_after old gone before (map says (drop at items)) ≡ whole
     → near_after old gone after (map says (drop (at + 1) items)) ≡ whole
 near_passed says old gone items at word before after whole within is does here =
@@ -188,7 +199,8 @@ near_ended says old gone items at after whole past here =
     sym (at_drop_all (λ ws. near_after old gone after (map says ws)) items at past) ∙ here
 
 -- ---- a delete for each key that goes
-pub goes_passed : {K X : Type 0} (key : K → List ℕ) (value : X → List ℕ) (before after all : List Operation) (k l : K) (x : X)
+pub goes_passed : {K X : Type 0} (key : K → List ℕ) (value : X
+    → List ℕ) (before after all : List Operation) (k l : K) (x : X)
     (left rest : List (K × X)) → after ≡ before ++ delete (key l) ∷ [] → key l ≡ key k → left ≡ (k, x) ∷ rest
     → before ++ map (λ e. delete e.0) (state_of key value left) ≡ all
     → after ++ map (λ e. delete e.0) (state_of key value rest) ≡ all
@@ -219,7 +231,8 @@ less_of o Equal is t = absurd t
 less_of o Greater is t = absurd t
 
 -- one entry more is passed, whose next key is told by the one behind it
-pub near_updated : (old gone near new passed : Map) (e f : List ℕ × List ℕ) (rest : Map) (before after said : List Operation)
+pub near_updated : (old gone near new passed : Map) (e f : List ℕ
+    × List ℕ) (rest : Map) (before after said : List Operation)
     (next : List ℕ) → IsTold old gone near new → passed ++ e ∷ f ∷ rest ≡ near → next ≡ next_near old gone e.0 f.0
     → after ≡ before ++ update_to old e.0 e.1 next
     → before ++ updates (e ∷ f ∷ rest) old new ≡ said → after ++ updates (f ∷ rest) old new ≡ said
@@ -242,8 +255,10 @@ last_updated old gone near new passed e before after said next least told is fir
     ∙ (ap (λ l. before ++ l) (sym (append-nil (update_to old e.0 e.1 (next_key new e.0)))) ∙ whole))
 
 -- ---- a whole batch
-pub near_joined : (words : List Word) (old puts gone near state : Map) (first second third : List Operation) → IsState old
-    → old ≡ state → puts ≡ map_after words [] → gone ≡ gone_after old puts [] words → near ≡ near_after old gone puts words
+pub near_joined : (words : List Word) (old puts gone near state : Map) (first second third : List Operation)
+    → IsState old
+    → old ≡ state → puts ≡ map_after words [] → gone ≡ gone_after old puts [] words
+    → near ≡ near_after old gone puts words
     → first ≡ [] → second ≡ first ++ map (λ e. delete e.0) gone
     → ((new : Map) → IsTold old gone near new → third ≡ second ++ updates near old new)
     → third ≡ batch_operations state (map_after words state)

@@ -42,7 +42,8 @@ one_key k l under over = of (key_order k l) refl
     of : (o : Ordering) → key_order k l ≡ o → k ≡ l
     of Less e = absurd (under (subst (λ x. T (is_lt x)) (sym e) tt))
     of Equal e = exact k l (ap is_eq e)
-    of Greater e = absurd (over (subst (λ x. T (is_lt x)) (sym (nat_list_cmp_total.antisymm l k)) (turned (key_order k l) e)))
+    of Greater e =
+        absurd (over (subst (λ x. T (is_lt x)) (sym (nat_list_cmp_total.antisymm l k)) (turned (key_order k l) e)))
 
 below_above : (x : List ℕ) (s : Map) (q : List ℕ) → T (below_all key_order x s) → T (below_all key_order x (above s q))
 below_above x [] q h = tt
@@ -140,7 +141,8 @@ next_stays old new q h i still before = of (above old q) (above new q) refl refl
         absurd (none_above old q (next_key new q) none (subst (IsBelow q) (sym y) (first_above new q b bs some)) before)
     of (a ∷ more) [] some none =
         let x = next_of old q a more some in
-        absurd (none_above new q (next_key old q) none (subst (IsBelow q) (sym x) (first_above old q a more some)) still)
+        absurd (none_above new q (next_key old q) none
+        (subst (IsBelow q) (sym x) (first_above old q a more some)) still)
     of (a ∷ more) (b ∷ bs) some also =
         let x = next_of old q a more some in
         let y = next_of new q b bs also in
@@ -148,7 +150,8 @@ next_stays old new q h i still before = of (above old q) (above new q) refl refl
         let up_too = subst (IsBelow q) (sym y) (first_above new q b bs also) in
         one_key (next_key old q) (next_key new q)
         (λ under. none_between new q (next_key old q) b bs i also up still (subst (IsBelow (next_key old q)) y under))
-        (λ under. none_between old q (next_key new q) a more h some up_too before (subst (IsBelow (next_key new q)) x under))
+        (λ under. none_between old q (next_key new q) a more h some up_too before
+        (subst (IsBelow (next_key new q)) x under))
 
 -- a next key is there
 pub next_there : (s : Map) (q v : List ℕ) → value_at s q ≡ Some v → is_some (value_at s (next_key s q)) ≡ true
@@ -172,7 +175,8 @@ next_with : (s : Map) (y u q v : List ℕ) → IsState s → value_at s q ≡ So
 next_with s y u q v h at =
     let more : Map = with_entry s y u in
     let n : List ℕ = next_key more q in
-    let own = found (value_at more q) (ap is_some (value_at-with_entry s y u q) ∙ some_if (same q y) u (value_at s q) (ap is_some at)) in
+    let own = found (value_at more q) (ap is_some (value_at-with_entry s y u q)
+    ∙ some_if (same q y) u (value_at s q) (ap is_some at)) in
     let there : is_some (value_at more n) ≡ true = next_there more q own.0 own.1 in
     ⊎_elim
     (λ yes. inl (exact n y yes))
@@ -180,12 +184,14 @@ next_with s y u q v h at =
     let before : is_some (value_at s n) ≡ true =
     sym (ap is_some (value_at-with_entry s y u n ∙ ap (λ b. cond b (Some u) (value_at s n)) away)) ∙ there in
     let still : is_some (value_at more (next_key s q)) ≡ true =
-    ap is_some (value_at-with_entry s y u (next_key s q)) ∙ some_if (same (next_key s q) y) u (value_at s (next_key s q)) (next_there s q v at) in
+    ap is_some (value_at-with_entry s y u (next_key s q))
+    ∙ some_if (same (next_key s q) y) u (value_at s (next_key s q)) (next_there s q v at) in
     inr (sym (next_stays s more q h (IsState-with_entry s y u h) still before)))
     (cases_Bool (same n y))
 
 -- A key whose next key comes while the one that it had stays stands before the place of that next key in the old state.
-pub next_comes : (old new : Map) (q v w u : List ℕ) → IsState old → IsState new → value_at old q ≡ Some v → value_at new q ≡ Some w
+pub next_comes : (old new : Map) (q v w u : List ℕ) → IsState old → IsState new → value_at old q ≡ Some v
+    → value_at new q ≡ Some w
     → is_some (value_at new (next_key old q)) ≡ true
     → next_key (with_entry old (next_key new q) u) q ≡ next_key new q
 next_comes old new q v w u h i at is still =

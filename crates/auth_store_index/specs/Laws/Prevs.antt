@@ -105,7 +105,14 @@ stands (e ∷ s) q there =
     ⊎_elim
     (λ here. record { done = []; entry = e; rest = s; whole = refl; key = sym (exact q e.0 here) })
     (λ away. let later = stands s q (sym (ap (λ b. is_some (cond b (Some e.1) (value_at s q))) away) ∙ there) in
-    record { done = e ∷ later.done; entry = later.entry; rest = later.rest; whole = ap (λ l. e ∷ l) later.whole; key = later.key })
+    record {
+      done =
+          e ∷ later.done;
+      entry = later.entry;
+      rest = later.rest;
+      whole = ap (λ l. e ∷ l) later.whole;
+      key = later.key;
+    })
     (cases_Bool (same q e.0))
 
 -- the key before the next key is the key
@@ -121,7 +128,8 @@ prev_at done e [] h =
     none (e ∷ s) h = below_first e s h
 prev_at done e (f ∷ rest) h =
     ap (prev_key (done ++ e ∷ f ∷ rest)) (next_behind (done ++ e ∷ f ∷ rest) done e f rest refl h)
-    ∙ (ap (λ b. last_key ((done ++ e ∷ f ∷ rest) ++ b)) (below_up_to f.0 done e (f ∷ rest) h (under done h) (below_first f rest (behind done h)))
+    ∙ (ap (λ b. last_key ((done ++ e ∷ f ∷ rest) ++ b)) (below_up_to f.0 done e (f
+    ∷ rest) h (under done h) (below_first f rest (behind done h)))
     ∙ last_of (done ++ e ∷ f ∷ rest) done e)
   where
     under : (done : Map) → IsState (done ++ e ∷ f ∷ rest) → IsBelow e.0 f.0
@@ -187,7 +195,8 @@ pub prev_of_next_with : (s : Map) (y u q : List ℕ) → IsState s → is_some (
     → next_key (with_entry s y u) q ≡ y → prev_key s y ≡ q
 prev_of_next_with s y u q h there absent next =
     let more : Map = with_entry s y u in
-    let still : is_some (value_at more q) ≡ true = ap is_some (value_at-with_entry s y u q) ∙ kept (same q y) (value_at s q) there in
+    let still : is_some (value_at more q) ≡ true = ap is_some (value_at-with_entry s y u q)
+    ∙ kept (same q y) (value_at s q) there in
     sym (prev_with s y u q there absent)
     ∙ (ap (prev_key more) (sym next) ∙ prev_of_next more q (IsState-with_entry s y u h) still)
   where

@@ -91,7 +91,8 @@ words_passed says items at after whole past here =
     sym (at_drop_all (λ ws. map_after (map says ws) after) items at past) ∙ here
 
 -- a delete for each entry
-pub delete_passed : {K : Type 0} (key : K → List ℕ) (log : List Operation) (new : Map) (before after all : List Operation)
+pub delete_passed : {K : Type 0} (key : K
+    → List ℕ) (log : List Operation) (new : Map) (before after all : List Operation)
     (k : K) (place : ℕ) (left rest : List (K × ℕ))
     → after ≡ before ++ delete_of new (key k) → left ≡ (k, place) ∷ rest
     → before ++ deletes (state_of key (value_there log) left) new ≡ all
@@ -108,12 +109,15 @@ pub joined : (first second third : List Operation) (old new state : Map) (words 
     → new ≡ map_after words old → third ≡ batch_operations state (map_after words state)
 joined first second third old new state words none one other is leads =
     other ∙ (ap (λ l. l ++ updates new old new) (one ∙ ap (λ l. l ++ deletes old new) none)
-    ∙ (ap (batch_operations old) (leads ∙ ap (map_after words) is) ∙ ap (λ s. batch_operations s (map_after words state)) is))
+    ∙ (ap (batch_operations old) (leads ∙ ap (map_after words) is)
+    ∙ ap (λ s. batch_operations s (map_after words state)) is))
 
 -- ---- how many values are read
 -- a key whose place is known is compared with no read, or given its value with none
-pub own_reads : {V : Type 0} (places : Map) (key : List ℕ) (source : code.Source V) (place : ℕ) → IsOwn places key source
-    → Some (place ∷ []) ≡ value_at places key → cond (is_at source place) 0 (1 + reads_for source) ≤ 1 - reads_for source
+pub own_reads : {V : Type 0} (places : Map) (key : List ℕ) (source : code.Source V) (place : ℕ)
+    → IsOwn places key source
+    → Some (place ∷ []) ≡ value_at places key
+    → cond (is_at source place) 0 (1 + reads_for source) ≤ 1 - reads_for source
 own_reads places key (Given v) place own there = omega arith
 own_reads places key (Logged p) place own there =
     let one : place ≡ p = ap (λ o. get_or (unwrap_or o []) 0 0) (there ∙ own) in
@@ -121,13 +125,17 @@ own_reads places key (Logged p) place own there =
 
 -- the sources of a map with an entry more are own
 pub own_insert : {K V : Type 0} (key : K → List ℕ) (places : Map) (cmp : K → K → Ordering)
-    → ((a b : K) → cmp a b ≡ key_order (key a) (key b)) → (es : List (K × code.Source V)) (k : K) (source : code.Source V)
+    → ((a b : K) → cmp a b ≡ key_order (key a) (key b))
+    → (es : List (K × code.Source V)) (k : K) (source : code.Source V)
     → AreOwn key places es → IsOwn places (key k) source → AreOwn key places (insert_entry cmp es k source)
 own_insert key places cmp ordered [] k source all own = (own, tt)
-own_insert {K = K} {V = V} key places cmp ordered (e ∷ es) k source all own = of (cmp k e.0) refl (own_insert key places cmp ordered es k source all.1 own)
+own_insert {K =
+    K} {V = V} key places cmp ordered (e ∷ es) k source all own = of (cmp k e.0) refl
+    (own_insert key places cmp ordered es k source all.1 own)
   where
     of : (o : Ordering) → cmp k e.0 ≡ o → AreOwn key places (insert_entry cmp es k source)
-        → AreOwn key places (match_ordering o ((k, source) ∷ e ∷ es) ((e.0, source) ∷ es) (e ∷ insert_entry cmp es k source))
+        → AreOwn key places (match_ordering o ((k, source) ∷ e ∷ es) ((e.0, source) ∷ es) (e
+        ∷ insert_entry cmp es k source))
     of Less is rest = (own, all)
     of Equal is rest =
         let one : key k ≡ key e.0 = exact (key k) (key e.0) (ap is_eq (sym (ordered k e.0) ∙ is)) in

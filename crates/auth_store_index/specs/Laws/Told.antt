@@ -36,7 +36,8 @@ put_more None false false v o = refl
 
 delete_more : (p : Option (List ℕ)) (n m : Bool) (o : Option (List ℕ))
     → cond (is_some p) p (cond n None (cond m None o))
-    ≡ cond (is_some (cond (is_some p) p (cond n None None))) (cond (is_some p) p (cond n None None)) (cond (m || n) None o)
+    ≡ cond (is_some (cond (is_some p) p (cond n None None)))
+    (cond (is_some p) p (cond n None None)) (cond (m || n) None o)
 delete_more (Some w) n m o = refl
 delete_more None true true o = refl
 delete_more None true false o = refl
@@ -44,7 +45,8 @@ delete_more None false true o = refl
 delete_more None false false o = refl
 
 after_words : (words : List Word) (s : Map) (q : List ℕ) → IsState s
-    → value_at (map_after words s) q ≡ cond (is_some (value_at (map_after words []) q)) (value_at (map_after words []) q)
+    → value_at (map_after words s) q
+    ≡ cond (is_some (value_at (map_after words []) q)) (value_at (map_after words []) q)
     (cond (list_any (names q) words) None (value_at s q))
 after_words [] s q h = refl
 after_words (batch.put k v ∷ words) s q h =
@@ -155,13 +157,15 @@ module _ (old puts : Map) where
       → value_at gone q ≡ cond (n && not (is_some (value_at puts q))) (value_at old q) None
       → value_at (gone_after old puts gone words) q
       ≡ cond ((n || list_any (names q) words) && not (is_some (value_at puts q))) (value_at old q) None
-  gone_all [] gone q n is = is ∙ ap (λ b. cond (b && not (is_some (value_at puts q))) (value_at old q) None) (or_false n)
+  gone_all [] gone q n is =
+      is ∙ ap (λ b. cond (b && not (is_some (value_at puts q))) (value_at old q) None) (or_false n)
     where
       or_false : (a : Bool) → a ≡ (a || false)
       or_false true = refl
       or_false false = refl
   gone_all (word ∷ words) gone q n is =
-      gone_all words (with_gone old puts gone (key_of word)) q (n || same q (key_of word)) (gone_more gone (key_of word) q n is)
+      gone_all words (with_gone old puts gone (key_of word)) q (n
+      || same q (key_of word)) (gone_more gone (key_of word) q n is)
       ∙ ap (λ b. cond (b && not (is_some (value_at puts q))) (value_at old q) None)
       (assoc n (same q (key_of word)) (list_any (names q) words)
       ∙ ap (λ b. n || (b || list_any (names q) words)) (sym (names_key q word)))
@@ -188,7 +192,8 @@ puts_told words old h = record {
   near_is = IsState-map_after words [] tt;
   new_is = IsState-map_after words old h;
   left = λ q v at. left_of (list_any (names q) words) (value_at puts q) (value_at old q) v (sym (goes q) ∙ at);
-  apart = λ q at. apart_of (list_any (names q) words) (value_at puts q) (value_at old q) (sym (ap is_some (goes q)) ∙ at);
+  apart =
+      λ q at. apart_of (list_any (names q) words) (value_at puts q) (value_at old q) (sym (ap is_some (goes q)) ∙ at);
   told = λ q. after_words words old q h
       ∙ told_of (list_any (names q) words) (value_at puts q) (value_at old q) (value_at gone q) (goes q);
 }
@@ -199,7 +204,8 @@ puts_told words old h = record {
     gone : Map
     gone = gone_after old puts [] words
 
-    goes : (q : List ℕ) → value_at gone q ≡ cond (list_any (names q) words && not (is_some (value_at puts q))) (value_at old q) None
+    goes : (q : List ℕ) → value_at gone q
+        ≡ cond (list_any (names q) words && not (is_some (value_at puts q))) (value_at old q) None
     goes q = gone_all old puts words [] q false refl
 
     left_of : (n : Bool) (p o : Option (List ℕ)) (v : List ℕ) → cond (n && not (is_some p)) o None ≡ Some v → o ≡ Some v
@@ -227,19 +233,24 @@ module _ (old gone new : Map) where
       of : (g n o : Option (List ℕ)) → value_at gone p ≡ g → value_at near p ≡ n → value_at old p ≡ o
           → IsTold old gone (with_kept old gone near p) new
       of (Some v) n o is_g is_n is_o =
-          subst (λ x. IsTold old gone (cond (is_some x || is_some (value_at near p)) near (with_found near p (value_at old p))) new)
+          subst (λ x. IsTold old gone (cond (is_some x
+          || is_some (value_at near p)) near (with_found near p (value_at old p))) new)
           (sym is_g) told
       of None (Some v) o is_g is_n is_o =
-          subst (λ x. IsTold old gone (cond (is_some x || is_some (value_at near p)) near (with_found near p (value_at old p))) new)
+          subst (λ x. IsTold old gone (cond (is_some x
+          || is_some (value_at near p)) near (with_found near p (value_at old p))) new)
           (sym is_g)
-          (subst (λ x. IsTold old gone (cond (is_some x) near (with_found near p (value_at old p))) new) (sym is_n) told)
+          (subst (λ x. IsTold old gone (cond (is_some x) near (with_found near p (value_at old p))) new)
+          (sym is_n) told)
       of None None None is_g is_n is_o =
-          subst (λ x. IsTold old gone (cond (is_some x || is_some (value_at near p)) near (with_found near p (value_at old p))) new)
+          subst (λ x. IsTold old gone (cond (is_some x
+          || is_some (value_at near p)) near (with_found near p (value_at old p))) new)
           (sym is_g)
           (subst (λ x. IsTold old gone (cond (is_some x) near (with_found near p (value_at old p))) new) (sym is_n)
           (subst (λ x. IsTold old gone (with_found near p x) new) (sym is_o) told))
       of None None (Some v) is_g is_n is_o =
-          subst (λ x. IsTold old gone (cond (is_some x || is_some (value_at near p)) near (with_found near p (value_at old p))) new)
+          subst (λ x. IsTold old gone (cond (is_some x
+          || is_some (value_at near p)) near (with_found near p (value_at old p))) new)
           (sym is_g)
           (subst (λ x. IsTold old gone (cond (is_some x) near (with_found near p (value_at old p))) new) (sym is_n)
           (subst (λ x. IsTold old gone (with_found near p x) new) (sym is_o) more))
@@ -252,7 +263,8 @@ module _ (old gone new : Map) where
           apart_at : (q : List ℕ) → is_some (value_at gone q) ≡ true → value_at (with_entry near p v) q ≡ None
           apart_at q goes = ⊎_elim
               (λ one. never (sym goes ∙ (ap (λ k. is_some (value_at gone k)) (exact q p one) ∙ ap is_some is_g)))
-              (λ away. value_at-with_entry near p v q ∙ (ap (λ b. cond b (Some v) (value_at near q)) away ∙ told.apart q goes))
+              (λ away. value_at-with_entry near p v q
+              ∙ (ap (λ b. cond b (Some v) (value_at near q)) away ∙ told.apart q goes))
               (cases_Bool (same q p))
 
           told_at : (q : List ℕ) → value_at new q ≡ value_told old gone (with_entry near p v) q
@@ -263,7 +275,8 @@ module _ (old gone new : Map) where
               ∙ sym (ap (λ x. cond (is_some x) x (cond (is_some (value_at gone q)) None (value_at old q))) at)))
               (λ away. let at : value_at (with_entry near p v) q ≡ value_at near q =
               value_at-with_entry near p v q ∙ ap (λ b. cond b (Some v) (value_at near q)) away in
-              told.told q ∙ sym (ap (λ x. cond (is_some x) x (cond (is_some (value_at gone q)) None (value_at old q))) at))
+              told.told q ∙ sym (ap
+              (λ x. cond (is_some x) x (cond (is_some (value_at gone q)) None (value_at old q))) at))
               (cases_Bool (same q p))
 
           more : IsTold old gone (with_entry near p v) new
@@ -277,7 +290,8 @@ module _ (old gone new : Map) where
             told = told_at;
           }
 
-  all_told : (words : List Word) (near : Map) → IsTold old gone near new → IsTold old gone (near_after old gone near words) new
+  all_told : (words : List Word) (near : Map) → IsTold old gone near new
+      → IsTold old gone (near_after old gone near words) new
   all_told [] near told = told
   all_told (word ∷ words) near told =
       all_told words (with_kept old gone near (prev_key old (key_of word)))
@@ -296,7 +310,9 @@ module _ (old gone : Map) where
 
       of : (b : Bool) → is_some (value_at (cond b near (with_found near p (value_at old p))) q) ≡ true
       of true = there
-      of false = ap is_some (with_found_at near p (value_at old p) q) ∙ more (same q p) (value_at old p) (value_at near q) there
+      of false =
+          ap is_some (with_found_at near p (value_at old p) q)
+          ∙ more (same q p) (value_at old p) (value_at near q) there
 
   stay_near : (words : List Word) (near : Map) (q : List ℕ) → is_some (value_at near q) ≡ true
       → is_some (value_at (near_after old gone near words) q) ≡ true
@@ -322,7 +338,8 @@ module _ (old gone : Map) where
       of true c is_b is_c = ap (λ b. b || is_some (value_at (with_kept old gone near p) p)) is_b
       of false true is_b is_c = second (is_some (value_at gone p)) _ (stays_near near p p is_c)
       of false false is_b is_c = second (is_some (value_at gone p)) _
-          (ap (λ b. is_some (value_at (cond (b || is_some (value_at near p)) near (with_found near p (value_at old p))) p)) is_b
+          (ap (λ b. is_some (value_at (cond (b
+          || is_some (value_at near p)) near (with_found near p (value_at old p))) p)) is_b
           ∙ (ap (λ b. is_some (value_at (cond b near (with_found near p (value_at old p))) p)) is_c
           ∙ (ap is_some (with_found_at near p (value_at old p) p)
           ∙ (ap (λ b. is_some (cond (b && is_some (value_at old p)) (value_at old p) (value_at near p))) (same_self p)

@@ -102,11 +102,13 @@ updates_none q (e ∷ es) old new none =
     ]
 
 updates_bits : (es old new : Map) (m : Option (List ℕ)) (f : ℕ) → IsState es
-    → activity_bits (updates es old new ++ commit_floor m f ∷ []) ≡ map is_no_delete (updates es old new ++ commit_floor m f ∷ [])
+    → activity_bits (updates es old new ++ commit_floor m f ∷ [])
+    ≡ map is_no_delete (updates es old new ++ commit_floor m f ∷ [])
 updates_bits [] old new m f is = refl
 updates_bits (e ∷ es) old new m f is =
     let rest : activity_bits (updates es old new ++ commit_floor m f ∷ [])
-    ≡ map is_no_delete (updates es old new ++ commit_floor m f ∷ []) = updates_bits es old new m f (IsState-tail e es is) in
+    ≡ map is_no_delete (updates es old new ++ commit_floor m f
+    ∷ []) = updates_bits es old new m f (IsState-tail e es is) in
     let last : not (list_any (has_key e.0) (updates es old new ++ commit_floor m f ∷ [])) ≡ true =
     ap not (list_any-append (has_key e.0) (updates es old new) (commit_floor m f ∷ [])
     ∙ ap (λ b. b || (false || false)) (updates_none e.0 es old new (none_later e es is))) in
@@ -131,7 +133,8 @@ deletes_bits (e ∷ es) new behind is =
 
 -- of a batch with its commit all count but the deletes
 pub batch_bits : (old new : Map) (m : Option (List ℕ)) (f : ℕ) → IsState new
-    → activity_bits (batch_operations old new ++ commit_floor m f ∷ []) ≡ map is_no_delete (batch_operations old new ++ commit_floor m f ∷ [])
+    → activity_bits (batch_operations old new ++ commit_floor m f ∷ []) ≡ map is_no_delete (batch_operations old new
+    ++ commit_floor m f ∷ [])
 batch_bits old new m f is =
     let whole = append_assoc (deletes old new) (updates new old new) (commit_floor m f ∷ []) in
     ap activity_bits whole

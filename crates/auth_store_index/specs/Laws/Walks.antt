@@ -50,7 +50,8 @@ is_place at place = ⊎_elim same apart (cases_Bool (place == at))
     of : (o : Ordering) → nat_cmp at place ≡ o → (place == at) ≡ false → is_eq o ≡ false
     of Less is away = refl
     of Greater is away = refl
-    of Equal is away = let clash : true ≡ false = sym (eq-eqb place at (sym (exact_unsigned at place is))) ∙ away in absurd (cc)
+    of Equal is away =
+        let clash : true ≡ false = sym (eq-eqb place at (sym (exact_unsigned at place is))) ∙ away in absurd (cc)
 
     apart : (place == at) ≡ false → is_eq (nat_cmp at place) ≡ (place == at)
     apart away = of (nat_cmp at place) refl away ∙ sym away
@@ -75,18 +76,22 @@ among_more (p ∷ places) place at = of (nat_cmp place p) refl (among_more place
 
     of : (o : Ordering) → nat_cmp place p ≡ o
         → list_any test (insert_key nat_cmp places place) ≡ ((place == at) || list_any test places)
-        → list_any test (match_ordering (nat_cmp place p) (place ∷ p ∷ places) (p ∷ places) (p ∷ insert_key nat_cmp places place))
+        → list_any test (match_ordering (nat_cmp place p) (place ∷ p ∷ places) (p ∷ places) (p
+        ∷ insert_key nat_cmp places place))
         ≡ ((place == at) || list_any test (p ∷ places))
     of Less is later =
-        ap (λ o. list_any test (match_ordering o (place ∷ p ∷ places) (p ∷ places) (p ∷ insert_key nat_cmp places place))) is
+        ap (λ o. list_any test (match_ordering o (place ∷ p ∷ places) (p ∷ places) (p
+        ∷ insert_key nat_cmp places place))) is
         ∙ ap (λ b. b || list_any test (p ∷ places)) (is_place at place)
     of Equal is later =
         let one : place ≡ p = exact_unsigned place p is in
         let same : test p ≡ (place == at) = ap test (sym one) ∙ is_place at place in
-        ap (λ o. list_any test (match_ordering o (place ∷ p ∷ places) (p ∷ places) (p ∷ insert_key nat_cmp places place))) is
+        ap (λ o. list_any test (match_ordering o (place ∷ p ∷ places) (p ∷ places) (p
+        ∷ insert_key nat_cmp places place))) is
         ∙ (twice (test p) (list_any test places) ∙ ap (λ b. b || list_any test (p ∷ places)) same)
     of Greater is later =
-        ap (λ o. list_any test (match_ordering o (place ∷ p ∷ places) (p ∷ places) (p ∷ insert_key nat_cmp places place))) is
+        ap (λ o. list_any test (match_ordering o (place ∷ p ∷ places) (p ∷ places) (p
+        ∷ insert_key nat_cmp places place))) is
         ∙ (ap (λ b. test p || b) later ∙ swap (test p) (place == at) (list_any test places))
 
 -- ---- bits with others behind them
@@ -145,7 +150,8 @@ set_more keys next places i at whole within does here =
 pub set_empty : (keys places : List ℕ) (at : ℕ) → keys ≡ []
     → (list_any (λ p. is_eq (nat_cmp at p)) keys || list_any (λ place. place == at) places)
     ≡ list_any (λ place. place == at) places
-set_empty keys places at none = ap (λ ks. list_any (λ p. is_eq (nat_cmp at p)) ks || list_any (λ place. place == at) places) none
+set_empty keys places at none =
+    ap (λ ks. list_any (λ p. is_eq (nat_cmp at p)) ks || list_any (λ place. place == at) places) none
 
 pub set_whole : (keys places : List ℕ) (i at : ℕ) → length places ≤ i
     → (list_any (λ p. is_eq (nat_cmp at p)) keys || list_any (λ place. place == at) (drop i places))
@@ -153,7 +159,8 @@ pub set_whole : (keys places : List ℕ) (i at : ℕ) → length places ≤ i
     → list_any (λ p. is_eq (nat_cmp at p)) keys ≡ list_any (λ place. place == at) places
 set_whole keys places i at past here =
     or_false (list_any (λ p. is_eq (nat_cmp at p)) keys)
-    ∙ (sym (at_drop_all (λ xs. list_any (λ p. is_eq (nat_cmp at p)) keys || list_any (λ place. place == at) xs) places i past) ∙ here)
+    ∙ (sym (at_drop_all (λ xs. list_any (λ p. is_eq (nat_cmp at p)) keys
+    || list_any (λ place. place == at) xs) places i past) ∙ here)
   where
     or_false : (a : Bool) → a ≡ (a || false)
     or_false true = refl

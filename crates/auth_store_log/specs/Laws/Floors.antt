@@ -19,10 +19,11 @@ floors_apart (operation ∷ one) other all = let later = floors_apart one other 
 -- the operations of a batch have none
 deletes_fit : (es new : Map) → FloorsFit (deletes es new)
 deletes_fit [] new = tt
-deletes_fit (e ∷ es) new = elim (is_some (value_at new e.0)) as (λ b. FloorsFit (cond b [] (delete e.0 ∷ []) ++ deletes es new)) [
-  | true ↦ deletes_fit es new
-  | false ↦ (tt, deletes_fit es new)
-]
+deletes_fit (e ∷ es) new =
+    elim (is_some (value_at new e.0)) as (λ b. FloorsFit (cond b [] (delete e.0 ∷ []) ++ deletes es new)) [
+      | true ↦ deletes_fit es new
+      | false ↦ (tt, deletes_fit es new)
+    ]
 
 updates_fit : (es old new : Map) → FloorsFit (updates es old new)
 updates_fit [] old new = tt
@@ -37,7 +38,8 @@ floor_within : (log : List Operation) → inactivity_floor log ≤ length log
 floor_within [] = omega arith
 floor_within (operation ∷ later) = by (is_active_update operation later) (floor_within later)
   where
-    by : (b : Bool) → inactivity_floor later ≤ length later → cond b 0 (inactivity_floor later + 1) ≤ length (operation ∷ later)
+    by : (b : Bool) → inactivity_floor later ≤ length later
+        → cond b 0 (inactivity_floor later + 1) ≤ length (operation ∷ later)
     by true earlier = omega arith
     by false earlier = omega (arith, earlier)
 
@@ -55,5 +57,6 @@ floors_of_log (commit ∷ history) few =
     let here : floor ≤ 2 ^ 62 = omega (arith, few, parts, more, within, length-append log changes) in
     floors_together log (changes ++ last) (floors_of_log history (omega (arith, few, parts)))
     (floors_together changes last
-    (floors_together (deletes old commit.map) (updates commit.map old commit.map) (deletes_fit old commit.map) (updates_fit commit.map old commit.map))
+    (floors_together (deletes old commit.map) (updates commit.map old commit.map) (deletes_fit old commit.map)
+    (updates_fit commit.map old commit.map))
     (here, tt))

@@ -18,12 +18,15 @@ pub record GoesOn (format : Format) (front log : List Operation) (rest : List �
   pub recorded : AreRecorded format more
 
 module _ (format : Format) where
-  some_bytes : (operation : Operation) (rest : List ℕ) → IsRecorded format operation → [] ≡ record_of format operation ++ rest → ⊥
-  some_bytes operation rest is none = absurd (omega (arith, is.sized, ap length none, length-append (record_of format operation) rest))
+  some_bytes : (operation : Operation) (rest : List ℕ) → IsRecorded format operation
+      → [] ≡ record_of format operation ++ rest → ⊥
+  some_bytes operation rest is none =
+      absurd (omega (arith, is.sized, ap length none, length-append (record_of format operation) rest))
 
   -- what begins the bytes of a log, and is a log, begins it
   pub goes_on : (front log : List Operation) (rest : List ℕ) → AreRecorded format front → AreRecorded format log
-      → log_bytes format.key_size format.value_size log ≡ log_bytes format.key_size format.value_size front ++ rest → GoesOn format front log rest
+      → log_bytes format.key_size format.value_size log ≡ log_bytes format.key_size format.value_size front ++ rest
+      → GoesOn format front log rest
   goes_on [] log rest fronts logs same = record { more = log; whole = refl; bytes = sym same; recorded = logs }
   goes_on (operation ∷ front) [] rest fronts logs same =
       absurd (some_bytes operation (log_bytes format.key_size format.value_size front ++ rest) fronts.0
@@ -34,9 +37,11 @@ module _ (format : Format) where
       let here = record_of format operation in
       let there = record_of format other in
       let behind : List ℕ = log_bytes key value front ++ rest in
-      let parts : there ++ log_bytes key value log ≡ here ++ behind = same ∙ append_assoc here (log_bytes key value front) rest in
+      let parts : there ++ log_bytes key value log ≡ here ++ behind = same
+      ∙ append_assoc here (log_bytes key value front) rest in
       let found : ◌≡◌ {A = Found Operation} (Ok (other, log_bytes key value log)) (Ok (operation, behind)) =
-      sym (record_front format other (log_bytes key value log) logs.0) ∙ ap (operation_in format) parts ∙ record_front format operation behind fronts.0 in
+      sym (record_front format other (log_bytes key value log) logs.0) ∙ ap (operation_in format) parts
+      ∙ record_front format operation behind fronts.0 in
       let pairs : ◌≡◌ {A = Operation × List ℕ} (other, log_bytes key value log) (operation, behind) = cc in
       let one : other ≡ operation = ap (λ (p : Operation × List ℕ). p.0) pairs in
       let later = goes_on front log rest fronts.1 logs.1 (ap (λ (p : Operation × List ℕ). p.1) pairs) in
@@ -48,27 +53,34 @@ module _ (format : Format) where
       }
 
   -- no log has no bytes but the empty one
-  none_behind : (more : List Operation) → AreRecorded format more → [] ≡ log_bytes format.key_size format.value_size more → more ≡ []
+  none_behind : (more : List Operation) → AreRecorded format more
+      → [] ≡ log_bytes format.key_size format.value_size more → more ≡ []
   none_behind [] are none = refl
-  none_behind (operation ∷ more) are none = absurd (some_bytes operation (log_bytes format.key_size format.value_size more) are.0 none)
+  none_behind (operation ∷ more) are none =
+      absurd (some_bytes operation (log_bytes format.key_size format.value_size more) are.0 none)
 
   -- one log has these bytes
   pub log_once : (one other : List Operation) → AreRecorded format one → AreRecorded format other
-      → log_bytes format.key_size format.value_size one ≡ log_bytes format.key_size format.value_size other → one ≡ other
+      → log_bytes format.key_size format.value_size one ≡ log_bytes format.key_size format.value_size other
+      → one ≡ other
   log_once one other ones others same =
       let bytes = log_bytes format.key_size format.value_size one in
       let behind = goes_on one other [] ones others (sym same ∙ sym (append-nil bytes)) in
       sym (behind.whole ∙ ap (λ l. one ++ l) (none_behind behind.more behind.recorded behind.bytes) ∙ append-nil one)
 
   -- one history has this log
-  pub history_once : (one other : History) → AreStates one → AreStates other → AreRecorded format (log_of one) → AreRecorded format (log_of other)
+  pub history_once : (one other : History) → AreStates one → AreStates other → AreRecorded format (log_of one)
+      → AreRecorded format (log_of other)
       → history_bytes format one ≡ history_bytes format other → one ≡ other
   history_once one other ones others recorded recorded_other same =
-      sym (history_of-log_of one ones) ∙ ap history_of (log_once (log_of one) (log_of other) recorded recorded_other same) ∙ history_of-log_of other others
+      sym (history_of-log_of one ones)
+      ∙ ap history_of (log_once (log_of one) (log_of other) recorded recorded_other same)
+      ∙ history_of-log_of other others
 
   -- where a history has the log of these bytes, the operations that have them are the log of the history that they
   -- stand for
-  pub only_log : (log : List Operation) (history : History) → AreRecorded format log → AreStates history → AreRecorded format (log_of history)
+  pub only_log : (log : List Operation) (history : History) → AreRecorded format log → AreStates history
+      → AreRecorded format (log_of history)
       → log_bytes format.key_size format.value_size log ≡ history_bytes format history → log ≡ log_of (history_of log)
   only_log log history are states recorded same =
       let one = log_once log (log_of history) are recorded same in
@@ -76,7 +88,8 @@ module _ (format : Format) where
 
   -- a beginning of the bytes of a log that are a log's is that of the log
   pub log_begins : (one other : List Operation) → AreRecorded format one → AreRecorded format other
-      → take (length (log_bytes format.key_size format.value_size one)) (log_bytes format.key_size format.value_size other)
+      → take (length (log_bytes format.key_size format.value_size one))
+      (log_bytes format.key_size format.value_size other)
       ≡ log_bytes format.key_size format.value_size one → (more : List Operation) × (other ≡ one ++ more)
   log_begins one other ones others begins =
       let bytes = log_bytes format.key_size format.value_size one in

@@ -13,11 +13,13 @@ pub record StandsIn (format : Format) (log : List Operation) (index : ℕ) : Typ
   pub operation : Operation
   pub recorded : IsRecorded format operation
   pub at : slice_get log index ≡ Some operation
-  pub bytes : take (record_size format) (drop (index * record_size format) (log_bytes format.key_size format.value_size log)) ≡ record_of format operation
+  pub bytes : take (record_size format) (drop (index
+      * record_size format) (log_bytes format.key_size format.value_size log)) ≡ record_of format operation
 
 module _ (format : Format) where
   pub stands_in : (log : List Operation) (index : ℕ) → AreRecorded format log
-      → (index + 1) * record_size format ≤ length (log_bytes format.key_size format.value_size log) → StandsIn format log index
+      → (index + 1) * record_size format ≤ length (log_bytes format.key_size format.value_size log)
+      → StandsIn format log index
   stands_in [] index are within = absurd (omega (arith, within))
   stands_in (operation ∷ log) zero are within =
       let size = record_size format in
@@ -27,7 +29,9 @@ module _ (format : Format) where
         operation = operation;
         recorded = are.0;
         at = refl;
-        bytes = ap (λ n. take size (drop n (record_of format operation ++ later))) none ∙ take_at (record_of format operation) later size are.0.sized;
+        bytes =
+            ap (λ n. take size (drop n (record_of format operation ++ later))) none
+            ∙ take_at (record_of format operation) later size are.0.sized;
       }
   stands_in (operation ∷ log) (suc index) are within =
       let size = record_size format in
@@ -46,8 +50,10 @@ module _ (format : Format) where
       }
 
   -- one operation has this record
-  pub record_once : (one other : Operation) → IsRecorded format one → IsRecorded format other → record_of format one ≡ record_of format other → one ≡ other
+  pub record_once : (one other : Operation) → IsRecorded format one → IsRecorded format other
+      → record_of format one ≡ record_of format other → one ≡ other
   record_once one other ones others same =
-      let found : ◌≡◌ {A = Found Operation} (Ok (one, [])) (Ok (other, [])) = sym ones.again ∙ ap (operation_in format) same ∙ others.again in
+      let found : ◌≡◌ {A = Found Operation} (Ok (one, [])) (Ok (other, [])) = sym ones.again
+      ∙ ap (operation_in format) same ∙ others.again in
       let pairs : ◌≡◌ {A = Operation × List ℕ} (one, []) (other, []) = cc in
       ap (λ (p : Operation × List ℕ). p.0) pairs

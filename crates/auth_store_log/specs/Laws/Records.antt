@@ -42,7 +42,8 @@ module _ {A : Type 0} (passes : A → Bool) where
   pub last_passes : (xs : List A) (x : A) → passes x ≡ true → up_to_last passes (xs ++ x ∷ []) ≡ suc (length xs)
   last_passes [] x is = ap (λ b. cond b (suc 0) 0) (any_last [] x is)
   last_passes (y ∷ xs) x is =
-      ap (λ b. cond b (suc (up_to_last passes (xs ++ x ∷ []))) 0) (any_last (y ∷ xs) x is) ∙ ap suc (last_passes xs x is)
+      ap (λ b. cond b (suc (up_to_last passes (xs ++ x ∷ []))) 0) (any_last (y ∷ xs) x is)
+      ∙ ap suc (last_passes xs x is)
 
   pub then_none : (xs ys : List A) → list_any passes ys ≡ false → up_to_last passes (xs ++ ys) ≡ up_to_last passes xs
   then_none [] ys none = none_passes ys none
@@ -77,7 +78,8 @@ module _ {A : Type 0} (passes : A → Bool) where
       (or_parts _ _ whole).0
 
   -- a beginning that has the last one that passes has it as the last
-  pub up_to_last-take : (n : ℕ) (xs : List A) → up_to_last passes xs ≤ n → up_to_last passes (take n xs) ≡ up_to_last passes xs
+  pub up_to_last-take : (n : ℕ) (xs : List A) → up_to_last passes xs ≤ n
+      → up_to_last passes (take n xs) ≡ up_to_last passes xs
   up_to_last-take n xs from =
       let last = up_to_last passes xs in
       let front : List A = take last xs in
@@ -86,7 +88,8 @@ module _ {A : Type 0} (passes : A → Bool) where
       let none = behind_last xs in
       let count : n ≡ length front + (n - last) = omega (arith, there, from) in
       let cut : take n xs ≡ front ++ take (n - last) rest =
-      ap (λ l. take n l) (sym (take-append-drop last xs)) ∙ ap (λ k. take k (front ++ rest)) count ∙ take-append-add front rest (n - last) in
+      ap (λ l. take n l) (sym (take-append-drop last xs)) ∙ ap (λ k. take k (front ++ rest)) count
+      ∙ take-append-add front rest (n - last) in
       ap (up_to_last passes) cut ∙ then_none front (take (n - last) rest) (none_front (n - last) rest none)
       ∙ sym (then_none front rest none) ∙ ap (up_to_last passes) (take-append-drop last xs)
 
@@ -101,7 +104,8 @@ pieces-take size (suc count) (suc more) n bytes within fewer =
     ap (λ k. drop size (take k bytes)) split ∙ drop-take size (n - size) bytes in
     ap (λ l. l ∷ pieces size count (drop size (take n bytes))) (take-take size n bytes (omega (arith, within)))
     ∙ ap (λ l. take size bytes ∷ pieces size count l) rest
-    ∙ ap (λ l. take size bytes ∷ l) (pieces-take size count more (n - size) (drop size bytes) (omega (arith, within)) (omega (arith, fewer)))
+    ∙ ap (λ l. take size bytes
+    ∷ l) (pieces-take size count more (n - size) (drop size bytes) (omega (arith, within)) (omega (arith, fewer)))
 
 -- no operation of a batch is a commit
 deletes_none : (es new : Map) → list_any is_commit (deletes es new) ≡ false
@@ -115,7 +119,8 @@ deletes_none (e ∷ es) new = elim (is_some (value_at new e.0)) as
 updates_none : (es old new : Map) → list_any is_commit (updates es old new) ≡ false
 updates_none [] old new = refl
 updates_none (e ∷ es) old new = elim (is_kept old new e.0 e.1) as
-    (λ b. list_any is_commit (cond b [] (update (ordered e.0 e.1 (next_key new e.0)) ∷ []) ++ updates es old new) ≡ false) [
+    (λ b. list_any is_commit (cond b [] (update (ordered e.0 e.1 (next_key new e.0)) ∷ []) ++ updates es old new)
+    ≡ false) [
       | true ↦ updates_none es old new
       | false ↦ updates_none es old new
     ]
@@ -123,7 +128,8 @@ updates_none (e ∷ es) old new = elim (is_kept old new e.0 e.1) as
 pub batch_none : (old new : Map) → list_any is_commit (batch_operations old new) ≡ false
 batch_none old new =
     list_any-append is_commit (deletes old new) (updates new old new)
-    ∙ or_false (list_any is_commit (deletes old new)) (list_any is_commit (updates new old new)) (updates_none new old new)
+    ∙ or_false (list_any is_commit (deletes old new)) (list_any is_commit (updates new old new))
+    (updates_none new old new)
     ∙ deletes_none old new
 
 -- the last operation of the log of a history is a commit
@@ -154,7 +160,8 @@ module _ (format : Format) where
   some_size : 0 < record_size format
   some_size = omega arith
 
-  commit_again : (operation : Operation) → IsRecorded format operation → is_commit_record format (record_of format operation) ≡ is_commit operation
+  commit_again : (operation : Operation) → IsRecorded format operation
+      → is_commit_record format (record_of format operation) ≡ is_commit operation
   unfolding is_commit_record
   commit_again operation is = ap is_commit_found is.again
 
@@ -169,7 +176,8 @@ module _ (format : Format) where
       → up_to_last (is_commit_record format) (map (record_of format) log) ≡ up_to_last is_commit log
   last_recorded [] are = refl
   last_recorded (operation ∷ log) are =
-      ap (λ b. cond b (suc (up_to_last (is_commit_record format) (map (record_of format) log))) 0) (any_recorded (operation ∷ log) are)
+      ap (λ b. cond b (suc (up_to_last (is_commit_record format) (map (record_of format) log))) 0)
+      (any_recorded (operation ∷ log) are)
       ∙ ap (λ n. cond (list_any is_commit (operation ∷ log)) (suc n) 0) (last_recorded log are.1)
 
   are_front : (n : ℕ) (log : List Operation) → AreRecorded format log → AreRecorded format (take n log)
@@ -187,7 +195,8 @@ module _ (format : Format) where
 
   -- the records of a log and more bytes behind it
   log_pieces : (log : List Operation) (rest : List ℕ) → AreRecorded format log
-      → pieces (record_size format) (length log) (log_bytes format.key_size format.value_size log ++ rest) ≡ map (record_of format) log
+      → pieces (record_size format) (length log) (log_bytes format.key_size format.value_size log ++ rest)
+      ≡ map (record_of format) log
   log_pieces [] rest are = refl
   log_pieces (operation ∷ log) rest are =
       let size = record_size format in
@@ -197,14 +206,17 @@ module _ (format : Format) where
       let parts : (front ++ bytes) ++ rest ≡ front ++ more = append_assoc front bytes rest in
       let first : take size (front ++ more) ≡ front =
       ap (λ n. take n (front ++ more)) (sym are.0.sized) ∙ take-append_seam front more in
-      let behind : drop size (front ++ more) ≡ more = ap (λ n. drop n (front ++ more)) (sym are.0.sized) ∙ drop-append_seam front more in
-      ap (pieces size (suc (length log))) parts ∙ ap (λ l. l ∷ pieces size (length log) (drop size (front ++ more))) first
+      let behind : drop size (front ++ more) ≡ more = ap (λ n. drop n (front ++ more)) (sym are.0.sized)
+      ∙ drop-append_seam front more in
+      ap (pieces size (suc (length log))) parts
+      ∙ ap (λ l. l ∷ pieces size (length log) (drop size (front ++ more))) first
       ∙ ap (λ l. front ∷ pieces size (length log) l) behind ∙ ap (λ l. front ∷ l) (log_pieces log rest are.1)
 
   -- a beginning of the bytes of a log: so many operations, and a piece of the next
   log_cut : (n k : ℕ) (log : List Operation) → AreRecorded format log → n ≤ length log
       → take (n * record_size format + k) (log_bytes format.key_size format.value_size log)
-      ≡ log_bytes format.key_size format.value_size (take n log) ++ take k (log_bytes format.key_size format.value_size (drop n log))
+      ≡ log_bytes format.key_size format.value_size (take n log)
+      ++ take k (log_bytes format.key_size format.value_size (drop n log))
   log_cut n k log are within =
       let bytes : List Operation → List ℕ = log_bytes format.key_size format.value_size in
       let front = bytes (take n log) in
@@ -216,16 +228,19 @@ module _ (format : Format) where
       ∙ ap (λ m. take (m + k) (front ++ rest)) (sym there) ∙ take-append-add front rest k
 
   pub log_front : (n : ℕ) (log : List Operation) → AreRecorded format log → n ≤ length log
-      → take (n * record_size format) (log_bytes format.key_size format.value_size log) ≡ log_bytes format.key_size format.value_size (take n log)
+      → take (n * record_size format) (log_bytes format.key_size format.value_size log)
+      ≡ log_bytes format.key_size format.value_size (take n log)
   log_front n log are within =
       let bytes : List Operation → List ℕ = log_bytes format.key_size format.value_size in
       let none : n * record_size format ≡ n * record_size format + 0 = omega arith in
       ap (λ m. take m (bytes log)) none ∙ log_cut n 0 log are within ∙ append-nil (bytes (take n log))
 
   -- what of a beginning of the bytes of a log is committed
-  pub committed_front : (len : ℕ) (log : List Operation) → AreRecorded format log → len ≤ length (log_bytes format.key_size format.value_size log)
+  pub committed_front : (len : ℕ) (log : List Operation) → AreRecorded format log
+      → len ≤ length (log_bytes format.key_size format.value_size log)
       → committed format (take len (log_bytes format.key_size format.value_size log))
-      ≡ log_bytes format.key_size format.value_size (take (up_to_last is_commit (take (len / record_size format) log)) log)
+      ≡ log_bytes format.key_size format.value_size
+      (take (up_to_last is_commit (take (len / record_size format) log)) log)
   unfolding committed whole_records
   committed_front len log are within =
       let size = record_size format in
@@ -242,14 +257,16 @@ module _ (format : Format) where
       let here = are_front n log are in
       let many : length front ≡ n = length-take-le n log few in
       let part : length rest < size = omega (arith, length-take k (bytes (drop n log)), high, low) in
-      let cut : take len (bytes log) ≡ bytes front ++ rest = ap (λ m. take m (bytes log)) {x = len} {y = n * size + k} (omega (arith, low))
+      let cut : take len (bytes log) ≡ bytes front ++ rest = ap (λ m. take m (bytes log)) {x = len} {y = n * size
+      + k} (omega (arith, low))
       ∙ log_cut n k log are few in
       let long : length (bytes front ++ rest) ≡ n * size + length rest =
       length-append (bytes front) rest ∙ ap (λ m. m + length rest) (log_sized front here ∙ ap (λ m. m * size) many) in
       let count : length (bytes front ++ rest) / size ≡ length front =
       ap (λ m. m / size) long ∙ div-mul-add n size (length rest) part ∙ sym many in
       let records : whole_records format (take len (bytes log)) ≡ map (record_of format) front =
-      ap (whole_records format) cut ∙ ap (λ m. pieces size m (bytes front ++ rest)) count ∙ log_pieces front rest here in
+      ap (whole_records format) cut ∙ ap (λ m. pieces size m (bytes front ++ rest)) count
+      ∙ log_pieces front rest here in
       let last = up_to_last is_commit front in
       let found : up_to_last (is_commit_record format) (whole_records format (take len (bytes log))) ≡ last =
       ap (up_to_last (is_commit_record format)) records ∙ last_recorded front here in
@@ -274,10 +291,12 @@ module _ (format : Format) where
       ∙ ap (log_bytes format.key_size format.value_size) (take-length log)
 
   -- of a log with a commit on the way, either the log before it is committed or all of it
-  pub committed_history : (history : History) (commit : Commit) (len : ℕ) → AreRecorded format (log_of (commit ∷ history))
+  pub committed_history : (history : History) (commit : Commit) (len : ℕ)
+      → AreRecorded format (log_of (commit ∷ history))
       → length (history_bytes format history) ≤ len → len ≤ length (history_bytes format (commit ∷ history))
       → (committed format (take len (history_bytes format (commit ∷ history))) ≡ history_bytes format history)
-      ⊎ (committed format (take len (history_bytes format (commit ∷ history))) ≡ history_bytes format (commit ∷ history))
+      ⊎ (committed format (take len (history_bytes format (commit ∷ history)))
+      ≡ history_bytes format (commit ∷ history))
   committed_history history commit len are from within =
       let log = log_of history in
       let changes = batch_operations (latest_map history) commit.map in
@@ -288,8 +307,13 @@ module _ (format : Format) where
       let bytes : List Operation → List ℕ = log_bytes format.key_size format.value_size in
       let n = len / size in
       let cut = committed_front len all are within in
-      let front : AreRecorded format log = subst (AreRecorded format) (take-append_seam log added) (are_front (length log) all are) in
-      let begun : length log ≤ n = (le-div_iff_mul-le {k = size} {x = length log} {y = len} some_size).1 (omega (arith, from, log_sized log front)) in
+      let front : AreRecorded format log = subst (AreRecorded format) (take-append_seam log added)
+      (are_front (length log) all are) in
+      let begun : length log ≤ n = (le-div_iff_mul-le {k = size} {x = length log} {y = len} some_size).1 (omega (
+        arith,
+        from,
+        log_sized log front,
+      )) in
       let k = n - length log in
       let more : n ≡ length log + k = omega (arith, begun) in
       let shown : take n all ≡ log ++ take k added = ap (λ m. take m all) more ∙ take-append-add log added k in
@@ -311,7 +335,8 @@ module _ (format : Format) where
 
   -- of the first commit, all of it or nothing
   pub committed_first : (len : ℕ) → AreRecorded format (log_of []) → len ≤ length (history_bytes format [])
-      → (committed format (take len (history_bytes format [])) ≡ []) ⊎ (committed format (take len (history_bytes format [])) ≡ history_bytes format [])
+      → (committed format (take len (history_bytes format [])) ≡ [])
+      ⊎ (committed format (take len (history_bytes format [])) ≡ history_bytes format [])
   committed_first len are within =
       let size = record_size format in
       let n = len / size in
@@ -320,7 +345,8 @@ module _ (format : Format) where
       ⊎_elim
       (λ part. let none : n ≡ 0 = omega (arith, part) in
       inl (cut ∙ ap (λ m. bytes (take (up_to_last is_commit (take m (log_of []))) (log_of []))) none))
-      (λ full. let found : up_to_last is_commit (take n (log_of [])) ≡ 1 = ap (up_to_last is_commit) (take_all n (log_of []) full) in
+      (λ full. let found : up_to_last is_commit (take n (log_of []))
+      ≡ 1 = ap (up_to_last is_commit) (take_all n (log_of []) full) in
       inr (cut ∙ ap (λ m. bytes (take m (log_of []))) found))
       (cases_lt n 1)
 
@@ -338,12 +364,23 @@ module _ (format : Format) where
       let long : length there ≡ min len (length bytes) = length-take len bytes in
       let few : last ≤ length bytes / size =
       omega (arith, up_to_last-le (is_commit_record format) records, length-pieces size (length bytes / size) bytes) in
-      let within : last * size ≤ length bytes = times_within last (length bytes / size) size (length bytes) few (div-mul-le_self (length bytes) size) in
+      let within : last * size
+      ≤ length bytes = times_within last (length bytes / size) size (length bytes) few
+      (div-mul-le_self (length bytes) size) in
       let reach : last * size ≤ len = omega (arith, from, length-take (last * size) bytes, within) in
       let low : n * size ≤ len = omega (arith, div-mul-le_self (length there) size, long) in
       let fewer : n ≤ length bytes / size =
-      (le-div_iff_mul-le {k = size} {x = n} {y = length bytes} some).1 (omega (arith, div-mul-le_self (length there) size, long)) in
-      let enough : last ≤ n = (le-div_iff_mul-le {k = size} {x = last} {y = length there} some).1 (omega (arith, long, reach, within)) in
+      (le-div_iff_mul-le {k = size} {x = n} {y = length bytes} some).1 (omega (
+        arith,
+        div-mul-le_self (length there) size,
+        long,
+      )) in
+      let enough : last ≤ n = (le-div_iff_mul-le {k = size} {x = last} {y = length there} some).1 (omega (
+        arith,
+        long,
+        reach,
+        within,
+      )) in
       let cut : pieces size n there ≡ take n records = pieces-take size n (length bytes / size) len bytes low fewer in
       let found : up_to_last (is_commit_record format) (pieces size n there) ≡ last =
       ap (up_to_last (is_commit_record format)) cut ∙ up_to_last-take (is_commit_record format) n records enough in
@@ -357,4 +394,5 @@ module _ (format : Format) where
       ap (λ n. take n bytes) (length-take reach bytes) ∙ take_min reach bytes
 
   pub committed-le : (bytes : List ℕ) → length (committed format bytes) ≤ length bytes
-  committed-le bytes = omega (arith, ap length (committed_begins bytes), length-take (length (committed format bytes)) bytes)
+  committed-le bytes =
+      omega (arith, ap length (committed_begins bytes), length-take (length (committed format bytes)) bytes)

@@ -245,8 +245,10 @@ stands_here : (q k v n : List ℕ) (later : List Operation) (u : List ℕ × Lis
     → StandsAt q (update (ordered k v n) ∷ later) u
 stands_here q k v n later u on is =
     let parts = both_true (same q k) (is_active (update (ordered k v n)) later) on in
-    let here : active_location q (update (ordered k v n) ∷ later) ≡ 0 = ap (λ b. cond b 0 (active_location q later + 1)) on in
-    let said_u : Some (v, n) ≡ Some u = sym (ap (λ p. update_fields (slice_get (update (ordered k v n) ∷ later) p)) here) ∙ is in
+    let here : active_location q (update (ordered k v n) ∷ later)
+    ≡ 0 = ap (λ b. cond b 0 (active_location q later + 1)) on in
+    let said_u : Some (v, n)
+    ≡ Some u = sym (ap (λ p. update_fields (slice_get (update (ordered k v n) ∷ later) p)) here) ∙ is in
     let value : v ≡ u.0 = ap (λ (o : Option (List ℕ × List ℕ)). (unwrap_or o (v, n)).0) said_u in
     let next : n ≡ u.1 = ap (λ (o : Option (List ℕ × List ℕ)). (unwrap_or o (v, n)).1) said_u in
     record {
@@ -283,13 +285,15 @@ StandsAt-log_of q v h states at =
 both_hold : (a b : Bool) → a ≡ true → b ≡ true → (a && b) ≡ true
 both_hold a b one other = rw (one, other) refl
 
-names_it : (q v n : List ℕ) (log : List Operation) (location : ℕ) → slice_get log location ≡ Some (update (ordered q v n))
+names_it : (q v n : List ℕ) (log : List Operation) (location : ℕ)
+    → slice_get log location ≡ Some (update (ordered q v n))
     → list_any (has_key q) log ≡ true
 names_it q v n [] location is = absurd (cc)
 names_it q v n (op ∷ later) zero is =
     let here : op ≡ update (ordered q v n) = cc in
     rw (ap (has_key q) here ∙ same_self q) refl
-names_it q v n (op ∷ later) (suc location) is = or_later (has_key q op) (list_any (has_key q) later) (names_it q v n later location is)
+names_it q v n (op ∷ later) (suc location) is =
+    or_later (has_key q op) (list_any (has_key q) later) (names_it q v n later location is)
   where
     or_later : (a b : Bool) → b ≡ true → (a || b) ≡ true
     or_later true b h = refl
@@ -301,7 +305,8 @@ not_yet : (q : List ℕ) (op : Operation) (later : List Operation) → list_any 
 not_yet q (delete k) later named = elim (same q k) as (λ b. (b && false) ≡ false) [ true ↦ refl | false ↦ refl ]
 not_yet q (update (ordered k v n)) later named =
     ⊎_elim
-    (λ here. let key : list_any (has_key k) later ≡ true = ap (λ x. list_any (has_key x) later) (sym (exact q k here)) ∙ named in
+    (λ here. let key : list_any (has_key k) later ≡ true = ap (λ x. list_any (has_key x) later) (sym (exact q k here))
+    ∙ named in
     rw (here, key) refl)
     (λ away. ap (λ b. b && not (list_any (has_key k) later)) away)
     (cases_Bool (same q k))
@@ -315,20 +320,25 @@ active_update-active q v n [] location at bit = absurd (cc)
 active_update-active q v n (op ∷ later) zero at bit =
     let here : op ≡ update (ordered q v n) = cc in
     let active : is_active op later ≡ true = cc in
-    let on : is_active_on q op later ≡ true = both_hold (has_key q op) (is_active op later) (ap (has_key q) here ∙ same_self q) active in
-    ap (λ b. update_fields (slice_get (op ∷ later) (cond b 0 (active_location q later + 1)))) on ∙ ap (λ o. update_fields (Some o)) here
+    let on : is_active_on q op later ≡ true = both_hold (has_key q op) (is_active op later) (ap (has_key q) here
+    ∙ same_self q) active in
+    ap (λ b. update_fields (slice_get (op ∷ later) (cond b 0 (active_location q later + 1)))) on
+    ∙ ap (λ o. update_fields (Some o)) here
 active_update-active q v n (op ∷ later) (suc location) at bit =
-    passed q op later (not_yet q op later (names_it q v n later location at)) ∙ active_update-active q v n later location at bit
+    passed q op later (not_yet q op later (names_it q v n later location at))
+    ∙ active_update-active q v n later location at bit
 
 -- an active update in the log of a history is the key's value in the latest state
 pub latest-active : (q v n : List ℕ) (h : History) (location : ℕ) → AreStates h
-    → slice_get (log_of h) location ≡ Some (update (ordered q v n)) → slice_get (activity_bits (log_of h)) location ≡ Some true
+    → slice_get (log_of h) location ≡ Some (update (ordered q v n))
+    → slice_get (activity_bits (log_of h)) location ≡ Some true
     → value_at (latest_map h) q ≡ Some v
 latest-active q v n h location states at bit =
     first_part (value_at (latest_map h) q) v n (next_key (latest_map h) q)
     (sym (active_update-log_of q h states) ∙ active_update-active q v n (log_of h) location at bit)
   where
-    first_part : (found : Option (List ℕ)) (v n m : List ℕ) → option_map {U = List ℕ × List ℕ} (λ value. (value, m)) found ≡ Some (v, n) → found ≡ Some v
+    first_part : (found : Option (List ℕ)) (v n m : List ℕ) → option_map {U =
+        List ℕ × List ℕ} (λ value. (value, m)) found ≡ Some (v, n) → found ≡ Some v
     first_part None v n m is = absurd (cc)
     first_part (Some w) v n m is = let whole : Some (w, m) ≡ Some (v, n) = is in
         ap (λ (o : Option (List ℕ × List ℕ)). Some (unwrap_or o (v, n)).0) whole

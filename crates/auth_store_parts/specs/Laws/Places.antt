@@ -20,7 +20,8 @@ Place = Option (List ℕ)
 abbrev said : List ℕ → ℕ → Place → List Operation → Place
 said q start found [] = found
 said q start found (delete k ∷ later) = said q (start + 1) (cond (same q k) None found) later
-said q start found (update (ordered k v n) ∷ later) = said q (start + 1) (cond (same q k) (Some (start ∷ [])) found) later
+said q start found (update (ordered k v n) ∷ later) =
+    said q (start + 1) (cond (same q k) (Some (start ∷ [])) found) later
 said q start found (commit_floor m f ∷ later) = said q (start + 1) found later
 
 value_at-placed : (q : List ℕ) (start : ℕ) (places : Map) (log : List Operation) → IsState places
@@ -94,7 +95,8 @@ said-active q start found (delete k ∷ later) =
 said-active q start found (update (ordered k v n) ∷ later) =
     let own : Bool = list_any (has_key k) later in
     let here : start + 0 ≡ start = omega arith in
-    let counts : spot start (cond (same q k && not own) 0 (active_location q later + 1)) (update (ordered k v n) ∷ later)
+    let counts : spot start (cond (same q k && not own) 0 (active_location q later + 1)) (update (ordered k v n)
+    ∷ later)
     ≡ cond (same q k && not own) (Some (start ∷ [])) (spot (start + 1) (active_location q later) later) =
     elim (same q k && not own) as (λ b. spot start (cond b 0 (active_location q later + 1))
     (update (ordered k v n) ∷ later) ≡ cond b (Some (start ∷ [])) (spot (start + 1) (active_location q later) later)) [
@@ -120,7 +122,8 @@ value_at-places_of q log =
       | true ↦ λ _. refl
       | false ↦ λ none. sym (none_there q 0 log none)
     ]) refl
-    ∙ ap (λ place. option_map (λ _. place ∷ []) (slice_get log (active_location q log))) (start_at (active_location q log)))
+    ∙ ap (λ place. option_map (λ _. place ∷ []) (slice_get log (active_location q log)))
+    (start_at (active_location q log)))
   where
     start_at : (n : ℕ) → 0 + n ≡ n
     start_at n = omega arith

@@ -1,5 +1,5 @@
-//! What is measured of lists that are lent, sealed and replayed. Each answers a number that depends on what was computed, 0
-//! where it was refused.
+//! What is measured of lists that are lent, sealed and replayed. Each answers a number that depends on what was
+//! computed, 0 where it was refused.
 
 ghost use Rattle.std.specs.Prelude.{◌≡◌};
 ghost use Rattle.paged_format.specs.Footers.{content_size};

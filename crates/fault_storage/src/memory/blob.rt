@@ -1,11 +1,13 @@
 //! A blob of the store in memory.
 
-ghost use Rattle.std.specs.Prelude.{◌≡◌, ◌+◌, ◌-◌, ◌^◌, ◌<◌, ◌≤◌, ◌⊎◌, ◌↔◌, false, true, Err, IfOk, IfErr, IfSome, OnOk, OnErr, MatchOption, length, drop, max, replicate};
+ghost use Rattle.std.specs.Prelude.{◌≡◌, ◌+◌, ◌-◌, ◌^◌, ◌<◌, ◌≤◌, ◌⊎◌, ◌↔◌, false, true, Err, IfOk, IfErr, IfSome};
+ghost use Rattle.std.specs.Prelude.{OnOk, OnErr, MatchOption, length, drop, max, replicate};
 ghost use Rattle.std.specs.Vec.{vec_capacity};
 ghost use Rattle.fault_storage_parts.specs.DrawsCode.{rate_of, mode_of};
 ghost use Rattle.fault_storage_parts.specs.Files.{written, fixed, resized_to, with_bytes, with_kept, resized};
 ghost use Rattle.fault_storage_parts.specs.FilesCode.{mutation_of};
-ghost use Rattle.fault_storage.specs.Changes.{IsDrawnChange, made_write, failed_write, mutation_for, shown_after, failed_length, failed_resize};
+ghost use Rattle.fault_storage.specs.Changes.{IsDrawnChange, made_write, failed_write, mutation_for, shown_after};
+ghost use Rattle.fault_storage.specs.Changes.{failed_length, failed_resize};
 ghost use Rattle.fault_storage.specs.Directory.{MemoryReads, MemoryFills, MemoryWrites, MemoryResizes, MemorySyncs};
 ghost use Rattle.fault_storage_parts.specs.Draws.{kept_bytes};
 ghost use Rattle.fault_storage.specs.Stores.{Handle, fixed_write, resizing, showing, is_there, issued, published};
@@ -22,8 +24,8 @@ use rand_core::Rng;
 use std::alloc::{AllocError, Global};
 use std::marker::Model;
 
-/// A blob of the store that is open. Its live bytes are its own: the store learns of them by a sync, and of each write and resize when
-/// it is issued. In the Rust: `commonware_runtime::storage::memory::Blob`.
+/// A blob of the store that is open. Its live bytes are its own: the store learns of them by a sync, and of each write
+/// and resize when it is issued. In the Rust: `commonware_runtime::storage::memory::Blob`.
 #[derive(Debug, Drop)]
 pub struct Blob {
     number: u64,
@@ -85,7 +87,8 @@ fn show_write(live: &mut Vec<u8>, mode: WriteMode, at: usize, bytes: &[u8], all:
 // Which bytes of a write are kept that fails, by these settings. There is room for the choice.
 fn draw_kept<R: Rng>(kept: &mut Vec<bool>, settings: WriteConfig, count: usize, rng: &mut R)
     requires { count ≤ vec_capacity kept.old }
-    ensures { (kept.new.items, R.stream rng.new) ≡ kept_bytes (mode_of settings.mode) (rate_of settings.retention) count (R.stream rng.old) }
+    ensures { (kept.new.items, R.stream rng.new)
+        ≡ kept_bytes (mode_of settings.mode) (rate_of settings.retention) count (R.stream rng.old) }
 {
     kept.clear();
     note_kept_bytes(kept, settings.mode, settings.retention, count, rng);
@@ -124,8 +127,9 @@ impl Blob {
         }
     }
 
-    /// Writes as `write_at` does where one draw does not come true, and a crash keeps bytes of a plain write by these settings; else the
-    /// bytes that are drawn are durable at once, and live. The draw comes after room was found for all. F8, F9; F6.
+    /// Writes as `write_at` does where one draw does not come true, and a crash keeps bytes of a plain write by these
+    /// settings; else the bytes that are drawn are durable at once, and live. The draw comes after room was found for
+    /// all. F8, F9; F6.
     pub fn write_unless<R: Rng>(
         &mut self,
         storage: &mut Storage,
@@ -135,8 +139,10 @@ impl Blob {
         bytes: &[u8],
         mode: WriteMode,
     ) -> Result<(), Error>
-        ensures { IsDrawnChange (R.stream) Call.Write settings.rate (self.old.offset + offset + length bytes.now) (failed_write settings offset bytes.now)
-            (made_write settings mode offset bytes.now) self.old storage.old rng.old result self.new storage.new rng.new }
+        ensures { IsDrawnChange (R.stream) Call.Write settings.rate (self.old.offset + offset
+            + length bytes.now) (failed_write settings offset bytes.now)
+            (made_write settings mode offset bytes.now) self.old storage.old rng.old result
+            self.new storage.new rng.new }
     {
         let Some(end) = end_of(self.offset, offset, bytes.len()) else {
             return Err(Error::NumberEnded);
@@ -156,8 +162,8 @@ impl Blob {
         Ok(())
     }
 
-    /// Resizes as `resize` does where one draw does not come true, and a crash keeps it by these settings; else it goes a part of the
-    /// way, or nowhere, as is drawn. The draw comes after room was found for all. F8, F9; F6.
+    /// Resizes as `resize` does where one draw does not come true, and a crash keeps it by these settings; else it goes
+    /// a part of the way, or nowhere, as is drawn. The draw comes after room was found for all. F8, F9; F6.
     pub fn resize_unless<R: Rng>(
         &mut self,
         storage: &mut Storage,
@@ -165,8 +171,10 @@ impl Blob {
         settings: ResizeConfig,
         size: u64,
     ) -> Result<(), Error>
-        ensures { IsDrawnChange (R.stream) Call.Resize settings.rate (self.old.offset + size) (failed_resize settings size)
-            (resizing size (rate_of settings.retention)) self.old storage.old rng.old result self.new storage.new rng.new }
+        ensures { IsDrawnChange (R.stream) Call.Resize settings.rate (self.old.offset
+            + size) (failed_resize settings size)
+            (resizing size (rate_of settings.retention)) self.old storage.old rng.old result
+            self.new storage.new rng.new }
     {
         let Some(all) = end_of(self.offset, size, 0) else {
             return Err(Error::NumberEnded);
@@ -198,7 +206,8 @@ impl Blob {
         bytes: &[u8],
         kept: &[bool],
     ) -> Result<(), Error>
-        ensures ok { OnOk result ((self.new, storage.new) ≡ fixed_write offset bytes.now kept.now self.old storage.old) }
+        ensures ok { OnOk result ((self.new, storage.new)
+            ≡ fixed_write offset bytes.now kept.now self.old storage.old) }
         ensures err { OnErr result ((self.new ≡ self.old) × (storage.new ≡ storage.old)) }
         ensures ended { (result ≡ Err Error.NumberEnded) ↔ (2 ^ 64 ≤ self.old.offset + offset + length bytes.now) }
         ensures refused { IfErr result (λ e. (e ≡ Error.NumberEnded) ⊎ (e ≡ Error.Memory)) }
@@ -240,8 +249,10 @@ impl Blob {
         retention: Probability,
     ) -> Result<(), AllocError>
         requires { length bytes.now ≤ end }
-        ensures ok { OnOk result ((self.new ≡ showing (with_bytes (end - length bytes.now) bytes.now self.old.live) self.old)
-            × (storage.new ≡ issued self.old.number (written (end - length bytes.now) bytes.now (mode_of mode) (rate_of retention)) storage.old)) }
+        ensures ok { OnOk result ((self.new
+            ≡ showing (with_bytes (end - length bytes.now) bytes.now self.old.live) self.old)
+            × (storage.new ≡ issued self.old.number (written (end - length bytes.now) bytes.now (mode_of mode)
+            (rate_of retention)) storage.old)) }
         ensures err { OnErr result ((self.new ≡ self.old) × (storage.new ≡ storage.old)) }
     {
         let at = end - bytes.len();
@@ -265,7 +276,8 @@ impl Blob {
         kept: &[bool],
     ) -> Result<(), AllocError>
         requires { length bytes.now ≤ end }
-        ensures ok { OnOk result ((self.new ≡ showing (with_kept (end - length bytes.now) bytes.now kept.now self.old.live) self.old)
+        ensures ok { OnOk result ((self.new
+            ≡ showing (with_kept (end - length bytes.now) bytes.now kept.now self.old.live) self.old)
             × (storage.new ≡ issued self.old.number (fixed (end - length bytes.now) bytes.now kept.now) storage.old)) }
         ensures err { OnErr result ((self.new ≡ self.old) × (storage.new ≡ storage.old)) }
     {
@@ -348,7 +360,8 @@ impl crate::storage::Blob<Storage> for Blob {
 
     ghost syncs = { MemorySyncs };
 
-    /// So many bytes from an offset on. F7: they are not all there; F9. In the Rust: `commonware_runtime::Blob::read_at`.
+    /// So many bytes from an offset on. F7: they are not all there; F9. In the Rust:
+    /// `commonware_runtime::Blob::read_at`.
     fn read_at(&self, storage: &mut Storage, offset: u64, count: usize) -> Result<Vec<u8>, Error> {
         let Some(end) = end_of(self.offset, offset, count) else {
             return Err(Error::BlobInsufficientLength);
@@ -378,8 +391,8 @@ impl crate::storage::Blob<Storage> for Blob {
         Ok(())
     }
 
-    /// Writes the bytes at an offset, with zeros in a gap before them. F8: their end would pass a u64; F9. A crash keeps none of a plain
-    /// write but a beginning. In the Rust: `commonware_runtime::Blob::write_at`.
+    /// Writes the bytes at an offset, with zeros in a gap before them. F8: their end would pass a u64; F9. A crash
+    /// keeps none of a plain write but a beginning. In the Rust: `commonware_runtime::Blob::write_at`.
     fn write_at(
         &mut self,
         storage: &mut Storage,

@@ -6,7 +6,8 @@ ghost use Rattle.std.specs.Vec.{vec_len, vec_capacity};
 ghost use Rattle.fault_storage_parts.specs.FilesCode.{mutation_of};
 ghost use Rattle.fault_storage.specs.Directory.{in_order, with_partition, has_name};
 ghost use Rattle.fault_storage_parts.specs.Revisions.{kept_of, shortened, without_last, file_recast, file_without_last};
-ghost use Rattle.fault_storage.specs.Stores.{IsPlace, has_number, without, changed, with_issued, settled_at, settled_in, crashed_files};
+ghost use Rattle.fault_storage.specs.Stores.{IsPlace, has_number, without, changed, with_issued, settled_at};
+ghost use Rattle.fault_storage.specs.Stores.{settled_in, crashed_files};
 
 use crate::directory::{PartitionName, has_partition, put_in_order, remove_name};
 use crate::file::Mutation;
@@ -16,7 +17,8 @@ use std::alloc::AllocError;
 
 // The place of the file with this number, or None where there is none.
 fn place_of(files: &[StoredFile], number: u64) -> Option<usize>
-    ensures { MatchOption result (list_any (has_number number) files.now ≡ false) (IsPlace (has_number number) files.now) }
+    ensures { MatchOption result (list_any (has_number number) files.now
+        ≡ false) (IsPlace (has_number number) files.now) }
 {
     for (place, stored) in files.iter().enumerate() {
         if stored.number == number {
@@ -26,13 +28,15 @@ fn place_of(files: &[StoredFile], number: u64) -> Option<usize>
     None
 }
 
-// Issues the mutation of the file with this number, where it is there. It fails only when out of memory, and then nothing is changed.
+// Issues the mutation of the file with this number, where it is there. It fails only when out of memory, and then
+// nothing is changed.
 pub(crate) fn issue_in(
     files: &mut Vec<StoredFile>,
     number: u64,
     mutation: Mutation,
 ) -> Result<(), AllocError>
-    ensures ok { OnOk result (files.new.items ≡ changed (has_number number) (with_issued (mutation_of mutation)) files.old.items) }
+    ensures ok { OnOk result (files.new.items
+        ≡ changed (has_number number) (with_issued (mutation_of mutation)) files.old.items) }
     ensures err { OnErr result (files.new.items ≡ files.old.items) }
 {
     if let Some(place) = place_of(files, number) {
@@ -124,7 +128,8 @@ pub(crate) fn replace_file(
     stored: StoredFile,
 )
     requires { vec_len files.old < vec_capacity files.old }
-    ensures { files.new.items ≡ in_order stored (filter (λ other. not (has_name partition.now name.now other)) files.old.items) }
+    ensures { files.new.items
+        ≡ in_order stored (filter (λ other. not (has_name partition.now name.now other)) files.old.items) }
 {
     remove_name(files, partition, name);
     put_in_order(files, stored);

@@ -51,8 +51,8 @@ impl DurableFile {
     }
 }
 
-/// What is durable of a store: its partitions, its files under their names, and the next number. One store is made of it,
-/// which numbers its files anew. In the Rust: `commonware_runtime::storage::memory::Snapshot`.
+/// What is durable of a store: its partitions, its files under their names, and the next number. One store is made of
+/// it, which numbers its files anew. In the Rust: `commonware_runtime::storage::memory::Snapshot`.
 #[derive(Debug, Drop)]
 pub struct Snapshot {
     partitions: Vec<PartitionName>,

@@ -1,6 +1,7 @@
 //! The store in memory.
 
-ghost use Rattle.std.specs.Prelude.{◌≡◌, MatchResult, Ok, ◌-◌, ◌^◌, ◌⊎◌, ◌↔◌, [], false, true, Err, IfOk, IfErr, IfNone, IfSome, None, Some, OnOk, OnErr};
+ghost use Rattle.std.specs.Prelude.{◌≡◌, MatchResult, Ok, ◌-◌, ◌^◌, ◌⊎◌, ◌↔◌, [], false, true, Err, IfOk, IfErr};
+ghost use Rattle.std.specs.Prelude.{IfNone, IfSome, None, Some, OnOk, OnErr};
 ghost use Rattle.std.specs.List.{list_any};
 ghost use Rattle.fault_storage_parts.specs.FilesCode.{mutation_of};
 ghost use Rattle.fault_storage_parts.specs.Names.{is_partition_name};
@@ -11,9 +12,13 @@ ghost use Rattle.fault_storage.specs.Faults.{IsDrawnCall};
 ghost use Rattle.fault_storage.specs.Audits.{audit_of};
 ghost use Rattle.fault_storage.specs.Contents.{ShowsContent};
 ghost use Rattle.fault_storage.specs.Snapshots.{Rebuilds, snapshot_of, emptied};
-ghost use Rattle.fault_storage.specs.Directory.{durable_in, MemoryOpens, MemoryPlaces, MemoryRemoves, MemoryScans, IsMissing, fault_in, handle_in, shown_in, new_handle, has_name, has_partition, placed, admitted, removed, removed_partition, HasFile, HasPartition, IsMade, LacksName, LacksPartition};
+ghost use Rattle.fault_storage.specs.Directory.{durable_in, MemoryOpens, MemoryPlaces, MemoryRemoves, MemoryScans};
+ghost use Rattle.fault_storage.specs.Directory.{IsMissing, fault_in, handle_in, shown_in, new_handle, has_name};
+ghost use Rattle.fault_storage.specs.Directory.{has_partition, placed, admitted, removed, removed_partition, HasFile};
+ghost use Rattle.fault_storage.specs.Directory.{HasPartition, IsMade, LacksName, LacksPartition};
 ghost use Rattle.fault_storage_parts.specs.Revisions.{kept_of, shortened};
-ghost use Rattle.fault_storage.specs.Stores.{revised, withdrawn, Store, is_there, without_retired, issued, published, crashed_store};
+ghost use Rattle.fault_storage.specs.Stores.{revised, withdrawn, Store, is_there, without_retired, issued, published};
+ghost use Rattle.fault_storage.specs.Stores.{crashed_store};
 
 use crate::blob_file::BlobFile;
 use crate::checksum::{Checksum as _, Crc32};
@@ -53,7 +58,12 @@ pub struct Storage {
 impl Model for Storage {
     ghost Value = { Store };
 
-    ghost view = { λ it. record { partitions = it.partitions.items; files = it.files.items; order = it.order.items; next = it.next } };
+    ghost view = { λ it. record {
+      partitions = it.partitions.items;
+      files = it.files.items;
+      order = it.order.items;
+      next = it.next;
+    } };
 }
 
 impl Storage {
@@ -70,8 +80,8 @@ impl Storage {
         }
     }
 
-    // Issues the mutation of the file with this number, where it is there. It fails only when out of memory, and then nothing is
-    // changed.
+    // Issues the mutation of the file with this number, where it is there. It fails only when out of memory, and then
+    // nothing is changed.
     pub(crate) fn issue(&mut self, number: u64, mutation: Mutation) -> Result<(), AllocError>
         ensures ok { OnOk result (self.new ≡ issued number (mutation_of mutation) self.old) }
         ensures err { OnErr result (self.new ≡ self.old) }
@@ -149,9 +159,11 @@ impl Storage {
         Ok(())
     }
 
-    /// Removes the blob of this name. F3, F2, F1 (there is no such blob). In the Rust: `commonware_runtime::Storage::remove`.
+    /// Removes the blob of this name. F3, F2, F1 (there is no such blob). In the Rust:
+    /// `commonware_runtime::Storage::remove`.
     pub fn remove_blob(&mut self, partition: &str, name: &[u8]) -> Result<(), Error>
-        ensures ok { OnOk result ((self.new ≡ removed partition.now name.now self.old) × HasFile partition.now name.now self.old) }
+        ensures ok { OnOk result ((self.new ≡ removed partition.now name.now self.old)
+            × HasFile partition.now name.now self.old) }
         ensures err { IfErr result (λ e. (self.new ≡ self.old) × LacksName partition.now name.now self.old e) }
     {
         self.find_partition(partition)?;
@@ -164,7 +176,8 @@ impl Storage {
 
     /// Removes the partition with all its blobs. F3, F2. In the Rust: `commonware_runtime::Storage::remove`.
     pub fn remove_all(&mut self, partition: &str) -> Result<(), Error>
-        ensures ok { OnOk result ((self.new ≡ removed_partition partition.now self.old) × HasPartition partition.now self.old) }
+        ensures ok { OnOk result ((self.new ≡ removed_partition partition.now self.old)
+            × HasPartition partition.now self.old) }
         ensures err { IfErr result (λ e. (self.new ≡ self.old) × LacksPartition partition.now self.old e) }
     {
         self.find_partition(partition)?;
@@ -194,7 +207,8 @@ impl Storage {
         Ok(take_number(&mut self.next))
     }
 
-    // Makes a file anew as `place_file` does, where one draw does not come true: it comes after room was found. F8, F9, F6.
+    // Makes a file anew as `place_file` does, where one draw does not come true: it comes after room was found. F8, F9,
+    // F6.
     fn place_file_unless<R: Rng>(
         &mut self,
         rng: &mut R,
@@ -203,7 +217,8 @@ impl Storage {
         name: &[u8],
         base: Vec<u8>,
     ) -> Result<u64, Error>
-        ensures { IsDrawnCall (R.stream) Call.Open rate (MemoryPlaces partition.now name.now base.items) self.old rng.old result self.new rng.new }
+        ensures { IsDrawnCall (R.stream) Call.Open rate (MemoryPlaces partition.now name.now base.items) self.old
+            rng.old result self.new rng.new }
     {
         if self.next == u64::MAX {
             return Err(Error::NumberEnded);
@@ -225,30 +240,35 @@ impl Storage {
         Ok(take_number(&mut self.next))
     }
 
-    /// Makes the bytes the durable file of this name, in place of one that had it: values of that one are of a blob that is gone. F3,
-    /// F8, F9. In the Rust: `commonware_runtime::storage::memory::Storage::set_raw_blob`.
+    /// Makes the bytes the durable file of this name, in place of one that had it: values of that one are of a blob
+    /// that is gone. F3, F8, F9. In the Rust: `commonware_runtime::storage::memory::Storage::set_raw_blob`.
     pub fn set_raw_blob(
         &mut self,
         partition: &str,
         name: &[u8],
         bytes: Vec<u8>,
     ) -> Result<(), Error>
-        ensures ok { OnOk result ((is_partition_name partition.now ≡ true) × (self.new ≡ placed partition.now name.now bytes.items self.old)) }
+        ensures ok { OnOk result ((is_partition_name partition.now ≡ true)
+            × (self.new ≡ placed partition.now name.now bytes.items self.old)) }
         ensures err { OnErr result (self.new ≡ self.old) }
         ensures invalid { (result ≡ Err Error.PartitionNameInvalid) ↔ (is_partition_name partition.now ≡ false) }
-        ensures refused { IfErr result (λ e. (e ≡ Error.PartitionNameInvalid) ⊎ ((e ≡ Error.NumberEnded) × (self.old.next ≡ 2 ^ 64 - 1)) ⊎ (e ≡ Error.Memory)) }
+        ensures refused { IfErr result (λ e. (e ≡ Error.PartitionNameInvalid)
+            ⊎ ((e ≡ Error.NumberEnded) × (self.old.next ≡ 2 ^ 64 - 1)) ⊎ (e ≡ Error.Memory)) }
     {
         validate_partition_name(partition)?;
         self.place_file(partition, name, bytes)?;
         Ok(())
     }
 
-    /// Makes what is durable of the file the base, and forgets its other mutations: what an opening showed stays. F3, F2, F1, F9.
+    /// Makes what is durable of the file the base, and forgets its other mutations: what an opening showed stays. F3,
+    /// F2, F1, F9.
     /// In the Rust: `commonware_runtime::storage::faulty::Storage::admit`.
     pub fn admit(&mut self, partition: &str, name: &[u8]) -> Result<(), Error>
-        ensures ok { OnOk result (HasFile partition.now name.now self.old × (self.new ≡ admitted partition.now name.now self.old)) }
+        ensures ok { OnOk result (HasFile partition.now name.now self.old
+            × (self.new ≡ admitted partition.now name.now self.old)) }
         ensures err { IfErr result (λ e. (self.new ≡ self.old)
-            × (LacksName partition.now name.now self.old e ⊎ ((e ≡ Error.Memory) × HasFile partition.now name.now self.old))) }
+            × (LacksName partition.now name.now self.old e
+            ⊎ ((e ≡ Error.Memory) × HasFile partition.now name.now self.old))) }
     {
         self.find_partition(partition)?;
         let Some(durable) = durable_of(self.alloc, &self.files, partition, name)? else {
@@ -264,7 +284,8 @@ impl Storage {
     pub fn raw_blob(&self, partition: &str, name: &[u8]) -> Result<Vec<u8>, Error>
         ensures ok { IfOk result (λ bytes. HasFile partition.now name.now self.now
             × (bytes.items ≡ durable_in partition.now name.now self.now.files)) }
-        ensures err { IfErr result (λ e. LacksName partition.now name.now self.now e ⊎ ((e ≡ Error.Memory) × HasFile partition.now name.now self.now)) }
+        ensures err { IfErr result (λ e. LacksName partition.now name.now self.now e
+            ⊎ ((e ≡ Error.Memory) × HasFile partition.now name.now self.now)) }
     {
         self.find_partition(partition)?;
         match durable_of(self.alloc, &self.files, partition, name)? {
@@ -344,9 +365,13 @@ impl Storage {
         name: &[u8],
         versions: Versions,
     ) -> Result<Option<Opened<Blob>>, Error>
-        ensures none { IfOk result (λ found. (is_partition_name partition.now ≡ true) × IfNone found (IsMissing partition.now name.now self.now.files)) }
-        ensures some { IfOk result (λ found. IfSome found (λ opened. MemoryOpens self.now partition.now name.now versions (Ok opened) self.now)) }
-        ensures err { IfErr result (λ e. MemoryOpens self.now partition.now name.now versions (Err e) self.now × ((e ≡ Error.NumberEnded) → ⊥)) }
+        ensures none { IfOk result (λ found. (is_partition_name partition.now ≡ true)
+            × IfNone found (IsMissing partition.now name.now self.now.files)) }
+        ensures some { IfOk result
+            (λ found. IfSome found (λ opened. MemoryOpens self.now partition.now name.now versions
+            (Ok opened) self.now)) }
+        ensures err { IfErr result (λ e. MemoryOpens self.now partition.now name.now versions (Err e) self.now
+            × ((e ≡ Error.NumberEnded) → ⊥)) }
     {
         validate_partition_name(partition)?;
         self.find_blob(partition, name, versions)
@@ -361,10 +386,12 @@ impl Storage {
     ) -> Result<Option<Opened<Blob>>, Error>
         ensures none { IfOk result (λ found. IfNone found (IsMissing partition.now name.now self.now.files)) }
         ensures some { IfOk result (λ found. IfSome found (λ opened. IsMade partition.now name.now self.now.files
-            × (fault_in partition.now name.now versions self.now.files ≡ None) × (opened.blob ≡ handle_in partition.now name.now self.now.files)
+            × (fault_in partition.now name.now versions self.now.files ≡ None)
+            × (opened.blob ≡ handle_in partition.now name.now self.now.files)
             × (opened.size ≡ (shown_in partition.now name.now self.now.files).size)
             × (opened.version ≡ (shown_in partition.now name.now self.now.files).version))) }
-        ensures err { IfErr result (λ e. ((fault : HeaderError) × IsMade partition.now name.now self.now.files × (e ≡ Error.Header fault)
+        ensures err { IfErr result (λ e. ((fault : HeaderError) × IsMade partition.now name.now self.now.files
+            × (e ≡ Error.Header fault)
             × (fault_in partition.now name.now versions self.now.files ≡ Some fault))
             ⊎ ((e ≡ Error.Memory) × (list_any (has_name partition.now name.now) self.now.files ≡ true))) }
     {
@@ -395,9 +422,11 @@ impl Storage {
         name: &[u8],
         versions: Versions,
     ) -> Result<Opened<Blob>, Error>
-        ensures ok { IfOk result (λ opened. (opened.blob ≡ new_handle self.old.next versions) × (opened.size ≡ 0) × (opened.version ≡ versions.greatest)
+        ensures ok { IfOk result (λ opened. (opened.blob ≡ new_handle self.old.next versions) × (opened.size ≡ 0)
+            × (opened.version ≡ versions.greatest)
             × (self.new ≡ placed partition.now name.now (created V0 versions.greatest) self.old)) }
-        ensures err { IfErr result (λ e. (self.new ≡ self.old) × (((e ≡ Error.NumberEnded) × (self.old.next ≡ 2 ^ 64 - 1)) ⊎ (e ≡ Error.Memory))) }
+        ensures err { IfErr result (λ e. (self.new ≡ self.old)
+            × (((e ≡ Error.NumberEnded) × (self.old.next ≡ 2 ^ 64 - 1)) ⊎ (e ≡ Error.Memory))) }
     {
         let layouts = Layouts {
             least: Layout::V0,
@@ -423,7 +452,11 @@ impl Storage {
         versions: Versions,
     ) -> Result<Opened<Blob>, Error>
         ensures { IsDrawnCall (R.stream) Call.Open rate (λ below result after. MatchResult result
-            (λ opened. (opened ≡ record { blob = new_handle below.next versions; size = 0; version = versions.greatest })
+            (λ opened. (opened ≡ record {
+              blob = new_handle below.next versions;
+              size = 0;
+              version = versions.greatest;
+            })
             × (after ≡ placed partition.now name.now (created V0 versions.greatest) below))
             (λ e. (after ≡ below) × (((e ≡ Error.NumberEnded) × (below.next ≡ 2 ^ 64 - 1)) ⊎ (e ≡ Error.Memory))))
             self.old rng.old result self.new rng.new }
@@ -442,8 +475,8 @@ impl Storage {
         })
     }
 
-    /// Opens the blob of this name as `open_versioned` does, where one draw does not come true: it comes after room was found for all.
-    /// F8, F9; F6; F3, F5.
+    /// Opens the blob of this name as `open_versioned` does, where one draw does not come true: it comes after room was
+    /// found for all. F8, F9; F6; F3, F5.
     pub fn open_unless<R: Rng>(
         &mut self,
         rng: &mut R,
@@ -452,7 +485,8 @@ impl Storage {
         name: &[u8],
         versions: Versions,
     ) -> Result<Opened<Blob>, Error>
-        ensures { IsDrawnCall (R.stream) Call.Open rate (λ below. MemoryOpens below partition.now name.now versions) self.old rng.old result self.new rng.new }
+        ensures { IsDrawnCall (R.stream) Call.Open rate (λ below. MemoryOpens below partition.now name.now versions)
+            self.old rng.old result self.new rng.new }
     {
         let found = match self.look_up(partition, name, versions) {
             Ok(None) => {
@@ -486,9 +520,9 @@ impl crate::storage::Storage for Storage {
 
     ghost removes = { MemoryRemoves };
 
-    /// Opens the blob of this name, which it creates in the greatest of the versions where there is none, or none with a
-    /// header. F3; F5: its header is refused; F8: numbers have ended where one would be given; F9. Refused, nothing is
-    /// changed. In the Rust: `commonware_runtime::Storage::open_versioned`.
+    /// Opens the blob of this name, which it creates in the greatest of the versions where there is none, or none with
+    /// a header. F3; F5: its header is refused; F8: numbers have ended where one would be given; F9. Refused, nothing
+    /// is changed. In the Rust: `commonware_runtime::Storage::open_versioned`.
     fn open_versioned(
         &mut self,
         partition: &str,

@@ -127,7 +127,8 @@ fn pushed<const N: usize>(alloc: Global, round: u64) -> u64
     told(filled::<N>(alloc, &hasher, round))
 }
 
-/// The last byte of the root of a million bits that are pushed as bytes, in chunks of 32 bytes, or 0 when out of memory.
+/// The last byte of the root of a million bits that are pushed as bytes, in chunks of 32 bytes, or 0 when out of
+/// memory.
 pub fn pushed_parts(alloc: Global, round: u64) -> u64 {
     let hasher = Hashing::new(Bagging::BackwardFold);
     told(filled_by_bytes::<32>(alloc, &hasher, round))

@@ -142,7 +142,8 @@ pub fn bare_one(round: u64) -> u64 {
         ^ bare_hash(&mut [9; 64], round)
 }
 
-/// The strings of the proof over the first operations: of their leaves, the branches over them, the chunk and two roots.
+/// The strings of the proof over the first operations: of their leaves, the branches over them, the chunk and two
+/// roots.
 pub fn bare_range(round: u64) -> u64 {
     let mut leaf = [5; 33];
     let mut branch = [6; 72];

@@ -9,8 +9,10 @@ use Rattle.merkle_forest.specs.Nodes.{IsNodeAt}
 use Rattle.merkle_forest.specs.Perfect.{IsPairing}
 use Rattle.merkle_forest.specs.Laws.ForestGrowth.{size-mono}
 use Rattle.merkle_core_parts.specs.Layers.{IsLed}
-use Rattle.merkle_core_parts.specs.Mem.{Nodes, Layer, Growth, Replacement, NodeHash, tree_digest, AreNodesOf, AreKeptNodes, IsKept}
-use Rattle.merkle_core_parts.specs.Mem.{node_count, own_layer, with_layer, with_batch, value_after, digest_at, known_over}
+use Rattle.merkle_core_parts.specs.Mem.{Nodes, Layer, Growth, Replacement, NodeHash, tree_digest, AreNodesOf}
+use Rattle.merkle_core_parts.specs.Mem.{AreKeptNodes, IsKept}
+use Rattle.merkle_core_parts.specs.Mem.{node_count, own_layer, with_layer, with_batch, value_after, digest_at}
+use Rattle.merkle_core_parts.specs.Mem.{known_over}
 use Rattle.merkle_core_parts.specs.Laws.Kept.{kept, later}
 use Rattle.merkle_core_parts.specs.Laws.Made.{get-front}
 use Rattle.merkle_core_parts.specs.Laws.Replaced.{known-replaced, length-replaced_from, positions-replaced_at}
@@ -47,7 +49,8 @@ known-new start ps ds more count p counted past =
 -- what a tree keeps that is pruned further, it kept before
 pub kept-before : (rule : Rule) → IsPairing rule → (a b p : ℕ) → a ≤ b → IsKept rule b p → IsKept rule a p
 kept-before rule pairs a b p le (inl after) = inl (omega (arith, after, size-mono rule pairs a b le))
-kept-before rule pairs a b p le (inr (tree, peak, at)) = subst (IsKept rule a) at ((kept rule pairs a b le).peak tree peak)
+kept-before rule pairs a b p le (inr (tree, peak, at)) =
+    subst (IsKept rule a) at ((kept rule pairs a b le).peak tree peak)
 
 -- two trees of one list have one digest at each node that both keep
 alike : (node : NodeHash) (rule : Rule) (some : List (List ℕ)) (one other : Nodes) (more : List (List ℕ))
@@ -85,7 +88,8 @@ shape-with rule nodes layer shape longer counted = record {
 }
 
 -- a layer that leads from one list to another makes of a tree of the one a tree of the other
-pub led-nodes : (rule : Rule) → IsPairing rule → (node : NodeHash) (layer : Layer) (before after : List (List ℕ)) (nodes : Nodes)
+pub led-nodes : (rule : Rule) → IsPairing rule
+    → (node : NodeHash) (layer : Layer) (before after : List (List ℕ)) (nodes : Nodes)
     → IsLed node rule layer before after → AreNodesOf node rule before nodes
     → AreNodesOf node rule after (with_layer rule nodes layer)
 led-nodes rule pairs node layer before after nodes led are =

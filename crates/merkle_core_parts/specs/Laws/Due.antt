@@ -1,5 +1,6 @@
 -- The next replacement, if there is one, is due.
-use Rattle.std.proofs.Common.{◌≡◌, ◌↔◌, ℕ, suc, ◌<◌, inl, inr, false, eqb, List, [], ◌∷◌, sym, ◌∙◌, ap, subst, arith, eq-eqb}
+use Rattle.std.proofs.Common.{◌≡◌, ◌↔◌, ℕ, suc, ◌<◌, inl, inr, false, eqb, List, [], ◌∷◌, sym, ◌∙◌, ap, subst, arith}
+use Rattle.std.proofs.Common.{eq-eqb}
 use Rattle.std.proofs.lemmas.Bool.{cases_lt, lt-ltb, le-ltb, cond-true, cond-false, ne_eqb}
 use Rattle.std.specs.Prelude.{IsTrue, nat_lt}
 use Rattle.merkle_core_parts.specs.Mem.{Replacement, value_after}
@@ -56,7 +57,8 @@ taken-first first boundary u us rest is from bound due =
     keeps b v (w ∷ vs) all = (omega (arith, all.0, all.1.0), all.1.1)
 
 pub taken-next : (first boundary : ℕ) (us mid rest : List Replacement) (u : Replacement) (d : List ℕ)
-    → AreTakenTo first boundary us mid d → mid ≡ u ∷ rest → IsDue (suc first) mid → AreTakenTo first boundary us rest u.1
+    → AreTakenTo first boundary us mid d → mid ≡ u ∷ rest → IsDue (suc first) mid
+    → AreTakenTo first boundary us rest u.1
 taken-next first boundary us mid rest u d taken is due =
     let next = taken-first first boundary u mid rest is taken.order taken.bound due in
     record {

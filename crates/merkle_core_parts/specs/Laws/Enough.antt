@@ -10,11 +10,15 @@ use Rattle.merkle_forest.specs.Nodes.{IsNodeAt, AreChildren}
 use Rattle.merkle_forest.specs.Perfect.{IsPairing}
 use Rattle.merkle_forest.specs.Laws.ForestGrowth.{size-mono}
 use Rattle.merkle_core_parts.specs.Errors.{IsRefusalOver}
-use Rattle.merkle_core_parts.specs.Layers.{Layered, AreStacked, known_at, known_above, layer_at, replacement_at, oldest_leaves}
+use Rattle.merkle_core_parts.specs.Layers.{Layered, AreStacked, known_at, known_above, layer_at, replacement_at}
+use Rattle.merkle_core_parts.specs.Layers.{oldest_leaves}
 use Rattle.merkle_core_parts.specs.Mem.{Nodes, Layer, Replacement, AreKeptNodes, node_count, node_at, IsKept, encoded}
 use Rattle.merkle_core_parts.specs.declared.error.Error.{Error}
-use Rattle.merkle_core_parts.specs.declared.error.Error.TheVariants.{LocationOverflow, Empty, RangeOutOfBounds, InvalidSize, LeafOutOfBounds, ElementPruned}
-use Rattle.merkle_core_parts.specs.declared.error.Error.TheVariants.{DuplicateLocation, UnsortedLocation, InvalidPinnedNodes, StaleBatch, InvalidInactivePeaks}
+use Rattle.merkle_core_parts.specs.declared.error.Error.TheVariants.{LocationOverflow, Empty, RangeOutOfBounds}
+use Rattle.merkle_core_parts.specs.declared.error.Error.TheVariants.{InvalidSize, LeafOutOfBounds, ElementPruned}
+use Rattle.merkle_core_parts.specs.declared.error.Error.TheVariants.{DuplicateLocation, UnsortedLocation}
+use Rattle.merkle_core_parts.specs.declared.error.Error.TheVariants.{InvalidPinnedNodes, StaleBatch}
+use Rattle.merkle_core_parts.specs.declared.error.Error.TheVariants.{InvalidInactivePeaks}
 use Rattle.merkle_core_parts.specs.declared.error.Error.TheVariants.{AncestorDropped}
 use Rattle.merkle_core_parts.specs.declared.error.Error.TheVariants.{MissingNode, Memory}
 use Rattle.merkle_core_parts.specs.Laws.Due.{due-first}
@@ -57,7 +61,8 @@ halves_kept rule pairs n b first p h at_left at_right (branch q l r) few le stan
     }
 
 -- the halves of a place over such a leaf are kept
-pub halves-kept : (rule : Rule) → IsPairing rule → (n b first p h at_left at_right : ℕ) (us : List Replacement) → n ≤ 2 ^ 62
+pub halves-kept : (rule : Rule) → IsPairing rule
+    → (n b first p h at_left at_right : ℕ) (us : List Replacement) → n ≤ 2 ^ 62
     → b ≤ n → IsPlace rule n first p h → (h ≡ 0 → ⊥) → AreChildren rule p h at_left at_right → AreFrom b us
     → IsDue (first + 2 ^ h) us → AreKeptHalves rule b at_left at_right
 halves-kept rule pairs n b first p h at_left at_right us few le it some children from due =

@@ -1,11 +1,14 @@
 -- What a leaf adds to a forest: itself, and branches whose children stand before them.
-use Rattle.std.proofs.Common.{◌≡◌, ℕ, zero, suc, ◌+◌, ◌^◌, ◌<◌, ◌⊎◌, inl, inr, List, [], ◌∷◌, length, map, refl, ◌∙◌, ap, subst, arith}
+use Rattle.std.proofs.Common.{◌≡◌, ℕ, zero, suc, ◌+◌, ◌^◌, ◌<◌, ◌⊎◌, inl, inr, List, [], ◌∷◌, length, map, refl, ◌∙◌}
+use Rattle.std.proofs.Common.{ap, subst, arith}
 use Rattle.std.proofs.lemmas.List.{length-map}
 use Rattle.std.specs.List.{range_with_len}
-use Rattle.merkle_forest.specs.Forest.{Tree, leaf, branch, position, height, leaf_count, size, leaves, Rule, merged, forest_of, IsPairOfEquals}
+use Rattle.merkle_forest.specs.Forest.{Tree, leaf, branch, position, height, leaf_count, size, leaves, Rule, merged}
+use Rattle.merkle_forest.specs.Forest.{forest_of, IsPairOfEquals}
 use Rattle.merkle_forest.specs.Perfect.{IsPairing}
 use Rattle.merkle_forest.specs.Nodes.{IsWithin, IsNodeAt, IsBranchOf, AreParents}
-use Rattle.merkle_forest.specs.Laws.ForestGrowth.{leaves-merged, size-merged, pair_within, peaks_after_merges-keeps_next, leaves-forest_of}
+use Rattle.merkle_forest.specs.Laws.ForestGrowth.{leaves-merged, size-merged, pair_within}
+use Rattle.merkle_forest.specs.Laws.ForestGrowth.{peaks_after_merges-keeps_next, leaves-forest_of}
 use Rattle.merkle_forest.specs.Laws.Nodes.{peak-node}
 use Rattle.merkle_forest.specs.Laws.NodeGrowth.{numbered}
 use Rattle.merkle_forest.specs.Laws.Parents.{range-get}

@@ -71,7 +71,8 @@ pinned-peak q (p ∷ ps) it =
       | inr last ↦ (p, (leaves ps, inl (refl, refl)), last)
     ]
 
-pub digest-there : (q : ℕ) (pinned : List Replacement) → IsOneOf q (map (λ one. one.0) pinned) → IsSome (digest_at pinned q)
+pub digest-there : (q : ℕ) (pinned : List Replacement) → IsOneOf q (map (λ one. one.0) pinned)
+    → IsSome (digest_at pinned q)
 digest-there q [] it = absurd it
 digest-there q (u ∷ us) it =
     elim (cases_eq u.0 q) [
@@ -84,7 +85,8 @@ digest-there q (u ∷ us) it =
           (digest-there q us (elim it [ inl same ↦ absurd (apart same) | inr more ↦ more ]))
     ]
 
-pub digest-where : (q : ℕ) (pinned : List Replacement) → IsSome (digest_at pinned q) → IsOneOf q (map (λ one. one.0) pinned)
+pub digest-where : (q : ℕ) (pinned : List Replacement) → IsSome (digest_at pinned q)
+    → IsOneOf q (map (λ one. one.0) pinned)
 digest-where q [] some = absurd cc
 digest-where q (u ∷ us) some =
     elim (cases_eq u.0 q) [
@@ -97,7 +99,8 @@ digest-where q (u ∷ us) some =
 pub have-pinned : (rule : Rule) (nodes : Nodes) → AreKeptNodes rule nodes → HavePeaks rule nodes.boundary nodes.pinned
 have-pinned rule nodes shape tree peak =
     digest-there (position tree) nodes.pinned
-    (subst (IsOneOf (position tree)) (sym shape.pinned) (peak-pinned peak.0 tree (forest_of rule nodes.boundary) peak.1))
+    (subst (IsOneOf (position tree)) (sym shape.pinned)
+    (peak-pinned peak.0 tree (forest_of rule nodes.boundary) peak.1))
 
 -- what is kept is there
 pub kept-there : (rule : Rule) (nodes : Nodes) (p : ℕ) → AreKeptNodes rule nodes → IsKept rule nodes.boundary p
@@ -124,7 +127,8 @@ there-kept rule nodes p shape some =
       | inl before ↦
           inr (pinned-peak p (forest_of rule nodes.boundary) (subst (IsOneOf p) shape.pinned
           (digest-where p nodes.pinned (subst (λ o. IsSome o)
-          (cond-true (ltb p start) (digest_at nodes.pinned p) (slice_get nodes.digests (p - start)) (lt-ltb p start before))
+          (cond-true (ltb p start) (digest_at nodes.pinned p) (slice_get nodes.digests (p - start))
+          (lt-ltb p start before))
           some))))
       | inr after ↦ inl after
     ]
@@ -135,7 +139,8 @@ pub right-there : (node : NodeHash) (rule : Rule) (leaf_digests : List (List ℕ
     → IfSome (node_at rule nodes (position t)) (λ d. d ≡ tree_digest node leaf_digests f t)
 right-there node rule leaf_digests nodes are f t stands = own (node_at rule nodes (position t)) refl
   where
-    own : (o : Option (List ℕ)) → o ≡ node_at rule nodes (position t) → IfSome o (λ d. d ≡ tree_digest node leaf_digests f t)
+    own : (o : Option (List ℕ)) → o ≡ node_at rule nodes (position t)
+        → IfSome o (λ d. d ≡ tree_digest node leaf_digests f t)
     own None is = tt
     own (Some d) is =
         let some : IsSome (node_at rule nodes (position t)) = subst (λ o. IsSome o) is refl in

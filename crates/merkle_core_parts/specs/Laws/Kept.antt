@@ -1,6 +1,8 @@
 -- The nodes from a leaf count on, and the peaks of that many leaves: what later nodes are made from.
-use Rattle.std.proofs.Common.{◌≡◌, ℕ, zero, suc, ◌+◌, ◌-◌, ◌≤◌, ◌⊎◌, inl, inr, List, ◌∷◌, length, map, refl, ap, subst, arith}
-use Rattle.merkle_forest.specs.Forest.{Tree, leaf, branch, position, height, size, Rule, merged, forest_of, IsPairOfEquals}
+use Rattle.std.proofs.Common.{◌≡◌, ℕ, zero, suc, ◌+◌, ◌-◌, ◌≤◌, ◌⊎◌, inl, inr, List, ◌∷◌, length, map, refl, ap, subst}
+use Rattle.std.proofs.Common.{arith}
+use Rattle.merkle_forest.specs.Forest.{Tree, leaf, branch, position, height, size, Rule, merged, forest_of}
+use Rattle.merkle_forest.specs.Forest.{IsPairOfEquals}
 use Rattle.merkle_forest.specs.Perfect.{IsPairing}
 use Rattle.merkle_forest.specs.Nodes.{IsNodeAt}
 use Rattle.merkle_forest.specs.Laws.ForestGrowth.{size-merged, size-mono, peaks_after_merges-keeps_next}
@@ -12,8 +14,10 @@ use Rattle.merkle_core_parts.specs.Laws.Growth.{IsNew, IsMerge, grown, merged-ma
 pub record AreKept (rule : Rule) (b : ℕ) (peaks : List Tree) : Type 0 where
   pub large : node_count rule b ≤ size peaks
   pub peak : (t : Tree) → IsPeak t peaks → IsKept rule b (position t)
-  pub left : (f p : ℕ) (l r : Tree) → IsNodeAt f (branch p l r) peaks → node_count rule b ≤ p → IsKept rule b (position l)
-  pub right : (f p : ℕ) (l r : Tree) → IsNodeAt f (branch p l r) peaks → node_count rule b ≤ p → IsKept rule b (position r)
+  pub left : (f p : ℕ) (l r : Tree) → IsNodeAt f (branch p l r) peaks → node_count rule b ≤ p
+      → IsKept rule b (position l)
+  pub right : (f p : ℕ) (l r : Tree) → IsNodeAt f (branch p l r) peaks → node_count rule b ≤ p
+      → IsKept rule b (position r)
 
 new_peak : (rule : Rule) (b : ℕ) (t left right : Tree) (peaks : List Tree) → AreKept rule b peaks
     → (t ≡ branch (size peaks) left right) ⊎ IsPeak t peaks → IsKept rule b (position t)
@@ -23,7 +27,8 @@ new_peak rule b t left right peaks kept (inr old) = kept.peak t old
 
 new_left : (rule : Rule) (b f p : ℕ) (l r : Tree) (peaks after : List Tree) → AreKept rule b peaks
     → (it : IsMerge (size peaks) peaks after) → node_count rule b ≤ p
-    → (branch p l r ≡ branch (size peaks) it.left it.right) ⊎ IsNodeAt f (branch p l r) peaks → IsKept rule b (position l)
+    → (branch p l r ≡ branch (size peaks) it.left it.right) ⊎ IsNodeAt f (branch p l r) peaks
+    → IsKept rule b (position l)
 new_left rule b f p l r peaks after kept it from (inl new) =
     let same : it.left ≡ l = cc in
     subst (λ t. IsKept rule b (position t)) same (kept.peak it.left it.left_peak)
@@ -31,7 +36,8 @@ new_left rule b f p l r peaks after kept it from (inr old) = kept.left f p l r o
 
 new_right : (rule : Rule) (b f p : ℕ) (l r : Tree) (peaks after : List Tree) → AreKept rule b peaks
     → (it : IsMerge (size peaks) peaks after) → node_count rule b ≤ p
-    → (branch p l r ≡ branch (size peaks) it.left it.right) ⊎ IsNodeAt f (branch p l r) peaks → IsKept rule b (position r)
+    → (branch p l r ≡ branch (size peaks) it.left it.right) ⊎ IsNodeAt f (branch p l r) peaks
+    → IsKept rule b (position r)
 new_right rule b f p l r peaks after kept it from (inl new) =
     let same : it.right ≡ r = cc in
     subst (λ t. IsKept rule b (position t)) same (kept.peak it.right it.right_peak)
@@ -51,7 +57,8 @@ kept-merged rule b index peaks pair kept =
           (it.from f (branch p l r) stands);
     }
 
-leaf_peak : (rule : Rule) (b : ℕ) (t : Tree) (peaks : List Tree) → AreKept rule b peaks → IsPeak t (leaf (size peaks) ∷ peaks)
+leaf_peak : (rule : Rule) (b : ℕ) (t : Tree) (peaks : List Tree) → AreKept rule b peaks
+    → IsPeak t (leaf (size peaks) ∷ peaks)
     → IsKept rule b (position t)
 leaf_peak rule b t peaks kept (f, inl new) =
     let at : position t ≡ size peaks = ap position new.1 in inl (omega (arith, at, kept.large))
@@ -70,7 +77,8 @@ leaf_right : (rule : Rule) (b f p : ℕ) (l r : Tree) (peaks : List Tree) → Ar
 leaf_right rule b f p l r peaks kept (inl new) from = no_branch (size peaks) p l r new.1
 leaf_right rule b f p l r peaks kept (inr old) from = kept.right f p l r old from
 
-kept-leaf : (rule : Rule) (b : ℕ) (peaks : List Tree) → AreKept rule b peaks → AreKept rule b (leaf (size peaks) ∷ peaks)
+kept-leaf : (rule : Rule) (b : ℕ) (peaks : List Tree) → AreKept rule b peaks
+    → AreKept rule b (leaf (size peaks) ∷ peaks)
 kept-leaf rule b peaks kept = record {
   large = omega (arith, kept.large);
   peak = λ t stands. leaf_peak rule b t peaks kept stands;

@@ -1,6 +1,8 @@
 -- What the layers of a batch know of a list is right, and which trees they make.
-use Rattle.std.proofs.Common.{◌≡◌, ℕ, zero, suc, ◌+◌, ◌-◌, ◌<◌, ◌≤◌, ◌⊎◌, inl, inr, Bool, true, false, cond, eqb, ltb, List, [], ◌∷◌}
-use Rattle.std.proofs.Common.{Option, Some, None, ◌++◌, length, map, take, drop, get_or, refl, sym, ◌∙◌, ap, ap₂, subst, arith}
+use Rattle.std.proofs.Common.{◌≡◌, ℕ, zero, suc, ◌+◌, ◌-◌, ◌<◌, ◌≤◌, ◌⊎◌, inl, inr, Bool, true, false, cond, eqb, ltb}
+use Rattle.std.proofs.Common.{List, [], ◌∷◌}
+use Rattle.std.proofs.Common.{Option, Some, None, ◌++◌, length, map, take, drop, get_or, refl, sym, ◌∙◌, ap, ap₂, subst}
+use Rattle.std.proofs.Common.{arith}
 use Rattle.std.proofs.lemmas.Bool.{cases_lt, cond-true, cond-false, lt-ltb, le-ltb}
 use Rattle.std.specs.Prelude.{slice_get, IfSome, unwrap_or}
 use Rattle.std.specs.Option.{option_or}
@@ -9,7 +11,8 @@ use Rattle.merkle_forest.specs.Nodes.{IsNodeAt}
 use Rattle.merkle_forest.specs.Perfect.{IsPairing}
 use Rattle.merkle_core_parts.specs.Layers.{replacement_at, layer_at, known_above, AreLed, IsOfOne, IsFirstAt, IsWhole}
 use Rattle.merkle_core_parts.specs.Layers.{AreStacked, bases, oldest_leaves, with_layers}
-use Rattle.merkle_core_parts.specs.Mem.{Base, Layer, Nodes, NodeHash, Replacement, AreKeptNodes, node_count, node_at, tree_digest}
+use Rattle.merkle_core_parts.specs.Mem.{Base, Layer, Nodes, NodeHash, Replacement, AreKeptNodes, node_count, node_at}
+use Rattle.merkle_core_parts.specs.Mem.{tree_digest}
 use Rattle.merkle_core_parts.specs.Mem.{AreNodesOf, value_after, with_layer, list_peaks, base_of}
 use Rattle.merkle_core_parts.specs.Laws.Batches.{shape-with, led-nodes}
 use Rattle.merkle_core_parts.specs.Laws.Held.{right-there}
@@ -51,13 +54,16 @@ at_old None rest was now same later = later same
 at_old (Some d) rest was now same later = same
 
 -- what is known of a node that a layer does not change, or which list of theirs a tree is of
-abbrev KnowsOr : (rule : Rule) (node : NodeHash) (nodes : Nodes) (list : List (List ℕ)) (lists : List (List (List ℕ))) (f : ℕ) (t : Tree)
+abbrev KnowsOr : (rule : Rule) (node : NodeHash) (nodes : Nodes) (list : List (List ℕ))
+    (lists : List (List (List ℕ))) (f : ℕ) (t : Tree)
     → Type 0
 KnowsOr rule node nodes list lists f t =
     IfSome (node_at rule nodes (position t)) (λ d. d ≡ tree_digest node list f t) ⊎ IsOfOne node rule nodes lists
 
-below_too : (rule : Rule) (node : NodeHash) (nodes : Nodes) (list before : List (List ℕ)) (earlier : List (List (List ℕ)))
-    (f : ℕ) (t : Tree) → IsNodeAt f t (forest_of rule (length list)) → tree_digest node before f t ≡ tree_digest node list f t
+below_too : (rule : Rule) (node : NodeHash) (nodes : Nodes) (list before : List (List ℕ))
+    (earlier : List (List (List ℕ)))
+    (f : ℕ) (t : Tree) → IsNodeAt f t (forest_of rule (length list))
+    → tree_digest node before f t ≡ tree_digest node list f t
     → KnowsOr rule node nodes list (list ∷ before ∷ earlier) f t → KnowsOr rule node nodes before (before ∷ earlier) f t
 below_too rule node nodes list before earlier f t stands same (inl there) =
     inl (subst (λ v. IfSome (node_at rule nodes (position t)) (λ d. d ≡ v)) (sym same) there)
@@ -71,7 +77,8 @@ known_right : (rule : Rule) → IsPairing rule → (node : NodeHash) (layers : L
     → KnowsOr rule node nodes list (list ∷ earlier) f t → IsNodeAt f t (forest_of rule (length list))
     → IfSome (known_above rule layers (node_at rule nodes) (position t)) (λ d. d ≡ tree_digest node list f t)
 known_right rule pairs node [] [] list nodes f t led (inl there) stands = there
-known_right rule pairs node [] [] list nodes f t led (inr (inl are)) stands = right-there node rule list nodes are f t stands
+known_right rule pairs node [] [] list nodes f t led (inr (inl are)) stands =
+    right-there node rule list nodes are f t stands
 known_right rule pairs node [] [] list nodes f t led (inr (inr none)) stands = absurd none
 known_right rule pairs node [] (before ∷ earlier) list nodes f t led over stands = absurd led
 known_right rule pairs node (layer ∷ below) [] list nodes f t led over stands = absurd led
@@ -104,21 +111,26 @@ known_right rule pairs node (layer ∷ below) (before ∷ earlier) list nodes f 
           refl
     ]
 
--- the digests that layers and a tree have, whatever list of theirs the tree is of, are those of the list that they lead to
-pub known-right : (rule : Rule) → IsPairing rule → (node : NodeHash) (layers : List Layer) (earlier : List (List (List ℕ)))
-    (list : List (List ℕ)) (nodes : Nodes) → AreLed node rule layers earlier list → IsOfOne node rule nodes (list ∷ earlier)
+-- the digests that layers and a tree have, whatever list of theirs the tree is of, are those of the list that they lead
+-- to
+pub known-right : (rule : Rule) → IsPairing rule
+    → (node : NodeHash) (layers : List Layer) (earlier : List (List (List ℕ)))
+    (list : List (List ℕ)) (nodes : Nodes) → AreLed node rule layers earlier list
+    → IsOfOne node rule nodes (list ∷ earlier)
     → (f : ℕ) (t : Tree) → IsNodeAt f t (forest_of rule (length list))
     → IfSome (known_above rule layers (node_at rule nodes) (position t)) (λ d. d ≡ tree_digest node list f t)
 known-right rule pairs node layers earlier list nodes led over f t stands =
     known_right rule pairs node layers earlier list nodes f t led (inr over) stands
 
 -- the first of the bases
-pub first-own : (tree own : Base) (more : List Base) (index : ℕ) → own ≡ tree → IsFirstAt tree (own ∷ more) index → index ≡ 0
+pub first-own : (tree own : Base) (more : List Base) (index : ℕ) → own ≡ tree
+    → IsFirstAt tree (own ∷ more) index → index ≡ 0
 first-own tree own more zero is at = refl
 first-own tree own more (suc k) is at = absurd (at.none_before 0 (omega arith) (ap (λ b. Some b) is))
 
 -- the bases that layers know, wherever they are held
-pub base-at : {A : Type 0} (xs : List A) (layer_of : A → Layer) (own : Base) (i : ℕ) (x d : A) → i < length xs → x ≡ get_or xs i d
+pub base-at : {A : Type 0} (xs : List A) (layer_of : A → Layer) (own : Base) (i : ℕ) (x d : A)
+    → i < length xs → x ≡ get_or xs i d
     → slice_get (bases own (map layer_of xs)) (suc i) ≡ Some (layer_of x).base
 base-at [] layer_of own i x d lt is = absurd (omega arith)
 base-at (y ∷ xs) layer_of own zero x d lt is = ap (λ z. Some (layer_of z).base) (sym is)
@@ -147,18 +159,22 @@ over-first rule leaves [] stacked = refl
 over-first rule leaves (layer ∷ below) stacked = sym stacked.0
 
 -- each layer stands over those after it
-pub stacked-at : {A : Type 0} (rule : Rule) (xs : List A) (layer_of : A → Layer) (leaves : ℕ) (i : ℕ) (x d : A) → i < length xs
+pub stacked-at : {A : Type 0} (rule : Rule) (xs : List A) (layer_of : A → Layer) (leaves : ℕ) (i : ℕ) (x d : A)
+    → i < length xs
     → x ≡ get_or xs i d → AreStacked rule leaves (map layer_of xs)
-    → IsOver rule leaves (oldest_leaves leaves (map layer_of xs)) (map layer_of xs) (drop (suc i) (map layer_of xs)) (layer_of x)
+    → IsOver rule leaves (oldest_leaves leaves (map layer_of xs)) (map layer_of xs)
+    (drop (suc i) (map layer_of xs)) (layer_of x)
 stacked-at rule [] layer_of leaves i x d lt is stacked = absurd (omega arith)
 stacked-at {A} rule (y ∷ xs) layer_of leaves zero x d lt is stacked =
-    let own : IsOver rule leaves (oldest_leaves leaves (map layer_of (y ∷ xs))) (map layer_of (y ∷ xs)) (map layer_of xs) (layer_of y) =
+    let own : IsOver rule leaves (oldest_leaves leaves (map layer_of (y ∷ xs))) (map layer_of (y ∷ xs))
+    (map layer_of xs) (layer_of y) =
     record {
       whole = stacked.1;
       over = over-first rule (layer_of y).base.leaves (map layer_of xs) stacked.2;
       under = omega (arith, stacked.0);
     } in
-    subst (λ (z : A). IsOver rule leaves (oldest_leaves leaves (map layer_of (y ∷ xs))) (map layer_of (y ∷ xs)) (map layer_of xs) (layer_of z))
+    subst (λ (z : A). IsOver rule leaves (oldest_leaves leaves (map layer_of (y ∷ xs))) (map layer_of (y ∷ xs))
+    (map layer_of xs) (layer_of z))
     (sym is) own
 stacked-at rule (y ∷ xs) layer_of leaves (suc i) x d lt is stacked =
     let rest = stacked-at rule xs layer_of (layer_of y).base.leaves i x d (omega arith) is stacked.2 in
@@ -246,7 +262,8 @@ put-over rule nodes layers own n pinned digests is_n is_pinned is_digests =
     }) (sym (layers-boundary rule nodes layers)) is_pinned
 
 -- the layers that follow a tree of one of their lists make of it a tree of the list that they lead to
-pub layers-nodes : (rule : Rule) → IsPairing rule → (node : NodeHash) (layers : List Layer) (earlier : List (List (List ℕ)))
+pub layers-nodes : (rule : Rule) → IsPairing rule
+    → (node : NodeHash) (layers : List Layer) (earlier : List (List (List ℕ)))
     (list stage : List (List ℕ)) (count : ℕ) (nodes : Nodes) → AreLed node rule layers earlier list
     → slice_get (list ∷ earlier) count ≡ Some stage → AreNodesOf node rule stage nodes
     → AreNodesOf node rule list (with_layers rule nodes (take count layers))
@@ -277,7 +294,8 @@ nothing rule p = none (ltb p (node_count rule 0)) (p - node_count rule 0)
     none false (suc k) = refl
 
 -- so what layers know by themselves is right as well
-pub layers-right : (rule : Rule) → IsPairing rule → (node : NodeHash) (layers : List Layer) (earlier : List (List (List ℕ)))
+pub layers-right : (rule : Rule) → IsPairing rule
+    → (node : NodeHash) (layers : List Layer) (earlier : List (List (List ℕ)))
     (list : List (List ℕ)) (f : ℕ) (t : Tree) (digest : List ℕ) → AreLed node rule layers earlier list
     → IsNodeAt f t (forest_of rule (length list)) → known_above rule layers (λ p. None) (position t) ≡ Some digest
     → digest ≡ tree_digest node list f t

@@ -1,5 +1,6 @@
 -- The nodes that leaves add to a tree, as they are made one after the other.
-use Rattle.std.proofs.Common.{◌≡◌, ℕ, zero, suc, ◌+◌, ◌-◌, ◌<◌, ◌≤◌, ◌⊎◌, inl, inr, eqb, ltb, List, [], ◌∷◌, ◌++◌, length, map}
+use Rattle.std.proofs.Common.{◌≡◌, ℕ, zero, suc, ◌+◌, ◌-◌, ◌<◌, ◌≤◌, ◌⊎◌, inl, inr, eqb, ltb, List, [], ◌∷◌, ◌++◌}
+use Rattle.std.proofs.Common.{length, map}
 use Rattle.std.proofs.Common.{Option, Some, get_or, refl, sym, ◌∙◌, ap, ap₂, subst, arith, eq-eqb}
 use Rattle.std.proofs.lemmas.Bool.{cases_lt, cases_eq, cond-true, cond-false, lt-ltb, le-ltb, ne_eqb}
 use Rattle.std.proofs.lemmas.List.{length-map, map-append}
@@ -72,7 +73,8 @@ some_at [] i lt = absurd (omega arith)
 some_at (x ∷ xs) zero lt = refl
 some_at (x ∷ xs) (suc i) lt = some_at xs i (omega arith)
 
-peak_some : (rule : Rule) (base : ℕ) (peaks : List Replacement) (p : ℕ) → HavePeaks rule base peaks → p < node_count rule base
+peak_some : (rule : Rule) (base : ℕ) (peaks : List Replacement) (p : ℕ) → HavePeaks rule base peaks
+    → p < node_count rule base
     → IsKept rule base p → IsSome (digest_at peaks p)
 peak_some rule base peaks p have lt (inl after) = absurd (omega (arith, lt, after))
 peak_some rule base peaks p have lt (inr (tree, peak, at)) = subst (λ q. IsSome (digest_at peaks q)) at (have tree peak)
@@ -200,13 +202,15 @@ digest-encoded {D} encoding (one ∷ more) p =
     ]
 
 -- one more digest at the end
-pub mapped-push : {D : Type 0} (encoding : D → List ℕ) (items after : List D) (digest : D) → after ≡ items ++ digest ∷ []
+pub mapped-push : {D : Type 0} (encoding : D → List ℕ) (items after : List D) (digest : D)
+    → after ≡ items ++ digest ∷ []
     → map encoding items ++ encoding digest ∷ [] ≡ map encoding after
 mapped-push encoding items after digest is = sym (ap (map encoding) is ∙ map-append encoding items (digest ∷ []))
 
 -- what a child of the next branch is made from is known
 pub known-child : {D : Type 0} (rule : Rule) (encoding : D → List ℕ) (base base_size : ℕ)
-    (peaks : List Replacement) (items : List D) (child : ℕ) → base_size ≡ node_count rule base → HavePeaks rule base peaks
+    (peaks : List Replacement) (items : List D) (child : ℕ) → base_size ≡ node_count rule base
+    → HavePeaks rule base peaks
     → IsKept rule base child → child < base_size + length items
     → IsSome (known_over base_size peaks (map encoding items) child)
 known-child rule encoding base base_size peaks items child sized have keeps below =

@@ -1,5 +1,6 @@
 -- The nodes of a list's tree.
-use Rattle.std.proofs.Common.{◌≡◌, ◌≤◌, ℕ, zero, suc, inl, inr, List, [], ◌∷◌, ◌++◌, length, map, Option, Some, refl, sym, ◌∙◌, ap, ap₂, subst, arith}
+use Rattle.std.proofs.Common.{◌≡◌, ◌≤◌, ℕ, zero, suc, inl, inr, List, [], ◌∷◌, ◌++◌, length, map, Option, Some, refl}
+use Rattle.std.proofs.Common.{sym, ◌∙◌, ap, ap₂, subst, arith}
 use Rattle.std.proofs.lemmas.List.{map-append}
 use Rattle.std.specs.Prelude.{slice_get, slice_index_or, unwrap_or}
 use Rattle.merkle_forest.specs.declared.bagging.Bagging.{Bagging}
@@ -11,7 +12,8 @@ use Rattle.merkle_forest.specs.Trees.{Located, located, peak_digests as forest_d
 use Rattle.merkle_forest.specs.Perfect.{IsPairing}
 use Rattle.merkle_forest.specs.Laws.Nodes.{peak-node}
 use Rattle.merkle_forest.specs.Laws.Peaks.{located_from-zero}
-use Rattle.merkle_core_parts.specs.Mem.{Nodes, node_count, node_at, NodeHash, tree_digest, AreKeptNodes, AreNodesOf, digests_from, peak_digests, list_root}
+use Rattle.merkle_core_parts.specs.Mem.{Nodes, node_count, node_at, NodeHash, tree_digest, AreKeptNodes, AreNodesOf}
+use Rattle.merkle_core_parts.specs.Mem.{digests_from, peak_digests, list_root}
 use Rattle.merkle_core_parts.specs.Laws.Kept.{kept}
 
 -- what stands at a place
@@ -23,7 +25,8 @@ get_some (y ∷ xs) (suc i) x is = get_some xs i x is
 -- at the peaks stand the digests of their trees
 pub at-peaks : (digests : ℕ → Option (List ℕ)) (digest : ℕ → Tree → List ℕ) (peaks : List Tree)
     → ((first : ℕ) (tree : Tree) → IsPeakAt first tree peaks → digests (position tree) ≡ Some (digest first tree))
-    → map (λ peak. unwrap_or (digests peak.0) []) (map position_and_height (located peaks)) ≡ forest_digests digest peaks
+    → map (λ peak. unwrap_or (digests peak.0) []) (map position_and_height (located peaks))
+    ≡ forest_digests digest peaks
 at-peaks digests digest [] each = refl
 at-peaks digests digest (t ∷ ts) each =
     let last = (leaves ts, t) ∷ [] in

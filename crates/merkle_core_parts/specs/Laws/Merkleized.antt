@@ -63,7 +63,8 @@ pending-of rule pairs node list batch sorted n is order same = record {
       ∙ ap (λ d. Some d) (same k (slice_index_or list k []))));
 }
 
-pub right-none : (rule : Rule) (node : NodeHash) (list : List (List ℕ)) (n : ℕ) → IsRight rule n (tree_digest node list) []
+pub right-none : (rule : Rule) (node : NodeHash) (list : List (List ℕ)) (n : ℕ)
+    → IsRight rule n (tree_digest node list) []
 right-none rule node list n f t stands = inl (λ x. refl)
 
 pub new-leaf : (node : NodeHash) (list : List (List ℕ)) (batch : Additions) (added : List (List ℕ)) (n : ℕ)
@@ -112,7 +113,8 @@ rebuilt-same rule n before after old one other found same it = record {
 }
 
 -- so the batch's nodes lead from the list to that which the batch makes of it
-pub led-of : (rule : Rule) → IsPairing rule → (node : NodeHash) (list : List (List ℕ)) (batch : Additions) (layer : Layer)
+pub led-of : (rule : Rule) → IsPairing rule
+    → (node : NodeHash) (list : List (List ℕ)) (batch : Additions) (layer : Layer)
     (n base_size : ℕ) (peaks : List Replacement) → n ≡ length list → base_size ≡ node_count rule n
     → AreRebuilt rule n (tree_digest node list) (tree_digest node (with_leaves list batch)) [] layer.changed peaks
     → AreMade rule (tree_digest node (with_leaves list batch)) n (n + length batch.added)
@@ -144,7 +146,8 @@ led-of rule pairs node list batch layer n base_size peaks is sized rebuilt made 
     }
 
 -- the digests at the peaks are those of the list's peaks
-pub made-peaks : (rule : Rule) → IsPairing rule → (node : NodeHash) (list : List (List ℕ)) (n m : ℕ) (known : ℕ → Option (List ℕ))
+pub made-peaks : (rule : Rule) → IsPairing rule
+    → (node : NodeHash) (list : List (List ℕ)) (n m : ℕ) (known : ℕ → Option (List ℕ))
     → n ≤ m → m ≡ length list → AreMade rule (tree_digest node list) n m (node_count rule m) known
     → digests_from rule m known 0 ≡ forest_digests (tree_digest node list) (forest_of rule (length list))
 made-peaks rule pairs node list n m known le is made =
@@ -169,6 +172,7 @@ list-same (x ∷ xs) (y ∷ ys) each =
 
 -- digests that were put in their places
 pub put-all : (first : ℕ) (old new : List (List ℕ)) (us : List Replacement)
-    → ((k : ℕ) → slice_get new k ≡ option_map (value_after us (first + k)) (slice_get old k)) → new ≡ replaced_from first old us
+    → ((k : ℕ) → slice_get new k ≡ option_map (value_after us (first + k)) (slice_get old k))
+    → new ≡ replaced_from first old us
 put-all first old new us each =
     list-same new (replaced_from first old us) (λ k. each k ∙ sym (get-replaced_from first old us k))

@@ -1,5 +1,6 @@
 -- Which of replacements in order of their indices is found at an index.
-use Rattle.std.proofs.Common.{◌≡◌, ℕ, zero, suc, ◌<◌, ◌≤◌, inl, inr, true, false, cond, eqb, leb, List, [], ◌∷◌, length, get_or}
+use Rattle.std.proofs.Common.{◌≡◌, ℕ, zero, suc, ◌<◌, ◌≤◌, inl, inr, true, false, cond, eqb, leb, List, [], ◌∷◌, length}
+use Rattle.std.proofs.Common.{get_or}
 use Rattle.std.proofs.Common.{Option, Some, None, refl, sym, ◌∙◌, ap, arith, eq-eqb, leb-true, leb-false}
 use Rattle.std.proofs.lemmas.Bool.{cases_eq, cond-true, cond-false, ne_eqb}
 use Rattle.std.proofs.lemmas.List.{length-map, get_or-map}
@@ -31,10 +32,12 @@ kept_last : (index v u : ℕ) (x y : List ℕ) → v ≤ index → u ≤ v
 kept_last index v u x y le less =
     elim (cases_eq v index) [
       | inl same ↦
-          ap (λ o. option_or o (cond (eqb u index) (Some y) None)) (cond-true (eqb v index) (Some x) None (eq-eqb v index same))
+          ap (λ o. option_or o (cond (eqb u index) (Some y) None))
+          (cond-true (eqb v index) (Some x) None (eq-eqb v index same))
           ∙ sym (cond-true (eqb v index) (Some x) None (eq-eqb v index same))
       | inr apart ↦
-          ap (λ o. option_or o (cond (eqb u index) (Some y) None)) (cond-false (eqb v index) (Some x) None (ne_eqb v index apart))
+          ap (λ o. option_or o (cond (eqb u index) (Some y) None))
+          (cond-false (eqb v index) (Some x) None (ne_eqb v index apart))
           ∙ cond-false (eqb u index) (Some y) None (ne_eqb u index (λ same. apart (omega (arith, same, le, less))))
           ∙ sym (cond-false (eqb v index) (Some x) None (ne_eqb v index apart))
     ]
@@ -73,7 +76,8 @@ in-order encoding [] b from i j d le lt = absurd (omega arith)
 in-order encoding (x ∷ xs) b from zero zero d le lt = omega arith
 in-order encoding (x ∷ xs) b from zero (suc j) d le lt = no_less_in encoding xs x.0 j d from.1 (omega arith)
 in-order encoding (x ∷ xs) b from (suc i) zero d le lt = absurd (omega arith)
-in-order encoding (x ∷ xs) b from (suc i) (suc j) d le lt = in-order encoding xs x.0 from.1 i j d (omega arith) (omega arith)
+in-order encoding (x ∷ xs) b from (suc i) (suc j) d le lt =
+    in-order encoding xs x.0 from.1 i j d (omega arith) (omega arith)
 
 abbrev pub last_in : {D : Type 0} → (D → List ℕ) → List (ℕ × D) → ℕ → ℕ → ℕ × D → Option (List ℕ)
 last_in encoding xs index zero d = None

@@ -84,7 +84,8 @@ length-digests rule pairs n digests =
     rw (length-map, length-map, located_from-zero) (all_inactive n (located (forest_of rule n)) within)
 
 -- one more digest folded onto the left
-pub fold-step : (hash : Hash) (folded own : List ℕ) (digests rest : List (List ℕ)) (n : ℕ) → digests ≡ own ∷ rest → 0 < n
+pub fold-step : (hash : Hash) (folded own : List ℕ) (digests rest : List (List ℕ)) (n : ℕ)
+    → digests ≡ own ∷ rest → 0 < n
     → folded_onto hash folded (take n digests) ≡ folded_onto hash (hash (fold_string folded own)) (take (n - 1) rest)
 fold-step hash folded own digests rest zero is some = absurd (omega arith)
 fold-step hash folded own digests rest (suc n) is some = rw (is, sub-one) refl

@@ -1,5 +1,6 @@
 -- A node by its place, and what stands after it was made anew, case by case.
-use Rattle.std.proofs.Common.{◌≡◌, ℕ, suc, ◌+◌, ◌-◌, ◌^◌, ◌<◌, ◌≤◌, List, [], ◌∷◌, ◌++◌, Option, Some, sym, ◌∙◌, ap, subst, arith}
+use Rattle.std.proofs.Common.{◌≡◌, ℕ, suc, ◌+◌, ◌-◌, ◌^◌, ◌<◌, ◌≤◌, List, [], ◌∷◌, ◌++◌, Option, Some, sym, ◌∙◌, ap}
+use Rattle.std.proofs.Common.{subst, arith}
 use Rattle.std.proofs.lemmas.List.{map-append}
 use Rattle.merkle_forest.specs.Forest.{Tree, leaf, branch, position, height, leaf_count, Rule, forest_of}
 use Rattle.merkle_forest.specs.Nodes.{IsNodeAt, HasBranch, AreChildren}
@@ -38,7 +39,8 @@ branch_of rule n first p h (branch q l r) few stands at high some = (
   },
 )
 
-pub place-branch : (rule : Rule) (n first p h : ℕ) → n ≤ 2 ^ 62 → IsPlace rule n first p h → (h ≡ 0 → ⊥) → HasBranch rule p h
+pub place-branch : (rule : Rule) (n first p h : ℕ) → n ≤ 2 ^ 62 → IsPlace rule n first p h
+    → (h ≡ 0 → ⊥) → HasBranch rule p h
 place-branch rule n first p h few it some = branch_of rule n first p h it.tree few it.stands it.at it.high some
 
 even : (rule : Rule) → IsPairing rule → (n first p : ℕ) (l r : Tree) → IsNodeAt first (branch p l r) (forest_of rule n)
@@ -53,7 +55,8 @@ pub record AreHalves (rule : Rule) (n first p h at_left at_right half : ℕ) : T
 
 halves_of : (rule : Rule) → IsPairing rule → (n first p h at_left at_right half : ℕ) (tree : Tree) → n ≤ 2 ^ 62
     → IsNodeAt first tree (forest_of rule n) → p ≡ position tree → h ≡ height tree → (h ≡ 0 → ⊥)
-    → AreChildren rule p h at_left at_right → half ≡ first + 2 ^ (h - 1) → AreHalves rule n first p h at_left at_right half
+    → AreChildren rule p h at_left at_right → half ≡ first + 2 ^ (h - 1)
+    → AreHalves rule n first p h at_left at_right half
 halves_of rule pairs n first p h at_left at_right half (leaf q) few stands at high some children is = absurd (some high)
 halves_of rule pairs n first p h at_left at_right half (branch q l r) few stands at high some children is =
     let here : IsNodeAt first (branch p l r) (forest_of rule n) =
@@ -98,7 +101,8 @@ pub case-untouched : (rule : Rule) → IsPairing rule → (node : NodeHash) (n b
     → IsNodeAt first t (forest_of rule n) → p ≡ position t → ArePending rule n boundary before after first us
     → (IsDue (first + 2 ^ h) us → ⊥) → known p ≡ Some digest → IsRight rule n after changed
     → IsRebuilt rule n boundary before after first t changed changed digest (first + leaf_count t) us
-case-untouched rule pairs node n boundary known before after setting first p h t changed us digest it stands at pending none
+case-untouched rule pairs node n boundary known before after setting first p h t changed us digest
+    it stands at pending none
     is right =
     let tree = place-tree rule pairs n first p h t it stands at in
     untouched-rebuilt rule node n boundary known before after setting first t changed us digest stands pending
@@ -110,14 +114,19 @@ leaf_case : (rule : Rule) → IsPairing rule → (n boundary : ℕ) (before afte
     (changed us rest : List Replacement) (digest : List ℕ) → 0 ≡ height t
     → IsNodeAt first t (forest_of rule n) → p ≡ position t → ArePending rule n boundary before after first us
     → AreTaken first boundary us rest digest → IsRight rule n after changed
-    → IsRebuilt rule n boundary before after first t changed (changed ++ (p, digest) ∷ []) digest (first + leaf_count t) rest
-leaf_case rule pairs n boundary before after first p (branch q l r) changed us rest digest high stands at pending taken right =
+    → IsRebuilt rule n boundary before after first t changed (changed ++ (p, digest)
+    ∷ []) digest (first + leaf_count t) rest
+leaf_case rule pairs n boundary before after first p (branch q l r) changed us rest digest high stands
+    at pending taken right =
     absurd (omega arith)
-leaf_case rule pairs n boundary before after first p (leaf q) changed us rest digest high stands at pending taken right =
+leaf_case rule pairs n boundary before after first p (leaf q) changed us rest digest high stands
+    at pending taken right =
     let end : suc first ≡ first + 1 = omega arith in
-    subst (λ k. IsRebuilt rule n boundary before after first (leaf q) changed (changed ++ (k, digest) ∷ []) digest (first + 1)
+    subst (λ k. IsRebuilt rule n boundary before after first (leaf q) changed (changed ++ (k, digest)
+    ∷ []) digest (first + 1)
     rest) (sym at)
-    (subst (λ k. IsRebuilt rule n boundary before after first (leaf q) changed (changed ++ (q, digest) ∷ []) digest k rest) end
+    (subst (λ k. IsRebuilt rule n boundary before after first (leaf q) changed (changed ++ (q, digest)
+    ∷ []) digest k rest) end
     (leaf-rebuilt rule pairs n boundary before after first q changed us rest digest stands pending
     (sym (taken.value (before first (leaf q)))) taken.order taken.bound taken.same right))
 
@@ -125,7 +134,8 @@ pub case-leaf : (rule : Rule) → IsPairing rule → (n boundary : ℕ) (before 
     (changed us rest : List Replacement) (digest : List ℕ) → IsPlace rule n first p h → h ≡ 0
     → IsNodeAt first t (forest_of rule n) → p ≡ position t → ArePending rule n boundary before after first us
     → AreTaken first boundary us rest digest → IsRight rule n after changed
-    → IsRebuilt rule n boundary before after first t changed (changed ++ (p, digest) ∷ []) digest (first + leaf_count t) rest
+    → IsRebuilt rule n boundary before after first t changed (changed ++ (p, digest)
+    ∷ []) digest (first + leaf_count t) rest
 case-leaf rule pairs n boundary before after first p h t changed us rest digest it none stands at pending taken right =
     leaf_case rule pairs n boundary before after first p t changed us rest digest
     (sym none ∙ (place-tree rule pairs n first p h t it stands at).0) stands at pending taken right
@@ -142,9 +152,11 @@ branch_case : (rule : Rule) → IsPairing rule → (node : NodeHash) (n boundary
     → IsRebuilt rule n boundary before after half r mid new dr (half + leaf_count r) rest)
     → digest ≡ node p dl dr
     → IsRebuilt rule n boundary before after first t old (new ++ (p, digest) ∷ []) digest (first + leaf_count t) rest
-branch_case rule pairs node n boundary known before after setting first p h at_left at_right half (leaf q) old mid new us
+branch_case rule pairs node n boundary known before after setting first p h at_left at_right
+    half (leaf q) old mid new us
     middle rest dl dr digest few children is high some stands at past one other hashed = absurd (some high)
-branch_case rule pairs node n boundary known before after setting first p h at_left at_right half (branch q l r) old mid new us
+branch_case rule pairs node n boundary known before after setting first p h at_left at_right half
+    (branch q l r) old mid new us
     middle rest dl dr digest few children is high some stands at past one other hashed =
     let here : IsNodeAt first (branch p l r) (forest_of rule n) =
     subst (λ k. IsNodeAt first (branch k l r) (forest_of rule n)) (sym at) stands in
@@ -164,8 +176,10 @@ branch_case rule pairs node n boundary known before after setting first p h at_l
     let end : first + leaf_count l + leaf_count r ≡ first + (leaf_count l + leaf_count r) = omega arith in
     subst (λ k. IsRebuilt rule n boundary before after first (branch k l r) old (new ++ (p, digest) ∷ []) digest
     (first + (leaf_count l + leaf_count r)) rest) at
-    (subst (λ k. IsRebuilt rule n boundary before after first (branch p l r) old (new ++ (p, digest) ∷ []) digest k rest) end
-    (branch-rebuilt rule pairs node n boundary known before after setting first p (first + leaf_count l + leaf_count r) l r old
+    (subst (λ k. IsRebuilt rule n boundary before after first (branch p l r) old (new ++ (p, digest)
+    ∷ []) digest k rest) end
+    (branch-rebuilt rule pairs node n boundary known before after setting first p (first
+    + leaf_count l + leaf_count r) l r old
     mid new middle rest dl dr digest here past left right hashed))
 
 pub case-branch : (rule : Rule) → IsPairing rule → (node : NodeHash) (n boundary : ℕ) (known : ℕ → Option (List ℕ))
@@ -181,12 +195,14 @@ pub case-branch : (rule : Rule) → IsPairing rule → (node : NodeHash) (n boun
     → IsRebuilt rule n boundary before after half r mid new dr (half + leaf_count r) rest)
     → digest ≡ node p dl dr
     → IsRebuilt rule n boundary before after first t old (new ++ (p, digest) ∷ []) digest (first + leaf_count t) rest
-case-branch rule pairs node n boundary known before after setting first p h at_left at_right half t old mid new us middle rest
+case-branch rule pairs node n boundary known before after setting first p h at_left at_right half t
+    old mid new us middle rest
     dl dr digest few it children is some stands at pending due one other hashed =
     let tree = place-tree rule pairs n first p h t it stands at in
     let early : boundary < first + 2 ^ h = due-first boundary (first + 2 ^ h) us pending.bound due in
     let fits = place-fits rule pairs n first p h few it in
-    branch_case rule pairs node n boundary known before after setting first p h at_left at_right half t old mid new us middle
+    branch_case rule pairs node n boundary known before after setting first p h at_left at_right
+    half t old mid new us middle
     rest dl dr digest few children is tree.0 some stands at
     (omega (
       arith,

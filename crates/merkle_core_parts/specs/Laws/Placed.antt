@@ -1,5 +1,6 @@
 -- Digests that are handed in for the pinned nodes.
-use Rattle.std.proofs.Common.{◌≡◌, ℕ, zero, suc, ◌+◌, ◌^◌, ◌<◌, ◌≤◌, inl, inr, List, [], ◌∷◌, length, map, drop, get_or, Option}
+use Rattle.std.proofs.Common.{◌≡◌, ℕ, zero, suc, ◌+◌, ◌^◌, ◌<◌, ◌≤◌, inl, inr, List, [], ◌∷◌, length, map, drop, get_or}
+use Rattle.std.proofs.Common.{Option}
 use Rattle.std.proofs.Common.{refl, sym, ◌∙◌, ap, ap₂, arith}
 use Rattle.std.proofs.lemmas.Bool.{cases_lt}
 use Rattle.std.proofs.lemmas.List.{length-map}
@@ -11,7 +12,8 @@ use Rattle.merkle_forest.specs.Laws.Peaks.{located_from-zero}
 use Rattle.merkle_forest.specs.Laws.ForestGrowth.{size-mono}
 use Rattle.merkle_forest.specs.Laws.Trees.{length-located}
 use Rattle.merkle_forest.specs.Trees.{located}
-use Rattle.merkle_core_parts.specs.Mem.{Nodes, Replacement, AreKeptNodes, node_count, pinned_positions, placed, encoded, digests_from}
+use Rattle.merkle_core_parts.specs.Mem.{Nodes, Replacement, AreKeptNodes, node_count, pinned_positions, placed, encoded}
+use Rattle.merkle_core_parts.specs.Mem.{digests_from}
 use Rattle.merkle_core_parts.specs.Laws.Growth.{grown}
 
 -- the forests of a rule have at most 62 peaks
@@ -77,7 +79,8 @@ leaves-within rule pairs b n k is =
     ]
 
 -- the shape of a tree that is made from its parts
-pub shape-placed : (rule : Rule) → IsPairing rule → (n b : ℕ) (pinned : List Replacement) (handed digests : List (List ℕ))
+pub shape-placed : (rule : Rule) → IsPairing rule
+    → (n b : ℕ) (pinned : List Replacement) (handed digests : List (List ℕ))
     → node_count rule n ≡ node_count rule b + length digests → pinned ≡ placed (pinned_positions rule b) handed
     → length handed ≡ length (pinned_positions rule b)
     → AreKeptNodes rule (record { leaves = n; boundary = b; pinned = pinned; digests = digests })
@@ -101,7 +104,8 @@ same_leaves rule pairs n m is =
     )
 
 -- a tree that is made of the parts of another is that one
-pub made-again : (rule : Rule) → IsPairing rule → (nodes made : Nodes) → AreKeptNodes rule nodes → AreKeptNodes rule made
+pub made-again : (rule : Rule) → IsPairing rule → (nodes made : Nodes) → AreKeptNodes rule nodes
+    → AreKeptNodes rule made
     → made.boundary ≡ nodes.boundary
     → made.pinned ≡ placed (pinned_positions rule nodes.boundary) (map (λ one. one.1) nodes.pinned)
     → made.digests ≡ nodes.digests → made ≡ nodes

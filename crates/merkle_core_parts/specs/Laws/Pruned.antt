@@ -1,6 +1,7 @@
 -- What a tree keeps that is pruned.
 use Rattle.std.proofs.Common.{◌≡◌, ℕ, zero, suc, ◌+◌, ◌-◌, ◌<◌, ◌≤◌, inl, inr, eqb, ltb, leb, List, [], ◌∷◌}
-use Rattle.std.proofs.Common.{◌++◌, length, map, drop, Option, Some, None, refl, sym, ◌∙◌, ap, ap₂, subst, arith, eq-eqb, length-drop}
+use Rattle.std.proofs.Common.{◌++◌, length, map, drop, Option, Some, None, refl, sym, ◌∙◌, ap, ap₂, subst, arith}
+use Rattle.std.proofs.Common.{eq-eqb, length-drop}
 use Rattle.std.proofs.lemmas.Bool.{cases_lt, cases_eq, cond-true, cond-false, lt-ltb, le-ltb, lt-leb, le-leb, ne_eqb}
 use Rattle.std.proofs.lemmas.List.{map-append}
 use Rattle.std.specs.Prelude.{slice_get, IsSome, unwrap_or}
@@ -14,7 +15,8 @@ use Rattle.merkle_forest.specs.Trees.{located}
 use Rattle.merkle_forest.specs.Laws.ForestGrowth.{size-mono}
 use Rattle.merkle_forest.specs.Laws.Peaks.{located_from-zero}
 use Rattle.merkle_core_parts.specs.Mem.{Nodes, Growth, Replacement, NodeHash, node_count, node_at, digest_at}
-use Rattle.merkle_core_parts.specs.Mem.{IsKept, IsPeakPosition, AreKeptNodes, AreNodesOf, pinned_positions, pinned_digests}
+use Rattle.merkle_core_parts.specs.Mem.{IsKept, IsPeakPosition, AreKeptNodes, AreNodesOf, pinned_positions}
+use Rattle.merkle_core_parts.specs.Mem.{pinned_digests}
 use Rattle.merkle_core_parts.specs.Mem.{base_of, cut_before, pruned_before}
 use Rattle.merkle_core_parts.specs.Mem.{value_after, replaced_from, replaced_at, with_batch}
 use Rattle.merkle_core_parts.specs.Laws.Batches.{kept-before, known-old}
@@ -94,7 +96,8 @@ node_after rule pairs nodes location p from after =
     ∙ sym (cond-false (ltb p start) (digest_at nodes.pinned p) (slice_get nodes.digests (p - start))
     (le-ltb p start (omega (arith, after, mono))))
 
-one_of_pinned : (rule : Rule) (location p : ℕ) → IsPeakPosition rule location p → IsOneOf p (pinned_positions rule location)
+one_of_pinned : (rule : Rule) (location p : ℕ) → IsPeakPosition rule location p
+    → IsOneOf p (pinned_positions rule location)
 one_of_pinned rule location p (tree, (f, stands), at) =
     subst (λ q. IsOneOf q (pinned_positions rule location)) at (peak-pinned f tree (forest_of rule location) stands)
 
@@ -121,7 +124,8 @@ same_digests : (f g : ℕ → Option (List ℕ)) (peaks : List Tree)
 same_digests f g [] each = refl
 same_digests f g (t ∷ ts) each =
     let last = (leaves ts, t) ∷ [] in
-    let split : map position_and_height (located (t ∷ ts)) ≡ map position_and_height (located ts) ++ (position_and_height (leaves ts, t)) ∷ [] =
+    let split : map position_and_height (located (t ∷ ts)) ≡ map position_and_height (located ts)
+    ++ (position_and_height (leaves ts, t)) ∷ [] =
     map-append position_and_height (located ts) last in
     let one = position_and_height (leaves ts, t) ∷ [] in
     ap (map (λ (peak : ℕ × ℕ). unwrap_or (f peak.0) [])) split
@@ -143,7 +147,8 @@ base-cut rule pairs nodes location shape from within =
     (ap (λ peaks. map (λ peak. unwrap_or (f peak.0) []) (map position_and_height peaks)) (located_from-zero forest)
     ∙ same_digests f g forest (λ first t stands. node-cut rule pairs nodes location (position t) shape from within
     ((kept rule pairs location nodes.leaves within).peak t (first, stands)))
-    ∙ sym (ap (λ peaks. map (λ peak. unwrap_or (g peak.0) []) (map position_and_height peaks)) (located_from-zero forest)))
+    ∙ sym (ap (λ peaks. map (λ peak. unwrap_or (g peak.0) []) (map position_and_height peaks))
+    (located_from-zero forest)))
 
 pub list-cut : (rule : Rule) → IsPairing rule → (node : NodeHash) (list : List (List ℕ)) (nodes : Nodes) (location : ℕ)
     → nodes.boundary ≤ location → location ≤ nodes.leaves → AreNodesOf node rule list nodes
@@ -230,9 +235,11 @@ cut_with rule pairs nodes batch location shape from within =
     }) pinned digests
 
 -- a tree pruned before a batch is applied is the one that is pruned after it
-pub pruned-with : (rule : Rule) → IsPairing rule → (nodes : Nodes) (batch : Growth) (location : ℕ) → AreKeptNodes rule nodes
+pub pruned-with : (rule : Rule) → IsPairing rule → (nodes : Nodes) (batch : Growth) (location : ℕ)
+    → AreKeptNodes rule nodes
     → location ≤ nodes.leaves
-    → with_batch rule (pruned_before rule nodes location) batch ≡ pruned_before rule (with_batch rule nodes batch) location
+    → with_batch rule (pruned_before rule nodes location) batch
+    ≡ pruned_before rule (with_batch rule nodes batch) location
 pruned-with rule pairs nodes batch location shape within =
     elim (cases_lt nodes.boundary location) [
       | inl further ↦

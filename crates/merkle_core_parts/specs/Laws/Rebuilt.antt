@@ -18,11 +18,12 @@ use Rattle.merkle_core_parts.specs.Laws.Replaced.{after-more, AreFrom, after-bef
 abbrev pub Digests : Type 0
 Digests = ℕ → Tree → List ℕ
 
--- What is known of the nodes of a forest before and after: at a position stands what the node's digest was; a branch whose
--- children keep their digests keeps its own; and one that is not before the boundary is hashed from its children.
+-- What is known of the nodes of a forest before and after: at a position stands what the node's digest was; a branch
+-- whose children keep their digests keeps its own; and one that is not before the boundary is hashed from its children.
 pub record IsSetting (rule : Rule) (node : NodeHash) (n boundary : ℕ) (known : ℕ → Option (List ℕ))
     (before after : Digests) : Type 0 where
-  pub known_is : (f : ℕ) (t : Tree) → IsNodeAt f t (forest_of rule n) → IfSome (known (position t)) (λ d. d ≡ before f t)
+  pub known_is : (f : ℕ) (t : Tree) → IsNodeAt f t (forest_of rule n)
+      → IfSome (known (position t)) (λ d. d ≡ before f t)
   pub same : (f p : ℕ) (l r : Tree) → IsNodeAt f (branch p l r) (forest_of rule n) → before f l ≡ after f l
       → before (f + leaf_count l) r ≡ after (f + leaf_count l) r → before f (branch p l r) ≡ after f (branch p l r)
   pub hashed : (f p : ℕ) (l r : Tree) → IsNodeAt f (branch p l r) (forest_of rule n) → node_count rule boundary ≤ p
@@ -39,7 +40,8 @@ pub record ArePending (rule : Rule) (n boundary : ℕ) (before after : Digests) 
 -- the changed nodes have their new digests
 abbrev pub IsRight : Rule → ℕ → Digests → List Replacement → Type 0
 IsRight rule n after changed = (f : ℕ) (t : Tree) → IsNodeAt f t (forest_of rule n)
-    → ((x : List ℕ) → value_after changed (position t) x ≡ x) ⊎ ((x : List ℕ) → value_after changed (position t) x ≡ after f t)
+    → ((x : List ℕ) → value_after changed (position t) x ≡ x)
+    ⊎ ((x : List ℕ) → value_after changed (position t) x ≡ after f t)
 
 -- a node has its new digest, changed or not
 abbrev pub IsDone : Digests → Digests → List Replacement → ℕ → Tree → Type 0
@@ -100,7 +102,8 @@ unchanged rule node n boundary known before after it start (branch p l r) stands
     (λ k q from lt here. each k q (omega (arith, from)) (omega (arith, lt)) here))
 
 -- what stands within a node is a node
-pub within-node : (f start : ℕ) (t tree : Tree) (peaks : List Tree) → IsWithin f t start tree → IsNodeAt start tree peaks
+pub within-node : (f start : ℕ) (t tree : Tree) (peaks : List Tree) → IsWithin f t start tree
+    → IsNodeAt start tree peaks
     → IsNodeAt f t peaks
 within-node f start t (leaf p) peaks within stands =
     subst (λ s. IsNodeAt s t peaks) (sym within.0) (subst (λ u. IsNodeAt start u peaks) (sym within.1) stands)
@@ -113,7 +116,8 @@ within-node f start t (branch p l r) peaks (inr (inr within)) stands =
 
 done_same : (before after : Digests) (changed : List Replacement) (f : ℕ) (t : Tree)
     → before f t ≡ after f t
-    → ((x : List ℕ) → value_after changed (position t) x ≡ x) ⊎ ((x : List ℕ) → value_after changed (position t) x ≡ after f t)
+    → ((x : List ℕ) → value_after changed (position t) x ≡ x)
+    ⊎ ((x : List ℕ) → value_after changed (position t) x ≡ after f t)
     → IsDone before after changed f t
 done_same before after changed f t same (inl untouched) = untouched (before f t) ∙ same
 done_same before after changed f t same (inr right) = right (before f t)
@@ -153,7 +157,8 @@ untouched-rebuilt rule node n boundary known before after it first tree changed 
     }
 
 -- one more changed node
-changed_at : (rule : Rule) → IsPairing rule → (n : ℕ) (after : Digests) (changed : List Replacement) (g f : ℕ) (u t : Tree)
+changed_at : (rule : Rule) → IsPairing rule
+    → (n : ℕ) (after : Digests) (changed : List Replacement) (g f : ℕ) (u t : Tree)
     → IsNodeAt g u (forest_of rule n) → IsNodeAt f t (forest_of rule n) → (x : List ℕ)
     → (position u ≡ position t) ⊎ (position u ≡ position t → ⊥)
     → (value_after (changed ++ (position u, after g u) ∷ []) (position t) x ≡ after f t)
@@ -169,10 +174,12 @@ changed_at rule pairs n after changed g f u t one other x (inr apart) =
     ∙ cond-false (eqb (position u) (position t)) (after g u) (value_after changed (position t) x)
     (ne_eqb (position u) (position t) apart))
 
-right_more : (rule : Rule) → IsPairing rule → (n : ℕ) (after : Digests) (changed : List Replacement) (g f : ℕ) (u t : Tree)
+right_more : (rule : Rule) → IsPairing rule
+    → (n : ℕ) (after : Digests) (changed : List Replacement) (g f : ℕ) (u t : Tree)
     → IsNodeAt g u (forest_of rule n) → IsNodeAt f t (forest_of rule n)
     → (position u ≡ position t) ⊎ (position u ≡ position t → ⊥)
-    → ((x : List ℕ) → value_after changed (position t) x ≡ x) ⊎ ((x : List ℕ) → value_after changed (position t) x ≡ after f t)
+    → ((x : List ℕ) → value_after changed (position t) x ≡ x)
+    ⊎ ((x : List ℕ) → value_after changed (position t) x ≡ after f t)
     → ((x : List ℕ) → value_after (changed ++ (position u, after g u) ∷ []) (position t) x ≡ x)
     ⊎ ((x : List ℕ) → value_after (changed ++ (position u, after g u) ∷ []) (position t) x ≡ after f t)
 right_more rule pairs n after changed g f u t one other (inl same) before =
@@ -208,7 +215,8 @@ after-leaf rule pairs n f k t stands le lt =
       | inr new ↦ new
     ]
 
-done_self : (rule : Rule) → IsPairing rule → (n : ℕ) (before after : Digests) (changed : List Replacement) (f : ℕ) (t : Tree)
+done_self : (rule : Rule) → IsPairing rule
+    → (n : ℕ) (before after : Digests) (changed : List Replacement) (f : ℕ) (t : Tree)
     → IsDone before after (changed ++ (position t, after f t) ∷ []) f t
 done_self rule pairs n before after changed f t =
     after-more changed (position t, after f t) (position t) (before f t)
@@ -219,7 +227,8 @@ low_more : (rule : Rule) → IsPairing rule → (n : ℕ) (changed : List Replac
     → IsNodeAt f t (forest_of rule n) → (p : ℕ) (x : List ℕ) → size (forest_of rule n) ≤ p
     → value_after (changed ++ (position t, d) ∷ []) p x ≡ value_after changed p x
 low_more rule pairs n changed f t d stands p x le =
-    let apart : position t ≡ p → ⊥ = λ same. absurd (omega (arith, same, le, (numbered rule pairs n).below f t stands)) in
+    let apart : position t ≡ p
+    → ⊥ = λ same. absurd (omega (arith, same, le, (numbered rule pairs n).below f t stands)) in
     after-more changed (position t, d) p x
     ∙ cond-false (eqb (position t) p) d (value_after changed p x) (ne_eqb (position t) p apart)
 
@@ -231,10 +240,13 @@ pub leaf-rebuilt : (rule : Rule) → IsPairing rule → (n boundary : ℕ) (befo
     → AreFrom (suc first) rest → AreFrom boundary rest
     → ((k : ℕ) (x : List ℕ) → suc first ≤ k → value_after us k x ≡ value_after rest k x)
     → IsRight rule n after changed
-    → IsRebuilt rule n boundary before after first (leaf p) changed (changed ++ (p, digest) ∷ []) digest (suc first) rest
-leaf-rebuilt rule pairs n boundary before after first p changed us rest digest stands pending is order bound same right =
+    → IsRebuilt rule n boundary before after first (leaf p) changed (changed ++ (p, digest)
+    ∷ []) digest (suc first) rest
+leaf-rebuilt rule pairs n boundary before after first p changed us rest digest stands pending is
+    order bound same right =
     let value : digest ≡ after first (leaf p) = is ∙ sym (pending.each first p (omega arith) stands) in
-    subst (λ d. IsRebuilt rule n boundary before after first (leaf p) changed (changed ++ (p, d) ∷ []) d (suc first) rest)
+    subst (λ d. IsRebuilt rule n boundary before after first (leaf p) changed (changed ++ (p, d)
+    ∷ []) d (suc first) rest)
     (sym value)
     (record {
       right = λ f t here. right_more rule pairs n after changed first f (leaf p) t stands here (cases_eq p (position t))
@@ -260,7 +272,8 @@ branch_done : (rule : Rule) → IsPairing rule → (n boundary : ℕ) (before af
     → IsRebuilt rule n boundary before after (first + leaf_count l) r mid new dr end rest
     → (f : ℕ) (t : Tree) → IsWithin f t first (branch p l r)
     → IsDone before after (new ++ (p, after first (branch p l r)) ∷ []) f t
-branch_done rule pairs n boundary before after first p end l r old mid new us rest dl dr stands one other f t (inl self) =
+branch_done rule pairs n boundary before after first p end l r old mid new us rest dl dr stands
+    one other f t (inl self) =
     let At : ℕ → Type 0 = λ g. IsDone before after (new ++ (p, after first (branch p l r)) ∷ []) g t in
     let Of : Tree → Type 0 = λ u. IsDone before after (new ++ (p, after first (branch p l r)) ∷ []) first u in
     subst At (sym self.0) (subst Of (sym self.1) (done_self rule pairs n before after new first (branch p l r)))

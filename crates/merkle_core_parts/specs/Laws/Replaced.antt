@@ -1,11 +1,13 @@
 -- What stands at an index of a list after replacements.
-use Rattle.std.proofs.Common.{◌≡◌, ℕ, zero, suc, ◌+◌, ◌-◌, ◌<◌, ◌≤◌, inl, inr, Bool, true, false, cond, eqb, ltb, List, [], ◌∷◌, ◌++◌}
+use Rattle.std.proofs.Common.{◌≡◌, ℕ, zero, suc, ◌+◌, ◌-◌, ◌<◌, ◌≤◌, inl, inr, Bool, true, false, cond, eqb, ltb, List}
+use Rattle.std.proofs.Common.{[], ◌∷◌, ◌++◌}
 use Rattle.std.proofs.Common.{length, map, Option, Some, None, refl, sym, ◌∙◌, ap, arith, eq-eqb}
 use Rattle.std.proofs.lemmas.Bool.{cases_eq, cases_lt, cond-true, cond-false, ne_eqb, lt-ltb, le-ltb}
 use Rattle.std.specs.Prelude.{slice_get, slice_set}
 use Rattle.std.specs.Option.{option_map}
 use Rattle.std.specs.List.{find}
-use Rattle.merkle_core_parts.specs.Mem.{Replacement, replaced, replaced_from, replaced_at, value_after, digest_at, known_over}
+use Rattle.merkle_core_parts.specs.Mem.{Replacement, replaced, replaced_from, replaced_at, value_after, digest_at}
+use Rattle.merkle_core_parts.specs.Mem.{known_over}
 
 set_same : (xs : List (List ℕ)) (i k : ℕ) (d : List ℕ) → i ≡ k
     → slice_get (slice_set xs i d) k ≡ option_map (λ x. d) (slice_get xs k)
@@ -153,6 +155,7 @@ known-replaced start ps ds us p =
           (le-ltb p start after)
           ∙ get-replaced_from start ds us (p - start)
           ∙ ap (λ n. option_map (value_after us n) (slice_get ds (p - start))) same
-          ∙ sym (ap (option_map (value_after us p)) (cond-false (ltb p start) (digest_at ps p) (slice_get ds (p - start))
+          ∙ sym (ap (option_map (value_after us p))
+          (cond-false (ltb p start) (digest_at ps p) (slice_get ds (p - start))
           (le-ltb p start after))))
     ]

@@ -57,7 +57,8 @@ peaks-apart f g t u (p ∷ ps) (inr one) (inl other) lt =
 peaks-apart f g t u (p ∷ ps) (inr one) (inr other) lt = peaks-apart f g t u ps one other lt
 
 -- a peak that begins before the end of another and not before it is that one
-pub peak-same : (rule : Rule) → IsPairing rule → (n g first end p : ℕ) (peak t : Tree) → IsPeakAt first t (forest_of rule n)
+pub peak-same : (rule : Rule) → IsPairing rule → (n g first end p : ℕ) (peak t : Tree)
+    → IsPeakAt first t (forest_of rule n)
     → end ≡ first + leaf_count t → IsPeakAt g peak (forest_of rule n) → first ≤ g → g < end
     → ((u : Tree) → IsPeakAt first u (forest_of rule n) → position u ≡ position t)
     → (g ≡ first) × (peak ≡ t)
@@ -67,7 +68,8 @@ peak-same rule pairs n g first end p peak t stands is other le lt one =
           absurd (omega (arith, lt, is, peaks-apart first g t peak (forest_of rule n) stands other before))
       | inr none ↦
           (let at : g ≡ first = omega (arith, le, none) in
-          let here : IsPeakAt first peak (forest_of rule n) = subst (λ k. IsPeakAt k peak (forest_of rule n)) at other in
+          let here : IsPeakAt first peak (forest_of rule n) = subst
+          (λ k. IsPeakAt k peak (forest_of rule n)) at other in
           one-node rule pairs n n g first peak t (peak-node g peak (forest_of rule n) other)
           (peak-node first t (forest_of rule n) stands) (one peak here))
     ]
@@ -78,15 +80,19 @@ found_some [] u q some = absurd (let bad : IsSome (digest_at [] q) = some in cc 
 found_some (v ∷ found) u q some =
     elim (cases_eq v.0 q) [
       | inl same ↦
-          ap (option_map (λ (one : Replacement). one.1)) (cond-true (eqb v.0 q) (Some v) (find (λ one. eqb one.0 q) (found ++ u ∷ []))
+          ap (option_map (λ (one : Replacement). one.1))
+          (cond-true (eqb v.0 q) (Some v) (find (λ one. eqb one.0 q) (found ++ u ∷ []))
           (eq-eqb v.0 q same))
-          ∙ sym (ap (option_map (λ (one : Replacement). one.1)) (cond-true (eqb v.0 q) (Some v) (find (λ one. eqb one.0 q) found)
+          ∙ sym (ap (option_map (λ (one : Replacement). one.1))
+          (cond-true (eqb v.0 q) (Some v) (find (λ one. eqb one.0 q) found)
           (eq-eqb v.0 q same)))
       | inr apart ↦
           (let left : digest_at (v ∷ found) q ≡ digest_at found q =
-          ap (option_map (λ (one : Replacement). one.1)) (cond-false (eqb v.0 q) (Some v) (find (λ one. eqb one.0 q) found)
+          ap (option_map (λ (one : Replacement). one.1))
+          (cond-false (eqb v.0 q) (Some v) (find (λ one. eqb one.0 q) found)
           (ne_eqb v.0 q apart)) in
-          ap (option_map (λ (one : Replacement). one.1)) (cond-false (eqb v.0 q) (Some v) (find (λ one. eqb one.0 q) (found ++ u ∷ []))
+          ap (option_map (λ (one : Replacement). one.1))
+          (cond-false (eqb v.0 q) (Some v) (find (λ one. eqb one.0 q) (found ++ u ∷ []))
           (ne_eqb v.0 q apart))
           ∙ found_some found u q (subst (λ o. IsSome o) left some) ∙ sym left)
     ]
@@ -95,20 +101,24 @@ found_none : (found : List Replacement) (u : Replacement) (q : ℕ) → digest_a
     → digest_at (found ++ u ∷ []) q ≡ cond (eqb u.0 q) (Some u.1) None
 found_none [] u q none = own (eqb u.0 q) u
   where
-    own : (b : Bool) (v : Replacement) → option_map (λ (one : Replacement). one.1) (cond b (Some v) None) ≡ cond b (Some v.1) None
+    own : (b : Bool) (v : Replacement) → option_map (λ (one : Replacement). one.1) (cond b (Some v) None)
+        ≡ cond b (Some v.1) None
     own true v = refl
     own false v = refl
 found_none (v ∷ found) u q none =
     elim (cases_eq v.0 q) [
       | inl same ↦
           absurd (let some : digest_at (v ∷ found) q ≡ Some v.1 =
-          ap (option_map (λ (one : Replacement). one.1)) (cond-true (eqb v.0 q) (Some v) (find (λ one. eqb one.0 q) found)
+          ap (option_map (λ (one : Replacement). one.1))
+          (cond-true (eqb v.0 q) (Some v) (find (λ one. eqb one.0 q) found)
           (eq-eqb v.0 q same)) in cc (some, none))
       | inr apart ↦
           (let left : digest_at (v ∷ found) q ≡ digest_at found q =
-          ap (option_map (λ (one : Replacement). one.1)) (cond-false (eqb v.0 q) (Some v) (find (λ one. eqb one.0 q) found)
+          ap (option_map (λ (one : Replacement). one.1))
+          (cond-false (eqb v.0 q) (Some v) (find (λ one. eqb one.0 q) found)
           (ne_eqb v.0 q apart)) in
-          ap (option_map (λ (one : Replacement). one.1)) (cond-false (eqb v.0 q) (Some v) (find (λ one. eqb one.0 q) (found ++ u ∷ []))
+          ap (option_map (λ (one : Replacement). one.1))
+          (cond-false (eqb v.0 q) (Some v) (find (λ one. eqb one.0 q) (found ++ u ∷ []))
           (ne_eqb v.0 q apart))
           ∙ found_none found u q (sym left ∙ none))
     ]
@@ -119,7 +129,8 @@ some_or_none (Some x) = inl refl
 
 -- what was found stays, and the new one is found
 pub found-more : (found : List Replacement) (u : Replacement) (q : ℕ)
-    → (digest_at (found ++ u ∷ []) q ≡ digest_at found q) ⊎ (digest_at (found ++ u ∷ []) q ≡ cond (eqb u.0 q) (Some u.1) None)
+    → (digest_at (found ++ u ∷ []) q ≡ digest_at found q)
+    ⊎ (digest_at (found ++ u ∷ []) q ≡ cond (eqb u.0 q) (Some u.1) None)
 found-more found u q =
     elim (some_or_none (digest_at found q)) [
       | inl some ↦ inl (found_some found u q some)
@@ -139,11 +150,13 @@ found-new found u q same =
           ∙ cond-true (eqb u.0 q) (Some u.1) None (eq-eqb u.0 q same))) refl
     ]
 
-sound_more : (rule : Rule) → IsPairing rule → (n : ℕ) (after : Digests) (found : List Replacement) (g f : ℕ) (u t : Tree)
+sound_more : (rule : Rule) → IsPairing rule
+    → (n : ℕ) (after : Digests) (found : List Replacement) (g f : ℕ) (u t : Tree)
     → IsNodeAt g u (forest_of rule n) → IsNodeAt f t (forest_of rule n)
     → IfSome (digest_at found (position t)) (λ d. d ≡ after f t)
     → (digest_at (found ++ (position u, after g u) ∷ []) (position t) ≡ digest_at found (position t))
-    ⊎ (digest_at (found ++ (position u, after g u) ∷ []) (position t) ≡ cond (eqb (position u) (position t)) (Some (after g u)) None)
+    ⊎ (digest_at (found ++ (position u, after g u) ∷ []) (position t)
+    ≡ cond (eqb (position u) (position t)) (Some (after g u)) None)
     → IfSome (digest_at (found ++ (position u, after g u) ∷ []) (position t)) (λ d. d ≡ after f t)
 sound_more rule pairs n after found g f u t one other sound (inl same) =
     subst (λ o. IfSome o (λ d. d ≡ after f t)) (sym same) sound
@@ -168,28 +181,34 @@ progress_done : (rule : Rule) → IsPairing rule → (n boundary : ℕ) (before 
     → IsRebuilt rule n boundary before after first u mid new digest (first + leaf_count u) rest
     → (g : ℕ) (peak : Tree) → IsPeakAt g peak (forest_of rule n) → g < end → (f : ℕ) (t : Tree)
     → IsWithin f t g peak → (g < first) ⊎ (first ≤ g) → IsDone before after new f t
-progress_done rule pairs n boundary before after first end p u old mid new found us rest digest stands one is progress made g
+progress_done rule pairs n boundary before after first end p u old mid new found us rest digest
+    stands one is progress made g
     peak other lt f t within (inl old_one) =
     made.keeps f t (within-node f g t peak (forest_of rule n) within (peak-node g peak (forest_of rule n) other))
     (progress.done g peak other old_one f t within)
-progress_done rule pairs n boundary before after first end p u old mid new found us rest digest stands one is progress made g
+progress_done rule pairs n boundary before after first end p u old mid new found us rest digest
+    stands one is progress made g
     peak other lt f t within (inr new_one) =
     let it = peak-same rule pairs n g first end p peak u stands is other new_one lt one in
     made.done f t (subst (λ k. IsWithin f t k u) it.0 (subst (λ v. IsWithin f t g v) it.1 within))
 
-pub progress-step : (rule : Rule) → IsPairing rule → (n boundary : ℕ) (before after : Digests) (first end p : ℕ) (u : Tree)
+pub progress-step : (rule : Rule) → IsPairing rule
+    → (n boundary : ℕ) (before after : Digests) (first end p : ℕ) (u : Tree)
     (old mid new found us rest : List Replacement) (digest : List ℕ) → IsPeakAt first u (forest_of rule n)
     → ((v : Tree) → IsPeakAt first v (forest_of rule n) → position v ≡ position u)
     → p ≡ position u → end ≡ first + leaf_count u → IsProgress rule n boundary before after first old mid found us
     → IsRebuilt rule n boundary before after first u mid new digest (first + leaf_count u) rest
     → IsProgress rule n boundary before after end old new (found ++ (p, digest) ∷ []) rest
-progress-step rule pairs n boundary before after first end p u old mid new found us rest digest stands one at is progress made =
+progress-step rule pairs n boundary before after first end p u old mid new found us rest digest stands
+    one at is progress made =
     let node = peak-node first u (forest_of rule n) stands in
     subst (λ k. IsProgress rule n boundary before after end old new (found ++ (k, digest) ∷ []) rest) (sym at)
-    (subst (λ d. IsProgress rule n boundary before after end old new (found ++ (position u, d) ∷ []) rest) (sym made.value)
+    (subst (λ d. IsProgress rule n boundary before after end old new (found ++ (position u, d)
+    ∷ []) rest) (sym made.value)
     (record {
       right = made.right;
-      done = λ g peak other lt f t within. progress_done rule pairs n boundary before after first end p u old mid new found
+      done =
+          λ g peak other lt f t within. progress_done rule pairs n boundary before after first end p u old mid new found
           us rest digest stands one is progress made g peak other lt f t within (cases_lt g first);
       low = λ q x le. made.low q x le ∙ progress.low q x le;
       sound = λ f t here. sound_more rule pairs n after found first f u t node here (progress.sound f t here)

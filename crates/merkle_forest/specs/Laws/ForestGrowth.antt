@@ -1,11 +1,13 @@
 -- What every forest of a pairing rule keeps as it grows.
-use Rattle.std.proofs.Common.{◌≡◌, ℕ, zero, suc, ◌+◌, ◌-◌, ◌*◌, ◌^◌, ◌<◌, ◌≤◌, inl, inr, List, [], ◌∷◌, length, map, Option, Some, None, refl, sym, ◌∙◌, ap, arith, add-zero, add-suc, pow-suc}
+use Rattle.std.proofs.Common.{◌≡◌, ℕ, zero, suc, ◌+◌, ◌-◌, ◌*◌, ◌^◌, ◌<◌, ◌≤◌, inl, inr, List, [], ◌∷◌, length, map}
+use Rattle.std.proofs.Common.{Option, Some, None, refl, sym, ◌∙◌, ap, arith, add-zero, add-suc, pow-suc}
 use Rattle.std.proofs.lemmas.Bool.{cases_lt}
 use Rattle.std.proofs.lemmas.List.{length-map}
 use Rattle.std.proofs.lemmas.Nat.{pow_below}
 use Rattle.std.specs.Prelude.{IfSome, slice_get}
 use Rattle.std.specs.Option.{option_map_or}
-use Rattle.merkle_forest.specs.Forest.{Tree, leaf, branch, height, leaf_count, node_count, size, leaves, Rule, merged, peaks_after_merges, forest_of, IsPairOfEquals}
+use Rattle.merkle_forest.specs.Forest.{Tree, leaf, branch, height, leaf_count, node_count, size, leaves, Rule, merged}
+use Rattle.merkle_forest.specs.Forest.{peaks_after_merges, forest_of, IsPairOfEquals}
 use Rattle.merkle_forest.specs.Perfect.{IsPerfect, ArePerfect, IsPairing}
 
 -- a tree has one node more than twice its leaves, less two

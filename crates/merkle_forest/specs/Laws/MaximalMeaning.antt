@@ -2,7 +2,8 @@
 use Rattle.std.proofs.Common.{◌≡◌, ◌↔◌, ℕ, ◌+◌, ◌≤◌, true, false, inl, inr, List, [], ◌∷◌, ◌++◌, sym, ap, subst, arith}
 use Rattle.std.specs.Prelude.{Contains}
 use Rattle.std.proofs.lemmas.Bool.{cases_Bool, both_ways, cond-true, cond-false}
-use Rattle.std.proofs.lemmas.List.Elements.{Contains-append_left, Contains-append_right, Contains-append_cases, Contains-push, Contains-push_cases}
+use Rattle.std.proofs.lemmas.List.Elements.{Contains-append_left, Contains-append_right, Contains-append_cases}
+use Rattle.std.proofs.lemmas.List.Elements.{Contains-push, Contains-push_cases}
 use Rattle.merkle_forest.specs.Forest.{Tree, leaf, branch, leaf_count, leaves}
 use Rattle.merkle_forest.specs.Nodes.{IsWithin}
 use Rattle.merkle_forest.specs.Laws.Nodes.{within-fits, within-self, node-fits}
@@ -172,7 +173,8 @@ kept-tree from to start first (branch p left right) node it =
           (only-whole from to start first whole node is it)
       | inr out ↦ subst (λ xs. Contains xs (first, node))
           (sym (cond-false (is_inside from to start whole) all below out)) (elim it.stands [
-            | inl here ↦ absurd (let same : leaf_count node ≡ leaf_count left + leaf_count right = ap leaf_count here.1 in
+            | inl here ↦ absurd (let same : leaf_count node ≡ leaf_count left
+                + leaf_count right = ap leaf_count here.1 in
                 both_ways (is_inside from to start whole) out
                 (inside from to start whole (omega (arith, it.low, here.0)) (omega (arith, it.high, here.0, same))))
             | inr rest ↦ elim rest [

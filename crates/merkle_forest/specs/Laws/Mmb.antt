@@ -1,9 +1,12 @@
 -- How a Merkle Mountain Belt grows, and how many nodes it has.
-use Rattle.std.proofs.Common.{◌≡◌, ℕ, zero, suc, ◌+◌, ◌-◌, ◌*◌, ◌/◌, ◌%◌, ◌^◌, ◌<◌, ◌≤◌, ◌⊎◌, inl, inr, Bool, true, false, cond, eqb, List, [], ◌∷◌, length, map, Option, Some, None, refl, sym, ◌∙◌, ap, subst, arith, pow-suc, le_antisymm}
+use Rattle.std.proofs.Common.{◌≡◌, ℕ, zero, suc, ◌+◌, ◌-◌, ◌*◌, ◌/◌, ◌%◌, ◌^◌, ◌<◌, ◌≤◌, ◌⊎◌, inl, inr, Bool, true}
+use Rattle.std.proofs.Common.{false, cond, eqb, List, [], ◌∷◌, length, map, Option, Some, None, refl, sym, ◌∙◌, ap}
+use Rattle.std.proofs.Common.{subst, arith, pow-suc, le_antisymm}
 use Rattle.std.proofs.lemmas.Bool.{eqb-true, eqb-false}
 use Rattle.std.proofs.lemmas.Nat.{pow_pos}
 use Rattle.std.specs.Option.{option_map, option_map_or}
-use Rattle.merkle_forest.specs.Forest.{Tree, leaf, branch, height, leaf_count, size, leaves, merged, peaks_after_merges, with_leaf, forest_of, first_pair_from, mmb_rule}
+use Rattle.merkle_forest.specs.Forest.{Tree, leaf, branch, height, leaf_count, size, leaves, merged, peaks_after_merges}
+use Rattle.merkle_forest.specs.Forest.{with_leaf, forest_of, first_pair_from, mmb_rule}
 use Rattle.merkle_forest.specs.Laws.Rules.{mmb_merges_equals}
 use Rattle.std.specs.Prelude.{slice_get}
 use Rattle.std.proofs.Math.Nat.{div-div-eq-div-mul}

@@ -1,5 +1,6 @@
 -- How many nodes of a height a Merkle Mountain Belt has, and how many peaks.
-use Rattle.std.proofs.Common.{◌≡◌, ℕ, zero, suc, ◌+◌, ◌-◌, ◌*◌, ◌/◌, ◌^◌, ◌<◌, ◌≤◌, ◌⊎◌, ◌%◌, cond, ltb, inl, inr, List, [], ◌∷◌, length, refl, sym, ◌∙◌, ap, arith, pow-suc, subst}
+use Rattle.std.proofs.Common.{◌≡◌, ℕ, zero, suc, ◌+◌, ◌-◌, ◌*◌, ◌/◌, ◌^◌, ◌<◌, ◌≤◌, ◌⊎◌, ◌%◌, cond, ltb, inl, inr, List}
+use Rattle.std.proofs.Common.{[], ◌∷◌, length, refl, sym, ◌∙◌, ap, arith, pow-suc, subst}
 use Rattle.std.proofs.lemmas.Bool.{eq-eqb, ne_eqb, lt-ltb, le-ltb, cond-true, cond-false}
 use Rattle.std.proofs.lemmas.Nat.{pow_pos, div-mul-add}
 use Rattle.merkle_forest.specs.Forest.{Tree, leaf, branch, height, leaf_count, leaves, forest_of, mmb_rule}
@@ -9,7 +10,8 @@ use Rattle.merkle_forest.specs.Nodes.{IsPeakAt, nodes_at, nodes_of_height}
 use Rattle.merkle_forest.specs.Perfect.{IsPerfect}
 use Rattle.merkle_forest.specs.Laws.Powers.{pow_le, pow_order}
 use Rattle.merkle_forest.specs.Mmb.{birth, mmb_tree, IsBelt}
-use Rattle.merkle_forest.specs.Laws.Mmb.{height-mmb_tree, leaf_count-mmb_tree, split, leaves-belt, length-belt, forest_of-belt}
+use Rattle.merkle_forest.specs.Laws.Mmb.{height-mmb_tree, leaf_count-mmb_tree, split, leaves-belt, length-belt}
+use Rattle.merkle_forest.specs.Laws.Mmb.{forest_of-belt}
 use Rattle.merkle_forest.specs.Laws.MmbNodes.{height-node, peak_node-mmb}
 
 -- a perfect tree has no node higher than itself

@@ -1,5 +1,6 @@
 -- Locations from positions, and heights and children of nodes, in a Merkle Mountain Belt.
-use Rattle.std.proofs.Common.{◌≡◌, ℕ, zero, suc, ◌+◌, ◌-◌, ◌*◌, ◌/◌, ◌%◌, ◌^◌, ◌<◌, ◌≤◌, inl, inr, length, refl, sym, ◌∙◌, ap, subst, arith, pow-suc, le_antisymm}
+use Rattle.std.proofs.Common.{◌≡◌, ℕ, zero, suc, ◌+◌, ◌-◌, ◌*◌, ◌/◌, ◌%◌, ◌^◌, ◌<◌, ◌≤◌, inl, inr, length, refl, sym}
+use Rattle.std.proofs.Common.{◌∙◌, ap, subst, arith, pow-suc, le_antisymm}
 use Rattle.std.proofs.lemmas.Nat.{pow_pos, div-mul-add, shl_whole}
 use Rattle.merkle_forest.specs.Forest.{Tree, leaf, branch, position, height, leaves, forest_of, mmb_rule}
 use Rattle.merkle_forest.specs.Laws.Rules.{mmb_merges_equals}
@@ -9,7 +10,8 @@ use Rattle.merkle_forest.specs.Laws.Nodes.{peak-node, node-leaves}
 use Rattle.merkle_forest.specs.Laws.Powers.{pow_order}
 use Rattle.merkle_forest.specs.Mmb.{leaf_position, birth, root_position, mmb_tree}
 use Rattle.merkle_forest.specs.Laws.Mmb.{height-mmb_tree, exponent-same, length-belt, forest_of-belt}
-use Rattle.merkle_forest.specs.Laws.MmbNodes.{birth-left, birth-right, position-mmb_tree, height-node, node-mmb, peak-mmb, node_position-mmb}
+use Rattle.merkle_forest.specs.Laws.MmbNodes.{birth-left, birth-right, position-mmb_tree, height-node, node-mmb}
+use Rattle.merkle_forest.specs.Laws.MmbNodes.{peak-mmb, node_position-mmb}
 use Rattle.merkle_forest.specs.Laws.MmbCounts.{low-birth}
 
 -- births and positions by whether a node is a leaf

@@ -1,10 +1,12 @@
 -- Where the nodes of a Merkle Mountain Range stand.
-use Rattle.std.proofs.Common.{◌≡◌, ◌≢◌, ℕ, zero, suc, ◌+◌, ◌-◌, ◌*◌, ◌^◌, ◌<◌, ◌≤◌, Bool, true, false, cond, eqb, List, [], ◌∷◌, length, Some, None, refl, sym, ◌∙◌, ap, arith, pow-suc, mul_assoc, add-mul}
+use Rattle.std.proofs.Common.{◌≡◌, ◌≢◌, ℕ, zero, suc, ◌+◌, ◌-◌, ◌*◌, ◌^◌, ◌<◌, ◌≤◌, Bool, true, false, cond, eqb, List}
+use Rattle.std.proofs.Common.{[], ◌∷◌, length, Some, None, refl, sym, ◌∙◌, ap, arith, pow-suc, mul_assoc, add-mul}
 use Rattle.std.proofs.lemmas.Bool.{eqb-true, eqb-false}
 use Rattle.std.proofs.lemmas.Nat.{pow_pos, pow-add, pow_below, ones_cat}
 use Rattle.std.specs.Option.{option_map_or}
 use Rattle.std.specs.Int.RustNames.{count_ones}
-use Rattle.merkle_forest.specs.Forest.{Tree, leaf, branch, position, height, leaf_count, node_count, size, leaves, merged, peaks_after_merges, forest_of, mmr_rule}
+use Rattle.merkle_forest.specs.Forest.{Tree, leaf, branch, position, height, leaf_count, node_count, size, leaves}
+use Rattle.merkle_forest.specs.Forest.{merged, peaks_after_merges, forest_of, mmr_rule}
 use Rattle.merkle_forest.specs.Laws.Rules.{mmr_merges_equals}
 use Rattle.merkle_forest.specs.Laws.ForestGrowth.{size-twice, leaves-forest_of}
 use Rattle.merkle_forest.specs.Mmr.{leaf_position, mmr_tree, IsRange}

@@ -1,5 +1,6 @@
 -- How many nodes of a height a Merkle Mountain Range has.
-use Rattle.std.proofs.Common.{◌≡◌, ℕ, zero, suc, ◌+◌, ◌-◌, ◌*◌, ◌/◌, ◌^◌, ◌<◌, ◌≤◌, Bool, true, false, cond, ltb, inl, inr, List, [], ◌∷◌, length, refl, sym, ◌∙◌, ap, arith, pow-suc, add-mul}
+use Rattle.std.proofs.Common.{◌≡◌, ℕ, zero, suc, ◌+◌, ◌-◌, ◌*◌, ◌/◌, ◌^◌, ◌<◌, ◌≤◌, Bool, true, false, cond, ltb, inl}
+use Rattle.std.proofs.Common.{inr, List, [], ◌∷◌, length, refl, sym, ◌∙◌, ap, arith, pow-suc, add-mul}
 use Rattle.std.proofs.lemmas.Bool.{cases_lt, eq-eqb, ne_eqb, lt-ltb, le-ltb, ltb-true, ltb-false, cond-true, cond-false}
 use Rattle.std.proofs.lemmas.Nat.{pow_pos, pow-add, div-mul-add}
 use Rattle.std.proofs.Math.Nat.{div-lt_iff_lt-mul, lt-div-mul-add}

@@ -1,14 +1,17 @@
 -- Where the nodes and the peaks of a Merkle Mountain Range stand.
-use Rattle.std.proofs.Common.{◌≡◌, ℕ, zero, suc, ◌+◌, ◌-◌, ◌*◌, ◌^◌, ◌<◌, ◌≤◌, inl, inr, List, [], ◌∷◌, refl, sym, ◌∙◌, ap, subst, arith, pow-suc, mul_assoc, le_antisymm}
+use Rattle.std.proofs.Common.{◌≡◌, ℕ, zero, suc, ◌+◌, ◌-◌, ◌*◌, ◌^◌, ◌<◌, ◌≤◌, inl, inr, List, [], ◌∷◌, refl, sym, ◌∙◌}
+use Rattle.std.proofs.Common.{ap, subst, arith, pow-suc, mul_assoc, le_antisymm}
 use Rattle.merkle_forest.specs.Laws.Powers.{pow_le, pow_order}
 use Rattle.std.proofs.lemmas.Nat.{pow_pos, pow_below, ones_cat, ones_le_self}
 use Rattle.std.specs.Int.RustNames.{count_ones}
-use Rattle.merkle_forest.specs.Forest.{Tree, leaf, branch, position, height, leaf_count, size, leaves, forest_of, mmr_rule}
+use Rattle.merkle_forest.specs.Forest.{Tree, leaf, branch, position, height, leaf_count, size, leaves, forest_of}
+use Rattle.merkle_forest.specs.Forest.{mmr_rule}
 use Rattle.merkle_forest.specs.Laws.Rules.{mmr_merges_equals}
 use Rattle.merkle_forest.specs.Laws.ForestGrowth.{leaves-forest_of}
 use Rattle.merkle_forest.specs.Nodes.{IsWithin, IsNodeAt, IsPeakAt, IsBranchOf}
 use Rattle.merkle_forest.specs.Mmr.{leaf_position, root_position, mmr_tree, IsRange}
-use Rattle.merkle_forest.specs.Laws.Mmr.{height-mmr_tree, leaf_count-mmr_tree, position-mmr_tree, ones-pow, ones-range, size-range, forest_of-range}
+use Rattle.merkle_forest.specs.Laws.Mmr.{height-mmr_tree, leaf_count-mmr_tree, position-mmr_tree, ones-pow, ones-range}
+use Rattle.merkle_forest.specs.Laws.Mmr.{size-range, forest_of-range}
 
 -- the first leaf of the right half
 leaf_position-right : (k a : ℕ) → leaf_position (a * 2 ^ suc k) + (2 ^ suc k - 1) ≡ leaf_position ((2 * a + 1) * 2 ^ k)

@@ -1,9 +1,12 @@
 -- What a forest keeps of its nodes as it grows: each position is that of one node.
-use Rattle.std.proofs.Common.{◌≡◌, ℕ, zero, suc, ◌+◌, ◌-◌, ◌<◌, ◌≤◌, ◌⊎◌, inl, inr, List, [], ◌∷◌, length, map, refl, sym, ◌∙◌, ap, subst, arith, add-zero, add-suc}
+use Rattle.std.proofs.Common.{◌≡◌, ℕ, zero, suc, ◌+◌, ◌-◌, ◌<◌, ◌≤◌, ◌⊎◌, inl, inr, List, [], ◌∷◌, length, map, refl}
+use Rattle.std.proofs.Common.{sym, ◌∙◌, ap, subst, arith, add-zero, add-suc}
 use Rattle.std.proofs.lemmas.List.{length-map}
-use Rattle.merkle_forest.specs.Forest.{Tree, leaf, branch, position, height, leaf_count, size, leaves, Rule, merged, forest_of, IsPairOfEquals}
+use Rattle.merkle_forest.specs.Forest.{Tree, leaf, branch, position, height, leaf_count, size, leaves, Rule, merged}
+use Rattle.merkle_forest.specs.Forest.{forest_of, IsPairOfEquals}
 use Rattle.merkle_forest.specs.Perfect.{IsPairing}
-use Rattle.merkle_forest.specs.Laws.ForestGrowth.{leaves-merged, size-merged, pair_within, peaks_after_merges-keeps, peaks_after_merges-keeps_next, leaves-forest_of}
+use Rattle.merkle_forest.specs.Laws.ForestGrowth.{leaves-merged, size-merged, pair_within, peaks_after_merges-keeps}
+use Rattle.merkle_forest.specs.Laws.ForestGrowth.{peaks_after_merges-keeps_next, leaves-forest_of}
 use Rattle.merkle_forest.specs.Nodes.{IsWithin, IsNodeAt, IsHeightAt, HasNodeAtPosition}
 
 within : (peaks : List Tree) (index : ℕ) → IsPairOfEquals (map height peaks) index → suc index < length peaks

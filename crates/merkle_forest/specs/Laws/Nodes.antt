@@ -1,11 +1,13 @@
 -- What holds of the nodes and the peaks of every forest.
-use Rattle.std.proofs.Common.{◌≡◌, ◌↔◌, ℕ, suc, ◌+◌, ◌-◌, ◌*◌, ◌/◌, ◌%◌, ◌^◌, ◌<◌, ◌≤◌, cond, ltb, inl, inr, List, [], ◌∷◌, refl, sym, ◌∙◌, ap, subst, arith, mul-le-mul_right}
+use Rattle.std.proofs.Common.{◌≡◌, ◌↔◌, ℕ, suc, ◌+◌, ◌-◌, ◌*◌, ◌/◌, ◌%◌, ◌^◌, ◌<◌, ◌≤◌, cond, ltb, inl, inr, List, []}
+use Rattle.std.proofs.Common.{◌∷◌, refl, sym, ◌∙◌, ap, subst, arith, mul-le-mul_right}
 use Rattle.std.proofs.lemmas.Bool.{cases_lt, cond-true, cond-false, lt-ltb, le-ltb}
 use Rattle.std.proofs.lemmas.Nat.{pow_pos, le-div, div-add-mod'}
 use Rattle.merkle_forest.specs.Forest.{Tree, leaf, branch, position, height, leaf_count, leaves, Rule, forest_of}
 use Rattle.merkle_forest.specs.Perfect.{IsPerfect, ArePerfect, IsPairing}
 use Rattle.merkle_forest.specs.Laws.ForestGrowth.{forest_of-perfect, leaves-forest_of, leaf_count-perfect, height_fits}
-use Rattle.merkle_forest.specs.Nodes.{IsWithin, IsNodeAt, IsPeakAt, IsBranchOf, HasPeak, IsSubtree, StandsAt, HasNode, IsBirth, IsBirthAt, IsFirstLeaf, nodes_of_height}
+use Rattle.merkle_forest.specs.Nodes.{IsWithin, IsNodeAt, IsPeakAt, IsBranchOf, HasPeak, IsSubtree, StandsAt, HasNode}
+use Rattle.merkle_forest.specs.Nodes.{IsBirth, IsBirthAt, IsFirstLeaf, nodes_of_height}
 
 -- a tree stands within itself
 pub within-self : (start : ℕ) (t : Tree) → IsWithin start t start t

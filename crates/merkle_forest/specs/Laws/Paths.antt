@@ -1,5 +1,6 @@
 -- Ways down a tree.
-use Rattle.std.proofs.Common.{◌≡◌, ◌≤◌, ℕ, suc, ◌+◌, ◌-◌, ◌*◌, ◌%◌, ◌^◌, cond, ltb, [], ◌∷◌, refl, sym, ◌∙◌, ap, subst, arith}
+use Rattle.std.proofs.Common.{◌≡◌, ◌≤◌, ℕ, suc, ◌+◌, ◌-◌, ◌*◌, ◌%◌, ◌^◌, cond, ltb, [], ◌∷◌, refl, sym, ◌∙◌, ap, subst}
+use Rattle.std.proofs.Common.{arith}
 use Rattle.std.proofs.lemmas.Nat.{one_shl}
 use Rattle.merkle_forest.specs.Forest.{Tree, leaf, branch, position, height, leaf_count, Rule, forest_of}
 use Rattle.merkle_forest.specs.Laws.ForestGrowth.{forest_of-perfect}
@@ -11,7 +12,8 @@ use Rattle.merkle_forest.specs.Perfect.{IsPairing}
 
 -- where nodes stand as `root_of` tells, the way down by it is that down the tree
 pub path-down : (rule : Rule) → IsPairing rule → (root_of : ℕ → ℕ → ℕ)
-    → ((n first : ℕ) (node : Tree) → IsNodeAt first node (forest_of rule n) → position node ≡ root_of first (height node))
+    → ((n first : ℕ) (node : Tree) → IsNodeAt first node (forest_of rule n)
+    → position node ≡ root_of first (height node))
     → (target n first : ℕ) (node : Tree) → IsNodeAt first node (forest_of rule n)
     → path_by root_of target first (height node) ≡ path_down target first node
 unfolding path_by

@@ -1,5 +1,6 @@
 -- With digests of 32 bytes a root's string has 9, 41 or 49 bytes.
-use Rattle.std.proofs.Common.{◌≡◌, ◌≤◌, inl, inr, ℕ, ◌+◌, zero, suc, true, false, cond, List, [], ◌∷◌, ◌++◌, length, take, drop, refl, ap, ◌∙◌, arith, ⊎_elim}
+use Rattle.std.proofs.Common.{◌≡◌, ◌≤◌, inl, inr, ℕ, ◌+◌, zero, suc, true, false, cond, List, [], ◌∷◌, ◌++◌, length}
+use Rattle.std.proofs.Common.{take, drop, refl, ap, ◌∙◌, arith, ⊎_elim}
 use Rattle.std.specs.Prelude.{◌==◌}
 use Rattle.std.proofs.lemmas.Bool.{cases_Bool}
 use Rattle.std.proofs.lemmas.List.{length-append}
@@ -7,7 +8,8 @@ use Rattle.std.proofs.lemmas.List.Elements.{All-head}
 use Rattle.std.specs.List.{All}
 use Rattle.merkle_forest.specs.declared.bagging.Bagging.{Bagging}
 use Rattle.merkle_forest.specs.declared.bagging.Bagging.TheVariants.{ForwardFold, BackwardFold}
-use Rattle.merkle_forest.specs.Hashing.{Hash, number, fold_string, folded_onto, folded_forward, folded_backward, items, bagged, inactive_count, domain_of, root_string, IsRootLength}
+use Rattle.merkle_forest.specs.Hashing.{Hash, number, fold_string, folded_onto, folded_forward, folded_backward, items}
+use Rattle.merkle_forest.specs.Hashing.{bagged, inactive_count, domain_of, root_string, IsRootLength}
 
 abbrev Sized : Hash → Type 0
 Sized hash = (bytes : List ℕ) → length (hash bytes) ≡ 32

@@ -1,12 +1,16 @@
 -- What was encoded is read again.
-use Rattle.std.proofs.Common.{◌≡◌, ℕ, ltb, Bool, true, false, List, ◌++◌, length, Option, None, Some, Ok, refl, sym, ◌∙◌, ap, arith}
+use Rattle.std.proofs.Common.{◌≡◌, ℕ, ltb, Bool, true, false, List, ◌++◌, length, Option, None, Some, Ok, refl, sym}
+use Rattle.std.proofs.Common.{◌∙◌, ap, arith}
 use Rattle.std.specs.Int.{Width, byte_len, to_be_bytes}
 use Rattle.std.proofs.lemmas.Bool.{le-ltb}
 use Rattle.std.proofs.lemmas.List.{drop_at, length-append, append_cancel_right}
 use Rattle.std.specs.Prelude.{IfSome, Result, Err}
-use Rattle.merkle_forest_parts.specs.Codec.{◌>>=◌, Outcome, Refuses, after_fixed, after_bool, bool_byte, option_encoding, after_option}
+use Rattle.merkle_forest_parts.specs.Codec.{◌>>=◌, Outcome, Refuses, after_fixed, after_bool, bool_byte}
+use Rattle.merkle_forest_parts.specs.Codec.{option_encoding, after_option}
 use Rattle.merkle_forest_parts.specs.declared.codec.error.Error.{Error}
-use Rattle.merkle_forest_parts.specs.declared.codec.error.Error.TheVariants.{EndOfBuffer, ExtraData, InvalidVarint, InvalidBool, InvalidEnum, InvalidLength, Invalid, Memory}
+use Rattle.merkle_forest_parts.specs.declared.codec.error.Error.TheVariants.{EndOfBuffer, ExtraData, InvalidVarint}
+use Rattle.merkle_forest_parts.specs.declared.codec.error.Error.TheVariants.{InvalidBool, InvalidEnum, InvalidLength}
+use Rattle.merkle_forest_parts.specs.declared.codec.error.Error.TheVariants.{Invalid, Memory}
 
 -- bytes of a known length are read again, whatever follows
 pub fixed_again : (count : ℕ) (bytes rest : List ℕ) → length bytes ≡ count → after_fixed count (bytes ++ rest) ≡ Ok rest

@@ -1,5 +1,6 @@
 -- Lists that were encoded are read again.
-use Rattle.std.proofs.Common.{◌≡◌, ℕ, ◌^◌, ◌<◌, ◌≤◌, ltb, false, List, [], ◌∷◌, ◌++◌, length, true, Result, Ok, Err, refl, append_assoc, inl, inr}
+use Rattle.std.proofs.Common.{◌≡◌, ℕ, ◌^◌, ◌<◌, ◌≤◌, ltb, false, List, [], ◌∷◌, ◌++◌, length, true, Result, Ok, Err}
+use Rattle.std.proofs.Common.{refl, append_assoc, inl, inr}
 use Rattle.std.specs.List.{flat_map, All}
 use Rattle.std.proofs.lemmas.Bool.{lt-ltb, le-ltb, cases_lt}
 use Rattle.merkle_forest_parts.specs.declared.codec.error.Error.{Error}
@@ -9,7 +10,8 @@ use Rattle.merkle_forest_parts.specs.Codec.{◌>>=◌, Outcome}
 use Rattle.merkle_forest_parts.specs.Laws.Codec.{fixed_again}
 use Rattle.merkle_forest_parts.specs.Varint.{varint}
 use Rattle.merkle_forest_parts.specs.Laws.Varint.{varint_again}
-use Rattle.merkle_forest_parts.specs.Lists.{list_encoding, bytes_encoding, AreItems, count_at, after_items, after_list, after_bytes}
+use Rattle.merkle_forest_parts.specs.Lists.{list_encoding, bytes_encoding, AreItems, count_at, after_items, after_list}
+use Rattle.merkle_forest_parts.specs.Lists.{after_bytes}
 
 -- a count in its range is read again
 pub count_again : (least greatest n : ℕ) (rest : List ℕ) → n < 2 ^ 64 → least ≤ n → n ≤ greatest

@@ -1,5 +1,6 @@
 -- What a varint encodes is read again, and what is read was encoded so.
-use Rattle.std.proofs.Common.{◌≡◌, ℕ, zero, suc, ◌+◌, ◌-◌, ◌*◌, ◌/◌, ◌%◌, ◌^◌, ◌<◌, ◌≤◌, max, add-one, ltb, eqb, true, false, List, [], ◌∷◌, ◌++◌, length, Ok, Err, refl, sym, ◌∙◌, ap, arith, inl, inr, lit<}
+use Rattle.std.proofs.Common.{◌≡◌, ℕ, zero, suc, ◌+◌, ◌-◌, ◌*◌, ◌/◌, ◌%◌, ◌^◌, ◌<◌, ◌≤◌, max, add-one, ltb, eqb, true}
+use Rattle.std.proofs.Common.{false, List, [], ◌∷◌, ◌++◌, length, Ok, Err, refl, sym, ◌∙◌, ap, arith, inl, inr, lit<}
 use Rattle.std.proofs.lemmas.Bool.{lt-ltb, le-ltb, ne_eqb, cases_lt}
 use Rattle.std.proofs.lemmas.Nat.{pow-add, leading_top}
 use Rattle.std.proofs.Math.Nat.{pow-suc, pow-le-pow_right}

@@ -1,6 +1,7 @@
 //! A reader's way through a slice of bytes.
 
-ghost use Rattle.std.specs.Prelude.{◌≡◌, ◌<◌, ◌≤◌, ◌++◌, ◌↔◌, ℕ, List, [], ◌∷◌, length, take, drop, IsTrue, Ok, Err, if◌then◌else◌, nat_lt, MatchResult, IfOk, IfErr};
+ghost use Rattle.std.specs.Prelude.{◌≡◌, ◌<◌, ◌≤◌, ◌++◌, ◌↔◌, ℕ, List, [], ◌∷◌, length, take, drop, IsTrue, Ok, Err};
+ghost use Rattle.std.specs.Prelude.{if◌then◌else◌, nat_lt, MatchResult, IfOk, IfErr};
 ghost use Rattle.merkle_forest_parts.specs.Codec.{Outcome, after_fixed};
 
 use super::error::Error;

@@ -5,7 +5,8 @@ ghost use Rattle.std.specs.List.{All, each_same};
 ghost use Rattle.std.proofs.Common.{ap};
 ghost use Rattle.merkle_forest_parts.specs.Varint.{varint, Finds};
 ghost use Rattle.merkle_forest_parts.specs.Codec.{Extends};
-ghost use Rattle.merkle_forest_parts.specs.Lists.{list_encoding, bytes_encoding, AreItems, count_at, HasItems, after_list, after_bytes};
+ghost use Rattle.merkle_forest_parts.specs.Lists.{list_encoding, bytes_encoding, AreItems, count_at, HasItems};
+ghost use Rattle.merkle_forest_parts.specs.Lists.{after_list, after_bytes};
 ghost use Rattle.merkle_forest_parts.specs.Laws.Lists.{list_again, bytes_again};
 
 use super::cursor::Cursor;

@@ -31,10 +31,10 @@ pub struct Recovering;
 pub type Recovery<C> = Writer<C, Recovering>;
 
 impl<C: Checksum> Writer<C, Recovering> {
-    /// Finds how many bytes of content are recovered of a blob of so many bytes, and takes a new name in the cache, whose
-    /// pages tell how large the blob's are. Nothing on the blob changes. It is refused where a read of the blob is, and
-    /// where no name is left: F8. That the cache's pages and twelve bytes are a power of two from 16 to 65536 is on
-    /// the caller. In the Rust: `paged::Recovery::open`.
+    /// Finds how many bytes of content are recovered of a blob of so many bytes, and takes a new name in the cache,
+    /// whose pages tell how large the blob's are. Nothing on the blob changes. It is refused where a read of the blob
+    /// is, and where no name is left: F8. That the cache's pages and twelve bytes are a power of two from 16 to 65536
+    /// is on the caller. In the Rust: `paged::Recovery::open`.
     pub fn open<B: Blob>(
         alloc: Global,
         blob: &mut B,
@@ -106,13 +106,13 @@ impl<C: Checksum> Writer<C, Recovering> {
         Ok(())
     }
 
-    /// Cuts the list to its first so many bytes, `size`, or leaves it whole where it has fewer, and makes it durable; the
-    /// blob then has its pages and nothing else, its last call is a sync that succeeded, the writer goes on from there,
-    /// and it has a new name in the cache.
-    /// Where no name is left, or a number of the list would end: F8, and nothing changes. Refused otherwise the
-    /// recovery is given up; what a crash then shows is a beginning of the list with what was durable of these bytes.
-    /// That so many bytes are recovered of the blob, no call of it has failed and all of it is durable is on the caller:
-    /// so it is after `open` and after `truncate`. In the Rust: `paged::Recovery::truncate`.
+    /// Cuts the list to its first so many bytes, `size`, or leaves it whole where it has fewer, and makes it durable;
+    /// the blob then has its pages and nothing else, its last call is a sync that succeeded, the writer goes on from
+    /// there, and it has a new name in the cache. Where no name is left, or a number of the list would end: F8, and
+    /// nothing changes. Refused otherwise the recovery is given up; what a crash then shows is a beginning of the list
+    /// with what was durable of these bytes. That so many bytes are recovered of the blob, no call of it has failed and
+    /// all of it is durable is on the caller: so it is after `open` and after `truncate`. In the Rust:
+    /// `paged::Recovery::truncate`.
     pub fn truncate<B: Blob>(
         mut self,
         blob: &mut B,
@@ -182,13 +182,13 @@ impl<C: Checksum> From<Writer<C, Recovering>> for Writer<C, Append> {
 }
 
 impl<C: Checksum> Writer<C> {
-    /// A writer of what is recovered of a blob of so many bytes, `blob_size`, all of it durable, with a buffer of so many
-    /// bytes, at least a page's: a `Recovery::open`, and a `truncate` to all that it found. The blob then has the pages
-    /// of that list and nothing else; of an empty blob it is a writer of nothing. Each image of each moment of the call
-    /// recovers to the same list, unless it is there by chance, and keeps every byte of it. The cache keeps its pages
-    /// and gives two names, of which the writer has the second. It is refused where one of these two calls is, also where
-    /// a name is wanting: F8. That this is the blob's length, that no call of it has failed and all of it is durable is on
-    /// the caller: so it is after an opening.
+    /// A writer of what is recovered of a blob of so many bytes, `blob_size`, all of it durable, with a buffer of so
+    /// many bytes, at least a page's: a `Recovery::open`, and a `truncate` to all that it found. The blob then has the
+    /// pages of that list and nothing else; of an empty blob it is a writer of nothing. Each image of each moment of
+    /// the call recovers to the same list, unless it is there by chance, and keeps every byte of it. The cache keeps
+    /// its pages and gives two names, of which the writer has the second. It is refused where one of these two calls
+    /// is, also where a name is wanting: F8. That this is the blob's length, that no call of it has failed and all of
+    /// it is durable is on the caller: so it is after an opening.
     /// In the Rust: `paged::Writer::new`, which takes one name.
     pub fn new<B: Blob>(
         alloc: Global,
@@ -218,7 +218,8 @@ impl<C: Checksum> Writer<C> {
             × (cache.old.next_id ≤ cache.new.next_id) }
         ensures names { cache.new.next_id ≤ cache.old.next_id + 2 }
         // Whatever a crash leaves at any moment of the call keeps all of the list.
-        ensures any_moment { let old = recovered C.checksum_of (cache.old.page_size + 12) (content (B.calls blob.old)) in
+        ensures any_moment { let old = recovered C.checksum_of (cache.old.page_size
+            + 12) (content (B.calls blob.old)) in
             Through (Keeps C.checksum_of (cache.old.page_size + 12) old (length old)) (B.calls blob.old)
             (B.calls blob.new) }
         ensures cause { let old = recovered C.checksum_of (cache.old.page_size + 12) (content (B.calls blob.old)) in
@@ -236,8 +237,8 @@ impl<C: Checksum> Writer<C> {
 }
 
 impl<C: Checksum, Phase> Writer<C, Phase> {
-    /// How many bytes of content are recovered of the first `blob_size` bytes of the blob. It is refused where a read of
-    /// the blob is. That so many bytes of content, `proven`, are among them is on the caller.
+    /// How many bytes of content are recovered of the first `blob_size` bytes of the blob. It is refused where a read
+    /// of the blob is. That so many bytes of content, `proven`, are among them is on the caller.
     /// In the Rust: `paged::Writer::recoverable_prefix_len`.
     pub fn recoverable_prefix_len<B: Blob>(
         &self,

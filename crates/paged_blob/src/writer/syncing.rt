@@ -71,9 +71,9 @@ impl<C: Checksum, Phase> Writer<C, Phase> {
 
     /// Starts a sync of what was appended so far, and gives it beside the writer: it covers these bytes and no later
     /// ones, and its answer is told of when it is waited for (`wait_for_sync`). Until then nothing more counts as
-    /// durable (`needs_sync`), the list takes bytes into memory alone (`try_append`), since a flush might write the slot
-    /// that the sync makes durable, and it is read by its `view`. Where all is durable, no call of the blob is made.
-    /// Refused where a write is, the writer is given up. In the Rust: `paged::Writer::start_sync`.
+    /// durable (`needs_sync`), the list takes bytes into memory alone (`try_append`), since a flush might write the
+    /// slot that the sync makes durable, and it is read by its `view`. Where all is durable, no call of the blob is
+    /// made. Refused where a write is, the writer is given up. In the Rust: `paged::Writer::start_sync`.
     pub fn start_sync<B: Blob>(self, blob: &mut B) -> Result<(Self, WriterSync), Error>
         requires writer { IsWriter C.checksum_of (B.calls blob.old) self }
         ensures same { IfOk result (λ r. r.0 ≡ self) }
@@ -108,7 +108,8 @@ impl<C: Checksum, Phase> Writer<C, Phase> {
     }
 
     /// Waits for a sync that was started: what it covers is durable then, and what came into memory since is not. It
-    /// makes no call of the blob. Refused where the sync was, the writer is given up, as after a `sync` that is refused.
+    /// makes no call of the blob. Refused where the sync was, the writer is given up, as after a `sync` that is
+    /// refused.
     /// In the Rust: `paged::Writer::wait_for_sync`.
     pub fn wait_for_sync<B: Blob>(
         mut self,

@@ -1,5 +1,5 @@
-//! An explorer of crashes: at each moment of a script it makes images that a crash may leave, and recovers them. It finds
-//! nothing where the proofs are right.
+//! An explorer of crashes: at each moment of a script it makes images that a crash may leave, and recovers them. It
+//! finds nothing where the proofs are right.
 
 use super::{pages_of, started};
 use fault_storage::Crc32;

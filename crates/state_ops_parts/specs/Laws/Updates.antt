@@ -20,4 +20,5 @@ two_sized a b m n long_a long_b = omega (arith, length-append a b, long_a, long_
 
 pub three_sized : (k v n : List ℕ) (key value : ℕ) → length k ≡ key → length v ≡ value → length n ≡ key
     → length (k ++ (v ++ n)) ≡ key + value + key
-three_sized k v n key value long_k long_v long_n = omega (arith, length-append k (v ++ n), length-append v n, long_k, long_v, long_n)
+three_sized k v n key value long_k long_v long_n =
+    omega (arith, length-append k (v ++ n), length-append v n, long_k, long_v, long_n)

@@ -10,7 +10,8 @@ use Rattle.merkle_forest.specs.Forest.{Tree, leaf, branch, leaf_count, Rule, for
 use Rattle.merkle_forest.specs.Hashing.{Hash}
 use Rattle.merkle_forest.specs.Laws.Peaks.{leaf_count-pos}
 use Rattle.merkle_forest.specs.Trees.{Located, located}
-use Rattle.merkle_core.specs.Ranges.{Digests, before_digests, after_digests, inner_digests, meets, siblings, range_digests}
+use Rattle.merkle_core.specs.Ranges.{Digests, before_digests, after_digests, inner_digests, meets, siblings}
+use Rattle.merkle_core.specs.Ranges.{range_digests}
 
 -- where a tree meets a range
 meets_yes : (start stop at : ℕ) (t : Tree) → start < at + leaf_count t → at < stop → meets start stop (at, t) ≡ true
@@ -34,16 +35,19 @@ module _ (digest : Digests) where
   out : (start stop at : ℕ) (t : Tree) → meets start stop (at, t) ≡ false → beside start stop at t ≡ 1
   out start stop at (leaf p) is = ap (λ b. length (cond b [] (digest at (leaf p) ∷ []))) is
   out start stop at (branch p left right) is =
-      ap (λ b. length (cond b (siblings digest start stop at left ++ siblings digest start stop (at + leaf_count left) right)
+      ap (λ b. length (cond b (siblings digest start stop at left
+      ++ siblings digest start stop (at + leaf_count left) right)
       (digest at (branch p left right) ∷ []))) is
 
   in_leaf : (start stop at p : ℕ) → meets start stop (at, leaf p) ≡ true → beside start stop at (leaf p) ≡ 0
   in_leaf start stop at p is = ap (λ b. length (cond b [] (digest at (leaf p) ∷ []))) is
 
   in_branch : (start stop at p : ℕ) (left right : Tree) → meets start stop (at, branch p left right) ≡ true
-      → beside start stop at (branch p left right) ≡ beside start stop at left + beside start stop (at + leaf_count left) right
+      → beside start stop at (branch p left right) ≡ beside start stop at left
+      + beside start stop (at + leaf_count left) right
   in_branch start stop at p left right is =
-      ap (λ b. length (cond b (siblings digest start stop at left ++ siblings digest start stop (at + leaf_count left) right)
+      ap (λ b. length (cond b (siblings digest start stop at left
+      ++ siblings digest start stop (at + leaf_count left) right)
       (digest at (branch p left right) ∷ []))) is
       ∙ length-append (siblings digest start stop at left) (siblings digest start stop (at + leaf_count left) right)
 
@@ -59,14 +63,16 @@ module _ (digest : Digests) where
 
     -- a tree in the range has none
     inside : (at : ℕ) (t : Tree) → start ≤ at → at + leaf_count t ≤ stop → all at t ≡ 0
-    inside at (leaf p) low high = in_leaf start stop at p (meets_yes start stop at (leaf p) (omega (arith, low)) (omega (arith, high)))
+    inside at (leaf p) low high =
+        in_leaf start stop at p (meets_yes start stop at (leaf p) (omega (arith, low)) (omega (arith, high)))
     inside at (branch p left right) low high =
         let one = leaf_count-pos left in
         let other = leaf_count-pos right in
         omega (
           arith,
           in_branch start stop at p left right
-              (meets_yes start stop at (branch p left right) (omega (arith, low, one)) (omega (arith, high, one, other))),
+              (meets_yes start stop at (branch p left right) (omega (arith, low, one))
+              (omega (arith, high, one, other))),
           inside at left low (omega (arith, high)),
           inside (at + leaf_count left) right (omega (arith, low)) (omega (arith, high)),
         )
@@ -97,8 +103,11 @@ module _ (digest : Digests) where
             )
             | inr past ↦ omega (arith, inside at t low (omega (arith, past, some)))
           ])
-          | inr past ↦ omega
-              (arith, out start stop at t (meets_after start stop at t past), out (stop - 1) stop at t (meets_after (stop - 1) stop at t past))
+          | inr past ↦ omega (
+            arith,
+            out start stop at t (meets_after start stop at t past),
+            out (stop - 1) stop at t (meets_after (stop - 1) stop at t past),
+          )
         ]
 
     -- one that ends in it at most those beside the first
@@ -128,8 +137,11 @@ module _ (digest : Digests) where
             )
             | inr past ↦ omega (arith, inside at t (omega (arith, past)) high)
           ])
-          | inr past ↦ omega
-              (arith, out start stop at t (meets_before start stop at t past), out start (start + 1) at t (meets_before start (start + 1) at t past))
+          | inr past ↦ omega (
+            arith,
+            out start stop at t (meets_before start stop at t past),
+            out start (start + 1) at t (meets_before start (start + 1) at t past),
+          )
         ]
 
     by_both : (at : ℕ) (t : Tree) → all at t ≤ first at t + last at t
@@ -149,9 +161,12 @@ module _ (digest : Digests) where
             | inr to ↦ omega (arith, by_first at t to)
             | inl beyond ↦ omega (
               arith,
-              in_branch start stop at p left right (meets_yes start stop at t (omega (arith, beyond, some)) (omega (arith, from, some))),
-              in_branch start (start + 1) at p left right (meets_yes start (start + 1) at t (omega (arith, beyond, some)) (omega (arith, from))),
-              in_branch (stop - 1) stop at p left right (meets_yes (stop - 1) stop at t (omega (arith, beyond)) (omega (arith, from, some))),
+              in_branch start stop at p left right (meets_yes start stop at t (omega (arith, beyond, some))
+                  (omega (arith, from, some))),
+              in_branch start (start + 1) at p left right (meets_yes start (start
+                  + 1) at t (omega (arith, beyond, some)) (omega (arith, from))),
+              in_branch (stop - 1) stop at p left right (meets_yes (stop
+                  - 1) stop at t (omega (arith, beyond)) (omega (arith, from, some))),
               by_both at left,
               by_both (at + leaf_count left) right,
             )
@@ -163,15 +178,18 @@ module _ (digest : Digests) where
         → length (inner_digests digest from to (peak ∷ peaks))
         ≡ beside from to peak.0 peak.1 + length (inner_digests digest from to peaks)
     inner_met from to peak peaks is =
-        ap (λ (b : Bool). length (flat_map (λ (x : Located). siblings digest from to x.0 x.1) (cond b (peak ∷ filter (meets from to) peaks)
+        ap (λ (b : Bool). length (flat_map (λ (x : Located). siblings digest from to x.0 x.1) (cond b (peak
+        ∷ filter (meets from to) peaks)
         (filter (meets from to) peaks)))) is
-        ∙ ap length (flat_map-cons (λ (x : Located). siblings digest from to x.0 x.1) peak (filter (meets from to) peaks))
+        ∙ ap length (flat_map-cons (λ (x : Located). siblings digest from to x.0 x.1) peak
+        (filter (meets from to) peaks))
         ∙ length-append (siblings digest from to peak.0 peak.1) (inner_digests digest from to peaks)
 
     inner_out : (from to : ℕ) (peak : Located) (peaks : List Located) → meets from to peak ≡ false
         → length (inner_digests digest from to (peak ∷ peaks)) ≡ length (inner_digests digest from to peaks)
     inner_out from to peak peaks is =
-        ap (λ (b : Bool). length (flat_map (λ (x : Located). siblings digest from to x.0 x.1) (cond b (peak ∷ filter (meets from to) peaks)
+        ap (λ (b : Bool). length (flat_map (λ (x : Located). siblings digest from to x.0 x.1) (cond b (peak
+        ∷ filter (meets from to) peaks)
         (filter (meets from to) peaks)))) is
 
     -- a tree that meets it
@@ -179,15 +197,22 @@ module _ (digest : Digests) where
         → length (inner_digests digest start stop peaks)
         ≤ length (inner_digests digest start (start + 1) peaks) + length (inner_digests digest (stop - 1) stop peaks)
         → length (inner_digests digest start stop (peak ∷ peaks))
-        ≤ length (inner_digests digest start (start + 1) (peak ∷ peaks)) + length (inner_digests digest (stop - 1) stop (peak ∷ peaks))
+        ≤ length (inner_digests digest start (start + 1) (peak ∷ peaks))
+        + length (inner_digests digest (stop - 1) stop (peak ∷ peaks))
     one_more peak peaks low high rest =
         let whole = inner_met start stop peak peaks (meets_yes start stop peak.0 peak.1 low high) in
         elim (cases_lt peak.0 (start + 1)) [
           | inl from ↦
               let one = inner_met start (start + 1) peak peaks (meets_yes start (start + 1) peak.0 peak.1 low from) in
               (elim (cases_lt (stop - 1) (peak.0 + leaf_count peak.1)) [
-                | inl to ↦ omega
-                    (arith, whole, one, rest, by_both peak.0 peak.1, inner_met (stop - 1) stop peak peaks (meets_yes (stop - 1) stop peak.0 peak.1 to high))
+                | inl to ↦ omega (
+                  arith,
+                  whole,
+                  one,
+                  rest,
+                  by_both peak.0 peak.1,
+                  inner_met (stop - 1) stop peak peaks (meets_yes (stop - 1) stop peak.0 peak.1 to high),
+                )
                 | inr past ↦ omega (
                   arith,
                   whole,
@@ -230,7 +255,8 @@ module _ (digest : Digests) where
             | inr past ↦ omega (
               arith,
               inner_out start stop peak peaks (meets_after start stop peak.0 peak.1 past),
-              inner_out start (start + 1) peak peaks (meets_after start (start + 1) peak.0 peak.1 (omega (arith, past, some))),
+              inner_out start (start
+                  + 1) peak peaks (meets_after start (start + 1) peak.0 peak.1 (omega (arith, past, some))),
               inner_out (stop - 1) stop peak peaks (meets_after (stop - 1) stop peak.0 peak.1 past),
               inner_few peaks,
             )
@@ -239,7 +265,8 @@ module _ (digest : Digests) where
             arith,
             inner_out start stop peak peaks (meets_before start stop peak.0 peak.1 past),
             inner_out start (start + 1) peak peaks (meets_before start (start + 1) peak.0 peak.1 past),
-            inner_out (stop - 1) stop peak peaks (meets_before (stop - 1) stop peak.0 peak.1 (omega (arith, past, some))),
+            inner_out (stop - 1) stop peak peaks (meets_before (stop
+                - 1) stop peak.0 peak.1 (omega (arith, past, some))),
             inner_few peaks,
           )
         ]
@@ -268,7 +295,12 @@ module _ (digest : Digests) where
           let after : List (List ℕ) = after_digests hash digest BackwardFold to inactive active in
           let one : List (List ℕ) = inner_digests digest from to inactive in
           let other : List (List ℕ) = inner_digests digest from to active in
-          omega (arith, length-append ((before ++ after) ++ one) other, length-append (before ++ after) one, length-append before after)
+          omega (
+            arith,
+            length-append ((before ++ after) ++ one) other,
+            length-append (before ++ after) one,
+            length-append before after,
+          )
 
 -- the law that the honest proof of one leaf has few digests
 abbrev pub AreFew : Rule → Type 0

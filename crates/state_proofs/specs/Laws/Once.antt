@@ -16,7 +16,8 @@ within_all : (v : Option (List ℕ)) → IfSome v (λ d. Unit {0})
 within_all None = tt
 within_all (Some d) = tt
 
-pub numbers_once : (m n : ℕ) (x y : List ℕ) → m < 2 ^ 64 → n < 2 ^ 64 → varint m ++ x ≡ varint n ++ y → (m ≡ n) × (x ≡ y)
+pub numbers_once : (m n : ℕ) (x y : List ℕ) → m < 2 ^ 64 → n < 2 ^ 64
+    → varint m ++ x ≡ varint n ++ y → (m ≡ n) × (x ≡ y)
 numbers_once m n x y low high same =
     let it = one_encoding varint after_varint (λ k. k < 2 ^ 64) after_varint_again m n x y low high same in
     (varint_same m n low high it.0, it.1)

@@ -39,7 +39,8 @@ told_again false after bytes rest is again = absurd cc
 -- the limits of a proof of one operation that is read in a form
 abbrev pub IsFormWithin : {F D C P : Type 0} → (C → List ℕ) → Told → Proof F D C P → Type 0
 IsFormWithin chunk told p =
-    (p.loc ≤ 2 ^ 62) × (length (chunk p.chunk) ≡ told.width) × IsRangeWithin told.most p.range_proof × IsTrue told.allowed
+    (p.loc ≤ 2 ^ 62) × (length (chunk p.chunk) ≡ told.width)
+    × IsRangeWithin told.most p.range_proof × IsTrue told.allowed
 
 module _ {D P : Type 0} (encoding : D → List ℕ) (is_value : D → Type 0) (size : ℕ) (sized : (d : D) → is_value d
     → length (encoding d) ≡ size)
@@ -82,16 +83,19 @@ module _ {D P : Type 0} (encoding : D → List ℕ) (is_value : D → Type 0) (s
     -- so is a proof of one operation, in a form
     pub read_form_again : {F C : Type 0} (chunk : C → List ℕ) (told : Told) (p : Proof F D C P) (rest : List ℕ)
         → (p.loc < 2 ^ 64) × IsRangeValue is_value is_held p.range_proof → IsFormWithin chunk told p
-        → after_form digest after told (operation_proof_encoding pending (form_parts_of chunk encoding held p) ++ rest) ≡ Ok rest
+        → after_form digest after told (operation_proof_encoding pending (form_parts_of chunk encoding held p) ++ rest)
+        ≡ Ok rest
     read_form_again chunk told p rest value within =
         told_again told.allowed (after_operation_proof digest after told.width told.most)
         (operation_proof_encoding pending (form_parts_of chunk encoding held p) ++ rest) rest within.3
-        (operation_again digest after IsPending pending size told.most grammar told.width (form_parts_of chunk encoding held p) rest
+        (operation_again digest after IsPending pending size told.most grammar told.width
+        (form_parts_of chunk encoding held p) rest
         (omega (arith, length-map p.range_proof.proof.digests.items encoding, value.1.0.2.0))
         (parts_fit chunk told.width told.most p value (within.0, within.1, within.2)))
 
     -- what is read of the parts of a value is within the limits
-    pub read_operation_fits : {F C : Type 0} (chunk : C → List ℕ) (width most : ℕ) (p : Proof F D C P) (rest new : List ℕ)
+    pub read_operation_fits : {F C : Type 0} (chunk : C
+        → List ℕ) (width most : ℕ) (p : Proof F D C P) (rest new : List ℕ)
         → (p.loc < 2 ^ 64) × IsRangeValue is_value is_held p.range_proof → length (chunk p.chunk) ≡ width
         → after_operation_proof digest after width most
         (operation_proof_encoding pending (form_parts_of chunk encoding held p) ++ rest) ≡ Ok new
@@ -104,7 +108,8 @@ module _ {D P : Type 0} (encoding : D → List ℕ) (is_value : D → Type 0) (s
         parts_fit chunk width most p value (it.0, sized, (it.1.0, omega (arith, count, it.1.1)))
 
     -- so is the proof of an update with its next key
-    pub read_key_value_again : {F C : Type 0} (chunk : C → List ℕ) (told : Told) (key : List ℕ → Outcome) (p : Proof F D C P)
+    pub read_key_value_again : {F C : Type 0} (chunk : C → List ℕ) (told : Told) (key : List ℕ
+        → Outcome) (p : Proof F D C P)
         (next_key rest : List ℕ)
         → (p.loc < 2 ^ 64) × IsRangeValue is_value is_held p.range_proof → IsFormWithin chunk told p
         → key (next_key ++ rest) ≡ Ok rest

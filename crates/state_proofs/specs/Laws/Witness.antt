@@ -13,12 +13,14 @@ module _ {D P : Type 0} (encoding : D → List ℕ) (is_value : D → Type 0) (s
     → length (encoding d) ≡ size)
     (held : P → Option (List ℕ)) (is_held : P → Type 0) (IsPending : Option (List ℕ) → Type 0) (holds : (p : P)
     → is_held p → IsPending (held p))
-    (digest after : List ℕ → Outcome) (pending : Option (List ℕ) → List ℕ) (grammar : Grammar digest after IsPending pending size) where
+    (digest after : List ℕ → Outcome) (pending : Option (List ℕ)
+    → List ℕ) (grammar : Grammar digest after IsPending pending size) where
   digest_again : (d : D) (more : List ℕ) → is_value d → digest (encoding d ++ more) ≡ Ok more
   digest_again d more value = grammar.any (encoding d ++ more) ∙ fixed_again size (encoding d) more (sized d value)
 
   partial_again : (p : Option (ℕ × D)) (rest : List ℕ) → HasNext is_value p
-      → after_option (after_next digest) (option_encoding next_encoding (option_map (λ x. (x.0, encoding x.1)) p) ++ rest) ≡ Ok rest
+      → after_option (after_next digest) (option_encoding next_encoding (option_map (λ x. (x.0, encoding x.1)) p)
+      ++ rest) ≡ Ok rest
   partial_again None rest value = refl
   partial_again (Some x) rest value =
       let number : after_varint (varint x.0 ++ (encoding x.1 ++ rest)) ≡ Ok (encoding x.1 ++ rest) =
@@ -29,7 +31,8 @@ module _ {D P : Type 0} (encoding : D → List ℕ) (is_value : D → Type 0) (s
       → is_value w.grafted_root × is_held w.pending_chunk_digest × HasNext is_value w.partial_chunk
       → after_witness digest after (witness_encoding pending (witness_of encoding held w) ++ rest) ≡ Ok rest
   witness_again w rest value =
-      let last : List ℕ = option_encoding next_encoding (option_map (λ x. (x.0, encoding x.1)) w.partial_chunk) ++ rest in
+      let last : List ℕ = option_encoding next_encoding (option_map (λ x. (x.0, encoding x.1)) w.partial_chunk)
+      ++ rest in
       let whole : witness_encoding pending (witness_of encoding held w) ++ rest
       ≡ encoding w.grafted_root ++ (pending (held w.pending_chunk_digest) ++ last) = simp append_assoc in
       rw (

@@ -1,5 +1,6 @@
 -- What is kept of bits, and all of them.
-use Rattle.std.proofs.Common.{◌≡◌, ℕ, zero, suc, ◌+◌, ◌-◌, ◌*◌, ◌≤◌, Bool, false, List, ◌++◌, length, drop, refl, sym, ◌∙◌, ap, arith}
+use Rattle.std.proofs.Common.{◌≡◌, ℕ, zero, suc, ◌+◌, ◌-◌, ◌*◌, ◌≤◌, Bool, false, List, ◌++◌, length, drop, refl, sym}
+use Rattle.std.proofs.Common.{◌∙◌, ap, arith}
 use Rattle.std.proofs.Common.{length-append}
 use Rattle.std.specs.Prelude.{replicate}
 use Rattle.std.proofs.Math.Nat.{mul-add}
@@ -15,7 +16,11 @@ length-chunk_of (suc width) bits = ap (λ n. suc n) (length-chunk_of width (drop
 -- all bits are as many as are counted, and those that are pruned are among them
 pub length-all : (width : ℕ) (bits : Bits) → length (all_bits width bits) ≡ bit_count width bits
 length-all width bits =
-    omega (arith, length-append (replicate (8 * width * bits.pruned) false) bits.kept, length-replicate (8 * width * bits.pruned) false)
+    omega (
+      arith,
+      length-append (replicate (8 * width * bits.pruned) false) bits.kept,
+      length-replicate (8 * width * bits.pruned) false,
+    )
 
 pub pruned_in_all : (width : ℕ) (bits : Bits) → 8 * width * bits.pruned ≤ length (all_bits width bits)
 pruned_in_all width bits = omega (arith, length-all width bits)
@@ -33,7 +38,8 @@ kept_chunk width index bits le =
       sym (mul-add size bits.pruned (index - bits.pruned)),
       ap (λ k. size * k) sum,
     ) in
-    ap (chunk_of width) (sym (drop-append-add front bits.kept (size * (index - bits.pruned))) ∙ ap (λ k. drop k (front ++ bits.kept)) whole)
+    ap (chunk_of width) (sym (drop-append-add front bits.kept (size * (index - bits.pruned)))
+    ∙ ap (λ k. drop k (front ++ bits.kept)) whole)
 
 -- of bits of which none is pruned
 pub none_pruned : (width count : ℕ) → 8 * width * 0 ≤ count

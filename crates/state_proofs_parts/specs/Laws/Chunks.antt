@@ -163,7 +163,8 @@ unfolding chunks
 location_chunks setting state location some lt =
     omega (
       arith,
-      length-chunks_of setting.width (full_chunks setting state + (if next_bit setting state == 0 then 0 else 1)) state.bits,
+      length-chunks_of setting.width (full_chunks setting state
+          + (if next_bit setting state == 0 then 0 else 1)) state.bits,
       within_chunks (length state.operations) (chunk_bits setting) location (omega arith) lt,
     )
 

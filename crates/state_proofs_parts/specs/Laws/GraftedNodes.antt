@@ -41,7 +41,8 @@ neither None other is = (refl, is)
 neither (Some y) other is = absurd (let e : ◌≡◌ {A = Option Tree} (Some y) None = is in cc)
 
 -- the tree itself
-self_over : (At : ℕ → Tree → Type 0) (first high at : ℕ) (t u : Tree) → At at t → (eqb at first && eqb (height t) high) ≡ true
+self_over : (At : ℕ → Tree → Type 0) (first high at : ℕ) (t u : Tree) → At at t
+    → (eqb at first && eqb (height t) high) ≡ true
     → ◌≡◌ {A = Option Tree} (Some t) (Some u) → IsOver At first high u
 self_over At first high at t u stands same is =
     let tests = both_true (eqb at first) (eqb (height t) high) same in
@@ -50,7 +51,8 @@ self_over At first high at t u stands same is =
 
 leaf_over : (first high at p : ℕ) (u : Tree) (test : Bool) → (eqb at first && eqb (height (leaf p)) high) ≡ test
     → cond test (Some (leaf p)) None ≡ Some u → IsOver (λ f n. IsWithin f n at (leaf p)) first high u
-leaf_over first high at p u true same is = self_over (λ f n. IsWithin f n at (leaf p)) first high at (leaf p) u (refl, refl) same is
+leaf_over first high at p u true same is =
+    self_over (λ f n. IsWithin f n at (leaf p)) first high at (leaf p) u (refl, refl) same is
 leaf_over first high at p u false same is = absurd (let e : ◌≡◌ {A = Option Tree} None (Some u) = is in cc)
 
 branch_over : (first high at p : ℕ) (left right u : Tree) (test : Bool)
@@ -62,16 +64,19 @@ branch_over : (first high at p : ℕ) (left right u : Tree) (test : Bool)
     (option_or (over_in first high at left) (over_in first high (at + leaf_count left) right)) ≡ Some u
     → IsOver (λ f n. IsWithin f n at (branch p left right)) first high u
 branch_over first high at p left right u true same one other is =
-    self_over (λ f n. IsWithin f n at (branch p left right)) first high at (branch p left right) u (inl (refl, refl)) same is
+    self_over (λ f n. IsWithin f n at (branch p left right)) first high at (branch p left right) u
+    (inl (refl, refl)) same is
 branch_over first high at p left right u false same one other is =
     ⊎_elim
     (λ here. over_more (λ f n. IsWithin f n at left) (λ f n. IsWithin f n at (branch p left right)) first high u
     (λ f n w. inr (inl w)) (one u here))
-    (λ there. over_more (λ f n. IsWithin f n (at + leaf_count left) right) (λ f n. IsWithin f n at (branch p left right))
+    (λ there. over_more (λ f n. IsWithin f n (at + leaf_count left) right)
+    (λ f n. IsWithin f n at (branch p left right))
     first high u (λ f n w. inr (inr w)) (other u there))
     (either (over_in first high at left) (over_in first high (at + leaf_count left) right) u is)
 
-tree_over : (first high at : ℕ) (t u : Tree) → over_in first high at t ≡ Some u → IsOver (λ f n. IsWithin f n at t) first high u
+tree_over : (first high at : ℕ) (t u : Tree) → over_in first high at t ≡ Some u
+    → IsOver (λ f n. IsWithin f n at t) first high u
 tree_over first high at (leaf p) u is = leaf_over first high at p u (eqb at first && eqb (height (leaf p)) high) refl is
 tree_over first high at (branch p left right) u is =
     branch_over first high at p left right u (eqb at first && eqb (height (branch p left right)) high) refl
@@ -92,7 +97,8 @@ forest_over first high (t ∷ ts) u is =
 both_is : (a b : Bool) → a ≡ true → b ≡ true → (a && b) ≡ true
 both_is a b one other = rw (one, other) refl
 
-not_self : (first high at : ℕ) (t n : Tree) (test : Bool) → (eqb at first && eqb (height t) high) ≡ test → (test ≡ true → ⊥)
+not_self : (first high at : ℕ) (t n : Tree) (test : Bool)
+    → (eqb at first && eqb (height t) high) ≡ test → (test ≡ true → ⊥)
     → first ≡ at → n ≡ t → height n ≡ high → ⊥
 not_self first high at t n test same not begins is level =
     not (sym same ∙ both_is (eqb at first) (eqb (height t) high) (eq-eqb at first (sym begins))
@@ -106,14 +112,16 @@ is_rest : (test : Bool) (rest : Option Tree) (t : Tree) → cond test (Some t) r
 is_rest true rest t is = absurd (let e : ◌≡◌ {A = Option Tree} (Some t) None = is in cc)
 is_rest false rest t is = is
 
-no_tree : (first high at : ℕ) (t : Tree) → over_in first high at t ≡ None → (n : Tree) → IsWithin first n at t → height n ≡ high → ⊥
+no_tree : (first high at : ℕ) (t : Tree) → over_in first high at t ≡ None → (n : Tree)
+    → IsWithin first n at t → height n ≡ high → ⊥
 no_tree first high at (leaf p) is n within level =
     let test : Bool = eqb at first && eqb (height (leaf p)) high in
     not_self first high at (leaf p) n test refl (not_true test None (leaf p) is) within.0 within.1 level
 no_tree first high at (branch p left right) is n (inl here) level =
     let test : Bool = eqb at first && eqb (height (branch p left right)) high in
     let rest : Option Tree = option_or (over_in first high at left) (over_in first high (at + leaf_count left) right) in
-    not_self first high at (branch p left right) n test refl (not_true test rest (branch p left right) is) here.0 here.1 level
+    not_self first high at (branch p left right) n test refl
+    (not_true test rest (branch p left right) is) here.0 here.1 level
 no_tree first high at (branch p left right) is n (inr (inl within)) level =
     let test : Bool = eqb at first && eqb (height (branch p left right)) high in
     let rest : Option Tree = option_or (over_in first high at left) (over_in first high (at + leaf_count left) right) in
@@ -127,17 +135,20 @@ no_tree first high at (branch p left right) is n (inr (inr within)) level =
     (neither (over_in first high at left) (over_in first high (at + leaf_count left) right)
     (is_rest test rest (branch p left right) is)).1 n within level
 
-no_forest : (first high : ℕ) (ts : List Tree) → over_among first high ts ≡ None → (n : Tree) → IsNodeAt first n ts → height n ≡ high → ⊥
+no_forest : (first high : ℕ) (ts : List Tree) → over_among first high ts ≡ None → (n : Tree)
+    → IsNodeAt first n ts → height n ≡ high → ⊥
 no_forest first high [] is n stands level = stands
 no_forest first high (t ∷ ts) is n (inl within) level =
-    no_tree first high (leaves ts) t (neither (over_in first high (leaves ts) t) (over_among first high ts) is).0 n within level
+    no_tree first high (leaves ts) t (neither (over_in first high (leaves ts) t)
+    (over_among first high ts) is).0 n within level
 no_forest first high (t ∷ ts) is n (inr stands) level =
     no_forest first high ts (neither (over_in first high (leaves ts) t) (over_among first high ts) is).1 n stands level
 
 -- ---- in the greatest forest
 -- the law that a node's position is that of its first leaf and its height
 abbrev pub Roots : Rule → (ℕ → ℕ → ℕ) → Type 0
-Roots rule root = (n first : ℕ) (node : Tree) → IsNodeAt first node (forest_of rule n) → position node ≡ root first (height node)
+Roots rule root =
+    (n first : ℕ) (node : Tree) → IsNodeAt first node (forest_of rule n) → position node ≡ root first (height node)
 
 pub node_over-some : (rule : Rule) (first high : ℕ) (t : Tree) → node_over rule first high ≡ Some t
     → IsNodeAt first t (forest_of rule (2 ^ 62)) × (height t ≡ high)
@@ -146,8 +157,10 @@ node_over-some rule first high t is =
     let it = forest_over first high (forest_of rule (2 ^ 62)) t is in
     (it.stands, it.level)
 
-over_is : (rule : Rule) (root : ℕ → ℕ → ℕ) → IsPairing rule → Roots rule root → (first : ℕ) (t : Tree) (got : Option Tree)
-    → over_among first (height t) (forest_of rule (2 ^ 62)) ≡ got → IsNodeAt first t (forest_of rule (2 ^ 62)) → got ≡ Some t
+over_is : (rule : Rule) (root : ℕ → ℕ → ℕ) → IsPairing rule → Roots rule root
+    → (first : ℕ) (t : Tree) (got : Option Tree)
+    → over_among first (height t) (forest_of rule (2 ^ 62)) ≡ got
+    → IsNodeAt first t (forest_of rule (2 ^ 62)) → got ≡ Some t
 over_is rule root pairs roots first t None is stands =
     absurd (no_forest first (height t) (forest_of rule (2 ^ 62)) is t stands refl)
 over_is rule root pairs roots first t (Some u) is stands =
@@ -157,7 +170,8 @@ over_is rule root pairs roots first t (Some u) is stands =
     ap (λ x. Some x) (one-node rule pairs (2 ^ 62) (2 ^ 62) first first u t it.stands stands at).1
 
 -- a node of a forest is the one over its leaves
-pub node_over-is : (rule : Rule) (root : ℕ → ℕ → ℕ) → IsPairing rule → Roots rule root → (n first high : ℕ) (t : Tree) → n ≤ 2 ^ 62
+pub node_over-is : (rule : Rule) (root : ℕ → ℕ → ℕ) → IsPairing rule → Roots rule root
+    → (n first high : ℕ) (t : Tree) → n ≤ 2 ^ 62
     → IsNodeAt first t (forest_of rule n) → high ≡ height t → node_over rule first high ≡ Some t
 unfolding node_over
 node_over-is rule root pairs roots n first high t few stands level =
@@ -174,7 +188,8 @@ over_none rule first high (Some u) is none =
 pub node_over-none : (rule : Rule) (first high : ℕ) → (HasNode (forest_of rule (2 ^ 62)) first high → ⊥)
     → node_over rule first high ≡ None
 unfolding node_over
-node_over-none rule first high none = over_none rule first high (over_among first high (forest_of rule (2 ^ 62))) refl none
+node_over-none rule first high none =
+    over_none rule first high (over_among first high (forest_of rule (2 ^ 62))) refl none
 
 -- ---- the node over the operations of so many chunks
 -- the code's first location is the product
@@ -183,7 +198,9 @@ begins chunk level first low is = is ∙ ap (λ k. chunk * k) (one_shl level 64 
 
 -- it is a multiple of the node's leaf count
 abbrev pub Aligned : Rule → Type 0
-Aligned rule = (n first : ℕ) (node : Tree) → IsNodeAt first node (forest_of rule n) → (chunk : ℕ) × (first ≡ chunk * 2 ^ height node)
+Aligned rule =
+    (n first : ℕ) (node : Tree) → IsNodeAt first node (forest_of rule n) → (chunk : ℕ)
+    × (first ≡ chunk * 2 ^ height node)
 
 pub spread : (rule : Rule) → Aligned rule → (chunk h level : ℕ) → IsSubtree rule chunk h
     → (c : ℕ) × (chunk * 2 ^ level ≡ c * 2 ^ (h + level))
@@ -202,7 +219,8 @@ past_quotient chunk p m some past =
 pub too_high : (rule : Rule) → IsPairing rule → (first high : ℕ) → 62 < high → node_over rule first high ≡ None
 too_high rule pairs first high past =
     node_over-none rule first high
-    (λ it. (let low = node-low rule pairs (2 ^ 62) first high it.0 (omega arith) it.1 it.2 in omega (arith, past, low.1)))
+    (λ it. (let low = node-low rule pairs (2 ^ 62) first high it.0 (omega arith) it.1 it.2 in
+    omega (arith, past, low.1)))
 
 pub too_late : (rule : Rule) → IsPairing rule → (chunk level high : ℕ) → 2 ^ 62 / 2 ^ level < chunk
     → node_over rule (chunk * 2 ^ level) high ≡ None
@@ -230,10 +248,12 @@ is_born rule birth births c first high at soon = (is_birth rule birth births c f
 
 -- its position
 pub placed_over : (rule : Rule) (root : ℕ → ℕ → ℕ) → IsPairing rule → Roots rule root → (first high : ℕ)
-    → HasNode (forest_of rule (2 ^ 62)) first high → Some (root first high) ≡ option_map position (node_over rule first high)
+    → HasNode (forest_of rule (2 ^ 62)) first high
+    → Some (root first high) ≡ option_map position (node_over rule first high)
 placed_over rule root pairs roots first high it =
     ap (λ p. Some p) (ap (root first) it.2 ∙ sym (roots (2 ^ 62) first it.0 it.1))
-    ∙ sym (ap (option_map position) (node_over-is rule root pairs roots (2 ^ 62) first high it.0 (omega arith) it.1 it.2))
+    ∙ sym (ap (option_map position) (node_over-is rule root pairs roots (2 ^ 62) first high it.0
+    (omega arith) it.1 it.2))
 
 -- ---- the position at which a branch of the tree of the chunks is hashed
 pub position-none : (rule : Rule) (level p : ℕ) → node_at rule p ≡ None → p ≡ operations_position rule level p
@@ -241,15 +261,18 @@ unfolding operations_position
 position-none rule level p none = sym (ap (position_or rule level p) none)
 
 pub position-some : (rule : Rule) (level p first chunk high q : ℕ) → node_at rule p ≡ Some (first, high) → chunk ≡ first
-    → Some q ≡ option_map position (node_over rule (chunk * 2 ^ level) (high + level)) → q ≡ operations_position rule level p
+    → Some q ≡ option_map position (node_over rule (chunk * 2 ^ level) (high + level))
+    → q ≡ operations_position rule level p
 unfolding operations_position
 position-some rule level p first chunk high q at same is =
     ap (λ o. unwrap_or o p) is
     ∙ ap (λ k. unwrap_or (option_map position (node_over rule (k * 2 ^ level) (high + level))) p) same
     ∙ sym (ap (position_or rule level p) at)
 
-pub position-missing : (rule : Rule) (level p first chunk high : ℕ) → node_at rule p ≡ Some (first, high) → chunk ≡ first
-    → None ≡ option_map position (node_over rule (chunk * 2 ^ level) (high + level)) → p ≡ operations_position rule level p
+pub position-missing : (rule : Rule) (level p first chunk high : ℕ)
+    → node_at rule p ≡ Some (first, high) → chunk ≡ first
+    → None ≡ option_map position (node_over rule (chunk * 2 ^ level) (high + level))
+    → p ≡ operations_position rule level p
 unfolding operations_position
 position-missing rule level p first chunk high at same is =
     ap (λ o. unwrap_or o p) is

@@ -28,7 +28,8 @@ use Rattle.merkle_core.specs.Subtrees.{HasTree}
 use Rattle.state_proofs_parts.specs.Sources.{IsSourceOf, Source}
 use Rattle.state_proofs_parts.specs.Canonical.{Setting, State, chunk, chunk_bits, chunks, forest, grafted_digests}
 use Rattle.state_proofs_parts.specs.GraftedNodes.{AreGraftedLeaves, IsLookupOfChunks, IsLookupOfOperations, TwoTrees}
-use Rattle.state_proofs_parts.specs.GraftedNodes.{chunks_node, grafted_lookup, known_or_made, node_over, operations_position}
+use Rattle.state_proofs_parts.specs.GraftedNodes.{chunks_node, grafted_lookup, known_or_made, node_over}
+use Rattle.state_proofs_parts.specs.GraftedNodes.{operations_position}
 use Rattle.state_proofs_parts.specs.GraftedNodes.{position_or}
 use Rattle.state_proofs_parts.specs.Grafting.{grafted, grafted_digest}
 use Rattle.state_proofs_parts.specs.SameNodes.{IsSameNode}
@@ -41,7 +42,8 @@ use Rattle.state_proofs_parts.specs.Laws.SameNodes.{AreBorn, in_chunks}
 use Rattle.state_proofs_parts.specs.Laws.Verifier.{node_at-is, node_at-tree}
 
 -- ---- the position at which a branch of the tree of the chunks is hashed
-pub same_position : (rule : Rule) (root : ℕ → ℕ → ℕ) → IsPairing rule → Roots rule root → (level ops p : ℕ) → IsSameNode rule level ops p
+pub same_position : (rule : Rule) (root : ℕ → ℕ → ℕ) → IsPairing rule → Roots rule root → (level ops p : ℕ)
+    → IsSameNode rule level ops p
     → operations_position rule level p ≡ ops
 unfolding operations_position
 same_position rule root pairs roots level ops p it =
@@ -49,18 +51,21 @@ same_position rule root pairs roots level ops p it =
     let first : ℕ = it.chunk * 2 ^ level in
     ap (position_or rule level p) (node_at-is rule pairs it.chunk p it.high it.over_chunks)
     ∙ ap (λ o. unwrap_or (option_map position o) p)
-    (node_over-is rule root pairs roots tree.leaf_total first (it.high + level) it.over_operations.0 tree.few tree.stands tree.level)
+    (node_over-is rule root pairs roots tree.leaf_total first (it.high
+    + level) it.over_operations.0 tree.few tree.stands tree.level)
     ∙ sym tree.subtree
 
 -- the operations' node that is found is over the same chunks
-found_same : (rule : Rule) (level p : ℕ) (x : ℕ × ℕ) (t : Tree) → HasTree rule x.0 p x.1 → node_over rule (x.0 * 2 ^ level) (x.1 + level) ≡ Some t
+found_same : (rule : Rule) (level p : ℕ) (x : ℕ × ℕ) (t : Tree) → HasTree rule x.0 p x.1
+    → node_over rule (x.0 * 2 ^ level) (x.1 + level) ≡ Some t
     → IsSameNode rule level (position t) p
 found_same rule level p x t over is =
     let it = node_over-some rule (x.0 * 2 ^ level) (x.1 + level) t is in
     record {
       chunk = x.0;
       high = x.1;
-      over_operations = (t, record { leaf_total = 2 ^ 62; few = omega arith; stands = it.0; subtree = refl; level = sym it.1 });
+      over_operations =
+          (t, record { leaf_total = 2 ^ 62; few = omega arith; stands = it.0; subtree = refl; level = sym it.1 });
       over_chunks = over;
     }
 
@@ -70,53 +75,65 @@ alone_over : (rule : Rule) (level p : ℕ) (x : ℕ × ℕ) (got : Option Tree) 
 alone_over rule level p x None over is alone = refl
 alone_over rule level p x (Some t) over is alone = absurd (alone (position t) (found_same rule level p x t over is))
 
-alone_at : (rule : Rule) (level p : ℕ) (got : Option (ℕ × ℕ)) → node_at rule p ≡ got → ((ops : ℕ) → IsSameNode rule level ops p → ⊥)
+alone_at : (rule : Rule) (level p : ℕ) (got : Option (ℕ × ℕ)) → node_at rule p ≡ got
+    → ((ops : ℕ) → IsSameNode rule level ops p → ⊥)
     → position_or rule level p got ≡ p
 alone_at rule level p None is alone = refl
 alone_at rule level p (Some x) is alone =
     alone_over rule level p x (node_over rule (x.0 * 2 ^ level) (x.1 + level)) (node_at-tree rule p x is) refl alone
 
-pub own_position : (rule : Rule) (level p : ℕ) → ((ops : ℕ) → IsSameNode rule level ops p → ⊥) → operations_position rule level p ≡ p
+pub own_position : (rule : Rule) (level p : ℕ) → ((ops : ℕ) → IsSameNode rule level ops p → ⊥)
+    → operations_position rule level p ≡ p
 unfolding operations_position
 own_position rule level p alone = alone_at rule level p (node_at rule p) refl alone
 
 -- ---- below the grafting height digests are plain
-pub plain_below : (hash : Hash) (level bits : ℕ) (given elements : List (List ℕ)) (at : ℕ) (t : Tree) → IsPerfect t → height t < level
+pub plain_below : (hash : Hash) (level bits : ℕ) (given elements : List (List ℕ)) (at : ℕ) (t : Tree)
+    → IsPerfect t → height t < level
     → plain_digest hash elements at t ≡ grafted_digest hash level bits given elements at t
 plain_below hash level bits given elements at (leaf p) perfect low = refl
 plain_below hash level bits given elements at (branch p left right) perfect low =
     let one = plain_below hash level bits given elements at left perfect.1 (omega arith) in
-    let other = plain_below hash level bits given elements (at + leaf_count left) right perfect.2 (omega (arith, perfect.0)) in
+    let other = plain_below hash level bits given elements (at
+    + leaf_count left) right perfect.2 (omega (arith, perfect.0)) in
     let own : List ℕ = hash (node_string p (grafted_digest hash level bits given elements at left)
     (grafted_digest hash level bits given elements (at + leaf_count left) right)) in
     ap₂ (λ a b. hash (node_string p a b)) one other
-    ∙ sym (cond-false (eqb (height (branch p left right)) level) (grafted hash (slice_index_or given (at / bits) []) own) own
+    ∙ sym (cond-false (eqb (height (branch p left right)) level)
+    (grafted hash (slice_index_or given (at / bits) []) own) own
     (ne_eqb (height (branch p left right)) level (λ same. omega (arith, same, low))))
 
 -- at it the chunk is joined in
-joined_at : (hash : Hash) (level bits index at : ℕ) (given elements : List (List ℕ)) (t : Tree) → IsPerfect t → height t ≡ level → 0 < level
+joined_at : (hash : Hash) (level bits index at : ℕ) (given elements : List (List ℕ)) (t : Tree) → IsPerfect t
+    → height t ≡ level → 0 < level
     → at / bits ≡ index
-    → grafted hash (slice_index_or given index []) (plain_digest hash elements at t) ≡ grafted_digest hash level bits given elements at t
+    → grafted hash (slice_index_or given index []) (plain_digest hash elements at t)
+    ≡ grafted_digest hash level bits given elements at t
 joined_at hash level bits index at given elements (leaf p) perfect same some begins = absurd (omega (arith, same, some))
 joined_at hash level bits index at given elements (branch p left right) perfect same some begins =
     let one = plain_below hash level bits given elements at left perfect.1 (omega (arith, same)) in
-    let other = plain_below hash level bits given elements (at + leaf_count left) right perfect.2 (omega (arith, same, perfect.0)) in
+    let other = plain_below hash level bits given elements (at
+    + leaf_count left) right perfect.2 (omega (arith, same, perfect.0)) in
     let own : List ℕ = hash (node_string p (grafted_digest hash level bits given elements at left)
     (grafted_digest hash level bits given elements (at + leaf_count left) right)) in
-    ap (λ k. grafted hash (slice_index_or given k []) (plain_digest hash elements at (branch p left right))) (sym begins)
+    ap (λ k. grafted hash (slice_index_or given k []) (plain_digest hash elements at (branch p left right)))
+    (sym begins)
     ∙ ap (grafted hash (slice_index_or given (at / bits) [])) (ap₂ (λ a b. hash (node_string p a b)) one other)
-    ∙ sym (cond-true (eqb (height (branch p left right)) level) (grafted hash (slice_index_or given (at / bits) []) own) own
+    ∙ sym (cond-true (eqb (height (branch p left right)) level)
+    (grafted hash (slice_index_or given (at / bits) []) own) own
     (eq-eqb (height (branch p left right)) level same))
 
 -- above it a branch is hashed with its position
-plain_above : (hash : Hash) (level bits at p : ℕ) (given elements : List (List ℕ)) (left right : Tree) → level < height (branch p left right)
+plain_above : (hash : Hash) (level bits at p : ℕ) (given elements : List (List ℕ)) (left right : Tree)
+    → level < height (branch p left right)
     → hash (node_string p (grafted_digest hash level bits given elements at left)
     (grafted_digest hash level bits given elements (at + leaf_count left) right))
     ≡ grafted_digest hash level bits given elements at (branch p left right)
 plain_above hash level bits at p given elements left right high =
     let own : List ℕ = hash (node_string p (grafted_digest hash level bits given elements at left)
     (grafted_digest hash level bits given elements (at + leaf_count left) right)) in
-    sym (cond-false (eqb (height (branch p left right)) level) (grafted hash (slice_index_or given (at / bits) []) own) own
+    sym (cond-false (eqb (height (branch p left right)) level)
+    (grafted hash (slice_index_or given (at / bits) []) own) own
     (ne_eqb (height (branch p left right)) level (λ same. omega (arith, same, high))))
 
 -- ---- what is there
@@ -124,7 +141,8 @@ some_or : (one other : Option (List ℕ)) → IsSome other → IsSome (option_or
 some_or None other some = some
 some_or (Some x) other some = refl
 
-both_some : (join : List ℕ → List ℕ → List ℕ) (one other : Option (List ℕ)) → IsSome one → IsSome other → IsSome (both_there join one other)
+both_some : (join : List ℕ → List ℕ → List ℕ) (one other : Option (List ℕ)) → IsSome one → IsSome other
+    → IsSome (both_there join one other)
 both_some join (Some x) (Some y) one two = refl
 both_some join None other one two = absurd (let e : false ≡ true = one in cc)
 both_some join (Some x) None one two = absurd (let e : false ≡ true = two in cc)
@@ -140,7 +158,8 @@ pub record AreOver (rule : Rule) (n level first chunk : ℕ) (wide narrow : Tree
   pub high : height wide ≡ height narrow + level
 
 module _ (rule : Rule) (pairs : IsPairing rule) (n level : ℕ) where
-  pub left_over : (first chunk q p : ℕ) (a b l r : Tree) → AreOver rule n level first chunk (branch q a b) (branch p l r)
+  pub left_over : (first chunk q p : ℕ) (a b l r : Tree)
+      → AreOver rule n level first chunk (branch q a b) (branch p l r)
       → AreOver rule n level first chunk a l
   left_over first chunk q p a b l r over = record {
     few = over.few;
@@ -152,11 +171,14 @@ module _ (rule : Rule) (pairs : IsPairing rule) (n level : ℕ) where
     high = omega (arith, over.high);
   }
 
-  pub right_over : (first chunk q p : ℕ) (a b l r : Tree) → AreOver rule n level first chunk (branch q a b) (branch p l r)
+  pub right_over : (first chunk q p : ℕ) (a b l r : Tree)
+      → AreOver rule n level first chunk (branch q a b) (branch p l r)
       → AreOver rule n level (first + leaf_count a) (chunk + leaf_count l) b r
   right_over first chunk q p a b l r over =
-      let wide = node-perfect first (branch q a b) (forest_of rule n) (forest_of-perfect rule pairs n) over.operations in
-      let narrow = node-perfect chunk (branch p l r) (forest_of rule over.count) (forest_of-perfect rule pairs over.count) over.chunks in
+      let wide = node-perfect first (branch q a b) (forest_of rule n)
+      (forest_of-perfect rule pairs n) over.operations in
+      let narrow = node-perfect chunk (branch p l r) (forest_of rule over.count)
+      (forest_of-perfect rule pairs over.count) over.chunks in
       let left_high : height a ≡ height l + level = omega (arith, over.high) in
       let leaves_are : leaf_count a ≡ leaf_count l * 2 ^ level =
       leaf_count-perfect a wide.1 ∙ ap (λ k. 2 ^ k) left_high ∙ pow-add 2 (height l) level
@@ -171,7 +193,8 @@ module _ (rule : Rule) (pairs : IsPairing rule) (n level : ℕ) where
         high = omega (arith, left_high, wide.0, narrow.0);
       }
 
-module _ (rule : Rule) (root : ℕ → ℕ → ℕ) (pairs : IsPairing rule) (roots : Roots rule root) (hash : Hash) (n level bits : ℕ)
+module _ (rule : Rule) (root : ℕ → ℕ
+    → ℕ) (pairs : IsPairing rule) (roots : Roots rule root) (hash : Hash) (n level bits : ℕ)
     (given elements : List (List ℕ)) (whole : bits ≡ 2 ^ level) (some : 0 < level) where
   abbrev joined_digest : ℕ → Tree → List ℕ
   joined_digest = grafted_digest hash level bits given elements
@@ -185,7 +208,14 @@ module _ (rule : Rule) (root : ℕ → ℕ → ℕ) (pairs : IsPairing rule) (ro
         high = height narrow;
         over_operations = (
           wide,
-          record { leaf_total = n; few = over.few; stands = subst Stands over.begins over.operations; subtree = refl; level = sym over.high },
+          record {
+            leaf_total =
+                n;
+            few = over.few;
+            stands = subst Stands over.begins over.operations;
+            subtree = refl;
+            level = sym over.high;
+          },
         );
         over_chunks = (
           narrow,
@@ -205,7 +235,8 @@ module _ (rule : Rule) (root : ℕ → ℕ → ℕ) (pairs : IsPairing rule) (ro
 
   -- ---- what is known, or made of what is known
   module _ (lookup : Lookup)
-      (of : (first p : ℕ) (tree : Tree) (d : List ℕ) → IsNodeAt first tree (forest_of rule n) → IsSameNode rule level (position tree) p
+      (of : (first p : ℕ) (tree : Tree) (d : List ℕ) → IsNodeAt first tree (forest_of rule n)
+      → IsSameNode rule level (position tree) p
       → lookup p ≡ Some d → d ≡ joined_digest first tree) where
     abbrev answer : Tree → Option (List ℕ)
     answer = known_or_made (chunks_node hash rule level) lookup
@@ -231,17 +262,21 @@ module _ (rule : Rule) (root : ℕ → ℕ → ℕ) (pairs : IsPairing rule) (ro
     answer_is first chunk (leaf q) (branch p l r) d over is =
         absurd (let high : 0 ≡ suc (height l) + level = over.high in omega (arith, high))
     answer_is first chunk (branch q a b) (branch p l r) d over is =
-        known_is p (lookup p) (both_there (chunks_node hash rule level p) (answer l) (answer r)) d (joined_digest first (branch q a b)) refl
-        (λ known. of first p (branch q a b) d over.operations (same_of first chunk (branch q a b) (branch p l r) over) known)
+        known_is p (lookup p) (both_there (chunks_node hash rule level p) (answer l) (answer r)) d
+        (joined_digest first (branch q a b)) refl
+        (λ known. of first p (branch q a b) d over.operations
+        (same_of first chunk (branch q a b) (branch p l r) over) known)
         (λ made. both_is p (answer l) (answer r) d (joined_digest first (branch q a b))
         (λ x y one other. branch_is first chunk q p a b l r over x y
         (answer_is first chunk a l x (left_over rule pairs n level first chunk q p a b l r over) one)
-        (answer_is (first + leaf_count a) (chunk + leaf_count l) b r y (right_over rule pairs n level first chunk q p a b l r over) other)) made) is
+        (answer_is (first + leaf_count a) (chunk
+        + leaf_count l) b r y (right_over rule pairs n level first chunk q p a b l r over) other)) made) is
 
   -- ---- the digests over grafted leaves
   module _ (leaf_digests : List (List ℕ))
       (joined : (index : ℕ) (node : Tree) → IsNodeAt (index * 2 ^ level) node (forest_of rule n) → height node ≡ level
-      → slice_get leaf_digests index ≡ Some (grafted hash (slice_index_or given index []) (plain_digest hash elements (index * 2 ^ level) node))) where
+      → slice_get leaf_digests index
+      ≡ Some (grafted hash (slice_index_or given index []) (plain_digest hash elements (index * 2 ^ level) node))) where
     listed_is : (first chunk : ℕ) (wide narrow : Tree) → AreOver rule n level first chunk wide narrow
         → tree_digest (chunks_node hash rule level) leaf_digests chunk narrow ≡ joined_digest first wide
     listed_is first chunk wide (leaf p) over =
@@ -256,8 +291,10 @@ module _ (rule : Rule) (root : ℕ → ℕ → ℕ) (pairs : IsPairing rule) (ro
     listed_is first chunk (leaf q) (branch p l r) over =
         absurd (let high : 0 ≡ suc (height l) + level = over.high in omega (arith, high))
     listed_is first chunk (branch q a b) (branch p l r) over =
-        branch_is first chunk q p a b l r over _ _ (listed_is first chunk a l (left_over rule pairs n level first chunk q p a b l r over))
-        (listed_is (first + leaf_count a) (chunk + leaf_count l) b r (right_over rule pairs n level first chunk q p a b l r over))
+        branch_is first chunk q p a b l r over _ _
+        (listed_is first chunk a l (left_over rule pairs n level first chunk q p a b l r over))
+        (listed_is (first + leaf_count a) (chunk
+        + leaf_count l) b r (right_over rule pairs n level first chunk q p a b l r over))
 
   -- ---- nothing is missing over leaves that are known
   module _ (lookup : Lookup)
@@ -274,27 +311,32 @@ module _ (rule : Rule) (root : ℕ → ℕ → ℕ) (pairs : IsPairing rule) (ro
     there_is first chunk (branch q a b) (branch p l r) over =
         some_or (lookup p) _ (both_some (chunks_node hash rule level p) _ _
         (there_is first chunk a l (left_over rule pairs n level first chunk q p a b l r over))
-        (there_is (first + leaf_count a) (chunk + leaf_count l) b r (right_over rule pairs n level first chunk q p a b l r over)))
+        (there_is (first + leaf_count a) (chunk
+        + leaf_count l) b r (right_over rule pairs n level first chunk q p a b l r over)))
 
 -- ---- what is read of both trees
 quotient_whole : (first c h level : ℕ) → first ≡ c * 2 ^ h → level ≤ h → first ≡ (first / 2 ^ level) * 2 ^ level
 quotient_whole first c h level at low =
     let sum : h - level + level ≡ h = omega (arith, low) in
     let spread : first ≡ (c * 2 ^ (h - level)) * 2 ^ level =
-    at ∙ ap (λ k. c * 2 ^ k) (sym sum) ∙ ap (λ k. c * k) (pow-add 2 (h - level) level) ∙ sym (mul_assoc c (2 ^ (h - level)) (2 ^ level)) in
+    at ∙ ap (λ k. c * 2 ^ k) (sym sum) ∙ ap (λ k. c * k) (pow-add 2 (h - level) level)
+    ∙ sym (mul_assoc c (2 ^ (h - level)) (2 ^ level)) in
     let quotient : first / 2 ^ level ≡ c * 2 ^ (h - level) =
     ap (λ k. k / 2 ^ level) spread ∙ mul-div_cancel (c * 2 ^ (h - level)) (pow_pos level) in
     spread ∙ ap (λ k. k * 2 ^ level) (sym quotient)
 
 -- the digests of the grafted tree, as a state has them
 grafted_is : (setting : Setting) (state : State) (first : ℕ) (tree : Tree)
-    → grafted_digest setting.hash setting.grafting_height (chunk_bits setting) (chunks setting state) state.operations first tree
+    → grafted_digest setting.hash setting.grafting_height (chunk_bits setting)
+    (chunks setting state) state.operations first tree
     ≡ grafted_digests setting state first tree
 grafted_is setting state first tree =
     ap (λ (digest : ℕ → Tree → List ℕ). digest first tree)
-    (is_grafted_digests setting state setting.grafting_height (chunk_bits setting) (chunks setting state) state.operations refl refl refl refl)
+    (is_grafted_digests setting state setting.grafting_height (chunk_bits setting)
+    (chunks setting state) state.operations refl refl refl refl)
 
-module _ (setting : Setting) (state : State) (root : ℕ → ℕ → ℕ) (pairs : IsPairing setting.rule) (roots : Roots setting.rule root)
+module _ (setting : Setting) (state : State) (root : ℕ → ℕ
+    → ℕ) (pairs : IsPairing setting.rule) (roots : Roots setting.rule root)
     (whole : 8 * setting.width ≡ 2 ^ setting.grafting_height) (few : length state.operations ≤ 2 ^ 62) where
   abbrev rule : Rule
   rule = setting.rule
@@ -315,10 +357,13 @@ module _ (setting : Setting) (state : State) (root : ℕ → ℕ → ℕ) (pairs
   trees_of operations chunks_known = record { grafting_height = level; operations = operations; chunks = chunks_known }
 
   -- below the grafting height
-  low_is : (operations : Lookup) → IsLookupOfOperations setting state operations → (first : ℕ) (tree : Tree) (d : List ℕ)
-      → IsNodeAt first tree (forest_of rule count) → height tree < level → operations (position tree) ≡ Some d → d ≡ digest_of first tree
+  low_is : (operations : Lookup) → IsLookupOfOperations setting state operations
+      → (first : ℕ) (tree : Tree) (d : List ℕ)
+      → IsNodeAt first tree (forest_of rule count) → height tree < level → operations (position tree) ≡ Some d
+      → d ≡ digest_of first tree
   low_is operations of first tree d stands low is =
-      let listed : length (plain_leaf_digests hash rule 0 state.operations) ≡ count = length-plain hash rule 0 state.operations in
+      let listed : length (plain_leaf_digests hash rule 0 state.operations)
+      ≡ count = length-plain hash rule 0 state.operations in
       let Stands : ℕ → Type 0 = λ k. IsNodeAt first tree (forest_of rule k) in
       let perfect = node-perfect first tree (forest_of rule count) (forest_of-perfect rule pairs count) stands in
       of first tree d (subst Stands (sym listed) stands) is
@@ -326,14 +371,18 @@ module _ (setting : Setting) (state : State) (root : ℕ → ℕ → ℕ) (pairs
       ∙ plain_below hash level (chunk_bits setting) (chunks setting state) state.operations first tree perfect low
 
   -- at it and above it
-  high_is : (chunks_known : Lookup) → IsLookupOfChunks setting state chunks_known → (first c : ℕ) (tree : Tree) (d : List ℕ) (got : Option Tree)
+  high_is : (chunks_known : Lookup) → IsLookupOfChunks setting state chunks_known
+      → (first c : ℕ) (tree : Tree) (d : List ℕ) (got : Option Tree)
       → IsNodeAt first tree (forest_of rule count) → first ≡ c * 2 ^ height tree → level ≤ height tree
       → node_over rule (first / 2 ^ level) (height tree - level) ≡ got
-      → option_and_then (known_or_made (chunks_node hash rule level) chunks_known) got ≡ Some d → d ≡ digest_of first tree
-  high_is chunks_known of first c tree d None stands at high got is = absurd (let e : ◌≡◌ {A = Option (List ℕ)} None (Some d) = is in cc)
+      → option_and_then (known_or_made (chunks_node hash rule level) chunks_known) got ≡ Some d
+      → d ≡ digest_of first tree
+  high_is chunks_known of first c tree d None stands at high got is =
+      absurd (let e : ◌≡◌ {A = Option (List ℕ)} None (Some d) = is in cc)
   high_is chunks_known of first c tree d (Some narrow) stands at high got is =
       let it = node_over-some rule (first / 2 ^ level) (height tree - level) narrow got in
-      answer_is rule root pairs roots hash count level (chunk_bits setting) (chunks setting state) state.operations whole
+      answer_is rule root pairs roots hash count level (chunk_bits setting)
+      (chunks setting state) state.operations whole
       (some_height setting.width level whole) chunks_known
       (λ f p t e there same known. of f p t e there same known ∙ sym (grafted_is setting state f t))
       first (first / 2 ^ level) tree narrow d
@@ -348,26 +397,41 @@ module _ (setting : Setting) (state : State) (root : ℕ → ℕ → ℕ) (pairs
       }) is
 
   pub nodes_are : Aligned rule → (operations chunks_known : Lookup) → IsLookupOfOperations setting state operations
-      → IsLookupOfChunks setting state chunks_known → (first : ℕ) (tree : Tree) (d : List ℕ) → IsNodeAt first tree (forest setting state)
-      → grafted_lookup rule hash (trees_of operations chunks_known) (position tree) ≡ Some d → d ≡ grafted_digests setting state first tree
+      → IsLookupOfChunks setting state chunks_known → (first : ℕ) (tree : Tree) (d : List ℕ)
+      → IsNodeAt first tree (forest setting state)
+      → grafted_lookup rule hash (trees_of operations chunks_known) (position tree) ≡ Some d
+      → d ≡ grafted_digests setting state first tree
   nodes_are aligned operations chunks_known of_operations of_chunks first tree d stands is =
       let trees : TwoTrees = trees_of operations chunks_known in
       let p : ℕ = position tree in
       let at : node_at rule p ≡ Some (first, height tree) =
-      node_at-is rule pairs first p (height tree) (tree, record { leaf_total = count; few = few; stands = stands; subtree = refl; level = refl }) in
+      node_at-is rule pairs first p (height tree) (
+        tree,
+        record {
+          leaf_total = count;
+          few = few;
+          stands = stands;
+          subtree = refl;
+          level = refl;
+        },
+      ) in
       let part = aligned count first tree stands in
       elim (cases_lt (height tree) level) [
         | inl low ↦
-            low_is operations of_operations first tree d stands low (read-low rule hash trees p first (height tree) (operations p) at low refl ∙ is)
+            low_is operations of_operations first tree d stands low (read-low rule hash trees p first (height tree)
+            (operations p) at low refl ∙ is)
             ∙ grafted_is setting state first tree
         | inr high ↦
-            high_is chunks_known of_chunks first part.0 tree d (node_over rule (first / 2 ^ level) (height tree - level)) stands part.1 high refl
+            high_is chunks_known of_chunks first part.0 tree d (node_over rule (first / 2 ^ level) (height tree
+            - level)) stands part.1 high refl
             (read-high rule hash trees p first (height tree) at high ∙ is)
             ∙ grafted_is setting state first tree
       ]
 
-  pub source_is : Aligned rule → (source : Source) (operations chunks_known : Lookup) → IsLookupOfOperations setting state operations
-      → IsLookupOfChunks setting state chunks_known → source.span.leaves ≡ length state.operations → source.bits ≡ state.bits
+  pub source_is : Aligned rule → (source : Source) (operations chunks_known : Lookup)
+      → IsLookupOfOperations setting state operations
+      → IsLookupOfChunks setting state chunks_known → source.span.leaves ≡ length state.operations
+      → source.bits ≡ state.bits
       → source.known ≡ grafted_lookup rule hash (trees_of operations chunks_known) → IsSourceOf setting state source
   source_is aligned source operations chunks_known of_operations of_chunks leaves_are bits_are known_is = record {
     leaves = leaves_are;
@@ -383,27 +447,32 @@ module _ (setting : Setting) (state : State) (root : ℕ → ℕ → ℕ) (pairs
   get_below (y ∷ xs) zero x is = omega arith
   get_below (y ∷ xs) (suc i) x is = omega (arith, get_below xs i x is)
 
-  kept_below : (nodes : Nodes) (p : ℕ) (d : List ℕ) → AreKeptNodes rule nodes → kept_at rule nodes p ≡ Some d → p < node_count rule nodes.leaves
+  kept_below : (nodes : Nodes) (p : ℕ) (d : List ℕ) → AreKeptNodes rule nodes → kept_at rule nodes p ≡ Some d
+      → p < node_count rule nodes.leaves
   kept_below nodes p d shape is =
       let start : ℕ = node_count rule nodes.boundary in
       elim (cases_lt p start) [
         | inl before ↦ omega (arith, before, shape.counted)
         | inr after ↦
             (let there : slice_get nodes.digests (p - start) ≡ Some d =
-            sym (cond-false _ (digest_at nodes.pinned p) (slice_get nodes.digests (p - start)) (le-ltb p start after)) ∙ is in
+            sym (cond-false _ (digest_at nodes.pinned p) (slice_get nodes.digests (p - start)) (le-ltb p start after))
+            ∙ is in
             omega (arith, get_below nodes.digests (p - start) d there, shape.counted, after))
       ]
 
-  new_later : (n first : ℕ) (tree : Tree) → IsNew n (size (forest_of rule n)) first tree → size (forest_of rule n) ≤ position tree
+  new_later : (n first : ℕ) (tree : Tree) → IsNew n (size (forest_of rule n)) first tree
+      → size (forest_of rule n) ≤ position tree
   new_later n first tree (inl new) = omega (arith, ap position new.1)
   new_later n first tree (inr new) = omega (arith, ap position new.is, new.after)
 
   old_of : (n first : ℕ) (tree : Tree) → position tree < size (forest_of rule n)
-      → IsNodeAt first tree (forest_of rule n) ⊎ IsNew n (size (forest_of rule n)) first tree → IsNodeAt first tree (forest_of rule n)
+      → IsNodeAt first tree (forest_of rule n) ⊎ IsNew n (size (forest_of rule n)) first tree
+      → IsNodeAt first tree (forest_of rule n)
   old_of n first tree below (inl old) = old
   old_of n first tree below (inr new) = absurd (omega (arith, below, new_later n first tree new))
 
-  there_before : (n more first : ℕ) (tree : Tree) → position tree < size (forest_of rule n) → IsNodeAt first tree (forest_of rule (n + more))
+  there_before : (n more first : ℕ) (tree : Tree) → position tree < size (forest_of rule n)
+      → IsNodeAt first tree (forest_of rule (n + more))
       → IsNodeAt first tree (forest_of rule n)
   there_before n zero first tree below stands =
       let Stands : ℕ → Type 0 = λ k. IsNodeAt first tree (forest_of rule k) in
@@ -417,7 +486,8 @@ module _ (setting : Setting) (state : State) (root : ℕ → ℕ → ℕ) (pairs
       ((grown rule pairs (n + more)).each first tree (subst Stands same stands)))
 
   -- a node whose position the forest has is one of it
-  stands_below : (n m first : ℕ) (tree : Tree) → position tree < size (forest_of rule n) → IsNodeAt first tree (forest_of rule m)
+  stands_below : (n m first : ℕ) (tree : Tree) → position tree < size (forest_of rule n)
+      → IsNodeAt first tree (forest_of rule m)
       → IsNodeAt first tree (forest_of rule n)
   stands_below n m first tree below stands =
       there_before n m first tree below (node-stays rule pairs m (n + m) first tree (omega arith) stands)
@@ -426,12 +496,14 @@ module _ (setting : Setting) (state : State) (root : ℕ → ℕ → ℕ) (pairs
   some_digest x y same = cc
 
   pub chunks_are : (leaf_digests : List (List ℕ)) (nodes : Nodes) → AreGraftedLeaves setting state leaf_digests
-      → AreNodesOf (chunks_node hash rule level) rule leaf_digests nodes → IsLookupOfChunks setting state (kept_at rule nodes)
+      → AreNodesOf (chunks_node hash rule level) rule leaf_digests nodes
+      → IsLookupOfChunks setting state (kept_at rule nodes)
   chunks_are leaf_digests nodes leaves_are are first p tree d stands same is =
       let wide = same.over_operations.1 in
       let narrow = same.over_chunks.1 in
       let small : Tree = same.over_chunks.0 in
-      let one = one-node rule pairs count wide.leaf_total first (same.chunk * 2 ^ level) tree same.over_operations.0 stands wide.stands wide.subtree in
+      let one = one-node rule pairs count wide.leaf_total first (same.chunk
+      * 2 ^ level) tree same.over_operations.0 stands wide.stands wide.subtree in
       let over : AreOver rule count level first same.chunk tree small = record {
         few = few;
         operations = stands;
@@ -445,9 +517,11 @@ module _ (setting : Setting) (state : State) (root : ℕ → ℕ → ℕ) (pairs
       omega (arith, narrow.subtree, kept_below nodes p d are.shape is, ap (node_count rule) are.counted) in
       let there = stands_below (length leaf_digests) narrow.leaf_total same.chunk small below narrow.stands in
       let known : kept_at rule nodes (position small) ≡ Some d = ap (kept_at rule nodes) (sym narrow.subtree) ∙ is in
-      let If : Option (List ℕ) → Type 0 = λ o. IfSome o (λ e. e ≡ tree_digest (chunks_node hash rule level) leaf_digests same.chunk small) in
+      let If : Option (List ℕ)
+      → Type 0 = λ o. IfSome o (λ e. e ≡ tree_digest (chunks_node hash rule level) leaf_digests same.chunk small) in
       subst If known (right-there (chunks_node hash rule level) rule leaf_digests nodes are same.chunk small there)
-      ∙ listed_is rule root pairs roots hash count level (chunk_bits setting) (chunks setting state) state.operations whole
+      ∙ listed_is rule root pairs roots hash count level (chunk_bits setting)
+      (chunks setting state) state.operations whole
       (some_height setting.width level whole) leaf_digests leaves_are.joined first same.chunk tree small over
       ∙ grafted_is setting state first tree
 
@@ -462,14 +536,21 @@ module _ (setting : Setting) (state : State) (root : ℕ → ℕ → ℕ) (pairs
       let sum : height tree - level + level ≡ height tree = omega (arith, high) in
       let Node : ℕ → Type 0 = λ k. HasNode (forest_of rule count) (c * 2 ^ k) k in
       let Stands : ℕ → Type 0 = λ k. IsNodeAt k tree (forest_of rule count) in
-      let over : HasNode (forest_of rule count) (c * 2 ^ height tree) (height tree) = (tree, subst Stands at stands, refl) in
+      let over : HasNode (forest_of rule count) (c * 2 ^ height tree) (height tree) = (
+        tree,
+        subst Stands at stands,
+        refl,
+      ) in
       let it = in_chunks rule birth pairs are count c (height tree - level) level few (subst Node (sym sum) over) in
       let quotient : first / 2 ^ level ≡ c * 2 ^ (height tree - level) =
-      ap (λ k. k / 2 ^ level) (at ∙ ap (λ k. c * 2 ^ k) (sym sum) ∙ ap (λ k. c * k) (pow-add 2 (height tree - level) level)
-      ∙ sym (mul_assoc c (2 ^ (height tree - level)) (2 ^ level))) ∙ mul-div_cancel (c * 2 ^ (height tree - level)) (pow_pos level) in
+      ap (λ k. k / 2 ^ level) (at ∙ ap (λ k. c * 2 ^ k) (sym sum)
+      ∙ ap (λ k. c * k) (pow-add 2 (height tree - level) level)
+      ∙ sym (mul_assoc c (2 ^ (height tree - level)) (2 ^ level)))
+      ∙ mul-div_cancel (c * 2 ^ (height tree - level)) (pow_pos level) in
       let found : ◌≡◌ {A = Option Tree} None (Some it.2.0) =
       sym got ∙ ap (λ k. node_over rule k (height tree - level)) quotient
-      ∙ node_over-is rule root pairs roots it.0 (c * 2 ^ (height tree - level)) (height tree - level) it.2.0 it.1 it.2.1 it.2.2 in
+      ∙ node_over-is rule root pairs roots it.0 (c * 2 ^ (height tree - level)) (height tree
+      - level) it.2.0 it.1 it.2.1 it.2.2 in
       absurd cc
   high_there birth are chunks_known known first c tree (Some narrow) stands at high got =
       let it = node_over-some rule (first / 2 ^ level) (height tree - level) narrow got in
@@ -486,7 +567,8 @@ module _ (setting : Setting) (state : State) (root : ℕ → ℕ → ℕ) (pairs
       })
 
   pub nodes_there : (birth : ℕ → ℕ → ℕ) → AreBorn rule birth → Aligned rule → (operations chunks_known : Lookup)
-      → ((first : ℕ) (tree : Tree) → IsNodeAt first tree (forest_of rule count) → height tree < level → IsSome (operations (position tree)))
+      → ((first : ℕ) (tree : Tree) → IsNodeAt first tree (forest_of rule count) → height tree < level
+      → IsSome (operations (position tree)))
       → ((c : ℕ) → HasNode (forest_of rule count) (c * 2 ^ level) level → IsSome (chunks_known (node_count rule c)))
       → (first : ℕ) (tree : Tree) → IsNodeAt first tree (forest_of rule count)
       → IsSome (grafted_lookup rule hash (trees_of operations chunks_known) (position tree))
@@ -494,13 +576,24 @@ module _ (setting : Setting) (state : State) (root : ℕ → ℕ → ℕ) (pairs
       let trees : TwoTrees = trees_of operations chunks_known in
       let p : ℕ = position tree in
       let at : node_at rule p ≡ Some (first, height tree) =
-      node_at-is rule pairs first p (height tree) (tree, record { leaf_total = count; few = few; stands = stands; subtree = refl; level = refl }) in
+      node_at-is rule pairs first p (height tree) (
+        tree,
+        record {
+          leaf_total = count;
+          few = few;
+          stands = stands;
+          subtree = refl;
+          level = refl;
+        },
+      ) in
       let part = aligned count first tree stands in
       elim (cases_lt (height tree) level) [
         | inl low ↦
-            subst (λ o. IsSome o) (read-low rule hash trees p first (height tree) (operations p) at low refl) (low_known first tree stands low)
+            subst (λ o. IsSome o) (read-low rule hash trees p first (height tree) (operations p) at low refl)
+            (low_known first tree stands low)
         | inr high ↦
             subst (λ o. IsSome o) (read-high rule hash trees p first (height tree) at high)
-            (high_there birth are chunks_known high_known first part.0 tree (node_over rule (first / 2 ^ level) (height tree - level)) stands
+            (high_there birth are chunks_known high_known first part.0 tree
+            (node_over rule (first / 2 ^ level) (height tree - level)) stands
             part.1 high refl)
       ]

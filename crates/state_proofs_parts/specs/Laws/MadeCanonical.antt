@@ -69,7 +69,8 @@ module _ (hash : Hash) where
       )
 
   -- the lengths tell which digests are there
-  by_room : (c r : Option Made) (d s : Option (ℕ × Made)) → SizedIf c → SizedIf r → room_if c + room_next d ≡ room_if r + room_next s → MatchIf c r
+  by_room : (c r : Option Made) (d s : Option (ℕ × Made)) → SizedIf c → SizedIf r
+      → room_if c + room_next d ≡ room_if r + room_next s → MatchIf c r
       → MatchNext d s
       → Matches hash (both (if_made c) (next_made d)) (both (if_made r) (next_made s))
   by_room None None None None sc sr room m n = (refl, tt, tt)
@@ -89,24 +90,31 @@ module _ (hash : Hash) where
   by_room (Some c) None None (Some s) sc sr room m n = absurd (omega (arith, room))
   by_room (Some c) None (Some d) None sc sr room m n = absurd (omega (arith, room))
 
-  pub canonical_matches : (c r : CanonicalParts) → IsSized c → IsSized r → Matches hash c.operations r.operations → Matches hash c.grafted r.grafted
-      → MatchIf c.pending_chunk r.pending_chunk → MatchNext c.partial_chunk r.partial_chunk → Matches hash (canonical_made c) (canonical_made r)
+  pub canonical_matches : (c r : CanonicalParts) → IsSized c → IsSized r → Matches hash c.operations r.operations
+      → Matches hash c.grafted r.grafted
+      → MatchIf c.pending_chunk r.pending_chunk → MatchNext c.partial_chunk r.partial_chunk
+      → Matches hash (canonical_made c) (canonical_made r)
   canonical_matches c r sc sr ops grafted pending partial = (
     refl,
     λ same.
-        let first = append_parts (value hash c.operations) (value hash c.grafted ++ (value hash (if_made c.pending_chunk) ++ value hash
+        let first = append_parts (value hash c.operations) (value hash c.grafted
+        ++ (value hash (if_made c.pending_chunk) ++ value hash
         (next_made c.partial_chunk)))
-        (value hash r.operations) (value hash r.grafted ++ (value hash (if_made r.pending_chunk) ++ value hash (next_made r.partial_chunk)))
+        (value hash r.operations) (value hash r.grafted
+        ++ (value hash (if_made r.pending_chunk) ++ value hash (next_made r.partial_chunk)))
         (sc.operations ∙ sym sr.operations) same in
-        let second = append_parts (value hash c.grafted) (value hash (if_made c.pending_chunk) ++ value hash (next_made c.partial_chunk))
-        (value hash r.grafted) (value hash (if_made r.pending_chunk) ++ value hash (next_made r.partial_chunk)) (sc.grafted ∙ sym sr.grafted) first.1 in (
+        let second = append_parts (value hash c.grafted) (value hash (if_made c.pending_chunk)
+        ++ value hash (next_made c.partial_chunk))
+        (value hash r.grafted) (value hash (if_made r.pending_chunk)
+        ++ value hash (next_made r.partial_chunk)) (sc.grafted ∙ sym sr.grafted) first.1 in (
           sc.operations ∙ sym sr.operations,
           ops,
           (
             sc.grafted ∙ sym sr.grafted,
             grafted,
             by_room c.pending_chunk r.pending_chunk c.partial_chunk r.partial_chunk sc.pending sr.pending
-                (rooms c.pending_chunk r.pending_chunk c.partial_chunk r.partial_chunk sc.pending sr.pending sc.partial sr.partial second.1) pending partial,
+                (rooms c.pending_chunk r.pending_chunk c.partial_chunk r.partial_chunk sc.pending sr.pending sc.partial
+                sr.partial second.1) pending partial,
           ),
         ),
   )
@@ -116,7 +124,8 @@ abbrev pub digest_if : Hash → Option Made → Option (List ℕ)
 digest_if hash pending = option_map (value hash) pending
 
 -- it is the hash of the canonical string
-pub value_canonical : (hash : Hash) (operations grafted : Made) (pending : Option Made) (next : ℕ) (partial : Option Made)
+pub value_canonical : (hash : Hash) (operations grafted : Made) (pending : Option Made)
+    (next : ℕ) (partial : Option Made)
     → value hash (canonical_made (record {
       operations = operations;
       grafted = grafted;
@@ -124,7 +133,8 @@ pub value_canonical : (hash : Hash) (operations grafted : Made) (pending : Optio
       partial_chunk = option_map (λ made.
           (next, made)) partial;
     }))
-    ≡ hash (canonical_string (value hash operations) (value hash grafted) (digest_if hash pending) next (digest_if hash partial))
+    ≡ hash (canonical_string (value hash operations) (value hash grafted) (digest_if hash pending) next
+    (digest_if hash partial))
 unfolding canonical_string
 value_canonical hash operations grafted None next None = refl
 value_canonical hash operations grafted None next (Some b) = refl

@@ -19,18 +19,21 @@ zero_same (x ∷ xs) (y ∷ ys) a b long =
     let second = and_parts (y == 0) (is_zero ys) b in
     rw (eqb-true x 0 first.0, eqb-true y 0 second.0, zero_same xs ys first.1 second.1 (omega (arith, long))) refl
 
-module _ (hash : Hash) (hash_sized : (xs : List ℕ) → length (hash xs) ≡ 32) (width : ℕ) (not_forty : width ≡ 40 → ⊥) where
+module _ (hash : Hash) (hash_sized : (xs : List ℕ)
+    → length (hash xs) ≡ 32) (width : ℕ) (not_forty : width ≡ 40 → ⊥) where
   string_of : ℕ → Made → Made → Made
   string_of p a b = both (bytes (number p)) (both a b)
 
-  case_sized : (p : ℕ) (string : Made) (chunk : List ℕ) (same below none : Bool) → Sized hash 32 (grafted_case p string chunk same below none)
+  case_sized : (p : ℕ) (string : Made) (chunk : List ℕ) (same below none : Bool)
+      → Sized hash 32 (grafted_case p string chunk same below none)
   case_sized p string chunk true below true = hash_sized (value hash string)
   case_sized p string chunk true below false = hash_sized (chunk ++ hash (value hash string))
   case_sized p string chunk false true none = hash_sized (value hash string)
   case_sized p string chunk false false none = hash_sized (value hash string)
 
   -- a node's string has 72 bytes, one with a chunk joined in has 32 more than the chunk
-  lengths_differ : (p : ℕ) (a b : Made) (chunk : List ℕ) (string : List ℕ) → Sized hash 32 a → Sized hash 32 b → length chunk ≡ width
+  lengths_differ : (p : ℕ) (a b : Made) (chunk : List ℕ) (string : List ℕ) → Sized hash 32 a
+      → Sized hash 32 b → length chunk ≡ width
       → number p ++ (value hash a ++ value hash b) ≡ chunk ++ hash string → ⊥
   lengths_differ p a b chunk string sa sb wide same =
       not_forty (omega (
@@ -49,12 +52,15 @@ module _ (hash : Hash) (hash_sized : (xs : List ℕ) → length (hash xs) ≡ 32
       eight : (p : ℕ) → length (number p) ≡ 8
       eight p = refl
 
-  case_matches : (p : ℕ) (a b c d : Made) (one other : List ℕ) (same below none nothing : Bool) → Sized hash 32 a → Sized hash 32 b
+  case_matches : (p : ℕ) (a b c d : Made) (one other : List ℕ) (same below none nothing : Bool)
+      → Sized hash 32 a → Sized hash 32 b
       → Sized hash 32 c → Sized hash 32 d → length one ≡ width → length other ≡ width
       → Matches hash a c → Matches hash b d
-      → Matches hash (grafted_case p (both (bytes (number p)) (both a b)) one same below none) (grafted_case p (both (bytes (number p))
+      → Matches hash (grafted_case p (both (bytes (number p)) (both a b)) one same below none)
+      (grafted_case p (both (bytes (number p))
       (both c d)) other same below nothing)
-  case_matches p a b c d one other true below true true sa sb sc sd w v ac bd = (refl, λ same. (refl, tt, (sa ∙ sym sc, ac, bd)))
+  case_matches p a b c d one other true below true true sa sb sc sd w v ac bd =
+      (refl, λ same. (refl, tt, (sa ∙ sym sc, ac, bd)))
   case_matches p a b c d one other true below true false sa sb sc sd w v ac bd = (
     refl,
     λ same. absurd (lengths_differ p a b other (number p ++
@@ -85,35 +91,50 @@ module _ (hash : Hash) (hash_sized : (xs : List ℕ) → length (hash xs) ≡ 32
       ),
     ),
   )
-  case_matches p a b c d one other false true none nothing sa sb sc sd w v ac bd = (refl, λ same. (refl, tt, (sa ∙ sym sc, ac, bd)))
-  case_matches p a b c d one other false false none nothing sa sb sc sd w v ac bd = (refl, λ same. (refl, tt, (sa ∙ sym sc, ac, bd)))
+  case_matches p a b c d one other false true none nothing sa sb sc sd w v ac bd =
+      (refl, λ same. (refl, tt, (sa ∙ sym sc, ac, bd)))
+  case_matches p a b c d one other false false none nothing sa sb sc sd w v ac bd =
+      (refl, λ same. (refl, tt, (sa ∙ sym sc, ac, bd)))
 
-  case_agrees : (p : ℕ) (a b c d : Made) (one other : List ℕ) (same below none nothing : Bool) → length one ≡ length other → is_zero one ≡ none
+  case_agrees : (p : ℕ) (a b c d : Made) (one other : List ℕ) (same below none nothing : Bool)
+      → length one ≡ length other → is_zero one ≡ none
       → is_zero other ≡ nothing
-      → Agrees hash (grafted_case p (both (bytes (number p)) (both a b)) one same below none) (grafted_case p (both (bytes (number p))
+      → Agrees hash (grafted_case p (both (bytes (number p)) (both a b)) one same below none)
+      (grafted_case p (both (bytes (number p))
       (both c d)) other same below nothing)
       → (same ≡ true → one ≡ other) × Agrees hash a c × Agrees hash b d
   case_agrees p a b c d one other true below true true long zero_one zero_other agrees =
       (λ is. zero_same one other zero_one zero_other long, agrees.1.1.0, agrees.1.1.1)
   case_agrees p a b c d one other true below true false long zero_one zero_other agrees = absurd agrees.1.1
   case_agrees p a b c d one other true below false true long zero_one zero_other agrees = absurd agrees.1.1
-  case_agrees p a b c d one other true below false false long zero_one zero_other agrees = (λ is. agrees.1.0, agrees.1.1.1.1.0, agrees.1.1.1.1.1)
-  case_agrees p a b c d one other false true none nothing long zero_one zero_other agrees = (λ is. absurd cc, agrees.1.1.0, agrees.1.1.1)
-  case_agrees p a b c d one other false false none nothing long zero_one zero_other agrees = (λ is. absurd cc, agrees.1.1.0, agrees.1.1.1)
+  case_agrees p a b c d one other true below false false long zero_one zero_other agrees =
+      (λ is. agrees.1.0, agrees.1.1.1.1.0, agrees.1.1.1.1.1)
+  case_agrees p a b c d one other false true none nothing long zero_one zero_other agrees =
+      (λ is. absurd cc, agrees.1.1.0, agrees.1.1.1)
+  case_agrees p a b c d one other false false none nothing long zero_one zero_other agrees =
+      (λ is. absurd cc, agrees.1.1.0, agrees.1.1.1)
 
   -- at the grafting height the chunks are the same
   abbrev pub SameChunk : ℕ → (ℕ → List ℕ) → (ℕ → List ℕ) → ℕ → ℕ → Type 0
   SameChunk grafting_height claimed real at high = (high == grafting_height) ≡ true → claimed at ≡ real at
 
-  pub grafted_fits : (grafting_height : ℕ) (claimed real : ℕ → List ℕ) → ((at : ℕ) → length (claimed at) ≡ width) → ((at : ℕ) → length (real at) ≡ width)
-      → Fits hash 32 (SameChunk grafting_height claimed real) (grafted_over grafting_height claimed) (grafted_over grafting_height real)
+  pub grafted_fits : (grafting_height : ℕ) (claimed real : ℕ → List ℕ) → ((at : ℕ) → length (claimed at) ≡ width)
+      → ((at : ℕ) → length (real at) ≡ width)
+      → Fits hash 32 (SameChunk grafting_height claimed real) (grafted_over grafting_height claimed)
+      (grafted_over grafting_height real)
   grafted_fits grafting_height claimed real wide wide_real = record {
-    sized = λ at high p string. case_sized p string (claimed at) (high == grafting_height) (ltb high grafting_height) (is_zero (claimed at));
-    real_sized = λ at high p string. case_sized p string (real at) (high == grafting_height) (ltb high grafting_height) (is_zero (real at));
+    sized =
+        λ at high p string. case_sized p string (claimed at) (high == grafting_height)
+        (ltb high grafting_height) (is_zero (claimed at));
+    real_sized =
+        λ at high p string. case_sized p string (real at) (high == grafting_height)
+        (ltb high grafting_height) (is_zero (real at));
     matches = λ at high p a b c d sa sb sc sd ac bd.
-        case_matches p a b c d (claimed at) (real at) (high == grafting_height) (ltb high grafting_height) (is_zero (claimed at)) (is_zero
+        case_matches p a b c d (claimed at) (real at) (high == grafting_height) (ltb high grafting_height)
+        (is_zero (claimed at)) (is_zero
         (real at)) sa sb sc sd (wide at) (wide_real at) ac bd;
     agrees = λ at high p a b c d agrees.
-        case_agrees p a b c d (claimed at) (real at) (high == grafting_height) (ltb high grafting_height) (is_zero (claimed at)) (is_zero (real at))
+        case_agrees p a b c d (claimed at) (real at) (high == grafting_height) (ltb high grafting_height)
+        (is_zero (claimed at)) (is_zero (real at))
         (wide at ∙ sym (wide_real at)) refl refl agrees;
   }

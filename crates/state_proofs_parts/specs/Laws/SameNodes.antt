@@ -35,7 +35,8 @@ pub record AreBorn (rule : Rule) (birth : ℕ → ℕ → ℕ) : Type 0 where
   pub apart : (first h : ℕ) → birth first h ≡ first + birth 0 h
   pub soon : (h : ℕ) → birth 0 h ≤ 2 * 2 ^ h
 
-pub born : {rule : Rule} {birth : ℕ → ℕ → ℕ} → ((chunk h : ℕ) → IsBirth rule (chunk * 2 ^ h) h (birth (chunk * 2 ^ h) h))
+pub born : {rule : Rule} {birth : ℕ → ℕ → ℕ}
+    → ((chunk h : ℕ) → IsBirth rule (chunk * 2 ^ h) h (birth (chunk * 2 ^ h) h))
     → ((first h : ℕ) → birth first h ≡ first + birth 0 h) → ((h : ℕ) → birth 0 h ≤ 2 * 2 ^ h) → AreBorn rule birth
 born births apart soon = record { births = births; apart = apart; soon = soon }
 
@@ -54,7 +55,8 @@ in_chunks rule birth pairs are n chunk high (suc level) few there =
     ap (λ k. chunk * k) split ∙ sym (mul_assoc chunk (2 ^ high) (2 ^ suc level)) in
     let two : 2 ≤ 2 ^ suc level = omega (arith, pow-add 2 1 level, pow_pos level) in
     let b : ℕ = birth (chunk * 2 ^ high) high in
-    let soon : b ≤ chunk * 2 ^ high + 2 * 2 ^ high = omega (arith, are.apart (chunk * 2 ^ high) high, are.soon high) in (
+    let soon : b ≤ chunk * 2 ^ high + 2 * 2 ^ high =
+    omega (arith, are.apart (chunk * 2 ^ high) high, are.soon high) in (
       b,
       room (chunk * 2 ^ high) (2 ^ high) (2 ^ suc level) b two (omega (arith, fits, few, tall, begins)) soon,
       (are.births chunk high b).1 (omega arith),
@@ -69,7 +71,8 @@ pub record IsOver (rule : Rule) (p h location level : ℕ) : Type 0 where
   pub over : HasTree rule ((location / 2 ^ level) * 2 ^ level) p (h - level + level)
 
 pub over_at : (rule : Rule) (birth : ℕ → ℕ → ℕ) → IsPairing rule → AreBorn rule birth
-    → ((n first : ℕ) (node : Tree) → IsNodeAt first node (forest_of rule n) → (chunk : ℕ) × (first ≡ chunk * 2 ^ height node))
+    → ((n first : ℕ) (node : Tree) → IsNodeAt first node (forest_of rule n) → (chunk : ℕ)
+    × (first ≡ chunk * 2 ^ height node))
     → (p h location level : ℕ) → StandsAt rule p h → IsFirstLeaf rule p h location → level ≤ h
     → IsOver rule p h location level
 over_at rule birth pairs are aligned p h location level there is_first le =
@@ -110,7 +113,8 @@ over_at rule birth pairs are aligned p h location level there is_first le =
     }
 
 -- a node's position is one of the greatest tree
-pub is_below : (rule : Rule) → IsPairing rule → (first p h : ℕ) → HasTree rule first p h → p < size (forest_of rule (2 ^ 62))
+pub is_below : (rule : Rule) → IsPairing rule → (first p h : ℕ) → HasTree rule first p h
+    → p < size (forest_of rule (2 ^ 62))
 is_below rule pairs first p h it =
     let stays = node-stays rule pairs it.1.leaf_total (2 ^ 62) first it.0 it.1.few it.1.stands in
     omega (arith, it.1.subtree, (numbered rule pairs (2 ^ 62)).below first it.0 stays)
@@ -120,7 +124,8 @@ pub record AreOne (first other h k : ℕ) : Type 0 where
   pub begins : first ≡ other
   pub high : h ≡ k
 
-pub one_tree : (rule : Rule) → IsPairing rule → (first other p q h k : ℕ) → HasTree rule first p h → HasTree rule other q k
+pub one_tree : (rule : Rule) → IsPairing rule → (first other p q h k : ℕ) → HasTree rule first p h
+    → HasTree rule other q k
     → p ≡ q → AreOne first other h k
 one_tree rule pairs first other p q h k one more same =
     let it = one-node rule pairs one.1.leaf_total more.1.leaf_total first other one.0 more.0 one.1.stands more.1.stands
@@ -133,9 +138,11 @@ same_factor x y level same =
 
 -- the law that a node's position is that of its first leaf and its height
 abbrev pub Roots : Rule → (ℕ → ℕ → ℕ) → Type 0
-Roots rule root = (n first : ℕ) (node : Tree) → IsNodeAt first node (forest_of rule n) → position node ≡ root first (height node)
+Roots rule root =
+    (n first : ℕ) (node : Tree) → IsNodeAt first node (forest_of rule n) → position node ≡ root first (height node)
 
-root_is : (rule : Rule) (root : ℕ → ℕ → ℕ) → Roots rule root → (first p h : ℕ) → HasTree rule first p h → p ≡ root first h
+root_is : (rule : Rule) (root : ℕ → ℕ → ℕ) → Roots rule root → (first p h : ℕ)
+    → HasTree rule first p h → p ≡ root first h
 root_is rule root roots first p h it =
     it.1.subtree ∙ roots it.1.leaf_total first it.0 it.1.stands ∙ ap (root first) (sym it.1.level)
 
@@ -159,11 +166,13 @@ one_ops rule root pairs roots level p q grafted one other =
     ∙ sym (root_is rule root roots _ q _ other.over_operations)
 
 -- what is said of a node's first leaf and height
-pub at_node : (rule : Rule) (first other h k p : ℕ) → first ≡ other → h ≡ k → IsPositionOfNode rule first h p → IsPositionOfNode rule other k p
+pub at_node : (rule : Rule) (first other h k p : ℕ) → first ≡ other → h ≡ k → IsPositionOfNode rule first h p
+    → IsPositionOfNode rule other k p
 at_node rule first other h k p same high at =
     subst (λ i. IsPositionOfNode rule i k p) same (subst (λ i. IsPositionOfNode rule first i p) high at)
 
-pub sub_node : (rule : Rule) (first other h k : ℕ) → first ≡ other → h ≡ k → IsSubtree rule first h → IsSubtree rule other k
+pub sub_node : (rule : Rule) (first other h k : ℕ) → first ≡ other → h ≡ k → IsSubtree rule first h
+    → IsSubtree rule other k
 sub_node rule first other h k same high at =
     subst (λ i. IsSubtree rule i k) same (subst (λ i. IsSubtree rule first i) high at)
 
