@@ -1,23 +1,20 @@
 //! What holds of all proofs.
 
-ghost use Rattle.std.specs.Prelude.{◌≡◌, ◌<◌, ◌≤◌, ◌+◌, ◌-◌, ◌^◌, ◌⊎◌, ℕ, Bool, true, List, [], length, take, drop};
-ghost use Rattle.std.specs.Prelude.{slice_get, None, Some};
-ghost use Rattle.std.specs.List.{AllByRecursion};
-ghost use Rattle.merkle_forest.specs.Made.{Collision};
+ghost use Rattle.std.specs.Prelude.{◌<◌, ℕ, Bool, List, []};
 ghost use Rattle.state_ops.specs.Operation.{Operation};
-ghost use Rattle.auth_store_client.specs.Absence.{NamesFields, honest_absence, honest_absence_parts};
-ghost use Rattle.auth_store_client.specs.Claims.{Claim, ClaimsFields, has_value, is_absent, is_active, has_range};
-ghost use Rattle.auth_store_client.specs.Claims.{has_slice, IsTrueOf, Shows, terms};
-ghost use Rattle.auth_store_parts.specs.History.{History, AreStates, activity_bits, latest_map, log_of};
-ghost use Rattle.auth_store_parts.specs.Map.{next_key, value_at};
 ghost use Rattle.state_ops.specs.Reading.{IsField, IsOfFields};
+ghost use Rattle.auth_store_parts.specs.History.{History, log_of};
+ghost use Rattle.auth_store_client.specs.Claims.{Claim, Shows, has_value, has_range, has_slice, terms};
 ghost use Rattle.auth_store_client.specs.Fields.{IsSound};
-ghost use Rattle.auth_store_client.specs.HonestBytes.{honest_bytes};
-ghost use Rattle.auth_store_client.specs.Proving.{honest_proof, honest_operation, honest_range_bytes};
-ghost use Rattle.auth_store_client.specs.Proving.{honest_slice_bytes};
-ghost use Rattle.auth_store_client.specs.Soundness.{HasSizes, IsAlone, AreReadAgain, hashed_strings, rebuilt_strings};
-ghost use Rattle.auth_store_client.specs.Soundness.{AreOrCollide, IsTrueOrCollides};
-ghost use Rattle.auth_store_client.specs.States.{IsChunkWidth, setting_of_width, root_of_history};
+ghost use Rattle.auth_store_client.specs.Promises.{TrueValuesAreShown, AbsencesAreShown, ActiveOperationsAreShown};
+ghost use Rattle.auth_store_client.specs.Promises.{RangesAreShown, SlicesAreShown};
+ghost use Rattle.auth_store_client.specs.Promises.{ShownValuesAreTrue, ShownAbsencesAreTrue, ShownOperationsAreActive};
+ghost use Rattle.auth_store_client.specs.Promises.{ShownRangesAreTrue, ShownSlicesAreTrue, ShownClaimsAreTrue};
+ghost use Rattle.auth_store_client.specs.Promises.{ShownValuesAreHonest, ShownAbsencesAreHonest};
+ghost use Rattle.auth_store_client.specs.Promises.{ShownOperationsAreHonest, ShownRangesAreHonest};
+ghost use Rattle.auth_store_client.specs.Promises.{ShownSlicesAreHonest, ShownClaimsAreHonest, RebuildsTheSame};
+ghost use Rattle.auth_store_client.specs.Soundness.{HasSizes, IsAlone, AreReadAgain};
+ghost use Rattle.auth_store_client.specs.States.{setting_of_width};
 
 use merkle_core::laws::{
     built_proofs_lead_to_the_root, honest_digests_are_few, proofs_that_agree_with_a_root_are_honest,
@@ -44,14 +41,9 @@ where
     H: HashFunction,
     K: FixedKey,
     V: FixedValue,
-    ensures { (history : History) (key value : List ℕ) → IsChunkWidth N → AreStates history
-        → length (log_of history) ≤ 2 ^ 62 → value_at (latest_map history) key ≡ Some value
-        → IsField (K.after tt) K.SIZE (next_key (latest_map history) key)
-        → (let setting = setting_of_width F.merge_rule H.hash_of N in
-        let terms = terms F.merge_rule H.hash_of N H.Digest.SIZE F.is_pending F.pending_encoding (K.after tt)
-        (V.after tt) K.SIZE V.SIZE in
-        Shows terms (has_value key value) (root_of_history setting K.SIZE V.SIZE history)
-        (honest_proof F.pending_encoding setting K.SIZE V.SIZE history key)) }
+    ensures { TrueValuesAreShown (setting_of_width F.merge_rule H.hash_of N)
+        (terms F.merge_rule H.hash_of N H.Digest.SIZE F.is_pending F.pending_encoding (K.after tt) (V.after tt)
+        K.SIZE V.SIZE) }
 {
     honest_bytes_show_the_update::<F, H, K>();
 }
@@ -64,15 +56,9 @@ where
     H: HashFunction,
     K: FixedKey,
     V: FixedValue,
-    ensures { (history : History) (key : List ℕ) → IsChunkWidth N → AreStates history
-        → length (log_of history) ≤ 2 ^ 62 → value_at (latest_map history) key ≡ None
-        → (let setting = setting_of_width F.merge_rule H.hash_of N in
-        let terms = terms F.merge_rule H.hash_of N H.Digest.SIZE F.is_pending F.pending_encoding (K.after tt)
-        (V.after tt) K.SIZE V.SIZE in
-        NamesFields (IsField (K.after tt) K.SIZE) (IsField (V.after tt) V.SIZE)
-        (honest_absence_parts setting K.SIZE V.SIZE history key)
-        → Shows terms (is_absent key) (root_of_history setting K.SIZE V.SIZE history)
-        (honest_absence F.pending_encoding setting K.SIZE V.SIZE history key)) }
+    ensures { AbsencesAreShown (setting_of_width F.merge_rule H.hash_of N)
+        (terms F.merge_rule H.hash_of N H.Digest.SIZE F.is_pending F.pending_encoding (K.after tt) (V.after tt)
+        K.SIZE V.SIZE) }
 {
     honest_bytes_show_the_operation::<F, H, K>();
 }
@@ -84,14 +70,9 @@ where
     H: HashFunction,
     K: FixedKey,
     V: FixedValue,
-    ensures { (history : History) (location : ℕ) (operation : Operation) → IsChunkWidth N
-        → length (log_of history) ≤ 2 ^ 62 → slice_get (log_of history) location ≡ Some operation
-        → slice_get (activity_bits (log_of history)) location ≡ Some true
-        → (let setting = setting_of_width F.merge_rule H.hash_of N in
-        let terms = terms F.merge_rule H.hash_of N H.Digest.SIZE F.is_pending F.pending_encoding (K.after tt)
-        (V.after tt) K.SIZE V.SIZE in
-        Shows terms (is_active location operation) (root_of_history setting K.SIZE V.SIZE history)
-        (honest_operation F.pending_encoding setting K.SIZE V.SIZE history location)) }
+    ensures { ActiveOperationsAreShown (setting_of_width F.merge_rule H.hash_of N)
+        (terms F.merge_rule H.hash_of N H.Digest.SIZE F.is_pending F.pending_encoding (K.after tt) (V.after tt)
+        K.SIZE V.SIZE) }
 {
     honest_bytes_show_the_operation::<F, H, K>();
 }
@@ -104,15 +85,9 @@ where
     H: HashFunction,
     K: FixedKey,
     V: FixedValue,
-    ensures { (history : History) (start stop : ℕ) → IsChunkWidth N → length (log_of history) ≤ 2 ^ 62 → start < stop
-        → stop ≤ length (log_of history)
-        → (let setting = setting_of_width F.merge_rule H.hash_of N in
-        let terms = terms F.merge_rule H.hash_of N H.Digest.SIZE F.is_pending F.pending_encoding (K.after tt)
-        (V.after tt) K.SIZE V.SIZE in
-        let operations = take (stop - start) (drop start (log_of history)) in
-        let active = take (stop - start) (drop start (activity_bits (log_of history))) in
-        Shows terms (has_range start operations active) (root_of_history setting K.SIZE V.SIZE history)
-        (honest_range_bytes F.pending_encoding setting K.SIZE V.SIZE history start stop)) }
+    ensures { RangesAreShown (setting_of_width F.merge_rule H.hash_of N)
+        (terms F.merge_rule H.hash_of N H.Digest.SIZE F.is_pending F.pending_encoding (K.after tt) (V.after tt)
+        K.SIZE V.SIZE) }
 {
     honest_digests_are_few::<F>();
     honest_ranges_verify::<F>();
@@ -126,14 +101,9 @@ where
     H: HashFunction,
     K: FixedKey,
     V: FixedValue,
-    ensures { (history : History) (start stop : ℕ) → IsChunkWidth N → length (log_of history) ≤ 2 ^ 62 → start < stop
-        → stop ≤ length (log_of history)
-        → (let setting = setting_of_width F.merge_rule H.hash_of N in
-        let terms = terms F.merge_rule H.hash_of N H.Digest.SIZE F.is_pending F.pending_encoding (K.after tt)
-        (V.after tt) K.SIZE V.SIZE in
-        let operations = take (stop - start) (drop start (log_of history)) in
-        Shows terms (has_slice start operations) (root_of_history setting K.SIZE V.SIZE history)
-        (honest_slice_bytes F.pending_encoding setting K.SIZE V.SIZE history start stop)) }
+    ensures { SlicesAreShown (setting_of_width F.merge_rule H.hash_of N)
+        (terms F.merge_rule H.hash_of N H.Digest.SIZE F.is_pending F.pending_encoding (K.after tt) (V.after tt)
+        K.SIZE V.SIZE) }
 {
     honest_digests_are_few::<F>();
     built_proofs_lead_to_the_root::<F>();
@@ -150,17 +120,9 @@ where
     H: HashFunction,
     K: FixedKey,
     V: FixedValue,
-    ensures { (history : History) (key value bytes : List ℕ) → H.Digest.SIZE ≡ 32 → IsChunkWidth N
-        → AreStates history → HasSizes K.SIZE V.SIZE history → length (log_of history) ≤ 2 ^ 62
-        → length key ≡ K.SIZE → length value ≡ V.SIZE
-        → (let setting = setting_of_width F.merge_rule H.hash_of N in
-        let terms = terms F.merge_rule H.hash_of N H.Digest.SIZE F.is_pending F.pending_encoding (K.after tt)
-        (V.after tt) K.SIZE V.SIZE in
-        let claim = has_value key value in
-        let root = root_of_history setting K.SIZE V.SIZE history in
-        (shown : Shows terms claim root bytes) → IsTrueOf claim history
-        ⊎ Collision H.hash_of (hashed_strings setting K.SIZE V.SIZE history)
-        (rebuilt_strings setting terms claim root bytes shown)) }
+    ensures { ShownValuesAreTrue (setting_of_width F.merge_rule H.hash_of N)
+        (terms F.merge_rule H.hash_of N H.Digest.SIZE F.is_pending F.pending_encoding (K.after tt) (V.after tt)
+        K.SIZE V.SIZE) }
 {
     verified_operations_are_active_or_strings_collide::<F>();
 }
@@ -173,17 +135,9 @@ where
     H: HashFunction,
     K: FixedKey,
     V: FixedValue,
-    ensures { (history : History) (key bytes : List ℕ) → H.Digest.SIZE ≡ 32 → IsChunkWidth N
-        → AreStates history → AreReadAgain (K.after tt) (V.after tt) K.SIZE V.SIZE (log_of history)
-        → length (log_of history) ≤ 2 ^ 62
-        → (let setting = setting_of_width F.merge_rule H.hash_of N in
-        let terms = terms F.merge_rule H.hash_of N H.Digest.SIZE F.is_pending F.pending_encoding (K.after tt)
-        (V.after tt) K.SIZE V.SIZE in
-        let claim = is_absent key in
-        let root = root_of_history setting K.SIZE V.SIZE history in
-        (shown : Shows terms claim root bytes) → IsTrueOf claim history
-        ⊎ Collision H.hash_of (hashed_strings setting K.SIZE V.SIZE history)
-        (rebuilt_strings setting terms claim root bytes shown)) }
+    ensures { ShownAbsencesAreTrue (setting_of_width F.merge_rule H.hash_of N)
+        (terms F.merge_rule H.hash_of N H.Digest.SIZE F.is_pending F.pending_encoding (K.after tt) (V.after tt)
+        K.SIZE V.SIZE) (K.after tt) (V.after tt) }
 {
     encoded_is_read_again();
     verified_absences_are_the_states_or_strings_collide::<F>();
@@ -197,16 +151,9 @@ where
     H: HashFunction,
     K: FixedKey,
     V: FixedValue,
-    ensures { (history : History) (location : ℕ) (operation : Operation) (bytes : List ℕ) → H.Digest.SIZE ≡ 32
-        → IsChunkWidth N → IsAlone K.SIZE V.SIZE (log_of history) operation → length (log_of history) ≤ 2 ^ 62
-        → (let setting = setting_of_width F.merge_rule H.hash_of N in
-        let terms = terms F.merge_rule H.hash_of N H.Digest.SIZE F.is_pending F.pending_encoding (K.after tt)
-        (V.after tt) K.SIZE V.SIZE in
-        let claim = is_active location operation in
-        let root = root_of_history setting K.SIZE V.SIZE history in
-        (shown : Shows terms claim root bytes) → IsTrueOf claim history
-        ⊎ Collision H.hash_of (hashed_strings setting K.SIZE V.SIZE history)
-        (rebuilt_strings setting terms claim root bytes shown)) }
+    ensures { ShownOperationsAreActive (setting_of_width F.merge_rule H.hash_of N)
+        (terms F.merge_rule H.hash_of N H.Digest.SIZE F.is_pending F.pending_encoding (K.after tt) (V.after tt)
+        K.SIZE V.SIZE) }
 {
     verified_operations_are_active_or_strings_collide::<F>();
 }
@@ -219,17 +166,9 @@ where
     H: HashFunction,
     K: FixedKey,
     V: FixedValue,
-    ensures { (history : History) (start : ℕ) (operations : List Operation) (active : List Bool) (bytes : List ℕ)
-        → H.Digest.SIZE ≡ 32 → IsChunkWidth N → AllByRecursion (IsAlone K.SIZE V.SIZE (log_of history)) operations
-        → length (log_of history) ≤ 2 ^ 62
-        → (let setting = setting_of_width F.merge_rule H.hash_of N in
-        let terms = terms F.merge_rule H.hash_of N H.Digest.SIZE F.is_pending F.pending_encoding (K.after tt)
-        (V.after tt) K.SIZE V.SIZE in
-        let claim = has_range start operations active in
-        let root = root_of_history setting K.SIZE V.SIZE history in
-        (shown : Shows terms claim root bytes) → IsTrueOf claim history
-        ⊎ Collision H.hash_of (hashed_strings setting K.SIZE V.SIZE history)
-        (rebuilt_strings setting terms claim root bytes shown)) }
+    ensures { ShownRangesAreTrue (setting_of_width F.merge_rule H.hash_of N)
+        (terms F.merge_rule H.hash_of N H.Digest.SIZE F.is_pending F.pending_encoding (K.after tt) (V.after tt)
+        K.SIZE V.SIZE) }
 {
     verified_ranges_are_the_states_or_strings_collide::<F>();
 }
@@ -242,16 +181,9 @@ where
     H: HashFunction,
     K: FixedKey,
     V: FixedValue,
-    ensures { (history : History) (start : ℕ) (operations : List Operation) (bytes : List ℕ) → H.Digest.SIZE ≡ 32
-        → AllByRecursion (IsAlone K.SIZE V.SIZE (log_of history)) operations → length (log_of history) ≤ 2 ^ 62
-        → (let setting = setting_of_width F.merge_rule H.hash_of N in
-        let terms = terms F.merge_rule H.hash_of N H.Digest.SIZE F.is_pending F.pending_encoding (K.after tt)
-        (V.after tt) K.SIZE V.SIZE in
-        let claim = has_slice start operations in
-        let root = root_of_history setting K.SIZE V.SIZE history in
-        (shown : Shows terms claim root bytes) → IsTrueOf claim history
-        ⊎ Collision H.hash_of (hashed_strings setting K.SIZE V.SIZE history)
-        (rebuilt_strings setting terms claim root bytes shown)) }
+    ensures { ShownSlicesAreTrue (setting_of_width F.merge_rule H.hash_of N)
+        (terms F.merge_rule H.hash_of N H.Digest.SIZE F.is_pending F.pending_encoding (K.after tt) (V.after tt)
+        K.SIZE V.SIZE) }
 {
     witnessed_roots_are_the_states_or_strings_collide();
 }
@@ -264,16 +196,9 @@ where
     H: HashFunction,
     K: FixedKey,
     V: FixedValue,
-    ensures { (history : History) (key value bytes : List ℕ) → H.Digest.SIZE ≡ 32 → IsChunkWidth N
-        → IsSound (IsField (K.after tt) K.SIZE) (IsField (V.after tt) V.SIZE) history
-        → length key ≡ K.SIZE → length value ≡ V.SIZE
-        → (let setting = setting_of_width F.merge_rule H.hash_of N in
-        let terms = terms F.merge_rule H.hash_of N H.Digest.SIZE F.is_pending F.pending_encoding (K.after tt)
-        (V.after tt) K.SIZE V.SIZE in
-        let claim = has_value key value in
-        let root = root_of_history setting K.SIZE V.SIZE history in
-        (shown : Shows terms claim root bytes) → AreOrCollide setting terms claim history
-        (honest_proof F.pending_encoding setting K.SIZE V.SIZE history key) root bytes shown) }
+    ensures { ShownValuesAreHonest (setting_of_width F.merge_rule H.hash_of N)
+        (terms F.merge_rule H.hash_of N H.Digest.SIZE F.is_pending F.pending_encoding (K.after tt) (V.after tt)
+        K.SIZE V.SIZE) }
 {
     verified_operations_are_active_or_strings_collide::<F>();
     verified_operations_are_honest_or_strings_collide::<F>();
@@ -287,15 +212,9 @@ where
     H: HashFunction,
     K: FixedKey,
     V: FixedValue,
-    ensures { (history : History) (key bytes : List ℕ) → H.Digest.SIZE ≡ 32 → IsChunkWidth N
-        → IsSound (IsField (K.after tt) K.SIZE) (IsField (V.after tt) V.SIZE) history
-        → (let setting = setting_of_width F.merge_rule H.hash_of N in
-        let terms = terms F.merge_rule H.hash_of N H.Digest.SIZE F.is_pending F.pending_encoding (K.after tt)
-        (V.after tt) K.SIZE V.SIZE in
-        let claim = is_absent key in
-        let root = root_of_history setting K.SIZE V.SIZE history in
-        (shown : Shows terms claim root bytes) → AreOrCollide setting terms claim history
-        (honest_absence F.pending_encoding setting K.SIZE V.SIZE history key) root bytes shown) }
+    ensures { ShownAbsencesAreHonest (setting_of_width F.merge_rule H.hash_of N)
+        (terms F.merge_rule H.hash_of N H.Digest.SIZE F.is_pending F.pending_encoding (K.after tt) (V.after tt)
+        K.SIZE V.SIZE) }
 {
     sound_histories_are_read_again::<K, V>();
     verified_operations_are_active_or_strings_collide::<F>();
@@ -310,15 +229,9 @@ where
     H: HashFunction,
     K: FixedKey,
     V: FixedValue,
-    ensures { (history : History) (location : ℕ) (operation : Operation) (bytes : List ℕ) → H.Digest.SIZE ≡ 32
-        → IsChunkWidth N → length (log_of history) ≤ 2 ^ 62
-        → (let setting = setting_of_width F.merge_rule H.hash_of N in
-        let terms = terms F.merge_rule H.hash_of N H.Digest.SIZE F.is_pending F.pending_encoding (K.after tt)
-        (V.after tt) K.SIZE V.SIZE in
-        let claim = is_active location operation in
-        let root = root_of_history setting K.SIZE V.SIZE history in
-        (shown : Shows terms claim root bytes) → AreOrCollide setting terms claim history
-        (honest_operation F.pending_encoding setting K.SIZE V.SIZE history location) root bytes shown) }
+    ensures { ShownOperationsAreHonest (setting_of_width F.merge_rule H.hash_of N)
+        (terms F.merge_rule H.hash_of N H.Digest.SIZE F.is_pending F.pending_encoding (K.after tt) (V.after tt)
+        K.SIZE V.SIZE) }
 {
     verified_operations_are_honest_or_strings_collide::<F>();
 }
@@ -331,16 +244,9 @@ where
     H: HashFunction,
     K: FixedKey,
     V: FixedValue,
-    ensures { (history : History) (start : ℕ) (operations : List Operation) (active : List Bool) (bytes : List ℕ)
-        → H.Digest.SIZE ≡ 32 → IsChunkWidth N → length (log_of history) ≤ 2 ^ 62
-        → (let setting = setting_of_width F.merge_rule H.hash_of N in
-        let terms = terms F.merge_rule H.hash_of N H.Digest.SIZE F.is_pending F.pending_encoding (K.after tt)
-        (V.after tt) K.SIZE V.SIZE in
-        let claim = has_range start operations active in
-        let root = root_of_history setting K.SIZE V.SIZE history in
-        (shown : Shows terms claim root bytes) → AreOrCollide setting terms claim history
-        (honest_range_bytes F.pending_encoding setting K.SIZE V.SIZE history start (start + length operations)) root
-        bytes shown) }
+    ensures { ShownRangesAreHonest (setting_of_width F.merge_rule H.hash_of N)
+        (terms F.merge_rule H.hash_of N H.Digest.SIZE F.is_pending F.pending_encoding (K.after tt) (V.after tt)
+        K.SIZE V.SIZE) }
 {
     verified_ranges_are_the_states_or_strings_collide::<F>();
     verified_ranges_are_honest_or_strings_collide::<F>();
@@ -354,16 +260,9 @@ where
     H: HashFunction,
     K: FixedKey,
     V: FixedValue,
-    ensures { (history : History) (start : ℕ) (operations : List Operation) (bytes : List ℕ) → H.Digest.SIZE ≡ 32
-        → length (log_of history) ≤ 2 ^ 62
-        → (let setting = setting_of_width F.merge_rule H.hash_of N in
-        let terms = terms F.merge_rule H.hash_of N H.Digest.SIZE F.is_pending F.pending_encoding (K.after tt)
-        (V.after tt) K.SIZE V.SIZE in
-        let claim = has_slice start operations in
-        let root = root_of_history setting K.SIZE V.SIZE history in
-        (shown : Shows terms claim root bytes) → AreOrCollide setting terms claim history
-        (honest_slice_bytes F.pending_encoding setting K.SIZE V.SIZE history start (start + length operations)) root
-        bytes shown) }
+    ensures { ShownSlicesAreHonest (setting_of_width F.merge_rule H.hash_of N)
+        (terms F.merge_rule H.hash_of N H.Digest.SIZE F.is_pending F.pending_encoding (K.after tt) (V.after tt)
+        K.SIZE V.SIZE) }
 {
     proofs_that_agree_with_a_root_are_honest::<F>();
     witnessed_roots_are_the_states_or_strings_collide();
@@ -378,14 +277,9 @@ where
     H: HashFunction,
     K: FixedKey,
     V: FixedValue,
-    ensures { (claim : Claim) (history : History) (root bytes : List ℕ) → H.Digest.SIZE ≡ 32 → IsChunkWidth N
-        → (let setting = setting_of_width F.merge_rule H.hash_of N in
-        let terms = terms F.merge_rule H.hash_of N H.Digest.SIZE F.is_pending F.pending_encoding (K.after tt)
-        (V.after tt) K.SIZE V.SIZE in
-        ClaimsFields terms.IsKey terms.IsValue claim → IsSound terms.IsKey terms.IsValue history
-        → root ≡ root_of_history setting K.SIZE V.SIZE history → (shown : Shows terms claim root bytes)
-        → AreOrCollide setting terms claim history
-        (honest_bytes F.pending_encoding setting K.SIZE V.SIZE history claim) root bytes shown) }
+    ensures { ShownClaimsAreHonest (setting_of_width F.merge_rule H.hash_of N)
+        (terms F.merge_rule H.hash_of N H.Digest.SIZE F.is_pending F.pending_encoding (K.after tt) (V.after tt)
+        K.SIZE V.SIZE) }
 {
     shown_values_are_honest_or_strings_collide::<F, H, K, V, N>();
     shown_absences_are_honest_or_strings_collide::<F, H, K, V, N>();
@@ -419,20 +313,13 @@ where
     K: FixedKey,
     V: FixedValue,
     ensures values { (key value root other bytes : List ℕ)
-        → (let setting = setting_of_width F.merge_rule H.hash_of N in
-        let terms = terms F.merge_rule H.hash_of N H.Digest.SIZE F.is_pending F.pending_encoding (K.after tt)
-        (V.after tt) K.SIZE V.SIZE in
-        let claim = has_value key value in
-        (shown : Shows terms claim root bytes) (again : Shows terms claim other bytes)
-        → rebuilt_strings setting terms claim root bytes shown
-        ≡ rebuilt_strings setting terms claim other bytes again) }
+        → RebuildsTheSame (setting_of_width F.merge_rule H.hash_of N)
+        (terms F.merge_rule H.hash_of N H.Digest.SIZE F.is_pending F.pending_encoding (K.after tt) (V.after tt)
+        K.SIZE V.SIZE) (has_value key value) root other bytes }
     ensures claims { (claim : Claim) (root other bytes : List ℕ) → 0 < N
-        → (let setting = setting_of_width F.merge_rule H.hash_of N in
-        let terms = terms F.merge_rule H.hash_of N H.Digest.SIZE F.is_pending F.pending_encoding (K.after tt)
-        (V.after tt) K.SIZE V.SIZE in
-        (shown : Shows terms claim root bytes) (again : Shows terms claim other bytes)
-        → rebuilt_strings setting terms claim root bytes shown
-        ≡ rebuilt_strings setting terms claim other bytes again) }
+        → RebuildsTheSame (setting_of_width F.merge_rule H.hash_of N)
+        (terms F.merge_rule H.hash_of N H.Digest.SIZE F.is_pending F.pending_encoding (K.after tt) (V.after tt)
+        K.SIZE V.SIZE) claim root other bytes }
 {}
 
 /// The operations of a history whose keys and values are some are read again as they were written, its keys and values
@@ -459,13 +346,9 @@ where
     H: HashFunction,
     K: FixedKey,
     V: FixedValue,
-    ensures { (claim : Claim) (history : History) (root bytes : List ℕ) → H.Digest.SIZE ≡ 32 → IsChunkWidth N
-        → (let setting = setting_of_width F.merge_rule H.hash_of N in
-        let terms = terms F.merge_rule H.hash_of N H.Digest.SIZE F.is_pending F.pending_encoding (K.after tt)
-        (V.after tt) K.SIZE V.SIZE in
-        ClaimsFields terms.IsKey terms.IsValue claim → IsSound terms.IsKey terms.IsValue history
-        → root ≡ root_of_history setting K.SIZE V.SIZE history → (shown : Shows terms claim root bytes)
-        → IsTrueOrCollides setting terms claim history root bytes shown) }
+    ensures { ShownClaimsAreTrue (setting_of_width F.merge_rule H.hash_of N)
+        (terms F.merge_rule H.hash_of N H.Digest.SIZE F.is_pending F.pending_encoding (K.after tt) (V.after tt)
+        K.SIZE V.SIZE) }
 {
     sound_histories_are_read_again::<K, V>();
     shown_values_are_true_or_strings_collide::<F, H, K, V, N>();

@@ -164,8 +164,7 @@ MemoryOpens old partition name versions result new = MatchResult result
     × (opened ≡ record {
       blob = handle_in partition name old.files;
       size = (shown_in partition name old.files).size;
-      version =
-          (shown_in partition name old.files).version;
+      version = (shown_in partition name old.files).version;
     })
     × (new ≡ old))
     ⊎ (IsMissing partition name old.files

@@ -13,6 +13,7 @@ ghost use Rattle.merkle_core.specs.OneEach.{OneEach};
 ghost use Rattle.merkle_core.specs.Ranges.{Digests, range_digests};
 ghost use Rattle.state_ops.specs.Reading.{IsField};
 ghost use Rattle.state_proofs_parts.specs.Canonical.{Setting, State, canonical_root, grafted_digests, operations_root};
+ghost use Rattle.state_proofs_parts.specs.Canonical.{setting_with};
 ghost use Rattle.state_proofs.specs.Encoded.{format_of, ShowsOperation, ShowsUpdate};
 ghost use Rattle.state_proofs.specs.Exclusion.{ExclusionParts, proof_of, operation_of, LeavesOut, Excludes};
 ghost use Rattle.state_proofs.specs.Honest.{honest_parts, honest_range, operation_proof, key_value_proof};
@@ -38,13 +39,7 @@ pub fn honest_proofs_verify<F: Graftable>()
     ensures { (hash : Hash) (width grafting_height : ℕ) (state : State) (location : ℕ)
         → 8 * width ≡ 2 ^ grafting_height → grafting_height ≤ 62 → length state.operations ≤ 2 ^ 62
         → location < length state.operations → slice_get state.bits location ≡ Some true
-        → (let setting : Setting = record {
-          rule = F.merge_rule;
-          hash = hash;
-          width = width;
-          grafting_height =
-              grafting_height;
-        } in
+        → (let setting = setting_with F.merge_rule hash width grafting_height in
         Verifies F.merge_rule hash (canonical_root setting state) (honest_parts setting state location)
         (slice_index_or state.operations location [])) }
 {
@@ -72,13 +67,7 @@ pub fn honest_bytes_show_the_operation<
     ensures { (width grafting_height : ℕ) (state : State) (location : ℕ)
         → 8 * width ≡ 2 ^ grafting_height → grafting_height ≤ 62 → length state.operations ≤ 2 ^ 62
         → location < length state.operations → slice_get state.bits location ≡ Some true
-        → (let setting : Setting = record {
-          rule = F.merge_rule;
-          hash = H.hash_of;
-          width = width;
-          grafting_height =
-              grafting_height;
-        } in
+        → (let setting = setting_with F.merge_rule H.hash_of width grafting_height in
         let is_key = IsField (K.after tt) K.SIZE in
         let format = format_of F.merge_rule H.hash_of width H.Digest.SIZE F.is_pending F.pending_encoding is_key in
         ShowsOperation format (canonical_root setting state) (slice_index_or state.operations location [])
@@ -99,13 +88,7 @@ pub fn honest_bytes_show_the_update<
         → 8 * width ≡ 2 ^ grafting_height → grafting_height ≤ 62 → length state.operations ≤ 2 ^ 62
         → location < length state.operations → slice_get state.bits location ≡ Some true
         → slice_index_or state.operations location [] ≡ update next_key → IsField (K.after tt) K.SIZE next_key
-        → (let setting : Setting = record {
-          rule = F.merge_rule;
-          hash = H.hash_of;
-          width = width;
-          grafting_height =
-              grafting_height;
-        } in
+        → (let setting = setting_with F.merge_rule H.hash_of width grafting_height in
         let is_key = IsField (K.after tt) K.SIZE in
         let format = format_of F.merge_rule H.hash_of width H.Digest.SIZE F.is_pending F.pending_encoding is_key in
         ShowsUpdate format (canonical_root setting state) update
@@ -121,13 +104,7 @@ pub fn verified_operations_are_active_or_strings_collide<F: Graftable>()
     ensures { (hash : Hash) (width grafting_height : ℕ) (state : State) (proof : Parts) (operation : List ℕ)
         → ((bytes : List ℕ) → length (hash bytes) ≡ 32) → 8 * width ≡ 2 ^ grafting_height → grafting_height ≤ 62
         → length state.operations ≤ 2 ^ 62 → length proof.chunk ≡ width → HasDigestsOf 32 proof.range
-        → (let setting : Setting = record {
-          rule = F.merge_rule;
-          hash = hash;
-          width = width;
-          grafting_height =
-              grafting_height;
-        } in
+        → (let setting = setting_with F.merge_rule hash width grafting_height in
         Verifies F.merge_rule hash (canonical_root setting state) proof operation
         → HasActive state proof.location operation
         ⊎ Collision hash (hashed_strings setting state) (rebuilt_strings setting proof operation)) }
@@ -142,13 +119,7 @@ pub fn verified_ranges_are_the_states_or_strings_collide<F: Graftable>()
     ensures { (hash : Hash) (width grafting_height : ℕ) (state : State) (proof : RangeParts) (shown : Shown)
         → ((bytes : List ℕ) → length (hash bytes) ≡ 32) → 8 * width ≡ 2 ^ grafting_height → grafting_height ≤ 62
         → length state.operations ≤ 2 ^ 62 → shown.width ≡ width → HasDigestsOf 32 proof
-        → (let setting : Setting = record {
-          rule = F.merge_rule;
-          hash = hash;
-          width = width;
-          grafting_height =
-              grafting_height;
-        } in
+        → (let setting = setting_with F.merge_rule hash width grafting_height in
         VerifiesRange F.merge_rule hash (canonical_root setting state) proof shown
         → HasRange setting state shown
         ⊎ Collision hash (hashed_strings setting state) (range_strings setting proof shown)) }
@@ -161,13 +132,7 @@ pub fn verified_ranges_are_honest_or_strings_collide<F: Graftable>()
     ensures { (hash : Hash) (width grafting_height : ℕ) (state : State) (proof : RangeParts) (shown : Shown)
         → ((bytes : List ℕ) → length (hash bytes) ≡ 32) → 8 * width ≡ 2 ^ grafting_height → grafting_height ≤ 62
         → length state.operations ≤ 2 ^ 62 → shown.width ≡ width → HasDigestsOf 32 proof
-        → (let setting : Setting = record {
-          rule = F.merge_rule;
-          hash = hash;
-          width = width;
-          grafting_height =
-              grafting_height;
-        } in
+        → (let setting = setting_with F.merge_rule hash width grafting_height in
         VerifiesRange F.merge_rule hash (canonical_root setting state) proof shown
         → (proof ≡ honest_range setting state shown.start (stop_of shown))
         ⊎ Collision hash (hashed_strings setting state) (range_strings setting proof shown)) }
@@ -182,13 +147,7 @@ pub fn verified_operations_are_honest_or_strings_collide<F: Graftable>()
     ensures { (hash : Hash) (width grafting_height : ℕ) (state : State) (proof : Parts) (operation : List ℕ)
         → ((bytes : List ℕ) → length (hash bytes) ≡ 32) → 8 * width ≡ 2 ^ grafting_height → grafting_height ≤ 62
         → length state.operations ≤ 2 ^ 62 → length proof.chunk ≡ width → HasDigestsOf 32 proof.range
-        → (let setting : Setting = record {
-          rule = F.merge_rule;
-          hash = hash;
-          width = width;
-          grafting_height =
-              grafting_height;
-        } in
+        → (let setting = setting_with F.merge_rule hash width grafting_height in
         Verifies F.merge_rule hash (canonical_root setting state) proof operation
         → (proof ≡ honest_parts setting state proof.location)
         ⊎ Collision hash (hashed_strings setting state) (rebuilt_strings setting proof operation)) }
@@ -203,13 +162,7 @@ pub fn honest_ranges_verify<F: Graftable>()
     ensures { (hash : Hash) (width grafting_height : ℕ) (state : State) (shown : Shown)
         → 8 * width ≡ 2 ^ grafting_height → grafting_height ≤ 62 → length state.operations ≤ 2 ^ 62
         → shown.width ≡ width → IsShaped (length state.operations) shown
-        → (let setting : Setting = record {
-          rule = F.merge_rule;
-          hash = hash;
-          width = width;
-          grafting_height =
-              grafting_height;
-        } in
+        → (let setting = setting_with F.merge_rule hash width grafting_height in
         HasRange setting state shown
         → VerifiesRange F.merge_rule hash (canonical_root setting state)
         (honest_range setting state shown.start (stop_of shown)) shown) }
@@ -254,13 +207,7 @@ pub fn honest_absences_verify<F: Graftable>()
     ensures { (hash : Hash) (width grafting_height key_size value_size : ℕ) (state : State) (proof : ExclusionParts)
         (key : List ℕ)
         → 8 * width ≡ 2 ^ grafting_height → grafting_height ≤ 62 → length state.operations ≤ 2 ^ 62
-        → (let setting : Setting = record {
-          rule = F.merge_rule;
-          hash = hash;
-          width = width;
-          grafting_height =
-              grafting_height;
-        } in
+        → (let setting = setting_with F.merge_rule hash width grafting_height in
         proof_of proof ≡ honest_parts setting state (proof_of proof).location
         → HasActive state (proof_of proof).location (operation_of key_size value_size proof) → LeavesOut proof key
         → Excludes F.merge_rule hash key_size value_size (canonical_root setting state) proof key) }
@@ -277,13 +224,7 @@ pub fn verified_absences_are_the_states_or_strings_collide<F: Graftable>()
         → ((bytes : List ℕ) → length (hash bytes) ≡ 32) → 8 * width ≡ 2 ^ grafting_height → grafting_height ≤ 62
         → length state.operations ≤ 2 ^ 62 → length (proof_of proof).chunk ≡ width
         → HasDigestsOf 32 (proof_of proof).range
-        → (let setting : Setting = record {
-          rule = F.merge_rule;
-          hash = hash;
-          width = width;
-          grafting_height =
-              grafting_height;
-        } in
+        → (let setting = setting_with F.merge_rule hash width grafting_height in
         Excludes F.merge_rule hash key_size value_size (canonical_root setting state) proof key
         → (HasActive state (proof_of proof).location (operation_of key_size value_size proof) × LeavesOut proof key)
         ⊎ Collision hash (hashed_strings setting state)
@@ -296,31 +237,13 @@ pub fn verified_absences_are_the_states_or_strings_collide<F: Graftable>()
 /// operation, from one over a range, or from a witness.
 pub fn each_site_has_one_string<F: Graftable>()
     ensures hashed { (hash : Hash) (width grafting_height : ℕ) (state : State)
-        → (let setting : Setting = record {
-          rule = F.merge_rule;
-          hash = hash;
-          width = width;
-          grafting_height =
-              grafting_height;
-        } in
+        → (let setting = setting_with F.merge_rule hash width grafting_height in
         OneEach (hashed_strings setting state)) }
     ensures rebuilt { (hash : Hash) (width grafting_height : ℕ) (proof : Parts) (operation : List ℕ)
-        → (let setting : Setting = record {
-          rule = F.merge_rule;
-          hash = hash;
-          width = width;
-          grafting_height =
-              grafting_height;
-        } in
+        → (let setting = setting_with F.merge_rule hash width grafting_height in
         OneEach (rebuilt_strings setting proof operation)) }
     ensures shown { (hash : Hash) (width grafting_height : ℕ) (proof : RangeParts) (shown : Shown)
-        → (let setting : Setting = record {
-          rule = F.merge_rule;
-          hash = hash;
-          width = width;
-          grafting_height =
-              grafting_height;
-        } in
+        → (let setting = setting_with F.merge_rule hash width grafting_height in
         OneEach (range_strings setting proof shown)) }
     ensures witnessed { (hash : Hash) (witness : WitnessParts) (operations : List ℕ)
         → OneEach (strings hash (witnessed_made witness operations)) }
@@ -350,13 +273,7 @@ pub fn honest_ranges_tell_the_nodes_of_the_state<F: Graftable>()
     ensures nodes { (hash : Hash) (width grafting_height : ℕ) (state : State) (shown : Shown)
         → 8 * width ≡ 2 ^ grafting_height → grafting_height ≤ 62 → length state.operations ≤ 2 ^ 62
         → shown.width ≡ width → IsShaped (length state.operations) shown
-        → (let setting : Setting = record {
-          rule = F.merge_rule;
-          hash = hash;
-          width = width;
-          grafting_height =
-              grafting_height;
-        } in
+        → (let setting = setting_with F.merge_rule hash width grafting_height in
         HasRange setting state shown
         → ShowsDigests F.merge_rule hash grafting_height (honest_range setting state shown.start (stop_of shown)) shown
         (grafted_digests setting state)) }
@@ -364,13 +281,7 @@ pub fn honest_ranges_tell_the_nodes_of_the_state<F: Graftable>()
         (error : ExtractionError)
         → 8 * width ≡ 2 ^ grafting_height → grafting_height ≤ 62 → length state.operations ≤ 2 ^ 62
         → shown.width ≡ width → IsShaped (length state.operations) shown
-        → (let setting : Setting = record {
-          rule = F.merge_rule;
-          hash = hash;
-          width = width;
-          grafting_height =
-              grafting_height;
-        } in
+        → (let setting = setting_with F.merge_rule hash width grafting_height in
         HasRange setting state shown
         → IsRefusalToTell F.merge_rule hash (canonical_root setting state)
         (honest_range setting state shown.start (stop_of shown)) shown error → error ≡ Memory) }

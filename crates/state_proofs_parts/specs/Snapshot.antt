@@ -8,8 +8,7 @@ use Rattle.state_proofs_parts.specs.Canonical.{Setting, State}
 abbrev pub state_of : Snapshot → State
 state_of snapshot = record {
   operations = map (λ e. e.items) snapshot.operations.now;
-  bits =
-      snapshot.bits.now;
+  bits = snapshot.bits.now;
   floor = snapshot.floor;
 }
 

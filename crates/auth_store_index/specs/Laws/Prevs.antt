@@ -106,8 +106,7 @@ stands (e ∷ s) q there =
     (λ here. record { done = []; entry = e; rest = s; whole = refl; key = sym (exact q e.0 here) })
     (λ away. let later = stands s q (sym (ap (λ b. is_some (cond b (Some e.1) (value_at s q))) away) ∙ there) in
     record {
-      done =
-          e ∷ later.done;
+      done = e ∷ later.done;
       entry = later.entry;
       rest = later.rest;
       whole = ap (λ l. e ∷ l) later.whole;

@@ -184,8 +184,7 @@ kept-tree from to start first (branch p left right) node it =
                     stands = there;
                     low = it.low;
                     high = it.high;
-                    top =
-                        λ s other w. it.top s other (inr (inl w));
+                    top = λ s other w. it.top s other (inr (inl w));
                   }))
               | inr there ↦ Contains-append_right (maximal_in_tree from to start left)
                   (maximal_in_tree from to (start + leaf_count left) right) (first, node)
@@ -194,8 +193,7 @@ kept-tree from to start first (branch p left right) node it =
                     stands = there;
                     low = it.low;
                     high = it.high;
-                    top =
-                        λ s other w. it.top s other (inr (inr w));
+                    top = λ s other w. it.top s other (inr (inr w));
                   }))
             ]
           ])
@@ -252,16 +250,14 @@ kept-nodes from to first node (t ∷ ts) it =
             stands = here;
             low = it.low;
             high = it.high;
-            top =
-                λ s other w. it.top s other (inl w);
+            top = λ s other w. it.top s other (inl w);
           }))
       | inr rest ↦ Contains-append_left (maximal_nodes from to ts) (maximal_in_tree from to (leaves ts) t) (first, node)
           (kept-nodes from to first node ts (record {
             stands = rest;
             low = it.low;
             high = it.high;
-            top =
-                λ s other w. it.top s other (inr w);
+            top = λ s other w. it.top s other (inr w);
           }))
     ]
 

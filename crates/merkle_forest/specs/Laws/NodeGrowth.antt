@@ -63,8 +63,7 @@ merged-makes p (suc index) (t ∷ ts) lt =
       first = it.first;
       node = it.node;
       at = it.at;
-      from =
-          past_newest it.first it.node t ts (merged p index ts) ts (leaves-merged p index ts (omega arith)) it.from;
+      from = past_newest it.first it.node t ts (merged p index ts) ts (leaves-merged p index ts (omega arith)) it.from;
     }
 
 -- the nodes stand at positions below the node count, no two of them at one

@@ -62,8 +62,7 @@ parent-height rule pairs found p first count few parents after before =
     (parents.1 i (first + i) (range-get first count i within)) in (
       record {
         there = (suc found, omega (arith, few), it);
-        all =
-            height-at rule pairs (suc found) p (first + i) it;
+        all = height-at rule pairs (suc found) p (first + i) it;
       },
       within,
     )

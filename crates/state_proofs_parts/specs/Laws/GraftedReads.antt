@@ -88,8 +88,7 @@ pub branch_at : (rule : Rule) (first p h q : ℕ) (left right : Tree) → IsTree
 branch_at rule first p h q left right it =
     let At : ℕ → Type 0 = λ k. IsNodeAt first (branch k left right) (forest_of rule it.leaf_total) in
     record {
-      leaf_total =
-          it.leaf_total;
+      leaf_total = it.leaf_total;
       few = it.few;
       first = first;
       stands = subst At (sym it.subtree) it.stands;

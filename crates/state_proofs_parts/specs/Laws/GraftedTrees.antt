@@ -209,8 +209,7 @@ module _ (rule : Rule) (root : ℕ → ℕ
         over_operations = (
           wide,
           record {
-            leaf_total =
-                n;
+            leaf_total = n;
             few = over.few;
             stands = subst Stands over.begins over.operations;
             subtree = refl;
