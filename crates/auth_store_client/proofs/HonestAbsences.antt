@@ -6,7 +6,8 @@ use Rattle.state_ops.specs.Operation.{Operation, update, ordered, commit_floor, 
 use Rattle.state_ops.specs.Reading.{IsOfFields}
 use Rattle.state_proofs_parts.specs.Canonical.{Setting, State}
 use Rattle.state_proofs.specs.Encoded.{Fits}
-use Rattle.state_proofs.specs.Exclusion.{ExclusionParts, by_update, by_commit, proof_of, operation_of, is_in_span, LeavesOut}
+use Rattle.state_ops.specs.Spans.{is_in_span}
+use Rattle.state_proofs.specs.Exclusion.{ExclusionParts, by_update, by_commit, proof_of, operation_of, LeavesOut}
 use Rattle.state_proofs.specs.Honest.{honest_parts}
 use Rattle.state_proofs.specs.MadeRanges.{HasActive}
 use Rattle.auth_store_client.specs.Claims.{Terms, FitsExclusion}

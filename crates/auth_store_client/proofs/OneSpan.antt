@@ -7,7 +7,7 @@ use Rattle.std.specs.declared.cmp.Ordering.{Ordering}
 use Rattle.std.specs.declared.cmp.Ordering.TheVariants.{Less, Equal, Greater}
 use Rattle.std.specs.Ordering.{is_lt, is_eq, ordering_reverse}
 use Rattle.merkle_forest.specs.Laws.Matching.{equal_or_not}
-use Rattle.state_proofs.specs.Exclusion.{is_below, is_in_span, span_holds}
+use Rattle.state_ops.specs.Spans.{is_below, is_in_span, span_holds}
 use Rattle.auth_store_client.specs.Laws.Spans.{not_in_span}
 use Rattle.auth_store_index.specs.Near.{prev_key}
 use Rattle.auth_store_parts.specs.History.{IsState}

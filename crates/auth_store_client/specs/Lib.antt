@@ -9,4 +9,5 @@ pub mod HonestBytes
 pub mod MadeSlices
 pub mod Soundness
 pub mod Fields
+pub mod Promises
 pub mod Laws

@@ -5,12 +5,10 @@ ghost use Rattle.std.specs.Prelude.{MatchOption};
 ghost use Rattle.std.specs.List.{AllByRecursion, flat_map};
 ghost use Rattle.state_ops.specs.Operation.{meaning_of};
 ghost use Rattle.state_ops.specs.Reading.{IsField, IsOfFields};
-ghost use Rattle.state_proofs_parts.specs.SetBits.{is_set};
 ghost use Rattle.state_proofs.specs.Encoded.{FitsRange, range_proof_encoding};
 ghost use Rattle.state_proofs.specs.ProofsCode.{range_parts_of};
 ghost use Rattle.state_proofs.specs.Verified.{RangeParts, VerifiesRange};
 ghost use Rattle.auth_store_client.specs.Claims.{bit_over, bits_over, range_encoding, terms, ShowsRange};
-ghost use Rattle.std.specs.Prelude.{◌/◌, slice_get};
 
 use crate::encoded::{encodings, lent};
 use crate::reading::unread;
@@ -19,6 +17,7 @@ use merkle_forest::codec::{Cursor, Read};
 use merkle_forest::{Digest, Graftable, HashFunction, Location, PendingOf};
 use state_ops::{FixedKey, FixedValue, OrderedOperation};
 use state_proofs::{ChunkSize, RangeProof};
+use state_proofs_parts::shown_chunk::is_bit_set;
 use std::alloc::{AllocError, Global};
 
 /// How many digests the proof over several operations may have: twice as many as that of one.
@@ -107,16 +106,6 @@ fn read_range<'a, F: PendingOf<D>, D: Digest>(
         return Ok(None);
     };
     Ok(Some(Range { proof, chunks }))
-}
-
-// Whether this bit of the chunk is set.
-fn is_bit_set(chunk: &[u8], bit: u64) -> bool
-    ensures { result ≡ is_set (slice_get chunk.now (bit / 8)) bit }
-{
-    match chunk.get((bit / 8) as usize) {
-        Some(byte) => (*byte >> (bit % 8)) % 2 == 1,
-        None => false,
-    }
 }
 
 // Whether the bit of a location is set, in the chunks over the locations from one on.

@@ -1,3 +1,4 @@
 pub mod Operation
 pub mod Reading
+pub mod Spans
 pub mod Laws

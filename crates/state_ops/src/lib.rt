@@ -4,6 +4,7 @@
 #![tactic(auto)]
 
 pub mod ordered;
+pub mod spans;
 
 pub use ordered::{OrderedOperation, OrderedUpdate};
 pub use state_ops_parts::codec::OperationCodec;

@@ -26,7 +26,8 @@ use Rattle.state_proofs_parts.specs.Laws.MadeStates.{branch_grafted}
 use Rattle.state_proofs_parts.specs.MadeGrafted.{joined_in, grafted_case, grafted_over, grafted_names}
 use Rattle.state_proofs.specs.MadeRanges.{HasRange}
 use Rattle.state_proofs_parts.specs.MadeStates.{made_chunk}
-use Rattle.state_proofs.specs.Verified.{Shown, shown_bits, stop_of, first_index, last_index, Covers, covering, given_by, shown_grafted, IsShaped, FitsShown, VerifiesRange, FitsChunk}
+use Rattle.state_proofs_parts.specs.ShownChunks.{FitsChunk}
+use Rattle.state_proofs.specs.Verified.{Shown, shown_bits, stop_of, first_index, last_index, Covers, covering, given_by, shown_grafted, IsShaped, FitsShown, VerifiesRange}
 use Rattle.state_proofs_parts.specs.Verifier.{Given, given_chunk, claimed_chunk}
 use Rattle.state_proofs_parts.specs.Laws.ChunkCounts.{Aligned, inactive-few}
 use Rattle.state_proofs_parts.specs.Laws.Chunks.{any_default, location_chunks}

@@ -21,7 +21,8 @@ use Rattle.state_proofs_parts.specs.MadeCanonical.{if_made, next_made, chunk_mad
 use Rattle.state_proofs_parts.specs.MadeGrafted.{grafted_over, grafted_names}
 use Rattle.state_proofs.specs.MadeRanges.{held_or_made, is_covered, range_strings, HasDigestsOf}
 use Rattle.state_proofs_parts.specs.MadeStates.{made_chunk, hashed_strings}
-use Rattle.state_proofs.specs.Verified.{Shown, shown_bits, stop_of, full_shown, graftable_shown, Covers, covering, given_by, IsShaped, VerifiesRange, RangeParts, FitsChunk}
+use Rattle.state_proofs_parts.specs.ShownChunks.{FitsChunk}
+use Rattle.state_proofs.specs.Verified.{Shown, shown_bits, stop_of, full_shown, graftable_shown, Covers, covering, given_by, IsShaped, VerifiesRange, RangeParts}
 use Rattle.state_proofs_parts.specs.Verifier.{claimed_chunk}
 use Rattle.state_proofs.proofs.RangeIsTrue.{RangeTold, range_told, covered_is, claimed_widths, made_widths}
 use Rattle.state_proofs.proofs.StateParts.{not_forty, value_operations}

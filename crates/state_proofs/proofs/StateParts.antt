@@ -26,7 +26,7 @@ use Rattle.state_proofs_parts.specs.MadeCanonical.{if_made, next_made, chunk_mad
 use Rattle.state_proofs_parts.specs.MadeGrafted.{grafted_over, grafted_names}
 use Rattle.state_proofs.specs.MadeRanges.{held_or_made}
 use Rattle.state_proofs_parts.specs.MadeStates.{operations_names, made_operations, made_chunk, made_grafted, made_pending, made_partial, made_state}
-use Rattle.state_proofs.specs.Verified.{FitsChunk}
+use Rattle.state_proofs_parts.specs.ShownChunks.{FitsChunk}
 use Rattle.state_proofs_parts.specs.Laws.ChunkCounts.{inactive-few}
 use Rattle.state_proofs_parts.specs.Laws.Heights.{pow_le}
 

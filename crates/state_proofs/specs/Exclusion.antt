@@ -1,37 +1,15 @@
 -- Proofs that a key is not in a state: by an update whose cyclic span holds the key, or by the commit of an empty map.
---
--- Keys in their order, a state with the keys c, f and m, and the spans that their updates tell:
---
---      a b [c d e) [f g .. l) [m n .. z            of c: c up to f; of f: f up to m;
---      ...)                                        of m, whose next key is c: from m on, and before c
-use Rattle.std.specs.Prelude.{◌≡◌, ℕ, ◌⊎◌, ◌==◌, ◌&&◌, ◌||◌, not, Bool, true, if◌then◌else◌, List, [], ◌∷◌, ◌++◌}
+use Rattle.std.specs.Prelude.{◌≡◌, ℕ, ◌⊎◌, ◌==◌, if◌then◌else◌, List, [], ◌∷◌, ◌++◌}
 use Rattle.std.specs.Prelude.{Option, Err}
-use Rattle.std.specs.Cmp.Lexicographic.{slice_cmp}
-use Rattle.std.specs.Ordering.{nat_cmp, is_lt}
-use Rattle.std.specs.declared.cmp.Ordering.{Ordering}
-use Rattle.std.specs.declared.cmp.Ordering.TheVariants.{Less, Equal, Greater}
 use Rattle.merkle_forest.specs.Codec.{◌>>=◌, Outcome, LacksAfter, OptionLacks, option_encoding, after_option}
 use Rattle.merkle_forest.specs.declared.codec.error.Error.TheVariants.{EndOfBuffer, InvalidEnum}
 use Rattle.merkle_forest.specs.Forest.{Rule}
 use Rattle.merkle_forest.specs.Hashing.{Hash}
 use Rattle.state_ops_parts.specs.Grammar.{Lacks, after_ordered, OrderedLacks}
 use Rattle.state_ops.specs.Operation.{ordered, update, commit_floor, fixed_encoding}
+use Rattle.state_ops.specs.Spans.{IsLeftOut}
 use Rattle.state_proofs.specs.Encoded.{operation_proof_encoding}
 use Rattle.state_proofs.specs.Verified.{Parts, Verifies}
-
--- the key stands before the other one, in the order of bytes
-abbrev pub is_below : List ℕ → List ℕ → Bool
-is_below one other = is_lt (slice_cmp nat_cmp one other)
-
--- the span that begins with a key and ends before the next one holds a third, where it stands before these or not;
--- where the next key is not above the key the span goes round the end, and where it is the same one it holds every key
-abbrev pub span_holds : Ordering → Bool → Bool → Bool
-span_holds Less below_key below_next = not below_key && below_next
-span_holds Equal below_key below_next = true
-span_holds Greater below_key below_next = not below_key || below_next
-
-abbrev pub is_in_span : List ℕ → List ℕ → List ℕ → Bool
-is_in_span key next asked = span_holds (slice_cmp nat_cmp key next) (is_below asked key) (is_below asked next)
 
 -- a proof of an update of a key with a value and a next key; or of a commit with metadata
 pub data ExclusionParts : Type 0 where
@@ -52,7 +30,7 @@ operation_of key_size value_size (by_commit proof metadata) =
 
 -- the operation leaves no room for the key: an update of another one whose span holds it, or the commit of an empty map
 abbrev pub LeavesOut : ExclusionParts → List ℕ → Type 0
-LeavesOut (by_update proof key value next) asked = (asked ≡ key → ⊥) × (is_in_span key next asked ≡ true)
+LeavesOut (by_update proof key value next) asked = IsLeftOut key next asked
 LeavesOut (by_commit proof metadata) asked = Unit {0}
 
 -- the proof shows that the key is not in the state of this root

@@ -17,6 +17,7 @@ use Rattle.merkle_forest.specs.Nodes.{nodes_of_height}
 use Rattle.merkle_core.specs.MadeTrees.{Over}
 use Rattle.merkle_core.specs.Reads.{range_root}
 use Rattle.state_proofs_parts.specs.SetBits.{is_set}
+use Rattle.state_proofs_parts.specs.ShownChunks.{FitsChunk}
 use Rattle.state_proofs_parts.specs.Canonical.{canonical_string}
 use Rattle.state_proofs_parts.specs.MadeGrafted.{grafted_over, grafted_names}
 use Rattle.state_proofs_parts.specs.Verifier.{Given, claimed_chunk}
@@ -64,11 +65,6 @@ pub record IsShaped (leaf_total : ℕ) (shown : Shown) : Type 0 where
   pub within : stop_of shown ≤ leaf_total
   pub counted : first_index shown + length shown.chunks ≡ last_index shown + 1
   pub wide : AllByRecursion (λ chunk. length chunk ≡ shown.width) shown.chunks
-
--- a digest is held exactly where there is such a chunk, and it is that of this chunk where this is the one
-abbrev pub FitsChunk : Hash → List ℕ → Type 0 → Type 0 → Option (List ℕ) → Type 0
-FitsChunk hash chunk IsThere IsCovered None = IsThere → ⊥
-FitsChunk hash chunk IsThere IsCovered (Some digest) = IsThere × (IsCovered → digest ≡ hash chunk)
 
 -- how many chunks are full, and how many have their node
 abbrev pub full_shown : RangeParts → Shown → ℕ

@@ -2,7 +2,7 @@
 
 ghost use Rattle.std.specs.Prelude.{◌≡◌, ◌↔◌, IsTrue, IfOk, option_map};
 ghost use Rattle.state_ops.specs.Operation.{fixed_encoding, commit_floor};
-ghost use Rattle.state_proofs.specs.Exclusion.{is_below, is_in_span, Excludes};
+ghost use Rattle.state_proofs.specs.Exclusion.{Excludes};
 ghost use Rattle.state_proofs.specs.ExclusionCode.{form_exclusion_of};
 
 pub mod codec;
@@ -11,11 +11,11 @@ use crate::operation::Proof;
 use crate::ordered::encoded_update;
 use merkle_forest::{Digest, Family, Graftable, HashFunction, Location, PendingOf};
 use state_ops::ordered::encode;
+use state_ops::spans::leaves_out;
 use state_ops::update::Ordered;
 use state_ops::{FixedKey, FixedValue, Operation, OrderedOperation, OrderedUpdate};
 use state_proofs_parts::chunk_form::ChunkForm;
 use std::alloc::{AllocError, Global};
-use std::cmp::Ordering;
 use std::convert::AsSlice;
 
 /// A proof that a key is not in a state.
@@ -84,33 +84,6 @@ where
     }
 }
 
-// Whether a key stands before another.
-fn is_key_below<K: FixedKey>(one: &K, other: &K) -> bool
-    ensures { result ≡ is_below (K.encoding one.now) (K.encoding other.now) }
-{
-    matches!(one.cmp(other), Ordering::Less)
-}
-
-// Whether the cyclic span from a key up to the next one holds a third.
-fn span_holds_key<K: FixedKey>(key: &K, next_key: &K, asked: &K) -> bool
-    ensures { result ≡ is_in_span (K.encoding key.now) (K.encoding next_key.now) (K.encoding asked.now) }
-{
-    let is_from = !is_key_below(asked, key);
-    let is_before = is_key_below(asked, next_key);
-    match key.cmp(next_key) {
-        Ordering::Less => is_from && is_before,
-        Ordering::Equal => true,
-        Ordering::Greater => is_from || is_before,
-    }
-}
-
-// Whether it is the same key.
-fn is_key<K: FixedKey>(one: &K, other: &K) -> bool
-    ensures { IsTrue result ↔ (K.encoding one.now ≡ K.encoding other.now) }
-{
-    matches!(one.cmp(other), Ordering::Equal)
-}
-
 // The encoded commit with this metadata and floor. It fails only when out of memory.
 fn encoded_commit<F: Family, K: FixedKey, V: FixedValue>(
     alloc: Global,
@@ -149,10 +122,7 @@ where
     {
         match self {
             ExclusionProof::KeyValue(proof, update) => {
-                if is_key(key, &update.key) {
-                    return Ok(false);
-                }
-                if !span_holds_key(&update.key, &update.next_key, key) {
+                if !leaves_out(&update.key, &update.next_key, key) {
                     return Ok(false);
                 }
                 let operation = encoded_update::<F, K, V>(

@@ -27,6 +27,6 @@ pub use snapshot::Snapshot;
 pub use state_proofs_parts::{
     BitList, BitMap, BitmapReadable, ChunkForm, ChunkSize, MerkleizedBitMap, Prunable,
     UnmerkleizedBitMap, authenticated, bitmap, bitmap_error, bitmap_laws, bits, canonical,
-    chunk_form, chunk_size, grafting, inclusion, prunable, seal,
+    chunk_form, chunk_size, grafting, inclusion, prunable, seal, shown_chunk,
 };
 pub use witness::OpsRootWitness;

@@ -15,6 +15,7 @@ pub mod Parts
 pub mod PeakEnds
 pub mod SameNodes
 pub mod SetBits
+pub mod ShownChunks
 pub mod Snapshot
 pub mod Sources
 pub mod Told

@@ -20,6 +20,7 @@ pub mod inclusion;
 mod parts;
 pub mod prunable;
 pub mod seal;
+pub mod shown_chunk;
 pub mod snapshot;
 mod tree;
 

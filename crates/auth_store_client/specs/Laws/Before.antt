@@ -13,7 +13,7 @@ use Rattle.std.specs.declared.cmp.Ordering.{Ordering}
 use Rattle.std.specs.declared.cmp.Ordering.TheVariants.{Less, Equal, Greater}
 use Rattle.std.specs.Ordering.{is_lt, is_gt, is_eq, ordering_reverse}
 use Rattle.std.specs.FinMap.Entries.{below_all}
-use Rattle.state_proofs.specs.Exclusion.{is_below, is_in_span, span_holds}
+use Rattle.state_ops.specs.Spans.{is_below, is_in_span, span_holds}
 use Rattle.auth_store_parts.specs.Map.{Map, key_order, value_at, first_key, next_key}
 use Rattle.auth_store_parts.specs.History.{IsState}
 use Rattle.auth_store_parts.specs.Laws.Lookups.{IsState-tail}

@@ -9,7 +9,7 @@ use Rattle.merkle_forest.specs.Codec.{Outcome}
 use Rattle.state_ops_parts.specs.Grammar.{Found}
 use Rattle.state_ops.specs.Operation.{Operation, update, ordered, commit_floor, fixed_encoding}
 use Rattle.state_ops.specs.Reading.{operation_at}
-use Rattle.state_proofs.specs.Exclusion.{is_in_span}
+use Rattle.state_ops.specs.Spans.{is_in_span}
 use Rattle.auth_store_parts.specs.History.{History, AreStates, active_location, activity_bits, batch_operations}
 use Rattle.auth_store_parts.specs.History.{has_key, inactivity_floor, is_active, is_active_update, is_commit}
 use Rattle.auth_store_parts.specs.History.{latest_map, log_of}

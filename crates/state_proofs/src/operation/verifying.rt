@@ -1,24 +1,14 @@
 //! The check of a proof of one operation: its bit is set, and the proof over a range shows the operation and its chunk.
 
-ghost use Rattle.std.specs.Prelude.{◌≡◌, ◌/◌, ◌↔◌, IsTrue, slice_get};
-ghost use Rattle.state_proofs_parts.specs.SetBits.{is_set};
+ghost use Rattle.std.specs.Prelude.{◌↔◌, IsTrue};
 ghost use Rattle.state_proofs.specs.ProofsCode.{form_parts_of};
 ghost use Rattle.state_proofs.specs.Verified.{Verifies};
 
 use crate::operation::Proof;
 use merkle_forest::{Digest, Graftable, HashFunction, PendingOf};
 use state_proofs_parts::chunk_size::ChunkSize;
+use state_proofs_parts::shown_chunk::is_bit_set;
 use std::convert::AsSlice;
-
-// Whether this bit of the chunk is set.
-fn is_bit_set(chunk: &[u8], bit: u64) -> bool
-    ensures { result ≡ is_set (slice_get chunk.now (bit / 8)) bit }
-{
-    match chunk.get((bit / 8) as usize) {
-        Some(byte) => (*byte >> (bit % 8)) % 2 == 1,
-        None => false,
-    }
-}
 
 impl<F: Graftable + PendingOf<D>, D: Digest, C: AsSlice<u8>> Proof<F, D, C> {
     /// Whether the proof shows that the encoded operation stands at its location in the state of this root and is

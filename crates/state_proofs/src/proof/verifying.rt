@@ -8,8 +8,9 @@ ghost use Rattle.state_proofs_parts.specs.Canonical.{canonical_string};
 ghost use Rattle.state_proofs.specs.ProofsCode.{range_parts_of};
 ghost use Rattle.state_proofs.specs.RangeExtracted.{LeadsNowhere};
 ghost use Rattle.state_proofs.specs.Verified.{Covers, covering, FitsShown, IsShaped, VerifiesRange, given_by};
-ghost use Rattle.state_proofs.specs.Verified.{graftable_shown, shown_grafted, FitsChunk};
+ghost use Rattle.state_proofs.specs.Verified.{graftable_shown, shown_grafted};
 ghost use Rattle.state_proofs.specs.ShownCode.{form_shown_of};
+ghost use Rattle.state_proofs_parts.specs.ShownChunks.{FitsChunk};
 ghost use Rattle.state_proofs_parts.specs.VerifierCode.{form_given_of};
 
 use crate::proof::RangeProof;
@@ -19,6 +20,7 @@ use state_proofs_parts::chunk_size::ChunkSize;
 use state_proofs_parts::grafting::graftable_chunks_of;
 use state_proofs_parts::grafting::verifier::{Verifier, covering_chunk};
 use state_proofs_parts::seal::seal;
+use state_proofs_parts::shown_chunk::fits_chunk;
 use std::convert::AsSlice;
 
 /// What is shown with a proof over a range: encoded operations from a location on, and the chunks over them, slices or
@@ -40,22 +42,6 @@ fn is_covered(first: u64, count: usize, index: u64) -> bool
     ensures { IsTrue result ↔ ((first ≤ index) × (index < first + count)) }
 {
     first <= index && index - first < count as u64
-}
-
-// Whether a digest is held exactly if the chunk is there, and it is that of this chunk if this is the covered one.
-fn fits_chunk<H: HashFunction>(
-    digest: &Option<H::Digest>,
-    is_there: bool,
-    is_covered: bool,
-    chunk: &[u8],
-) -> bool
-    ensures { IsTrue result ↔ FitsChunk H.hash_of chunk.now (IsTrue is_there) (IsTrue is_covered)
-        (option_map H.Digest.encoding digest.now) }
-{
-    match digest {
-        None => !is_there,
-        Some(digest) => is_there && (!is_covered || *digest == H::hash(&[chunk])),
-    }
 }
 
 // Whether the digest of the chunk with this index is held exactly if the chunk is there, and is that of the chunk that

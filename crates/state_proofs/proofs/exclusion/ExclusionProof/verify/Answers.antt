@@ -1,4 +1,4 @@
-use Rattle.std.proofs.Common.{sym, ◌∙◌, ap}
+use Rattle.std.proofs.Common.{◌∙◌, ap}
 use Rattle.std.specs.Prelude.{IsTrue}
 use Rattle.state_proofs.specs.ExclusionCode.{form_exclusion_of}
 use Rattle.state_proofs.proofs.ExclusionLemmas.{excludes_exactly}
@@ -10,7 +10,7 @@ returns-in_ok-operation-in-KeyValue g c =
     (g.D.Write.encoding c.args.root.now) _ _ (g.K.Write.encoding c.args.key.now) c.deref.result.now
     (ap (form_exclusion_of g.C.AsSlice.items g.K.Write.encoding g.V.Write.encoding g.D.Write.encoding g.F.PendingOf.held) c.in-KeyValue.is)
     (c.deref.ensures.value ∙ c.in_ok-operation-in-KeyValue.ensures.bytes)
-    (λ same. (let no = c.if-is_key.ensures.1 same in absurd cc), sym c.span_holds_key.ensures ∙ c.if-not-span_holds_key.false)
+    (c.leaves_out.ensures.0 c.if-not-leaves_out.false)
     c.verify.ensures
 
 pub returns-in_ok-operation-in-Commit : goal.returns-in_ok-operation-in-Commit

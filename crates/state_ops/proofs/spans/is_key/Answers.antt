@@ -1,6 +1,6 @@
 use Rattle.std.proofs.Common.{refl, sym, ◌∙◌}
 use Rattle.std.proofs.lemmas.Map.Lookups.{exact_bytes}
-use Rattle.state_proofs.proofs.exclusion.is_key.Goals as goal
+use Rattle.state_ops.proofs.spans.is_key.Goals as goal
 
 pub returns-in-Equal : goal.returns-in-Equal
 returns-in-Equal g c = (
