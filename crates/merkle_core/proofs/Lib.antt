@@ -32,6 +32,7 @@ mod PartKnown
 mod PartNodes
 mod PartPlans
 mod PinnedCover
+mod PinnedHonest
 mod PinnedMade
 mod PinnedSound
 mod PinnedStrings

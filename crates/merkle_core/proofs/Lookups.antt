@@ -39,7 +39,7 @@ pub all_back : (P : Located → Type 0) (xs ys : List Located) → AllByRecursio
 all_back P [] ys all = all
 all_back P (x ∷ xs) ys all = all_back P xs ys all.1
 
-all_filter : (P : Located → Type 0) (test : Located → Bool) (xs : List Located) → AllByRecursion P xs → AllByRecursion P (filter test xs)
+pub all_filter : (P : Located → Type 0) (test : Located → Bool) (xs : List Located) → AllByRecursion P xs → AllByRecursion P (filter test xs)
 all_filter P test [] all = tt
 all_filter P test (x ∷ xs) all =
     all_if P (test x) (x ∷ filter test xs) (filter test xs) (all.0, all_filter P test xs all.1) (all_filter P test xs all.1)
@@ -87,7 +87,7 @@ module _ (digest other : Digests) where
   abbrev pub AreSame : Located → Type 0
   AreSame n = digest n.0 n.1 ≡ other n.0 n.1
 
-  same_all : (nodes : List Located) → AllByRecursion AreSame nodes → singly digest nodes ≡ singly other nodes
+  pub same_all : (nodes : List Located) → AllByRecursion AreSame nodes → singly digest nodes ≡ singly other nodes
   same_all [] all = refl
   same_all (n ∷ nodes) all = ap₂ (λ d ds. d ∷ ds) all.0 (same_all nodes all.1)
 

@@ -31,12 +31,12 @@ use Rattle.merkle_core.proofs.PeakMatches.{IsAlike, AreAlike}
 use Rattle.merkle_core.proofs.Pins.{at_here, at_later}
 
 -- a digest that is there, or none is
-either_digest : (o : Option (List ℕ)) → (o ≡ None) ⊎ ((d : List ℕ) × (o ≡ Some d))
+pub either_digest : (o : Option (List ℕ)) → (o ≡ None) ⊎ ((d : List ℕ) × (o ≡ Some d))
 either_digest None = inl refl
 either_digest (Some d) = inr (d, refl)
 
 -- peaks are apart
-apart : (trees : List Tree) (f g : ℕ) (a b : Tree) → IsPeakAt f a trees → IsPeakAt g b trees
+pub apart : (trees : List Tree) (f g : ℕ) (a b : Tree) → IsPeakAt f a trees → IsPeakAt g b trees
     → (leaf_count a ≡ leaf_count b) ⊎ ((f + leaf_count a ≤ g) ⊎ (g + leaf_count b ≤ f))
 apart [] f g a b one other = absurd one
 apart (t ∷ ts) f g a b (inl one) (inl other) = inl (ap leaf_count one.1 ∙ sym (ap leaf_count other.1))
@@ -190,15 +190,12 @@ module _ (hash : Hash) where
     all_alike [] = tt
     all_alike (n ∷ ns) = (pinned_alike n.0 n.1, all_alike ns)
 
--- what is pinned at a peak that stands in a tree is the digest there, where the tree agrees with that of the list
-module _ (hash : Hash) (none : List ℕ) (elements : List (List ℕ)) (rule : Rule) (pairs : IsPairing rule) (start count : ℕ) (pinned : List (List ℕ)) where
+-- a node at whose position a digest is pinned is a peak of the tree before the range
+module _ (rule : Rule) (pairs : IsPairing rule) (start count : ℕ) (pinned : List (List ℕ)) where
   abbrev K : Lookup
   K = at_peak (peaks_of rule start) pinned
 
-  abbrev R : ℕ → Tree → Made
-  R = made_tree plain_over (whole elements)
-
-  pinned_peak : (at : ℕ) (t : Tree) (e : List ℕ) → IsNodeAt at t (forest_of rule count) → K (position t) ≡ Some e → IsPeakAt at t (forest_of rule start)
+  pub pinned_peak : (at : ℕ) (t : Tree) (e : List ℕ) → IsNodeAt at t (forest_of rule count) → K (position t) ≡ Some e → IsPeakAt at t (forest_of rule start)
   pinned_peak at t e stands is =
       let trees = forest_of rule start in
       let found = if_there (λ d. (n : Located) × IsPeakAt n.0 n.1 trees × (position n.1 ≡ position t)) (K (position t)) e is
@@ -207,30 +204,38 @@ module _ (hash : Hash) (none : List ℕ) (elements : List (List ℕ)) (rule : Ru
       let same = one-node rule pairs start count found.0.0 at found.0.1 t (peak-node found.0.0 found.0.1 trees found.1) stands found.2 in
       subst (λ k. IsPeakAt k t trees) same.0 (subst (λ g. IsPeakAt found.0.0 g trees) same.1 found.1)
 
+-- what is pinned at a peak that stands in a tree is the digest there, where the tree agrees with that of the list
+module _ (hash : Hash) (none : List ℕ) (elements : List (List ℕ)) (rule : Rule) (pairs : IsPairing rule) (start count : ℕ) (pinned : List (List ℕ)) where
+  abbrev known_there : Lookup
+  known_there = at_peak (peaks_of rule start) pinned
+
+  abbrev R : ℕ → Tree → Made
+  R = made_tree plain_over (whole elements)
+
   pub descend : (at : ℕ) (t : Tree) (first : ℕ) (node : Tree) (d : List ℕ) → IsNodeAt at t (forest_of rule count)
-      → IsPeakAt first node (forest_of rule start) → IsWithin first node at t → K (position node) ≡ Some d
-      → Agrees hash (pinned_made none K at t) (R at t) → d ≡ value hash (R first node)
+      → IsPeakAt first node (forest_of rule start) → IsWithin first node at t → known_there (position node) ≡ Some d
+      → Agrees hash (pinned_made none known_there at t) (R at t) → d ≡ value hash (R first node)
   descend at (leaf p) first node d stands peak within is agrees =
-      let here : K p ≡ Some d = ap (λ g. K (position g)) (sym within.1) ∙ is in
+      let here : known_there p ≡ Some d = ap (λ g. known_there (position g)) (sym within.1) ∙ is in
       sym (ap (λ o. unwrap_or o none) here) ∙ agrees ∙ ap₂ (λ k g. value hash (R k g)) (sym within.0) (sym within.1)
   descend at (branch p left right) first node d stands peak (inl within) is agrees =
-      let here : K p ≡ Some d = ap (λ g. K (position g)) (sym within.1) ∙ is in
+      let here : known_there p ≡ Some d = ap (λ g. known_there (position g)) (sym within.1) ∙ is in
       let t : Tree = branch p left right in
-      subst (λ o. Agrees hash (option_map_or bytes o (branch_made plain_over at (height (branch p left right)) p (pinned_made none K at left)
-      (pinned_made none K (at + leaf_count left) right))) (R at (branch p left right))) here agrees
+      subst (λ o. Agrees hash (option_map_or bytes o (branch_made plain_over at (height (branch p left right)) p (pinned_made none known_there at left)
+      (pinned_made none known_there (at + leaf_count left) right))) (R at (branch p left right))) here agrees
       ∙ ap₂ (λ k g. value hash (R k g)) (sym within.0) (sym within.1)
   descend at (branch p left right) first node d stands peak (inr within) is agrees =
       let middle = at + leaf_count left in
-      let rebuilt = branch_made plain_over at (height (branch p left right)) p (pinned_made none K at left) (pinned_made none K middle right) in
+      let rebuilt = branch_made plain_over at (height (branch p left right)) p (pinned_made none known_there at left) (pinned_made none known_there middle right) in
       ⊎_elim
       (λ none_here. let same = subst (λ o. Agrees hash (option_map_or bytes o rebuilt) (R at (branch p left right))) none_here agrees in
-      let parts = plain_children hash at (height (branch p left right)) p (pinned_made none K at left) (pinned_made none K middle right) (R at left)
+      let parts = plain_children hash at (height (branch p left right)) p (pinned_made none known_there at left) (pinned_made none known_there middle right) (R at left)
       (R middle right) same in
       ⊎_elim
       (λ there. descend at left first node d (node-left at p left right (forest_of rule count) stands) peak there is parts.0)
       (λ there. descend middle right first node d (node-right at p left right (forest_of rule count) stands) peak there is parts.1)
       within)
-      (λ some. absurd (let own = pinned_peak at (branch p left right) some.0 stands some.1 in
+      (λ some. absurd (let own = pinned_peak rule pairs start count pinned at (branch p left right) some.0 stands some.1 in
       ⊎_elim
       (λ there. let fits = within-fits first at node left there in
       not_inside (forest_of rule start) first at node (branch p left right) peak own fits.0
@@ -239,4 +244,4 @@ module _ (hash : Hash) (none : List ℕ) (elements : List (List ℕ)) (rule : Ru
       not_inside (forest_of rule start) first at node (branch p left right) peak own (omega (arith, fits.0))
       (omega (arith, fits.1)) (omega (arith, fits.0, fits.1, leaf_count-pos left)))
       within))
-      (either_digest (K p))
+      (either_digest (known_there p))

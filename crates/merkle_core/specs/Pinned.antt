@@ -2,9 +2,10 @@
 --
 -- The leaves before the range stand below the peaks of a tree of these leaves alone. Each of these peaks is a node of every greater tree, and
 -- its digest is pinned. Of a Mountain Belt two of them may have merged since: the greater node's digest is made of theirs.
-use Rattle.std.specs.Prelude.{◌≡◌, ℕ, ◌+◌, ◌==◌, if◌then◌else◌, List, [], ◌∷◌, ◌++◌, filter, take, drop, length, None, Some, unwrap_or}
-use Rattle.merkle_forest.specs.Forest.{leaf, branch, position, leaf_count, Rule}
+use Rattle.std.specs.Prelude.{◌≡◌, ℕ, ◌+◌, ◌≤◌, ◌==◌, if◌then◌else◌, List, [], ◌∷◌, ◌++◌, filter, take, drop, length, None, Some, unwrap_or}
+use Rattle.merkle_forest.specs.Forest.{Tree, leaf, branch, position, leaf_count, Rule, forest_of}
 use Rattle.merkle_forest.specs.Hashing.{Hash, folded_forward}
+use Rattle.merkle_forest.specs.Nodes.{IsNodeAt}
 use Rattle.merkle_forest.specs.Trees.{Located}
 use Rattle.merkle_core.specs.MadeRoots.{peaks_of}
 use Rattle.merkle_core.specs.Plans.{Lookup, inner_nodes}
@@ -44,3 +45,9 @@ pub record ArePinned (hash : Hash) (node_of : ℕ → List ℕ → List ℕ → 
   pub peaks : Begins (outer_before hash (pinned_digest node_of none (at_peak (peaks_of rule start) pinned)) singles start (peaks_of rule leaves)) digests
   pub nodes : Begins (inner_before (pinned_digest node_of none (at_peak (peaks_of rule start) pinned)) start stop (peaks_of rule leaves))
       (drop outer digests)
+
+-- in a tree of so many leaves the digest of each branch that stands before a location is made of those of its children
+abbrev pub AreMadeBefore : (ℕ → List ℕ → List ℕ → List ℕ) → Rule → ℕ → ℕ → Digests → Type 0
+AreMadeBefore node_of rule leaves start digest = (first p : ℕ) (left right : Tree)
+    → IsNodeAt first (branch p left right) (forest_of rule leaves) → first + leaf_count (branch p left right) ≤ start
+    → digest first (branch p left right) ≡ node_of p (digest first left) (digest (first + leaf_count left) right)

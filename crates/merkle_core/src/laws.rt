@@ -20,9 +20,11 @@ ghost use Rattle.merkle_core.specs.Multi.{AreDigestsAt, AreMultiDigests};
 ghost use Rattle.merkle_core.specs.MultiReads.{Shown, can_be_shown, needed_positions, multi_root};
 ghost use Rattle.merkle_core.specs.MultiSoundness.{AreHonestOrCollide, AreSound, shown_of};
 ghost use Rattle.merkle_core.specs.OneEach.{OneEach};
+ghost use Rattle.merkle_core.specs.Pinned.{AreMadeBefore, ArePinned};
 ghost use Rattle.merkle_core.specs.PinnedSoundness.{ArePinnedBeside, PinsListOrCollides};
 ghost use Rattle.merkle_core.specs.Plans.{Lookup, IsLookupOf, made_by, honest_digests, first_missing, positions_of, inner_nodes, range_nodes};
 ghost use Rattle.merkle_core.specs.ProofStores.{Kept, AreFoldsOf, IsPart, IsRefusalToBuildPart, digest_among, known_with, IsKnownOf, front_peaks, back_peaks, more_before, more_after, part_nodes, kept_nodes};
+ghost use Rattle.merkle_core.specs.RangeCounts.{range_outer};
 ghost use Rattle.merkle_core.specs.Ranges.{Digests, range_digests};
 ghost use Rattle.merkle_core.specs.Reads.{Agrees, HashesAs, range_root, claim_of};
 ghost use Rattle.merkle_core.specs.Soundness.{RangeClaim, claimed_root, hashed_strings, IsSound, list_root, plain_names};
@@ -149,6 +151,36 @@ pub fn parts_of_a_list_agree_with_it()
     ensures { (hash : Hash) (elements : List (List ℕ)) (start count : ℕ)
         → Agrees hash plain_over (from start (take count (drop start elements))) (plain_digest hash elements) start
         (start + count) }
+{}
+
+/// Honest pinned digests are accepted: the digests of the honest proof of a range that stand for leaves before it are
+/// made of those of the nodes to pin where it begins, if each branch there is made of its children. So they are in the
+/// plain tree of a list, to whose root that proof leads.
+pub fn honest_pinned_digests_are_accepted<F: Family>()
+    ensures pinned { (hash : Hash) (node_of : NodeHash) (none : List ℕ) (bagging : Bagging) (digest : Digests)
+        (leaves inactive start stop : ℕ)
+        → start < stop → stop ≤ leaves → AreMadeBefore node_of F.merge_rule leaves start digest
+        → let peaks = peaks_of F.merge_rule leaves in
+        ArePinned hash node_of none F.merge_rule leaves (from_left bagging inactive (length peaks)) start stop
+        (range_outer bagging start stop inactive peaks)
+        (honest_digests hash digest bagging F.merge_rule leaves inactive start stop)
+        (peak_digests digest (forest_of F.merge_rule start)) }
+    ensures made { (node_of : NodeHash) (leaf_digests : List (List ℕ)) (leaves start : ℕ)
+        → AreMadeBefore node_of F.merge_rule leaves start (tree_digest node_of leaf_digests) }
+    ensures listed { (hash : Hash) (none : List ℕ) (bagging : Bagging) (elements : List (List ℕ))
+        (inactive start stop : ℕ)
+        → length elements ≤ 2 ^ 62 → start < stop → stop ≤ length elements
+        → let leaves = length elements in
+        let peaks = peaks_of F.merge_rule leaves in
+        let shown = take (stop - start) (drop start elements) in
+        let digest = plain_digest hash elements in
+        let digests = honest_digests hash digest bagging F.merge_rule leaves inactive start stop in
+        inactive ≤ length peaks
+        → (option_map (value hash) (range_root plain_names plain_over bagging F.merge_rule leaves inactive start shown
+        digests) ≡ Some (tree_root hash bagging F.merge_rule elements inactive))
+        × ArePinned hash (plain_node hash) none F.merge_rule leaves (from_left bagging inactive (length peaks)) start
+        stop (range_outer bagging start stop inactive peaks) digests
+        (peak_digests digest (forest_of F.merge_rule start)) }
 {}
 
 /// What is known of the nodes of a tree in memory is known of the list that it is a tree of.
