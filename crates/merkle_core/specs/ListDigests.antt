@@ -25,7 +25,8 @@ pub record GivesDigestsOf (hash : Hash) (bagging : Bagging) (rule : Rule) (eleme
       claim.start (stop_of claim)
   pub made : AreMadeOf (λ p element. hash (leaf_string p element)) (λ p left right. hash (node_string p left right))
       (from claim.start claim.elements) claim.start (stop_of claim) (plain_digest hash elements)
-  pub given : AreGiven (from_left bagging claim.inactive (length (peaks_of rule claim.leaves))) claim.start (stop_of claim)
+  pub given : AreGiven (from_left bagging claim.inactive (length (peaks_of rule claim.leaves)))
+      claim.start (stop_of claim)
       (peaks_of rule claim.leaves) (plain_digest hash elements) claim.digests
 
 -- where the claim leads to the root of the list it gives the list's digests, or the strings collide

@@ -1,6 +1,7 @@
--- Peaks as they are bagged: from all elements, or from the elements of a range and the digests of its proof. The digests of the peaks
--- beside the range are `outer` ones, those in the peaks that meet it `inner` ones.
-use Rattle.std.specs.Prelude.{ℕ, zero, suc, ◌^◌, ◌||◌, nat_lt, if◌then◌else◌, List, [], ◌∷◌, length, take, drop, Option, None, Some, option_map, option_and_then}
+-- Peaks as they are bagged: from all elements, or from the elements of a range and the digests of its proof. The
+-- digests of the peaks beside the range are `outer` ones, those in the peaks that meet it `inner` ones.
+use Rattle.std.specs.Prelude.{ℕ, zero, suc, ◌^◌, ◌||◌, nat_lt, if◌then◌else◌, List, [], ◌∷◌, length, take, drop, Option}
+use Rattle.std.specs.Prelude.{None, Some, option_map, option_and_then}
 use Rattle.std.specs.List.{list_all}
 use Rattle.merkle_forest.specs.declared.bagging.Bagging.{Bagging}
 use Rattle.merkle_forest.specs.declared.bagging.Bagging.TheVariants.{ForwardFold, BackwardFold}
@@ -30,11 +31,12 @@ made_back names over elements last n peak [] = made_peak over elements peak
 made_back names over elements last n peak (next ∷ peaks) =
     folded names n last (made_peak over elements peak) (made_back names over elements last (suc n) next peaks)
 
--- What is folded so far, from the peaks before the one numbered n, and the peaks from there on, of which so many are folded onto it
--- singly, from the left
+-- What is folded so far, from the peaks before the one numbered n, and the peaks from there on, of which so many are
+-- folded onto it singly, from the left
 abbrev pub made_onto : Naming → Over → Elements → ℕ → ℕ → ℕ → Made → List Located → Made
 made_onto names over elements last inactive n first [] = first
-made_onto names over elements last zero n first (peak ∷ peaks) = folded names 1 last first (made_back names over elements last n peak peaks)
+made_onto names over elements last zero n first (peak ∷ peaks) =
+    folded names 1 last first (made_back names over elements last n peak peaks)
 made_onto names over elements last (suc inactive) n first (peak ∷ peaks) =
     made_onto names over elements last inactive (suc n) (folded names 1 n first (made_peak over elements peak)) peaks
 
@@ -42,7 +44,8 @@ made_onto names over elements last (suc inactive) n first (peak ∷ peaks) =
 abbrev pub made_bag : Naming → Over → Elements → ℕ → ℕ → List Located → Made
 made_bag names over elements last inactive [] = bytes []
 made_bag names over elements last zero (peak ∷ peaks) = made_back names over elements last 1 peak peaks
-made_bag names over elements last (suc inactive) (peak ∷ peaks) = made_onto names over elements last inactive 2 (made_peak over elements peak) peaks
+made_bag names over elements last (suc inactive) (peak ∷ peaks) =
+    made_onto names over elements last inactive 2 (made_peak over elements peak) peaks
 
 -- how many peaks are folded from the left: by ForwardFold all
 abbrev pub from_left : Bagging → ℕ → ℕ → ℕ
@@ -55,7 +58,8 @@ peaks_of rule leaves = located (forest_of rule leaves)
 
 -- the peaks of so many leaves as one
 abbrev pub bag_of : Naming → Over → Elements → Bagging → ℕ → List Located → Made
-bag_of names over elements bagging inactive peaks = made_bag names over elements (length peaks) (from_left bagging inactive (length peaks)) peaks
+bag_of names over elements bagging inactive peaks =
+    made_bag names over elements (length peaks) (from_left bagging inactive (length peaks)) peaks
 
 -- the root's string, over a bag: leaf count, bagging, count of inactive peaks, and the bag
 abbrev pub root_made : Naming → Bagging → ℕ → ℕ → Made → Made
@@ -92,19 +96,23 @@ abbrev pub read_back : Naming → Over → Elements → ℕ → ℕ → ℕ → 
 read_back names over elements start stop last n peak [] streams = read_peak over elements start stop peak streams
 read_back names over elements start stop last n peak (next ∷ peaks) streams =
     if list_all (is_after stop) (peak ∷ next ∷ peaks) then given_outer streams
-    else option_and_then (λ x. option_map (λ y. (folded names n last x.0 y.0, y.1)) (read_back names over elements start stop last (suc n) next peaks x.1))
+    else option_and_then (λ x. option_map (λ y. (folded names n last x.0 y.0, y.1))
+    (read_back names over elements start stop last (suc n) next peaks x.1))
     (read_peak over elements start stop peak streams)
 
 -- what is folded so far, and the peaks from the one numbered n on
 abbrev pub read_onto : Naming → Over → Elements → ℕ → ℕ → ℕ → ℕ → ℕ → Made → List Located → Streams → Bagged
 read_onto names over elements start stop last inactive n first [] streams = Some (first, streams)
 read_onto names over elements start stop last zero n first (peak ∷ peaks) streams =
-    option_map (λ y. (folded names 1 last first y.0, y.1)) (read_back names over elements start stop last n peak peaks streams)
+    option_map (λ y. (folded names 1 last first y.0, y.1))
+    (read_back names over elements start stop last n peak peaks streams)
 read_onto names over elements start stop last (suc inactive) n first (peak ∷ peaks) streams =
-    option_and_then (λ x. read_onto names over elements start stop last inactive (suc n) (folded names 1 n first x.0) peaks x.1)
+    option_and_then (λ x. read_onto names over elements start stop last inactive (suc n)
+    (folded names 1 n first x.0) peaks x.1)
     (read_peak over elements start stop peak streams)
 
--- what is given for the peaks before the range that are folded from the left, all as one, and the peaks from the one numbered n on
+-- what is given for the peaks before the range that are folded from the left, all as one, and the peaks from the one
+-- numbered n on
 abbrev pub read_group : Naming → Over → Elements → ℕ → ℕ → ℕ → ℕ → ℕ → Made → List Located → Streams → Bagged
 read_group names over elements start stop last inactive n first [] streams = Some (first, streams)
 read_group names over elements start stop last zero n first (peak ∷ peaks) streams =
@@ -116,21 +124,26 @@ read_group names over elements start stop last (suc inactive) n first (peak ∷ 
 -- all peaks as one
 abbrev pub read_bag : Naming → Over → Elements → ℕ → ℕ → ℕ → ℕ → List Located → Streams → Bagged
 read_bag names over elements start stop last inactive [] streams = None
-read_bag names over elements start stop last zero (peak ∷ peaks) streams = read_back names over elements start stop last 1 peak peaks streams
+read_bag names over elements start stop last zero (peak ∷ peaks) streams =
+    read_back names over elements start stop last 1 peak peaks streams
 read_bag names over elements start stop last (suc inactive) (peak ∷ peaks) streams =
-    if is_before start peak then option_and_then (λ x. read_group names over elements start stop last inactive 2 x.0 peaks x.1) (given_outer streams)
-    else option_and_then (λ x. read_onto names over elements start stop last inactive 2 x.0 peaks x.1) (read_peak over elements start stop peak streams)
+    if is_before start peak then option_and_then
+    (λ x. read_group names over elements start stop last inactive 2 x.0 peaks x.1) (given_outer streams)
+    else option_and_then (λ x. read_onto names over elements start stop last inactive 2 x.0 peaks x.1)
+    (read_peak over elements start stop peak streams)
 
 -- where every digest is used
 abbrev pub used : Made × Streams → Option Made
 used (made, ([], [])) = Some made
 used (made, (outer, inner)) = None
 
--- The root as a proof leads to it: from the elements of the range and the digests, of which so many are outer ones. None: the tree is
--- too large, it has fewer peaks than are to be inactive, the range ends past its leaves, or a digest is missing or left over.
+-- The root as a proof leads to it: from the elements of the range and the digests, of which so many are outer ones.
+-- None: the tree is too large, it has fewer peaks than are to be inactive, the range ends past its leaves, or a digest
+-- is missing or left over.
 abbrev pub read_root : Naming → Over → Bagging → Rule → ℕ → ℕ → ℕ → ℕ → Elements → ℕ → List (List ℕ) → Option Made
 read_root names over bagging rule leaves inactive start stop elements outer digests =
     let peaks = peaks_of rule leaves in
     if nat_lt (2 ^ 62) leaves || (nat_lt (length peaks) inactive || nat_lt leaves stop) then None
     else option_map (root_made names bagging leaves inactive) (option_and_then used
-    (read_bag names over elements start stop (length peaks) (from_left bagging inactive (length peaks)) peaks (take outer digests, drop outer digests)))
+    (read_bag names over elements start stop (length peaks) (from_left bagging inactive (length peaks)) peaks
+    (take outer digests, drop outer digests)))

@@ -1,5 +1,6 @@
 -- Trees as they are made: from all elements, or from the elements of a range and the digests beside it.
-use Rattle.std.specs.Prelude.{ℕ, ◌+◌, ◌-◌, if◌then◌else◌, List, [], ◌∷◌, Option, None, Some, option_map, option_and_then, slice_index_or}
+use Rattle.std.specs.Prelude.{ℕ, ◌+◌, ◌-◌, if◌then◌else◌, List, [], ◌∷◌, Option, None, Some, option_map}
+use Rattle.std.specs.Prelude.{option_and_then, slice_index_or}
 use Rattle.merkle_forest.specs.Forest.{Tree, leaf, branch, height, leaf_count}
 use Rattle.merkle_forest.specs.Hashing.{number}
 use Rattle.merkle_forest.specs.Made.{at_plain, Made, bytes, both, hashed}
@@ -37,7 +38,8 @@ branch_made over at high p left right = over at high p (both (bytes (number p)) 
 abbrev pub made_tree : Over → Elements → ℕ → Tree → Made
 made_tree over elements at (leaf p) = leaf_made p (elements at)
 made_tree over elements at (branch p left right) =
-    branch_made over at (height (branch p left right)) p (made_tree over elements at left) (made_tree over elements (at + leaf_count left) right)
+    branch_made over at (height (branch p left right)) p (made_tree over elements at left) (made_tree over elements (at
+    + leaf_count left) right)
 
 -- what is read, and the digests that are left
 abbrev pub Reading : Type 0
@@ -48,12 +50,14 @@ abbrev pub given : List (List ℕ) → Reading
 given [] = None
 given (d ∷ digests) = Some (bytes d, digests)
 
--- a tree from the elements of the range, and from the digests of the maximal nodes that hold no leaf of it, from left to right
+-- a tree from the elements of the range, and from the digests of the maximal nodes that hold no leaf of it, from left
+-- to right
 abbrev pub read_tree : Over → Elements → ℕ → ℕ → ℕ → Tree → List (List ℕ) → Reading
 read_tree over elements start stop at (leaf p) digests =
     if meets start stop (at, leaf p) then Some (leaf_made p (elements at), digests) else given digests
 read_tree over elements start stop at (branch p left right) digests =
     if meets start stop (at, branch p left right)
     then option_and_then (λ x. option_map (λ y. (branch_made over at (height (branch p left right)) p x.0 y.0, y.1))
-    (read_tree over elements start stop (at + leaf_count left) right x.1)) (read_tree over elements start stop at left digests)
+    (read_tree over elements start stop (at + leaf_count left) right x.1))
+    (read_tree over elements start stop at left digests)
     else given digests

@@ -1,12 +1,14 @@
 -- Which nodes the proof of some elements is made of.
-use Rattle.std.specs.Prelude.{◌≡◌, ℕ, suc, ◌+◌, ◌<◌, ◌≤◌, ◌^◌, ◌&&◌, Bool, false, nat_le, nat_lt, if◌then◌else◌, List, [], ◌∷◌, ◌++◌, Option, Some, None, map, length, slice_get}
+use Rattle.std.specs.Prelude.{◌≡◌, ℕ, suc, ◌+◌, ◌<◌, ◌≤◌, ◌^◌, ◌&&◌, Bool, false, nat_le, nat_lt, if◌then◌else◌, List}
+use Rattle.std.specs.Prelude.{[], ◌∷◌, ◌++◌, Option, Some, None, map, length, slice_get}
 use Rattle.std.specs.List.{flat_map, list_any}
 use Rattle.std.specs.List.Sorted.{IsNonDecreasingBy, IsPermutation}
 use Rattle.merkle_forest.specs.Forest.{Tree, leaf, branch, position, leaf_count, Rule, forest_of}
 use Rattle.merkle_forest.specs.Nodes.{IsNodeAt}
 use Rattle.merkle_forest.specs.Trees.{Located, end_of}
 use Rattle.merkle_core_parts.specs.declared.error.Error.{Error}
-use Rattle.merkle_core_parts.specs.declared.error.Error.TheVariants.{LocationOverflow, Empty, LeafOutOfBounds, DuplicateLocation, UnsortedLocation, Memory}
+use Rattle.merkle_core_parts.specs.declared.error.Error.TheVariants.{LocationOverflow, Empty, LeafOutOfBounds}
+use Rattle.merkle_core_parts.specs.declared.error.Error.TheVariants.{DuplicateLocation, UnsortedLocation, Memory}
 use Rattle.merkle_core_parts.specs.declared.error.Error.TheVariants.{ElementPruned, InvalidInactivePeaks}
 use Rattle.merkle_core_parts.specs.Mem.{NodeHash, tree_digest}
 use Rattle.merkle_core.specs.MadeRoots.{peaks_of}
@@ -65,28 +67,34 @@ first_bad leaves low [] = None
 first_bad leaves low (l ∷ locations) =
     if nat_le low l && nat_lt l leaves then first_bad leaves (suc l) locations else Some (low, l)
 
--- why the proof of these elements may not be planned: out of memory, or none is asked for, or a location comes again or after a greater
--- one or there is no such leaf, of which the first is told, or the tree is too large
+-- why the proof of these elements may not be planned: out of memory, or none is asked for, or a location comes again or
+-- after a greater one or there is no such leaf, of which the first is told, or the tree is too large
 abbrev pub IsRefusalOfLocations : {F : Type 0} → ℕ → List ℕ → Error F → Type 0
 IsRefusalOfLocations leaves locations Empty = locations ≡ []
 IsRefusalOfLocations leaves locations (DuplicateLocation l) = first_bad leaves 0 locations ≡ Some (suc l, l)
-IsRefusalOfLocations leaves locations (UnsortedLocation l) = (before : ℕ) × (first_bad leaves 0 locations ≡ Some (suc before, l)) × (l < before)
-IsRefusalOfLocations leaves locations (LeafOutOfBounds l) = (low : ℕ) × (first_bad leaves 0 locations ≡ Some (low, l)) × (low ≤ l) × (leaves ≤ l)
-IsRefusalOfLocations leaves locations (LocationOverflow count) = (first_bad leaves 0 locations ≡ None) × (count ≡ leaves) × (2 ^ 62 < leaves)
+IsRefusalOfLocations leaves locations (UnsortedLocation l) =
+    (before : ℕ) × (first_bad leaves 0 locations ≡ Some (suc before, l)) × (l < before)
+IsRefusalOfLocations leaves locations (LeafOutOfBounds l) =
+    (low : ℕ) × (first_bad leaves 0 locations ≡ Some (low, l)) × (low ≤ l) × (leaves ≤ l)
+IsRefusalOfLocations leaves locations (LocationOverflow count) =
+    (first_bad leaves 0 locations ≡ None) × (count ≡ leaves) × (2 ^ 62 < leaves)
 IsRefusalOfLocations leaves locations Memory = Unit {0}
 IsRefusalOfLocations leaves locations other = ⊥
 
--- why the proof of these elements may not be given, in the order of what is asked: their positions are refused, the tree has fewer peaks than
--- are to be inactive, or the digest of a node that the proof is made of is not known, of which the first is told
+-- why the proof of these elements may not be given, in the order of what is asked: their positions are refused, the
+-- tree has fewer peaks than are to be inactive, or the digest of a node that the proof is made of is not known, of
+-- which the first is told
 abbrev pub IsRefusalToProveMany : {F : Type 0} → Rule → ℕ → List ℕ → ℕ → Lookup → Error F → Type 0
 IsRefusalToProveMany rule leaves locations inactive known InvalidInactivePeaks =
     (first_bad leaves 0 locations ≡ None) × (length (peaks_of rule leaves) < inactive)
 IsRefusalToProveMany rule leaves locations inactive known (ElementPruned p) = (inactive ≤ length (peaks_of rule leaves))
-    × ((positions : List ℕ) × AreMultiPositions rule leaves locations positions × (first_missing known positions ≡ Some p))
+    × ((positions : List ℕ) × AreMultiPositions rule leaves locations positions
+    × (first_missing known positions ≡ Some p))
 IsRefusalToProveMany rule leaves locations inactive known other = IsRefusalOfLocations leaves locations other
 
 -- the digests of the proof are those that are known at its positions
-pub record AreMultiDigests (rule : Rule) (leaves : ℕ) (locations : List ℕ) (known : Lookup) (digests : List (List ℕ)) : Type 0 where
+pub record AreMultiDigests (rule : Rule) (leaves : ℕ) (locations : List ℕ) (known : Lookup)
+    (digests : List (List ℕ)) : Type 0 where
   pub positions : List ℕ
   pub at : AreMultiPositions rule leaves locations positions
   pub known_there : map (λ d. Some d) digests ≡ map known positions

@@ -1,8 +1,10 @@
 -- What stands before a range, made of the digests that are pinned there.
 --
--- The leaves before the range stand below the peaks of a tree of these leaves alone. Each of these peaks is a node of every greater tree, and
--- its digest is pinned. Of a Mountain Belt two of them may have merged since: the greater node's digest is made of theirs.
-use Rattle.std.specs.Prelude.{◌≡◌, ℕ, ◌+◌, ◌≤◌, ◌==◌, if◌then◌else◌, List, [], ◌∷◌, ◌++◌, filter, take, drop, length, None, Some, unwrap_or}
+-- The leaves before the range stand below the peaks of a tree of these leaves alone. Each of these peaks is a node of
+-- every greater tree, and its digest is pinned. Of a Mountain Belt two of them may have merged since: the greater
+-- node's digest is made of theirs.
+use Rattle.std.specs.Prelude.{◌≡◌, ℕ, ◌+◌, ◌≤◌, ◌==◌, if◌then◌else◌, List, [], ◌∷◌, ◌++◌, filter, take, drop, length}
+use Rattle.std.specs.Prelude.{None, Some, unwrap_or}
 use Rattle.merkle_forest.specs.Forest.{Tree, leaf, branch, position, leaf_count, Rule, forest_of}
 use Rattle.merkle_forest.specs.Hashing.{Hash, folded_forward}
 use Rattle.merkle_forest.specs.Nodes.{IsNodeAt}
@@ -21,9 +23,11 @@ at_peak (peak ∷ peaks) (d ∷ digests) p = if position peak.1 == p then Some d
 abbrev pub pinned_digest : (ℕ → List ℕ → List ℕ → List ℕ) → List ℕ → Lookup → Digests
 pinned_digest node_of none known at (leaf p) = unwrap_or (known p) none
 pinned_digest node_of none known at (branch p left right) =
-    unwrap_or (known p) (node_of p (pinned_digest node_of none known at left) (pinned_digest node_of none known (at + leaf_count left) right))
+    unwrap_or (known p) (node_of p (pinned_digest node_of none known at left) (pinned_digest node_of none known (at
+    + leaf_count left) right))
 
--- those digests of the proof of a range that stand for the peaks before it, of which so many are folded singly from the left
+-- those digests of the proof of a range that stand for the peaks before it, of which so many are folded singly from the
+-- left
 abbrev pub outer_before : Hash → Digests → ℕ → ℕ → List Located → List (List ℕ)
 outer_before hash digest singles start peaks =
     as_one (folded_forward hash) (singly digest (filter (is_before start) (take singles peaks)))
@@ -37,13 +41,16 @@ inner_before digest start stop peaks = singly digest (filter (is_before start) (
 abbrev pub Begins : List (List ℕ) → List (List ℕ) → Type 0
 Begins front digests = (rest : List (List ℕ)) × (digests ≡ front ++ rest)
 
--- each digest of the proof that stands for leaves before the range is made of those that are pinned there, of which there are as many as the
--- leaves before it have peaks
-pub record ArePinned (hash : Hash) (node_of : ℕ → List ℕ → List ℕ → List ℕ) (none : List ℕ) (rule : Rule) (leaves singles start stop outer : ℕ)
+-- each digest of the proof that stands for leaves before the range is made of those that are pinned there, of which
+-- there are as many as the leaves before it have peaks
+pub record ArePinned (hash : Hash) (node_of : ℕ → List ℕ → List ℕ → List ℕ) (none : List ℕ) (rule : Rule)
+    (leaves singles start stop outer : ℕ)
     (digests pinned : List (List ℕ)) : Type 0 where
   pub counted : length pinned ≡ length (peaks_of rule start)
-  pub peaks : Begins (outer_before hash (pinned_digest node_of none (at_peak (peaks_of rule start) pinned)) singles start (peaks_of rule leaves)) digests
-  pub nodes : Begins (inner_before (pinned_digest node_of none (at_peak (peaks_of rule start) pinned)) start stop (peaks_of rule leaves))
+  pub peaks : Begins (outer_before hash (pinned_digest node_of none (at_peak (peaks_of rule start) pinned)) singles
+      start (peaks_of rule leaves)) digests
+  pub nodes : Begins (inner_before (pinned_digest node_of none (at_peak (peaks_of rule start) pinned)) start
+      stop (peaks_of rule leaves))
       (drop outer digests)
 
 -- in a tree of so many leaves the digest of each branch that stands before a location is made of those of its children

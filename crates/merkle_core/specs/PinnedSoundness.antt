@@ -1,4 +1,5 @@
--- What the digests are that are pinned beside a proof, where it leads to the root of a list: those of the list, or strings collide.
+-- What the digests are that are pinned beside a proof, where it leads to the root of a list: those of the list, or
+-- strings collide.
 use Rattle.std.specs.Prelude.{◌≡◌, ◌⊎◌, ℕ, ◌+◌, List, ◌++◌, map, filter, take, drop, length, unwrap_or}
 use Rattle.std.specs.List.{flat_map}
 use Rattle.std.specs.Option.{option_map_or}
@@ -20,7 +21,8 @@ use Rattle.merkle_core.specs.Soundness.{plain_names, RangeClaim, list_root, hash
 abbrev pub pinned_made : List ℕ → Lookup → ℕ → Tree → Made
 pinned_made none known at (leaf p) = bytes (unwrap_or (known p) none)
 pinned_made none known at (branch p left right) =
-    option_map_or bytes (known p) (branch_made plain_over at (height (branch p left right)) p (pinned_made none known at left)
+    option_map_or bytes (known p) (branch_made plain_over at (height (branch p left right)) p
+    (pinned_made none known at left)
     (pinned_made none known (at + leaf_count left) right))
 
 -- how many of the peaks of the claim's tree are folded singly from the left
@@ -29,7 +31,8 @@ singles_of bagging rule claim = from_left bagging claim.inactive (length (peaks_
 
 -- the peaks before the range that its proof gives as one digest, and the nodes before it that it gives singly
 abbrev pub before_as_one : Bagging → Rule → RangeClaim → List Located
-before_as_one bagging rule claim = filter (is_before claim.start) (take (singles_of bagging rule claim) (peaks_of rule claim.leaves))
+before_as_one bagging rule claim =
+    filter (is_before claim.start) (take (singles_of bagging rule claim) (peaks_of rule claim.leaves))
 
 abbrev pub before_singly : Bagging → Rule → RangeClaim → List Located
 before_singly bagging rule claim =
@@ -47,12 +50,14 @@ pinned_strings hash none bagging rule claim pinned =
 -- the digests of the proof that stand for leaves before the range are made of those that are pinned, in the plain tree
 abbrev pub ArePinnedBeside : Hash → List ℕ → Bagging → Rule → RangeClaim → List (List ℕ) → Type 0
 ArePinnedBeside hash none bagging rule claim pinned =
-    ArePinned hash (λ p left right. hash (node_string p left right)) none rule claim.leaves (singles_of bagging rule claim) claim.start
+    ArePinned hash (λ p left right. hash (node_string p left right)) none rule claim.leaves
+    (singles_of bagging rule claim) claim.start
     (stop_of claim) claim.outer claim.digests pinned
 
--- where the claim leads to the root of the list the pinned digests are those of the list's nodes to pin where the range begins, from left
--- to right, or the strings collide
-abbrev pub PinsListOrCollides : Hash → List ℕ → Bagging → Rule → List (List ℕ) → ℕ → RangeClaim → List (List ℕ) → Made → Type 0
+-- where the claim leads to the root of the list the pinned digests are those of the list's nodes to pin where the range
+-- begins, from left to right, or the strings collide
+abbrev pub PinsListOrCollides : Hash → List ℕ → Bagging → Rule → List (List ℕ) → ℕ → RangeClaim
+    → List (List ℕ) → Made → Type 0
 PinsListOrCollides hash none bagging rule elements inactive claim pinned made =
     value hash made ≡ value hash (list_root bagging rule elements inactive)
     → (pinned ≡ peak_digests (plain_digest hash elements) (forest_of rule claim.start))

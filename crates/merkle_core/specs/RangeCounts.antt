@@ -9,8 +9,8 @@ use Rattle.merkle_core.specs.Ranges.{is_before, is_after}
 abbrev pub passing : (Located → Bool) → List Located → ℕ
 passing test peaks = length (filter test peaks)
 
--- how many digests stand for so many inactive and so many active peaks before the range: the inactive ones are folded into one (by
--- ForwardFold all)
+-- how many digests stand for so many inactive and so many active peaks before the range: the inactive ones are folded
+-- into one (by ForwardFold all)
 abbrev pub digests_for_before : Bagging → ℕ → ℕ → ℕ
 digests_for_before ForwardFold inactive active = min 1 (inactive + active)
 digests_for_before BackwardFold inactive active = min 1 inactive + active
@@ -23,5 +23,7 @@ digests_for_after BackwardFold inactive active = inactive + min 1 active
 -- of these peaks, of which so many first ones are inactive
 abbrev pub range_outer : Bagging → ℕ → ℕ → ℕ → List Located → ℕ
 range_outer bagging start stop inactive peaks =
-    digests_for_before bagging (passing (is_before start) (take inactive peaks)) (passing (is_before start) (drop inactive peaks))
-    + digests_for_after bagging (passing (is_after stop) (take inactive peaks)) (passing (is_after stop) (drop inactive peaks))
+    digests_for_before bagging (passing (is_before start) (take inactive peaks))
+    (passing (is_before start) (drop inactive peaks))
+    + digests_for_after bagging (passing (is_after stop) (take inactive peaks))
+    (passing (is_after stop) (drop inactive peaks))

@@ -23,13 +23,15 @@ abbrev pub valued : {R : Type 0} → Hash → Option (Made × R) → Option (Lis
 valued hash reading = option_map (λ x. (value hash x.0, x.1)) reading
 
 -- the trees below a branch that begins at `first` stand at these subtrees
-pub record AreChildTrees (rule : Rule) (first : ℕ) (left right : Tree) (left_first left_at left_high right_first right_at right_high : ℕ) : Type 0 where
+pub record AreChildTrees (rule : Rule) (first : ℕ) (left right : Tree)
+    (left_first left_at left_high right_first right_at right_high : ℕ) : Type 0 where
   pub same : left_first ≡ first
   pub middle : right_first ≡ first + leaf_count left
   pub at_left : IsTreeAt rule left_first left_at left_high left
   pub at_right : IsTreeAt rule right_first right_at right_high right
 
--- The root that a proof of a range leads to, whose elements begin at a location. None: the range is empty, or there is no such root.
+-- The root that a proof of a range leads to, whose elements begin at a location. None: the range is empty, or there is
+-- no such root.
 abbrev pub range_root : Naming → Over → Bagging → Rule → ℕ → ℕ → ℕ → List (List ℕ) → List (List ℕ) → Option Made
 range_root names over bagging rule leaves inactive start elements digests =
     let stop = start + length elements in
@@ -52,5 +54,6 @@ claim_of bagging rule leaves inactive start elements digests = record {
 -- the digests of trees are made over the elements of the range
 pub record Agrees (hash : Hash) (over : Over) (elements : Elements) (digest : Digests) (start stop : ℕ) : Type 0 where
   pub leaf : (at p : ℕ) → start ≤ at → at < stop → value hash (leaf_made p (elements at)) ≡ digest at (leaf p)
-  pub branch : (at p : ℕ) (left right : Tree) (x y : Made) → value hash x ≡ digest at left → value hash y ≡ digest (at + leaf_count left) right
+  pub branch : (at p : ℕ) (left right : Tree) (x y : Made) → value hash x ≡ digest at left
+      → value hash y ≡ digest (at + leaf_count left) right
       → value hash (branch_made over at (height (branch p left right)) p x y) ≡ digest at (branch p left right)

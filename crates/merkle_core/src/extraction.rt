@@ -1,11 +1,13 @@
 //! The nodes that a proof of a range tells, and their digests.
 
-ghost use Rattle.std.specs.Prelude.{◌≡◌, ◌<◌, ◌≤◌, ◌+◌, ◌^◌, ◌++◌, ◌∷◌, ℕ, List, map, filter, take, drop, length, IfOk, OnOk};
+ghost use Rattle.std.specs.Prelude.{◌≡◌, ◌<◌, ◌≤◌, ◌+◌, ◌^◌, ◌++◌, ◌∷◌, ℕ, List, map, filter, take, drop, length, IfOk};
+ghost use Rattle.std.specs.Prelude.{OnOk};
 ghost use Rattle.merkle_forest.specs.Forest.{Tree, forest_of};
 ghost use Rattle.merkle_forest.specs.Nodes.{HasPeak};
 ghost use Rattle.merkle_forest.specs.Peaks.{located_from};
 ghost use Rattle.merkle_core_parts.specs.Mem.{encoded};
-ghost use Rattle.merkle_core.specs.Extracted.{AreMadeOf, AreGiven, AreExtracted, IsTold, told_nodes, inner_told, extracted_nodes, node_digests};
+ghost use Rattle.merkle_core.specs.Extracted.{AreMadeOf, AreGiven, AreExtracted, IsTold, told_nodes, inner_told};
+ghost use Rattle.merkle_core.specs.Extracted.{extracted_nodes, node_digests};
 ghost use Rattle.merkle_core.specs.MadeRoots.{from_left, peaks_of};
 ghost use Rattle.merkle_core.specs.MadeTrees.{from};
 ghost use Rattle.merkle_core.specs.Ranges.{Digests, siblings, singly, inner_digests};
@@ -155,8 +157,8 @@ fn append_told_peaks<F: Family, H: Hasher<F>>(
     append_told_peaks(found, reader, next, digests, later)
 }
 
-// Appends those of the first `most` peaks that stand on that side, from the one on that begins at `first`, each with its
-// digest, and answers the index of the next digest.
+// Appends those of the first `most` peaks that stand on that side, from the one on that begins at `first`, each with
+// its digest, and answers the index of the next digest.
 fn append_singles<F: Family, D: Digest>(
     found: &mut Vec<(Position<F>, D)>,
     leaves: u64,
@@ -172,7 +174,8 @@ fn append_singles<F: Family, D: Digest>(
         ≡ singly digest (filter (stands side) (take most (located_from first (forest_of F.merge_rule leaves)))) ++ rest
         → IfOk result (λ next. (drop next (map D.encoding digests.now) ≡ rest)
         × (encoded D.encoding found.new.items ≡ encoded D.encoding found.old.items
-        ++ node_digests digest (filter (stands side) (take most (located_from first (forest_of F.merge_rule leaves)))))) }
+        ++ node_digests digest
+        (filter (stands side) (take most (located_from first (forest_of F.merge_rule leaves)))))) }
 {
     if first >= leaves {
         return Ok(index);
@@ -189,9 +192,9 @@ fn append_singles<F: Family, D: Digest>(
     append_singles(found, leaves, next, most - 1, side, digests, later)
 }
 
-/// The nodes that a proof of a range tells, each with its digest, in ascending position: the peaks that it gives singly,
-/// and in the peaks that meet the range each node that it gives or that is made of others (own). It fails only when out of
-/// memory.
+/// The nodes that a proof of a range tells, each with its digest, in ascending position: the peaks that it gives
+/// singly, and in the peaks that meet the range each node that it gives or that is made of others (own). It fails only
+/// when out of memory.
 pub fn extract<F: Family, H: Hasher<F>>(
     alloc: Global,
     reader: &Reader<'_, F, H>,

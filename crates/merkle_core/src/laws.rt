@@ -1,6 +1,7 @@
 //! What holds of all proofs.
 
-ghost use Rattle.std.specs.Prelude.{◌≡◌, ◌<◌, ◌≤◌, ◌+◌, ◌-◌, ◌*◌, ◌^◌, ◌++◌, ◌∷◌, ℕ, min, List, map, length, take, drop, replicate, Contains, Some, None, true, IfSome, IsSomeAnd, option_map};
+ghost use Rattle.std.specs.Prelude.{◌≡◌, ◌<◌, ◌≤◌, ◌+◌, ◌-◌, ◌*◌, ◌^◌, ◌++◌, ◌∷◌, ℕ, min, List, map, length, take};
+ghost use Rattle.std.specs.Prelude.{drop, replicate, Contains, Some, None, true, IfSome, IsSomeAnd, option_map};
 ghost use Rattle.std.specs.List.{All};
 ghost use Rattle.merkle_forest.specs.declared.bagging.Bagging.{Bagging};
 ghost use Rattle.merkle_forest.specs.Forest.{forest_of, mmr_rule, mmb_rule};
@@ -8,7 +9,8 @@ ghost use Rattle.merkle_forest.specs.Hashing.{Hash, leaf_string, node_string, ro
 ghost use Rattle.merkle_forest.specs.Made.{value, strings};
 ghost use Rattle.merkle_forest.specs.Trees.{located, peak_digests, plain_digest, tree_root};
 ghost use Rattle.merkle_core_parts.specs.Layers.{AreLed};
-ghost use Rattle.merkle_core_parts.specs.Mem.{Nodes, Growth, node_at, own_layer, NodeHash, AreNodesOf, tree_digest, plain_node, plain_leaf_digests, pinned_positions};
+ghost use Rattle.merkle_core_parts.specs.Mem.{Nodes, Growth, node_at, own_layer, NodeHash, AreNodesOf, tree_digest};
+ghost use Rattle.merkle_core_parts.specs.Mem.{plain_node, plain_leaf_digests, pinned_positions};
 ghost use Rattle.merkle_core_parts.specs.declared.error.Error.{Error};
 ghost use Rattle.merkle_core_parts.specs.declared.error.Error.TheVariants.{Memory};
 ghost use Rattle.merkle_core.specs.Extracted.{AreMadeOf, AreGiven, AreExtracted, extracted_nodes};
@@ -22,12 +24,16 @@ ghost use Rattle.merkle_core.specs.MultiSoundness.{AreHonestOrCollide, AreSound,
 ghost use Rattle.merkle_core.specs.OneEach.{OneEach};
 ghost use Rattle.merkle_core.specs.Pinned.{AreMadeBefore, ArePinned};
 ghost use Rattle.merkle_core.specs.PinnedSoundness.{ArePinnedBeside, PinsListOrCollides};
-ghost use Rattle.merkle_core.specs.Plans.{Lookup, IsLookupOf, made_by, honest_digests, first_missing, positions_of, inner_nodes, range_nodes};
-ghost use Rattle.merkle_core.specs.ProofStores.{Kept, AreFoldsOf, IsPart, IsRefusalToBuildPart, digest_among, known_with, IsKnownOf, front_peaks, back_peaks, more_before, more_after, part_nodes, kept_nodes};
+ghost use Rattle.merkle_core.specs.Plans.{Lookup, IsLookupOf, made_by, honest_digests, first_missing, positions_of};
+ghost use Rattle.merkle_core.specs.Plans.{inner_nodes, range_nodes};
+ghost use Rattle.merkle_core.specs.ProofStores.{Kept, AreFoldsOf, IsPart, IsRefusalToBuildPart, digest_among};
+ghost use Rattle.merkle_core.specs.ProofStores.{known_with, IsKnownOf, front_peaks, back_peaks, more_before};
+ghost use Rattle.merkle_core.specs.ProofStores.{more_after, part_nodes, kept_nodes};
 ghost use Rattle.merkle_core.specs.RangeCounts.{range_outer};
 ghost use Rattle.merkle_core.specs.Ranges.{Digests, range_digests};
 ghost use Rattle.merkle_core.specs.Reads.{Agrees, HashesAs, range_root, claim_of};
-ghost use Rattle.merkle_core.specs.Soundness.{RangeClaim, claimed_root, hashed_strings, IsSound, list_root, plain_names};
+ghost use Rattle.merkle_core.specs.Soundness.{RangeClaim, claimed_root, hashed_strings, IsSound, list_root};
+ghost use Rattle.merkle_core.specs.Soundness.{plain_names};
 
 use merkle_forest::Digest;
 use merkle_forest::family::{Family, MAX_LEAVES, MAX_PINNED_NODES};
@@ -80,8 +86,8 @@ pub fn plain_hashers_hash_as_is_made<F: Family, H: HashFunction>()
         (λ position left right. H.hash_of (node_string position left right)) plain_over }
 {}
 
-/// Where a proof of a range, as the verifiers read it, leads to the root of a list, these elements stand in the list from
-/// that location on, or the strings hashed for the list and those rebuilt from the proof have a collision.
+/// Where a proof of a range, as the verifiers read it, leads to the root of a list, these elements stand in the list
+/// from that location on, or the strings hashed for the list and those rebuilt from the proof have a collision.
 pub fn shown_ranges_are_true_or_strings_collide<F: Family>()
     ensures { (hash : Hash) (size : ℕ) (bagging : Bagging) (elements : List (List ℕ)) (inactive : ℕ)
         (leaves shown_inactive start : ℕ) (shown digests : List (List ℕ))
@@ -131,8 +137,8 @@ pub fn pinned_digests_are_of_the_list_or_strings_collide<F: Family>()
         (PinsListOrCollides hash (replicate size 0) bagging F.merge_rule elements inactive claim pinned) }
 {}
 
-/// The digests of the honest proof of a range lead to the root of the tree, for all digests of trees that are made over the
-/// elements of the range.
+/// The digests of the honest proof of a range lead to the root of the tree, for all digests of trees that are made over
+/// the elements of the range.
 pub fn honest_ranges_lead_to_the_root<F: Family>()
     ensures { (hash : Hash) (names : Naming) (over : Over) (bagging : Bagging) (digest : Digests)
         (leaves inactive start : ℕ) (elements : List (List ℕ))
@@ -203,14 +209,16 @@ pub fn built_proofs_lead_to_the_root<F: Family>()
     ensures { (hash : Hash) (bagging : Bagging) (elements : List (List ℕ)) (inactive start stop : ℕ)
         → length elements ≤ 2 ^ 62 → start < stop → stop ≤ length elements
         → inactive ≤ length (peaks_of F.merge_rule (length elements))
-        → option_map (value hash) (range_root plain_names plain_over bagging F.merge_rule (length elements) inactive start
+        → option_map (value hash) (range_root plain_names plain_over bagging F.merge_rule
+        (length elements) inactive start
         (take (stop - start) (drop start elements))
         (honest_digests hash (tree_digest (plain_node hash) (plain_leaf_digests hash F.merge_rule 0 elements)) bagging
         F.merge_rule (length elements) inactive start stop))
         ≡ Some (tree_root hash bagging F.merge_rule elements inactive) }
 {}
 
-/// The digests of the proof of some elements are those of the list, where what is known of the nodes is that of the list.
+/// The digests of the proof of some elements are those of the list, where what is known of the nodes is that of the
+/// list.
 pub fn digests_of_many_are_those_of_the_list<F: Family>()
     ensures { (node : NodeHash) (leaf_digests : List (List ℕ)) (known : Lookup) (positions : List ℕ)
         (digests : List (List ℕ)) → IsLookupOf node F.merge_rule leaf_digests known
@@ -255,8 +263,8 @@ pub fn built_proofs_of_elements_lead_to_the_root<F: Family>()
         (shown_of elements locations) digests) ≡ Some (tree_root hash bagging F.merge_rule elements inactive) }
 {}
 
-/// The honest proof of a range gives the digests of the nodes that it tells, and those of a list are made of any part of
-/// it: so what is extracted from the honest proof of a range of a list are that list's nodes.
+/// The honest proof of a range gives the digests of the nodes that it tells, and those of a list are made of any part
+/// of it: so what is extracted from the honest proof of a range of a list are that list's nodes.
 pub fn honest_proofs_tell_the_nodes_of_the_list<F: Family>()
     ensures given { (hash : Hash) (bagging : Bagging) (digest : Digests) (leaves inactive start stop : ℕ) → start < stop
         → let peaks = peaks_of F.merge_rule leaves in

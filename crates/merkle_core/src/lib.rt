@@ -1,5 +1,5 @@
-//! Trees in memory and Merkle proofs of the forest. The crate ports a part of `merkle` of commonware-storage 2026.10.0; `In the Rust` names
-//! what an item is there.
+//! Trees in memory and Merkle proofs of the forest. The crate ports a part of `merkle` of commonware-storage 2026.10.0;
+//! `In the Rust` names what an item is there.
 #![tactic(auto)]
 
 pub mod building;

@@ -1,6 +1,7 @@
 //! What stands before a range, made of the digests that are pinned there.
 
-ghost use Rattle.std.specs.Prelude.{◌≡◌, ◌<◌, ◌≤◌, ◌+◌, ◌^◌, ◌++◌, ◌↔◌, ℕ, List, map, filter, take, drop, length, replicate, IfOk, OnOk, IsTrue, option_map};
+ghost use Rattle.std.specs.Prelude.{◌≡◌, ◌<◌, ◌≤◌, ◌+◌, ◌^◌, ◌++◌, ◌↔◌, ℕ, List, map, filter, take, drop, length};
+ghost use Rattle.std.specs.Prelude.{replicate, IfOk, OnOk, IsTrue, option_map};
 ghost use Rattle.merkle_forest.specs.Forest.{Tree, forest_of};
 ghost use Rattle.merkle_forest.specs.Nodes.{HasPeak};
 ghost use Rattle.merkle_forest.specs.Peaks.{located_from};
@@ -35,7 +36,8 @@ pub struct Pins<'a, F: Family, H: Hasher<F>> {
     pub family: PhantomData<F>,
 }
 
-// The digest that is pinned at a position, of those of the peaks of so many leaves from the one on that begins at `first`.
+// The digest that is pinned at a position, of those of the peaks of so many leaves from the one on that begins at
+// `first`.
 fn digest_at_peak<F: Family, D: Digest>(
     leaves: u64,
     first: u64,
@@ -64,7 +66,8 @@ fn digest_before<F: Family, H: Hasher<F>>(pins: &Pins<'_, F, H>, subtree: Subtre
     requires few { pins.now.start ≤ MAX_LEAVES }
     ensures { (node : Tree) → IsTreeAt F.merge_rule subtree.first subtree.position subtree.height node
         → H.Digest.encoding result ≡ pinned_digest (H.node_of pins.now.hasher.now) (replicate H.Digest.SIZE 0)
-        (at_peak (peaks_of F.merge_rule pins.now.start) (map H.Digest.encoding pins.now.digests.now)) subtree.first node }
+        (at_peak (peaks_of F.merge_rule pins.now.start)
+        (map H.Digest.encoding pins.now.digests.now)) subtree.first node }
 {
     if let Some(pinned) = digest_at_peak::<F, H::Digest>(
         pins.start,
@@ -115,7 +118,8 @@ fn append_peaks_before<F: Family, H: Hasher<F>>(
     append_peaks_before(found, pins, leaves, next, most - 1)
 }
 
-// Appends the digests of the maximal nodes of the tree at the subtree that hold no leaf of the range and stand before it.
+// Appends the digests of the maximal nodes of the tree at the subtree that hold no leaf of the range and stand before
+// it.
 fn append_nodes_before<F: Family, H: Hasher<F>>(
     found: &mut Vec<H::Digest>,
     pins: &Pins<'_, F, H>,
@@ -159,7 +163,8 @@ fn append_inner_before<F: Family, H: Hasher<F>>(
     requires begins { first < leaves → HasPeak (forest_of F.merge_rule leaves) first }
     ensures { OnOk result (map H.Digest.encoding found.new.items ≡ map H.Digest.encoding found.old.items
         ++ inner_before (pinned_digest (H.node_of pins.now.hasher.now) (replicate H.Digest.SIZE 0)
-        (at_peak (peaks_of F.merge_rule pins.now.start) (map H.Digest.encoding pins.now.digests.now))) pins.now.start stop
+        (at_peak (peaks_of F.merge_rule pins.now.start) (map H.Digest.encoding pins.now.digests.now))) pins.now.start
+        stop
         (located_from first (forest_of F.merge_rule leaves))) }
 {
     if first >= leaves {

@@ -1,6 +1,7 @@
 //! Merkle proofs and how they are written and read.
 
-ghost use Rattle.std.specs.Prelude.{◌≡◌, ◌<◌, ◌≤◌, ◌+◌, ◌^◌, ◌++◌, ◌↔◌, [], ◌∷◌, ℕ, List, map, length, option_map, Some, IsSome, IfSome, IsTrue, Ok, IfOk, IfErr, OnOk, OnErr, replicate};
+ghost use Rattle.std.specs.Prelude.{◌≡◌, ◌<◌, ◌≤◌, ◌+◌, ◌^◌, ◌++◌, ◌↔◌, [], ◌∷◌, ℕ, List, map, length, option_map};
+ghost use Rattle.std.specs.Prelude.{Some, IsSome, IfSome, IsTrue, Ok, IfOk, IfErr, OnOk, OnErr, replicate};
 ghost use Rattle.std.specs.List.{All};
 ghost use Rattle.std.specs.Result.{result_ok};
 ghost use Rattle.merkle_forest.specs.Forest.{forest_of};
@@ -123,11 +124,11 @@ impl<F: Family, D: Digest> Proof<F, D> {
         inactive_count::<F>(self.leaves.as_u64(), floor.as_u64()) as u64 == self.inactive_peaks
     }
 
-    /// The root of the tree, rebuilt from the proof of the elements that stand in it from a location on. Where no element is
-    /// shown: `MissingElements`; the tree is too large: `InvalidSize`; the range begins past its leaves: `InvalidStartLoc`,
-    /// or ends past them: `InvalidEndLoc`; the tree has fewer peaks than are inactive: `InvalidProof`; there are fewer
-    /// digests than the proof of the range has: `MissingDigests`, or more: `ExtraDigests`, each in this order. It takes no
-    /// memory.
+    /// The root of the tree, rebuilt from the proof of the elements that stand in it from a location on. Where no
+    /// element is shown: `MissingElements`; the tree is too large: `InvalidSize`; the range begins past its leaves:
+    /// `InvalidStartLoc`, or ends past them: `InvalidEndLoc`; the tree has fewer peaks than are inactive:
+    /// `InvalidProof`; there are fewer digests than the proof of the range has: `MissingDigests`, or more:
+    /// `ExtraDigests`, each in this order. It takes no memory.
     /// In the Rust: `merkle::proof::Proof::reconstruct_root`.
     pub fn reconstruct_root<H: Hasher<F, Digest = D>>(
         &self,
@@ -200,10 +201,10 @@ impl<F: Family, D: Digest> Proof<F, D> {
         self.verify_range_inclusion(hasher, &[element], location, root)
     }
 
-    /// The nodes that the proof tells, each with its digest, in ascending position, where it shows that these elements stand
-    /// in the tree of this root, from a location on: the peaks that it gives singly, and in the peaks that meet the range
-    /// each node that it gives or that is made of others. Where the proof leads to no root: M15; to another one: M17; out of
-    /// memory: M23.
+    /// The nodes that the proof tells, each with its digest, in ascending position, where it shows that these elements
+    /// stand in the tree of this root, from a location on: the peaks that it gives singly, and in the peaks that meet
+    /// the range each node that it gives or that is made of others. Where the proof leads to no root: M15; to another
+    /// one: M17; out of memory: M23.
     /// In the Rust: `merkle::proof::Proof::verify_range_inclusion_and_extract_digests`, which takes no allocator.
     pub fn verify_range_inclusion_and_extract_digests<H: Hasher<F, Digest = D>>(
         &self,
@@ -304,9 +305,9 @@ impl<F: Family, D: Digest> Proof<F, D> {
         )
     }
 
-    /// Whether the proof shows that these elements, each with its location, stand in the tree of this root. It fails only
-    /// when out of memory. Without elements it shows the tree without leaves. Where the locations do not ascend strictly,
-    /// or no leaf stands at one, it does not.
+    /// Whether the proof shows that these elements, each with its location, stand in the tree of this root. It fails
+    /// only when out of memory. Without elements it shows the tree without leaves. Where the locations do not ascend
+    /// strictly, or no leaf stands at one, it does not.
     /// In the Rust: `merkle::proof::Proof::verify_multi_inclusion`, which takes no allocator.
     pub fn verify_multi_inclusion<H: Hasher<F, Digest = D>>(
         &self,

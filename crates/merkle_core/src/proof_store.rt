@@ -1,13 +1,15 @@
 //! What is kept of a verified proof of a range: proofs of elements are built out of it.
 
-ghost use Rattle.std.specs.Prelude.{◌≡◌, ◌<◌, ◌≤◌, ◌+◌, ◌^◌, ◌↔◌, ℕ, List, Some, None, true, map, length, take, drop, min, option_map, Contains, IfOk, IfErr, OnOk};
+ghost use Rattle.std.specs.Prelude.{◌≡◌, ◌<◌, ◌≤◌, ◌+◌, ◌^◌, ◌↔◌, ℕ, List, Some, None, true, map, length, take, drop};
+ghost use Rattle.std.specs.Prelude.{min, option_map, Contains, IfOk, IfErr, OnOk};
 ghost use Rattle.merkle_forest.specs.Made.{value};
 ghost use Rattle.merkle_core.specs.Extracted.{AreMadeOf, AreGiven, AreExtracted, extracted_nodes, IsRefusalToExtract};
 ghost use Rattle.merkle_core.specs.MadeRoots.{Naming, from_left, peaks_of};
 ghost use Rattle.merkle_core.specs.MadeTrees.{Over, from};
 ghost use Rattle.merkle_core.specs.Multi.{AreMultiDigests, first_bad, IsRefusalToProveMany};
 ghost use Rattle.merkle_core.specs.Plans.{Lookup, honest_digests};
-ghost use Rattle.merkle_core.specs.ProofStores.{Kept, AreFoldsOf, digest_among, known_with, IsKnownOf, suffix_positions, IsMissedApart, IsRefusalToBuildOf};
+ghost use Rattle.merkle_core.specs.ProofStores.{Kept, AreFoldsOf, digest_among, known_with, IsKnownOf};
+ghost use Rattle.merkle_core.specs.ProofStores.{suffix_positions, IsMissedApart, IsRefusalToBuildOf};
 ghost use Rattle.merkle_core.specs.RangeCounts.{passing};
 ghost use Rattle.merkle_core.specs.Ranges.{Digests, is_before, is_after};
 ghost use Rattle.merkle_core.specs.Reads.{HashesAs, range_root};
@@ -60,9 +62,9 @@ impl<F: Family> fmt::Display for StoreError<F> {
 
 impl<F: Family> std::error::Error for StoreError<F> {}
 
-/// What is kept of a verified proof of a range: the nodes that it tells. Contracts see how many leaves the tree has, how
-/// many peaks are inactive and how many are folded singly, the range, the nodes, and the digests that stand for several
-/// peaks: one before the range and one after it, where there are such peaks.
+/// What is kept of a verified proof of a range: the nodes that it tells. Contracts see how many leaves the tree has,
+/// how many peaks are inactive and how many are folded singly, the range, the nodes, and the digests that stand for
+/// several peaks: one before the range and one after it, where there are such peaks.
 /// In the Rust: `merkle::verification::ProofStore`.
 #[derive(Debug, Drop)]
 pub struct ProofStore<F: Family, D: Digest> {
@@ -113,8 +115,8 @@ fn is_among<F: Family>(positions: &[Position<F>], position: Position<F>) -> bool
     positions.contains(&position)
 }
 
-// Of the digests of a proof those that stand for several peaks: for those before the range that are folded from the left,
-// and for those after it that are folded from the right.
+// Of the digests of a proof those that stand for several peaks: for those before the range that are folded from the
+// left, and for those after it that are folded from the right.
 fn folds_of<F: Family, D: Digest>(
     alloc: Global,
     leaves: u64,
@@ -222,8 +224,8 @@ impl<F: Family, D: Digest> ProofStore<F, D> {
     }
 
     /// The positions, from left to right, of the peaks after the range that stand in the proof as one digest: by
-    /// BackwardFold the active ones. A proof of elements needs those of them supplied that hold none. It fails only when
-    /// out of memory.
+    /// BackwardFold the active ones. A proof of elements needs those of them supplied that hold none. It fails only
+    /// when out of memory.
     /// In the Rust: `merkle::verification::ProofStore::suffix_peak_positions`.
     pub fn suffix_peak_positions(&self, alloc: Global) -> Result<Vec<Position<F>>, AllocError>
         ensures { IfOk result (λ found. found.items ≡ suffix_positions F.merge_rule self.now) }
@@ -253,12 +255,12 @@ impl<F: Family, D: Digest> ProofStore<F, D> {
         StoreError::Refused(error)
     }
 
-    /// The proof of the elements at these locations, out of the nodes that are kept and of peaks that are supplied, each
-    /// with its position: the digests of the nodes at the positions of `multi_proof_positions`, in their order. Where
-    /// there is no location: M4; else the first one that is refused: M8 where it comes again, M9 where it is less than the
-    /// one before it, M7 where no leaf stands there, with that location; where there are fewer peaks than inactive ones:
-    /// M16; where a node that the proof is made of is neither kept nor supplied: M11 with the first such position where it
-    /// is one of `suffix_peak_positions`, else M10, each in this order; out of memory: M23.
+    /// The proof of the elements at these locations, out of the nodes that are kept and of peaks that are supplied,
+    /// each with its position: the digests of the nodes at the positions of `multi_proof_positions`, in their order.
+    /// Where there is no location: M4; else the first one that is refused: M8 where it comes again, M9 where it is less
+    /// than the one before it, M7 where no leaf stands there, with that location; where there are fewer peaks than
+    /// inactive ones: M16; where a node that the proof is made of is neither kept nor supplied: M11 with the first such
+    /// position where it is one of `suffix_peak_positions`, else M10, each in this order; out of memory: M23.
     /// In the Rust: `merkle::verification::ProofStore::multi_proof`, which takes no allocator.
     pub fn multi_proof(
         &self,

@@ -66,8 +66,8 @@ impl<F: Family, D: Digest> Readable<F> for Mem<F, D> {
     }
 }
 
-/// The tree with a batch, of which only the nodes are there that the batch makes, or one below it: those that are added,
-/// and those that change.
+/// The tree with a batch, of which only the nodes are there that the batch makes, or one below it: those that are
+/// added, and those that change.
 impl<F: Family, D: Digest> Readable<F> for MerkleizedBatch<F, D> {
     type Digest = D;
 

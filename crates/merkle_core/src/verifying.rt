@@ -1,6 +1,7 @@
 //! Roots rebuilt from a proof of a range of elements.
 
-ghost use Rattle.std.specs.Prelude.{◌≡◌, ◌<◌, ◌≤◌, ◌+◌, ◌^◌, ◌↔◌, [], ℕ, IsTrue, map, length, take, drop, option_map, IfErr, OnOk};
+ghost use Rattle.std.specs.Prelude.{◌≡◌, ◌<◌, ◌≤◌, ◌+◌, ◌^◌, ◌↔◌, [], ℕ, IsTrue, map, length, take, drop, option_map};
+ghost use Rattle.std.specs.Prelude.{IfErr, OnOk};
 ghost use Rattle.std.specs.Result.{result_ok};
 ghost use Rattle.merkle_forest.specs.declared.bagging.Bagging.{Bagging};
 ghost use Rattle.merkle_forest.specs.Made.{value};
@@ -107,10 +108,11 @@ fn root_over<F: Family, H: Hasher<F>>(
     Ok(root_over_item(reader.hasher, reader.leaves, inactive, &bag.0))
 }
 
-/// The root of the tree, rebuilt from the proof of the elements that stand in it from a location on. Where no element is
-/// shown: `MissingElements`; the tree is too large: `InvalidSize`; the range begins past its leaves: `InvalidStartLoc`, or
-/// ends past them: `InvalidEndLoc`; the tree has fewer peaks than are inactive: `InvalidProof`; there are fewer digests
-/// than the proof of the range has: `MissingDigests`, or more: `ExtraDigests`, each in this order. It takes no memory.
+/// The root of the tree, rebuilt from the proof of the elements that stand in it from a location on. Where no element
+/// is shown: `MissingElements`; the tree is too large: `InvalidSize`; the range begins past its leaves:
+/// `InvalidStartLoc`, or ends past them: `InvalidEndLoc`; the tree has fewer peaks than are inactive: `InvalidProof`;
+/// there are fewer digests than the proof of the range has: `MissingDigests`, or more: `ExtraDigests`, each in this
+/// order. It takes no memory.
 /// In the Rust: `merkle::proof::Proof::reconstruct_root`, which is here too.
 pub fn reconstruct_range<F: Family, H: Hasher<F>>(
     hasher: &H,
@@ -122,7 +124,8 @@ pub fn reconstruct_range<F: Family, H: Hasher<F>>(
         → HashesAs F.merge_rule H.hash_of (H.leaf_of hasher.now) (H.node_of hasher.now) over
         → option_map H.Digest.encoding (result_ok result)
         ≡ option_map (value H.hash_of) (range_root names over (H.bagging_of hasher.now) F.merge_rule proof.now.leaves
-        proof.now.inactive_peaks start (map (λ e. e.now) elements.now) (map H.Digest.encoding proof.now.digests.items)) }
+        proof.now.inactive_peaks start (map (λ e. e.now) elements.now)
+        (map H.Digest.encoding proof.now.digests.items)) }
     ensures within { OnOk result (HasRange (record {
       leaves = proof.now.leaves;
       inactive = proof.now.inactive_peaks;

@@ -36,8 +36,8 @@ other_slot Second = First
 
 -- The content ends within a page, or is to be cut there: of a file of pages that many bytes of this one are content,
 -- which this slot vouches for, perhaps with more, and this is their checksum.
-pub record IsLastPage (sum : List ℕ
-    → ℕ) (size : ℕ) (live : List ℕ) (page : ℕ) (counted : Slot) (len crc : ℕ) : Type 0 where
+pub record IsLastPage
+    (sum : List ℕ → ℕ) (size : ℕ) (live : List ℕ) (page : ℕ) (counted : Slot) (len crc : ℕ) : Type 0 where
   pub some : 0 < len
   pub part : len < content_size size
   pub there : (page + 1) * size ≤ length live
@@ -47,8 +47,8 @@ pub record IsLastPage (sum : List ℕ
   pub sums : crc ≡ sum (take len (page_at size page live))
 
 -- all was durable, and since then the file was cut behind that page
-pub record IsTrimmed (sum : List ℕ
-    → ℕ) (size : ℕ) (calls : List Call) (page : ℕ) (counted : Slot) (len crc : ℕ) : Type 0 where
+pub record IsTrimmed
+    (sum : List ℕ → ℕ) (size : ℕ) (calls : List Call) (page : ℕ) (counted : Slot) (len crc : ℕ) : Type 0 where
   pub sound : IsFalse (file_of calls).failed
   pub trimmed : (file_of calls).changes ≡ resize ((page + 1) * size) ∷ []
   pub last : IsLastPage sum size (file_of calls).base page counted len crc

@@ -26,8 +26,8 @@ abbrev pub listed : (List ℕ → ℕ) → List Call → FlushedPages → List �
 listed sum calls pages tail = on_blob sum calls pages ++ tail
 
 -- these pages and this end in memory are the list, and the pages stand
-pub record IsSealed (sum : List ℕ
-    → ℕ) (calls : List Call) (list : List ℕ) (pages : FlushedPages) (tail : List ℕ) : Type 0 where
+pub record IsSealed
+    (sum : List ℕ → ℕ) (calls : List Call) (list : List ℕ) (pages : FlushedPages) (tail : List ℕ) : Type 0 where
   pub stand : Stand sum calls pages
   pub is : listed sum calls pages tail ≡ list
 

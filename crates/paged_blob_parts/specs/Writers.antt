@@ -100,8 +100,8 @@ pages_begun (Some slot) = 1
 
 -- A writer of this content, of which so many first bytes are durable and those from the tip's offset on are in memory;
 -- what of the tip's first page is on the disk is durable by a slot.
-pub record IsWriterOf (sum : List ℕ
-    → ℕ) (size : ℕ) (calls : List Call) (content : List ℕ) (synced : ℕ) (tip : Tip)
+pub record IsWriterOf
+    (sum : List ℕ → ℕ) (size : ℕ) (calls : List Call) (content : List ℕ) (synced : ℕ) (tip : Tip)
     (slot : Option DurableSlot) : Type 0 where
   -- no call has failed since what is durable was
   pub sound : IsFalse (file_of calls).failed
@@ -154,8 +154,9 @@ EndsBy sum size file len pages (Some slot) =
     (len ≡ pages * content_size size + slot.len) × StandsIn sum size file pages slot
 
 -- All of the content is on the disk, in so many whole pages and what a slot vouches for: a sync makes it durable.
-pub record IsFlushed (sum : List ℕ
-    → ℕ) (size : ℕ) (calls : List Call) (content : List ℕ) (synced pages : ℕ) (slot : Option DurableSlot) : Type 0 where
+pub record IsFlushed
+    (sum : List ℕ → ℕ) (size : ℕ) (calls : List Call) (content : List ℕ) (synced pages : ℕ)
+    (slot : Option DurableSlot) : Type 0 where
   pub sound : IsFalse (file_of calls).failed
   pub kept : IsKeptIn sum size content synced (file_of calls)
   pub shown : AreShown sum size (length content) (whole (file_of calls).base (file_of calls).changes)
@@ -163,8 +164,8 @@ pub record IsFlushed (sum : List ℕ
   pub ends : length (whole (file_of calls).base (file_of calls).changes) ≡ (pages + pages_begun slot) * size
 
 -- What is recovered of an image keeps the durable bytes of the content, and is a beginning of it unless by chance.
-pub record Recovers (sum : List ℕ
-    → ℕ) (size : ℕ) (content : List ℕ) (synced : ℕ) (file : File) (image : List ℕ) : Type 0 where
+pub record Recovers
+    (sum : List ℕ → ℕ) (size : ℕ) (content : List ℕ) (synced : ℕ) (file : File) (image : List ℕ) : Type 0 where
   pub keeps : take synced (recovered sum size image) ≡ take synced content
   pub prefix : IsFalse (is_by_chance sum size file image)
       → (len : ℕ) × (synced ≤ len) × (len ≤ length content) × (recovered sum size image ≡ take len content)

@@ -120,8 +120,8 @@ not_itself : (k : List ℕ) → IsBelow k k → ⊥
 not_itself k one = subst (λ o. T (is_lt o)) (tied_itself nat_list_cmp_total k) one
 
 -- A key that a state has is not in the span of another one that it has.
-module _ (state : Map) (key asked value : List ℕ) (sorted : IsState state) (there : value_at state asked
-    ≡ Some value) where
+module _ (state : Map) (key asked value : List ℕ) (sorted : IsState state)
+    (there : value_at state asked ≡ Some value) where
   -- where none is above the key, the next key is the first of all, and no key stands before it
   before_first : IsBelow asked (first_key state) → ⊥
   before_first under = of state refl

@@ -23,8 +23,8 @@ use Rattle.auth_store_index.specs.Laws.Near.{next_told, next_round_told}
 use Rattle.auth_store_index.specs.Laws.Told.{near_told, near_tell}
 
 -- ---- a walk over entries for the first that stays
-pub stays_first : {K X : Type 0} (key : K → List ℕ) (value : X
-    → List ℕ) (gone : Map) (left rest : List (K × X)) (k : K) (x : X)
+pub stays_first : {K X : Type 0} (key : K → List ℕ)
+    (value : X → List ℕ) (gone : Map) (left rest : List (K × X)) (k : K) (x : X)
     (whole : Option (List ℕ)) → left ≡ (k, x) ∷ rest → false ≡ is_some (value_at gone (key k))
     → first_of (staying gone (state_of key value left)) ≡ whole → Some (key k) ≡ whole
 stays_first key value gone left rest k x whole steps stays here =
@@ -32,8 +32,8 @@ stays_first key value gone left rest k x whole steps stays here =
     ∷ staying gone (state_of key value rest)) (staying gone (state_of key value rest)))) stays
     ∙ (ap (λ l. first_of (staying gone (state_of key value l))) (sym steps) ∙ here)
 
-pub goes_first : {K X : Type 0} (key : K → List ℕ) (value : X
-    → List ℕ) (gone : Map) (left rest : List (K × X)) (k : K) (x : X)
+pub goes_first : {K X : Type 0} (key : K → List ℕ)
+    (value : X → List ℕ) (gone : Map) (left rest : List (K × X)) (k : K) (x : X)
     (whole : Option (List ℕ)) → left ≡ (k, x) ∷ rest → true ≡ is_some (value_at gone (key k))
     → first_of (staying gone (state_of key value left)) ≡ whole
     → first_of (staying gone (state_of key value rest)) ≡ whole
@@ -167,8 +167,8 @@ kept_some old gone near next k v none nor there is =
     ∙ ap (λ b. cond (b || is_some (value_at near k)) near (with_found near k (value_at old k))) none))
 
 -- ---- words are passed
-pub gone_passed : {W : Type 0} (says : W
-    → Word) (old puts : Map) (items : List W) (at : ℕ) (word : W) (before after whole : Map)
+pub gone_passed : {W : Type 0}
+    (says : W → Word) (old puts : Map) (items : List W) (at : ℕ) (word : W) (before after whole : Map)
     → at < length items → word ≡ get_or items at word → after ≡ with_gone old puts before (key_of (says word))
     → gone_after old puts before (map says (drop at items)) ≡ whole
     → gone_after old puts after (map says (drop (at + 1) items)) ≡ whole
@@ -182,8 +182,8 @@ pub gone_ended : {W : Type 0} (says : W → Word) (old puts : Map) (items : List
 gone_ended says old puts items at after whole past here =
     sym (at_drop_all (λ ws. gone_after old puts after (map says ws)) items at past) ∙ here
 
-pub near_passed : {W : Type 0} (says : W
-    → Word) (old gone : Map) (items : List W) (at : ℕ) (word : W) (before after whole : Map)
+pub near_passed : {W : Type 0}
+    (says : W → Word) (old gone : Map) (items : List W) (at : ℕ) (word : W) (before after whole : Map)
     → at < length items → word ≡ get_or items at word
     → after ≡ with_kept old gone before (prev_key old (key_of (says word)))
     → near_after old gone before (map says (drop at items)) ≡ whole
@@ -199,8 +199,8 @@ near_ended says old gone items at after whole past here =
     sym (at_drop_all (λ ws. near_after old gone after (map says ws)) items at past) ∙ here
 
 -- ---- a delete for each key that goes
-pub goes_passed : {K X : Type 0} (key : K → List ℕ) (value : X
-    → List ℕ) (before after all : List Operation) (k l : K) (x : X)
+pub goes_passed : {K X : Type 0} (key : K → List ℕ)
+    (value : X → List ℕ) (before after all : List Operation) (k l : K) (x : X)
     (left rest : List (K × X)) → after ≡ before ++ delete (key l) ∷ [] → key l ≡ key k → left ≡ (k, x) ∷ rest
     → before ++ map (λ e. delete e.0) (state_of key value left) ≡ all
     → after ++ map (λ e. delete e.0) (state_of key value rest) ≡ all
@@ -231,8 +231,8 @@ less_of o Equal is t = absurd t
 less_of o Greater is t = absurd t
 
 -- one entry more is passed, whose next key is told by the one behind it
-pub near_updated : (old gone near new passed : Map) (e f : List ℕ
-    × List ℕ) (rest : Map) (before after said : List Operation)
+pub near_updated : (old gone near new passed : Map)
+    (e f : List ℕ × List ℕ) (rest : Map) (before after said : List Operation)
     (next : List ℕ) → IsTold old gone near new → passed ++ e ∷ f ∷ rest ≡ near → next ≡ next_near old gone e.0 f.0
     → after ≡ before ++ update_to old e.0 e.1 next
     → before ++ updates (e ∷ f ∷ rest) old new ≡ said → after ++ updates (f ∷ rest) old new ≡ said

@@ -91,8 +91,8 @@ words_passed says items at after whole past here =
     sym (at_drop_all (λ ws. map_after (map says ws) after) items at past) ∙ here
 
 -- a delete for each entry
-pub delete_passed : {K : Type 0} (key : K
-    → List ℕ) (log : List Operation) (new : Map) (before after all : List Operation)
+pub delete_passed : {K : Type 0}
+    (key : K → List ℕ) (log : List Operation) (new : Map) (before after all : List Operation)
     (k : K) (place : ℕ) (left rest : List (K × ℕ))
     → after ≡ before ++ delete_of new (key k) → left ≡ (k, place) ∷ rest
     → before ++ deletes (state_of key (value_there log) left) new ≡ all

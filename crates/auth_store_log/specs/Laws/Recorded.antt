@@ -118,8 +118,8 @@ module _ (format : Format) where
   recorded_together (operation ∷ one) other ones others = (ones.0, recorded_together one other ones.1 others)
 
 -- an operation of the code, whose keys and values are values, has an encoding
-pub value_is_encoded : {F K V A B C D E G H : Type 0} (key_of : K → List ℕ) (value_of : V
-    → List ℕ) (key value : List ℕ → Outcome) (ks vs : ℕ)
+pub value_is_encoded : {F K V A B C D E G H : Type 0} (key_of : K → List ℕ)
+    (value_of : V → List ℕ) (key value : List ℕ → Outcome) (ks vs : ℕ)
     (Key : K → Type 0) (Value : V → Type 0) → ((k : K) → Key k → IsField key ks (key_of k))
     → ((v : V) → Value v → IsField value vs (value_of v))
     → (operation : Code F K V A B C D E G H)

@@ -1,5 +1,6 @@
 -- A Merkle proof that was encoded is read again, and what is read is within the limits.
-use Rattle.std.proofs.Common.{◌≡◌, ℕ, ◌+◌, ◌^◌, ◌<◌, ◌≤◌, List, [], ◌∷◌, ◌++◌, length, map, Result, Ok, Err, refl, sym, ◌∙◌, ap, append_assoc, arith}
+use Rattle.std.proofs.Common.{◌≡◌, ℕ, ◌+◌, ◌^◌, ◌<◌, ◌≤◌, List, [], ◌∷◌, ◌++◌, length, map, Result, Ok, Err, refl, sym}
+use Rattle.std.proofs.Common.{◌∙◌, ap, append_assoc, arith}
 use Rattle.std.specs.List.{flat_map, All}
 use Rattle.std.specs.Prelude.{OnOk}
 use Rattle.std.proofs.lemmas.List.{length-map, length-append}
@@ -85,8 +86,8 @@ proof_within digest most leaves inactive digests rest new low small countable re
     )
 
 -- so is one of digests of the code
-pub read_parts_again : {D : Type 0} (encoding : D → List ℕ) (digest : List ℕ → Outcome) (is_value : D
-    → Type 0) (size : ℕ)
+pub read_parts_again : {D : Type 0} (encoding : D → List ℕ) (digest : List ℕ → Outcome)
+    (is_value : D → Type 0) (size : ℕ)
     → ((d : D) → is_value d → length (encoding d) ≡ size) → ((bytes : List ℕ) → digest bytes ≡ after_fixed size bytes)
     → (most leaves inactive : ℕ) (digests : List D) (rest : List ℕ) → leaves < 2 ^ 64 → inactive < 2 ^ 64
     → AreItems is_value digests
@@ -111,8 +112,8 @@ length-proof encoding leaves inactive digests =
     )
 
 -- the parts that were read one after the other are the encoding
-pub parts_joined : {D : Type 0} (encoding : D
-    → List ℕ) (leaves inactive : ℕ) (digests : List D) (start second third rest : List ℕ)
+pub parts_joined : {D : Type 0}
+    (encoding : D → List ℕ) (leaves inactive : ℕ) (digests : List D) (start second third rest : List ℕ)
     → start ≡ varint leaves ++ second → second ≡ varint inactive ++ third
     → third ≡ list_encoding encoding digests ++ rest
     → start ≡ proof_encoding leaves inactive (map encoding digests) ++ rest
@@ -120,8 +121,9 @@ parts_joined encoding leaves inactive digests start second third rest first next
     rw (first, next, last, list_encoding-bytes encoding digests) (simp append_assoc)
 
 -- so are the parts that were written one after the other
-pub parts_written : {D T E : Type 0} (encoding : D
-    → List ℕ) (leaves inactive : ℕ) (digests : List D) (old first second new : List ℕ) (result : Result T E)
+pub parts_written : {D T E : Type 0}
+    (encoding : D → List ℕ) (leaves inactive : ℕ) (digests : List D)
+    (old first second new : List ℕ) (result : Result T E)
     → first ≡ old ++ varint leaves → second ≡ first ++ varint inactive
     → OnOk result (new ≡ second ++ list_encoding encoding digests)
     → OnOk result (new ≡ old ++ proof_encoding leaves inactive (map encoding digests))

@@ -7,7 +7,8 @@ use Rattle.merkle_forest.specs.declared.bagging.Bagging.TheVariants.{ForwardFold
 use Rattle.merkle_forest.specs.Forest.{Tree, leaf, branch, leaf_count}
 use Rattle.merkle_forest.specs.Hashing.{Hash, fold_string, folded_onto, folded_forward, folded_backward}
 use Rattle.merkle_forest.specs.Trees.{Located}
-use Rattle.merkle_core.specs.Ranges.{Digests, is_before, is_after, meets, as_one, singly, siblings, before_digests, after_digests, inner_digests, range_digests}
+use Rattle.merkle_core.specs.Ranges.{Digests, is_before, is_after, meets, as_one, singly, siblings, before_digests}
+use Rattle.merkle_core.specs.Ranges.{after_digests, inner_digests, range_digests}
 
 -- all of these have so many bytes
 abbrev pub AreSized : ℕ → List (List ℕ) → Type 0

@@ -15,13 +15,15 @@
 //! do not hold the leaf, from left to right: 2, 4, 13. What lies outside the peak comes first, so that a reader knows
 //! by counts alone where the path begins.
 
-ghost use Rattle.std.specs.Prelude.{◌≡◌, ◌<◌, ◌≤◌, ◌+◌, ◌^◌, ◌++◌, [], ◌∷◌, ℕ, List, map, filter, take, drop, length, IfOk, OnOk, IsTrue, ◌↔◌, true, Bool};
+ghost use Rattle.std.specs.Prelude.{◌≡◌, ◌<◌, ◌≤◌, ◌+◌, ◌^◌, ◌++◌, [], ◌∷◌, ℕ, List, map, filter, take, drop, length};
+ghost use Rattle.std.specs.Prelude.{IfOk, OnOk, IsTrue, ◌↔◌, true, Bool};
 ghost use Rattle.std.specs.List.{AllByRecursion};
 ghost use Rattle.merkle_forest.specs.Forest.{Tree, leaf_count};
 ghost use Rattle.merkle_forest.specs.Shape.{shape};
 ghost use Rattle.merkle_forest.specs.Trees.{Within};
 ghost use Rattle.merkle_forest.specs.TreesCode.{shapes};
-ghost use Rattle.merkle_core.specs.Ranges.{siblings, is_before, is_after, meets, singly, inner_digests, as_one, before_digests, after_digests, range_digests};
+ghost use Rattle.merkle_core.specs.Ranges.{siblings, is_before, is_after, meets, singly, inner_digests, as_one};
+ghost use Rattle.merkle_core.specs.Ranges.{before_digests, after_digests, range_digests};
 ghost use Rattle.merkle_core.specs.RangesCode.{stands};
 ghost use Rattle.merkle_forest.specs.Hashing.{folded_forward, folded_backward};
 

@@ -1,6 +1,7 @@
 //! A root rebuilt from a proof of some elements.
 
-ghost use Rattle.std.specs.Prelude.{◌≡◌, ◌<◌, ◌≤◌, None, false, [], ℕ, List, map, length, IfOk, MatchOption, option_map};
+ghost use Rattle.std.specs.Prelude.{◌≡◌, ◌<◌, ◌≤◌, None, false, [], ℕ, List, map, length, IfOk, MatchOption};
+ghost use Rattle.std.specs.Prelude.{option_map};
 ghost use Rattle.std.specs.List.Sorted.{IsNonDecreasingBy, IsPermutation};
 ghost use Rattle.merkle_forest.specs.Forest.{forest_of};
 ghost use Rattle.merkle_forest.specs.Made.{value};
@@ -9,7 +10,8 @@ ghost use Rattle.merkle_forest.specs.Peaks.{located_from};
 ghost use Rattle.merkle_core.specs.MadeRoots.{Naming};
 ghost use Rattle.merkle_core.specs.MadeTrees.{Over};
 ghost use Rattle.merkle_core.specs.Multi.{IsRefusalOfLocations};
-ghost use Rattle.merkle_core.specs.MultiReads.{Shown, shown_at, shown_from, locations_of, ranked, read_peaks, shown_root};
+ghost use Rattle.merkle_core.specs.MultiReads.{Shown, shown_at, shown_from, locations_of, ranked, read_peaks};
+ghost use Rattle.merkle_core.specs.MultiReads.{shown_root};
 ghost use Rattle.merkle_core.specs.MultiReads.{can_be_shown, multi_root, ArePeaksRead, AreNeeded};
 ghost use Rattle.merkle_core.specs.Reads.{HashesAs};
 
@@ -57,8 +59,8 @@ fn append_peaks<F: Family, H: Hasher<F>>(
     append_peaks(found, hasher, known, leaves, next, others)
 }
 
-// The root that the proof leads to, from the elements and the positions of the nodes that it is made of. None: there are
-// fewer peaks than inactive ones, or a digest is missing.
+// The root that the proof leads to, from the elements and the positions of the nodes that it is made of. None: there
+// are fewer peaks than inactive ones, or a digest is missing.
 fn root_from<F: Family, H: Hasher<F>>(
     alloc: Global,
     hasher: &H,
@@ -107,8 +109,8 @@ fn none_if_refused<F: Family>(error: Error<F>) -> Result<Option<Vec<Position<F>>
     }
 }
 
-// The positions of the nodes that the proof of no element is made of: of a tree without leaves there are none. None: there
-// are leaves.
+// The positions of the nodes that the proof of no element is made of: of a tree without leaves there are none. None:
+// there are leaves.
 fn no_nodes<F: Family>(alloc: Global, leaves: Location<F>) -> Option<Vec<Position<F>>>
     ensures { MatchOption result (can_be_shown leaves [] ≡ false)
         (λ positions. AreNeeded F.merge_rule leaves [] positions.items) }
@@ -143,8 +145,9 @@ fn needed_nodes<F: Family>(
 }
 
 /// The root of the tree, rebuilt from the proof of these elements, each with its location (own). None: there is no
-/// element and there are leaves; the locations do not ascend strictly, or a leaf does not stand at each; the tree is too
-/// large; it has fewer peaks than are inactive; or a digest is missing or left over. It fails only when out of memory.
+/// element and there are leaves; the locations do not ascend strictly, or a leaf does not stand at each; the tree is
+/// too large; it has fewer peaks than are inactive; or a digest is missing or left over. It fails only when out of
+/// memory.
 pub fn reconstruct_shown<F: Family, H: Hasher<F>>(
     alloc: Global,
     hasher: &H,

@@ -62,7 +62,8 @@ pub(crate) fn shown_digest<F: Family, H: Hasher<F>>(
     requires stands { HasTree F.merge_rule subtree.first subtree.position subtree.height }
     requires positions { IsNonDecreasingBy (λ p. p) known.now.positions.now }
     requires elements { IsNonDecreasingBy (λ e. e.1) elements.now }
-    ensures { (node : Tree) (over : Over) (shown : Shown) (needed : List ℕ) → IsPermutation needed known.now.positions.now
+    ensures { (node : Tree) (over : Over) (shown : Shown) (needed : List ℕ)
+        → IsPermutation needed known.now.positions.now
         → IsTreeAt F.merge_rule subtree.first subtree.position subtree.height node
         → HashesAs F.merge_rule H.hash_of (H.leaf_of hasher.now) (H.node_of hasher.now) over
         → map (λ e. (e.0.now, e.1)) elements.now ≡ shown_in (subtree.first, node) shown

@@ -4,7 +4,8 @@ ghost use Rattle.std.specs.Prelude.{◌≡◌, ◌≤◌, ◌+◌, ◌-◌, ◌^
 ghost use Rattle.merkle_core.specs.Assembled.{assembled};
 ghost use Rattle.merkle_core.specs.MadeRoots.{from_left, peaks_of};
 ghost use Rattle.merkle_core.specs.Plans.{positions_of, honest_digests, first_missing};
-ghost use Rattle.merkle_core.specs.ProofStores.{AreFoldsOf, IsKnownOf, IsPart, IsRefusalToBuildPart, digest_among, more_before, more_after, part_nodes, front_peaks};
+ghost use Rattle.merkle_core.specs.ProofStores.{AreFoldsOf, IsKnownOf, IsPart, IsRefusalToBuildPart, digest_among};
+ghost use Rattle.merkle_core.specs.ProofStores.{more_before, more_after, part_nodes, front_peaks};
 ghost use Rattle.merkle_core.specs.RangeCounts.{passing};
 ghost use Rattle.merkle_core.specs.Ranges.{Digests, is_before, is_after};
 
@@ -23,8 +24,8 @@ use merkle_forest::{Digest, Location, Position};
 use std::alloc::{AllocError, Global};
 use std::ops::Range;
 
-// The positions of the single nodes that the proof of a part is made of: how many stand before the part, and how many of
-// the others after it.
+// The positions of the single nodes that the proof of a part is made of: how many stand before the part, and how many
+// of the others after it.
 #[derive(Drop)]
 struct PartPlan<F: Family> {
     positions: Vec<Position<F>>,
@@ -148,10 +149,10 @@ impl<F: Family, D: Digest> ProofStore<F, D> {
         Ok(self.fold_part(alloc, hasher, start, stop, before, after, inner)?)
     }
 
-    /// The proof of a part of the range, out of the nodes that are kept and of what the verified proof gives for several
-    /// peaks in one. With the hasher of that proof, and where its digests are those of a tree, it is the honest proof of the
-    /// part. Where the part is empty: M4; where it does not stand in the range: M5 with its end; where the digest of a node
-    /// that it is made of is not kept: M10 with the first such position; out of memory: M23.
+    /// The proof of a part of the range, out of the nodes that are kept and of what the verified proof gives for
+    /// several peaks in one. With the hasher of that proof, and where its digests are those of a tree, it is the honest
+    /// proof of the part. Where the part is empty: M4; where it does not stand in the range: M5 with its end; where the
+    /// digest of a node that it is made of is not kept: M10 with the first such position; out of memory: M23.
     /// In the Rust: `merkle::verification::ProofStore::range_proof`, which takes no allocator.
     pub fn range_proof<H: Hasher<F, Digest = D>>(
         &self,

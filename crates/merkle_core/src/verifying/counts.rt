@@ -37,8 +37,10 @@ pub(crate) fn sides_of<F: Family>(
 ) -> Sides
     requires few { leaves ≤ MAX_LEAVES }
     requires begins { first < leaves → HasPeak (forest_of F.merge_rule leaves) first }
-    ensures before { result.before ≡ passing (is_before start) (take most (located_from first (forest_of F.merge_rule leaves))) }
-    ensures after { result.after ≡ passing (is_after stop) (take most (located_from first (forest_of F.merge_rule leaves))) }
+    ensures before { result.before
+        ≡ passing (is_before start) (take most (located_from first (forest_of F.merge_rule leaves))) }
+    ensures after { result.after
+        ≡ passing (is_after stop) (take most (located_from first (forest_of F.merge_rule leaves))) }
     ensures next { located_from result.next (forest_of F.merge_rule leaves)
         ≡ drop most (located_from first (forest_of F.merge_rule leaves)) }
     ensures begins { result.next < leaves → HasPeak (forest_of F.merge_rule leaves) result.next }

@@ -43,8 +43,12 @@ fn read_one<'d, F: Family, H: Hasher<F>>(
     requires small { reader.now.start + length reader.now.elements.now < 2 ^ 64 }
     ensures { (node : Tree) (over : Over) → IsTreeAt F.merge_rule peak.first peak.position peak.height node
         → HashesAs F.merge_rule H.hash_of (H.leaf_of reader.now.hasher.now) (H.node_of reader.now.hasher.now) over
-        → option_map (λ x. (H.Digest.encoding x.0, (map H.Digest.encoding x.1.now, map H.Digest.encoding x.2.now))) result
-        ≡ valued H.hash_of (read_peak over (from reader.now.start (map (λ e. e.now) reader.now.elements.now)) reader.now.start
+        → option_map (λ x. (
+          H.Digest.encoding x.0,
+          (map H.Digest.encoding x.1.now, map H.Digest.encoding x.2.now),
+        )) result
+        ≡ valued H.hash_of (read_peak over
+        (from reader.now.start (map (λ e. e.now) reader.now.elements.now)) reader.now.start
         (reader.now.start + length reader.now.elements.now) (peak.first, node)
         (map H.Digest.encoding outer.now, map H.Digest.encoding inner.now)) }
 {
@@ -71,8 +75,12 @@ fn read_back_from<'d, F: Family, H: Hasher<F>>(
     ensures { (peak : Located) (peaks : List Located) (names : Naming) (last n : ℕ) (over : Over)
         → located_from first (forest_of F.merge_rule reader.now.leaves) ≡ peak ∷ peaks
         → HashesAs F.merge_rule H.hash_of (H.leaf_of reader.now.hasher.now) (H.node_of reader.now.hasher.now) over
-        → option_map (λ x. (H.Digest.encoding x.0, (map H.Digest.encoding x.1.now, map H.Digest.encoding x.2.now))) result
-        ≡ valued H.hash_of (read_back names over (from reader.now.start (map (λ e. e.now) reader.now.elements.now)) reader.now.start
+        → option_map (λ x. (
+          H.Digest.encoding x.0,
+          (map H.Digest.encoding x.1.now, map H.Digest.encoding x.2.now),
+        )) result
+        ≡ valued H.hash_of (read_back names over
+        (from reader.now.start (map (λ e. e.now) reader.now.elements.now)) reader.now.start
         (reader.now.start + length reader.now.elements.now) last n peak peaks
         (map H.Digest.encoding outer.now, map H.Digest.encoding inner.now)) }
 {
@@ -102,10 +110,15 @@ fn read_onto_from<'d, F: Family, H: Hasher<F>>(
     requires few { reader.now.leaves ≤ MAX_LEAVES }
     requires small { reader.now.start + length reader.now.elements.now < 2 ^ 64 }
     requires begins { first < reader.now.leaves → HasPeak (forest_of F.merge_rule reader.now.leaves) first }
-    ensures { (made : Made) (names : Naming) (last n : ℕ) (over : Over) → value H.hash_of made ≡ H.Digest.encoding so_far
+    ensures { (made : Made) (names : Naming) (last n : ℕ) (over : Over)
+        → value H.hash_of made ≡ H.Digest.encoding so_far
         → HashesAs F.merge_rule H.hash_of (H.leaf_of reader.now.hasher.now) (H.node_of reader.now.hasher.now) over
-        → option_map (λ x. (H.Digest.encoding x.0, (map H.Digest.encoding x.1.now, map H.Digest.encoding x.2.now))) result
-        ≡ valued H.hash_of (read_onto names over (from reader.now.start (map (λ e. e.now) reader.now.elements.now)) reader.now.start
+        → option_map (λ x. (
+          H.Digest.encoding x.0,
+          (map H.Digest.encoding x.1.now, map H.Digest.encoding x.2.now),
+        )) result
+        ≡ valued H.hash_of (read_onto names over
+        (from reader.now.start (map (λ e. e.now) reader.now.elements.now)) reader.now.start
         (reader.now.start + length reader.now.elements.now) last singly n made
         (located_from first (forest_of F.merge_rule reader.now.leaves))
         (map H.Digest.encoding outer.now, map H.Digest.encoding inner.now)) }
@@ -135,10 +148,15 @@ fn read_group_from<'d, F: Family, H: Hasher<F>>(
     requires few { reader.now.leaves ≤ MAX_LEAVES }
     requires small { reader.now.start + length reader.now.elements.now < 2 ^ 64 }
     requires begins { first < reader.now.leaves → HasPeak (forest_of F.merge_rule reader.now.leaves) first }
-    ensures { (made : Made) (names : Naming) (last n : ℕ) (over : Over) → value H.hash_of made ≡ H.Digest.encoding so_far
+    ensures { (made : Made) (names : Naming) (last n : ℕ) (over : Over)
+        → value H.hash_of made ≡ H.Digest.encoding so_far
         → HashesAs F.merge_rule H.hash_of (H.leaf_of reader.now.hasher.now) (H.node_of reader.now.hasher.now) over
-        → option_map (λ x. (H.Digest.encoding x.0, (map H.Digest.encoding x.1.now, map H.Digest.encoding x.2.now))) result
-        ≡ valued H.hash_of (read_group names over (from reader.now.start (map (λ e. e.now) reader.now.elements.now)) reader.now.start
+        → option_map (λ x. (
+          H.Digest.encoding x.0,
+          (map H.Digest.encoding x.1.now, map H.Digest.encoding x.2.now),
+        )) result
+        ≡ valued H.hash_of (read_group names over
+        (from reader.now.start (map (λ e. e.now) reader.now.elements.now)) reader.now.start
         (reader.now.start + length reader.now.elements.now) last singly n made
         (located_from first (forest_of F.merge_rule reader.now.leaves))
         (map H.Digest.encoding outer.now, map H.Digest.encoding inner.now)) }
@@ -168,8 +186,12 @@ pub fn read_peaks<'d, F: Family, H: Hasher<F>>(
     requires small { reader.now.start + length reader.now.elements.now < 2 ^ 64 }
     ensures { (names : Naming) (last : ℕ) (over : Over)
         → HashesAs F.merge_rule H.hash_of (H.leaf_of reader.now.hasher.now) (H.node_of reader.now.hasher.now) over
-        → option_map (λ x. (H.Digest.encoding x.0, (map H.Digest.encoding x.1.now, map H.Digest.encoding x.2.now))) result
-        ≡ valued H.hash_of (read_bag names over (from reader.now.start (map (λ e. e.now) reader.now.elements.now)) reader.now.start
+        → option_map (λ x. (
+          H.Digest.encoding x.0,
+          (map H.Digest.encoding x.1.now, map H.Digest.encoding x.2.now),
+        )) result
+        ≡ valued H.hash_of (read_bag names over
+        (from reader.now.start (map (λ e. e.now) reader.now.elements.now)) reader.now.start
         (reader.now.start + length reader.now.elements.now) last singly
         (peaks_of F.merge_rule reader.now.leaves)
         (map H.Digest.encoding outer.now, map H.Digest.encoding inner.now)) }

@@ -80,8 +80,8 @@ more-after us u n None = refl
 more-after us u n (Some x) = ap (λ y. Some y) (sym (after-more us u n x))
 
 -- one more of the digests that stand at positions is changed
-pub put-next : {D : Type 0} (encoding : D
-    → List ℕ) (xs : List (ℕ × D)) (old us : List Replacement) (i p : ℕ) (d new : D)
+pub put-next : {D : Type 0}
+    (encoding : D → List ℕ) (xs : List (ℕ × D)) (old us : List Replacement) (i p : ℕ) (d new : D)
     (other : ℕ × D) → i < length xs → (p, d) ≡ get_or xs i other
     → encoded encoding xs ≡ replaced_at (take i old) us ++ drop i old → encoding new ≡ value_after us p (encoding d)
     → encoded encoding (set xs i (p, new)) ≡ replaced_at (take (suc i) old) us ++ drop (suc i) old

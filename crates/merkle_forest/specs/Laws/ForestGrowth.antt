@@ -76,8 +76,8 @@ perfect-merged p zero (r ∷ l ∷ peaks) pair perfect = (
 perfect-merged p (suc index) [] pair perfect = tt
 perfect-merged p (suc index) (t ∷ peaks) pair perfect = (perfect.0, perfect-merged p index peaks pair perfect.1)
 
-step_keeps : (P : List Tree → Type 0) (heights : List ℕ) (peaks : List Tree) (after : ℕ
-    → List Tree) (found : Option ℕ) → IfSome found (IsPairOfEquals heights)
+step_keeps : (P : List Tree → Type 0) (heights : List ℕ) (peaks : List Tree)
+    (after : ℕ → List Tree) (found : Option ℕ) → IfSome found (IsPairOfEquals heights)
     → ((index : ℕ) → IsPairOfEquals heights index → P (after index)) → P peaks → P (option_map_or after found peaks)
 step_keeps P heights peaks after None pair keeps p = p
 step_keeps P heights peaks after (Some index) pair keeps p = keeps index pair

@@ -59,15 +59,15 @@ refuses_as lacks more Invalid x y weaker alike refused = alike _ refused
 refuses_as lacks more Memory x y weaker alike refused = weaker refused
 
 -- what refuses the first step refuses both
-pub refuses_first : {A B : Type 0} (lacks more : Type 0) (e : Error) (first : Result A Error) (second : A
-    → Result B Error)
+pub refuses_first : {A B : Type 0} (lacks more : Type 0) (e : Error) (first : Result A Error)
+    (second : A → Result B Error)
     → (lacks → more) → Refuses lacks e first → Refuses more e (first >>= second)
 refuses_first lacks more e first second weaker refused =
     refuses_as lacks more e first (first >>= second) weaker (λ f failed. rw failed refl) refused
 
 -- after a first step without a fault, what refuses the second refuses both
-pub refuses_second : {A B : Type 0} (lacks more : Type 0) (e : Error) (first : Result A Error) (second : A
-    → Result B Error) (x : A)
+pub refuses_second : {A B : Type 0} (lacks more : Type 0) (e : Error) (first : Result A Error)
+    (second : A → Result B Error) (x : A)
     → first ≡ Ok x → (lacks → more) → Refuses lacks e (second x) → Refuses more e (first >>= second)
 refuses_second lacks more e first second x found weaker refused =
     refuses_as lacks more e (second x) (first >>= second) weaker (λ f failed. rw (found, failed) refl) refused

@@ -18,8 +18,8 @@ pub record HasSlot (size : ℕ) (slot : Slot) (shown page : List ℕ) : Type 0 w
   pub bytes_same : take (slot_len size slot shown) page ≡ take (slot_len size slot shown) shown
 
 -- a slot of a page verifies, and no beginning has it there
-pub record IsChanceSlot (sum : List ℕ
-    → ℕ) (size : ℕ) (file : File) (bytes : List ℕ) (page : ℕ) (slot : Slot) : Type 0 where
+pub record IsChanceSlot
+    (sum : List ℕ → ℕ) (size : ℕ) (file : File) (bytes : List ℕ) (page : ℕ) (slot : Slot) : Type 0 where
   pub verified : verifies sum size slot (page_at size page bytes) ≡ true
   pub unwritten : (beginning : List ℕ) → IsBeginning file.base file.changes beginning
       → HasSlot size slot (page_at size page bytes) (page_at size page beginning) → ⊥

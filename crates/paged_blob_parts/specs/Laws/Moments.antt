@@ -12,8 +12,8 @@ stays : (P : List Call → Type 0) (old mid new : List Call) → Through P old m
 stays P old mid new so_far is = subst (Through P old) (sym is) so_far
 
 -- one write or resize more, whatever it answers
-pub goes_on : {T : Type 0} (P : List Call → Type 0) (old mid new : List Call) (result : Result T Error) (call : Bool
-    → Call)
+pub goes_on : {T : Type 0} (P : List Call → Type 0) (old mid new : List Call) (result : Result T Error)
+    (call : Bool → Call)
     → Through P old mid → Records result call mid new → ((ok : Bool) → P (call ok ∷ mid)) → Through P old new
 goes_on P old mid new (Ok _) call so_far is now = subst (Through P old) (sym is) (then (call true) so_far (now true))
 goes_on P old mid new (Err (Injected kind)) call so_far is now =

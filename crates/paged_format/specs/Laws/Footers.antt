@@ -22,8 +22,8 @@ later : (k m j : ℕ) (page : List ℕ) → m ≡ k + j → drop m page ≡ drop
 later k m j page is = ap (λ n. drop n page) is ∙ sym (drop-drop j k page)
 
 -- a page whose last twelve bytes are a footer has its slots
-module _ (size : ℕ) (page : List ℕ) (len1 crc1 len2 crc2 : ℕ) (is : drop (size - 12) page
-    ≡ footer_bytes len1 crc1 len2 crc2) where
+module _ (size : ℕ) (page : List ℕ) (len1 crc1 len2 crc2 : ℕ)
+    (is : drop (size - 12) page ≡ footer_bytes len1 crc1 len2 crc2) where
   pub first_len : len1 < 2 ^ 16 → slot_len size First page ≡ len1
   unfolding slot_len
   first_len below = ap (λ rest. from_be_bytes w16 (take 2 rest)) is ∙ from_be_bytes-to_be_bytes_2 len1 below

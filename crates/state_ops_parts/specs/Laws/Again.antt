@@ -78,8 +78,8 @@ option_again value None rest h = refl
 option_again value (Some bytes) rest h = ap (told Some) (item_again value bytes rest h)
 
 -- a commit is read again where its metadata and its floor are
-commit_again : {U : Type 0} (metadata_at : List ℕ → Found (Option (List ℕ))) (number_at : List ℕ
-    → Found ℕ) (front back rest : List ℕ)
+commit_again : {U : Type 0} (metadata_at : List ℕ → Found (Option (List ℕ)))
+    (number_at : List ℕ → Found ℕ) (front back rest : List ℕ)
     (metadata : Option (List ℕ)) (floor : ℕ)
     → metadata_at (front ++ (back ++ rest)) ≡ Ok (metadata, back ++ rest) → number_at (back ++ rest) ≡ Ok (floor, rest)
     → commit_at {U = U} metadata_at number_at ((front ++ back) ++ rest) ≡ Ok (commit_floor metadata floor, rest)
@@ -87,8 +87,8 @@ commit_again {U} metadata_at number_at front back rest metadata floor first seco
     ap (λ x. metadata_at x >>= λ y. told (commit_floor y.0) (number_at y.1)) (append_assoc front back rest)
     ∙ (ap (λ x. x >>= λ y. told (commit_floor y.0) (number_at y.1)) first ∙ ap (told (commit_floor metadata)) second)
 
-unpadded_again : {U : Type 0} (key value : List ℕ → Outcome) (updated : List ℕ → Found U) (spelled : U
-    → List ℕ) (size : ℕ) (operation : Operation U)
+unpadded_again : {U : Type 0} (key value : List ℕ → Outcome) (updated : List ℕ → Found U)
+    (spelled : U → List ℕ) (size : ℕ) (operation : Operation U)
     (rest : List ℕ)
     → HasFields key value updated spelled operation
     → unpadded_at key value updated size (unpadded spelled size operation ++ rest) ≡ Ok (operation, rest)
@@ -99,8 +99,8 @@ unpadded_again key value updated spelled size (commit_floor metadata floor) rest
     (to_be_bytes w64 floor) rest metadata floor
     (fixed_metadata_again value size metadata (to_be_bytes w64 floor ++ rest) h.0) (fixed_floor_again floor rest h.1)
 
-pub variable_again : {U : Type 0} (key value : List ℕ → Outcome) (updated : List ℕ → Found U) (spelled : U
-    → List ℕ) (operation : Operation U) (rest : List ℕ)
+pub variable_again : {U : Type 0} (key value : List ℕ → Outcome) (updated : List ℕ → Found U)
+    (spelled : U → List ℕ) (operation : Operation U) (rest : List ℕ)
     → HasFields key value updated spelled operation
     → variable_at key value updated (variable_encoding spelled operation ++ rest) ≡ Ok (operation, rest)
 variable_again key value updated spelled (delete k) rest h = ap (told delete) (item_again key k rest h)
@@ -138,8 +138,8 @@ fixed_sized spelled key value updated operation h =
     let fits : length bytes ≤ size = unpadded_fits spelled key value updated operation h in
     omega (arith, fits, length-append bytes (replicate padding 0), length-replicate {A = ℕ} padding 0)
 
-pub fixed_again : {U : Type 0} (key value : List ℕ → Outcome) (updated : List ℕ → Found U) (spelled : U
-    → List ℕ) (key_size value_size updated_size : ℕ)
+pub fixed_again : {U : Type 0} (key value : List ℕ → Outcome) (updated : List ℕ → Found U)
+    (spelled : U → List ℕ) (key_size value_size updated_size : ℕ)
     (operation : Operation U) (rest : List ℕ)
     → HasFields key value updated spelled operation → HasSizes spelled key_size value_size updated_size operation
     → fixed_at key value updated key_size value_size updated_size
@@ -162,8 +162,8 @@ once {T} found one other rest more first second =
     let pairs : ◌≡◌ {A = T × List ℕ} (one, rest) (other, more) = cc in
     (ap (λ (x : T × List ℕ). x.0) pairs, ap (λ (x : T × List ℕ). x.1) pairs)
 
-pub fixed_once : {U : Type 0} (key value : List ℕ → Outcome) (updated : List ℕ → Found U) (spelled : U
-    → List ℕ) (ks vs us : ℕ) (one other : Operation U)
+pub fixed_once : {U : Type 0} (key value : List ℕ → Outcome) (updated : List ℕ → Found U)
+    (spelled : U → List ℕ) (ks vs us : ℕ) (one other : Operation U)
     (rest more : List ℕ)
     → HasFields key value updated spelled one → HasSizes spelled ks vs us one
     → HasFields key value updated spelled other → HasSizes spelled ks vs us other
@@ -175,8 +175,8 @@ fixed_once key value updated spelled ks vs us one other rest more fields sizes f
     (ap (fixed_at key value updated ks vs us) same
     ∙ fixed_again key value updated spelled ks vs us other more fields_other sizes_other)
 
-pub variable_once : {U : Type 0} (key value : List ℕ → Outcome) (updated : List ℕ → Found U) (spelled : U
-    → List ℕ) (one other : Operation U)
+pub variable_once : {U : Type 0} (key value : List ℕ → Outcome) (updated : List ℕ → Found U)
+    (spelled : U → List ℕ) (one other : Operation U)
     (rest more : List ℕ)
     → HasFields key value updated spelled one → HasFields key value updated spelled other
     → variable_encoding spelled one ++ rest ≡ variable_encoding spelled other ++ more → (one ≡ other) × (rest ≡ more)

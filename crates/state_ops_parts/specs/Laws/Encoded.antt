@@ -15,8 +15,8 @@ if_some_map : {T U : Type 0} (P : T → Type 0) (Q : U → Type 0) (f : T → U)
 if_some_map P Q f all None is = tt
 if_some_map P Q f all (Some x) is = all x is
 
-module _ {F S A B C D E G : Type 0} (key_of : A → List ℕ) (value_of : B → List ℕ) (update_of : S
-    → List ℕ) (key value updated : List ℕ → Outcome)
+module _ {F S A B C D E G : Type 0} (key_of : A → List ℕ) (value_of : B → List ℕ)
+    (update_of : S → List ℕ) (key value updated : List ℕ → Outcome)
     (Key : A → Type 0) (Value : B → Type 0) (Updated : S → Type 0)
     (key_ends : (k : A) → Key k → Ends key (key_of k)) (value_ends : (v : B) → Value v → Ends value (value_of v))
     (update_ends : (u : S) → Updated u → Ends updated (update_of u)) where
@@ -36,8 +36,8 @@ module _ {F S A B C D E G : Type 0} (key_of : A → List ℕ) (value_of : B → 
   variable_found_again o rest is =
       variable_again key value (item_at updated) (λ bytes. bytes) (said o) rest (has_fields o is)
 
-  module _ (ks vs us : ℕ) (key_sized : (k : A) → Key k → length (key_of k) ≡ ks) (value_sized : (v : B) → Value v
-      → length (value_of v) ≡ vs)
+  module _ (ks vs us : ℕ) (key_sized : (k : A) → Key k → length (key_of k) ≡ ks)
+      (value_sized : (v : B) → Value v → length (value_of v) ≡ vs)
       (update_sized : (u : S) → Updated u → length (update_of u) ≡ us) where
     has_sizes : (o : code.Operation F S A B C D E G) → IsOperation Key Value Updated o
         → HasSizes (λ bytes. bytes) ks vs us (said o)
@@ -54,8 +54,8 @@ module _ {F S A B C D E G : Type 0} (key_of : A → List ℕ) (value_of : B → 
         (has_fields o is) (has_sizes o is)
 
 -- what is a value and within the limits of a reader is both
-pub both : {F S A B C D E G : Type 0} (KeyValue KeyWithin : A → Type 0) (Value Within : B
-    → Type 0) (UpdateValue UpdateWithin : S → Type 0)
+pub both : {F S A B C D E G : Type 0} (KeyValue KeyWithin : A → Type 0)
+    (Value Within : B → Type 0) (UpdateValue UpdateWithin : S → Type 0)
     (o : code.Operation F S A B C D E G)
     → IsValue KeyValue Value UpdateValue o → IsOperation KeyWithin Within UpdateWithin o
     → IsOperation (λ k. KeyValue k × KeyWithin k) (λ v. Value v × Within v) (λ u. UpdateValue u × UpdateWithin u) o

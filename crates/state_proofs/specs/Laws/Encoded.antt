@@ -14,8 +14,8 @@ use Rattle.state_proofs.specs.Encoded.{after_operation_proof, FitsRange, Fits}
 use Rattle.state_proofs.specs.Verified.{RangeParts, Parts}
 
 -- how a digest and what is held of the pending one are read: any bytes of its size are a digest
-pub record Grammar (digest held : List ℕ → Outcome) (IsPending : Option (List ℕ) → Type 0) (pending : Option (List ℕ)
-    → List ℕ) (size : ℕ) : Type 0 where
+pub record Grammar (digest held : List ℕ → Outcome) (IsPending : Option (List ℕ) → Type 0)
+    (pending : Option (List ℕ) → List ℕ) (size : ℕ) : Type 0 where
   pub any : (bytes : List ℕ) → digest bytes ≡ after_fixed size bytes
   pub again : (d : Option (List ℕ)) (rest : List ℕ) → IsPending d → held (pending d ++ rest) ≡ Ok rest
   pub once : (d e : Option (List ℕ)) (rest more : List ℕ) → IsPending d → IsPending e
@@ -35,8 +35,8 @@ within_all : (v : Option (List ℕ)) → IfSome v (λ d. Unit {0})
 within_all None = tt
 within_all (Some d) = tt
 
-module _ (digest held : List ℕ → Outcome) (IsPending : Option (List ℕ) → Type 0) (pending : Option (List ℕ)
-    → List ℕ) (size most : ℕ)
+module _ (digest held : List ℕ → Outcome) (IsPending : Option (List ℕ) → Type 0)
+    (pending : Option (List ℕ) → List ℕ) (size most : ℕ)
     (grammar : Grammar digest held IsPending pending size) where
   digest_again : (d more : List ℕ) → length d ≡ size → digest (d ++ more) ≡ Ok more
   digest_again d more is = grammar.any (d ++ more) ∙ fixed_again size d more is

@@ -22,19 +22,19 @@ metadata_again : {V : Type 0} (encoding : V → List ℕ) (is_value : V → Type
 metadata_again encoding is_value after again None rest value = refl
 metadata_again encoding is_value after again (Some v) rest value = again v rest value
 
-module _ {D P : Type 0} (encoding : D → List ℕ) (is_digest : D → Type 0) (size : ℕ) (sized : (d : D) → is_digest d
-    → length (encoding d) ≡ size)
-    (held : P → Option (List ℕ)) (is_held : P → Type 0) (IsPending : Option (List ℕ) → Type 0) (holds : (p : P)
-    → is_held p → IsPending (held p))
-    (digest after : List ℕ → Outcome) (pending : Option (List ℕ)
-    → List ℕ) (grammar : Grammar digest after IsPending pending size)
-    {K V : Type 0} (key_encoding : K → List ℕ) (value_encoding : V → List ℕ) (is_key : K
-    → Type 0) (is_value : V → Type 0)
+module _ {D P : Type 0} (encoding : D → List ℕ) (is_digest : D → Type 0) (size : ℕ)
+    (sized : (d : D) → is_digest d → length (encoding d) ≡ size)
+    (held : P → Option (List ℕ)) (is_held : P → Type 0) (IsPending : Option (List ℕ) → Type 0)
+    (holds : (p : P) → is_held p → IsPending (held p))
+    (digest after : List ℕ → Outcome)
+    (pending : Option (List ℕ) → List ℕ) (grammar : Grammar digest after IsPending pending size)
+    {K V : Type 0} (key_encoding : K → List ℕ) (value_encoding : V → List ℕ)
+    (is_key : K → Type 0) (is_value : V → Type 0)
     (after_key after_value : List ℕ → Outcome)
     (key_again : (k : K) (more : List ℕ) → is_key k → after_key (key_encoding k ++ more) ≡ Ok more)
     (value_again : (v : V) (more : List ℕ) → is_value v → after_value (value_encoding v ++ more) ≡ Ok more) where
-  pub exclusion_again : {F C : Type 0} (chunk : C
-      → List ℕ) (told : Told) (p : ExclusionProof F K V D C P) (rest : List ℕ)
+  pub exclusion_again : {F C : Type 0}
+      (chunk : C → List ℕ) (told : Told) (p : ExclusionProof F K V D C P) (rest : List ℕ)
       → IsExclusionValue (λ q. (q.loc < 2 ^ 64) × IsRangeValue is_digest is_held q.range_proof) is_key is_value p
       → IsExclusionWithin (λ q. IsFormWithin chunk told q) p
       → after_exclusion (after_form digest after told) after_key after_value

@@ -95,8 +95,8 @@ parts_same p q a b c =
     λ location chunk range. record { location = location; chunk = chunk; range = range } in
     ap (λ x. made x p.chunk p.range) a ∙ ap (λ x. made q.location x p.range) b ∙ ap (λ x. made q.location q.chunk x) c
 
-module _ (IsPending : Option (List ℕ) → Type 0) (pending : Option (List ℕ)
-    → List ℕ) (width size most : ℕ) (small : most < 2 ^ 64)
+module _ (IsPending : Option (List ℕ) → Type 0)
+    (pending : Option (List ℕ) → List ℕ) (width size most : ℕ) (small : most < 2 ^ 64)
     (once : (d e : Option (List ℕ)) (rest more : List ℕ) → IsPending d → IsPending e
     → pending d ++ rest ≡ pending e ++ more → (d ≡ e) × (rest ≡ more)) where
   after_digests : RangeParts → List ℕ → List ℕ

@@ -42,10 +42,10 @@ IsFormWithin chunk told p =
     (p.loc ≤ 2 ^ 62) × (length (chunk p.chunk) ≡ told.width)
     × IsRangeWithin told.most p.range_proof × IsTrue told.allowed
 
-module _ {D P : Type 0} (encoding : D → List ℕ) (is_value : D → Type 0) (size : ℕ) (sized : (d : D) → is_value d
-    → length (encoding d) ≡ size)
-    (held : P → Option (List ℕ)) (is_held : P → Type 0) (IsPending : Option (List ℕ) → Type 0) (holds : (p : P)
-    → is_held p → IsPending (held p)) where
+module _ {D P : Type 0} (encoding : D → List ℕ) (is_value : D → Type 0) (size : ℕ)
+    (sized : (d : D) → is_value d → length (encoding d) ≡ size)
+    (held : P → Option (List ℕ)) (is_held : P → Type 0) (IsPending : Option (List ℕ) → Type 0)
+    (holds : (p : P) → is_held p → IsPending (held p)) where
   pub range_fits : {F : Type 0} (most : ℕ) (p : RangeProof F D P) → IsRangeValue is_value is_held p
       → IsRangeWithin most p
       → FitsRange IsPending size most (range_parts_of encoding held p)
@@ -69,8 +69,8 @@ module _ {D P : Type 0} (encoding : D → List ℕ) (is_value : D → Type 0) (s
     range = range_fits most p.range_proof value.1 within.2;
   }
 
-  module _ (digest after : List ℕ → Outcome) (pending : Option (List ℕ)
-      → List ℕ) (grammar : Grammar digest after IsPending pending size) where
+  module _ (digest after : List ℕ → Outcome)
+      (pending : Option (List ℕ) → List ℕ) (grammar : Grammar digest after IsPending pending size) where
     -- a proof over a range is read again
     pub read_range_again : {F : Type 0} (most : ℕ) (p : RangeProof F D P) (rest : List ℕ)
         → IsRangeValue is_value is_held p → IsRangeWithin most p
@@ -94,8 +94,8 @@ module _ {D P : Type 0} (encoding : D → List ℕ) (is_value : D → Type 0) (s
         (parts_fit chunk told.width told.most p value (within.0, within.1, within.2)))
 
     -- what is read of the parts of a value is within the limits
-    pub read_operation_fits : {F C : Type 0} (chunk : C
-        → List ℕ) (width most : ℕ) (p : Proof F D C P) (rest new : List ℕ)
+    pub read_operation_fits : {F C : Type 0}
+        (chunk : C → List ℕ) (width most : ℕ) (p : Proof F D C P) (rest new : List ℕ)
         → (p.loc < 2 ^ 64) × IsRangeValue is_value is_held p.range_proof → length (chunk p.chunk) ≡ width
         → after_operation_proof digest after width most
         (operation_proof_encoding pending (form_parts_of chunk encoding held p) ++ rest) ≡ Ok new
@@ -108,8 +108,8 @@ module _ {D P : Type 0} (encoding : D → List ℕ) (is_value : D → Type 0) (s
         parts_fit chunk width most p value (it.0, sized, (it.1.0, omega (arith, count, it.1.1)))
 
     -- so is the proof of an update with its next key
-    pub read_key_value_again : {F C : Type 0} (chunk : C → List ℕ) (told : Told) (key : List ℕ
-        → Outcome) (p : Proof F D C P)
+    pub read_key_value_again : {F C : Type 0} (chunk : C → List ℕ) (told : Told)
+        (key : List ℕ → Outcome) (p : Proof F D C P)
         (next_key rest : List ℕ)
         → (p.loc < 2 ^ 64) × IsRangeValue is_value is_held p.range_proof → IsFormWithin chunk told p
         → key (next_key ++ rest) ≡ Ok rest

@@ -9,12 +9,12 @@ use Rattle.state_proofs.specs.declared.witness.OpsRootWitness.{OpsRootWitness}
 use Rattle.state_proofs.specs.Laws.Encoded.{Grammar}
 use Rattle.state_proofs.specs.Witness.{witness_of, witness_encoding, next_encoding, after_next, after_witness, HasNext}
 
-module _ {D P : Type 0} (encoding : D → List ℕ) (is_value : D → Type 0) (size : ℕ) (sized : (d : D) → is_value d
-    → length (encoding d) ≡ size)
-    (held : P → Option (List ℕ)) (is_held : P → Type 0) (IsPending : Option (List ℕ) → Type 0) (holds : (p : P)
-    → is_held p → IsPending (held p))
-    (digest after : List ℕ → Outcome) (pending : Option (List ℕ)
-    → List ℕ) (grammar : Grammar digest after IsPending pending size) where
+module _ {D P : Type 0} (encoding : D → List ℕ) (is_value : D → Type 0) (size : ℕ)
+    (sized : (d : D) → is_value d → length (encoding d) ≡ size)
+    (held : P → Option (List ℕ)) (is_held : P → Type 0) (IsPending : Option (List ℕ) → Type 0)
+    (holds : (p : P) → is_held p → IsPending (held p))
+    (digest after : List ℕ → Outcome)
+    (pending : Option (List ℕ) → List ℕ) (grammar : Grammar digest after IsPending pending size) where
   digest_again : (d : D) (more : List ℕ) → is_value d → digest (encoding d ++ more) ≡ Ok more
   digest_again d more value = grammar.any (encoding d ++ more) ∙ fixed_again size (encoding d) more (sized d value)
 

@@ -193,8 +193,8 @@ module _ (rule : Rule) (pairs : IsPairing rule) (n level : ℕ) where
         high = omega (arith, left_high, wide.0, narrow.0);
       }
 
-module _ (rule : Rule) (root : ℕ → ℕ
-    → ℕ) (pairs : IsPairing rule) (roots : Roots rule root) (hash : Hash) (n level bits : ℕ)
+module _ (rule : Rule)
+    (root : ℕ → ℕ → ℕ) (pairs : IsPairing rule) (roots : Roots rule root) (hash : Hash) (n level bits : ℕ)
     (given elements : List (List ℕ)) (whole : bits ≡ 2 ^ level) (some : 0 < level) where
   abbrev joined_digest : ℕ → Tree → List ℕ
   joined_digest = grafted_digest hash level bits given elements
@@ -334,8 +334,8 @@ grafted_is setting state first tree =
     (is_grafted_digests setting state setting.grafting_height (chunk_bits setting)
     (chunks setting state) state.operations refl refl refl refl)
 
-module _ (setting : Setting) (state : State) (root : ℕ → ℕ
-    → ℕ) (pairs : IsPairing setting.rule) (roots : Roots setting.rule root)
+module _ (setting : Setting) (state : State)
+    (root : ℕ → ℕ → ℕ) (pairs : IsPairing setting.rule) (roots : Roots setting.rule root)
     (whole : 8 * setting.width ≡ 2 ^ setting.grafting_height) (few : length state.operations ≤ 2 ^ 62) where
   abbrev rule : Rule
   rule = setting.rule

@@ -19,8 +19,8 @@ zero_same (x ∷ xs) (y ∷ ys) a b long =
     let second = and_parts (y == 0) (is_zero ys) b in
     rw (eqb-true x 0 first.0, eqb-true y 0 second.0, zero_same xs ys first.1 second.1 (omega (arith, long))) refl
 
-module _ (hash : Hash) (hash_sized : (xs : List ℕ)
-    → length (hash xs) ≡ 32) (width : ℕ) (not_forty : width ≡ 40 → ⊥) where
+module _ (hash : Hash)
+    (hash_sized : (xs : List ℕ) → length (hash xs) ≡ 32) (width : ℕ) (not_forty : width ≡ 40 → ⊥) where
   string_of : ℕ → Made → Made → Made
   string_of p a b = both (bytes (number p)) (both a b)
 

@@ -107,10 +107,10 @@ claimed_parts operations_root pending partial root = record {
   partial_chunk = partial;
 }
 
-module _ (hash : Hash) (hash_sized : (xs : List ℕ) → length (hash xs) ≡ 32) (width : ℕ) (not_forty : width ≡ 40
-    → ⊥) (grafting_height : ℕ) (rule : Rule) (pairs : IsPairing rule)
-    (chunk chunk_claimed : ℕ → List ℕ) (wide : (at : ℕ) → length (chunk at) ≡ width) (wide_claimed : (at : ℕ)
-    → length (chunk_claimed at) ≡ width)
+module _ (hash : Hash) (hash_sized : (xs : List ℕ) → length (hash xs) ≡ 32) (width : ℕ)
+    (not_forty : width ≡ 40 → ⊥) (grafting_height : ℕ) (rule : Rule) (pairs : IsPairing rule)
+    (chunk chunk_claimed : ℕ → List ℕ) (wide : (at : ℕ) → length (chunk at) ≡ width)
+    (wide_claimed : (at : ℕ) → length (chunk_claimed at) ≡ width)
     (operations : List (List ℕ)) (few : length operations ≤ 2 ^ 62) (inactive : ℕ) (few_inactive : inactive < 2 ^ 64)
     (operations_made : Made) (pending_made : Option Made) (partial_made : Option (ℕ × Made))
     (sized_operations : Sized hash 32 operations_made) (sized_pending : SizedIf hash pending_made)

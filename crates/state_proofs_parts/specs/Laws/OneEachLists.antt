@@ -38,8 +38,8 @@ pub wider_one : (P R : Site → List ℕ → Type 0) (list : Strings) → IsOne 
 wider_one P R list is wider = record { told = λ s u here. wider s u (is.told s u here); one = is.one }
 
 module _ (P : Site → List ℕ
-    → Type 0) (site : Site) (string : List ℕ) (list : Strings) (is : IsOne P list) (apart : (u : List ℕ)
-    → P site u → ⊥) where
+    → Type 0) (site : Site) (string : List ℕ) (list : Strings) (is : IsOne P list)
+    (apart : (u : List ℕ) → P site u → ⊥) where
   top_same : (s : Site) (u v : List ℕ) → ((site ≡ s) × (string ≡ u)) ⊎ Contains list (s, u)
       → ((site ≡ s) × (string ≡ v)) ⊎ Contains list (s, v)
       → u ≡ v
@@ -52,8 +52,9 @@ module _ (P : Site → List ℕ
   pub top_one : (R : Site → List ℕ → Type 0) → R site string → Implies P R → IsOne R ((site, string) ∷ list)
   top_one R own wider = record {
     told = λ s u here.
-        ⊎_elim (λ (top : (site ≡ s)
-        × (string ≡ u)). subst (λ (w : List ℕ). R s w) top.1 (subst (λ (z : Site). R z string) top.0 own))
+        ⊎_elim (λ
+        (top : (site ≡ s) × (string ≡ u)). subst (λ (w : List ℕ). R s w) top.1
+        (subst (λ (z : Site). R z string) top.0 own))
         (λ below. wider s u (is.told s u below)) (first_or_rest (site, string) list s u here);
     one = λ s u v here there. top_same s u v (first_or_rest (site, string) list s u here) (first_or_rest (
       site,
