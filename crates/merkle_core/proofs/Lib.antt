@@ -31,9 +31,11 @@ mod PartGiven
 mod PartKnown
 mod PartNodes
 mod PartPlans
+mod PinnedBeside
 mod PinnedCover
 mod PinnedHonest
 mod PinnedMade
+mod PinnedOneEach
 mod PinnedSound
 mod PinnedStrings
 pub mod PeakBags

@@ -24,6 +24,55 @@ use Rattle.merkle_core.proofs.OneEachBag.{Apart, Back, Onto}
 use Rattle.merkle_core.proofs.OneEachRoot.{Good, apart_located, back_good, from_peak, root_good}
 use Rattle.merkle_core.proofs.ShownTruth.{both_good}
 
+-- trees at these places, of which parts may be given
+abbrev pub ArePartial : List Located → List Made → Type 0
+ArePartial [] [] = Unit {0}
+ArePartial (peak ∷ peaks) (x ∷ xs) = Partial peak.0 peak.1 x × ArePartial peaks xs
+ArePartial [] (x ∷ xs) = ⊥
+ArePartial (peak ∷ peaks) [] = ⊥
+
+same_count : (peaks : List Located) (xs : List Made) → ArePartial peaks xs → length peaks ≡ length xs
+same_count [] [] are = refl
+same_count (peak ∷ peaks) (x ∷ xs) are = ap suc (same_count peaks xs are.1)
+same_count [] (x ∷ xs) are = absurd are
+same_count (peak ∷ peaks) [] are = absurd are
+
+module _ (hash : Hash) (last : ℕ) where
+  back_list : (n : ℕ) (peak : Located) (peaks : List Located) (x : Made) (xs : List Made)
+      → Partial peak.0 peak.1 x → ArePartial peaks xs
+      → Back hash last n peak peaks (back_of plain_names last n x xs)
+  back_list n peak [] x [] one are = one
+  back_list n peak (next ∷ peaks) x (y ∷ xs) one are =
+      inr (x, back_of plain_names last (suc n) y xs, one, back_list (suc n) next peaks y xs are.0 are.1, refl)
+  back_list n peak [] x (y ∷ xs) one are = absurd are
+  back_list n peak (next ∷ peaks) x [] one are = absurd are
+
+  onto_list : (k n : ℕ) (first : Made) (peaks : List Located) (xs : List Made) → ArePartial peaks xs
+      → Onto hash last k n first peaks (onto_of plain_names last k n first xs)
+  onto_list k n first [] [] are = refl
+  onto_list zero n first (peak ∷ peaks) (x ∷ xs) are =
+      (back_of plain_names last n x xs, back_list n peak peaks x xs are.0 are.1, refl)
+  onto_list (suc k) n first (peak ∷ peaks) (x ∷ xs) are =
+      (x, are.0, onto_list k (suc n) (folded plain_names 1 n first x) peaks xs are.1)
+  onto_list k n first [] (x ∷ xs) are = absurd are
+  onto_list k n first (peak ∷ peaks) [] are = absurd are
+
+  pub bag_list : (k : ℕ) (peaks : List Located) (xs : List Made) → Apart peaks → length peaks ≡ last → ArePartial peaks xs
+      → Good hash last (as_bag plain_names last k xs)
+  bag_list k [] [] apart total are = (
+    (λ s x y here there. absurd (nothing (s, x) here)),
+    (λ s u here. absurd
+        (nothing (s, u) here)),
+  )
+  bag_list zero (peak ∷ peaks) (x ∷ xs) apart total are =
+      back_good hash last 1 peak peaks (back_of plain_names last 1 x xs) apart
+      (back_list 1 peak peaks x xs are.0 are.1)
+  bag_list (suc k) (peak ∷ peaks) (x ∷ xs) apart total are =
+      from_peak hash last k peak peaks x (onto_of plain_names last k 2 x xs) apart (omega (arith, total)) are.0
+      (onto_list k 2 x peaks xs are.1)
+  bag_list k [] (x ∷ xs) apart total are = absurd are
+  bag_list k (peak ∷ peaks) [] apart total are = absurd are
+
 module _ (claimed : Elements) (locations : List ℕ) (known : Lookup) where
   given_partial : (at : ℕ) (t : Tree) (o : Option (List ℕ)) → IfSome (option_map bytes o) (Partial at t)
   given_partial at t None = tt
@@ -48,12 +97,6 @@ module _ (claimed : Elements) (locations : List ℕ) (known : Lookup) where
       (λ x y one other. inr (x, y, one, other, refl)))
       (λ is. given_partial at (branch p left right) (known p))
 
-  abbrev pub ArePartial : List Located → List Made → Type 0
-  ArePartial [] [] = Unit {0}
-  ArePartial (peak ∷ peaks) (x ∷ xs) = Partial peak.0 peak.1 x × ArePartial peaks xs
-  ArePartial [] (x ∷ xs) = ⊥
-  ArePartial (peak ∷ peaks) [] = ⊥
-
   peaks_partial : (peaks : List Located)
       → IfSome (read_peaks plain_over claimed locations known peaks) (ArePartial peaks)
   peaks_partial [] = tt
@@ -62,48 +105,6 @@ module _ (claimed : Elements) (locations : List ℕ) (known : Lookup) where
       (read_shown plain_over claimed locations known peak.0 peak.1)
       (read_peaks plain_over claimed locations known peaks)
       (shown_partial peak.0 peak.1) (peaks_partial peaks) (λ x xs one others. (one, others))
-
-  same_count : (peaks : List Located) (xs : List Made) → ArePartial peaks xs → length peaks ≡ length xs
-  same_count [] [] are = refl
-  same_count (peak ∷ peaks) (x ∷ xs) are = ap suc (same_count peaks xs are.1)
-  same_count [] (x ∷ xs) are = absurd are
-  same_count (peak ∷ peaks) [] are = absurd are
-
-  module _ (hash : Hash) (last : ℕ) where
-    back_list : (n : ℕ) (peak : Located) (peaks : List Located) (x : Made) (xs : List Made)
-        → Partial peak.0 peak.1 x → ArePartial peaks xs
-        → Back hash last n peak peaks (back_of plain_names last n x xs)
-    back_list n peak [] x [] one are = one
-    back_list n peak (next ∷ peaks) x (y ∷ xs) one are =
-        inr (x, back_of plain_names last (suc n) y xs, one, back_list (suc n) next peaks y xs are.0 are.1, refl)
-    back_list n peak [] x (y ∷ xs) one are = absurd are
-    back_list n peak (next ∷ peaks) x [] one are = absurd are
-
-    onto_list : (k n : ℕ) (first : Made) (peaks : List Located) (xs : List Made) → ArePartial peaks xs
-        → Onto hash last k n first peaks (onto_of plain_names last k n first xs)
-    onto_list k n first [] [] are = refl
-    onto_list zero n first (peak ∷ peaks) (x ∷ xs) are =
-        (back_of plain_names last n x xs, back_list n peak peaks x xs are.0 are.1, refl)
-    onto_list (suc k) n first (peak ∷ peaks) (x ∷ xs) are =
-        (x, are.0, onto_list k (suc n) (folded plain_names 1 n first x) peaks xs are.1)
-    onto_list k n first [] (x ∷ xs) are = absurd are
-    onto_list k n first (peak ∷ peaks) [] are = absurd are
-
-    bag_list : (k : ℕ) (peaks : List Located) (xs : List Made) → Apart peaks → length peaks ≡ last → ArePartial peaks xs
-        → Good hash last (as_bag plain_names last k xs)
-    bag_list k [] [] apart total are = (
-      (λ s x y here there. absurd (nothing (s, x) here)),
-      (λ s u here. absurd
-          (nothing (s, u) here)),
-    )
-    bag_list zero (peak ∷ peaks) (x ∷ xs) apart total are =
-        back_good hash last 1 peak peaks (back_of plain_names last 1 x xs) apart
-        (back_list 1 peak peaks x xs are.0 are.1)
-    bag_list (suc k) (peak ∷ peaks) (x ∷ xs) apart total are =
-        from_peak hash last k peak peaks x (onto_of plain_names last k 2 x xs) apart (omega (arith, total)) are.0
-        (onto_list k 2 x peaks xs are.1)
-    bag_list k [] (x ∷ xs) apart total are = absurd are
-    bag_list k (peak ∷ peaks) [] apart total are = absurd are
 
 pub many_one : (hash : Hash) (bagging : Bagging) (rule : Rule) → IsPairing rule
     → (leaf_total inactive : ℕ) (shown : Shown) (digests : List (List ℕ))
@@ -120,15 +121,15 @@ many_one hash bagging rule pairs leaf_total inactive shown digests =
     (shown_root plain_names plain_over bagging rule leaf_total inactive shown known) None
     (λ is. choose (λ got. IfSome got (λ made. OneEach (strings hash made))) (nat_le inactive (length peaks))
     (option_map (root_over_peaks plain_names bagging leaf_total inactive) reading) None
-    (λ enough. map_good (ArePartial (shown_at shown) locations known peaks) (λ made. OneEach (strings hash made))
+    (λ enough. map_good (ArePartial peaks) (λ made. OneEach (strings hash made))
     (root_over_peaks plain_names bagging leaf_total inactive) reading (peaks_partial
     (shown_at shown) locations known peaks)
     (λ xs are.
     let bag = as_bag plain_names (length xs) (from_left bagging inactive (length xs)) xs in
     root_good hash (length xs) (value hash (both (bytes (number leaf_total)) (both (bytes
     (domain_of bagging ∷ inactive_count inactive)) bag))) bag
-    (bag_list (shown_at shown) locations known hash (length xs) (from_left bagging inactive (length xs)) peaks xs
+    (bag_list hash (length xs) (from_left bagging inactive (length xs)) peaks xs
     (apart_located rule pairs leaf_total (forest_of rule leaf_total) (λ first node stands. stands))
-    (same_count (shown_at shown) locations known peaks xs are) are)))
+    (same_count peaks xs are) are)))
     (λ other. tt))
     (λ other. tt)

@@ -22,7 +22,7 @@ is_plain [] s is = absurd is
 is_plain (peak ∷ peaks) s (inl is) = (_, is.3)
 is_plain (peak ∷ peaks) s (inr is) = is_plain peaks s is
 
-fold_plain : (a b p : ℕ) (s : Site) → at_fold a b ≡ s → s ≡ at_plain p → ⊥
+pub fold_plain : (a b p : ℕ) (s : Site) → at_fold a b ≡ s → s ≡ at_plain p → ⊥
 fold_plain a b p s one other = let clash : at_fold a b ≡ at_plain p = one ∙ other in absurd cc
 
 fold_same : (a b c d : ℕ) → at_fold a b ≡ at_fold c d → (a ≡ c) × (b ≡ d)

@@ -64,7 +64,7 @@ apart_append (p ∷ peaks) peak apart numbered none = (
   apart_append peaks peak apart.2 numbered (λ s one other. none s (inr one) other),
 )
 
-same_position : (p q : ℕ) → at_plain p ≡ at_plain q → p ≡ q
+pub same_position : (p q : ℕ) → at_plain p ≡ at_plain q → p ≡ q
 same_position p q same = cc
 
 pub apart_located : (rule : Rule) → IsPairing rule → (n : ℕ) (trees : List Tree)

@@ -76,7 +76,7 @@ abbrev pub Distinct : List Located → Type 0
 Distinct [] = Unit {0}
 Distinct (n ∷ ns) = AllByRecursion (λ m. position n.1 ≡ position m.1 → ⊥) ns × Distinct ns
 
-later_all : (at : ℕ) (ns : List Located) → Ascend at ns → AllByRecursion (λ m. at ≤ m.0) ns
+pub later_all : (at : ℕ) (ns : List Located) → Ascend at ns → AllByRecursion (λ m. at ≤ m.0) ns
 later_all at [] up = tt
 later_all at (n ∷ ns) up = (up.0, more ns (later_all (end_of n) ns up.1))
   where

@@ -23,7 +23,7 @@ ghost use Rattle.merkle_core.specs.MultiReads.{Shown, can_be_shown, needed_posit
 ghost use Rattle.merkle_core.specs.MultiSoundness.{AreHonestOrCollide, AreSound, shown_of};
 ghost use Rattle.merkle_core.specs.OneEach.{OneEach};
 ghost use Rattle.merkle_core.specs.Pinned.{AreMadeBefore, ArePinned};
-ghost use Rattle.merkle_core.specs.PinnedSoundness.{ArePinnedBeside, PinsListOrCollides};
+ghost use Rattle.merkle_core.specs.PinnedSoundness.{ArePinnedBeside, PinsListOrCollides, pinned_strings};
 ghost use Rattle.merkle_core.specs.Plans.{Lookup, IsLookupOf, made_by, honest_digests, first_missing, positions_of};
 ghost use Rattle.merkle_core.specs.Plans.{inner_nodes, range_nodes};
 ghost use Rattle.merkle_core.specs.ProofStores.{Kept, AreFoldsOf, IsPart, IsRefusalToBuildPart, digest_among};
@@ -68,8 +68,8 @@ pub fn claims_are_true_or_strings_collide<F: Family>()
         (IsSound hash bagging F.merge_rule elements inactive claim) }
 {}
 
-/// At each site one string is hashed for a list, and one when a root is rebuilt from a proof of a range or of several
-/// elements.
+/// At each site one string is hashed for a list, one when a root is rebuilt from a proof of a range or of several
+/// elements, and one when what stands before a range is rebuilt from pinned digests, alone or beside such a root.
 pub fn each_site_has_one_string<F: Family>()
     ensures hashed { (hash : Hash) (bagging : Bagging) (elements : List (List ℕ)) (inactive : ℕ)
         → OneEach (hashed_strings hash bagging F.merge_rule elements inactive) }
@@ -78,6 +78,11 @@ pub fn each_site_has_one_string<F: Family>()
     ensures shown { (hash : Hash) (bagging : Bagging) (leaves inactive : ℕ) (shown : Shown) (digests : List (List ℕ))
         → IfSome (multi_root plain_names plain_over bagging F.merge_rule leaves inactive shown digests)
         (λ made. OneEach (strings hash made)) }
+    ensures pinned { (hash : Hash) (none : List ℕ) (bagging : Bagging) (claim : RangeClaim) (digests : List (List ℕ))
+        → OneEach (pinned_strings hash none bagging F.merge_rule claim digests) }
+    ensures beside { (hash : Hash) (none : List ℕ) (bagging : Bagging) (claim : RangeClaim) (digests : List (List ℕ))
+        → IfSome (claimed_root bagging F.merge_rule claim)
+        (λ made. OneEach (strings hash made ++ pinned_strings hash none bagging F.merge_rule claim digests)) }
 {}
 
 /// A hasher that hashes leaves and branches by their strings alone hashes as a plain tree is made.

@@ -1,5 +1,7 @@
 use Rattle.merkle_core.proofs.MultiOneEach.{many_one}
 use Rattle.merkle_core.proofs.OneEachRoot.{hashed_one, rebuilt_one}
+use Rattle.merkle_core.proofs.PinnedBeside.{beside_one}
+use Rattle.merkle_core.proofs.PinnedOneEach.{pinned_one}
 use Rattle.merkle_core.proofs.laws.each_site_has_one_string.Goals as goal
 
 pub returns : goal.returns
@@ -8,4 +10,8 @@ returns g c = record {
   shown = λ hash bagging leaf_total inactive shown digests.
       many_one hash bagging g.F.Family.merge_rule g.met.F.Family.merges_equals leaf_total inactive shown digests;
   rebuilt = λ hash bagging claim. rebuilt_one hash bagging g.F.Family.merge_rule g.met.F.Family.merges_equals claim;
+  pinned = λ hash none bagging claim digests.
+      pinned_one hash none bagging g.F.Family.merge_rule g.met.F.Family.merges_equals claim digests;
+  beside = λ hash none bagging claim digests.
+      beside_one hash none bagging g.F.Family.merge_rule g.met.F.Family.merges_equals claim digests;
 }
