@@ -1,6 +1,6 @@
 -- What the laws of claims promise, of a setting and the terms of its proofs, for each history: that its honest bytes
 -- show what is true, and that what is shown under its root is true and shown by its honest bytes, or strings collide.
-use Rattle.std.specs.Prelude.{◌≡◌, ◌<◌, ◌≤◌, ◌+◌, ◌-◌, ◌^◌, ⊥, ℕ, Bool, true, List, [], length, take, drop, slice_get}
+use Rattle.std.specs.Prelude.{◌≡◌, ◌<◌, ◌≤◌, ◌+◌, ◌-◌, ◌^◌, ℕ, Bool, true, List, [], length, take, drop, slice_get}
 use Rattle.std.specs.Prelude.{None, Some}
 use Rattle.std.specs.List.{AllByRecursion}
 use Rattle.merkle_forest.specs.Codec.{Outcome}
