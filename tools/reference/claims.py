@@ -7,42 +7,18 @@ The words of a line are listed in the player's README.md. `honest_range` and `ho
 anew, for cases of ranges and slices.
 """
 
-import sys
-
 import forest
 import histories
 import proof_states
+from lines import BadLine, need, number, play, unhex
 from proof_codec import Fault, Merkle, Range, Reader, option, varint
 from proof_trees import Malformed, Rebuilt, peaks_of, plain_branch, plain_leaf, range_digests
 
 MOST = 244
 
 
-class BadLine(Exception):
-    pass
-
-
-def need(condition):
-    if not condition:
-        raise BadLine
-
-
-def number(word):
-    need(word.isdigit() and int(word) < 1 << 64)
-    return int(word)
-
-
-def digits(word, count=None):
-    try:
-        found = b"" if word == "-" and count is None else bytes.fromhex(word)
-    except ValueError:
-        raise BadLine
-    need(count is None or len(found) == count)
-    return found
-
-
 def operation(word):
-    found = digits(word)
+    found = unhex(word)
     need(len(found) == histories.RECORD and histories.decoded(found) is not None)
     return found
 
@@ -95,10 +71,10 @@ def shows_slice(family, root, data, start, claimed):
 def is_shown(family, width, root, data, words):
     match words:
         case ["value", key, value]:
-            key, value = digits(key, 8), forest.number(number(value))
+            key, value = unhex(key, 8), forest.number(number(value))
             return histories.is_shown(family, width, root, key, value, data)
         case ["absent", key]:
-            return histories.is_shown(family, width, root, digits(key, 8), None, data)
+            return histories.is_shown(family, width, root, unhex(key, 8), None, data)
         case ["active", location, encoding]:
             return shows_active(family, width, root, data, number(location), operation(encoding))
         case ["range", start, encodings, active]:
@@ -112,7 +88,7 @@ def answer(words):
     need(len(words) > 4)
     family, width, root, data, *claim = words
     need(family in ("mmr", "mmb") and width in ("1", "32"))
-    root, data = digits(root, 32), digits(data)
+    root, data = unhex(root, 32), unhex(data)
     try:
         return "yes" if is_shown(family, int(width), root, data, claim) else "no"
     except (Fault, Malformed):
@@ -147,19 +123,5 @@ def honest_slice(snapshot, start, stop):
     return witness + Merkle(len(snapshot.log), inactive, digests).written()
 
 
-def main():
-    for line in sys.stdin:
-        words = line.split()
-        if not words or words[0].startswith("#"):
-            continue
-        if words[0] == "case":
-            print(line.rstrip("\n"))
-            continue
-        try:
-            print(answer(words))
-        except BadLine:
-            print("bad line")
-
-
 if __name__ == "__main__":
-    main()
+    play(lambda: answer)

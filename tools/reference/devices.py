@@ -9,7 +9,7 @@ PIECE = 1024  # images are lent in pieces of so many bytes, a choice of ours
 
 
 class Refused(Exception):
-    def text(self):
+    def __str__(self):
         return " ".join(map(str, self.args))
 
 

@@ -7,11 +7,11 @@ A forest is grown leaf by leaf. Only where too many leaves are asked for is a no
 leaves a range has 2n nodes less the ones in n, and a belt 2n less the whole logarithm of n + 1.
 """
 
-import sys
 
 from forest import MAX_LEAVES, MAX_NODES, branch_digest, fold, fold_backward, fold_forward, grow, leaf_digest
 from forest import node_digests, root, root_string, sha256
-from operations import Bad, Fault, Input, hexed, number, unhex, varint
+from lines import BadLine, hexed, number, play, unhex
+from operations import Fault, Input, varint
 
 SIZES = {"bool": 1, "u8": 1, "u16": 2, "u32": 4, "u64": 8, "array": 4, "digest": 2}
 
@@ -55,7 +55,7 @@ def read_value(kind, data):
     elif kind in SIZES:
         data.take(SIZES[kind])
     else:
-        raise Bad
+        raise BadLine
 
 
 def read_flag(data):
@@ -84,7 +84,7 @@ def encoded(kind, word):
     if kind in ("u8", "u16", "u32", "u64"):
         value = number(word)
         if value >= 1 << (8 * SIZES[kind]):
-            raise Bad
+            raise BadLine
         return value.to_bytes(SIZES[kind], "big")
     if kind == "uint":
         return varint(number(word))
@@ -95,7 +95,7 @@ def encoded(kind, word):
     if kind == "bytes":
         value = unhex(word)
         return varint(len(value)) + value
-    raise Bad
+    raise BadLine
 
 
 def sized(text):
@@ -107,14 +107,14 @@ def of_codec(words):
         case ["encode", "list", *items]:
             values = [unhex(it) for it in items]
             if any(len(it) != 2 for it in values):
-                raise Bad
+                raise BadLine
             return sized(varint(len(values)) + b"".join(values))
         case ["encode", kind, word]:
             return sized(encoded(kind, word))
         case ["decode", "bytes" | "list" as kind, least, greatest, text]:
             least, greatest = number(least), number(greatest)
             if least > greatest:
-                raise Bad
+                raise BadLine
             size = 1 if kind == "bytes" else 2
             return whole(unhex(text), lambda data: read_counted(size, least, greatest, data))
         case ["decode", kind, text]:
@@ -128,7 +128,7 @@ def of_codec(words):
             return str(SIZES[kind])
         case ["fault", tag]:
             return f"C5: invalid tag {number(tag)}"
-    raise Bad
+    raise BadLine
 
 
 def arithmetic(value, end, words):
@@ -150,14 +150,14 @@ def arithmetic(value, end, words):
         case ["sums", other]:
             total = value + number(other)
             if total >= 1 << 64:
-                raise Bad
+                raise BadLine
             return f"{total} {total} {total}"
         case ["differences", other]:
             rest = value - number(other)
             if rest < 0:
-                raise Bad
+                raise BadLine
             return f"{rest} {rest} {rest}"
-    raise Bad
+    raise BadLine
 
 
 def of_number(family, kind, value, words):
@@ -195,7 +195,7 @@ def of_number(family, kind, value, words):
 def node_at(family, position):
     """The forest in which the node was born, and the node."""
     if position >= node_count(family, MAX_LEAVES):
-        raise Bad
+        raise BadLine
     forest = grow(family, greatest_leaves(family, position) + 1)
     return forest, forest.nodes[position]
 
@@ -215,14 +215,14 @@ def within(forest, first, stop):
 
 def has_node(family, leaves, first, height):
     if leaves > MAX_LEAVES or first > MAX_LEAVES or height > 62:
-        raise Bad
+        raise BadLine
     nodes = within(grow(family, leaves), first, first + 2**height)
     return len(nodes) == 1 and nodes[0].height == height
 
 
 def way(family, leaves, height, target):
     if leaves > MAX_LEAVES or height > 62 or target >= 2**height or not has_node(family, leaves, 0, height):
-        raise Bad
+        raise BadLine
     (node,) = within(grow(family, leaves), 0, 2**height)
     steps = []
     while node.left is not None:
@@ -250,7 +250,7 @@ def of_nodes(family, words):
     match words:
         case ["position-of", location]:
             if number(location) > MAX_LEAVES:
-                raise Bad
+                raise BadLine
             return str(node_count(family, number(location)))
         case ["location-of", position]:
             leaves = greatest_leaves(family, number(position))
@@ -282,7 +282,7 @@ def of_nodes(family, words):
             return f"{node.left.position} {node.right.position}" if node.left else "none"
         case ["chunk", leaves, chunk, height]:
             if number(height) > 62:
-                raise Bad
+                raise BadLine
             width = 2 ** number(height)
             nodes = within(grow(family, number(leaves)), number(chunk) * width, (number(chunk) + 1) * width)
             return listed(f"{it.position}:{it.height}" for it in nodes)
@@ -292,7 +292,7 @@ def of_nodes(family, words):
             return way(family, number(leaves), number(height), number(target))
         case ["grown", leaves]:
             if number(leaves) > 4096:
-                raise Bad
+                raise BadLine
             return listed(it for peak in grow(family, number(leaves)).peaks for it in positions(peak))
         case ["located", leaves]:
             return listed(it.first for it in grow(family, number(leaves)).peaks)
@@ -301,13 +301,13 @@ def of_nodes(family, words):
             return str(min(number(leaves), number(floor)))
         case ["merge", merges, *heights]:
             return or_none(merged(family, number(merges), [number(it) for it in heights]))
-    raise Bad
+    raise BadLine
 
 
 def digest(word):
     value = unhex(word)
     if len(value) != 32:
-        raise Bad
+        raise BadLine
     return value
 
 
@@ -352,7 +352,7 @@ def of_digests(family, words):
         case ["hold", pending]:
             held = digest(pending)
             return "none" if family == "mmr" else f"01{held.hex()} true"
-    raise Bad
+    raise BadLine
 
 
 def answer(words):
@@ -373,22 +373,8 @@ def answer(words):
             return of_digests(family, words)
         case ["mmr" | "mmb" as family, *words]:
             return of_nodes(family, words)
-    raise Bad
-
-
-def main():
-    for line in sys.stdin:
-        words = line.split()
-        if words[:1] == ["case"]:
-            print(line.rstrip("\n"))
-        elif words and not words[0].startswith("#"):
-            try:
-                print(answer(words))
-            except Fault as fault:
-                print(fault)
-            except Bad:
-                print("bad line")
+    raise BadLine
 
 
 if __name__ == "__main__":
-    main()
+    play(lambda: answer, Fault)

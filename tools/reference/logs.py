@@ -6,46 +6,18 @@
 A log is a list of operations, of which all is computed anew; a disk is its file, told by its pages; a ledger the list
 of its states. crates/log_player/README.md has the words of a line.
 """
-import sys
 
 import histories
 from devices import Pages, recovered
 from histories import RECORD, number as encoded_number, text
+from lines import BadLine, hexed, number, play, said, unhex
 
 MOST_BYTES = 2**24
 MOST_READS = 2**24
 
 
-class BadLine(Exception):
-    pass
-
-
-def number(word, limit=2**64):
-    if not (word.isascii() and word.isdecimal()) or int(word) >= limit:
-        raise BadLine
-    return int(word)
-
-
-def digits(word):
-    try:
-        return b"" if word == "-" else bytes.fromhex(word)
-    except ValueError:
-        raise BadLine from None
-
-
-def hexed(data):
-    return data.hex() or "-"
-
-
 def key(word):
-    data = digits(word)
-    if len(data) != 8:
-        raise BadLine
-    return data
-
-
-def said(flag):
-    return str(flag).lower()
+    return unhex(word, 8)
 
 
 def texts(operations):
@@ -203,7 +175,7 @@ def log_in(data):
 def of_records(words):
     match words:
         case ["read", data]:
-            log = log_in(digits(data))
+            log = log_in(unhex(data))
             return "corrupt" if log is None else texts(log)
         case ["len"]:
             return str(RECORD)
@@ -212,7 +184,7 @@ def of_records(words):
         case ["of", *words]:
             return histories.encoded(operation(words)).hex()
         case ["committed", data]:
-            return str(histories.committed(digits(data)))
+            return str(histories.committed(unhex(data)))
     raise BadLine
 
 
@@ -236,17 +208,17 @@ def recovery(file):
 def of_disk(words):
     match words:
         case ["file", first, second]:
-            return hexed(file_of(digits(first), digits(second)))
+            return hexed(file_of(unhex(first), unhex(second)))
         case ["recover", file]:
-            log, count = recovery(digits(file))
+            log, count = recovery(unhex(file))
             return f"{hexed(log)} {count}"
         case ["recovered", file]:
-            content = recovered(digits(file))
+            content = recovered(unhex(file))
             if histories.committed(content) != len(content) or not content:
                 raise NotImplementedError("a file that is cut")
-            return hexed(digits(file))
+            return hexed(unhex(file))
         case ["at", data, at]:
-            data, at = digits(data), number(at)
+            data, at = unhex(data), number(at)
             record = data[at * RECORD:(at + 1) * RECORD]
             if len(record) < RECORD:
                 return "F7"
@@ -260,16 +232,16 @@ def of_live(words):
         case ["begin"]:
             return live_of(b"")
         case ["recover", data]:
-            return live_of(file_of(digits(data)))
+            return live_of(file_of(unhex(data)))
         case ["get", data, name]:
-            log = log_in(recovery(file_of(digits(data)))[0])
+            log = log_in(recovery(file_of(unhex(data)))[0])
             name = key(name)
             if log is None:
                 return "S5"
             found = histories.state_after(log).get(name)
             return "none" if found is None else str(int.from_bytes(found, "big"))
         case ["commit", data, *words]:
-            log = log_in(recovery(file_of(digits(data)))[0])
+            log = log_in(recovery(file_of(unhex(data)))[0])
             match words:
                 case []:
                     batch = []
@@ -316,7 +288,7 @@ class Ledger:
     def answer(self, words):
         match words:
             case ["read", data]:
-                log = log_in(digits(data))
+                log = log_in(unhex(data))
                 if log is None:
                     return "corrupt"
                 self.history, self.chunks = histories.history_of(log), 0
@@ -420,7 +392,7 @@ def report(words):
         case ["error", code]:
             return f"error {code}"
         case ["root" | "proof" as word, data]:
-            return f"{word} {digits(data).hex()}"
+            return f"{word} {unhex(data).hex()}"
         case ["bad", count]:
             return f"bad line {number(count)}"
         case ["open" | "commit" | "value" | "present" | "floor" | "len" | "pruned" as word, count]:
@@ -442,21 +414,5 @@ def of_script(words):
     raise BadLine
 
 
-def main():
-    logs = Logs()
-    for line in sys.stdin:
-        words = line.split()
-        if not words or words[0].startswith("#"):
-            continue
-        if words[0] == "case":
-            logs = Logs()
-            print(" ".join(words))
-            continue
-        try:
-            print(logs.answer(words))
-        except BadLine:
-            print("bad line")
-
-
 if __name__ == "__main__":
-    main()
+    play(lambda: Logs().answer)

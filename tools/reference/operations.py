@@ -6,17 +6,13 @@
 An operation is ("delete", key), ("update", fields) or ("commit", metadata or None, floor), with keys, values and next keys as bytes.
 A kind of operations says how its fields are spelled: `Kind` has the names of the format.
 """
-import sys
+from lines import BadLine, hexed, number, play, unhex
 
 GREATEST_FLOOR = 1 << 62
 
 
 class Fault(Exception):
     """A refusal to read, by its number."""
-
-
-class Bad(Exception):
-    """A line that asks for nothing known."""
 
 
 class Input:
@@ -68,7 +64,7 @@ class Kind:
     def key_of(self, word):
         key = unhex(word)
         if len(key) != self.key_size or word == "-":
-            raise Bad
+            raise BadLine
         return key
 
     def spelled_value(self, value):
@@ -84,7 +80,7 @@ class Kind:
 
     def fields_of(self, words):
         if len(words) != (3 if self.is_ordered else 2):
-            raise Bad
+            raise BadLine
         key, value = self.key_of(words[0]), self.value_of(words[1])
         return (key, value, self.key_of(words[2])) if self.is_ordered else (key, value)
 
@@ -112,7 +108,7 @@ class Kind:
             return ("delete", self.key_of(words[1]))
         if words[:1] == ["commit"] and len(words) == 3:
             return ("commit", None if words[1] == "none" else self.value_of(words[1]), number(words[2]))
-        raise Bad
+        raise BadLine
 
     def say(self, operation):
         if operation[0] == "update":
@@ -180,23 +176,6 @@ class Kind:
         return hexed(operation[1] if operation[0] == "delete" else operation[1][0])
 
 
-def number(word):
-    if not word.isdigit() or int(word) >= 1 << 64:
-        raise Bad
-    return int(word)
-
-
-def unhex(word):
-    try:
-        return b"" if word == "-" else bytes.fromhex(word)
-    except ValueError:
-        raise Bad from None
-
-
-def hexed(data):
-    return data.hex() or "-"
-
-
 def of_operations(kind, words):
     match words:
         case ["read", text]:
@@ -222,7 +201,7 @@ def of_operations(kind, words):
             return kind.key_in(kind.operation_of(words))
         case ["copy", *words]:
             return kind.say(kind.operation_of(words))
-    raise Bad
+    raise BadLine
 
 
 def of_updates(kind, words):
@@ -245,7 +224,7 @@ def of_updates(kind, words):
             return f"{int(kind.is_ordered)} {kind.say_fields(fields)}"
         case ["copy" | "parts", *words]:
             return kind.say_fields(kind.fields_of(words))
-    raise Bad
+    raise BadLine
 
 
 def answer(words):
@@ -265,22 +244,8 @@ def answer(words):
             if words[:2] == ["size", "delete"] and not kind.is_fixed and kind.is_ordered:
                 return str(len(kind.spelled(kind.operation_of(words[1:]))))
             return of_operations(kind, words)
-    raise Bad
-
-
-def main():
-    for line in sys.stdin:
-        words = line.split()
-        if words[:1] == ["case"]:
-            print(line.rstrip("\n"))
-        elif words and not words[0].startswith("#"):
-            try:
-                print(answer(words))
-            except Fault as fault:
-                print(fault)
-            except Bad:
-                print("bad line")
+    raise BadLine
 
 
 if __name__ == "__main__":
-    main()
+    play(lambda: answer, Fault)

@@ -8,10 +8,9 @@ its two slots say, since the format leaves open which slot comes first. Choices 
 """
 
 import struct
-import sys
 import zlib
 
-from operations import Bad, hexed, number, unhex
+from lines import BadLine, hexed, number, play, unhex
 
 TEXTS = {
     "F1": "F1: blob missing",
@@ -136,7 +135,7 @@ class Reads:
             offset, count = ranges[0]
             return hexed(self.content[offset : offset + count]) if self.is_served(offset, count) else "false"
         if form not in ("items", "ranges"):
-            raise Bad
+            raise BadLine
         return self.try_many(ranges)
 
 
@@ -144,7 +143,7 @@ def pairs(text):
     """Ranges, each an offset, a plus and a count, with commas between them."""
     ranges = [it.split("+", 1) for it in text.split(",")]
     if any(len(it) != 2 for it in ranges):
-        raise Bad
+        raise BadLine
     return [(number(offset), number(count)) for offset, count in ranges]
 
 
@@ -152,7 +151,7 @@ def items(text):
     """A size and offsets: the ranges of as many bytes from each of them on."""
     size, colon, offsets = text.partition(":")
     if not colon:
-        raise Bad
+        raise BadLine
     return [(number(offset), number(size)) for offset in offsets.split(",")]
 
 
@@ -180,7 +179,7 @@ class Sealed(Reads):
                 case ["try", form, text, *words]:
                     told.append(self.try_read(form, text))
                 case _:
-                    raise Bad
+                    raise BadLine
         return ", ".join(told) or "ok"
 
 
@@ -232,7 +231,7 @@ class Replay:
                     self.taken(number(count))
                     told.append("ok")
                 case _:
-                    raise Bad
+                    raise BadLine
         return ", ".join(told) or "ok"
 
 
@@ -331,7 +330,7 @@ class Case:
 
     def check_sizes(self):
         if not is_page_size(self.size) or self.room == 0:
-            raise Bad
+            raise BadLine
 
     def play(self, pages, words, told):
         writer = Writer(pages, self.size, self.capacity, self.room)
@@ -369,7 +368,7 @@ class Case:
                 case ["try" | "size" | "needs-sync" | "kept" | "try-snapshot", *_]:
                     words = self.step(writer, words, told)
                 case _:
-                    raise Bad
+                    raise BadLine
         self.pages, self.durable = writer.pages(), writer.durable
         return ", ".join(told)
 
@@ -398,7 +397,7 @@ class Case:
                 case ["value", value]:
                     piece = number(value).to_bytes(8, "big")
                 case _:
-                    raise Bad
+                    raise BadLine
             told.append(writer.try_append(piece))
         self.pages, self.durable = writer.pages(), writer.durable
         return ", ".join([*told, str(len(writer.content))])
@@ -431,7 +430,7 @@ class Case:
             case ["read", "up-to", offset, count, *rest]:
                 told.append(writer.read_up_to(number(offset), number(count)))
             case _:
-                raise Bad
+                raise BadLine
         return rest
 
     def answer(self, words):
@@ -484,7 +483,7 @@ class Case:
                 return self.play(self.cut_pages(number(cut)), words, [str(found)])
             case ["cut", size]:
                 if not is_page_size(self.size):
-                    raise Bad
+                    raise BadLine
                 found = len(self.pages_now().content)
                 self.pages = self.cut_pages(number(size))
                 left = len(self.pages.content)
@@ -526,18 +525,18 @@ class Case:
             case ["range", offset, count] if is_page_size(self.size):
                 content, offset, count = self.pages_now().content, number(offset), number(count)
                 if offset + count > len(content):
-                    raise Bad
+                    raise BadLine
                 return hexed(content[offset : offset + count])
             case ["tail", count] if is_page_size(self.size):
                 content, pages = self.pages_now().content, self.pages_there()
                 if (pages - 1) * (self.size - 12) >= len(content) and pages:
-                    raise Bad
+                    raise BadLine
                 return f"{len(content)}, {hexed(content[max(len(content) - number(count), 0) :])}"
             case ["scan", _, most] if is_page_size(self.size):
                 length = len(self.pages_now().content)
                 return f"{length}, {min(length, number(most))}"
             case _:
-                raise Bad
+                raise BadLine
         return "ok"
 
     def of_tip(self, words):
@@ -548,7 +547,7 @@ class Case:
             case ["append", piece]:
                 piece = unhex(piece)
                 if offset + len(kept) + len(piece) >= 1 << 64:
-                    raise Bad
+                    raise BadLine
                 taken = piece[: max(capacity - len(kept), 0)]
                 self.tip = (offset, capacity, kept + taken)
                 return str(len(taken))
@@ -562,7 +561,7 @@ class Case:
                 is_empty = "false" if kept else "true"
                 return f"{offset} {offset + len(kept)} {max(capacity - len(kept), 0)} {is_empty} {hexed(kept)}"
             case _:
-                raise Bad
+                raise BadLine
         return "ok"
 
     def of_cache(self, words):
@@ -581,7 +580,7 @@ class Case:
             case ["put", blob, piece, offset]:
                 piece, offset = unhex(piece), number(offset)
                 if offset % size or offset + len(piece) >= 1 << 64:
-                    raise Bad
+                    raise BadLine
                 for at in range(0, len(piece) - len(piece) % size, size):
                     place = (number(blob), (offset + at) // size)
                     # ours: a full cache gives up the page that was put longest ago
@@ -592,7 +591,7 @@ class Case:
             case ["page", blob, page]:
                 found = dict(kept).get((number(blob), number(page)))
                 return "none" if found is None else found.hex()
-        raise Bad
+        raise BadLine
 
     def of_disk(self, words):
         try:
@@ -640,7 +639,7 @@ class Case:
             case ["calls"]:
                 return str(self.record)
             case _:
-                raise Bad
+                raise BadLine
         self.record += 1
         return "ok"
 
@@ -650,7 +649,7 @@ def of_formats(words):
         case ["footer", len1, crc1, len2, crc2]:
             fields = [number(it) for it in (len1, crc1, len2, crc2)]
             if max(fields[0::2]) > 65535 or max(fields[1::2]) >= 1 << 32:
-                raise Bad
+                raise BadLine
             return struct.pack(">HIHI", *fields).hex() + " 12"
         case ["footer-of", text]:
             text = unhex(text)
@@ -660,7 +659,7 @@ def of_formats(words):
         case ["slot", *words]:
             page = spelled(words)
             if not is_page_size(len(page)):
-                raise Bad
+                raise BadLine
             found = counted_slot(page)
             return f"{found[0]} {found[1]}" if found else "none"
         case ["prefix", size, *words] if is_page_size(number(size)):
@@ -669,22 +668,8 @@ def of_formats(words):
             return "true" if is_page_size(number(size)) else "false"
         case ["content-size", size] if is_page_size(number(size)):
             return str(number(size) - 12)
-    raise Bad
-
-
-def main():
-    case = Case()
-    for line in sys.stdin:
-        words = line.split()
-        if words[:1] == ["case"]:
-            case = Case()
-            print(line.rstrip("\n"))
-        elif words and not words[0].startswith("#"):
-            try:
-                print(case.answer(words))
-            except Bad:
-                print("bad line")
+    raise BadLine
 
 
 if __name__ == "__main__":
-    main()
+    play(lambda: Case().answer)

@@ -7,11 +7,12 @@ The words of a line are listed in the player's README.md. Everything is made ane
 by leaf, each digest recomputed from nothing, each proof taken apart node by node.
 """
 
-import sys
+from functools import partial
 
 import forest
 import proof_logs as logs
 import proof_states as states
+from lines import BadLine, need, number, play, unhex
 from proof_bitmaps import Bits, Map, chunk_of, led_root
 from proof_codec import Fault, Merkle, Reader, varint, option
 from proof_states import Refused, State
@@ -20,35 +21,8 @@ from proof_trees import Malformed, range_digests, peaks_of
 LIMIT = 1 << 40
 
 
-class BadLine(Exception):
-    pass
-
-
-def need(condition):
-    if not condition:
-        raise BadLine
-
-
-def number(word):
-    need(word.isdigit() and int(word) < 1 << 64)
-    return int(word)
-
-
-def data(word):
-    try:
-        return b"" if word == "-" else bytes.fromhex(word)
-    except ValueError:
-        raise BadLine
-
-
-def fixed(word, count):
-    found = data(word)
-    need(len(found) == count)
-    return found
-
-
 def digest(word):
-    return fixed(word, 32)
+    return unhex(word, 32)
 
 
 def listed(word, read):
@@ -95,7 +69,7 @@ class Case:
             return "ok"
         if subject == "proof":
             (word,) = rest
-            self.proof = data(word)
+            self.proof = unhex(word)
             return "ok"
         return self.of_state(subject, *rest)
 
@@ -111,7 +85,7 @@ class Case:
             bits.known += pattern(*rest)
         elif word == "bytes":
             need(bits.count() % 8 == 0)
-            bits.known += [byte >> at & 1 == 1 for byte in data(*rest) for at in range(8)]
+            bits.known += [byte >> at & 1 == 1 for byte in unhex(*rest) for at in range(8)]
         elif word == "set":
             at, value = number(rest[0]), pattern(rest[1])[0]
             need(bits.is_kept(at))
@@ -159,11 +133,11 @@ class Case:
             return self.from_pruned(number(rest[0]), listed(rest[1], digest))
         if word == "bit_from_chunk":
             bit = number(rest[1]) % (8 * width)
-            return truth(fixed(rest[0], width)[bit // 8] >> bit % 8 & 1)
+            return truth(unhex(rest[0], width)[bit // 8] >> bit % 8 & 1)
         if word in ("shows", "leads"):
             leaves, inactive, digests, chunk, bit, *root = rest
             found = led_root(width, bagging, number(leaves), number(inactive), listed(digests, digest),
-                             fixed(chunk, width), number(bit))
+                             unhex(chunk, width), number(bit))
             return truth(found == digest(*root)) if word == "shows" else hexed(found)
         if word in ("into_dirty", "merkleize"):
             need(self.map.merkleized == (word == "into_dirty"))
@@ -239,7 +213,7 @@ class Case:
             bits.known += pattern(*rest)
         elif word == "push_bytes":
             need(bits.count() % 8 == 0)
-            bits.known += [byte >> at & 1 == 1 for byte in data(*rest) for at in range(8)]
+            bits.known += [byte >> at & 1 == 1 for byte in unhex(*rest) for at in range(8)]
         elif word == "set_bit":
             need(bits.is_kept(number(rest[0])))
             bits.set(number(rest[0]), pattern(rest[1])[0])
@@ -267,7 +241,7 @@ class Case:
 
     def of_sizes(self, word, *rest):
         if word == "size_of":
-            width = len(data(*rest))
+            width = len(unhex(*rest))
         else:
             width = number(rest[0])
         height = states.grafting_height(width)
@@ -289,9 +263,9 @@ class Case:
             need(states.grafting_height(width) is not None)
             return joined([chunk_of(width, bits[8 * width * at :]).hex() for at in range(count)])
         if word == "is_zero":
-            return truth(not any(data(*rest)))
+            return truth(not any(unhex(*rest)))
         if word == "graft":
-            return states.graft(data(rest[0]), digest(rest[1])).hex()
+            return states.graft(unhex(rest[0]), digest(rest[1])).hex()
         need(word == "seal")
         operations, grafted, pending, following, partial = rest
         pending, partial = [None if part == "none" else digest(part) for part in (pending, partial)]
@@ -318,7 +292,7 @@ class Case:
     def made(self, word, *rest):
         state = self.state
         if word == "add":
-            state.operations += listed(rest[0], data)
+            state.operations += listed(rest[0], unhex)
         elif word == "numbers":
             state.operations += [forest.number(n) for n in range(number(rest[0]), number(rest[1]) + 1)]
         elif word == "bits":
@@ -359,7 +333,7 @@ class Case:
         return Merkle(count, inactive, digests).written().hex()
 
     def made_chunks(self, height, *pairs):
-        leaves = [(number(at), data(chunk)) for at, chunk in (pair.split(":") for pair in pairs)]
+        leaves = [(number(at), unhex(chunk)) for at, chunk in (pair.split(":") for pair in pairs)]
         self.state.make_chunks(number(height), leaves)
         return "ok"
 
@@ -452,7 +426,7 @@ class Case:
             return forest.branch_digest(own, left, right).hex()
         need(word == "joined")
         height, first, have = map(number, rest[:3])
-        chunks, position = listed(rest[3], data), number(rest[4])
+        chunks, position = listed(rest[3], unhex), number(rest[4])
         node = states.node_at(family, position)
         own = forest.branch_digest(position, digest(rest[5]), digest(rest[6]))
         index = node.first >> height
@@ -506,7 +480,7 @@ class Case:
         if word == "parts":
             return self.range_parts(proof)
         start, operations, chunks, width = rest
-        start, chunks, width = number(start), listed(chunks, data), number(width)
+        start, chunks, width = number(start), listed(chunks, unhex), number(width)
         if word == "digests":
             need(width in (1, 3, 32) and all(len(chunk) == width for chunk in chunks))
             operations = [forest.number(n) for n in listed(operations, number)]
@@ -520,7 +494,7 @@ class Case:
         need(word in ("shows", "shows_arrays"))
         if word == "shows_arrays":
             need(width in (0, 1, 2, 3, 32) and all(len(chunk) == width for chunk in chunks))
-        return truth(states.shows_range(family, proof, start, listed(operations, data), chunks, width, self.root))
+        return truth(states.shows_range(family, proof, start, listed(operations, unhex), chunks, width, self.root))
 
     def nodes(self, rebuilt):
         return " ".join(f"{at}:{digest.hex()}" for at, (_, digest) in sorted(rebuilt.told.items()))
@@ -546,10 +520,10 @@ class Case:
         if word == "parts":
             return f"{proof.location} {hexed(proof.chunk)} {self.range_parts(proof.range)}"
         need(word == "shows")
-        return truth(states.shows_operation(self.state.family, proof, data(*rest), self.root))
+        return truth(states.shows_operation(self.state.family, proof, unhex(*rest), self.root))
 
     def value_shown(self, proof, next_key, key, value):
-        operation = states.update(fixed(key, 8), forest.number(number(value)), next_key)
+        operation = states.update(unhex(key, 8), forest.number(number(value)), next_key)
         return truth(states.shows_operation(self.state.family, proof, operation, self.root))
 
     def value(self, form, width, most, word, *rest):
@@ -587,7 +561,7 @@ class Case:
             tail = b"".join(what) if tag == 1 else option(what)
             return self.written(bytes([tag]) + proof.written(family) + tail)
         need(word == "shows")
-        asked = fixed(*rest, 8)
+        asked = unhex(*rest, 8)
         if tag == 2:
             return truth(states.shows_operation(family, proof, states.commit(what, proof.location), self.root))
         key, value, next_key = what
@@ -651,18 +625,5 @@ def answer(case, words):
         return "bad line"
 
 
-def main():
-    case = Case()
-    for line in sys.stdin:
-        words = line.split()
-        if not words or words[0].startswith("#"):
-            continue
-        if words[0] == "case":
-            case = Case()
-            print(line.rstrip("\n"))
-        else:
-            print(answer(case, words))
-
-
 if __name__ == "__main__":
-    main()
+    play(lambda: partial(answer, Case()))

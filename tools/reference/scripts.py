@@ -11,7 +11,9 @@ from copy import deepcopy
 
 import histories
 from devices import Settings
-from store import BUFFERS, BadLine, Disk, Session, encoded_number, key as key_of, number, rate
+from lines import BadLine, number
+from logs import key as key_of
+from store import BUFFERS, Disk, Session, encoded_number, rate
 
 DONE, BAD_LINE = 0, 2
 KINDS = ("open", "read", "write", "sync", "resize")

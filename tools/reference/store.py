@@ -7,7 +7,6 @@ A store is a log, of which all is computed anew, and the writer of it, which cal
 definition tells which calls an opening, a commit and a read make, nor their order: these were read off the crates and
 are modelled here. crates/store_player/README.md has the words of a line.
 """
-import sys
 from copy import deepcopy
 from zlib import crc32
 
@@ -15,52 +14,13 @@ import histories
 from proof_states import State
 from devices import PIECE, Device, Refused, Settings, recovered
 from histories import RECORD, number as encoded_number
+from lines import BadLine, hexed, number, play, said, unhex
+from logs import key, metadata_of
 
 PAGE = 64
 FOOTER = 12
 ROOM = PAGE - FOOTER
 BUFFERS = (128, 128)
-
-
-class BadLine(Exception):
-    pass
-
-
-def number(word, limit=2**64):
-    if not (word.isascii() and word.isdecimal()) or int(word) >= limit:
-        raise BadLine
-    return int(word)
-
-
-def digits(word):
-    try:
-        return b"" if word == "-" else bytes.fromhex(word)
-    except ValueError:
-        raise BadLine from None
-
-
-def hexed(data):
-    return data.hex() or "-"
-
-
-def key(word):
-    data = digits(word)
-    if len(data) != 8:
-        raise BadLine
-    return data
-
-
-def said(flag):
-    return str(flag).lower()
-
-
-def metadata_of(words):
-    match words:
-        case []:
-            return None
-        case [metadata]:
-            return encoded_number(number(metadata))
-    raise BadLine
 
 
 def sizes_of(words):
@@ -138,7 +98,7 @@ class Disk(Device):
             try:
                 return made()
             except Refused as refused:
-                return refused.text()
+                return str(refused)
 
         first = told(call)
         return f"{told(lambda: self.answer(words))}; {first}"
@@ -162,7 +122,7 @@ class Disk(Device):
             case ["read", at, count]:
                 return hexed(self.read(number(at), number(count)))
             case ["write", at, data, "plain" | "sync" as mode]:
-                self.write(number(at), digits(data), mode == "sync")
+                self.write(number(at), unhex(data), mode == "sync")
             case ["resize", length]:
                 self.resize(number(length))
             case ["sync"]:
@@ -739,7 +699,7 @@ def turned(proof):
 def of_client(words):
     match words:
         case [call, "mmr" | "mmb" as family, "1" | "32" as width, root, name, value, proof]:
-            root, name, proof = digits(root), key(name), digits(proof)
+            root, name, proof = unhex(root), key(name), unhex(proof)
             value = None if value == "absent" else encoded_number(number(value))
         case _:
             raise BadLine
@@ -756,23 +716,5 @@ def of_client(words):
     return str(sum(says(proof[:count]) for count in range(len(proof))))
 
 
-def main():
-    stores = Stores()
-    for line in sys.stdin:
-        words = line.split()
-        if not words or words[0].startswith("#"):
-            continue
-        if words[0] == "case":
-            stores = Stores()
-            print(" ".join(words))
-            continue
-        try:
-            print(stores.answer(words))
-        except Refused as refused:
-            print(refused.text())
-        except BadLine:
-            print("bad line")
-
-
 if __name__ == "__main__":
-    main()
+    play(lambda: Stores().answer, Refused)

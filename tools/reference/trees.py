@@ -6,15 +6,10 @@ A tree is the digests of the nodes that it keeps, by position, and every digest 
 `forest.py`. crates/trees_player/README.md has the words of a line.
 """
 
-import sys
-
 import forest as trees
 import merkle_proofs as proofs
+from lines import BadLine, play
 from merkle_proofs import Proof, Refusal
-
-
-class BadLine(Exception):
-    pass
 
 
 # The texts of refusals that are fixed by more than their number.
@@ -626,23 +621,5 @@ class Player:
         return TEXTS[words]
 
 
-def main():
-    player = Player()
-    for line in sys.stdin:
-        words = line.split()
-        if not words or words[0].startswith("#"):
-            continue
-        if words[0] == "case":
-            player = Player()
-            print(line.rstrip("\n"))
-            continue
-        try:
-            print(player.answer(words))
-        except Refusal as refusal:
-            print(refusal)
-        except (BadLine, KeyError, ValueError, IndexError, TypeError):
-            print("bad line")
-
-
 if __name__ == "__main__":
-    main()
+    play(lambda: Player().answer, Refusal, (BadLine, KeyError, ValueError, IndexError, TypeError))
