@@ -1,7 +1,8 @@
 #!/usr/bin/env python3
 """Asks of every crate what `rt ci` asks before any proof: the layout, the words of contracts, that each file is read, that each
 text of an edit stands in its file once, and that each library which a path begins with is one of the crate's in crates.txt;
-and that the program which README.md shows is that of its crate.
+and that the program which README.md shows is that of its crate, and that lines of sources, specs and documents have at most
+120 columns.
 
     tools/before_a_commit.py        at the top of the repository; prints what is wrong, and ends with status 1 if anything is
 
@@ -17,6 +18,7 @@ import sys
 
 PROGRAM = os.path.realpath(shutil.which("rt"))
 RLIBS = pathlib.Path("/opt/rattle/rlibs")
+WIDTH = 120
 
 
 def load():
@@ -46,6 +48,15 @@ def libraries_not_listed(crate, crates):
     return sorted((used & known) - own - listed.get(name, set()))
 
 
+def long_lines(files):
+    """The lines past the width, but for attributes, which `rt fmt` writes in one, and for words that no line holds."""
+    for file in files:
+        for number, line in enumerate(file.read_text().splitlines(), 1):
+            is_data = max(map(len, line.split()), default=0) > WIDTH // 2
+            if len(line) > WIDTH and not line.lstrip().startswith("#[") and not is_data:
+                yield f"{file.name}:{number} has {len(line)} columns"
+
+
 def wrong_with(kit, crate, crates):
     """What is wrong with a crate's texts, line by line."""
     lib = kit.rtlib
@@ -60,6 +71,8 @@ def wrong_with(kit, crate, crates):
     if lib.fmt(crate.folder, "--check", sys.stdout):
         found.append("run rt fmt")
     found += [f"crates.txt does not say that it uses {it}" for it in libraries_not_listed(crate, crates)]
+    folder = pathlib.Path(crate.folder)
+    found += long_lines(it for part in ("src", "specs") for it in sorted((folder / part).rglob("*")) if it.is_file())
     edits, others = kit.edits_of(crate)
     found += [f"{os.path.basename(it)} is no edit's name" for it in others]
     folder = f"{crate.folder}/wrong-bodies"
@@ -87,6 +100,10 @@ def main():
         for it in wrong_with(kit, crate, crates):
             failed = True
             print(f"{crate.name}: {it}")
+    documents = [pathlib.Path("README.md"), *sorted(pathlib.Path("docs").glob("*.md")), *sorted(pathlib.Path("crates").glob("*/README.md"))]
+    for it in long_lines(documents):
+        failed = True
+        print(it)
     program = pathlib.Path("crates/auth_store_example/src/main.rt").read_text()
     for shown in functions_shown(pathlib.Path("README.md").read_text()):
         if shown not in program:
