@@ -3,8 +3,8 @@
 
     python3 tools/reference/logs.py < crates/log_player/stdin > crates/log_player/stdout
 
-A log is a list of operations, of which all is computed anew; a disk is its file, told by its pages; a ledger the list
-of its states. crates/log_player/README.md has the words of a line.
+A log is a list of operations, of which all is computed anew; a disk is its file, told by its pages.
+crates/log_player/README.md has the words of a line.
 """
 
 import histories
@@ -58,12 +58,11 @@ def or_none(found):
 
 
 class Logs:
-    """A log of operations with the batch that is put together, and a ledger."""
+    """A log of operations with the batch that is put together."""
 
     def __init__(self):
         self.log = [("commit", None, 0)]
         self.batch = []
-        self.ledger = None
 
     def state(self):
         return histories.state_after(self.log)
@@ -90,18 +89,6 @@ class Logs:
                 return "ok"
             case ["commit", *metadata]:
                 return self.commit(metadata_of(metadata))
-            case ["ledger", "new", family, width]:
-                if family not in ("mmr", "mmb") or width not in ("1", "32"):
-                    raise BadLine
-                self.ledger = Ledger(family, int(width))
-                return "ok"
-            case ["ledger", *words]:
-                if self.ledger is None:
-                    raise BadLine
-                if words[:1] == ["commit"]:
-                    batch, self.batch = self.batch, []
-                    return self.ledger.commit(batch, metadata_of(words[1:]))
-                return self.ledger.answer(words)
             case ["records", *words]:
                 return of_records(words)
             case ["disk", *words]:
@@ -265,60 +252,6 @@ def live_of(file):
         return "S5"
     root = histories.Snapshot("mmr", 1, log).root.hex()
     return f"{len(histories.history_of(log))} {root} {count}"
-
-
-# ---------------------------------------------------------------- ledgers
-
-class Ledger:
-    def __init__(self, family, width):
-        self.family, self.width, self.history, self.chunks = family, width, [], 0
-
-    def log(self):
-        return histories.log_of(self.history)
-
-    def snapshot(self):
-        return histories.Snapshot(self.family, self.width, self.log())
-
-    def commit(self, batch, metadata):
-        before = len(self.log())
-        old = self.history[-1][0] if self.history else {}
-        self.history.append((histories.after(old, batch), metadata))
-        return histories.bytes_of(self.log()[before:]).hex()
-
-    def answer(self, words):
-        match words:
-            case ["read", data]:
-                log = log_in(unhex(data))
-                if log is None:
-                    return "corrupt"
-                self.history, self.chunks = histories.history_of(log), 0
-                return "ok"
-            case ["root"]:
-                return self.snapshot().root.hex()
-            case ["commits"]:
-                return str(len(self.history))
-            case ["floor"]:
-                return str(self.log()[-1][2])
-            case ["len"]:
-                return str(len(self.log()))
-            case ["location", name]:
-                return or_none(histories.place_of(self.log(), key(name)))
-            case ["prove", name]:
-                value, proof = self.snapshot().proof(key(name))
-                said = "absent" if value is None else int.from_bytes(value, "big")
-                return f"{said} {proof.hex()}"
-            case ["prune", location]:
-                chunks = self.snapshot().pruned(self.chunks, number(location))
-                if chunks is None:
-                    return "past the floor"
-                self.chunks = chunks
-                return str(chunks)
-            case ["same", name]:
-                key(name)
-                return "true"
-            case ["operations"]:
-                return texts(self.log())
-        raise BadLine
 
 
 # ---------------------------------------------------------------- the script

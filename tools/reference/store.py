@@ -389,8 +389,25 @@ class Store:
     def snapshot(self):
         return histories.Snapshot(*self.form, self.log())
 
+    def read(self, at):
+        """The operation at a location, read where it stands."""
+        return histories.decoded(self.writer.read(at * RECORD, RECORD))
+
+    def read_for(self, batch):
+        """Reads what a batch cannot be told without: of each key that is put and keeps its next key the value that it
+        had, and of each other whose next key changes the value that it keeps; in ascending order."""
+        log = self.log()
+        old = histories.state_after(log)
+        new, said = histories.after(old, batch), {key for word, key, *_ in batch}
+        put = {key for key in said if key in new}
+        for key in sorted(set(old) & set(new)):
+            stays = histories.next_key(old, key) == histories.next_key(new, key)
+            if stays == (key in put):
+                self.read(histories.place_of(log, key))
+
     def commit(self, batch, metadata):
         log = self.log()
+        self.read_for(batch)
         old = histories.state_after(log)
         more = histories.changes(old, histories.after(old, batch))
         more.append(("commit", metadata, histories.floor_of(log + more)))
@@ -406,11 +423,17 @@ class Store:
         at = histories.place_of(self.log(), name)
         if at is None:
             return "none"
-        kind, *fields = histories.decoded(self.writer.read(at * RECORD, RECORD))
+        kind, *fields = self.read(at)
         assert (kind, fields[0]) == ("update", name)
         return str(int.from_bytes(fields[1], "big"))
 
     def prove(self, name):
+        log = self.log()
+        at, present = histories.place_of(log, name), histories.state_after(log)
+        if at is None:
+            before = max((key for key in present if key < name), default=max(present, default=None))
+            at = len(log) - 1 if before is None else histories.place_of(log, before)
+        self.read(at)
         return proof_text(*self.snapshot().proof(name))
 
     def proved(self, question):
@@ -428,7 +451,7 @@ class Store:
         state.floor = log[-1][2]
         if kind == "operation" and not state.bits[start]:
             raise StoreRefused("S8")
-        told = [", ".join(map(histories.text, log[start:stop]))]
+        told = [", ".join(histories.text(self.read(at)) for at in range(start, stop))]
         if kind == "range":
             told.append("".join(str(int(bit)) for bit in state.bits[start:stop]))
         made = {"operation": lambda *_: state.honest(start).written(family), "range": state.range_bytes, "log": state.slice_bytes}

@@ -1,5 +1,6 @@
 -- What a line of a script does, from the steps that it takes and from what is printed.
-use Rattle.std.proofs.Common.{◌≡◌, inl, inr, ℕ, List, [], ◌∷◌, ◌++◌, Bool, true, false, Option, None, Some, refl, ap, sym, ◌∙◌, subst, option_map, unwrap_or, append_assoc, append-nil}
+use Rattle.std.proofs.Common.{◌≡◌, inl, inr, ℕ, List, [], ◌∷◌, ◌++◌, Bool, true, false, Option, None, Some, refl, ap}
+use Rattle.std.proofs.Common.{sym, ◌∙◌, subst, option_map, unwrap_or, append_assoc, append-nil}
 use Rattle.std.proofs.lemmas.List.{map-append}
 use Rattle.std.specs.Prelude.{Result, Ok, Err, IfOk, OnOk, IsSomeAnd, IsTrue, ◌↔◌}
 use Rattle.std.specs.Io.KnownBytes.{Appends}
@@ -19,7 +20,9 @@ use Rattle.auth_store_session.specs.Machine.{Machine, Request, Answer, machine, 
 use Rattle.auth_store_session.specs.MachineCode.{config_after, meaning_of, request_of}
 use Rattle.auth_store_session.specs.Standing.{SessionState, Steps, Runs, calls_in, config_in, page_size_in}
 use Rattle.auth_store_session.proofs.Runs.{AreSound, runs_go_on}
-use Rattle.auth_store.specs.ScriptLines.{Exchange, Checks, Does, asked, answered, answer_line, bytes_of, value_of, checked_line, found_line, kept_after, settings_after, pending_of, rule_of, script_format, script_machine}
+use Rattle.auth_store.specs.ScriptLines.{Exchange, Checks, Does, asked, answered, answer_line, bytes_of, value_of}
+use Rattle.auth_store.specs.ScriptLines.{checked_line, found_line, kept_after, settings_after, pending_of, rule_of}
+use Rattle.auth_store.specs.ScriptLines.{script_format, script_machine}
 use Rattle.auth_store.specs.ScriptCode.{DoesLine, Goes, Handled, HasRun, Now, exchange_of, settings_in}
 use Rattle.auth_store_parts.specs.declared.script.line.Line.{Line}
 use Rattle.auth_store_parts.specs.declared.script.words.TreeFamily.{TreeFamily}

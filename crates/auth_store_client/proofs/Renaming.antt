@@ -1,12 +1,14 @@
 -- The digest that a proof of a range leads to is the same whatever its sites are called.
-use Rattle.std.proofs.Common.{◌≡◌, ℕ, zero, suc, ◌+◌, ltb, ◌||◌, ◌^◌, Bool, true, false, cond, List, [], ◌∷◌, ◌++◌, length, take, drop, Option, None, Some, option_map, option_and_then, refl, ◌∙◌, ap}
+use Rattle.std.proofs.Common.{◌≡◌, ℕ, zero, suc, ◌+◌, ltb, ◌||◌, ◌^◌, Bool, true, false, cond, List, [], ◌∷◌, ◌++◌}
+use Rattle.std.proofs.Common.{length, take, drop, Option, None, Some, option_map, option_and_then, refl, ◌∙◌, ap}
 use Rattle.std.specs.List.{list_all}
 use Rattle.merkle_forest.specs.declared.bagging.Bagging.{Bagging}
 use Rattle.merkle_forest.specs.Forest.{Rule}
 use Rattle.merkle_forest.specs.Hashing.{Hash, number, domain_of, inactive_count}
 use Rattle.merkle_forest.specs.Made.{Made, value}
 use Rattle.merkle_forest.specs.Trees.{Located}
-use Rattle.merkle_core.specs.MadeRoots.{Naming, folded, root_made, from_left, peaks_of, Streams, Bagged, given_outer, read_peak, read_back, read_onto, read_group, read_bag, used, read_root}
+use Rattle.merkle_core.specs.MadeRoots.{Naming, folded, root_made, from_left, peaks_of, Streams, Bagged, given_outer}
+use Rattle.merkle_core.specs.MadeRoots.{read_peak, read_back, read_onto, read_group, read_bag, used, read_root}
 use Rattle.merkle_core.specs.MadeTrees.{Over, Elements}
 use Rattle.merkle_core.specs.Ranges.{is_before, is_after}
 use Rattle.merkle_core.specs.RangeCounts.{range_outer}

@@ -2,7 +2,8 @@
 use Rattle.std.proofs.Common.{◌≡◌, ℕ, zero, suc, ◌+◌, ◌*◌, ◌<◌, ◌≤◌, List, [], ◌∷◌, ◌++◌, length, take, drop, get_or, map}
 use Rattle.std.proofs.Common.{sym, ◌∙◌, ap, refl, subst, arith, append_assoc, length-append, length-drop}
 use Rattle.std.specs.List.{All}
-use Rattle.std.proofs.lemmas.List.{append-nil, drop-append-le, ext_get_or, get_or_append_left, get_or-append_right, length-take-le, map-append, map_push, take-append-le}
+use Rattle.std.proofs.lemmas.List.{append-nil, drop-append-le, ext_get_or, get_or_append_left, get_or-append_right}
+use Rattle.std.proofs.lemmas.List.{length-take-le, map-append, map_push, take-append-le}
 use Rattle.std.proofs.lemmas.List.Elements.{All-head, All-tail, All-cons, All-nil}
 use Rattle.std.specs.declared.alloc.Global.{Global}
 use Rattle.std.specs.declared.vec.Vec.{Vec}
@@ -57,10 +58,12 @@ images-stay blocks later (image ∷ others) gaining within =
     ∙ ap (λ l. image_in blocks image.items ∷ l) (images-stay blocks later others gaining (All-tail P image others within))
 
 -- an image more of one part
-pub image-push : (blocks : List (List ℕ)) (parts : List Part) (part : Part) → image_in blocks (parts ++ part ∷ []) ≡ image_in blocks parts ++ bytes_in blocks part
+pub image-push : (blocks : List (List ℕ)) (parts : List Part) (part : Part) → image_in blocks (parts ++ part ∷ [])
+    ≡ image_in blocks parts ++ bytes_in blocks part
 image-push blocks [] part = append-nil (bytes_in blocks part)
 image-push blocks (first ∷ others) part =
-    ap (λ l. bytes_in blocks first ++ l) (image-push blocks others part) ∙ sym (append_assoc (bytes_in blocks first) (image_in blocks others) (bytes_in blocks part))
+    ap (λ l. bytes_in blocks first ++ l) (image-push blocks others part)
+    ∙ sym (append_assoc (bytes_in blocks first) (image_in blocks others) (bytes_in blocks part))
 
 -- the last block gains bytes
 grown-at : (front : List (List ℕ)) (last more : List ℕ) (k : ℕ) → k < length (front ++ last ∷ [])

@@ -85,7 +85,8 @@ module _ (held later : Held) (calls now : List Kept) (kept : Kept) (base : Base)
         omega (arith, ap length is, length-append calls (kept ∷ []), length-append all-of (call-of ∷ []), many)
 
     -- with which it begins with an image
-    pub begin-noted : (count image : ℕ) (bytes : List ℕ) (touched : Touched) → HasItsBytes later kept → KnowsBase later (reverse all-of) kept → count ≡ length now
+    pub begin-noted : (count image : ℕ) (bytes : List ℕ) (touched : Touched) → HasItsBytes later kept
+        → KnowsBase later (reverse all-of) kept → count ≡ length now
         → file_of (call-of ∷ reverse all-of) ≡ shown_file bytes → image < length later.images → get_or later.images image [] ≡ bytes
         → Noted (record base { image = image; image_at = count; base_at = count; has_failed = false; touched = touched })
     begin-noted count image bytes touched has knows many anew within these =

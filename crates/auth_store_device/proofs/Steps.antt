@@ -82,7 +82,8 @@ stands_left file log left by s = record { each = λ last is. s.each last (left-l
 pub own_left : (store left : Store) → AreLeftOf store.files left.files → IsOrderly store → HasOwnHeader store → HasOwnHeader left
 own_left store left by o own there =
     let has : has_log store ≡ true = sym (has-left store.files left.files by) ∙ there in
-    left-keeps 8 (log_of store).base (log_of left).base (log_of store).log (log_of left).log (file-left store.files left.files by) (made-headed (log_of store).base (own has)).long o.past
+    left-keeps 8 (log_of store).base (log_of left).base (log_of store).log (log_of left).log
+    (file-left store.files left.files by) (made-headed (log_of store).base (own has)).long o.past
     ∙ own has
 
 pub own_crashed : (store left : Store) (words after : Stream) → ◌≡◌ {A = Store × Stream} (left, after) (crashed_store store words)

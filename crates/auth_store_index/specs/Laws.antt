@@ -11,4 +11,5 @@ pub mod Walks
 pub mod Near
 pub mod Told
 pub mod Sourced
+pub mod Refused
 pub mod NearCode

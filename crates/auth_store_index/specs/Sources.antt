@@ -1,8 +1,8 @@
 -- Where a state's values are found.
-use Rattle.std.specs.Prelude.{◌≡◌, ◌==◌, ⊤, ℕ, Bool, false, List, [], ◌∷◌, Some}
+use Rattle.std.specs.Prelude.{◌≡◌, ◌==◌, ⊤, ℕ, Bool, false, List, [], ◌∷◌, Some, slice_get}
 use Rattle.std.specs.List.{AllByRecursion}
 use Rattle.auth_store_parts.specs.Map.{Map, value_at}
-use Rattle.state_ops.specs.Operation.{Operation}
+use Rattle.state_ops.specs.Operation.{Operation, update, ordered}
 use Rattle.auth_store_index.specs.declared.values.Source as code
 use Rattle.auth_store_index.specs.declared.values.Source.TheVariants.{Logged, Given}
 use Rattle.auth_store_index.specs.Readings.{value_read}
@@ -15,6 +15,16 @@ source_value value log (Given v) = value v
 -- the value at a location
 abbrev pub value_there : List Operation → ℕ → List ℕ
 value_there log place = value_read log (place ∷ [])
+
+-- an update stands at this location
+abbrev pub HasUpdate : List Operation → ℕ → Type 0
+HasUpdate log location = (key : List ℕ) × (value : List ℕ) × (next : List ℕ)
+    × (slice_get log location ≡ Some (update (ordered key value next)))
+
+-- where the source names a location, an update stands there
+abbrev pub IsReadable : {V : Type 0} → List Operation → code.Source V → Type 0
+IsReadable log (Logged place) = HasUpdate log place
+IsReadable log (Given v) = ⊤
 
 -- how many values are read of the log for the value that a source names
 abbrev pub reads_for : {V : Type 0} → code.Source V → ℕ

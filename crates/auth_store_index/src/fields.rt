@@ -5,6 +5,7 @@ ghost use Rattle.std.specs.Prelude.{OnOk, MatchOption};
 ghost use Rattle.std.specs.Str.{bytes_eq};
 ghost use Rattle.auth_store_parts.specs.Map.{state_of, value_at, next_key};
 ghost use Rattle.auth_store_parts.specs.History as spec;
+ghost use Rattle.auth_store_parts.specs.Places.{places_of};
 ghost use Rattle.auth_store_index.specs.Refusals.{IfLog};
 ghost use Rattle.auth_store_index.specs.Sources.{IsOwn, reads_for, source_value, value_there};
 
@@ -25,7 +26,7 @@ pub(crate) fn is_there<K: FixedKey, X>(state: &BTreeMap<K, X>, key: &K) -> bool
 }
 
 /// The least key above the key, or the least of all where none is above. `None` in the empty state.
-pub(crate) fn next_key<'a, K: FixedKey, X>(state: &'a BTreeMap<K, X>, key: &K) -> Option<&'a K>
+fn next_key<'a, K: FixedKey, X>(state: &'a BTreeMap<K, X>, key: &K) -> Option<&'a K>
     ensures { MatchOption result (state.now.entries ≡ []) (λ next. (value : X → List ℕ) → K.encoding next.now
         ≡ next_key (state_of K.encoding value state.now.entries) (K.encoding key.now)) }
 {
@@ -59,14 +60,16 @@ fn has_fields<K: FixedKey, V: FixedValue, L: LoggedValues<V>>(
     source: &Source<V>,
     next: &K,
 ) -> Result<bool, ReadError<L::Error>>
+    requires may { L.readable log.old }
+    requires places { state_of K.encoding (λ place. place ∷ []) old.now.entries ≡ places_of (L.log log.old) }
+    requires own { IsOwn (places_of (L.log log.old)) (K.encoding key.now) source.now }
     ensures what { IfOk result (λ has. has ≡ spec.has_fields
         (state_of K.encoding (value_there (L.log log.old)) old.now.entries)
         (K.encoding key.now) (source_value V.encoding (L.log log.old) source.now) (K.encoding next.now)) }
     ensures same { L.log log.new ≡ L.log log.old }
-    ensures few { IsOwn (state_of K.encoding (λ place. place ∷ []) old.now.entries) (K.encoding key.now) source.now
-        → L.reads log.new ≤ L.reads log.old + (1 - reads_for source.now) }
-    ensures leads { L.leads log.old log.new }
-    ensures refused { IfErr result (IfLog (L.refused log.new)) }
+    ensures few { L.reads log.new ≤ L.reads log.old + (1 - reads_for source.now) }
+    ensures leads { OnOk result (L.leads log.old log.new) }
+    ensures refused { IfErr result (IfLog (L.leads log.old log.new) (L.refuses log.old log.new)) }
 {
     match old.get(key) {
         None => Ok(false),
@@ -86,22 +89,6 @@ pub(crate) fn push<T: Drop>(out: &mut Vec<T>, element: T) -> Result<(), AllocErr
     Ok(out.push(element)?)
 }
 
-/// Appends a delete where the new state lacks the key. It fails only when out of memory.
-pub(crate) fn push_delete<F: Family, K: FixedKey, V: FixedValue, X>(
-    new: &BTreeMap<K, X>,
-    key: &K,
-    out: &mut Vec<OrderedOperation<F, K, V>>,
-) -> Result<(), AllocError>
-    ensures { OnOk result ((value : X → List ℕ) → spec.meanings K.encoding V.encoding out.new.items
-        ≡ spec.meanings K.encoding V.encoding out.old.items
-        ++ spec.delete_of (state_of K.encoding value new.now.entries) (K.encoding key.now)) }
-{
-    if is_there(new, key) {
-        return Ok(());
-    }
-    Ok(out.push(Operation::Delete(key.clone()?))?)
-}
-
 /// Appends an update of the key to the value of this source and this next key, where it does not have them so. It fails
 /// when out of memory, and where the log isn't read.
 pub(crate) fn push_update<F: Family, K: FixedKey, V: FixedValue, L: LoggedValues<V>>(
@@ -113,15 +100,17 @@ pub(crate) fn push_update<F: Family, K: FixedKey, V: FixedValue, L: LoggedValues
     next: &K,
     out: &mut Vec<OrderedOperation<F, K, V>>,
 ) -> Result<(), ReadError<L::Error>>
+    requires may { L.readable log.old }
+    requires places { state_of K.encoding (λ place. place ∷ []) old.now.entries ≡ places_of (L.log log.old) }
+    requires own { IsOwn (places_of (L.log log.old)) (K.encoding key.now) source.now }
     ensures what { OnOk result (spec.meanings K.encoding V.encoding out.new.items ≡ spec.meanings K.encoding V.encoding
         out.old.items
         ++ spec.update_to (state_of K.encoding (value_there (L.log log.old)) old.now.entries)
         (K.encoding key.now) (source_value V.encoding (L.log log.old) source.now) (K.encoding next.now)) }
     ensures same { L.log log.new ≡ L.log log.old }
-    ensures few { IsOwn (state_of K.encoding (λ place. place ∷ []) old.now.entries) (K.encoding key.now) source.now
-        → L.reads log.new ≤ L.reads log.old + 1 }
-    ensures leads { L.leads log.old log.new }
-    ensures refused { IfErr result (IfLog (L.refused log.new)) }
+    ensures few { L.reads log.new ≤ L.reads log.old + 1 }
+    ensures leads { OnOk result (L.leads log.old log.new) }
+    ensures refused { IfErr result (IfLog (L.leads log.old log.new) (L.refuses log.old log.new)) }
 {
     if has_fields(room, log, old, key, source, next)? {
         return Ok(());

@@ -2,18 +2,15 @@
 //! what a batch appends, told from the places of keys and from values that are read where they stand.
 #![tactic(auto)]
 
-pub mod changes;
+mod changes;
 mod fields;
 pub mod floor;
 pub mod laws;
-pub mod listed;
 pub mod near;
 pub mod taken;
 pub mod values;
 
-pub use changes::changes_by;
 pub use floor::{ListedBits, ReadableBits, first_set_from};
-pub use listed::Listed;
 pub use near::changes_near;
 pub use taken::taken_places;
 pub use values::{LoggedValues, ReadError};

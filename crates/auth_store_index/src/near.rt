@@ -309,6 +309,9 @@ fn push_near<F: Family, K: FixedKey, V: FixedValue, L: LoggedValues<V>>(
     near: &BTreeMap<K, Source<V>>,
     out: &mut Vec<OrderedOperation<F, K, V>>,
 ) -> Result<(), ReadError<L::Error>>
+    requires may { L.readable log.old }
+    requires places { state_of K.encoding (λ place. place ∷ []) index.now.entries ≡ places_of (L.log log.old) }
+    requires own { AreOwn K.encoding (places_of (L.log log.old)) near.now.entries }
     ensures what { let old = state_of K.encoding (value_there (L.log log.old)) index.now.entries in
         let going = state_of K.encoding (value_there (L.log log.old)) gone.now.entries in
         let some = state_of K.encoding (source_value V.encoding (L.log log.old)) near.now.entries in
@@ -316,10 +319,9 @@ fn push_near<F: Family, K: FixedKey, V: FixedValue, L: LoggedValues<V>>(
         → OnOk result (spec.meanings K.encoding V.encoding out.new.items
         ≡ spec.meanings K.encoding V.encoding out.old.items ++ spec.updates some old new) }
     ensures same { L.log log.new ≡ L.log log.old }
-    ensures few { AreOwn K.encoding (state_of K.encoding (λ place. place ∷ []) index.now.entries) near.now.entries
-        → L.reads log.new ≤ L.reads log.old + length near.now.entries }
-    ensures leads { L.leads log.old log.new }
-    ensures refused { IfErr result (IfLog (L.refused log.new)) }
+    ensures few { L.reads log.new ≤ L.reads log.old + length near.now.entries }
+    ensures leads { OnOk result (L.leads log.old log.new) }
+    ensures refused { IfErr result (IfLog (L.leads log.old log.new) (L.refuses log.old log.new)) }
 {
     let mut entries = near.iter();
     let Some((first, mut source)) = entries.next() else {
@@ -346,15 +348,16 @@ pub fn changes_near<F: Family, K: FixedKey, V: FixedValue, L: LoggedValues<V>>(
     places: &Places<K>,
     batch: &Batch<K, V>,
 ) -> Result<Vec<OrderedOperation<F, K, V>>, ReadError<L::Error>>
-    requires { places.now ≡ places_of (L.log log.old) }
+    requires may { L.readable log.old }
+    requires places { places.now ≡ places_of (L.log log.old) }
     ensures what { let state = spec.replayed [] (L.log log.old) in
         let said = words.meanings K.encoding V.encoding batch.now.words.items in
         IfOk result (λ added. spec.meanings K.encoding V.encoding added.items
         ≡ spec.batch_operations state (map_after said state)) }
     ensures same { L.log log.new ≡ L.log log.old }
     ensures few { L.reads log.new ≤ L.reads log.old + 2 * length batch.now.words.items }
-    ensures leads { L.leads log.old log.new }
-    ensures refused { IfErr result (IfLog (L.refused log.new)) }
+    ensures leads { OnOk result (L.leads log.old log.new) }
+    ensures refused { IfErr result (IfLog (L.leads log.old log.new) (L.refuses log.old log.new)) }
 {
     let index = places.locations();
     let mut near = apply_batch(BTreeMap::new(alloc), batch)?;

@@ -1,6 +1,6 @@
 -- What a store's proof of absence holds.
-use Rattle.std.proofs.Common.{◌≡◌, ℕ, ◌-◌, ◌<◌, ◌≤◌, subst, inl, inr, List, [], ◌∷◌, map, Option, None, Some, option_map, length, refl, ap, sym, ◌∙◌}
-use Rattle.std.proofs.lemmas.Option.{slice_get-map, slice_get_past}
+use Rattle.std.proofs.Common.{◌≡◌, ℕ, ◌-◌, ◌<◌, ◌≤◌, subst, inl, inr, List, [], ◌∷◌, Option, None, Some, option_map, length, refl, ap, sym, ◌∙◌}
+use Rattle.std.proofs.lemmas.Option.{slice_get_past}
 use Rattle.std.proofs.lemmas.Bool.{cases_lt}
 use Rattle.std.specs.Prelude.{IsSome, slice_get, unwrap_or}
 use Rattle.state_ops.specs.Operation.{Operation}
@@ -34,13 +34,6 @@ names_fields chunk key value digest held is_proof is_key is_value IsKey IsValue 
     (key_field u.key is.1.0, value_field u.value is.1.1.0, key_field u.next_key is.1.1.1)
 names_fields chunk key value digest held is_proof is_key is_value IsKey IsValue key_field value_field (Commit proof metadata) is =
     some_field value is_value IsValue value_field metadata is.1
-
--- the metadata at a place of a log, from the operation that stands there
-pub metadata_there : {X : Type 0} (meaning : X → Operation) (log : List X) (place : ℕ) (operation : X) (metadata : Option (List ℕ))
-    → slice_get log place ≡ Some operation → unwrap_or (metadata_in (Some (meaning operation))) None ≡ metadata
-    → metadata ≡ unwrap_or (metadata_in (slice_get (map meaning log) place)) None
-metadata_there meaning log place operation metadata at is =
-    sym (ap (λ o. unwrap_or (metadata_in o) None) (slice_get-map meaning log place ∙ ap (option_map meaning) at) ∙ is)
 
 -- an update that stands at a location is found there
 pub is_found : {X : Type 0} (fields : X → List ℕ × List ℕ) (found : Option X) (there : Option (List ℕ × List ℕ))

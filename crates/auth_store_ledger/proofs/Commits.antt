@@ -10,7 +10,8 @@ use Rattle.auth_store_index.specs.Growth.{cleared, first_set, taken, taken_by}
 use Rattle.auth_store_index.specs.Laws.Commits.{commit_bits, next_commit_floor, taken_after}
 use Rattle.auth_store_index.specs.Touched.{is_no_delete}
 use Rattle.auth_store_ledger.specs.Map.{Map}
-use Rattle.auth_store_ledger.specs.History.{Commit, AreStates, activity_bits, batch_operations, history_of, inactivity_floor, last_floor, latest_map, log_of, replayed, with_commit}
+use Rattle.auth_store_ledger.specs.History.{Commit, AreStates, activity_bits, batch_operations, history_of}
+use Rattle.auth_store_ledger.specs.History.{inactivity_floor, last_floor, latest_map, log_of, replayed, with_commit}
 use Rattle.auth_store_ledger.specs.Store.{IsBatch}
 
 -- the bits of a log with those of changes and of the commit behind them, before any is cleared

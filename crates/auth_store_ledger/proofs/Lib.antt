@@ -8,3 +8,4 @@ pub mod Kept
 pub mod Commits
 pub mod Appends
 pub mod Ranges
+pub mod Refused

@@ -1,15 +1,24 @@
 -- What follows from the operations of a log: its commits, and where the value of a key stands.
-use Rattle.std.proofs.Common.{◌≡◌, ℕ, ◌+◌, ◌≤◌, List, [], ◌∷◌, ◌++◌, Option, None, Some, true, option_map, slice_get, length, length-append, subst, map, take, drop, ◌-◌, refl, ap, sym, ◌∙◌, arith}
+use Rattle.std.proofs.Common.{◌≡◌, ℕ, ◌+◌, ◌≤◌, List, [], ◌∷◌, Option, None, Some, true, option_map, slice_get}
+use Rattle.std.proofs.Common.{length, length-append, subst, map, take, drop, ◌-◌, refl, ap, sym, ◌∙◌, arith}
 use Rattle.std.specs.Prelude.{unwrap_or}
 use Rattle.std.proofs.Math.Seq.{take-length}
+use Rattle.std.proofs.lemmas.Option.{slice_get_past}
 use Rattle.state_ops.specs.Operation.{Operation, delete, update, ordered, commit_floor}
 use Rattle.auth_store_ledger.specs.Map.{Map, value_at, next_key, with_entry, without_key}
-use Rattle.auth_store_ledger.specs.History.{History, AreStates, IsState, activity_bits, inactivity_floor, last_floor, latest_map, log_of, history_of, history_from, active_location, active_update}
+use Rattle.auth_store_ledger.specs.History.{History, AreStates, IsState, activity_bits, inactivity_floor, last_floor}
+use Rattle.auth_store_ledger.specs.History.{latest_map, log_of, history_of, history_from, active_location}
+use Rattle.auth_store_ledger.specs.History.{active_update, replayed, update_fields}
 use Rattle.auth_store_ledger.specs.Store.{commit_count, HasValueAt}
 use Rattle.auth_store_parts.specs.Laws.Lookups.{IsState-with_entry, IsState-without_key}
-use Rattle.auth_store_parts.specs.Laws.Actives.{active_stands, active_update-log_of}
+use Rattle.auth_store_parts.specs.Laws.Actives.{active_stands}
 use Rattle.auth_store_parts.specs.Laws.Floors.{floor_within}
-use Rattle.auth_store_parts.specs.Laws.Places.{active_where_located}
+use Rattle.auth_store_parts.specs.Laws.Actives.{active_update-log_of}
+use Rattle.auth_store_parts.specs.Laws.Logs.{replayed-log_of}
+use Rattle.auth_store_parts.specs.Laws.Places.{active_where_located, place_missing}
+use Rattle.auth_store_parts.specs.Places.{places_of}
+use Rattle.auth_store_index.specs.Readings.{value_read}
+use Rattle.auth_store_index.specs.Laws.Readings.{value_at-replayed}
 use Rattle.auth_store_index.specs.Laws.Floors.{active_in_log_of, ends-log_of, last_floor-committed}
 
 -- a history has a commit for each of the operations that is one
@@ -105,3 +114,27 @@ counted f (x ∷ xs) some =
     ap (λ n. commit_count (map f (take n xs))) count
     ∙ (ap (λ l. commit_count (map f l)) (take-length xs)
     ∙ omega (arith, length-history_from [] [] (map f xs)))
+
+-- an update of a key stands at the place that is found of it
+pub placed_entry : (key : List ℕ) (log : List Operation) (place : ℕ) → AreStates (history_of log)
+    → log ≡ log_of (history_of log) → value_at (places_of log) key ≡ Some (place ∷ [])
+    → active_update key log ≡ Some (value_read log (place ∷ []), next_key (latest_map (history_of log)) key)
+placed_entry key log place states whole found =
+    let history = history_of log in
+    let value : List ℕ = value_read log (place ∷ []) in
+    let there : value_at (latest_map history) key ≡ Some value =
+    ap (λ (m : Map). value_at m key) (sym (ap (replayed []) whole ∙ replayed-log_of history states))
+    ∙ (value_at-replayed log key ∙ ap (option_map (value_read log)) found) in
+    ap (active_update key) whole ∙ (active_update-log_of key history states
+    ∙ ap (option_map {U = List ℕ × List ℕ} (λ v. (v, next_key (latest_map history) key))) there)
+
+-- where none is found, no update of it is active
+pub unplaced : (key : List ℕ) (log : List Operation) → value_at (places_of log) key ≡ None → active_update key log ≡ None
+unplaced key log missing =
+    let past = place_missing key log missing in
+    ap update_fields (slice_get_past log (active_location key log) (omega (arith, past)))
+
+-- an update is some
+pub some_fields : (fields : Option (List ℕ × List ℕ)) (value next : List ℕ) → fields ≡ Some (value, next) → fields ≡ None → ⊥
+some_fields fields value next is none =
+    let clash : ◌≡◌ {A = Option (List ℕ × List ℕ)} None (Some (value, next)) = sym none ∙ is in cc

@@ -5,27 +5,30 @@ use Rattle.state_proofs_parts.specs.Canonical.{Setting, State}
 use Rattle.state_proofs.specs.Honest.{key_value_proof}
 use Rattle.state_current.specs.Kept.{Kept}
 use Rattle.auth_store_ledger.specs.Map.{Map, value_at, next_key, entry_of}
-use Rattle.auth_store_ledger.specs.History.{History, latest_map, log_of, history_of, active_location, active_update}
-use Rattle.auth_store_ledger.specs.Store.{LedgerState, state_of_log, IsLedger}
+use Rattle.auth_store_ledger.specs.History.{History, AreStates, latest_map, log_of, history_of, active_location, active_update}
+use Rattle.auth_store_log.specs.Records.{Format}
+use Rattle.auth_store_ledger.specs.Store.{LedgerState, state_of_log, IsLedgerOf}
+use Rattle.auth_store_ledger.specs.Proving.{IsAccepted, IsHonestAbsence, IsHonestAnswer, IsHonestUpdate, NamesRead, answer_where, proved_absent, proved_value}
+use Rattle.auth_store_client.specs.Absence.{NamesFields, honest_absence, honest_absence_parts}
+use Rattle.auth_store_client.specs.Claims.{Shows, Terms, has_value, is_absent}
 use Rattle.auth_store_client.specs.Proving.{honest_proof}
 use Rattle.auth_store_parts.specs.Laws.Actives.{active_update-log_of}
 use Rattle.std.specs.Prelude.{IfSome, unwrap_or}
 
--- the history that a ledger is seen as
-abbrev pub history_in : LedgerState → History
-history_in seen = seen.history
+-- what a ledger of these parts is seen as
+abbrev pub seen_as : Map → ℕ → Kept → LedgerState
+seen_as places commits kept = record { places = places; commits = commits; kept = kept }
 
--- what a ledger of this log is seen as, of which so many chunks are pruned
-abbrev pub seen_as : List Operation → ℕ → LedgerState
-seen_as log pruned = record { history = history_of log; pruned = pruned }
+-- what is kept of a log stands in the ledger that is seen so
+pub inside : (setting : Setting) (format : Format) (log : List Operation) (places : Map) (commits : ℕ) (kept : Kept) (seen : LedgerState)
+    → seen_as places commits kept ≡ seen → IsLedgerOf setting format log seen
+    → IsLedgerOf setting format log (seen_as places commits kept)
+inside setting format log places commits kept seen is of = subst (λ (s : LedgerState). IsLedgerOf setting format log s) (sym is) of
 
--- the active update of a key of what a store keeps names what the latest state has there
-pub kept_entry : (setting : Setting) (key_size value_size : ℕ) (log : List Operation) (count : ℕ) (kept : Kept)
-    (q : List ℕ)
-    → IsLedger setting key_size value_size log count kept
+-- the active update of a key in a history's log names what the latest state has there
+pub kept_entry : (log : List Operation) (q : List ℕ) → AreStates (history_of log) → log ≡ log_of (history_of log)
     → active_update q log ≡ entry_of (latest_map (history_of log)) q
-kept_entry setting key_size value_size log count kept q keeps = ap (active_update q) keeps.whole
-    ∙ active_update-log_of q (history_of log) keeps.states
+kept_entry log q states whole = ap (active_update q) whole ∙ active_update-log_of q (history_of log) states
 
 -- a value with the proof of the update of a key in a log
 abbrev pub shown : (Option (List ℕ) → List ℕ) → Setting → ℕ → ℕ → List ℕ → List Operation → List ℕ × List ℕ → List ℕ
@@ -36,21 +39,19 @@ shown pending setting key_size value_size q log u = (
       (state_of_log key_size value_size log) (active_location q log) u.1,
 )
 
--- the honest proof of a key, from what a store keeps
+-- the honest proof of a key, from the log of a history
 pub honest_found : (pending : Option (List ℕ) → List ℕ) (setting : Setting) (key_size value_size : ℕ)
-    (log : List Operation) (count : ℕ) (kept : Kept) (q : List ℕ)
-    → IsLedger setting key_size value_size log count kept
+    (log : List Operation) (q : List ℕ) → AreStates (history_of log) → log ≡ log_of (history_of log)
     → option_map (shown pending setting key_size value_size q log) (active_update q log)
     ≡ option_map {U = List ℕ × List ℕ} (λ value. (
       value,
       honest_proof pending setting key_size value_size
           (history_of log) q,
     )) (value_at (latest_map (history_of log)) q)
-honest_found pending setting key_size value_size log count kept q keeps =
-    ap (option_map (shown pending setting key_size value_size q log))
-    (kept_entry setting key_size value_size log count kept q keeps)
+honest_found pending setting key_size value_size log q states whole =
+    ap (option_map (shown pending setting key_size value_size q log)) (kept_entry log q states whole)
     ∙ (ap (λ l. option_map {U = List ℕ × List ℕ} (shown pending setting key_size value_size q l)
-    (entry_of (latest_map (history_of log)) q)) keeps.whole
+    (entry_of (latest_map (history_of log)) q)) whole
     ∙ each (value_at (latest_map (history_of log)) q))
   where
     each : (at : Option (List ℕ)) → option_map (shown pending setting key_size value_size q (log_of (history_of log)))
@@ -62,20 +63,6 @@ honest_found pending setting key_size value_size log count kept q keeps =
         )) at
     each None = refl
     each (Some v) = refl
-
--- so of what was found in the log of a history
-pub found_in_history : (pending : Option (List ℕ) → List ℕ) (setting : Setting) (key_size value_size : ℕ)
-    (log : List Operation) (count : ℕ) (kept : Kept) (q : List ℕ) (history : History) (found : Option (List ℕ × List ℕ))
-    → IsLedger setting key_size value_size log count kept → history_of log ≡ history
-    → found ≡ option_map (shown pending setting key_size value_size q log) (active_update q log)
-    → found ≡ option_map {U = List ℕ × List ℕ} (λ value. (value, honest_proof pending setting key_size value_size history q))
-    (value_at (latest_map history) q)
-found_in_history pending setting key_size value_size log count kept q history found keeps is there =
-    there ∙ (honest_found pending setting key_size value_size log count kept q keeps
-    ∙ ap (λ (h : History). option_map {U = List ℕ × List ℕ} (λ value. (
-      value,
-      honest_proof pending setting key_size value_size h q,
-    )) (value_at (latest_map h) q)) is)
 
 -- what holds of the next key that the active update names holds of the key's next key
 pub of_next_key : (R : List ℕ → Type 0) (state : Map) (q value : List ℕ) (named : Option (List ℕ × List ℕ))
@@ -98,6 +85,55 @@ found_entry proof value bytes (Some v) is =
 pub missing_entry : (proof : List ℕ) (at : Option (List ℕ)) → ◌≡◌ {A = Option (List ℕ × List ℕ)} None (option_map (λ v. (v, proof)) at) → at ≡ None
 missing_entry proof None is = refl
 missing_entry proof (Some v) is = absurd (let gone : ◌≡◌ {A = Option (List ℕ × List ℕ)} None (Some (v, proof)) = is in cc)
+
+-- the client accepts the honest answer of a key, where what it names are keys and values
+pub honest_accepted : (terms : Terms) (root : List ℕ) (pending : Option (List ℕ) → List ℕ) (setting : Setting)
+    (key_size value_size : ℕ) (history : History) (key : List ℕ) (IsKey IsValue : List ℕ → Type 0) (at : Option (List ℕ))
+    → ((value : List ℕ) → at ≡ Some value → IsKey (next_key (latest_map history) key)
+    → Shows terms (has_value key value) root (honest_proof pending setting key_size value_size history key))
+    → (at ≡ None → NamesFields IsKey IsValue (honest_absence_parts setting key_size value_size history key)
+    → Shows terms (is_absent key) root (honest_absence pending setting key_size value_size history key))
+    → NamesRead IsKey IsValue setting key_size value_size history key at
+    → IsAccepted terms root key (answer_where pending setting key_size value_size history key at)
+honest_accepted terms root pending setting key_size value_size history key IsKey IsValue None some none names = none refl names
+honest_accepted terms root pending setting key_size value_size history key IsKey IsValue (Some value) some none names =
+    some value refl names
+
+-- what is found of a key with its proof is the honest answer, which names keys
+pub found_answer : (IsKey IsValue : List ℕ → Type 0) (pending : Option (List ℕ) → List ℕ) (setting : Setting)
+    (key_size value_size : ℕ) (log : List Operation) (key value bytes : List ℕ) → AreStates (history_of log)
+    → log ≡ log_of (history_of log)
+    → IsHonestUpdate IsKey pending setting key_size value_size log key (Some (value, bytes))
+    → IsHonestAnswer IsKey IsValue pending setting key_size value_size (history_of log) key (proved_value value bytes)
+found_answer IsKey IsValue pending setting key_size value_size log key value bytes states whole it =
+    let history : History = history_of log in
+    let at : Option (List ℕ) = value_at (latest_map history) key in
+    let proof : List ℕ = honest_proof pending setting key_size value_size history key in
+    let found : (at ≡ Some value) × (bytes ≡ proof) =
+    found_entry proof value bytes at (it.is ∙ honest_found pending setting key_size value_size log key states whole) in
+    let next : IsKey (next_key (latest_map history) key) =
+    of_next_key IsKey (latest_map history) key value (active_update key log) (kept_entry log key states whole) found.0 it.next in
+    record {
+      is = ap (proved_value value) found.1 ∙ ap (answer_where pending setting key_size value_size history key) (sym found.0);
+      names = subst (λ (o : Option (List ℕ)). NamesRead IsKey IsValue setting key_size value_size history key o) (sym found.0) next;
+    }
+
+-- and so is that it is absent where none is found
+pub missing_answer : (IsKey IsValue : List ℕ → Type 0) (pending : Option (List ℕ) → List ℕ) (setting : Setting)
+    (key_size value_size : ℕ) (log : List Operation) (key bytes : List ℕ) → AreStates (history_of log)
+    → log ≡ log_of (history_of log) → IsHonestUpdate IsKey pending setting key_size value_size log key None
+    → IsHonestAbsence IsKey IsValue pending setting key_size value_size (history_of log) key bytes
+    → IsHonestAnswer IsKey IsValue pending setting key_size value_size (history_of log) key (proved_absent bytes)
+missing_answer IsKey IsValue pending setting key_size value_size log key bytes states whole it absence =
+    let history : History = history_of log in
+    let at : Option (List ℕ) = value_at (latest_map history) key in
+    let none : at ≡ None =
+    missing_entry (honest_proof pending setting key_size value_size history key) at
+    (it.is ∙ honest_found pending setting key_size value_size log key states whole) in
+    record {
+      is = ap proved_absent absence.is ∙ ap (answer_where pending setting key_size value_size history key) (sym none);
+      names = subst (λ (o : Option (List ℕ)). NamesRead IsKey IsValue setting key_size value_size history key o) (sym none) absence.names;
+    }
 
 -- a state, part by part
 pub same_state : (operations encoded : List (List ℕ)) (bits signs : List Bool) (floor last : ℕ) → operations ≡ encoded

@@ -1,11 +1,12 @@
 -- What is answered where proofs of operations are asked for by their locations.
-use Rattle.std.proofs.Common.{◌≡◌, ℕ, ◌+◌, ◌-◌, ◌*◌, ◌/◌, ◌<◌, ◌≤◌, Bool, true, false, inl, inr, List, [], ◌∷◌, ◌++◌, append-nil, length, length-drop, map, take, drop, get_or, slice_get, slice_index_or, Option, None, Some, Result, Ok, Err, sym, ◌∙◌, ap, arith}
+use Rattle.std.proofs.Common.{◌≡◌, ℕ, ◌+◌, ◌-◌, ◌*◌, ◌/◌, ◌<◌, ◌≤◌, Bool, true, false, inl, inr, zero, suc, refl}
+use Rattle.std.proofs.Common.{List, [], ◌∷◌, ◌++◌, append-nil, length, length-drop, take, drop, get_or, slice_get}
+use Rattle.std.proofs.Common.{slice_index_or, Option, None, Some, Result, Ok, Err, sym, ◌∙◌, ap, arith}
 use Rattle.std.specs.List.{flat_map}
-use Rattle.std.specs.Prelude.{nat_le, nat_lt}
 use Rattle.std.proofs.lemmas.Bool.{cases_lt, cond-true, cond-false, le-leb, le-ltb, lt-leb, lt-ltb}
 use Rattle.std.proofs.lemmas.Grind.{flat_map-append}
-use Rattle.std.proofs.lemmas.List.{drop-map, get_or-drop, take-map, take_more}
-use Rattle.std.proofs.lemmas.Nat.{div-add-mod', div_below, le-div, mul-le}
+use Rattle.std.proofs.lemmas.List.{get_or-drop, take_more}
+use Rattle.std.proofs.lemmas.Nat.{div-add-mod', le-div, mul-le}
 use Rattle.std.proofs.lemmas.Option.{get_or_from_slice_get, slice_get_past}
 use Rattle.std.proofs.Math.Nat.{mul_comm}
 use Rattle.merkle_core.specs.Proofs.{proof_encoding}
@@ -16,7 +17,9 @@ use Rattle.auth_store_client.specs.Proving.{honest_operation}
 use Rattle.auth_store_ledger.specs.declared.error.Unprovable.{Unprovable}
 use Rattle.auth_store_ledger.specs.declared.error.Unprovable.TheVariants.{EmptyRange, OutOfRange, Pruned, Inactive}
 use Rattle.auth_store_ledger.specs.History.{History, activity_bits, log_of}
-use Rattle.auth_store_ledger.specs.Proving.{OperationAnswer, RangeAnswer, SliceAnswer, answer_of_found, answer_of_operation, between, is_before_chunks, range_refusal, unless_refused}
+use Rattle.auth_store_ledger.specs.Proving.{OperationAnswer, RangeAnswer, SliceAnswer, answer_of_found}
+use Rattle.auth_store_ledger.specs.Proving.{answer_of_operation, is_before_chunks, range_refusal}
+use Rattle.auth_store_ledger.specs.Proving.{unless_refused}
 
 module _ (setting : Setting) (history : History) (pruned start stop : ℕ) where
   pub refused_empty : stop ≤ start → Some EmptyRange ≡ range_refusal setting history pruned start stop
@@ -104,28 +107,30 @@ chunk_more chunks first index from within =
     ∙ ap (λ (l : List ℕ). flat_map (λ chunk. chunk) front ++ l) (append-nil (get_or rest (index - first) [])
     ∙ (get_or-drop first chunks (index - first) [] ∙ ap (λ (n : ℕ). get_or chunks n []) sum))))
 
--- what stands between two places, from what the code has there
-pub between_map : {X : Type 0} (f : X → Operation) (start stop : ℕ) (xs : List X) → map f (between start stop xs) ≡ between start stop (map f xs)
-between_map f start stop xs = sym (take-map f (stop - start) (drop start xs)) ∙ ap (take (stop - start)) (sym (drop-map f start xs))
-
--- the bits from `start` on, and the next one
-pub bit_more : (bits : List Bool) (start at : ℕ) (bit : Bool) → start ≤ at → slice_get bits at ≡ Some bit
-    → take (at + 1 - start) (drop start bits) ≡ take (at - start) (drop start bits) ++ bit ∷ []
-bit_more bits start at bit from is =
-    let rest : List Bool = drop start bits in
+-- what stands from `start` on, and the next one
+pub item_more : {A : Type 0} (items : List A) (start at : ℕ) (item : A) → start ≤ at → slice_get items at ≡ Some item
+    → take (at + 1 - start) (drop start items) ≡ take (at - start) (drop start items) ++ item ∷ []
+item_more {A} items start at item from is =
+    let rest : List A = drop start items in
     let step : at + 1 - start ≡ at - start + 1 = omega (arith, from) in
     let sum : start + (at - start) ≡ at = omega (arith, from) in
-    let within : at < length bits = some_within bits at bit is in
+    let within : at < length items = some_within items at item is in
     ap (λ (n : ℕ). take n rest) step
-    ∙ (take_more rest (at - start) false (omega (arith, length-drop start bits, within, from))
-    ∙ ap (λ (b : Bool). take (at - start) rest ++ b ∷ []) (get_or-drop start bits (at - start) false
-    ∙ (ap (λ (n : ℕ). get_or bits n false) sum ∙ get_or_from_slice_get bits at bit false is)))
+    ∙ (take_more rest (at - start) item (omega (arith, length-drop start items, within, from))
+    ∙ ap (λ (x : A). take (at - start) rest ++ x ∷ []) (get_or-drop start items (at - start) item
+    ∙ (ap (λ (n : ℕ). get_or items n item) sum ∙ get_or_from_slice_get items at item item is)))
   where
-    some_within : (xs : List Bool) (i : ℕ) (x : Bool) → slice_get xs i ≡ Some x → i < length xs
+    some_within : (xs : List A) (i : ℕ) (x : A) → slice_get xs i ≡ Some x → i < length xs
     some_within xs i x get = elim (cases_lt i (length xs)) [
       | inl lt ↦ lt
-      | inr le ↦ absurd (let clash : ◌≡◌ {A = Option Bool} None (Some x) = sym (slice_get_past xs i le) ∙ get in cc)
+      | inr le ↦ absurd (let clash : ◌≡◌ {A = Option A} None (Some x) = sym (slice_get_past xs i le) ∙ get in cc)
     ]
+
+-- where a place is within, something stands there
+pub some_there : {A : Type 0} (items : List A) (at : ℕ) → at < length items → (item : A) × (slice_get items at ≡ Some item)
+some_there [] at within = absurd (omega (arith, within))
+some_there (x ∷ items) zero within = (x, refl)
+some_there (x ∷ items) (suc at) within = some_there items at (omega (arith, within))
 
 -- a chunk up to that of a location begins before it ends
 pub chunk_below : (size location chunk : ℕ) → chunk ≤ location / size → size * chunk ≤ location

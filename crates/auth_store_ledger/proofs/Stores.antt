@@ -1,6 +1,5 @@
 -- What a store keeps stays true with the commit of a batch.
 use Rattle.std.proofs.Common.{◌≡◌, ℕ, ◌+◌, ◌<◌, ◌≤◌, ◌^◌, List, [], ◌∷◌, ◌++◌, length, Option, ap, sym, ◌∙◌, subst, arith, length-append}
-use Rattle.std.specs.Prelude.{Result, Ok, Err, OnErr}
 use Rattle.std.proofs.lemmas.Grind.{flat_map-append}
 use Rattle.state_ops.specs.Operation.{Operation, commit_floor, fixed_encoding}
 use Rattle.state_proofs_parts.specs.Canonical.{Setting}
@@ -10,11 +9,6 @@ use Rattle.auth_store_ledger.specs.History.{History, AreStates, latest_map, batc
 use Rattle.auth_store_ledger.specs.Store.{IsBatch, IsKept, IsLedger, commit_after}
 use Rattle.auth_store_log.specs.Records.{log_bytes}
 use Rattle.auth_store_parts.specs.Laws.Logs.{history_of-log_of, replayed-log_of, IsState-map_after, IsState-latest_map, IsState-replayed, length-log_of}
-
--- what holds anyway holds after an error
-pub on_err : {T E : Type 0} (r : Result T E) (P : Type 0) → P → OnErr r P
-on_err (Ok v) P p = tt
-on_err (Err e) P p = p
 
 -- how long a log is with changes and a commit at its end
 pub committed_length : (log changes whole : List Operation) (metadata : Option (List ℕ))

@@ -3,5 +3,6 @@ pub use Rattle.auth_store_parts.specs.Batch
 pub use Rattle.auth_store_parts.specs.History
 pub mod Store
 pub mod Commits
+pub mod Refusals
 pub mod Proving
 pub mod ProvingCode

@@ -1,15 +1,17 @@
 -- What a store answers where it is asked for a proof, and when the client accepts what it answers of a key.
-use Rattle.std.specs.Prelude.{◌≡◌, ⊤, ℕ, ◌-◌, ◌*◌, nat_le, nat_lt, Bool, false, if◌then◌else◌, List, length, take, drop}
-use Rattle.std.specs.Prelude.{slice_get, slice_index_or, Option, None, Some, Result, Ok, Err}
+use Rattle.std.specs.Prelude.{◌≡◌, ℕ, ◌-◌, ◌*◌, nat_le, nat_lt, Bool, false, if◌then◌else◌, List, length, take, drop}
+use Rattle.std.specs.Prelude.{slice_get, slice_index_or, Option, None, Some, IfSome, option_map, Result, Ok, Err}
 use Rattle.state_proofs_parts.specs.Canonical.{Setting}
-use Rattle.auth_store_parts.specs.Map.{value_at}
-use Rattle.auth_store_parts.specs.History.{History, activity_bits, latest_map, log_of}
+use Rattle.auth_store_parts.specs.Map.{next_key, value_at}
+use Rattle.auth_store_parts.specs.History.{History, active_location, active_update, activity_bits, latest_map, log_of}
 use Rattle.state_ops.specs.Operation.{Operation}
 use Rattle.auth_store_client.specs.Claims.{Terms, Shows, has_value, is_absent, is_active, has_range, has_slice}
 use Rattle.auth_store_client.specs.Proving.{honest_proof, honest_operation, honest_range_bytes, honest_slice_bytes}
-use Rattle.auth_store_client.specs.Absence.{honest_absence}
+use Rattle.auth_store_client.specs.States.{state_of_log}
+use Rattle.state_proofs.specs.Honest.{key_value_proof}
+use Rattle.auth_store_client.specs.Absence.{NamesFields, honest_absence, honest_absence_parts}
 use Rattle.auth_store_ledger.specs.declared.error.ProofError.{ProofError}
-use Rattle.auth_store_ledger.specs.declared.error.ProofError.TheVariants.{Unprovable as NoProof, Memory}
+use Rattle.auth_store_ledger.specs.declared.error.ProofError.TheVariants.{Unprovable as NoProof, Memory, Log}
 use Rattle.auth_store_ledger.specs.declared.error.Unprovable.{Unprovable}
 use Rattle.auth_store_ledger.specs.declared.error.Unprovable.TheVariants.{EmptyRange, OutOfRange, Pruned, Inactive}
 
@@ -30,6 +32,41 @@ answer_where pending setting key_size value_size history key None =
 abbrev pub honest_answer : (Option (List ℕ) → List ℕ) → Setting → ℕ → ℕ → History → List ℕ → KeyAnswer
 honest_answer pending setting key_size value_size history key =
     answer_where pending setting key_size value_size history key (value_at (latest_map history) key)
+
+-- what the honest answer names are keys and values: the next key where the key has a value, and what the proof that it
+-- is absent names where it has none
+abbrev pub NamesRead : (List ℕ → Type 0) → (List ℕ → Type 0) → Setting → ℕ → ℕ → History → List ℕ → Option (List ℕ)
+    → Type 0
+NamesRead IsKey IsValue setting key_size value_size history key (Some value) = IsKey (next_key (latest_map history) key)
+NamesRead IsKey IsValue setting key_size value_size history key None =
+    NamesFields IsKey IsValue (honest_absence_parts setting key_size value_size history key)
+
+-- The answer of a key is the honest one, and names keys and values.
+pub record IsHonestAnswer (IsKey IsValue : List ℕ → Type 0) (pending : Option (List ℕ) → List ℕ) (setting : Setting)
+    (key_size value_size : ℕ) (history : History) (key : List ℕ) (answer : KeyAnswer) : Type 0 where
+  pub is : answer ≡ honest_answer pending setting key_size value_size history key
+  pub names : NamesRead IsKey IsValue setting key_size value_size history key (value_at (latest_map history) key)
+
+-- The bytes are the honest proof that a key is absent, and name keys and values.
+pub record IsHonestAbsence (IsKey IsValue : List ℕ → Type 0) (pending : Option (List ℕ) → List ℕ) (setting : Setting)
+    (key_size value_size : ℕ) (history : History) (key bytes : List ℕ) : Type 0 where
+  pub is : bytes ≡ honest_absence pending setting key_size value_size history key
+  pub names : NamesFields IsKey IsValue (honest_absence_parts setting key_size value_size history key)
+
+-- what the log's active update of a key gives it, with the honest bytes that prove the update
+abbrev pub honest_update : (Option (List ℕ) → List ℕ) → Setting → ℕ → ℕ → List Operation → List ℕ
+    → Option (List ℕ × List ℕ)
+honest_update pending setting key_size value_size log key =
+    option_map {U = List ℕ × List ℕ} (λ update. (
+      update.0,
+      key_value_proof pending setting (state_of_log key_size value_size log) (active_location key log) update.1,
+    )) (active_update key log)
+
+-- It is that update, whose next key is one, or none where there is none.
+pub record IsHonestUpdate (IsKey : List ℕ → Type 0) (pending : Option (List ℕ) → List ℕ) (setting : Setting)
+    (key_size value_size : ℕ) (log : List Operation) (key : List ℕ) (found : Option (List ℕ × List ℕ)) : Type 0 where
+  pub next : IfSome found (λ _. IfSome (active_update key log) (λ update. IsKey update.1))
+  pub is : found ≡ honest_update pending setting key_size value_size log key
 
 -- the client accepts the answer under this root
 abbrev pub IsAccepted : Terms → List ℕ → List ℕ → KeyAnswer → Type 0
@@ -135,7 +172,9 @@ answer_of_slice pending setting key_size value_size history pruned start stop =
     unless_refused (range_refusal setting history pruned start stop)
     (slice_answer pending setting key_size value_size history start stop)
 
--- why there is no proof where this is the answer: it is that refusal, or memory was lacking
-abbrev pub IsUnproved : {A : Type 0} → Result A Unprovable → ProofError → Type 0
-IsUnproved answer (NoProof why) = answer ≡ Err why
-IsUnproved answer Memory = ⊤
+-- why there is no proof where this is the answer: it is that refusal, or memory was lacking, where no read was refused;
+-- or the log refused a read, of which this holds then
+abbrev pub IsUnproved : {A E : Type 0} → Type 0 → (E → Type 0) → Result A Unprovable → ProofError E → Type 0
+IsUnproved unrefused refused answer (NoProof why) = unrefused × (answer ≡ Err why)
+IsUnproved unrefused refused answer Memory = unrefused
+IsUnproved unrefused refused answer (Log e) = refused e

@@ -1,10 +1,11 @@
--- What a ledger keeps of a history, and what of it may be pruned.
+-- What a ledger keeps of a history's log, and what of it may be pruned.
 use Rattle.std.specs.Prelude.{◌≡◌, ℕ, ◌*◌, ◌/◌, ◌^◌, ◌≤◌, ◌+◌, ⊤, if◌then◌else◌, List, [], ◌∷◌, length, slice_get, Some}
 use Rattle.state_ops.specs.Operation.{Operation, update, ordered}
 use Rattle.state_proofs_parts.specs.Canonical.{Setting}
 use Rattle.state_current.specs.Kept.{Kept, StandsFor}
-use Rattle.state_current.specs.Settled.{IsSettled, IsGreatestSettled}
+use Rattle.state_current.specs.Settled.{IsGreatestSettled}
 use Rattle.auth_store_log.specs.Records.{Format, FloorFits, IsRecorded}
+use Rattle.auth_store_parts.specs.Places.{places_of}
 use Rattle.auth_store_ledger.specs.Map.{Map, value_at}
 use Rattle.auth_store_ledger.specs.History.{History, AreStates, IsState, batch_operations, history_of, is_commit}
 use Rattle.auth_store_ledger.specs.History.{last_floor, latest_map, log_of, replayed}
@@ -12,14 +13,12 @@ pub use Rattle.auth_store_client.specs.States.{is_chunk_width, IsChunkWidth, gra
 pub use Rattle.auth_store_client.specs.States.{encodings, state_of_log, floor_of, state_of_history, root_of_history}
 pub use Rattle.auth_store_client.specs.States.{commit_after}
 
--- what a ledger is seen as: a history, and how many chunks are pruned of what it keeps of the history
+-- what a ledger is seen as: where the updates stand that give keys their values, how many commits there are, and what
+-- is kept of the log beside its operations
 pub record LedgerState : Type 0 where
-  pub history : History
-  pub pruned : ℕ
-
--- so many chunks of a history's log are settled: its trees may be pruned of them
-abbrev pub IsPrunable : Setting → History → ℕ → Type 0
-IsPrunable setting history chunks = IsSettled setting.rule setting.grafting_height (length (log_of history)) chunks
+  pub places : Map
+  pub commits : ℕ
+  pub kept : Kept
 
 -- so many chunks are pruned after pruning up to a location, of which so many were before: the greatest settled number
 -- of chunks that end by the location, but none comes back
@@ -34,6 +33,14 @@ pub record IsKept (setting : Setting) (key value : ℕ) (log : List Operation) (
   pub leaves : kept.operations.leaves ≡ length log
   pub behind : 8 * setting.width * kept.bits.pruned ≤ last_floor log
   pub stands : StandsFor setting (state_of_log key value log) kept
+
+-- what is kept of a history's log, and where the updates stand that give keys their values
+pub record IsPlaced (setting : Setting) (key value : ℕ) (log : List Operation) (places : Map) (kept : Kept)
+    : Type 0 where
+  pub states : AreStates (history_of log)
+  pub whole : log ≡ log_of (history_of log)
+  pub stand : places ≡ places_of log
+  pub current : IsKept setting key value log kept
 
 -- what a ledger keeps of a history: its log, the number of commits, and what is kept of the log
 pub record IsLedger (setting : Setting) (key value : ℕ) (log : List Operation) (count : ℕ) (kept : Kept) : Type 0 where
@@ -65,3 +72,9 @@ commit_count (operation ∷ later) = if is_commit operation then commit_count la
 abbrev pub AreWritten : Format → List Operation → Type 0
 AreWritten format [] = ⊤
 AreWritten format (operation ∷ later) = (FloorFits operation → IsRecorded format operation) × AreWritten format later
+
+-- This is what a ledger keeps of a log, whose operations are read again as they were written.
+pub record IsLedgerOf (setting : Setting) (format : Format) (log : List Operation) (ledger : LedgerState) : Type 0 where
+  pub keeps : IsLedger setting format.key_size format.value_size log ledger.commits ledger.kept
+  pub written : AreWritten format log
+  pub places : ledger.places ≡ places_of log

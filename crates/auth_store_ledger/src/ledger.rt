@@ -1,14 +1,19 @@
-//! What a store knows of its history, in memory.
+//! What a store knows of its history beside the operations of its log.
 
-ghost use Rattle.std.specs.Prelude.{◌≡◌, ◌+◌, ◌<◌, ◌≤◌, ◌^◌, ◌⊎◌, ◌++◌, length, option_map, slice_get, Ok, Some, None};
-ghost use Rattle.std.specs.Prelude.{IfOk, IsOkAnd, IfErr, OnOk, OnErr, MatchOption};
-ghost use Rattle.state_ops.specs.Operation.{meaning_of};
+ghost use Rattle.std.specs.Prelude.{◌≡◌, ◌+◌, ◌*◌, ◌<◌, ◌≤◌, ◌^◌, ◌⊎◌, ◌++◌, List, length, option_map, IfOk, IfErr};
+ghost use Rattle.std.specs.Prelude.{OnOk, OnErr, MatchOption, None};
+ghost use Rattle.state_ops.specs.Operation as meaning;
+ghost use Rattle.auth_store_index.specs.Refusals.{IfLog};
 ghost use Rattle.auth_store_ledger.specs.Batch as words;
+ghost use Rattle.auth_store_ledger.specs.Batch.{Word};
+ghost use Rattle.auth_store_ledger.specs.Commits.{AreChanges, changes_of};
 ghost use Rattle.auth_store_ledger.specs.History as spec;
+ghost use Rattle.auth_store_ledger.specs.History.{history_of, log_of};
 ghost use Rattle.auth_store_ledger.specs.Map.{value_at};
+ghost use Rattle.auth_store_ledger.specs.Refusals.{IsUncommitted};
 ghost use Rattle.auth_store_parts.specs.Places.{places_of};
 ghost use Rattle.auth_store_log.specs.Records.{format_of, log_bytes, AreRecorded};
-ghost use Rattle.auth_store_ledger.specs.Store.{IsChunkWidth, IsKept, IsLedger, AreWritten, HasValueAt, LedgerState};
+ghost use Rattle.auth_store_ledger.specs.Store.{AreWritten, IsChunkWidth, IsKept, IsLedgerOf, HasValueAt, LedgerState};
 ghost use Rattle.auth_store_ledger.specs.Store.{commit_after, commit_count, floor_of, root_of_history};
 ghost use Rattle.auth_store_ledger.specs.Store.{setting_of_width};
 
@@ -17,56 +22,50 @@ mod between;
 pub mod commit;
 pub mod kept;
 pub mod laws;
-pub mod log;
 pub mod prove;
 mod pruning;
 pub mod ranges;
 
 use crate::batch::Batch;
-use crate::error::LedgerError;
+use crate::error::{CommitError, LedgerError};
+use crate::history::Places;
+use crate::logged::LoggedOperations;
+use auth_store_index::{ReadError, changes_near};
 use auth_store_log::PlacedLog;
 use auth_store_log::laws::a_log_has_floors_within;
-use commit::{Appended, Found, changes_of, found_of};
-use kept::{grown_by, joined, kept_of_log};
-use log::{Log, encodings_of};
+use auth_store_log::records::ends_batch;
+use commit::{Appended, Found, found_of, places_after};
+use kept::{encodings_of, grown_by, joined, kept_of_log};
 use merkle_forest::{Family, Graftable, HashFunction};
-use prove::update_at;
 use state_current::Current;
 use state_ops::{FixedKey, FixedValue, Operation, OrderedOperation};
-use std::alloc::Global;
-use std::marker::Model;
+use std::alloc::{AllocError, Global};
+use std::marker::{Model, PhantomData};
 
 /// The greatest number of operations in a log: 2^62.
 pub const MAX_OPERATIONS: u64 = 0x4000_0000_0000_0000;
 
-/// A history of a store of keys `K` and values `V`, whose root is hashed by `H` over trees of the family `F` and over
-/// chunks of `N` bytes. Trees, bits and floor are kept in step with the log, so that a commit takes what its batch
-/// takes, and no root or proof is made of the whole log anew; chunks of trees and bits may be pruned from the front.
-/// Its contracts see it as the history, and how many chunks are pruned (own).
+/// What is kept of the log of a store of keys `K` and values `V` beside its operations, which are read where they
+/// stand: where the updates stand that give keys their values, how many commits there are, and trees, bits and floor.
+/// The root is hashed by `H` over trees of the family `F` and over chunks of `N` bytes. All is kept in step with the
+/// log, so that a commit takes what its batch takes, and no root or proof is made of the whole log anew; chunks of
+/// trees and bits may be pruned from the front. Its contracts see it as what it keeps (own).
 #[derive(Drop)]
 pub struct Ledger<F: Graftable, H: HashFunction, K: FixedKey, V: FixedValue, const N: usize> {
     alloc: Global,
-    log: Log<F, K, V>,
+    places: Places<K>,
     commits: u64,
     current: Current<F, H, N>,
+    values: PhantomData<V>,
 }
 
 impl<F: Graftable, H: HashFunction, K: FixedKey, V: FixedValue, const N: usize> Model
     for Ledger<F, H, K, V, N> {
     ghost Value = { LedgerState };
 
-    ghost view = { λ s. record { history = spec.history_of s.log; pruned = s.current.bits.pruned } };
+    ghost view = { λ s. record { places = s.places; commits = s.commits; kept = s.current } };
 
-    ghost invariant = { λ s. IsChunkWidth N
-        × IsLedger (setting_of_width F.merge_rule H.hash_of N) K.SIZE V.SIZE s.log s.commits s.current
-        × AreWritten (format_of (K.after tt) (V.after tt) K.SIZE V.SIZE) s.log };
-}
-
-// Whether the operation is a commit.
-fn ends_batch<F: Family, K: FixedKey, V: FixedValue>(operation: &OrderedOperation<F, K, V>) -> bool
-    ensures { result ≡ spec.is_commit (meaning_of K.encoding V.encoding operation.now) }
-{
-    matches!(operation, Operation::CommitFloor(_, _))
+    ghost invariant = { λ s. IsChunkWidth N };
 }
 
 // How many commits the operations have.
@@ -113,6 +112,35 @@ fn floor_of<F: Family, K: FixedKey, V: FixedValue>(operations: &[OrderedOperatio
     floor
 }
 
+// How many commits the history has whose log these operations are, with these places, and what is kept of it. It fails
+// only when out of memory.
+fn counted_and_kept<F, H, K, V, const N: usize>(
+    alloc: Global,
+    operations: &[OrderedOperation<F, K, V>],
+    places: &Places<K>,
+) -> Result<(u64, Current<F, H, N>), AllocError>
+where
+    F: Graftable,
+    H: HashFunction,
+    K: FixedKey,
+    V: FixedValue,
+    requires width { IsChunkWidth N }
+    requires few { length operations.now ≤ 2 ^ 62 }
+    requires places { places.now ≡ places_of (spec.meanings K.encoding V.encoding operations.now) }
+    ensures commits { IfOk result (λ made. made.0
+        ≡ length (spec.history_of (spec.meanings K.encoding V.encoding operations.now))) }
+    ensures whole { IfOk result (λ made. made.1.bits.pruned ≡ 0) }
+    ensures kept { IfOk result (λ made. IsKept (setting_of_width F.merge_rule H.hash_of N) K.SIZE V.SIZE
+        (spec.meanings K.encoding V.encoding operations.now) made.1) }
+    ensures written { OnOk result (AreWritten (format_of (K.after tt) (V.after tt) K.SIZE V.SIZE)
+        (spec.meanings K.encoding V.encoding operations.now)) }
+{
+    let commits = commits_of(operations);
+    let floor = floor_of(operations);
+    let current = kept_of_log::<F, H, K, V, N>(alloc, operations, places, floor)?;
+    Ok((commits, current))
+}
+
 impl<F: Graftable, H: HashFunction, K: FixedKey, V: FixedValue, const N: usize> Ledger<
     F,
     H,
@@ -120,16 +148,17 @@ impl<F: Graftable, H: HashFunction, K: FixedKey, V: FixedValue, const N: usize> 
     V,
     N,
 > {
-    /// The history whose log this is, of which nothing is pruned. It is refused where the log has more than 2^62
-    /// operations, or out of memory.
+    /// What is kept of this log, of which nothing is pruned. It is refused where the log has more than 2^62 operations,
+    /// or out of memory.
     pub fn of(alloc: Global, log: PlacedLog<F, K, V>) -> Result<Ledger<F, H, K, V, N>, LedgerError>
         requires width { IsChunkWidth N }
         requires log { spec.meanings K.encoding V.encoding log.operations.items
-            ≡ spec.log_of (spec.history_of (spec.meanings K.encoding V.encoding log.operations.items)) }
+            ≡ log_of (history_of (spec.meanings K.encoding V.encoding log.operations.items)) }
         requires places { log.places ≡ places_of (spec.meanings K.encoding V.encoding log.operations.items) }
-        ensures ok { IfOk result (λ ledger. ledger.history
-            ≡ spec.history_of (spec.meanings K.encoding V.encoding log.operations.items)) }
-        ensures whole { IfOk result (λ ledger. ledger.pruned ≡ 0) }
+        ensures ok { IfOk result (IsLedgerOf (setting_of_width F.merge_rule H.hash_of N)
+            (format_of (K.after tt) (V.after tt) K.SIZE V.SIZE)
+            (spec.meanings K.encoding V.encoding log.operations.items)) }
+        ensures whole { IfOk result (λ ledger. ledger.kept.bits.pruned ≡ 0) }
         ensures refused { IfErr result (λ e. (e ≡ LedgerError.Memory) ⊎ ((e ≡ LedgerError.NumberEnded)
             × (2 ^ 62 < length log.operations.items))) }
     {
@@ -137,45 +166,50 @@ impl<F: Graftable, H: HashFunction, K: FixedKey, V: FixedValue, const N: usize> 
         if operations.len() as u64 > MAX_OPERATIONS {
             return Err(LedgerError::NumberEnded);
         }
-        let commits = commits_of(&operations);
-        let floor = floor_of(&operations);
-        let log = Log::of(alloc, operations, places);
-        let current = kept_of_log::<F, H, K, V, N>(alloc, &log, floor)?;
+        let (commits, current) = counted_and_kept(alloc, &operations, &places)?;
         Ok(Ledger {
             alloc,
-            log,
+            places,
             commits,
             current,
+            values: PhantomData,
         })
     }
 
-    // What the batch with its commit appends to the log. It is refused where the log would pass 2^62 operations, or out
-    // of memory.
-    fn next_commit(
+    // What is kept of the log with the changes that a batch makes in it and with its commit, and what the log grows by.
+    // It is refused where the log would pass 2^62 operations, or out of memory.
+    fn with_changes(
         &self,
-        batch: &Batch<K, V>,
+        changes: Vec<OrderedOperation<F, K, V>>,
         metadata: Option<V>,
-    ) -> Result<Appended<F, H, K, V, N>, LedgerError>
-        ensures operations { let said = words.meanings K.encoding V.encoding batch.now.words.items in
-            IfOk result (λ next. spec.log_of self.now.history
-            ++ spec.meanings K.encoding V.encoding next.operations.items
-            ≡ spec.log_of (commit_after said (option_map V.encoding metadata) self.now.history)) }
-        ensures pruned { IfOk result (λ next. next.current.bits.pruned ≡ self.now.pruned) }
-        ensures kept { IfOk result (λ next. IsKept (setting_of_width F.merge_rule H.hash_of N) K.SIZE V.SIZE
-            (spec.log_of self.now.history ++ spec.meanings K.encoding V.encoding next.operations.items) next.current) }
-        ensures bytes { IfOk result (λ next. next.bytes.items
-            ≡ log_bytes K.SIZE V.SIZE (spec.meanings K.encoding V.encoding next.operations.items)) }
-        ensures written { IfOk result (λ next. AreWritten (format_of (K.after tt) (V.after tt) K.SIZE V.SIZE)
-            (spec.meanings K.encoding V.encoding next.operations.items)) }
-        ensures few { IfOk result (λ next. length (spec.log_of self.now.history) + length next.operations.items
-            ≤ 2 ^ 62) }
-        ensures refused { let said = words.meanings K.encoding V.encoding batch.now.words.items in
-            let next = commit_after said (option_map V.encoding metadata) self.now.history in
-            IfErr result (λ e. (e ≡ LedgerError.Memory) ⊎ ((e ≡ LedgerError.NumberEnded)
-            × (2 ^ 62 < length (spec.log_of next)))) }
+    ) -> Result<Appended<F, H, K, N>, LedgerError>
+        requires changes { AreChanges (setting_of_width F.merge_rule H.hash_of N)
+            (format_of (K.after tt) (V.after tt) K.SIZE V.SIZE) self.now
+            (spec.meanings K.encoding V.encoding changes.items) }
+        ensures ok { (log : List meaning.Operation) (said : List Word)
+            → let setting = setting_of_width F.merge_rule H.hash_of N in
+            let format = format_of (K.after tt) (V.after tt) K.SIZE V.SIZE in
+            let next = commit_after said (option_map V.encoding metadata) (history_of log) in
+            IsLedgerOf setting format log self.now
+            → spec.meanings K.encoding V.encoding changes.items ≡ changes_of said log
+            → IfOk result (λ appended. IsLedgerOf setting format (log_of next) (record {
+              places = appended.places;
+              commits = self.now.commits + 1;
+              kept = appended.current;
+            })) }
+        ensures bytes { (log : List meaning.Operation) (said : List Word)
+            → let next = commit_after said (option_map V.encoding metadata) (history_of log) in
+            IsLedgerOf (setting_of_width F.merge_rule H.hash_of N)
+            (format_of (K.after tt) (V.after tt) K.SIZE V.SIZE) log self.now
+            → spec.meanings K.encoding V.encoding changes.items ≡ changes_of said log
+            → IfOk result (λ appended. log_bytes K.SIZE V.SIZE (log_of next)
+            ≡ log_bytes K.SIZE V.SIZE log ++ appended.bytes.items) }
+        ensures pruned { IfOk result (λ appended. appended.current.bits.pruned ≡ self.now.kept.bits.pruned) }
+        ensures refused { IfErr result (λ e. (e ≡ LedgerError.Memory) ⊎ ((e ≡ LedgerError.NumberEnded)
+            × (2 ^ 62 ≤ self.now.kept.operations.leaves + length changes.items))) }
     {
-        let changes = changes_of(self.alloc, &self.log, batch)?;
-        if changes.len() as u64 >= MAX_OPERATIONS - self.log.len() as u64 {
+        let leaves = self.current.leaves().as_u64();
+        if changes.len() as u64 >= MAX_OPERATIONS - leaves {
             return Err(LedgerError::NumberEnded);
         }
         let Found {
@@ -183,42 +217,111 @@ impl<F: Graftable, H: HashFunction, K: FixedKey, V: FixedValue, const N: usize> 
             bits,
             places,
             floor,
-        } = found_of(self.alloc, &self.log, &self.current, changes, metadata)?;
+        } = found_of(self.alloc, &self.places, &self.current, changes, metadata)?;
         let encodings = encodings_of(self.alloc, &operations)?;
         let current = grown_by(&self.current, &encodings, &bits, &places, floor)?;
         let bytes = joined(self.alloc, &encodings)?;
+        let places = places_after(&self.places, leaves as usize, &operations)?;
         Ok(Appended {
-            operations,
+            places,
             current,
             bytes,
         })
     }
 
-    /// Takes the batch with its commit into the history, and answers the bytes that its log grows by. It is refused
-    /// where the log would pass 2^62 operations, or out of memory; the history then stays as it was.
-    pub fn commit(
+    // What the batch changes in the log. It is refused out of memory, or as the log is.
+    fn changes_in<L: LoggedOperations<F, K, V>>(
+        &self,
+        log: &mut L,
+        batch: &Batch<K, V>,
+    ) -> Result<Vec<OrderedOperation<F, K, V>>, ReadError<L::Error>>
+        requires may { L.readable log.old }
+        requires of { IsLedgerOf (setting_of_width F.merge_rule H.hash_of N)
+            (format_of (K.after tt) (V.after tt) K.SIZE V.SIZE) (L.log log.old) self.now }
+        ensures what { let said = words.meanings K.encoding V.encoding batch.now.words.items in
+            IfOk result (λ changes. spec.meanings K.encoding V.encoding changes.items
+            ≡ changes_of said (L.log log.old)) }
+        ensures are { IfOk result (λ changes. AreChanges (setting_of_width F.merge_rule H.hash_of N)
+            (format_of (K.after tt) (V.after tt) K.SIZE V.SIZE) self.now
+            (spec.meanings K.encoding V.encoding changes.items)) }
+        ensures same { L.log log.new ≡ L.log log.old }
+        ensures few { L.reads log.new ≤ L.reads log.old + 2 * length batch.now.words.items }
+        ensures leads { OnOk result (L.leads log.old log.new) }
+        ensures refused { IfErr result (IfLog (L.leads log.old log.new) (L.refuses log.old log.new)) }
+    {
+        changes_near(self.alloc, log, &self.places, batch)
+    }
+
+    // What is kept of the log with the batch and its commit, and what the log grows by. It is refused as `commit` is.
+    fn next_commit<L: LoggedOperations<F, K, V>>(
+        &self,
+        log: &mut L,
+        batch: &Batch<K, V>,
+        metadata: Option<V>,
+    ) -> Result<Appended<F, H, K, N>, CommitError<L::Error>>
+        requires may { L.readable log.old }
+        requires of { IsLedgerOf (setting_of_width F.merge_rule H.hash_of N)
+            (format_of (K.after tt) (V.after tt) K.SIZE V.SIZE) (L.log log.old) self.now }
+        ensures ok { let said = words.meanings K.encoding V.encoding batch.now.words.items in
+            let next = commit_after said (option_map V.encoding metadata) (history_of (L.log log.old)) in
+            IfOk result (λ appended. IsLedgerOf (setting_of_width F.merge_rule H.hash_of N)
+            (format_of (K.after tt) (V.after tt) K.SIZE V.SIZE) (log_of next) (record {
+              places = appended.places;
+              commits = self.now.commits + 1;
+              kept = appended.current;
+            })) }
+        ensures bytes { let said = words.meanings K.encoding V.encoding batch.now.words.items in
+            let next = commit_after said (option_map V.encoding metadata) (history_of (L.log log.old)) in
+            IfOk result (λ appended. log_bytes K.SIZE V.SIZE (log_of next)
+            ≡ log_bytes K.SIZE V.SIZE (L.log log.old) ++ appended.bytes.items) }
+        ensures pruned { IfOk result (λ appended. appended.current.bits.pruned ≡ self.now.kept.bits.pruned) }
+        ensures same { L.log log.new ≡ L.log log.old }
+        ensures few { L.reads log.new ≤ L.reads log.old + 2 * length batch.now.words.items }
+        ensures leads { OnOk result (L.leads log.old log.new) }
+        ensures refused { let said = words.meanings K.encoding V.encoding batch.now.words.items in
+            let next = commit_after said (option_map V.encoding metadata) (history_of (L.log log.old)) in
+            IfErr result (IsUncommitted (length (log_of next)) (L.leads log.old log.new) (L.refuses log.old log.new)) }
+    {
+        let changes = self.changes_in(log, batch)?;
+        let appended = self.with_changes(changes, metadata)?;
+        Ok(appended)
+    }
+
+    /// Takes the batch with its commit behind the log, and answers the bytes that the log grows by. Values that the
+    /// batch may leave as they are are read of the log. It is refused where the log would pass 2^62 operations, out of
+    /// memory, or as the log is; the ledger then stays as it was.
+    pub fn commit<L: LoggedOperations<F, K, V>>(
         &mut self,
+        log: &mut L,
         batch: Batch<K, V>,
         metadata: Option<V>,
-    ) -> Result<Vec<u8>, LedgerError>
+    ) -> Result<Vec<u8>, CommitError<L::Error>>
+        requires may { L.readable log.old }
+        requires of { IsLedgerOf (setting_of_width F.merge_rule H.hash_of N)
+            (format_of (K.after tt) (V.after tt) K.SIZE V.SIZE) (L.log log.old) self.old }
         ensures ok { let said = words.meanings K.encoding V.encoding batch.words.items in
-            OnOk result (self.new.history ≡ commit_after said (option_map V.encoding metadata) self.old.history) }
-        ensures bytes { IfOk result (λ bytes. log_bytes K.SIZE V.SIZE (spec.log_of self.new.history)
-            ≡ log_bytes K.SIZE V.SIZE (spec.log_of self.old.history) ++ bytes.items) }
-        ensures within { OnOk result (length (spec.log_of self.new.history) ≤ 2 ^ 62) }
-        ensures pruned { self.new.pruned ≡ self.old.pruned }
+            let next = commit_after said (option_map V.encoding metadata) (history_of (L.log log.old)) in
+            OnOk result (IsLedgerOf (setting_of_width F.merge_rule H.hash_of N)
+            (format_of (K.after tt) (V.after tt) K.SIZE V.SIZE) (log_of next) self.new) }
+        ensures bytes { let said = words.meanings K.encoding V.encoding batch.words.items in
+            let next = commit_after said (option_map V.encoding metadata) (history_of (L.log log.old)) in
+            IfOk result (λ bytes. log_bytes K.SIZE V.SIZE (log_of next)
+            ≡ log_bytes K.SIZE V.SIZE (L.log log.old) ++ bytes.items) }
+        ensures pruned { self.new.kept.bits.pruned ≡ self.old.kept.bits.pruned }
+        ensures same { L.log log.new ≡ L.log log.old }
+        ensures few { L.reads log.new ≤ L.reads log.old + 2 * length batch.words.items }
+        ensures leads { OnOk result (L.leads log.old log.new) }
         ensures err { OnErr result (self.new ≡ self.old) }
         ensures refused { let said = words.meanings K.encoding V.encoding batch.words.items in
-            let next = commit_after said (option_map V.encoding metadata) self.old.history in
-            IfErr result (λ e. (e ≡ LedgerError.Memory) ⊎ ((e ≡ LedgerError.NumberEnded)
-            × (2 ^ 62 < length (spec.log_of next)))) }
+            let next = commit_after said (option_map V.encoding metadata) (history_of (L.log log.old)) in
+            IfErr result (IsUncommitted (length (log_of next)) (L.leads log.old log.new) (L.refuses log.old log.new)) }
     {
         let Appended {
-            operations,
+            places,
             current,
             bytes,
-        } = self.next_commit(&batch, metadata)?;
-        self.log.append(operations)?;
+        } = self.next_commit(log, &batch, metadata)?;
+        self.places = places;
         self.commits += 1;
         self.current = current;
         Ok(bytes)
@@ -226,67 +329,64 @@ impl<F: Graftable, H: HashFunction, K: FixedKey, V: FixedValue, const N: usize> 
 
     /// Where in the log the update stands that gives the key its value. None: the key isn't there.
     pub fn location(&self, key: &K) -> Option<u64>
-        ensures { MatchOption result (value_at (spec.latest_map self.now.history) (K.encoding key.now) ≡ None)
-            (λ index. HasValueAt (K.encoding key.now) self.now.history index) }
+        ensures { (log : List meaning.Operation) → IsLedgerOf (setting_of_width F.merge_rule H.hash_of N)
+            (format_of (K.after tt) (V.after tt) K.SIZE V.SIZE) log self.now
+            → MatchOption result (value_at (spec.latest_map (history_of log)) (K.encoding key.now) ≡ None)
+            (HasValueAt (K.encoding key.now) (history_of log)) }
     {
-        let location = self.log.active_location(key);
-        match update_at(self.log.operations(), location) {
-            Some(_) => Some(location as u64),
+        match self.places.get(key) {
+            Some(location) => Some(location as u64),
             None => None,
         }
     }
 
-    /// The operations of the log, the first one first.
-    pub fn operations(&self) -> &[OrderedOperation<F, K, V>]
-        ensures { spec.meanings K.encoding V.encoding result.now ≡ spec.log_of self.now.history }
-    {
-        self.log.operations()
-    }
-
     /// The root of the history.
     pub fn root(&self) -> H::Digest
-        ensures { H.Digest.encoding result ≡ root_of_history
-            (setting_of_width F.merge_rule H.hash_of N) K.SIZE V.SIZE self.now.history }
+        ensures { (log : List meaning.Operation) → let setting = setting_of_width F.merge_rule H.hash_of N in
+            IsLedgerOf setting (format_of (K.after tt) (V.after tt) K.SIZE V.SIZE) log self.now
+            → H.Digest.encoding result ≡ root_of_history setting K.SIZE V.SIZE (history_of log) }
     {
         self.current.root()
     }
 
     /// How many commits the history has.
     pub fn commits(&self) -> u64
-        ensures { result ≡ length self.now.history }
+        ensures { (log : List meaning.Operation) → IsLedgerOf (setting_of_width F.merge_rule H.hash_of N)
+            (format_of (K.after tt) (V.after tt) K.SIZE V.SIZE) log self.now → result ≡ length (history_of log) }
     {
         self.commits
     }
 
     /// The floor that the last commit of the log records: the location of an operation.
     pub fn floor(&self) -> u64
-        ensures { result ≡ floor_of self.now.history }
+        ensures floor { (log : List meaning.Operation) → IsLedgerOf (setting_of_width F.merge_rule H.hash_of N)
+            (format_of (K.after tt) (V.after tt) K.SIZE V.SIZE) log self.now → result ≡ floor_of (history_of log) }
+        ensures kept { result ≡ self.now.kept.floor }
     {
         self.current.floor().as_u64()
     }
 
     /// How many operations the log has.
     pub fn len(&self) -> u64
-        ensures { result ≡ length (spec.log_of self.now.history) }
+        ensures len { (log : List meaning.Operation) → IsLedgerOf (setting_of_width F.merge_rule H.hash_of N)
+            (format_of (K.after tt) (V.after tt) K.SIZE V.SIZE) log self.now → result ≡ length log }
+        ensures kept { result ≡ self.now.kept.operations.leaves }
     {
-        self.log.len() as u64
+        self.current.leaves().as_u64()
     }
 
     /// What holds of every ledger: the operations of its log are read again as they were written.
     pub fn is_recorded(&self)
-        ensures { AreRecorded (format_of (K.after tt) (V.after tt) K.SIZE V.SIZE) (spec.log_of self.now.history) }
+        ensures { (log : List meaning.Operation) → let format = format_of (K.after tt) (V.after tt) K.SIZE V.SIZE in
+            IsLedgerOf (setting_of_width F.merge_rule H.hash_of N) format log self.now → AreRecorded format log }
     {
         a_log_has_floors_within();
-        let _ = &self.log;
     }
 
-    /// What holds of every ledger: its chunks have a width that may be, each commit of its history has a state, and
-    /// its log has at most 2^62 operations.
+    /// What holds of every ledger: its chunks have a width that may be.
     pub fn holds_a_history(&self)
         ensures width { IsChunkWidth N }
-        ensures states { spec.AreStates self.now.history }
-        ensures few { length (spec.log_of self.now.history) ≤ 2 ^ 62 }
     {
-        let _ = &self.log;
+        let _ = &self.current;
     }
 }

@@ -1,11 +1,13 @@
 -- How operations lead from commit to commit.
-use Rattle.std.proofs.Common.{◌≡◌, ℕ, zero, suc, ◌+◌, ◌-◌, ◌<◌, ◌≤◌, Bool, true, false, List, [], ◌∷◌, ◌++◌, Option, None, map, take, drop, length, get_or, add-one, append_assoc, refl, ap, sym, ◌∙◌, arith}
+use Rattle.std.proofs.Common.{◌≡◌, ℕ, zero, suc, ◌+◌, ◌-◌, ◌<◌, ◌≤◌, Bool, true, false, List, [], ◌∷◌, ◌++◌, Option}
+use Rattle.std.proofs.Common.{None, map, take, drop, length, get_or, add-one, append_assoc, refl, ap, sym, ◌∙◌, arith}
 use Rattle.std.specs.Prelude.{◌||◌}
 use Rattle.std.specs.List.{list_any}
 use Rattle.std.proofs.lemmas.List.{length-map, length-append, append-nil, append_cancel_left, take-map, take_at}
 use Rattle.state_ops.specs.Operation.{Operation, delete, update, ordered, commit_floor}
 use Rattle.auth_store_parts.specs.Map.{Map, with_entry, without_key}
-use Rattle.auth_store_parts.specs.History.{History, Commit, latest_map, is_commit, replayed, history_from, history_of, appended, log_of, batch_operations, inactivity_floor}
+use Rattle.auth_store_parts.specs.History.{History, Commit, latest_map, is_commit, replayed, history_from, history_of}
+use Rattle.auth_store_parts.specs.History.{appended, log_of, batch_operations, inactivity_floor}
 use Rattle.auth_store_log.specs.Batches.{IsNextBatch}
 
 -- a batch leads to one commit more

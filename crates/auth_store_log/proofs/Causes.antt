@@ -17,7 +17,8 @@ use Rattle.paged_blob_parts.specs.Flushes.{physical_size}
 use Rattle.paged_blob_parts.specs.Shrinks.{IsCutCause}
 use Rattle.paged_blob_parts.specs.declared.error.CallKind.{CallKind}
 use Rattle.paged_blob_parts.specs.declared.error.Error.{Error}
-use Rattle.paged_blob_parts.specs.declared.error.Error.TheVariants.{BlobMissing, Injected, BlobInsufficientLength, NumberEnded, Memory, PowerCut, ChecksumMismatch}
+use Rattle.paged_blob_parts.specs.declared.error.Error.TheVariants.{BlobMissing, Injected, BlobInsufficientLength}
+use Rattle.paged_blob_parts.specs.declared.error.Error.TheVariants.{NumberEnded, Memory, PowerCut, ChecksumMismatch}
 use Rattle.auth_store_log.specs.Causes.{IsLogCause, AreNamed}
 
 module _ (failures : Failures) where

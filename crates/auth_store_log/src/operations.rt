@@ -1,6 +1,6 @@
 //! The operations of a log, from its bytes.
 
-ghost use Rattle.std.specs.Prelude.{◌≡◌, ◌+◌, ◌*◌, ◌<◌, ◌≤◌, ◌++◌, ◌⊎◌, ℕ, List, length, take, drop, slice_get};
+ghost use Rattle.std.specs.Prelude.{◌≡◌, ◌+◌, ◌*◌, ◌<◌, ◌≤◌, ◌++◌, ◌⊎◌, ℕ, List, slice_get};
 ghost use Rattle.std.specs.Prelude.{Some, Err, IfOk, IfErr, IfSome, OnSome, IfNone};
 ghost use Rattle.paged_format.specs.Footers.{content_size};
 ghost use Rattle.paged_blob_parts.specs.CachedContent.{HoldsPagesOf, KeepsOthers};

@@ -33,8 +33,10 @@ pub fn records_in<K: FixedKey, V: FixedValue>(len: usize) -> usize
     len / size as usize
 }
 
-// Whether the operation is a commit.
-fn ends_batch<F: Family, K: FixedKey, V: FixedValue>(operation: &OrderedOperation<F, K, V>) -> bool
+/// Whether the operation is a commit, which ends a batch.
+pub fn ends_batch<F: Family, K: FixedKey, V: FixedValue>(
+    operation: &OrderedOperation<F, K, V>,
+) -> bool
     ensures { result ≡ is_commit (meaning_of K.encoding V.encoding operation.now) }
 {
     matches!(operation, Operation::CommitFloor(_, _))

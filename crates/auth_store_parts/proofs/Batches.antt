@@ -7,7 +7,8 @@ use Rattle.std.proofs.lemmas.List.Elements.{filter-append}
 use Rattle.std.proofs.lemmas.Bool.{cases_Bool}
 use Rattle.state_ops.specs.Operation.{Operation, commit_floor, delete, update, ordered}
 use Rattle.auth_store_parts.specs.Map.{Map, value_at, next_key}
-use Rattle.auth_store_parts.specs.History.{History, log_of, latest_map, inactivity_floor, has_key, is_commit, is_kept, deletes, updates, batch_operations, IsState}
+use Rattle.auth_store_parts.specs.History.{History, log_of, latest_map, inactivity_floor, has_key, is_commit, is_kept}
+use Rattle.auth_store_parts.specs.History.{deletes, updates, batch_operations, IsState}
 use Rattle.auth_store_parts.specs.Laws.Lookups.{same, exact, none_later, IsState-tail}
 use Rattle.auth_store_parts.specs.Laws.Logs.{differ, true_false, passed_by}
 

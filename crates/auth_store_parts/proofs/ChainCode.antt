@@ -1,5 +1,7 @@
 -- What the code of a walk finds, in the words of the walk.
-use Rattle.std.proofs.Common.{◌≡◌, ℕ, zero, suc, ◌+◌, ◌-◌, ◌<◌, add-one, drop, Bool, true, false, List, [], ◌∷◌, map, length, Option, None, Some, option_map, slice_get, slice_index_or, ◌≤◌, refl, ap, sym, ◌∙◌, subst, arith}
+use Rattle.std.proofs.Common.{◌≡◌, ℕ, zero, suc, ◌+◌, ◌-◌, ◌<◌, add-one, drop, Bool, true, false, List, [], ◌∷◌, map}
+use Rattle.std.proofs.Common.{length, Option, None, Some, option_map, slice_get, slice_index_or, ◌≤◌, refl, ap, sym}
+use Rattle.std.proofs.Common.{◌∙◌, subst, arith}
 use Rattle.std.specs.Prelude.{is_some, if◌then◌else◌, unwrap_or, MatchOption}
 use Rattle.std.specs.Ordering.{is_lt}
 use Rattle.state_ops.specs.declared.Operation as code
@@ -7,7 +9,8 @@ use Rattle.state_ops.specs.Operation.{Operation, Code, meaning_of, delete, updat
 use Rattle.auth_store_parts.specs.Map.{Map, key_order, state_of, value_at, entry_of}
 use Rattle.auth_store_parts.specs.History.{active_location, active_update, update_fields}
 use Rattle.auth_store_parts.specs.Places.{places_of}
-use Rattle.auth_store_parts.specs.Chains.{Pointer, first_of, behind, first_by, first_after, over_delete, over_update, over_deletes, up_to_update, walk, deletes_in_front}
+use Rattle.auth_store_parts.specs.Chains.{Pointer, first_of, behind, first_by, first_after, over_delete, over_update}
+use Rattle.auth_store_parts.specs.Chains.{over_deletes, up_to_update, walk, deletes_in_front}
 use Rattle.auth_store_parts.specs.Laws.Places.{value_at-places_of, place_found}
 
 pub none_case : {X : Type 0} (A : Type 0) (B : X → Type 0) (o : Option X) → MatchOption o A B → o ≡ None → A

@@ -1,5 +1,7 @@
 -- A table of ranked keys with their places: how its keys grow, and how its places are those of a map.
-use Rattle.std.proofs.Common.{◌≡◌, ℕ, zero, suc, Bool, true, false, T, cond, ◌&&◌, List, [], ◌∷◌, ◌++◌, map, length, append_assoc, Option, None, Some, option_map, slice_get, ◌⊎◌, refl, ap, sym, ◌∙◌, subst, ⊎_elim, arith}
+use Rattle.std.proofs.Common.{◌≡◌, ℕ, zero, suc, Bool, true, false, T, cond, ◌&&◌, List, [], ◌∷◌, ◌++◌, map, length}
+use Rattle.std.proofs.Common.{append_assoc, Option, None, Some, option_map, slice_get, ◌⊎◌, refl, ap, sym, ◌∙◌, subst}
+use Rattle.std.proofs.Common.{⊎_elim, arith}
 use Rattle.std.proofs.Math.ListN.{set}
 use Rattle.std.specs.List.{zip, AllByRecursion}
 use Rattle.std.specs.declared.cmp.Ordering.{Ordering}
@@ -12,7 +14,8 @@ use Rattle.std.proofs.lemmas.Map.Lookups.{exact_bytes}
 use Rattle.auth_store_parts.specs.Map.{Map, state_of, key_order, value_at}
 use Rattle.auth_store_parts.specs.History.{IsState}
 use Rattle.auth_store_parts.specs.Ranked.{place_at, places_at, AreAscending, last_key, with_place}
-use Rattle.auth_store_parts.specs.Laws.Lookups.{same, same_self, exact, value_at-find, IsState-with_entry, IsState-without_key, value_at-with_entry, value_at-without_key}
+use Rattle.auth_store_parts.specs.Laws.Lookups.{same, same_self, exact, value_at-find, IsState-with_entry}
+use Rattle.auth_store_parts.specs.Laws.Lookups.{IsState-without_key, value_at-with_entry, value_at-without_key}
 
 abbrev Place : Type 0
 Place = Option (List ℕ)

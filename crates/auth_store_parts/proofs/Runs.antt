@@ -1,5 +1,6 @@
 -- Runs of updates, and operations that are taken in parts.
-use Rattle.std.proofs.Common.{◌≡◌, ℕ, zero, suc, ◌+◌, ◌≤◌, List, [], ◌∷◌, ◌++◌, map, take, drop, length, get_or, drop-cons, append_assoc, refl, ap, sym, ◌∙◌, ◌<◌, add-one, arith}
+use Rattle.std.proofs.Common.{◌≡◌, ℕ, zero, suc, ◌+◌, ◌≤◌, List, [], ◌∷◌, ◌++◌, map, take, drop, length, get_or}
+use Rattle.std.proofs.Common.{drop-cons, append_assoc, refl, ap, sym, ◌∙◌, ◌<◌, add-one, arith}
 use Rattle.state_ops.specs.Operation.{Operation, delete, update, ordered, commit_floor}
 use Rattle.auth_store_parts.specs.Map.{Map, with_entry}
 use Rattle.auth_store_parts.specs.Places.{after_place, placed, updates_in_front, located_key, located_keys}

@@ -1,5 +1,7 @@
 -- A text is read as the one line that it spells.
-use Rattle.std.proofs.Common.{◌≡◌, ◌+◌, ℕ, Bool, true, false, not, cond, ltb, List, [], ◌∷◌, ◌++◌, length, take, drop, get_or, codes, Option, None, Some, Result, Ok, Err, refl, sym, ◌∙◌, ap, subst, append_assoc, length-append, arith}
+use Rattle.std.proofs.Common.{◌≡◌, ◌+◌, ℕ, Bool, true, false, not, cond, ltb, List, [], ◌∷◌, ◌++◌, length, take, drop}
+use Rattle.std.proofs.Common.{get_or, codes, Option, None, Some, Result, Ok, Err, refl, sym, ◌∙◌, ap, subst}
+use Rattle.std.proofs.Common.{append_assoc, length-append, arith}
 use Rattle.std.proofs.Common.{IfSome, unwrap_or, option_map, take-append-drop, drop_at, ltb-true}
 use Rattle.std.proofs.Math.Dec.{eqb}
 use Rattle.std.proofs.Math.ListN.{get_or-append}
@@ -15,14 +17,19 @@ use Rattle.hex.proofs.HexLemmas.{decode_of-ok}
 use Rattle.hex.specs.declared.error.FromHexError.{FromHexError}
 use Rattle.merkle_forest_parts.specs.declared.codec.fixed_bytes.FixedBytes.{FixedBytes}
 use Rattle.auth_store_parts.specs.declared.script.line.Line.{Line}
-use Rattle.auth_store_parts.specs.declared.script.line.Line.TheVariants.{Empty, New, Open, Put, Delete, Commit, Get, Root, Floor, Len, Prune, Prove, Proof, CheckValue, CheckAbsent, Cut, Mode, Fault, Close, Crash}
+use Rattle.auth_store_parts.specs.declared.script.line.Line.TheVariants.{Empty, New, Open, Put, Delete, Commit, Get}
+use Rattle.auth_store_parts.specs.declared.script.line.Line.TheVariants.{Root, Floor, Len, Prune, Prove, Proof}
+use Rattle.auth_store_parts.specs.declared.script.line.Line.TheVariants.{CheckValue, CheckAbsent, Cut, Mode, Fault}
+use Rattle.auth_store_parts.specs.declared.script.line.Line.TheVariants.{Close, Crash}
 use Rattle.auth_store_parts.specs.declared.script.words.FaultKind.{FaultKind}
 use Rattle.auth_store_parts.specs.declared.script.words.FaultKind.TheVariants as kinds
 use Rattle.auth_store_parts.specs.declared.script.words.TornMode.{TornMode}
 use Rattle.auth_store_parts.specs.declared.script.words.TornMode.TheVariants.{Prefix, Subset}
 use Rattle.auth_store_parts.specs.declared.script.words.TreeFamily.TheVariants.{Mmr, Mmb}
 use Rattle.auth_store_parts.specs.Script.{IsNumber, decimal_value}
-use Rattle.auth_store_parts.specs.Line.{◌>>=◌, key_from, key_of, is_number, number_of, after, key_and_number, first_word, two_numbers, kind_of, fault_of, mode_of, begins, is_all, line_of, line_with_words, proof_line, device_line}
+use Rattle.auth_store_parts.specs.Line.{◌>>=◌, key_from, key_of, is_number, number_of, after, key_and_number}
+use Rattle.auth_store_parts.specs.Line.{first_word, two_numbers, kind_of, fault_of, mode_of, begins, is_all, line_of}
+use Rattle.auth_store_parts.specs.Line.{line_with_words, proof_line, device_line}
 use Rattle.auth_store_parts.specs.Spelling.{SpellsKey, SpellsNumber, SpellsBoth, SpellsTwo, Spells, word_of_kind, word_of_mode}
 use Rattle.auth_store_parts.proofs.Lines.{number_some, passes_number, key_some, after-append, after-some}
 

@@ -5,7 +5,12 @@ use Rattle.auth_store_parts.specs.History.{History}
 use Rattle.auth_store_client.specs.States.{root_of_history}
 use Rattle.auth_store_ledger.specs.declared.error.Unprovable.{Unprovable as NoProof}
 use Rattle.auth_store_log.specs.Records.{Format}
-use Rattle.auth_store_session.specs.Machine.{Machine, Power, State, closed, live, failed, doubtful, Request, ask_open, ask_commit, ask_get, ask_root, ask_commits, ask_floor, ask_len, ask_prune, ask_proof, ask_close, ask_crash, ask_config, ask_cut, Answer, Proved, proof_of, told_proof, opened, committed, value, root_is, commits_are, floor_is, len_is, pruned_to, has_closed, has_crashed, is_set, refused, not_open, still_open, IsStep, IsRunSeen, commit_of}
+use Rattle.auth_store_session.specs.Machine.{Machine, Power, State, closed, live, failed, doubtful, Request, ask_open}
+use Rattle.auth_store_session.specs.Machine.{ask_commit, ask_get, ask_root, ask_commits, ask_floor, ask_len}
+use Rattle.auth_store_session.specs.Machine.{ask_prune, ask_proof, ask_close, ask_crash, ask_config, ask_cut, Answer}
+use Rattle.auth_store_session.specs.Machine.{Proved, proof_of, told_proof, opened, committed, value, root_is}
+use Rattle.auth_store_session.specs.Machine.{commits_are, floor_is, len_is, pruned_to, has_closed, has_crashed}
+use Rattle.auth_store_session.specs.Machine.{is_set, refused, not_open, still_open, IsStep, IsRunSeen, commit_of}
 use Rattle.auth_store_session.specs.Sound.{IsSoundIn, IsSoundState, HasSoundStates, TellsRootOf, TellsRoots}
 
 module _ (m : Machine) (format : Format) where
@@ -85,7 +90,7 @@ module _ (m : Machine) (format : Format) where
   step_tells before after (live history pruned) (ask_proof question) answer next step = ⊎_elim
       (λ said. no (told_proof (proof_of m history pruned question)) answer next said
       (no_root (proof_of m history pruned question) next))
-      (λ lacks. no (refused _) answer next lacks tt)
+      (λ refuses. no (refused refuses.0) answer next refuses.1 tt)
       step.1
   step_tells before after (live history pruned) ask_root answer next step =
       told answer _ next history pruned step.0 (inr refl) step.1

@@ -6,9 +6,18 @@ use Rattle.auth_store_ledger.specs.Store.{commit_after}
 use Rattle.auth_store_ledger.specs.declared.error.Unprovable.{Unprovable as NoProof}
 use Rattle.auth_store_ledger.specs.declared.error.Unprovable.TheVariants as reasons
 use Rattle.auth_store_session.specs.declared.error.StoreError.{StoreError}
-use Rattle.auth_store_session.specs.declared.error.StoreError.TheVariants.{Fault, PowerCut, NumberEnded, Memory, Corrupt, Failed, PastFloor, Inactive, OutOfRange, Pruned, EmptyRange, Header}
+use Rattle.auth_store_session.specs.declared.error.StoreError.TheVariants.{Fault, PowerCut, NumberEnded, Memory}
+use Rattle.auth_store_session.specs.declared.error.StoreError.TheVariants.{Corrupt, Failed, PastFloor, Inactive}
+use Rattle.auth_store_session.specs.declared.error.StoreError.TheVariants.{OutOfRange, Pruned, EmptyRange, Header}
 use Rattle.auth_store_device.specs.Devices.{is_cut}
-use Rattle.auth_store_session.specs.Machine.{Machine, Power, State, closed, live, failed, doubtful, Request, ask_open, ask_commit, ask_get, ask_root, ask_commits, ask_floor, ask_len, ask_prune, ask_proof, ask_close, ask_crash, ask_config, ask_cut, Answer, Proved, proof_of, told_proof, opened, committed, value, root_is, commits_are, floor_is, len_is, pruned_to, proof, has_closed, has_crashed, is_set, refused, not_open, still_open, MayRefuseRead, MayRefuseOpening, MayRefuseCommit, IsStep, IsRun, IsSpent, Passes, turned, refusal_in, faults_in, faults_told, AskNoCut, TellNoCut}
+use Rattle.auth_store_session.specs.Machine.{Machine, Power, State, closed, live, failed, doubtful, Request, ask_open}
+use Rattle.auth_store_session.specs.Machine.{ask_commit, ask_get, ask_root, ask_commits, ask_floor, ask_len}
+use Rattle.auth_store_session.specs.Machine.{ask_prune, ask_proof, ask_close, ask_crash, ask_config, ask_cut, Answer}
+use Rattle.auth_store_session.specs.Machine.{Proved, proof_of, told_proof, opened, committed, value, root_is}
+use Rattle.auth_store_session.specs.Machine.{commits_are, floor_is, len_is, pruned_to, proof, has_closed, has_crashed}
+use Rattle.auth_store_session.specs.Machine.{is_set, refused, not_open, still_open, MayRefuseRead, MayRefuseOpening}
+use Rattle.auth_store_session.specs.Machine.{MayRefuseBatch, MayRefuseAppend, IsStep, IsRun, IsSpent, Passes, turned}
+use Rattle.auth_store_session.specs.Machine.{refusal_in, faults_in, faults_told, AskNoCut, TellNoCut}
 
 -- what a refusal tells of the power
 abbrev Why : Power → Power → StoreError → Type 0
@@ -53,20 +62,35 @@ opening_why m before after Pruned cause = tt
 opening_why m before after EmptyRange cause = tt
 opening_why m before after (Header fault) cause = tt
 
-commit_why : (m : Machine) (before after : Power) (next : History) (e : StoreError) → MayRefuseCommit m before after next e
+batch_why : (m : Machine) (before after : Power) (next : History) (e : StoreError) → MayRefuseBatch m before after next e
     → Why before after e
-commit_why m before after next (Fault kind) cause = cause.0
-commit_why m before after next PowerCut cause = cause
-commit_why m before after next NumberEnded cause = tt
-commit_why m before after next Memory cause = tt
-commit_why m before after next Corrupt cause = tt
-commit_why m before after next Failed cause = tt
-commit_why m before after next PastFloor cause = tt
-commit_why m before after next Inactive cause = tt
-commit_why m before after next OutOfRange cause = tt
-commit_why m before after next Pruned cause = tt
-commit_why m before after next EmptyRange cause = tt
-commit_why m before after next (Header fault) cause = tt
+batch_why m before after next (Fault kind) cause = cause.0
+batch_why m before after next PowerCut cause = cause
+batch_why m before after next NumberEnded cause = tt
+batch_why m before after next Memory cause = tt
+batch_why m before after next Corrupt cause = tt
+batch_why m before after next Failed cause = tt
+batch_why m before after next PastFloor cause = tt
+batch_why m before after next Inactive cause = tt
+batch_why m before after next OutOfRange cause = tt
+batch_why m before after next Pruned cause = tt
+batch_why m before after next EmptyRange cause = tt
+batch_why m before after next (Header fault) cause = tt
+
+append_why : (m : Machine) (before after : Power) (next : History) (e : StoreError) → MayRefuseAppend m before after next e
+    → Why before after e
+append_why m before after next (Fault kind) cause = cause.0
+append_why m before after next PowerCut cause = cause
+append_why m before after next NumberEnded cause = tt
+append_why m before after next Memory cause = tt
+append_why m before after next Corrupt cause = tt
+append_why m before after next Failed cause = tt
+append_why m before after next PastFloor cause = tt
+append_why m before after next Inactive cause = tt
+append_why m before after next OutOfRange cause = tt
+append_why m before after next Pruned cause = tt
+append_why m before after next EmptyRange cause = tt
+append_why m before after next (Header fault) cause = tt
 
 -- an answer that is no refusal
 abbrev is_refusal : Answer → Bool
@@ -145,8 +169,10 @@ step_why m before after (doubtful history) (ask_cut calls) e next step = plain e
 step_why m before after (live history pruned) ask_open e next step = plain e still_open step.0 refl
 step_why m before after (live history pruned) (ask_commit words metadata) e next step = ⊎_elim
     (λ commits. plain e (committed _) commits.0 refl)
-    (λ refuses. let (error, is, cause, left) = refuses in why_of before after e error is
-    (commit_why m before after (commit_after words metadata history) error cause))
+    (λ refuses. let (error, is, cause) = refuses in why_of before after e error is (⊎_elim
+    (λ kept. batch_why m before after (commit_after words metadata history) error kept.1)
+    (λ lost. append_why m before after (commit_after words metadata history) error lost.2)
+    cause))
     step
 step_why m before after (live history pruned) (ask_get key) e next step = ⊎_elim
     (λ said. plain e (value _) said refl)
@@ -162,7 +188,7 @@ step_why m before after (live history pruned) (ask_prune location) e next step =
     step.0
 step_why m before after (live history pruned) (ask_proof question) e next step = ⊎_elim
     (λ said. told_why before after e (proof_of m history pruned question) said)
-    (λ lacks. why_of before after e Memory lacks tt)
+    (λ refuses. let (error, is, cause) = refuses in why_of before after e error is (read_why before after error cause))
     step.1
 step_why m before after (live history pruned) ask_close e next step = plain e has_closed step.0 refl
 step_why m before after (live history pruned) ask_crash e next step = plain e still_open step.0 refl

@@ -5,7 +5,13 @@ use Rattle.std.proofs.lemmas.Bool.{false_from_ne_true}
 use Rattle.auth_store_session.specs.declared.error.StoreError.TheVariants.{Failed, Memory, PastFloor}
 use Rattle.auth_store_ledger.specs.declared.error.Unprovable.{Unprovable as NoProof}
 use Rattle.auth_store_device.specs.Devices.{after_asking, is_cut}
-use Rattle.auth_store_session.specs.Machine.{Machine, Power, State, closed, live, failed, doubtful, Request, ask_open, ask_commit, ask_get, ask_root, ask_commits, ask_floor, ask_len, ask_prune, ask_proof, ask_close, ask_crash, ask_config, ask_cut, Answer, Proved, proof_of, told_proof, value, root_is, commits_are, floor_is, len_is, pruned_to, proof, has_closed, has_crashed, is_set, refused, not_open, still_open, IsStep, IsRun, IsSpent, Passes, turned, AskNoCrash, acknowledges, AcknowledgeNone}
+use Rattle.auth_store_session.specs.Machine.{Machine, Power, State, closed, live, failed, doubtful, Request, ask_open}
+use Rattle.auth_store_session.specs.Machine.{ask_commit, ask_get, ask_root, ask_commits, ask_floor, ask_len}
+use Rattle.auth_store_session.specs.Machine.{ask_prune, ask_proof, ask_close, ask_crash, ask_config, ask_cut, Answer}
+use Rattle.auth_store_session.specs.Machine.{Proved, proof_of, told_proof, value, root_is, commits_are, floor_is}
+use Rattle.auth_store_session.specs.Machine.{len_is, pruned_to, has_closed, has_crashed, is_set, refused}
+use Rattle.auth_store_session.specs.Machine.{not_open, still_open, IsStep, IsRun, IsSpent, Passes, turned, AskNoCrash}
+use Rattle.auth_store_session.specs.Machine.{acknowledges, AcknowledgeNone}
 
 plain : {A : Type 0} (answer said : Answer) → acknowledges answer ≡ true → answer ≡ said → acknowledges said ≡ false → A
 plain answer said ack is none = let bad : true ≡ false = sym ack ∙ (ap acknowledges is ∙ none) in absurd (cc)
@@ -69,7 +75,7 @@ uncut m before after (live history pruned) (ask_prune location) answer next step
 uncut m before after (live history pruned) (ask_proof question) answer next step ack = ⊎_elim
     (λ said. plain answer (told_proof (proof_of m history pruned question)) ack said
     (told_no_commit (proof_of m history pruned question)))
-    (λ lacks. plain answer (refused Memory) ack lacks refl)
+    (λ refuses. plain answer (refused refuses.0) ack refuses.1 refl)
     step.1
 uncut m before after (live history pruned) ask_close answer next step ack = plain answer has_closed ack step.0 refl
 uncut m before after (live history pruned) ask_crash answer next step ack = plain answer still_open ack step.0 refl

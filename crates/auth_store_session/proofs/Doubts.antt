@@ -2,7 +2,11 @@
 use Rattle.std.proofs.Common.{◌≡◌, ℕ, List, [], ◌∷◌, ◌++◌, Some, None, refl, sym, subst, ◌∙◌, ap, ⊎_elim, append_assoc}
 use Rattle.std.proofs.lemmas.List.{append-nil}
 use Rattle.auth_store_parts.specs.History.{History, Commit, latest_map, log_of, appended}
-use Rattle.auth_store_session.specs.Machine.{Machine, Power, State, closed, live, failed, doubtful, Request, ask_open, ask_commit, ask_get, ask_root, ask_commits, ask_floor, ask_len, ask_prune, ask_proof, ask_close, ask_crash, ask_config, ask_cut, Answer, IsStep, IsStepInDoubt, IsStepLive, IsStepFailed, IsRunInDoubt, in_doubt, kept_history, Begins, commit_of}
+use Rattle.auth_store_session.specs.Machine.{Machine, Power, State, closed, live, failed, doubtful, Request, ask_open}
+use Rattle.auth_store_session.specs.Machine.{ask_commit, ask_get, ask_root, ask_commits, ask_floor, ask_len}
+use Rattle.auth_store_session.specs.Machine.{ask_prune, ask_proof, ask_close, ask_crash, ask_config, ask_cut, Answer}
+use Rattle.auth_store_session.specs.Machine.{IsStep, IsStepInDoubt, IsStepLive, IsStepFailed, IsRunInDoubt, in_doubt}
+use Rattle.auth_store_session.specs.Machine.{kept_history, Begins, commit_of}
 
 -- a log begins itself
 begins_same : (history : History) → Begins history history
@@ -46,9 +50,9 @@ keeps_live m before after history pruned (ask_commit words metadata) answer next
     (λ commits. subst (λ s. Begins history (kept_history s)) (sym commits.1)
     (begins_next history (commit_of words metadata history)))
     (λ refuses. ⊎_elim
-    (λ is. stays_at history (live history pruned) next is refl)
-    (λ is. stays_at history (failed history (commit_of words metadata history)) next is.0 refl)
-    refuses.3)
+    (λ kept. stays_at history (live history pruned) next kept.0 refl)
+    (λ lost. stays_at history (failed history (commit_of words metadata history)) next lost.0 refl)
+    refuses.2)
     step
 keeps_live m before after history pruned ask_open answer next step = stays_at history (live history pruned) next step.1 refl
 keeps_live m before after history pruned ask_crash answer next step = stays_at history (live history pruned) next step.1 refl

@@ -1,14 +1,14 @@
 -- Why a store on a device refuses, from the causes of its parts; and what its calls leave.
 use Rattle.std.proofs.Common.{◌≡◌, ◌⊎◌, ◌+◌, ◌-◌, ◌<◌, ◌≤◌, ◌^◌, ◌==◌, is_some, ℕ, List, ◌∷◌, Option, Some, None, Result, Ok, Err}
 use Rattle.std.proofs.Common.{inl, inr, refl, sym, subst, ap, ◌∙◌, ⊎_elim, length, arith}
-use Rattle.std.specs.Prelude.{IsTrue, IsFalse, OnOk, IfSome, IsSomeAnd, MatchResult}
+use Rattle.std.specs.Prelude.{IsTrue, IsFalse, OnOk, IfSome, IsSomeAnd}
 use Rattle.std.proofs.lemmas.Bool.{false_from_ne_true, eqb-true}
 use Rattle.fault_storage_parts.specs.declared.error.HeaderError.{HeaderError}
 use Rattle.fault_storage_parts.specs.Crc32.{crc32}
 use Rattle.paged_format.specs.Tips.{Tip}
 use Rattle.paged_blob_parts.specs.declared.flush.DurableSlot.{DurableSlot}
 use Rattle.paged_blob_parts.specs.Caches.{Cache}
-use Rattle.paged_blob_parts.specs.Answers.{RecordsOpening, IsPowerOff}
+use Rattle.paged_blob_parts.specs.Answers.{RecordsOpening}
 use Rattle.paged_blob_parts.specs.Calls.{Call, content, opened, file_of}
 use Rattle.paged_blob_parts.specs.Images.{IsImage}
 use Rattle.paged_blob_parts.specs.Moments.{Through}
@@ -23,11 +23,14 @@ use Rattle.auth_store_ledger.specs.Store.{commit_after, root_of_history}
 use Rattle.auth_store_log.specs.Records.{Format, recovered_log, history_bytes, log_bytes, AreRecorded}
 use Rattle.auth_store_log.specs.Shown.{MayShow, IsKeptThrough}
 use Rattle.auth_store_session.specs.declared.error.StoreError.{StoreError}
-use Rattle.auth_store_session.specs.declared.error.StoreError.TheVariants.{Fault, PowerCut, NumberEnded, Memory, Corrupt, Failed, PastFloor, Inactive, OutOfRange, Pruned, EmptyRange, Header}
+use Rattle.auth_store_session.specs.declared.error.StoreError.TheVariants.{Fault, PowerCut, NumberEnded, Memory}
+use Rattle.auth_store_session.specs.declared.error.StoreError.TheVariants.{Corrupt, Failed, PastFloor, Inactive}
+use Rattle.auth_store_session.specs.declared.error.StoreError.TheVariants.{OutOfRange, Pruned, EmptyRange, Header}
+use Rattle.auth_store_session.specs.Commits.{CommitsOver}
 use Rattle.auth_store_session.specs.Refusals.{of_opening}
-use Rattle.auth_store_session.specs.Machine.{Machine, IsEndingOpening, MayRefuseRead, MayRefuseCommit, PassesLimit, commit_of}
+use Rattle.auth_store_session.specs.Machine.{Machine, IsEndingOpening, MayRefuseRead, MayRefuseBatch, MayRefuseAppend, PassesLimit}
 use Rattle.auth_store_session.specs.Stores.{StoreState, LiveState, IsStore, IsLive, IsLiveAt, IsNoHistory, IsPruned, OpeningsShow}
-use Rattle.auth_store_session.specs.Stores.{IsReadRefusal, IsOpenRefusal, IsCommitRefusal, EndsDisk, EndsOpening}
+use Rattle.auth_store_session.specs.Stores.{IsReadRefusal, IsOpenRefusal, IsBatchRefusal, IsAppendRefusal, EndsDisk, EndsOpening}
 use Rattle.auth_store_session.proofs.Kept.{keeps_history}
 use Rattle.auth_store_session.specs.Standing.{power_of, shown_of, result_of, Commits, IsOpenError, IsShownThrough}
 use Rattle.auth_store_session.proofs.Grown.{keeps_live}
@@ -126,26 +129,44 @@ module _ {R : Type 0} (old new : DeviceState R) (cache now : Cache)
     read_on_device EmptyRange law cause = absurd cause
     read_on_device (Header fault) law cause = absurd cause
 
-    -- and a commit
-    pub commit_on_device : (m : Machine) (next : History) (e : StoreError) → (0 < new.refused → new.left ≡ Some 0)
-        → IsCommitRefusal (failures_of old) (failures_of new)
-        (PassesLimit next ⊎ EndsDisk m.page_size (log_bytes m.key_size m.value_size (log_of next))) e
-        → MayRefuseCommit m (power_of old cache) (power_of new now) next e
-    commit_on_device m next (Fault kind) law cause = cause
-    commit_on_device m next PowerCut law cause = cut_stands new.left (law (omega (arith, cause)))
-    commit_on_device m next NumberEnded law (inl (inl full)) = inl (inl full)
-    commit_on_device m next NumberEnded law (inl (inr full)) = inl (inr full)
-    commit_on_device m next NumberEnded law (inr (inl limit)) = inr (inl limit)
-    commit_on_device m next NumberEnded law (inr (inr disk)) = inr (inr disk)
-    commit_on_device m next Memory law cause = tt
-    commit_on_device m next Corrupt law cause = absurd cause
-    commit_on_device m next Failed law cause = absurd cause
-    commit_on_device m next PastFloor law cause = absurd cause
-    commit_on_device m next Inactive law cause = absurd cause
-    commit_on_device m next OutOfRange law cause = absurd cause
-    commit_on_device m next Pruned law cause = absurd cause
-    commit_on_device m next EmptyRange law cause = absurd cause
-    commit_on_device m next (Header fault) law cause = absurd cause
+    -- and a commit before anything is appended
+    pub batch_on_device : (m : Machine) (next : History) (e : StoreError) → (0 < new.refused → new.left ≡ Some 0)
+        → IsBatchRefusal (failures_of old) (failures_of new) (PassesLimit next) e
+        → MayRefuseBatch m (power_of old cache) (power_of new now) next e
+    batch_on_device m next (Fault kind) law cause = cause
+    batch_on_device m next PowerCut law cause = cut_stands new.left (law (omega (arith, cause)))
+    batch_on_device m next NumberEnded law (inl (inl full)) = inl (inl full)
+    batch_on_device m next NumberEnded law (inl (inr full)) = inl (inr full)
+    batch_on_device m next NumberEnded law (inr limit) = inr limit
+    batch_on_device m next Memory law cause = tt
+    batch_on_device m next Corrupt law cause = absurd cause
+    batch_on_device m next Failed law cause = absurd cause
+    batch_on_device m next PastFloor law cause = absurd cause
+    batch_on_device m next Inactive law cause = absurd cause
+    batch_on_device m next OutOfRange law cause = absurd cause
+    batch_on_device m next Pruned law cause = absurd cause
+    batch_on_device m next EmptyRange law cause = absurd cause
+    batch_on_device m next (Header fault) law cause = absurd cause
+
+    -- and while it is made durable
+    pub append_on_device : (m : Machine) (next : History) (e : StoreError) → (0 < new.refused → new.left ≡ Some 0)
+        → IsAppendRefusal (failures_of old) (failures_of new)
+        (EndsDisk m.page_size (log_bytes m.key_size m.value_size (log_of next))) e
+        → MayRefuseAppend m (power_of old cache) (power_of new now) next e
+    append_on_device m next (Fault kind) law cause = cause
+    append_on_device m next PowerCut law cause = cut_stands new.left (law (omega (arith, cause)))
+    append_on_device m next NumberEnded law (inl (inl full)) = inl (inl full)
+    append_on_device m next NumberEnded law (inl (inr full)) = inl (inr full)
+    append_on_device m next NumberEnded law (inr disk) = inr disk
+    append_on_device m next Memory law cause = tt
+    append_on_device m next Corrupt law cause = absurd cause
+    append_on_device m next Failed law cause = absurd cause
+    append_on_device m next PastFloor law cause = absurd cause
+    append_on_device m next Inactive law cause = absurd cause
+    append_on_device m next OutOfRange law cause = absurd cause
+    append_on_device m next Pruned law cause = absurd cause
+    append_on_device m next EmptyRange law cause = absurd cause
+    append_on_device m next (Header fault) law cause = absurd cause
 
 -- a store of which this is true has not failed
 pub is_live : (live : Option LiveState) (history : History) → IsSomeAnd live (λ now. now.history ≡ history)
@@ -154,29 +175,40 @@ is_live (Some now) history is = (now, refl, is)
 is_live None history is = absurd is
 
 -- what a commit says of a history
-module _ {R : Type 0} (m : Machine) (format : Format) (words : List Word) (metadata : Option (List ℕ)) (old new : StoreState R)
+module _ {R : Type 0} (m : Machine) (format : Format) (keys : format.key_size ≡ m.key_size) (values : format.value_size ≡ m.value_size)
+    (words : List Word) (metadata : Option (List ℕ)) (old new : StoreState R)
   where
     abbrev pub CommitsHere : {D : Type 0} → (D → List ℕ) → Result D StoreError → History → Type 0
     CommitsHere encoding result history =
-        let next = commit_after words metadata history in
-        MatchResult result
-        (λ root. (encoding root ≡ root_of_history m.setting m.key_size m.value_size next)
-        × IsSomeAnd new.live (λ now. now.history ≡ next) × (length (log_of next) ≤ 2 ^ 62)
-        × (IsPowerOff (failures_of old.device) (calls_left old.device.left) → ⊥))
-        (λ e. IsCommitRefusal (failures_of old.device) (failures_of new.device)
-        (PassesLimit next ⊎ EndsDisk m.page_size (log_bytes m.key_size m.value_size (log_of next))) e
-        × (IsSomeAnd new.live (λ now. now.history ≡ history) ⊎ ((new.live ≡ None) × (length (log_of next) ≤ 2 ^ 62)
-        × OpeningsShow format m.page_size history (Some (commit_of words metadata history)) new.device.calls)))
+        CommitsOver m.setting format m.page_size words metadata history (failures_of old.device) (calls_left old.device.left) encoding
+        result (failures_of new.device) new.device.calls new.live
 
     commits_of : {D : Type 0} (encoding : D → List ℕ) (result : Result D StoreError) (history : History)
         → (0 < new.device.refused → new.device.left ≡ Some 0) → CommitsHere encoding result history
         → Commits m format words metadata history old (result_of encoding result) new
     commits_of encoding (Ok root) history law said =
-        (said.0, is_live new.live _ said.1, said.2, not_cut old.device.left (λ is. said.3 (ap is_some is, ap calls_left is)))
-    commits_of encoding (Err e) history law said = (
-      commit_on_device old.device new.device old.cache new.cache m (commit_after words metadata history) e law said.0,
-      ⊎_elim (λ kept. inl (is_live new.live history kept)) (λ lost. inr lost) said.1,
-    )
+        let next = commit_after words metadata history in (
+          said.0 ∙ (ap (λ k. root_of_history m.setting k format.value_size next) keys
+              ∙ ap (λ v. root_of_history m.setting m.key_size v next) values),
+          is_live new.live _ said.1,
+          said.2,
+          not_cut old.device.left (λ is. said.3 (ap is_some is, ap calls_left is)),
+        )
+    commits_of encoding (Err e) history law said = ⊎_elim
+        (λ kept. inl (
+          is_live new.live history kept.0,
+          batch_on_device old.device new.device old.cache new.cache m (commit_after words metadata history) e law kept.1,
+        ))
+        (λ lost. inr (
+          lost.0,
+          lost.1.0,
+          lost.1.1,
+          append_on_device old.device new.device old.cache new.cache m (commit_after words metadata history) e law
+              (subst (λ bytes. IsAppendRefusal (failures_of old.device) (failures_of new.device) (EndsDisk m.page_size bytes) e)
+              (ap (λ k. log_bytes k format.value_size (log_of (commit_after words metadata history))) keys
+              ∙ ap (λ v. log_bytes m.key_size v (log_of (commit_after words metadata history))) values) lost.1.2),
+        ))
+        said
 
     pub commits_on_device : {D : Type 0} (encoding : D → List ℕ) (result : Result D StoreError) (history : History)
         → (0 < new.device.refused → new.device.left ≡ Some 0)
@@ -243,11 +275,6 @@ parts_show {R = R} format device cache (Some now) pruned at history view is show
     (one_history device cache (Some now) pruned at now history view refl live) (shown device.calls cache is.live))
 parts_show {R = R} format device cache None pruned at history view is shown (now, stands, same) =
     let all : None ≡ Some now = ap (λ (s : StoreState R). s.live) view ∙ stands in absurd (cc)
-
--- what was live stays so
-pub live_stays : (format : Format) (calls : List Call) (cache : Cache) (live : Option LiveState) (now : LiveState) → live ≡ Some now
-    → IsLive format calls cache now → IfSome live (IsLive format calls cache)
-live_stays format calls cache live now is stands = subst (λ (l : Option LiveState). IfSome l (IsLive format calls cache)) (sym is) stands
 
 -- an opening that is recorded with what it shows shows an image
 pub opened_image : (old mid : List Call) (shown : List ℕ) → mid ≡ opened shown ∷ old → RecordsOpening old mid → IsImage (file_of old) shown

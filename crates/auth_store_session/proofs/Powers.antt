@@ -3,7 +3,8 @@ use Rattle.std.proofs.Common.{◌≡◌, ◌⊎◌, inl, inr, ◌+◌, ◌≤◌
 use Rattle.paged_blob_parts.specs.Answers.{Failures, failures_after}
 use Rattle.paged_blob_parts.specs.Caches.{Cache}
 use Rattle.paged_blob_parts.specs.declared.error.Error.{Error}
-use Rattle.paged_blob_parts.specs.declared.error.Error.TheVariants.{Injected, BlobMissing, BlobInsufficientLength, NumberEnded, Memory, PowerCut, ChecksumMismatch}
+use Rattle.paged_blob_parts.specs.declared.error.Error.TheVariants.{Injected, BlobMissing, BlobInsufficientLength}
+use Rattle.paged_blob_parts.specs.declared.error.Error.TheVariants.{NumberEnded, Memory, PowerCut, ChecksumMismatch}
 use Rattle.auth_store_device.specs.declared.error.OpenError.{OpenError}
 use Rattle.auth_store_device.specs.declared.error.OpenError.TheVariants as openings
 use Rattle.auth_store_device.specs.Devices.{DeviceState, calls_left, failures_of, injected_after, refused_after, left_after_opening}
@@ -13,11 +14,11 @@ use Rattle.auth_store_log.specs.Causes.{failures_after_reading}
 use Rattle.auth_store_log.specs.declared.error.LogError.{LogError}
 use Rattle.auth_store_log.specs.declared.error.LogError.TheVariants.{Corrupt, Refused}
 use Rattle.auth_store_session.specs.Machine.{Power, Leaves, Passes, IsCrash, IsSpent, asked_to_cut, faults_in, cuts_in, ask_cut, ask_crash, is_set, has_crashed}
-use Rattle.auth_store_session.specs.Refusals.{IsOfProof, of_blob, of_ledger, of_log, of_opening}
+use Rattle.auth_store_session.specs.Refusals.{of_blob, of_ledger, of_log, of_opening}
 use Rattle.auth_store_session.specs.declared.error.StoreError.{StoreError}
 use Rattle.auth_store_session.specs.declared.error.StoreError.TheVariants as refusals
-use Rattle.auth_store_session.specs.Standing.{power_of, power_in}
-use Rattle.auth_store_session.specs.Stores.{Raises, StoreState}
+use Rattle.auth_store_session.specs.Standing.{power_of}
+use Rattle.auth_store_session.specs.Stores.{Raises}
 
 -- no call
 pub raises_none : (refusal : Option StoreError) (failures : Failures) → faults_in refusal ≡ 0 → cuts_in refusal ≡ 0
@@ -41,11 +42,6 @@ raises_after ChecksumMismatch failures = raises_none (Some (of_blob ChecksumMism
 pub raises_refused : (e : Error) (before after : Failures) → after ≡ failures_after {T = Unit {0}} (Err e) before
     → Raises (Some (of_blob e)) before after
 raises_refused e before after is = subst (Raises (Some (of_blob e)) before) (sym is) (raises_after e before)
-
--- what was read is the log of no history
-pub raises_corrupt : (before after : Failures) → after ≡ before → Raises (Some refusals.Corrupt) before after
-raises_corrupt before after same =
-    subst (Raises (Some refusals.Corrupt) before) (sym same) (raises_none (Some refusals.Corrupt) before refl refl)
 
 pub raises_read : (e : LogError) (failures : Failures) → (e ≡ Refused Memory) ⊎ (e ≡ Corrupt) → Raises (Some (of_log e)) failures failures
 raises_read e failures (inl is) =
@@ -125,34 +121,12 @@ pub leaves_none : {R : Type 0} (refusal : Option StoreError) (device : DeviceSta
     → cuts_in refusal ≡ 0 → Leaves 0 refusal (power_of device cache) (power_of device cache)
 leaves_none refusal device cache = stays 0 refusal (power_of device cache)
 
--- nor of a store that refuses because it had failed, or because there was no memory for a proof
+-- nor of a store that refuses because it had failed
 pub leaves_failed : {R : Type 0} (e : StoreError) (device : DeviceState R) (cache : Cache) → e ≡ refusals.Failed
     → Leaves 0 (Some e) (power_of device cache) (power_of device cache)
 leaves_failed e device cache is =
     subst (λ x. Leaves 0 (Some x) (power_of device cache) (power_of device cache)) (sym is)
     (leaves_none (Some refusals.Failed) device cache refl refl)
-
-pub leaves_unproved : {R : Type 0} (e : StoreError) (device : DeviceState R) (cache : Cache)
-    → (e ≡ refusals.Memory) ⊎ (e ≡ refusals.Failed) → Leaves 0 (Some e) (power_of device cache) (power_of device cache)
-leaves_unproved e device cache (inl is) =
-    subst (λ x. Leaves 0 (Some x) (power_of device cache) (power_of device cache)) (sym is)
-    (leaves_none (Some refusals.Memory) device cache refl refl)
-leaves_unproved e device cache (inr is) = leaves_failed e device cache is
-
-pub leaves_of_proof : {R : Type 0} (e : StoreError) (device : DeviceState R) (cache : Cache) → IsOfProof e
-    → Leaves 0 (Some e) (power_of device cache) (power_of device cache)
-leaves_of_proof refusals.Inactive device cache is = leaves_none (Some refusals.Inactive) device cache refl refl
-leaves_of_proof refusals.OutOfRange device cache is = leaves_none (Some refusals.OutOfRange) device cache refl refl
-leaves_of_proof refusals.Pruned device cache is = leaves_none (Some refusals.Pruned) device cache refl refl
-leaves_of_proof refusals.EmptyRange device cache is = leaves_none (Some refusals.EmptyRange) device cache refl refl
-leaves_of_proof refusals.Memory device cache is = leaves_none (Some refusals.Memory) device cache refl refl
-leaves_of_proof refusals.Failed device cache is = leaves_none (Some refusals.Failed) device cache refl refl
-leaves_of_proof (refusals.Fault kind) device cache is = absurd is
-leaves_of_proof refusals.PowerCut device cache is = absurd is
-leaves_of_proof refusals.NumberEnded device cache is = absurd is
-leaves_of_proof refusals.Corrupt device cache is = absurd is
-leaves_of_proof refusals.PastFloor device cache is = absurd is
-leaves_of_proof (refusals.Header fault) device cache is = absurd is
 
 -- nor of a store that refuses to be pruned
 pub leaves_unpruned : {R : Type 0} (e : StoreError) (device : DeviceState R) (cache : Cache)

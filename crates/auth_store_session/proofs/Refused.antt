@@ -1,15 +1,16 @@
 -- Why a call over the blob refuses, from the causes of its parts.
-use Rattle.std.proofs.Common.{◌≡◌, refl, ap, Some, ◌⊎◌, ◌+◌, ◌<◌, ◌≤◌, ◌^◌, ℕ, true, false, inl, inr, rules, ⊎_elim, arith, max}
+use Rattle.std.proofs.Common.{◌≡◌, refl, ap, Some, ◌⊎◌, ◌+◌, ◌<◌, ◌≤◌, ◌^◌, ℕ, true, inl, inr, rules, ⊎_elim, arith, max}
 use Rattle.std.proofs.lemmas.Bool.{cases_lt}
 use Rattle.std.specs.Prelude.{Result, Ok, Err, IsFalse}
 use Rattle.paged_blob_parts.specs.Answers.{Failures, failures_after, IsPastNumbers, IsCause}
 use Rattle.paged_blob_parts.specs.declared.error.CallKind.{CallKind}
 use Rattle.paged_blob_parts.specs.declared.error.CallKind.TheVariants.{Write, Sync}
 use Rattle.paged_blob_parts.specs.declared.error.Error.{Error}
-use Rattle.paged_blob_parts.specs.declared.error.Error.TheVariants.{Injected, BlobMissing, BlobInsufficientLength, NumberEnded, Memory, PowerCut, ChecksumMismatch}
+use Rattle.paged_blob_parts.specs.declared.error.Error.TheVariants.{Injected, BlobMissing, BlobInsufficientLength}
+use Rattle.paged_blob_parts.specs.declared.error.Error.TheVariants.{NumberEnded, Memory, PowerCut, ChecksumMismatch}
 use Rattle.auth_store_log.specs.Causes.{IsLogCause}
 use Rattle.auth_store_session.specs.Refusals.{of_blob}
-use Rattle.auth_store_session.specs.Stores.{IsRefusal, IsOpenRefusal, IsCommitRefusal}
+use Rattle.auth_store_session.specs.Stores.{IsRefusal, IsOpenRefusal, IsAppendRefusal}
 
 -- an opening stands after a call as before it
 pub open_after : {T : Type 0} (result : Result T Error) (failures : Failures) → failures.is_open ≡ true
@@ -55,7 +56,7 @@ refused_by T failures kind reach Ends NumberEnded is ends (inr ended) = inl ende
 -- an append that is refused
 pub append_refused : (T : Type 0) (failures : Failures) (reach : ℕ) (e : Error) → failures.is_open ≡ true
     → IsCause failures Write reach e ⊎ IsCause failures Sync 0 e
-    → IsCommitRefusal failures (failures_after {T = T} (Err e) failures) (2 ^ 64 ≤ reach + 4096) (of_blob e)
+    → IsAppendRefusal failures (failures_after {T = T} (Err e) failures) (2 ^ 64 ≤ reach + 4096) (of_blob e)
 append_refused T failures reach (Injected injected) is (inl cause) = (omega arith, inl (ap (λ k. Some k) cause))
 append_refused T failures reach (Injected injected) is (inr cause) = (omega arith, inr (ap (λ k. Some k) cause))
 append_refused T failures reach PowerCut is cause = omega arith

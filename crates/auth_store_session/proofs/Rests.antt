@@ -14,14 +14,20 @@ use Rattle.std.specs.Prelude.{IsFalse, IfSome}
 use Rattle.fault_storage.specs.Stores.{Store}
 use Rattle.auth_store_device.specs.Logs.{HasOwnHeader}
 use Rattle.auth_store_session.specs.declared.error.StoreError.{StoreError}
-use Rattle.auth_store_session.specs.declared.error.StoreError.TheVariants.{Fault, PowerCut, NumberEnded, Memory, Corrupt, Failed, PastFloor, Inactive, OutOfRange, Pruned, EmptyRange, Header}
+use Rattle.auth_store_session.specs.declared.error.StoreError.TheVariants.{Fault, PowerCut, NumberEnded, Memory}
+use Rattle.auth_store_session.specs.declared.error.StoreError.TheVariants.{Corrupt, Failed, PastFloor, Inactive}
+use Rattle.auth_store_session.specs.declared.error.StoreError.TheVariants.{OutOfRange, Pruned, EmptyRange, Header}
 use Rattle.auth_store_session.specs.Machine as machine
-use Rattle.auth_store_session.specs.Machine.{Machine, Power, State, closed, live, failed, doubtful, Request, ask_open, Answer, refused, at_rest, IsShownOf, IsStepClosed, IsStepInDoubt, IsAnswerTo, IsSaid, is_open_after, MayRefuseOpening}
+use Rattle.auth_store_session.specs.Machine.{Machine, Power, State, closed, live, failed, doubtful, Request, ask_open}
+use Rattle.auth_store_session.specs.Machine.{Answer, refused, at_rest, IsShownOf, IsStepClosed, IsStepInDoubt}
+use Rattle.auth_store_session.specs.Machine.{IsAnswerTo, IsSaid, is_open_after, MayRefuseOpening}
 use Rattle.auth_store_session.specs.MachineCode.{request_of, config_after, config_after_all, IsLeftBy}
 use Rattle.auth_store_session.specs.declared.session.Step.{Step}
 use Rattle.auth_store_session.specs.declared.session.Step.TheVariants as steps
 use Rattle.fault_storage_parts.specs.declared.config.Config.{Config}
-use Rattle.auth_store_session.specs.Standing.{StandsFor, Moves, Steps, StepsOpen, SessionState, IsSession, IsAtRest, IsLeftOpen, calls_in, closed_at, page_size_in, IsOpenedThrough, IsShownThrough, IsRecovered, IsOpenError, power_of, shown_of}
+use Rattle.auth_store_session.specs.Standing.{StandsFor, Moves, Steps, StepsOpen, SessionState, IsSession, IsAtRest}
+use Rattle.auth_store_session.specs.Standing.{IsLeftOpen, calls_in, closed_at, page_size_in, IsOpenedThrough}
+use Rattle.auth_store_session.specs.Standing.{IsShownThrough, IsRecovered, IsOpenError, power_of, shown_of}
 use Rattle.auth_store_session.specs.Stores.{StoreState, IsCache, IsLiveAt, IsNoHistory, IsWritten, OpeningsKeep, OpeningsShow}
 use Rattle.auth_store_session.proofs.Kept.{begun_same, some_bytes, opened_keeps, opening_begins}
 use Rattle.auth_store_session.proofs.Opens.{fewer, opening_shows, still_shows, grown, behind}
@@ -405,6 +411,10 @@ left_kept (steps.CutAfter calls) other before = absurd (other calls refl)
 left_kept (steps.Open sizes) other before = tt
 left_kept (steps.Commit batch metadata) other before = tt
 left_kept (steps.Get k) other before = tt
+left_kept (steps.ProveKey k) other before = tt
+left_kept (steps.ProveOperation location) other before = tt
+left_kept (steps.ProveRange start stop) other before = tt
+left_kept (steps.ProveLog start stop) other before = tt
 left_kept steps.Crash other before = tt
 left_kept (steps.Config config) other before = refl
 left_kept steps.Root other before = refl
@@ -412,10 +422,6 @@ left_kept steps.Commits other before = refl
 left_kept steps.Floor other before = refl
 left_kept steps.Len other before = refl
 left_kept (steps.Prune location) other before = refl
-left_kept (steps.ProveKey k) other before = refl
-left_kept (steps.ProveOperation location) other before = refl
-left_kept (steps.ProveRange start stop) other before = refl
-left_kept (steps.ProveLog start stop) other before = refl
 left_kept steps.Close other before = refl
 
 -- one step of several is taken

@@ -8,9 +8,13 @@ use Rattle.paged_blob_parts.specs.Chance.{NoneByChance}
 use Rattle.paged_blob_parts.specs.Moments.{Grows, here}
 use Rattle.auth_store_device.specs.Devices.{DeviceState}
 use Rattle.auth_store_log.specs.Records.{Format}
-use Rattle.auth_store_session.specs.Machine.{Machine, Power, State, closed, live, failed, doubtful, Request, Answer, IsStep, IsRunSeen, IsAnswerTo, AreAnswersTo, is_open_after, Passes, as_it_is, at_rest, in_doubt}
+use Rattle.auth_store_session.specs.Machine.{Machine, Power, State, closed, live, failed, doubtful, Request, Answer}
+use Rattle.auth_store_session.specs.Machine.{IsStep, IsRunSeen, IsAnswerTo, AreAnswersTo, is_open_after, Passes}
+use Rattle.auth_store_session.specs.Machine.{as_it_is, at_rest, in_doubt}
 use Rattle.auth_store_session.specs.Sound.{IsSoundState, HasSoundStates, IsSoundRun}
-use Rattle.auth_store_session.specs.Standing.{SessionState, StandsFor, IsSure, Steps, Runs, RunsInDoubt, RunsToRest, RunsToRestInDoubt, RunsWhole, calls_in, closed_at, page_size_in, power_in, power_of}
+use Rattle.auth_store_session.specs.Standing.{SessionState, StandsFor, IsSure, Steps, Runs, RunsInDoubt, RunsToRest}
+use Rattle.auth_store_session.specs.Standing.{RunsToRestInDoubt, RunsWhole, calls_in, closed_at, page_size_in}
+use Rattle.auth_store_session.specs.Standing.{power_in, power_of}
 use Rattle.auth_store_session.specs.Stores.{StoreState}
 use Rattle.auth_store_session.proofs.Opens.{fewer, grows_on}
 

@@ -1,7 +1,11 @@
 -- What has to stay of a history does, where no opening is by chance.
 use Rattle.std.proofs.Common.{◌≡◌, ℕ, List, [], ◌∷◌, ◌++◌, Option, Some, None, refl, sym, subst, ◌∙◌, ap, ⊎_elim, append_assoc}
 use Rattle.auth_store_parts.specs.History.{History, Commit}
-use Rattle.auth_store_session.specs.Machine.{Machine, Power, State, closed, live, failed, doubtful, Request, ask_open, ask_commit, ask_get, ask_root, ask_commits, ask_floor, ask_len, ask_prune, ask_proof, ask_close, ask_crash, ask_config, ask_cut, Answer, IsStep, IsStepClosed, IsStepLive, IsStepFailed, IsShownOf, IsRun, IsCertain, GoesOn, kept_history, commit_of}
+use Rattle.auth_store_session.specs.Machine.{Machine, Power, State, closed, live, failed, doubtful, Request, ask_open}
+use Rattle.auth_store_session.specs.Machine.{ask_commit, ask_get, ask_root, ask_commits, ask_floor, ask_len}
+use Rattle.auth_store_session.specs.Machine.{ask_prune, ask_proof, ask_close, ask_crash, ask_config, ask_cut, Answer}
+use Rattle.auth_store_session.specs.Machine.{IsStep, IsStepClosed, IsStepLive, IsStepFailed, IsShownOf, IsRun}
+use Rattle.auth_store_session.specs.Machine.{IsCertain, GoesOn, kept_history, commit_of}
 
 goes_on_trans : (one other last : History) → GoesOn one other → GoesOn other last → GoesOn one last
 goes_on_trans one other last (more, is) (rest, ends) =
@@ -50,9 +54,9 @@ follows_live : (m : Machine) (before after : Power) (history : History) (pruned 
 follows_live m before after history pruned (ask_commit words metadata) answer next step = ⊎_elim
     (λ commits. follows_next history (commit_of words metadata history) pruned next commits.1)
     (λ refuses. ⊎_elim
-    (λ is. follows_same history (live history pruned) next is tt refl)
-    (λ is. follows_same history (failed history (commit_of words metadata history)) next is.0 tt refl)
-    refuses.3)
+    (λ kept. follows_same history (live history pruned) next kept.0 tt refl)
+    (λ lost. follows_same history (failed history (commit_of words metadata history)) next lost.0 tt refl)
+    refuses.2)
     step
 follows_live m before after history pruned ask_open answer next step = follows_same history (live history pruned) next step.1 tt refl
 follows_live m before after history pruned ask_crash answer next step = follows_same history (live history pruned) next step.1 tt refl

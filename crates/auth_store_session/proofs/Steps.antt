@@ -10,8 +10,14 @@ use Rattle.auth_store_log.specs.Records.{Format}
 use Rattle.auth_store_ledger.specs.Store.{commit_after, floor_of, IsPrunedUpTo}
 use Rattle.auth_store_ledger.specs.declared.error.Unprovable.{Unprovable as NoProof}
 use Rattle.auth_store_session.specs.declared.error.StoreError.{StoreError}
-use Rattle.auth_store_session.specs.declared.error.StoreError.TheVariants.{Fault, PowerCut, NumberEnded, Memory, Corrupt, Failed, PastFloor, Inactive, OutOfRange, Pruned, EmptyRange, Header}
-use Rattle.auth_store_session.specs.Machine.{Machine, Power, State, closed, live, failed, doubtful, Request, ask_open, ask_crash, ask_commit, ask_get, ask_prune, ask_proof, Answer, still_open, committed, value, pruned_to, proof, refused, IsStep, IsStepLive, IsStepFailed, MayRefuseRead, commit_of, Question, Proved, proof_of, told_proof}
+use Rattle.auth_store_session.specs.declared.error.StoreError.TheVariants.{Fault, PowerCut, NumberEnded, Memory}
+use Rattle.auth_store_session.specs.declared.error.StoreError.TheVariants.{Corrupt, Failed, PastFloor, Inactive}
+use Rattle.auth_store_session.specs.declared.error.StoreError.TheVariants.{OutOfRange, Pruned, EmptyRange, Header}
+use Rattle.auth_store_session.specs.Machine.{Machine, Power, State, closed, live, failed, doubtful, Request, ask_open}
+use Rattle.auth_store_session.specs.Machine.{ask_crash, ask_commit, ask_get, ask_prune, ask_proof, Answer, still_open}
+use Rattle.auth_store_session.specs.Machine.{committed, value, pruned_to, proof, refused, IsStep, IsStepLive}
+use Rattle.auth_store_session.specs.Machine.{IsStepFailed, MayRefuseRead, commit_of, Question, Proved, proof_of}
+use Rattle.auth_store_session.specs.Machine.{told_proof}
 use Rattle.auth_store_session.specs.MachineCode.{answer_of, request_of}
 use Rattle.auth_store_session.specs.declared.session.Step.{Step}
 use Rattle.auth_store_session.specs.declared.session.Step.TheVariants as steps
@@ -49,16 +55,14 @@ pub commits_in : {R D : Type 0} (m : Machine) (format : Format) (encoding : D �
 commits_in m format encoding words metadata old new (Ok root) sized kept commits lost (live history pruned) stands =
     let c = commits history stands.0 in
     (live (commit_after words metadata history) pruned, inl (ap committed c.0, refl, c.2, c.3), (c.1, kept ∙ stands.1))
-commits_in m format encoding words metadata old new (Err e) sized kept commits lost (live history pruned) stands =
-    let c = commits history stands.0 in
-    ⊎_elim
-    (λ at. (live history pruned, inr (e, refl, c.0, inl refl), (at, kept ∙ stands.1)))
+commits_in m format encoding words metadata old new (Err e) sized kept commits lost (live history pruned) stands = ⊎_elim
+    (λ at. (live history pruned, inr (e, refl, inl (refl, at.1)), (at.0, kept ∙ stands.1)))
     (λ gone. (
       failed history (commit_of words metadata history),
-      inr (e, refl, c.0, inr (refl, gone.1)),
+      inr (e, refl, inr (refl, gone.1, gone.3)),
       (gone.0, subst (λ size. OpeningsShow format size history (Some (commit_of words metadata history)) new.device.calls) sized gone.2),
     ))
-    c.1
+    (commits history stands.0)
 commits_in m format encoding words metadata old new result sized kept commits lost (failed history commit) stands =
     stays_failed m format old new (ask_commit words metadata) (λ root. committed (encoding root)) result history commit (lost stands.0)
     (λ power h c answer is. (is, refl, refl)) stands
@@ -85,59 +89,65 @@ gets_in m format encoding key old new result is refuses stays kept lost (failed 
 gets_in m format encoding key old new result is refuses stays kept lost (closed history pending) stands = absurd stands
 gets_in m format encoding key old new result is refuses stays kept lost (doubtful history) stands = absurd stands
 
--- memory may lack for any proof
-pub lacks_memory : {A : Type 0} (said : A → Proved) (expected : Result Proved NoProof) (e : StoreError) → e ≡ Memory
-    → AnswersProof said expected (Err e)
-lacks_memory said expected e is = subst (λ x. AnswersProof said expected (Err x)) (sym is) tt
+-- a read may be refused for any proof
+pub refused_read : {A : Type 0} (before after : Power) (said : A → Proved) (expected : Result Proved NoProof) (e : StoreError)
+    → MayRefuseRead before after e → AnswersProof before after said expected (Err e)
+refused_read before after said expected (Fault kind) cause = cause
+refused_read before after said expected PowerCut cause = cause
+refused_read before after said expected NumberEnded cause = cause
+refused_read before after said expected Memory cause = cause
+refused_read before after said expected Corrupt cause = cause
+refused_read before after said expected Failed cause = cause
+refused_read before after said expected PastFloor cause = cause
+refused_read before after said expected (Header fault) cause = cause
+refused_read before after said expected Inactive cause = absurd cause
+refused_read before after said expected OutOfRange cause = absurd cause
+refused_read before after said expected Pruned cause = absurd cause
+refused_read before after said expected EmptyRange cause = absurd cause
+
+-- what a call that is asked for a proof tells
+told_in : {P : Type 0} (before after : Power) (said : P → Proved) (expected : Result Proved NoProof) (result : Result P StoreError)
+    → AnswersProof before after said expected result
+    → (answer_of (λ found. proof (said found)) result ≡ told_proof expected)
+    ⊎ ((error : StoreError) × (answer_of (λ found. proof (said found)) result ≡ refused error) × MayRefuseRead before after error)
+told_in before after said expected (Ok found) is = inl (sym (ap told_proof is))
+told_in before after said expected (Err Inactive) is = inl (sym (ap told_proof is))
+told_in before after said expected (Err OutOfRange) is = inl (sym (ap told_proof is))
+told_in before after said expected (Err Pruned) is = inl (sym (ap told_proof is))
+told_in before after said expected (Err EmptyRange) is = inl (sym (ap told_proof is))
+told_in before after said expected (Err (Fault kind)) is = inr (Fault kind, refl, is)
+told_in before after said expected (Err PowerCut) is = inr (PowerCut, refl, is)
+told_in before after said expected (Err NumberEnded) is = inr (NumberEnded, refl, is)
+told_in before after said expected (Err Memory) is = inr (Memory, refl, is)
+told_in before after said expected (Err Corrupt) is = inr (Corrupt, refl, is)
+told_in before after said expected (Err Failed) is = inr (Failed, refl, is)
+told_in before after said expected (Err PastFloor) is = inr (PastFloor, refl, is)
+told_in before after said expected (Err (Header fault)) is = inr (Header fault, refl, is)
 
 -- a proof that is made
-pub proves_in : {R P : Type 0} (m : Machine) (format : Format) (said : P → Proved) (question : Question) (store : StoreState R)
+pub proves_in : {R P : Type 0} (m : Machine) (format : Format) (said : P → Proved) (question : Question) (old new : StoreState R)
     (result : Result P StoreError)
-    → ((history : History) → IsLiveAt store history → AnswersProof said (proof_of m history store.pruned question) result)
-    → (store.live ≡ None → result ≡ Err Failed)
-    → MovesOpen m format store (ask_proof question) (answer_of (λ found. proof (said found)) result) store
-proves_in m format said question store (Ok found) is lost (live history pruned) stands = (
-  live history pruned,
-  (refl, inl (sym (ap told_proof (ap (λ (n : ℕ). proof_of m history n question) (sym stands.1) ∙ is history stands.0))), refl),
-  stands,
-)
-proves_in m format said question store (Err Inactive) is lost (live history pruned) stands = (
-  live history pruned,
-  (refl, inl (sym (ap told_proof (ap (λ (n : ℕ). proof_of m history n question) (sym stands.1) ∙ is history stands.0))), refl),
-  stands,
-)
-proves_in m format said question store (Err OutOfRange) is lost (live history pruned) stands = (
-  live history pruned,
-  (refl, inl (sym (ap told_proof (ap (λ (n : ℕ). proof_of m history n question) (sym stands.1) ∙ is history stands.0))), refl),
-  stands,
-)
-proves_in m format said question store (Err Pruned) is lost (live history pruned) stands = (
-  live history pruned,
-  (refl, inl (sym (ap told_proof (ap (λ (n : ℕ). proof_of m history n question) (sym stands.1) ∙ is history stands.0))), refl),
-  stands,
-)
-proves_in m format said question store (Err EmptyRange) is lost (live history pruned) stands = (
-  live history pruned,
-  (refl, inl (sym (ap told_proof (ap (λ (n : ℕ). proof_of m history n question) (sym stands.1) ∙ is history stands.0))), refl),
-  stands,
-)
-proves_in m format said question store (Err Memory) is lost (live history pruned) stands = (
-  live history pruned,
-  (refl, inr refl, refl),
-  stands,
-)
-proves_in m format said question store (Err (Fault kind)) is lost (live history pruned) stands = absurd (is history stands.0)
-proves_in m format said question store (Err PowerCut) is lost (live history pruned) stands = absurd (is history stands.0)
-proves_in m format said question store (Err NumberEnded) is lost (live history pruned) stands = absurd (is history stands.0)
-proves_in m format said question store (Err Corrupt) is lost (live history pruned) stands = absurd (is history stands.0)
-proves_in m format said question store (Err Failed) is lost (live history pruned) stands = absurd (is history stands.0)
-proves_in m format said question store (Err PastFloor) is lost (live history pruned) stands = absurd (is history stands.0)
-proves_in m format said question store (Err (Header fault)) is lost (live history pruned) stands = absurd (is history stands.0)
-proves_in m format said question store result is lost (failed history commit) stands =
-    stays_failed m format store store (ask_proof question) (λ found. proof (said found)) result history commit
-    (lost stands.0, refl) (λ power h c answer at. (at, refl, refl)) stands
-proves_in m format said question store result is lost (closed history pending) stands = absurd stands
-proves_in m format said question store result is lost (doubtful history) stands = absurd stands
+    → ((history : History) → IsLiveAt old history → AnswersProof (power_of old.device old.cache) (power_of new.device new.cache) said
+    (proof_of m history old.pruned question) result)
+    → ((history : History) → IsLiveAt old history → IsLiveAt new history) → new.pruned ≡ old.pruned
+    → (old.live ≡ None → (result ≡ Err Failed) × (new ≡ old))
+    → MovesOpen m format old (ask_proof question) (answer_of (λ found. proof (said found)) result) new
+proves_in m format said question old new result is stays kept lost (live history pruned) stands =
+    let before = power_of old.device old.cache in
+    let after = power_of new.device new.cache in (
+      live history pruned,
+      (
+        refl,
+        told_in before after said (proof_of m history pruned question) result
+            (subst (λ (n : ℕ). AnswersProof before after said (proof_of m history n question) result) stands.1 (is history stands.0)),
+      ),
+      (stays history stands.0, kept ∙ stands.1),
+    )
+proves_in m format said question old new result is stays kept lost (failed history commit) stands =
+    stays_failed m format old new (ask_proof question) (λ found. proof (said found)) result history commit (lost stands.0)
+    (λ power h c answer at. (at, refl, refl)) stands
+proves_in m format said question old new result is stays kept lost (closed history pending) stands = absurd stands
+proves_in m format said question old new result is stays kept lost (doubtful history) stands = absurd stands
 
 -- a store that is pruned
 pub prunes_in : {R : Type 0} (m : Machine) (format : Format) (location : ℕ) (old new : StoreState R) (result : Result ℕ StoreError)

@@ -6,7 +6,12 @@ use Rattle.auth_store_parts.specs.History.{History, activity_bits, log_of}
 use Rattle.auth_store_client.specs.Proving.{honest_operation, honest_range_bytes, honest_slice_bytes}
 use Rattle.auth_store_ledger.specs.Proving.{answer_of_found, between, is_before_chunks, range_refusal, unless_refused}
 use Rattle.auth_store_ledger.specs.declared.error.Unprovable.TheVariants.{EmptyRange, OutOfRange, Pruned, Inactive}
-use Rattle.auth_store_session.specs.Machine.{Machine, Power, State, closed, live, failed, doubtful, Request, ask_open, ask_commit, ask_get, ask_root, ask_commits, ask_floor, ask_len, ask_prune, ask_proof, ask_close, ask_crash, ask_config, ask_cut, Answer, Question, of_key, of_operation, of_range, of_slice, operation_is, range_is, slice_is, as_proved, proof_of, told_proof, IsStepLive, AsksNoPrune, IsBehind, kept_history}
+use Rattle.auth_store_session.specs.Machine.{Machine, Power, State, closed, live, failed, doubtful, Request, ask_open}
+use Rattle.auth_store_session.specs.Machine.{ask_commit, ask_get, ask_root, ask_commits, ask_floor, ask_len}
+use Rattle.auth_store_session.specs.Machine.{ask_prune, ask_proof, ask_close, ask_crash, ask_config, ask_cut, Answer}
+use Rattle.auth_store_session.specs.Machine.{Question, of_key, of_operation, of_range, of_slice, operation_is}
+use Rattle.auth_store_session.specs.Machine.{range_is, slice_is, as_proved, proof_of, told_proof, IsStepLive}
+use Rattle.auth_store_session.specs.Machine.{AsksNoPrune, IsBehind, kept_history}
 
 -- a state of which another number of chunks is pruned, where it is live
 abbrev pub with_pruned : ℕ → State → State
@@ -71,15 +76,13 @@ steps_unpruned m before after history pruned other (ask_commit words metadata) a
     (λ r. inr (
       r.0,
       r.1,
-      r.2,
-      ⊎_elim (λ kept. inl (ap (with_pruned other) kept)) (λ lost. inr (ap (with_pruned other) lost.0, lost.1)) r.3,
+      ⊎_elim (λ kept. inl (ap (with_pruned other) kept.0, kept.1)) (λ lost. inr (ap (with_pruned other) lost.0, lost.1, lost.2)) r.2,
     ))
     step
 steps_unpruned m before after history pruned other (ask_get key) answer next asked behind too step = (ap (with_pruned other) step.0, step.1)
 steps_unpruned m before after history pruned other (ask_proof question) answer next asked behind too step = (
   ap (with_pruned other) step.0,
   ⊎_elim (λ said. inl (said ∙ ap told_proof (proofs_alike m history pruned other question behind too))) inr step.1,
-  step.2,
 )
 steps_unpruned m before after history pruned other ask_open answer next asked behind too step = (step.0, ap (with_pruned other) step.1, step.2)
 steps_unpruned m before after history pruned other ask_root answer next asked behind too step = (step.0, ap (with_pruned other) step.1, step.2)

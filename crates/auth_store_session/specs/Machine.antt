@@ -247,7 +247,7 @@ PassesDisk m history =
 abbrev pub PassesFirst : Machine → Type 0
 PassesFirst m = 2 ^ 64 ≤ physical_size m.page_size (fixed_size m.key_size m.value_size) + 4096
 
--- why a read of a value may be refused
+-- why a read may be refused, of a value or of the operations that a proof is of: a fault came into a read
 abbrev pub MayRefuseRead : Power → Power → StoreError → Type 0
 MayRefuseRead before after (refusals.Fault kind) = (before.injected < after.injected) × IsOfRead kind
 MayRefuseRead before after error = MayRefuse before after error
@@ -257,12 +257,18 @@ abbrev pub MayRefuseOpening : Machine → Power → Power → StoreError → Typ
 MayRefuseOpening m before after refusals.NumberEnded = IsEndingOpening before ⊎ PassesFirst m
 MayRefuseOpening m before after error = MayRefuse before after error
 
--- why a commit that leads to this history may be refused: it reads nothing, so that a fault came into a write or a sync
-abbrev pub MayRefuseCommit : Machine → Power → Power → History → StoreError → Type 0
-MayRefuseCommit m before after next (refusals.Fault kind) = (before.injected < after.injected) × IsOfChange kind
-MayRefuseCommit m before after next refusals.NumberEnded =
-    IsEnding before ⊎ PassesLimit next ⊎ PassesDisk m next
-MayRefuseCommit m before after next error = MayRefuse before after error
+-- why a commit that leads to this history may be refused before anything is appended: a read was, the log would pass
+-- its limit, or there was no memory
+abbrev pub MayRefuseBatch : Machine → Power → Power → History → StoreError → Type 0
+MayRefuseBatch m before after next refusals.NumberEnded = IsEnding before ⊎ PassesLimit next
+MayRefuseBatch m before after next error = MayRefuseRead before after error
+
+-- and why while it is made durable: a fault came into a write or a sync, a cut of the power stands, a number ended, or
+-- there was no memory
+abbrev pub MayRefuseAppend : Machine → Power → Power → History → StoreError → Type 0
+MayRefuseAppend m before after next (refusals.Fault kind) = (before.injected < after.injected) × IsOfChange kind
+MayRefuseAppend m before after next refusals.NumberEnded = IsEnding before ⊎ PassesDisk m next
+MayRefuseAppend m before after next error = MayRefuse before after error
 
 -- An opening shows the history that stands, with the pending commit or without it, and no cut stood before; or it is
 -- refused, and nothing changes.
@@ -305,16 +311,18 @@ IsStepInDoubt m before after history (ask_cut calls) answer next =
     (answer ≡ is_set) × (next ≡ doubtful history) × (after ≡ asked_to_cut calls before)
 IsStepInDoubt m before after history _ answer next = (answer ≡ not_open) × (next ≡ doubtful history) × (after ≡ before)
 
--- A commit is in, with the root of the history with it, and no cut stood before; or it is refused, and the store is as
--- it was or has failed. Where the log would pass 2^62 operations it stays as it was.
+-- A commit is in, with the root of the history with it, and no cut stood before; or it is refused before anything is
+-- appended, and the store is as it was, as where the log would pass 2^62 operations; or while it is made durable, and
+-- the store has failed.
 abbrev pub IsCommitting : Machine → Power → Power → History → ℕ → List Word → Option (List ℕ) → Answer → State → Type 0
 IsCommitting m before after history pruned words metadata answer next =
     let later = commit_after words metadata history in
     ((answer ≡ committed (root_of_history m.setting m.key_size m.value_size later)) × (next ≡ live later pruned)
     × (length (log_of later) ≤ 2 ^ 62) × IsFalse (is_cut before.left))
-    ⊎ ((error : StoreError) × (answer ≡ refused error) × MayRefuseCommit m before after later error
-    × ((next ≡ live history pruned) ⊎ ((next ≡ failed history (commit_of words metadata history))
-    × (length (log_of later) ≤ 2 ^ 62))))
+    ⊎ ((error : StoreError) × (answer ≡ refused error)
+    × (((next ≡ live history pruned) × MayRefuseBatch m before after later error)
+    ⊎ ((next ≡ failed history (commit_of words metadata history)) × (length (log_of later) ≤ 2 ^ 62)
+    × MayRefuseAppend m before after later error)))
 
 -- Pruning up to a location keeps all but the chunks that are settled before it, and changes nothing else; it is refused
 -- past the floor, or out of memory.
@@ -345,8 +353,8 @@ IsStepLive m before after history pruned (ask_get key) answer next =
     ⊎ ((error : StoreError) × (answer ≡ refused error) × MayRefuseRead before after error))
 IsStepLive m before after history pruned (ask_proof question) answer next =
     (next ≡ live history pruned)
-    × ((answer ≡ told_proof (proof_of m history pruned question)) ⊎ (answer ≡ refused refusals.Memory))
-    × (after ≡ before)
+    × ((answer ≡ told_proof (proof_of m history pruned question))
+    ⊎ ((error : StoreError) × (answer ≡ refused error) × MayRefuseRead before after error))
 IsStepLive m before after history pruned (ask_prune location) answer next =
     IsPruning m history pruned location answer next × (after ≡ before)
 IsStepLive m before after history pruned ask_root answer next =

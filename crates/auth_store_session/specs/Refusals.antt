@@ -1,5 +1,5 @@
 -- The refusals of a store by their numbers, and from those of what it stands on.
-use Rattle.std.specs.Prelude.{◌≡◌, ◌⊎◌, ⊤, ℕ, List, codes, Option, Some, None}
+use Rattle.std.specs.Prelude.{◌≡◌, ◌⊎◌, ℕ, List, codes, Option, Some, None}
 use Rattle.paged_blob_parts.specs.declared.error.CallKind.{CallKind}
 use Rattle.paged_blob_parts.specs.declared.error.CallKind.TheVariants.{Read, Write, Sync}
 use Rattle.paged_blob_parts.specs.declared.error.Error.{Error}
@@ -8,6 +8,10 @@ use Rattle.auth_store_device.specs.declared.error.OpenError.{OpenError}
 use Rattle.auth_store_device.specs.declared.error.OpenError.TheVariants as openings
 use Rattle.auth_store_log.specs.declared.error.LogError.{LogError}
 use Rattle.auth_store_log.specs.declared.error.LogError.TheVariants as logs
+use Rattle.auth_store_index.specs.declared.values.ReadError.{ReadError}
+use Rattle.auth_store_index.specs.declared.values.ReadError.TheVariants as reads
+use Rattle.auth_store_ledger.specs.declared.error.CommitError.{CommitError}
+use Rattle.auth_store_ledger.specs.declared.error.CommitError.TheVariants as commits
 use Rattle.auth_store_ledger.specs.declared.error.LedgerError.{LedgerError}
 use Rattle.auth_store_ledger.specs.declared.error.LedgerError.TheVariants as ledgers
 use Rattle.auth_store_ledger.specs.declared.error.ProofError.{ProofError}
@@ -45,21 +49,6 @@ of_reason reasons.OutOfRange = OutOfRange
 of_reason reasons.Pruned = Pruned
 of_reason reasons.EmptyRange = EmptyRange
 
--- what it refuses where it is asked for a proof
-abbrev pub of_proof : ProofError → StoreError
-of_proof (proofs.Unprovable why) = of_reason why
-of_proof proofs.Memory = Memory
-
--- why a call that is asked for a proof may refuse: there is none, memory was lacking, or the store had failed
-abbrev pub IsOfProof : StoreError → Type 0
-IsOfProof Inactive = ⊤
-IsOfProof OutOfRange = ⊤
-IsOfProof Pruned = ⊤
-IsOfProof EmptyRange = ⊤
-IsOfProof Memory = ⊤
-IsOfProof Failed = ⊤
-IsOfProof _ = ⊥
-
 -- what a call of the open log, or over it, refuses
 abbrev pub of_blob : Error → StoreError
 of_blob (blobs.Injected kind) = Fault (Some kind)
@@ -75,6 +64,23 @@ abbrev pub of_log : LogError → StoreError
 of_log logs.Corrupt = Corrupt
 of_log (logs.Refused error) = of_blob error
 
+-- what a ledger refuses that reads a log for it: of a read
+abbrev pub of_read : ReadError LogError → StoreError
+of_read (reads.Memory e) = Memory
+of_read (reads.Log error) = of_log error
+
+-- of a commit
+abbrev pub of_commit : CommitError LogError → StoreError
+of_commit commits.NumberEnded = NumberEnded
+of_commit commits.Memory = Memory
+of_commit (commits.Log error) = of_log error
+
+-- and where it is asked for a proof
+abbrev pub of_proof : ProofError LogError → StoreError
+of_proof (proofs.Unprovable why) = of_reason why
+of_proof proofs.Memory = Memory
+of_proof (proofs.Log error) = of_log error
+
 -- what an opening of the device refuses
 abbrev pub of_opening : OpenError → StoreError
 of_opening (openings.Header fault) = Header fault
@@ -83,10 +89,10 @@ of_opening openings.NumberEnded = NumberEnded
 of_opening openings.Memory = Memory
 of_opening openings.PowerCut = PowerCut
 
--- a fault came into a write or a sync: a commit makes no other call
+-- a fault came into a write or a sync: what makes a commit durable makes no other call
 abbrev pub IsOfChange : Option CallKind → Type 0
 IsOfChange kind = (kind ≡ Some Write) ⊎ (kind ≡ Some Sync)
 
--- a fault came into a read: where a value is read, no other call is made
+-- a fault came into a read: what reads a value or operations makes no other call
 abbrev pub IsOfRead : Option CallKind → Type 0
 IsOfRead kind = kind ≡ Some Read

@@ -21,7 +21,8 @@ use Rattle.auth_store_session.specs.declared.error.StoreError.{StoreError}
 use Rattle.auth_store_session.specs.declared.error.StoreError.TheVariants as refusals
 use Rattle.auth_store_session.specs.Machine.{Machine, Power, State, closed, live, failed, doubtful, Request, ask_open}
 use Rattle.auth_store_session.specs.Machine.{ask_close, Answer, as_it_is, at_rest, in_doubt, Proved, IsStep}
-use Rattle.auth_store_session.specs.Machine.{AreAnswersTo, Passes, MayRefuseOpening, MayRefuseCommit, commit_of}
+use Rattle.auth_store_session.specs.Machine.{AreAnswersTo, Passes, MayRefuseAppend, MayRefuseBatch}
+use Rattle.auth_store_session.specs.Machine.{MayRefuseOpening, MayRefuseRead, commit_of}
 use Rattle.auth_store_session.specs.Sound.{IsSoundRun}
 use Rattle.auth_store_session.specs.Stores.{StoreState, IsCache, IsLiveAt, IsNoHistory, IsWritten, OpeningsKeep}
 use Rattle.auth_store_session.specs.Stores.{OpeningsShow}
@@ -51,19 +52,20 @@ abbrev pub result_of : {D E : Type 0} → (D → List ℕ) → Result D E → Re
 result_of encoding (Ok root) = Ok (encoding root)
 result_of encoding (Err e) = Err e
 
--- what a call answers that is asked for a proof, where this is the proof, or why there is none: that, or memory was
--- lacking
-abbrev pub AnswersProof : {A : Type 0} → (A → Proved) → Result Proved Unprovable → Result A StoreError → Type 0
-AnswersProof said expected (Ok found) = expected ≡ Ok (said found)
-AnswersProof said expected (Err refusals.Inactive) = expected ≡ Err Inactive
-AnswersProof said expected (Err refusals.OutOfRange) = expected ≡ Err OutOfRange
-AnswersProof said expected (Err refusals.Pruned) = expected ≡ Err Pruned
-AnswersProof said expected (Err refusals.EmptyRange) = expected ≡ Err EmptyRange
-AnswersProof said expected (Err refusals.Memory) = ⊤
-AnswersProof said expected (Err error) = ⊥
+-- what a call answers that is asked for a proof, where this is the proof, or why there is none, and the power before it
+-- and after it: that, or what a read is refused for
+abbrev pub AnswersProof : {A : Type 0} → Power → Power → (A → Proved) → Result Proved Unprovable → Result A StoreError
+    → Type 0
+AnswersProof before after said expected (Ok found) = expected ≡ Ok (said found)
+AnswersProof before after said expected (Err refusals.Inactive) = expected ≡ Err Inactive
+AnswersProof before after said expected (Err refusals.OutOfRange) = expected ≡ Err OutOfRange
+AnswersProof before after said expected (Err refusals.Pruned) = expected ≡ Err Pruned
+AnswersProof before after said expected (Err refusals.EmptyRange) = expected ≡ Err EmptyRange
+AnswersProof before after said expected (Err error) = MayRefuseRead before after error
 
--- a commit of a batch: it is in, with the root of the history with it, and no cut stood before; or it is refused, and
--- the store is as it was, or has failed, and openings show it or not
+-- a commit of a batch: it is in, with the root of the history with it, and no cut stood before; or it is refused before
+-- anything is appended, and the store is as it was, or while it is made durable, and the store has failed, and openings
+-- show it or not
 abbrev pub Commits : {R : Type 0} → Machine → Format → List Word → Option (List ℕ) → History → StoreState R
     → Result (List ℕ) StoreError → StoreState R → Type 0
 Commits m format words metadata history old result new =
@@ -71,9 +73,11 @@ Commits m format words metadata history old result new =
     MatchResult result
     (λ root. (root ≡ root_of_history m.setting m.key_size m.value_size later) × IsLiveAt new later
     × (length (log_of later) ≤ 2 ^ 62) × IsFalse (is_cut old.device.left))
-    (λ error. MayRefuseCommit m (power_of old.device old.cache) (power_of new.device new.cache) later error
-    × (IsLiveAt new history ⊎ ((new.live ≡ None) × (length (log_of later) ≤ 2 ^ 62)
-    × OpeningsShow format m.page_size history (Some (commit_of words metadata history)) new.device.calls)))
+    (λ error. (IsLiveAt new history
+    × MayRefuseBatch m (power_of old.device old.cache) (power_of new.device new.cache) later error)
+    ⊎ ((new.live ≡ None) × (length (log_of later) ≤ 2 ^ 62)
+    × OpeningsShow format m.page_size history (Some (commit_of words metadata history)) new.device.calls
+    × MayRefuseAppend m (power_of old.device old.cache) (power_of new.device new.cache) later error))
 
 -- The calls of an opening of these bytes, which an image has, and at each moment after it openings show what is
 -- recovered of them.

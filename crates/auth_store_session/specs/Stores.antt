@@ -121,15 +121,20 @@ abbrev pub IsOpenRefusal : Failures → Failures → Type 0 → Type 0 → Store
 IsOpenRefusal before after Ends IsNone Corrupt = IsNone
 IsOpenRefusal before after Ends IsNone error = IsRefusal before after Ends error
 
--- why a read of a value may: so, where a fault came into a read
+-- why a read of the log may: so, where a fault came into a read
 abbrev pub IsReadRefusal : Failures → Failures → StoreError → Type 0
 IsReadRefusal before after (Fault kind) = (before.injected < after.injected) × IsOfRead kind
 IsReadRefusal before after error = IsRefusal before after ⊥ error
 
--- why a commit may: so, where a fault came into a write or a sync
-abbrev pub IsCommitRefusal : Failures → Failures → Type 0 → StoreError → Type 0
-IsCommitRefusal before after Ends (Fault kind) = (before.injected < after.injected) × IsOfChange kind
-IsCommitRefusal before after Ends error = IsRefusal before after Ends error
+-- why a commit may before anything is appended: so, where a fault came into a read
+abbrev pub IsBatchRefusal : Failures → Failures → Type 0 → StoreError → Type 0
+IsBatchRefusal before after Ends (Fault kind) = (before.injected < after.injected) × IsOfRead kind
+IsBatchRefusal before after Ends error = IsRefusal before after Ends error
+
+-- and why while it is made durable: so, where a fault came into a write or a sync
+abbrev pub IsAppendRefusal : Failures → Failures → Type 0 → StoreError → Type 0
+IsAppendRefusal before after Ends (Fault kind) = (before.injected < after.injected) × IsOfChange kind
+IsAppendRefusal before after Ends error = IsRefusal before after Ends error
 
 -- the store has not failed, and this is its history
 abbrev pub IsLiveAt : {R : Type 0} → StoreState R → History → Type 0

@@ -194,7 +194,7 @@ where
 
 // Asks an open store for the value of a key, or that it is absent, and its proof.
 fn prove<R, F, H, K, V, const N: usize>(
-    store: &Store<R, F, H, K, V, N>,
+    store: &mut Store<R, F, H, K, V, N>,
     key: &K,
 ) -> Answer<F, H::Digest, K, V>
 where
@@ -204,11 +204,14 @@ where
     K: FixedKey,
     V: FixedValue,
     ensures steps { let format = format_of (K.after tt) (V.after tt) K.SIZE V.SIZE in
-        let size = store.now.cache.page_size + 12 in
+        let size = store.old.cache.page_size + 12 in
         let m = machine F.merge_rule H.hash_of F.pending_encoding N K.SIZE V.SIZE size in
-        StepsOpen m format store.now (ask_proof (of_key (K.encoding key.now)))
-        (meaning_of H.Digest.encoding K.encoding V.encoding result) store.now }
+        StepsOpen m format store.old (ask_proof (of_key (K.encoding key.now)))
+        (meaning_of H.Digest.encoding K.encoding V.encoding result) store.new }
     ensures kind { IsSaid is_proof (meaning_of H.Digest.encoding K.encoding V.encoding result) }
+    ensures page_size { store.new.cache.page_size ≡ store.old.cache.page_size }
+    ensures grows { Grows store.old.device.calls store.new.device.calls }
+    ensures settings { store.new.device.storage.config ≡ store.old.device.storage.config }
 {
     match store.prove_key(key) {
         Ok(found) => Answer::Proof(found),
@@ -218,7 +221,7 @@ where
 
 // Asks an open store for the operation at a location and the proof that it is active.
 fn prove_operation<R, F, H, K, V, const N: usize>(
-    store: &Store<R, F, H, K, V, N>,
+    store: &mut Store<R, F, H, K, V, N>,
     location: u64,
 ) -> Answer<F, H::Digest, K, V>
 where
@@ -228,11 +231,14 @@ where
     K: FixedKey,
     V: FixedValue,
     ensures steps { let format = format_of (K.after tt) (V.after tt) K.SIZE V.SIZE in
-        let size = store.now.cache.page_size + 12 in
+        let size = store.old.cache.page_size + 12 in
         let m = machine F.merge_rule H.hash_of F.pending_encoding N K.SIZE V.SIZE size in
-        StepsOpen m format store.now (ask_proof (of_operation location))
-        (meaning_of H.Digest.encoding K.encoding V.encoding result) store.now }
+        StepsOpen m format store.old (ask_proof (of_operation location))
+        (meaning_of H.Digest.encoding K.encoding V.encoding result) store.new }
     ensures kind { IsSaid is_proof (meaning_of H.Digest.encoding K.encoding V.encoding result) }
+    ensures page_size { store.new.cache.page_size ≡ store.old.cache.page_size }
+    ensures grows { Grows store.old.device.calls store.new.device.calls }
+    ensures settings { store.new.device.storage.config ≡ store.old.device.storage.config }
 {
     match store.prove_operation(location) {
         Ok(proved) => Answer::Operation(proved),
@@ -242,7 +248,7 @@ where
 
 // Asks an open store for the operations from a location up to another, their activity bits and the proof of both.
 fn prove_range<R, F, H, K, V, const N: usize>(
-    store: &Store<R, F, H, K, V, N>,
+    store: &mut Store<R, F, H, K, V, N>,
     start: u64,
     stop: u64,
 ) -> Answer<F, H::Digest, K, V>
@@ -253,11 +259,14 @@ where
     K: FixedKey,
     V: FixedValue,
     ensures steps { let format = format_of (K.after tt) (V.after tt) K.SIZE V.SIZE in
-        let size = store.now.cache.page_size + 12 in
+        let size = store.old.cache.page_size + 12 in
         let m = machine F.merge_rule H.hash_of F.pending_encoding N K.SIZE V.SIZE size in
-        StepsOpen m format store.now (ask_proof (of_range start stop))
-        (meaning_of H.Digest.encoding K.encoding V.encoding result) store.now }
+        StepsOpen m format store.old (ask_proof (of_range start stop))
+        (meaning_of H.Digest.encoding K.encoding V.encoding result) store.new }
     ensures kind { IsSaid is_proof (meaning_of H.Digest.encoding K.encoding V.encoding result) }
+    ensures page_size { store.new.cache.page_size ≡ store.old.cache.page_size }
+    ensures grows { Grows store.old.device.calls store.new.device.calls }
+    ensures settings { store.new.device.storage.config ≡ store.old.device.storage.config }
 {
     match store.prove_range(start, stop) {
         Ok(proved) => Answer::Range(proved),
@@ -267,7 +276,7 @@ where
 
 // Asks an open store for the operations from a location up to another and the proof that the log has them.
 fn prove_log<R, F, H, K, V, const N: usize>(
-    store: &Store<R, F, H, K, V, N>,
+    store: &mut Store<R, F, H, K, V, N>,
     start: u64,
     stop: u64,
 ) -> Answer<F, H::Digest, K, V>
@@ -278,11 +287,14 @@ where
     K: FixedKey,
     V: FixedValue,
     ensures steps { let format = format_of (K.after tt) (V.after tt) K.SIZE V.SIZE in
-        let size = store.now.cache.page_size + 12 in
+        let size = store.old.cache.page_size + 12 in
         let m = machine F.merge_rule H.hash_of F.pending_encoding N K.SIZE V.SIZE size in
-        StepsOpen m format store.now (ask_proof (of_slice start stop))
-        (meaning_of H.Digest.encoding K.encoding V.encoding result) store.now }
+        StepsOpen m format store.old (ask_proof (of_slice start stop))
+        (meaning_of H.Digest.encoding K.encoding V.encoding result) store.new }
     ensures kind { IsSaid is_proof (meaning_of H.Digest.encoding K.encoding V.encoding result) }
+    ensures page_size { store.new.cache.page_size ≡ store.old.cache.page_size }
+    ensures grows { Grows store.old.device.calls store.new.device.calls }
+    ensures settings { store.new.device.storage.config ≡ store.old.device.storage.config }
 {
     match store.prove_log(start, stop) {
         Ok(proved) => Answer::Slice(proved),

@@ -3,10 +3,10 @@
 ghost use Rattle.std.specs.Prelude.{◌≡◌, codes};
 ghost use Rattle.auth_store_session.specs.declared.error.StoreError.TheVariants.{Memory};
 ghost use Rattle.auth_store_session.specs.Refusals.{number_of, of_blob, of_ledger, of_log, of_opening};
-ghost use Rattle.auth_store_session.specs.Refusals.{of_proof, of_reason};
+ghost use Rattle.auth_store_session.specs.Refusals.{of_commit, of_proof, of_read, of_reason};
 
 use auth_store_device::OpenError;
-use auth_store_ledger::{LedgerError, ProofError, Unprovable};
+use auth_store_ledger::{CommitError, LedgerError, ProofError, ReadError, Unprovable};
 use auth_store_log::LogError;
 use fault_storage::HeaderError;
 use paged_blob::{CallKind, Error};
@@ -115,13 +115,37 @@ impl From<Unprovable> for StoreError {
     }
 }
 
-impl From<ProofError> for StoreError {
+impl From<ProofError<LogError>> for StoreError {
     ghost from_gives = { λ refused e. e ≡ of_proof refused };
 
-    fn from(refused: ProofError) -> StoreError {
+    fn from(refused: ProofError<LogError>) -> StoreError {
         match refused {
             ProofError::Unprovable(why) => StoreError::from(why),
             ProofError::Memory => StoreError::Memory,
+            ProofError::Log(error) => StoreError::from(error),
+        }
+    }
+}
+
+impl From<CommitError<LogError>> for StoreError {
+    ghost from_gives = { λ refused e. e ≡ of_commit refused };
+
+    fn from(refused: CommitError<LogError>) -> StoreError {
+        match refused {
+            CommitError::NumberEnded => StoreError::NumberEnded,
+            CommitError::Memory => StoreError::Memory,
+            CommitError::Log(error) => StoreError::from(error),
+        }
+    }
+}
+
+impl From<ReadError<LogError>> for StoreError {
+    ghost from_gives = { λ refused e. e ≡ of_read refused };
+
+    fn from(refused: ReadError<LogError>) -> StoreError {
+        match refused {
+            ReadError::Memory(_) => StoreError::Memory,
+            ReadError::Log(error) => StoreError::from(error),
         }
     }
 }

@@ -1,6 +1,6 @@
 //! What holds of all openings and of all runs.
 
-ghost use Rattle.std.specs.Prelude.{◌≡◌, ◌+◌, ◌≤◌, ◌++◌, ℕ, IsFalse, IsTrue, List, [], ◌∷◌, Option, Some, None};
+ghost use Rattle.std.specs.Prelude.{◌≡◌, ◌+◌, ◌++◌, ℕ, List, [], ◌∷◌, Option, Some, None};
 ghost use Rattle.fault_storage_parts.specs.Crc32.{crc32};
 ghost use Rattle.paged_blob_parts.specs.Caches.{Cache};
 ghost use Rattle.paged_blob_parts.specs.Calls.{Call, opened, file_of};

@@ -6,6 +6,8 @@ mod asking;
 pub mod error;
 pub mod laws;
 pub mod live;
+mod proving;
+mod reader;
 pub mod session;
 pub mod sizes;
 pub mod store;

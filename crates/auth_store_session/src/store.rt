@@ -18,15 +18,18 @@ ghost use Rattle.auth_store_ledger.specs.Store.{setting_of_width};
 ghost use Rattle.auth_store_log.specs.Records.{format_of};
 ghost use Rattle.auth_store_session.specs.Machine.{machine, proof_of, refusal_of, Leaves, MayRefuseRead, State};
 ghost use Rattle.auth_store_session.specs.Machine.{of_operation, of_range, of_slice, operation_is, range_is, slice_is};
-ghost use Rattle.auth_store_session.specs.Refusals.{IsOfProof};
+ghost use Rattle.auth_store_session.specs.Reads.{IsLiveOn, live_on};
 ghost use Rattle.auth_store_session.specs.Sound.{IsSoundState};
 ghost use Rattle.auth_store_session.specs.Standing.{AnswersProof, Commits, IsOpenError, IsOpenedThrough, IsRecovered};
 ghost use Rattle.auth_store_session.specs.Standing.{IsShownThrough, StandsFor};
 ghost use Rattle.auth_store_session.specs.Standing.{power_of, result_of, shown_of};
-ghost use Rattle.auth_store_session.specs.Stores.{HasBuffer, IsCache, IsLive, IsLiveAt, OpeningsShow, with_pruned};
+ghost use Rattle.auth_store_session.specs.Stores.{HasBuffer, IsCache, IsLiveAt, OpeningsShow, with_pruned};
 
 use crate::error::StoreError;
-use crate::live::{Live, commit_live, get_live, prune_live, recover_live};
+use crate::live::{
+    Live, commit_live, get_live, prove_key_live, prove_log_live, prove_operation_live,
+    prove_range_live, prune_live, recover_live,
+};
 use crate::sizes::Sizes;
 use auth_store_device::Device;
 use auth_store_ledger::{Batch, KeyProof, ProvedOperation, ProvedRange, ProvedSlice};
@@ -39,8 +42,9 @@ use std::alloc::Global;
 use std::marker::Model;
 
 /// A history on a device, read through a cache. While it has not failed, what is durable of the device's log is the
-/// history's log; a failed one can only be taken apart. Its type names the generator that the device draws of, the
-/// tree's family, the hash function, the types of keys and values, and how many bytes a chunk has (own).
+/// history's log, and the history stands nowhere else; a failed one can only be taken apart. Its type names the
+/// generator that the device draws of, the tree's family, the hash function, the types of keys and values, and how many
+/// bytes a chunk has (own).
 #[derive(Drop)]
 pub struct Store<
     R: Rng,
@@ -59,17 +63,25 @@ pub struct Store<
 
 impl<R: Rng, F: Graftable, H: HashFunction, K: FixedKey, V: FixedValue, const N: usize> Model
     for Store<R, F, H, K, V, N> {
-    ghost use Rattle.auth_store_ledger.specs.Store.{IsChunkWidth};
+    ghost use Rattle.std.specs.Prelude.{◌≡◌, IfSome, is_some, true};
+    ghost use Rattle.auth_store_ledger.specs.Store.{IsChunkWidth, setting_of_width};
     ghost use Rattle.auth_store_log.specs.Records.{format_of};
-    ghost use Rattle.auth_store_session.specs.Stores.{StoreState, IsStore, IsPruned};
+    ghost use Rattle.auth_store_session.specs.Reads.{IsLiveOn, seen_on};
+    ghost use Rattle.auth_store_session.specs.Stores.{IsCache, StoreState};
 
     ghost Value = { StoreState R };
 
-    ghost view = { λ s. record { device = s.device; cache = s.cache; live = s.live; pruned = s.pruned } };
+    ghost view = { λ s. record {
+      device = s.device;
+      cache = s.cache;
+      live = seen_on (format_of (K.after tt) (V.after tt) K.SIZE V.SIZE) s.device.calls s.live;
+      pruned = s.pruned;
+    } };
 
-    ghost invariant = { λ s. IsChunkWidth N × IsStore (format_of (K.after tt) (V.after tt) K.SIZE V.SIZE)
-        (record { device = s.device; cache = s.cache; live = s.live; pruned = s.pruned })
-        × IsPruned s.live s.pruned };
+    ghost invariant = { λ s. IsChunkWidth N × (is_some s.device.log ≡ true) × IsCache s.cache
+        × IfSome s.live (IsLiveOn (setting_of_width F.merge_rule H.hash_of N)
+        (format_of (K.after tt) (V.after tt) K.SIZE V.SIZE) s.device.calls s.cache)
+        × IfSome s.live (λ now. now.ledger.kept.bits.pruned ≡ s.pruned) };
 }
 
 /// A store that was not opened: why, and the device, closed, and the cache (own).
@@ -100,10 +112,11 @@ where
     requires closed { device.old.log ≡ None }
     requires cache { IsCache cache.old }
     ensures live { let format = format_of (K.after tt) (V.after tt) K.SIZE V.SIZE in
-        IfOk result (IsLive format device.new.calls cache.new) }
+        IfOk result (IsLiveOn (setting_of_width F.merge_rule H.hash_of N) format device.new.calls cache.new) }
     ensures recovers { let format = format_of (K.after tt) (V.after tt) K.SIZE V.SIZE in
-        IfOk result (λ live. IsRecovered format (cache.old.page_size + 12) (shown_of device.old) live.history) }
-    ensures whole { IfOk result (λ live. live.pruned ≡ 0) }
+        IfOk result (λ live. IsRecovered format (cache.old.page_size + 12) (shown_of device.old)
+        (live_on format device.new.calls live).history) }
+    ensures whole { IfOk result (λ live. live.ledger.kept.bits.pruned ≡ 0) }
     ensures capacity { IfOk result (λ live. live.writer.tip.capacity ≡ max capacity (cache.old.page_size + 12)) }
     ensures shown { let format = format_of (K.after tt) (V.after tt) K.SIZE V.SIZE in
         OnOk result (IsShownThrough format (cache.old.page_size + 12) (shown_of device.old) device.old.calls
@@ -211,8 +224,9 @@ where
 
     /// Takes a batch with its commit into the history, makes it durable, and answers the new root. S3: a number would
     /// pass its type, or the log 2 to the 62 operations; S4: out of memory; S1: a fault was injected; S2: a cut stands.
-    /// After a refusal the store is as it was, or it has failed, and openings show the batch wholly or not at all;
-    /// where the log would pass 2 to the 62 operations, it is as it was. S6: it had failed, and has still.
+    /// Refused before anything is appended, as by a read, or where the log would pass 2 to the 62 operations, the store
+    /// is as it was; refused later, by a write or a sync, it has failed, and openings show the batch wholly or not at
+    /// all. S6: it had failed, and has still.
     pub fn commit(
         &mut self,
         batch: Batch<K, V>,
@@ -234,6 +248,7 @@ where
         ensures grows { Grows self.old.device.calls self.new.device.calls }
     {
         let answer = commit_live(
+            self.alloc,
             &mut self.live,
             &mut self.device,
             &mut self.cache,
@@ -341,88 +356,138 @@ where
     }
 
     /// The value of the key, or that it is absent, and the honest bytes that prove it under the root of this moment:
-    /// the client accepts them. S4: out of memory. S6: the store has failed.
-    pub fn prove_key(&self, key: &K) -> Result<KeyProof<V>, StoreError>
-        ensures proof { let size = self.now.cache.page_size + 12 in
+    /// the client accepts them. S1 to S4 where a fault was injected into a read, a cut stands, a count has ended, or
+    /// out of memory; the store then stays open. S6: it had failed.
+    pub fn prove_key(&mut self, key: &K) -> Result<KeyProof<V>, StoreError>
+        ensures proof { let size = self.old.cache.page_size + 12 in
             let m = machine F.merge_rule H.hash_of F.pending_encoding N K.SIZE V.SIZE size in
-            (history : History) → IsLiveAt self.now history → IfOk result (λ found.
+            (history : History) → IsLiveAt self.old history → IfOk result (λ found.
             key_answer_of V.encoding found
             ≡ honest_answer m.pending m.setting K.SIZE V.SIZE history (K.encoding key.now)) }
         ensures shown { let terms = terms F.merge_rule H.hash_of N H.Digest.SIZE F.is_pending F.pending_encoding
             (K.after tt) (V.after tt) K.SIZE V.SIZE in
             let setting = setting_of_width F.merge_rule H.hash_of N in
-            (history : History) → IsLiveAt self.now history → IfOk result (λ found. IsAccepted terms
+            (history : History) → IsLiveAt self.old history → IfOk result (λ found. IsAccepted terms
             (root_of_history setting K.SIZE V.SIZE history) (K.encoding key.now) (key_answer_of V.encoding found)) }
-        ensures refused { (history : History) → IsLiveAt self.now history
-            → IfErr result (λ e. e ≡ StoreError.Memory) }
-        ensures failed { self.now.live ≡ None → result ≡ Err StoreError.Failed }
-        ensures err { IfErr result (λ e. (e ≡ StoreError.Memory) ⊎ (e ≡ StoreError.Failed)) }
+        ensures refused { (history : History) → IsLiveAt self.old history → IfErr result (MayRefuseRead
+            (power_of self.old.device self.old.cache) (power_of self.new.device self.new.cache)) }
+        ensures stays { (history : History) → IsLiveAt self.old history → IsLiveAt self.new history }
+        ensures failed { self.old.live ≡ None → (result ≡ Err StoreError.Failed) × (self.new ≡ self.old) }
+        ensures pruned { self.new.pruned ≡ self.old.pruned }
+        ensures page_size { self.new.cache.page_size ≡ self.old.cache.page_size }
+        ensures settings { self.new.device.storage.config ≡ self.old.device.storage.config }
+        ensures leaves { Leaves 0 (refusal_of result) (power_of self.old.device self.old.cache)
+            (power_of self.new.device self.new.cache) }
+        ensures calls { self.new.device.calls ≡ self.old.device.calls }
     {
-        let live = self.live.as_ref().ok_or(StoreError::Failed)?;
-        Ok(live.ledger.prove_key(key)?)
+        let Some(live) = &self.live else {
+            return Err(StoreError::Failed);
+        };
+        let (device, cache) = (&mut self.device, &mut self.cache);
+        let answer = prove_key_live(self.alloc, live, device, cache, key);
+        self.device.refuses_only_under_a_cut();
+        answer
     }
 
     /// The operation at a location, and the honest bytes that prove it active under the root of this moment: the client
-    /// accepts them. S9: the log has no such operation. S10: its chunk is pruned. S8: it is not active. S4: out of
-    /// memory. S6: the store has failed.
-    pub fn prove_operation(&self, location: u64) -> Result<ProvedOperation<F, K, V>, StoreError>
-        ensures proof { let size = self.now.cache.page_size + 12 in
+    /// accepts them. S9: the log has no such operation. S10: its chunk is pruned. S8: it is not active. S1 to S4 where
+    /// a fault was injected into a read, a cut stands, a count has ended, or out of memory; the store then stays open.
+    /// S6: it had failed.
+    pub fn prove_operation(&mut self, location: u64) -> Result<ProvedOperation<F, K, V>, StoreError>
+        ensures proof { let size = self.old.cache.page_size + 12 in
             let m = machine F.merge_rule H.hash_of F.pending_encoding N K.SIZE V.SIZE size in
-            (history : History) → IsLiveAt self.now history
-            → AnswersProof (λ proved. operation_is (operation_answer_of K.encoding V.encoding proved))
-            (proof_of m history self.now.pruned (of_operation location)) result }
+            (history : History) → IsLiveAt self.old history
+            → AnswersProof (power_of self.old.device self.old.cache) (power_of self.new.device self.new.cache)
+            (λ proved. operation_is (operation_answer_of K.encoding V.encoding proved))
+            (proof_of m history self.old.pruned (of_operation location)) result }
         ensures shown { let terms = terms F.merge_rule H.hash_of N H.Digest.SIZE F.is_pending F.pending_encoding
             (K.after tt) (V.after tt) K.SIZE V.SIZE in
             let setting = setting_of_width F.merge_rule H.hash_of N in
-            (history : History) → IsLiveAt self.now history → IfOk result (λ proved. IsAcceptedOperation terms
+            (history : History) → IsLiveAt self.old history → IfOk result (λ proved. IsAcceptedOperation terms
             (root_of_history setting K.SIZE V.SIZE history) location
             (operation_answer_of K.encoding V.encoding proved)) }
-        ensures failed { self.now.live ≡ None → result ≡ Err StoreError.Failed }
-        ensures err { IfErr result IsOfProof }
+        ensures stays { (history : History) → IsLiveAt self.old history → IsLiveAt self.new history }
+        ensures failed { self.old.live ≡ None → (result ≡ Err StoreError.Failed) × (self.new ≡ self.old) }
+        ensures pruned { self.new.pruned ≡ self.old.pruned }
+        ensures page_size { self.new.cache.page_size ≡ self.old.cache.page_size }
+        ensures settings { self.new.device.storage.config ≡ self.old.device.storage.config }
+        ensures leaves { Leaves 0 (refusal_of result) (power_of self.old.device self.old.cache)
+            (power_of self.new.device self.new.cache) }
+        ensures calls { self.new.device.calls ≡ self.old.device.calls }
     {
-        let live = self.live.as_ref().ok_or(StoreError::Failed)?;
-        Ok(live.ledger.prove_operation(location)?)
+        let Some(live) = &self.live else {
+            return Err(StoreError::Failed);
+        };
+        let (device, cache) = (&mut self.device, &mut self.cache);
+        let answer = prove_operation_live(self.alloc, live, device, cache, location);
+        self.device.refuses_only_under_a_cut();
+        answer
     }
 
     /// The operations from `start` up to `stop` with a bit for each that says whether it is active, and the honest
     /// bytes that prove both under the root of this moment: the client accepts them. S11: the range is empty. S9: it
-    /// ends past the log. S10: it starts before the pruned chunks. S4: out of memory. S6: the store has failed.
-    pub fn prove_range(&self, start: u64, stop: u64) -> Result<ProvedRange<F, K, V>, StoreError>
-        ensures proof { let size = self.now.cache.page_size + 12 in
+    /// ends past the log. S10: it starts before the pruned chunks. S1 to S4 where a fault was injected into a read, a
+    /// cut stands, a count has ended, or out of memory; the store then stays open. S6: it had failed.
+    pub fn prove_range(&mut self, start: u64, stop: u64) -> Result<ProvedRange<F, K, V>, StoreError>
+        ensures proof { let size = self.old.cache.page_size + 12 in
             let m = machine F.merge_rule H.hash_of F.pending_encoding N K.SIZE V.SIZE size in
-            (history : History) → IsLiveAt self.now history
-            → AnswersProof (λ proved. range_is (range_answer_of K.encoding V.encoding proved))
-            (proof_of m history self.now.pruned (of_range start stop)) result }
+            (history : History) → IsLiveAt self.old history
+            → AnswersProof (power_of self.old.device self.old.cache) (power_of self.new.device self.new.cache)
+            (λ proved. range_is (range_answer_of K.encoding V.encoding proved))
+            (proof_of m history self.old.pruned (of_range start stop)) result }
         ensures shown { let terms = terms F.merge_rule H.hash_of N H.Digest.SIZE F.is_pending F.pending_encoding
             (K.after tt) (V.after tt) K.SIZE V.SIZE in
             let setting = setting_of_width F.merge_rule H.hash_of N in
-            (history : History) → IsLiveAt self.now history → IfOk result (λ proved. IsAcceptedRange terms
+            (history : History) → IsLiveAt self.old history → IfOk result (λ proved. IsAcceptedRange terms
             (root_of_history setting K.SIZE V.SIZE history) start (range_answer_of K.encoding V.encoding proved)) }
-        ensures failed { self.now.live ≡ None → result ≡ Err StoreError.Failed }
-        ensures err { IfErr result IsOfProof }
+        ensures stays { (history : History) → IsLiveAt self.old history → IsLiveAt self.new history }
+        ensures failed { self.old.live ≡ None → (result ≡ Err StoreError.Failed) × (self.new ≡ self.old) }
+        ensures pruned { self.new.pruned ≡ self.old.pruned }
+        ensures page_size { self.new.cache.page_size ≡ self.old.cache.page_size }
+        ensures settings { self.new.device.storage.config ≡ self.old.device.storage.config }
+        ensures leaves { Leaves 0 (refusal_of result) (power_of self.old.device self.old.cache)
+            (power_of self.new.device self.new.cache) }
+        ensures calls { self.new.device.calls ≡ self.old.device.calls }
     {
-        let live = self.live.as_ref().ok_or(StoreError::Failed)?;
-        Ok(live.ledger.prove_range(start, stop)?)
+        let Some(live) = &self.live else {
+            return Err(StoreError::Failed);
+        };
+        let (device, cache) = (&mut self.device, &mut self.cache);
+        let answer = prove_range_live(self.alloc, live, device, cache, start, stop);
+        self.device.refuses_only_under_a_cut();
+        answer
     }
 
     /// The operations from `start` up to `stop`, and the honest bytes that prove under the root of this moment that the
     /// log has them: the client accepts them. It is refused as `prove_range` is.
-    pub fn prove_log(&self, start: u64, stop: u64) -> Result<ProvedSlice<F, K, V>, StoreError>
-        ensures proof { let size = self.now.cache.page_size + 12 in
+    pub fn prove_log(&mut self, start: u64, stop: u64) -> Result<ProvedSlice<F, K, V>, StoreError>
+        ensures proof { let size = self.old.cache.page_size + 12 in
             let m = machine F.merge_rule H.hash_of F.pending_encoding N K.SIZE V.SIZE size in
-            (history : History) → IsLiveAt self.now history
-            → AnswersProof (λ proved. slice_is (slice_answer_of K.encoding V.encoding proved))
-            (proof_of m history self.now.pruned (of_slice start stop)) result }
+            (history : History) → IsLiveAt self.old history
+            → AnswersProof (power_of self.old.device self.old.cache) (power_of self.new.device self.new.cache)
+            (λ proved. slice_is (slice_answer_of K.encoding V.encoding proved))
+            (proof_of m history self.old.pruned (of_slice start stop)) result }
         ensures shown { let terms = terms F.merge_rule H.hash_of N H.Digest.SIZE F.is_pending F.pending_encoding
             (K.after tt) (V.after tt) K.SIZE V.SIZE in
             let setting = setting_of_width F.merge_rule H.hash_of N in
-            (history : History) → IsLiveAt self.now history → IfOk result (λ proved. IsAcceptedSlice terms
+            (history : History) → IsLiveAt self.old history → IfOk result (λ proved. IsAcceptedSlice terms
             (root_of_history setting K.SIZE V.SIZE history) start (slice_answer_of K.encoding V.encoding proved)) }
-        ensures failed { self.now.live ≡ None → result ≡ Err StoreError.Failed }
-        ensures err { IfErr result IsOfProof }
+        ensures stays { (history : History) → IsLiveAt self.old history → IsLiveAt self.new history }
+        ensures failed { self.old.live ≡ None → (result ≡ Err StoreError.Failed) × (self.new ≡ self.old) }
+        ensures pruned { self.new.pruned ≡ self.old.pruned }
+        ensures page_size { self.new.cache.page_size ≡ self.old.cache.page_size }
+        ensures settings { self.new.device.storage.config ≡ self.old.device.storage.config }
+        ensures leaves { Leaves 0 (refusal_of result) (power_of self.old.device self.old.cache)
+            (power_of self.new.device self.new.cache) }
+        ensures calls { self.new.device.calls ≡ self.old.device.calls }
     {
-        let live = self.live.as_ref().ok_or(StoreError::Failed)?;
-        Ok(live.ledger.prove_log(start, stop)?)
+        let Some(live) = &self.live else {
+            return Err(StoreError::Failed);
+        };
+        let (device, cache) = (&mut self.device, &mut self.cache);
+        let answer = prove_log_live(self.alloc, live, device, cache, start, stop);
+        self.device.refuses_only_under_a_cut();
+        answer
     }
 
     /// The settings by which the device fails, also of a store that has failed.

@@ -4,7 +4,8 @@ use Rattle.std.specs.Prelude.{find}
 use Rattle.std.proofs.lemmas.Bool.{and_right, ne_eqb}
 use Rattle.fault_storage.specs.declared.pending.Ticket.{Ticket}
 use Rattle.fault_storage.specs.Opens.{is_name}
-use Rattle.fault_storage.specs.Pending.{Entry, Registry, IsPast, is_of, has_name, changed, changed_for, without_name, fresh, followed, begun, forgotten, continued, admitted, admitted_by, entry_of}
+use Rattle.fault_storage.specs.Pending.{Entry, Registry, IsPast, is_of, has_name, changed, changed_for, without_name}
+use Rattle.fault_storage.specs.Pending.{fresh, followed, begun, forgotten, continued, admitted, admitted_by, entry_of}
 
 -- one that passes or not, before others of which none does
 passed_by : (test : Entry → Bool) (entry : Entry) (later : List Entry) → test entry ≡ false → find test later ≡ None → find test (entry ∷ later) ≡ None

@@ -61,15 +61,6 @@ impl History {
         })
     }
 
-    /// The batch, which then begins anew, where these words ask for a commit; else one that says nothing.
-    pub fn take_batch(&mut self, words: &[&str]) -> Batch<Name, u64> {
-        let next = Batch::new(self.alloc);
-        match words {
-            ["commit", ..] => mem::replace(&mut self.batch, next),
-            _ => next,
-        }
-    }
-
     // Appends the batch with its commit, and tells what was appended.
     fn commit(&mut self, metadata: Option<u64>) -> Result<String, AllocError> {
         let batch = mem::replace(&mut self.batch, Batch::new(self.alloc));

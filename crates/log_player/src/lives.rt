@@ -47,7 +47,7 @@ fn commit(alloc: Global, file: Vec<u8>, batch: Batch<Name, u64>) -> Result<Strin
         Err(error) => return refusals::of_store(alloc, error),
     };
     let mut store = Some(live);
-    let told = match commit_live(&mut store, &mut disk, &mut cache, batch, None) {
+    let told = match commit_live(alloc, &mut store, &mut disk, &mut cache, batch, None) {
         Ok(root) => hex::encode(alloc, root.as_bytes())?,
         Err(error) => refusals::of_store(alloc, error)?,
     };

@@ -1,6 +1,5 @@
 //! Refusals: their numbers.
 
-use auth_store_ledger::LedgerError;
 use auth_store_log::LogError;
 use auth_store_session::StoreError;
 use case_lines::Unanswered;
@@ -32,9 +31,4 @@ pub fn of_store(alloc: Global, refused: StoreError) -> Result<String, Unanswered
         StoreError::Memory => Err(Unanswered::Memory),
         other => Ok(other.number().to_string(alloc)?),
     }
-}
-
-/// What a ledger refuses. None has so many operations as may be, so that memory alone is wanting.
-pub fn of_ledger(_refused: LedgerError) -> Unanswered {
-    Unanswered::Memory
 }

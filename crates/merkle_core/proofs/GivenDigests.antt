@@ -1,5 +1,7 @@
 -- Each proof of a range that leads to a root gives the digests of its nodes.
-use Rattle.std.proofs.Common.{◌≡◌, ⊎_elim, ℕ, ◌+◌, ◌<◌, ◌≤◌, min, Bool, true, false, not, ◌||◌, ◌^◌, cond, List, [], ◌∷◌, ◌++◌, length, filter, take, drop, Option, None, Some, IfSome, option_map, option_and_then, refl, sym, ◌∙◌, ap, ap₂, subst, arith, append_assoc}
+use Rattle.std.proofs.Common.{◌≡◌, ⊎_elim, ℕ, ◌+◌, ◌<◌, ◌≤◌, min, Bool, true, false, not, ◌||◌, ◌^◌, cond, List, []}
+use Rattle.std.proofs.Common.{◌∷◌, ◌++◌, length, filter, take, drop, Option, None, Some, IfSome, option_map}
+use Rattle.std.proofs.Common.{option_and_then, refl, sym, ◌∙◌, ap, ap₂, subst, arith, append_assoc}
 use Rattle.std.specs.List.{AllByRecursion}
 use Rattle.std.specs.Prelude.{unwrap_or, nat_lt}
 use Rattle.std.proofs.lemmas.Bool.{cases_Bool, leb-true, leb-false, le-leb, lt-leb, ltb-true}

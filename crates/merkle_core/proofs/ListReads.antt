@@ -1,5 +1,6 @@
 -- A proof whose term agrees with that of the list was read from the digests of the list.
-use Rattle.std.proofs.Common.{◌≡◌, ℕ, zero, suc, ◌+◌, ◌<◌, true, false, cond, List, [], ◌∷◌, ◌++◌, None, Some, IfSome, option_map, refl, sym, ◌∙◌, ap, arith, append_assoc, take, drop}
+use Rattle.std.proofs.Common.{◌≡◌, ℕ, zero, suc, ◌+◌, ◌<◌, true, false, cond, List, [], ◌∷◌, ◌++◌, None, Some, IfSome}
+use Rattle.std.proofs.Common.{option_map, refl, sym, ◌∙◌, ap, arith, append_assoc, take, drop}
 use Rattle.std.specs.List.{list_all}
 use Rattle.std.specs.Prelude.{option_and_then}
 use Rattle.std.proofs.lemmas.Bool.{leb-true, or_left, not_from_true}
@@ -10,7 +11,8 @@ use Rattle.merkle_forest.specs.Trees.{Located, end_of}
 use Rattle.merkle_forest.specs.Laws.Matching.{Agrees}
 use Rattle.merkle_core.specs.Ranges.{Digests, is_before, is_after, meets, as_one, siblings}
 use Rattle.merkle_core.specs.MadeTrees.{Over, Elements, leaf_made, branch_made, made_tree, given, read_tree}
-use Rattle.merkle_core.specs.MadeRoots.{Naming, Streams, Bagged, folded, made_peak, made_back, made_onto, made_bag, given_outer, read_peak, read_back, read_onto, read_group, read_bag}
+use Rattle.merkle_core.specs.MadeRoots.{Naming, Streams, Bagged, folded, made_peak, made_back, made_onto, made_bag}
+use Rattle.merkle_core.specs.MadeRoots.{given_outer, read_peak, read_back, read_onto, read_group, read_bag}
 use Rattle.merkle_core.specs.Reads.{Agrees as MadeOver}
 use Rattle.merkle_core.specs.Laws.MadeBags.{bind_good, map_good}
 use Rattle.merkle_core.specs.Laws.MadeTrees.{choose}

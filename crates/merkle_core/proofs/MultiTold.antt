@@ -1,5 +1,6 @@
 -- What is read of shown elements, where it agrees with a tree, was read from that tree's digests of the nodes that hold none of them.
-use Rattle.std.proofs.Common.{◌≡◌, ℕ, ◌+◌, ⊎_elim, true, false, List, [], ◌∷◌, ◌++◌, length, map, Option, None, Some, option_map, IfSome, refl, sym, ◌∙◌, ap, subst, arith, append_assoc}
+use Rattle.std.proofs.Common.{◌≡◌, ℕ, ◌+◌, ⊎_elim, true, false, List, [], ◌∷◌, ◌++◌, length, map, Option, None, Some}
+use Rattle.std.proofs.Common.{option_map, IfSome, refl, sym, ◌∙◌, ap, subst, arith, append_assoc}
 use Rattle.std.specs.List.{AllByRecursion}
 use Rattle.std.proofs.lemmas.Bool.{cases_Bool}
 use Rattle.merkle_forest.specs.Forest.{Tree, leaf, branch, position, height, leaf_count}

@@ -1,6 +1,7 @@
 -- The digests of the proof of a part of a range, from those that the proof of the range gives for several peaks in one and those of single
 -- nodes.
-use Rattle.std.proofs.Common.{◌≡◌, ⊎_elim, ℕ, suc, ◌+◌, ◌-◌, ◌<◌, ◌≤◌, Bool, zero, true, false, List, [], ◌∷◌, ◌++◌, length, filter, take, drop, refl, sym, ◌∙◌, ap, arith}
+use Rattle.std.proofs.Common.{◌≡◌, ⊎_elim, ℕ, suc, ◌+◌, ◌-◌, ◌<◌, ◌≤◌, Bool, zero, true, false, List, [], ◌∷◌, ◌++◌}
+use Rattle.std.proofs.Common.{length, filter, take, drop, refl, sym, ◌∙◌, ap, arith}
 use Rattle.std.proofs.lemmas.Bool.{cases_Bool, leb-true, leb-false, le-leb, lt-leb}
 use Rattle.std.proofs.lemmas.List.{append_assoc, append-nil, map-append, length-map, length-append, take-append-drop, take_at, drop_at}
 use Rattle.std.proofs.lemmas.List.Elements.{filter-append}
@@ -82,7 +83,8 @@ fewer_after own stop [] le = omega arith
 fewer_after own stop (peak ∷ peaks) le =
     let rest = fewer_after own stop peaks le in
     ⊎_elim
-    (λ (far : is_after own peak ≡ true). let near : is_after stop peak ≡ true = le-leb stop peak.0 (let it : own ≤ peak.0 = leb-true own peak.0 far in omega (arith, it, le)) in
+    (λ (far : is_after own peak ≡ true). let near : is_after stop peak
+    ≡ true = le-leb stop peak.0 (let it : own ≤ peak.0 = leb-true own peak.0 far in omega (arith, it, le)) in
     rw (far, near) (omega (arith, rest)))
     (λ (no : is_after own peak ≡ false). ⊎_elim (λ (near : is_after stop peak ≡ true). rw (no, near) (omega (arith, rest)))
     (λ (none : is_after stop peak ≡ false). rw (no, none) rest) (cases_Bool (is_after stop peak)))

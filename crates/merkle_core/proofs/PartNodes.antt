@@ -1,10 +1,14 @@
 -- The nodes that the proof of a part of a range is made of are kept.
-use Rattle.std.proofs.Common.{◌≡◌, ⊎_elim, ℕ, zero, suc, ◌+◌, ◌-◌, ◌<◌, ◌≤◌, min, Bool, true, false, cond, not, ◌||◌, List, [], ◌∷◌, ◌++◌, length, filter, take, drop, None, Some, option_map, refl, sym, ◌∙◌, ap, ap₂, subst, arith}
+use Rattle.std.proofs.Common.{◌≡◌, ⊎_elim, ℕ, zero, suc, ◌+◌, ◌-◌, ◌<◌, ◌≤◌, min, Bool, true, false, cond, not, ◌||◌}
+use Rattle.std.proofs.Common.{List, [], ◌∷◌, ◌++◌, length, filter, take, drop, None, Some, option_map, refl, sym, ◌∙◌}
+use Rattle.std.proofs.Common.{ap, ap₂, subst, arith}
 use Rattle.std.specs.List.{All, Contains, find}
 use Rattle.std.specs.Prelude.{◌==◌, is_none}
 use Rattle.std.proofs.lemmas.Bool.{cases_Bool, leb-true, leb-false, le-leb, lt-leb, eq-eqb}
 use Rattle.std.proofs.lemmas.List.{length-map}
-use Rattle.std.proofs.lemmas.List.Elements.{All-nil, All-cons, All-head, All-tail, All-append, All-filter, All-take, All-drop, All-map, All-contains, All-weaker, Contains-append_left, Contains-append_right, filter_passes}
+use Rattle.std.proofs.lemmas.List.Elements.{All-nil, All-cons, All-head, All-tail, All-append, All-filter, All-take}
+use Rattle.std.proofs.lemmas.List.Elements.{All-drop, All-map, All-contains, All-weaker, Contains-append_left}
+use Rattle.std.proofs.lemmas.List.Elements.{Contains-append_right, filter_passes}
 use Rattle.std.proofs.lemmas.List.Sorted.{All-permutation, IsPermutation-sym}
 use Rattle.merkle_core_parts.specs.Mem.{encoded}
 use Rattle.merkle_core_parts.specs.declared.error.Error.{Error}
@@ -17,7 +21,8 @@ use Rattle.merkle_core.specs.Extracted.{told_nodes, inner_told, extracted_nodes,
 use Rattle.merkle_core.specs.Laws.MadeTrees.{choose}
 use Rattle.merkle_core.specs.MadeRoots.{peaks_of}
 use Rattle.merkle_core.specs.Plans.{sibling_nodes, inner_nodes, range_nodes, positions_of, first_missing}
-use Rattle.merkle_core.specs.ProofStores.{Kept, AreFoldsOf, IsPart, IsRefusalToBuildPart, digest_among, front_peaks, back_peaks, more_before, more_after, part_nodes, kept_nodes}
+use Rattle.merkle_core.specs.ProofStores.{Kept, AreFoldsOf, IsPart, IsRefusalToBuildPart, digest_among, front_peaks}
+use Rattle.merkle_core.specs.ProofStores.{back_peaks, more_before, more_after, part_nodes, kept_nodes}
 use Rattle.merkle_core.specs.RangeCounts.{passing}
 use Rattle.merkle_core.specs.Ranges.{Digests, is_before, is_after, meets, singly}
 use Rattle.merkle_core.proofs.HonestRanges.{Ascend}

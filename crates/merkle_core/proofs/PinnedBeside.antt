@@ -2,7 +2,9 @@
 --
 -- A root is rebuilt by the strings of nodes that end behind the beginning of the range, and of folds in which more stands than the peaks before
 -- it. What stands before the range is rebuilt by those of nodes that end before it, and of folds of these peaks alone.
-use Rattle.std.proofs.Common.{◌≡◌, ◌⊎◌, inl, inr, ⊎_elim, ℕ, zero, suc, ◌+◌, ◌^◌, ◌<◌, ◌≤◌, ◌||◌, true, false, ltb, List, [], ◌∷◌, ◌++◌, length, filter, take, drop, Contains, Option, None, Some, option_map, option_and_then, IfSome, refl, sym, ◌∙◌, ap, subst, arith}
+use Rattle.std.proofs.Common.{◌≡◌, ◌⊎◌, inl, inr, ⊎_elim, ℕ, zero, suc, ◌+◌, ◌^◌, ◌<◌, ◌≤◌, ◌||◌, true, false, ltb}
+use Rattle.std.proofs.Common.{List, [], ◌∷◌, ◌++◌, length, filter, take, drop, Contains, Option, None, Some}
+use Rattle.std.proofs.Common.{option_map, option_and_then, IfSome, refl, sym, ◌∙◌, ap, subst, arith}
 use Rattle.std.specs.List.{AllByRecursion, list_all}
 use Rattle.std.proofs.lemmas.Bool.{leb-false, or_parts, not-true}
 use Rattle.std.proofs.lemmas.List.Elements.{Contains-append_cases}
@@ -19,7 +21,8 @@ use Rattle.merkle_forest.specs.Trees.{Located, end_of}
 use Rattle.merkle_core.specs.Laws.MadeBags.{bind_good, map_good}
 use Rattle.merkle_core.specs.Laws.MadeTrees.{choose}
 use Rattle.merkle_core.specs.ListDigests.{stop_of}
-use Rattle.merkle_core.specs.MadeRoots.{folded, from_left, peaks_of, root_made, Streams, Bagged, given_outer, read_peak, read_back, read_onto, read_group, read_bag, used}
+use Rattle.merkle_core.specs.MadeRoots.{folded, from_left, peaks_of, root_made, Streams, Bagged, given_outer}
+use Rattle.merkle_core.specs.MadeRoots.{read_peak, read_back, read_onto, read_group, read_bag, used}
 use Rattle.merkle_core.specs.MadeTrees.{Elements, from, plain_over, leaf_made, branch_made, given, read_tree}
 use Rattle.merkle_core.specs.OneEach.{OneEach}
 use Rattle.merkle_core.specs.PinnedSoundness.{singles_of, pinned_strings}
@@ -205,7 +208,8 @@ module _ (hash : Hash) (none : List ℕ) (bagging : Bagging) (rule : Rule) (pair
 
   -- the site of the root, or one behind
   abbrev IsRebuilt : Site → Type 0
-  IsRebuilt s = (at_tree_root ≡ s) ⊎ IsSiteOfMore hash T (from claim.start claim.elements) claim.start (stop_of claim) (length (peaks_of rule claim.leaves)) most s
+  IsRebuilt s = (at_tree_root ≡ s) ⊎ IsSiteOfMore hash T (from claim.start claim.elements) claim.start (stop_of claim)
+      (length (peaks_of rule claim.leaves)) most s
 
   abbrev IsPinned : Site → Type 0
   IsPinned s = IsSiteBefore hash none bagging rule pairs claim pinned s ⊎ ((b : ℕ) × (b ≤ most) × (at_fold 1 b ≡ s))

@@ -1,5 +1,6 @@
 -- The nodes before a range that its proof is made of hold each node before it.
-use Rattle.std.proofs.Common.{◌≡◌, ⊎_elim, inl, inr, ℕ, ◌+◌, ◌<◌, ◌≤◌, Bool, cond, true, false, not, ◌||◌, List, [], ◌∷◌, ◌++◌, filter, drop, refl, sym, ap, subst, arith, append_assoc}
+use Rattle.std.proofs.Common.{◌≡◌, ⊎_elim, inl, inr, ℕ, ◌+◌, ◌<◌, ◌≤◌, Bool, cond, true, false, not, ◌||◌, List, []}
+use Rattle.std.proofs.Common.{◌∷◌, ◌++◌, filter, drop, refl, sym, ap, subst, arith, append_assoc}
 use Rattle.std.specs.List.{AllByRecursion}
 use Rattle.std.proofs.lemmas.Bool.{cases_Bool, le-leb, lt-leb, leb-false, both_ways}
 use Rattle.merkle_forest.specs.Forest.{Tree, leaf, branch, leaf_count, leaves}

@@ -1,5 +1,6 @@
 -- Trees that are rebuilt from pinned digests, beside those of the list.
-use Rattle.std.proofs.Common.{◌≡◌, ◌⊎◌, inl, inr, ⊎_elim, ℕ, suc, ◌+◌, ◌<◌, ◌≤◌, List, [], ◌∷◌, length, map, Option, None, Some, IfSome, refl, sym, ◌∙◌, ap, ap₂, subst, arith}
+use Rattle.std.proofs.Common.{◌≡◌, ◌⊎◌, inl, inr, ⊎_elim, ℕ, suc, ◌+◌, ◌<◌, ◌≤◌, List, [], ◌∷◌, length, map, Option}
+use Rattle.std.proofs.Common.{None, Some, IfSome, refl, sym, ◌∙◌, ap, ap₂, subst, arith}
 use Rattle.std.specs.List.{AllByRecursion}
 use Rattle.std.specs.Option.{option_map_or}
 use Rattle.std.specs.Prelude.{◌==◌, unwrap_or}
@@ -226,10 +227,12 @@ module _ (hash : Hash) (none : List ℕ) (elements : List (List ℕ)) (rule : Ru
       ∙ ap₂ (λ k g. value hash (R k g)) (sym within.0) (sym within.1)
   descend at (branch p left right) first node d stands peak (inr within) is agrees =
       let middle = at + leaf_count left in
-      let rebuilt = branch_made plain_over at (height (branch p left right)) p (pinned_made none known_there at left) (pinned_made none known_there middle right) in
+      let rebuilt = branch_made plain_over at (height (branch p left right)) p (pinned_made none known_there at left)
+      (pinned_made none known_there middle right) in
       ⊎_elim
       (λ none_here. let same = subst (λ o. Agrees hash (option_map_or bytes o rebuilt) (R at (branch p left right))) none_here agrees in
-      let parts = plain_children hash at (height (branch p left right)) p (pinned_made none known_there at left) (pinned_made none known_there middle right) (R at left)
+      let parts = plain_children hash at (height (branch p left right)) p (pinned_made none known_there at left)
+      (pinned_made none known_there middle right) (R at left)
       (R middle right) same in
       ⊎_elim
       (λ there. descend at left first node d (node-left at p left right (forest_of rule count) stands) peak there is parts.0)

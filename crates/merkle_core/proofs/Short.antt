@@ -1,5 +1,6 @@
 -- How many digests an honest proof of one element has.
-use Rattle.std.proofs.Common.{◌≡◌, ℕ, suc, Bool, ◌+◌, ◌<◌, ◌≤◌, inl, inr, ⊎_elim, true, false, List, [], ◌∷◌, ◌++◌, length, filter, take, drop, refl, sym, ◌∙◌, ap, arith}
+use Rattle.std.proofs.Common.{◌≡◌, ℕ, suc, Bool, ◌+◌, ◌<◌, ◌≤◌, inl, inr, ⊎_elim, true, false, List, [], ◌∷◌, ◌++◌}
+use Rattle.std.proofs.Common.{length, filter, take, drop, refl, sym, ◌∙◌, ap, arith}
 use Rattle.std.proofs.lemmas.Bool.{cases_lt, cases_Bool, le-leb, lt-leb}
 use Rattle.std.proofs.lemmas.List.{length-map, length-append, take-append-drop}
 use Rattle.std.proofs.lemmas.List.Elements.{filter-append}

@@ -1,5 +1,6 @@
 -- What is kept of a proof are nodes of the tree, each with its digest.
-use Rattle.std.proofs.Common.{◌≡◌, inl, inr, ℕ, ◌+◌, Bool, true, filter, take, drop, List, [], ◌∷◌, ◌++◌, Option, None, Some, IfSome, option_map, refl, sym, ◌∙◌, ap}
+use Rattle.std.proofs.Common.{◌≡◌, inl, inr, ℕ, ◌+◌, Bool, true, filter, take, drop, List, [], ◌∷◌, ◌++◌, Option}
+use Rattle.std.proofs.Common.{None, Some, IfSome, option_map, refl, sym, ◌∙◌, ap}
 use Rattle.std.specs.Prelude.{◌==◌, find}
 use Rattle.std.specs.Option.{option_map_or}
 use Rattle.std.specs.List.{All, flat_map}

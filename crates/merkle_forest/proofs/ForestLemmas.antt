@@ -1,5 +1,6 @@
 -- The forest of the code is the forest of the definition.
-use Rattle.std.proofs.Common.{◌≡◌, ℕ, zero, suc, ◌+◌, ◌-◌, ◌<◌, ◌≤◌, List, [], ◌∷◌, length, get_or, map, drop, Option, Some, None, refl, sym, ◌∙◌, ap, arith, sub-one, add-one}
+use Rattle.std.proofs.Common.{◌≡◌, ℕ, zero, suc, ◌+◌, ◌-◌, ◌<◌, ◌≤◌, List, [], ◌∷◌, length, get_or, map, drop, Option}
+use Rattle.std.proofs.Common.{Some, None, refl, sym, ◌∙◌, ap, arith, sub-one, add-one}
 use Rattle.std.specs.Prelude.{IfSome}
 use Rattle.std.specs.List.{insert, remove}
 use Rattle.merkle_forest.specs.declared.forest.Tree.{Tree as CodeTree}

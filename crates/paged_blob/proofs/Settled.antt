@@ -21,7 +21,8 @@ use Rattle.paged_blob.specs.ShrinksCode.{StandsAlone, IsLeftAlone, IsLast}
 use Rattle.paged_blob.specs.declared.shrink.LastPage.{LastPage}
 use Rattle.paged_blob_parts.specs.declared.error.CallKind.{CallKind}
 use Rattle.paged_blob_parts.specs.declared.error.Error.{Error}
-use Rattle.paged_blob_parts.specs.declared.error.Error.TheVariants.{Injected, BlobMissing, BlobInsufficientLength, NumberEnded, Memory, PowerCut, ChecksumMismatch}
+use Rattle.paged_blob_parts.specs.declared.error.Error.TheVariants.{Injected, BlobMissing, BlobInsufficientLength}
+use Rattle.paged_blob_parts.specs.declared.error.Error.TheVariants.{NumberEnded, Memory, PowerCut, ChecksumMismatch}
 use Rattle.paged_blob_parts.specs.Laws.Moments.{goes_on, goes_on_sync}
 use Rattle.paged_blob_parts.proofs.Bytes.{length-resized}
 use Rattle.paged_blob_parts.proofs.Scanned.{sliced, proven_pages}

@@ -22,10 +22,12 @@ use Rattle.paged_blob_parts.specs.Stands.{Stand, pages_of}
 use Rattle.paged_blob.specs.Syncs.{IsUnderWay, settled_tip, settled_slot}
 use Rattle.paged_blob_parts.specs.declared.flush.DurableSlot.{DurableSlot}
 use Rattle.paged_blob_parts.specs.declared.error.Error.{Error}
-use Rattle.paged_blob_parts.specs.declared.error.Error.TheVariants.{Injected, BlobMissing, BlobInsufficientLength, NumberEnded, Memory, PowerCut, ChecksumMismatch}
+use Rattle.paged_blob_parts.specs.declared.error.Error.TheVariants.{Injected, BlobMissing, BlobInsufficientLength}
+use Rattle.paged_blob_parts.specs.declared.error.Error.TheVariants.{NumberEnded, Memory, PowerCut, ChecksumMismatch}
 use Rattle.paged_blob.specs.declared.writer.syncing.WriterSync.{WriterSync}
 use Rattle.paged_blob_parts.proofs.CachedLaws.{holds_pages_given}
-use Rattle.paged_blob_parts.proofs.WriterLaws.{size_is, more_writer, writer_more, keeps_more, sync_moments, settled_after, flushed_recovered, written_is, is_writer}
+use Rattle.paged_blob_parts.proofs.WriterLaws.{size_is, more_writer, writer_more, keeps_more, sync_moments}
+use Rattle.paged_blob_parts.proofs.WriterLaws.{settled_after, flushed_recovered, written_is, is_writer}
 use Rattle.paged_blob_parts.proofs.WriterViews.{writer_stands, pages_number}
 
 -- a sync, answered as it may be, leaves the content of what did not fail
@@ -253,8 +255,10 @@ module _ (sum : List ℕ → ℕ) (calls : List Call) (w : WriterState) (some_ro
               let tip : Tip = settled_tip w.page_size n w.tip in
               let slot = settled_slot sum w n in
               let gone = writer_more sum w.page_size calls bytes more started.size tip slot after fits_list in
-              subst (λ l. IsWriterOf sum w.page_size calls l started.size (settled_tip w.page_size n next.tip) (settled_slot sum next n)) (sym (more_list sum calls w more))
-              (subst (λ l. IsWriterOf sum w.page_size calls (bytes ++ more) started.size (settled_tip w.page_size n next.tip) (last_slot sum w.page_size w.slot l)) (sym taken)
+              subst (λ l. IsWriterOf sum w.page_size calls l started.size (settled_tip w.page_size n next.tip)
+              (settled_slot sum next n)) (sym (more_list sum calls w more))
+              (subst (λ l. IsWriterOf sum w.page_size calls (bytes ++ more) started.size
+              (settled_tip w.page_size n next.tip) (last_slot sum w.page_size w.slot l)) (sym taken)
               (subst (λ l. IsWriterOf sum w.page_size calls (bytes ++ more) started.size (record tip { bytes = l }) slot) (sym dropped) gone)))
               (way.done lt);
         }

@@ -17,7 +17,8 @@ use Rattle.paged_blob_parts.specs.Shrinks.{other_slot, IsLastPage}
 use Rattle.paged_blob_parts.specs.Laws.Durable.{withstands_keeps}
 use Rattle.paged_blob_parts.proofs.Bytes.{length-resized, length-with_bytes}
 use Rattle.paged_blob_parts.proofs.Shown.{holds_shown}
-use Rattle.paged_blob_parts.proofs.Regions.{resize_avoids, write_avoids_page, write_avoids_slot, avoided_same, same_content, same_slot, sure_still, sure_written}
+use Rattle.paged_blob_parts.proofs.Regions.{resize_avoids, write_avoids_page, write_avoids_slot, avoided_same}
+use Rattle.paged_blob_parts.proofs.Regions.{same_content, same_slot, sure_still, sure_written}
 use Rattle.paged_blob_parts.proofs.Regions.{untouched_write, slot_written, length_written, says_len, says_crc, silent}
 use Rattle.paged_blob_parts.proofs.Stages.{SureSlot, sure_base, sure_change, Stage, stage_holds, first_stage, stage_change}
 use Rattle.paged_blob_parts.proofs.Stages.{stage_withstands, holds_resized, holds_written}

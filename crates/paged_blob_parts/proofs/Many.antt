@@ -4,7 +4,8 @@ use Rattle.std.proofs.Math.Nat.{eq-or-lt_of_le}
 use Rattle.paged_blob_parts.specs.Calls.{File}
 use Rattle.paged_blob_parts.specs.Answers.{Failures, IsSlice, AreSlices, IsReadCause, IsManyCause, IsPowerOff}
 use Rattle.paged_blob_parts.specs.declared.error.Error.{Error}
-use Rattle.paged_blob_parts.specs.declared.error.Error.TheVariants.{Injected, BlobMissing, BlobInsufficientLength, NumberEnded, Memory, PowerCut, ChecksumMismatch}
+use Rattle.paged_blob_parts.specs.declared.error.Error.TheVariants.{Injected, BlobMissing, BlobInsufficientLength}
+use Rattle.paged_blob_parts.specs.declared.error.Error.TheVariants.{NumberEnded, Memory, PowerCut, ChecksumMismatch}
 
 -- one more slice
 pub slices-append : (file : File) (ranges : List (ℕ × ℕ)) (all : List (List ℕ)) (range : ℕ × ℕ) (bytes : List ℕ)

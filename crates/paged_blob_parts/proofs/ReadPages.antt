@@ -20,7 +20,8 @@ use Rattle.paged_blob_parts.specs.Reads.{ServesPages, StaysKept}
 use Rattle.paged_blob_parts.specs.Laws.Durable.{further}
 use Rattle.paged_blob_parts.specs.declared.error.CallKind.TheVariants.{Read}
 use Rattle.paged_blob_parts.specs.declared.error.Error.{Error}
-use Rattle.paged_blob_parts.specs.declared.error.Error.TheVariants.{Injected, BlobMissing, BlobInsufficientLength, NumberEnded, Memory, PowerCut, ChecksumMismatch}
+use Rattle.paged_blob_parts.specs.declared.error.Error.TheVariants.{Injected, BlobMissing, BlobInsufficientLength}
+use Rattle.paged_blob_parts.specs.declared.error.Error.TheVariants.{NumberEnded, Memory, PowerCut, ChecksumMismatch}
 use Rattle.paged_blob_parts.proofs.CachedLaws.{holds_pages_given}
 use Rattle.paged_blob_parts.proofs.Scanned.{proven_pages}
 use Rattle.paged_blob_parts.proofs.Shown.{page_shown}

@@ -18,7 +18,8 @@ use Rattle.paged_blob_parts.specs.Stands.{Stand, on_blob}
 use Rattle.paged_blob_parts.specs.Served.{slice_at, slices, total, items_of, are_within, IsRangesCause, IsServed, Serves, AreServed}
 use Rattle.paged_blob_parts.specs.declared.read.FlushedPages.{FlushedPages}
 use Rattle.paged_blob_parts.specs.declared.error.Error.{Error}
-use Rattle.paged_blob_parts.specs.declared.error.Error.TheVariants.{Injected, BlobMissing, BlobInsufficientLength, NumberEnded, Memory, PowerCut, ChecksumMismatch}
+use Rattle.paged_blob_parts.specs.declared.error.Error.TheVariants.{Injected, BlobMissing, BlobInsufficientLength}
+use Rattle.paged_blob_parts.specs.declared.error.Error.TheVariants.{NumberEnded, Memory, PowerCut, ChecksumMismatch}
 use Rattle.paged_blob_parts.proofs.StandLaws.{long}
 
 -- in a list that fills its pages the page of a byte is whole

@@ -14,7 +14,8 @@ use Rattle.paged_blob_parts.specs.Stands.{Stand, on_blob, IsSealed}
 use Rattle.paged_blob_parts.specs.declared.read.FlushedPages.{FlushedPages}
 use Rattle.paged_blob_parts.specs.declared.error.CallKind.TheVariants.{Read}
 use Rattle.paged_blob_parts.specs.declared.error.Error.{Error}
-use Rattle.paged_blob_parts.specs.declared.error.Error.TheVariants.{Injected, BlobMissing, BlobInsufficientLength, NumberEnded, Memory, PowerCut, ChecksumMismatch}
+use Rattle.paged_blob_parts.specs.declared.error.Error.TheVariants.{Injected, BlobMissing, BlobInsufficientLength}
+use Rattle.paged_blob_parts.specs.declared.error.Error.TheVariants.{NumberEnded, Memory, PowerCut, ChecksumMismatch}
 use Rattle.paged_blob_parts.proofs.Live.{reached_image, whole_live}
 use Rattle.paged_blob_parts.proofs.ReadPages.{whole_there, page_of_front}
 

@@ -1,5 +1,6 @@
 -- Proofs from the pruned chunks on are refused only for want of memory.
-use Rattle.std.proofs.Common.{◌≡◌, ◌≢◌, ◌⊎◌, inl, inr, ⊎_elim, ℕ, ◌+◌, ◌*◌, ◌/◌, ◌^◌, ◌<◌, ◌≤◌, min, length, None, Some, Result, Ok, Err, refl, sym, ◌∙◌, ap, ap₂, subst, arith}
+use Rattle.std.proofs.Common.{◌≡◌, ◌≢◌, ◌⊎◌, inl, inr, ⊎_elim, ℕ, ◌+◌, ◌*◌, ◌/◌, ◌^◌, ◌<◌, ◌≤◌, min, length, None}
+use Rattle.std.proofs.Common.{Some, Result, Ok, Err, refl, sym, ◌∙◌, ap, ap₂, subst, arith}
 use Rattle.std.specs.Prelude.{IfErr}
 use Rattle.std.proofs.lemmas.Nat.{le-div, pow_pos}
 use Rattle.std.proofs.Math.Nat.{mul_comm}
@@ -8,9 +9,12 @@ use Rattle.merkle_forest.specs.Hashing.{Hash}
 use Rattle.merkle_forest.specs.Nodes.{nodes_of_height}
 use Rattle.merkle_core_parts.specs.Mem.{AreKeptNodes}
 use Rattle.merkle_core_parts.specs.declared.error.Error.{Error as MerkleError}
-use Rattle.merkle_core_parts.specs.declared.error.Error.TheVariants.{Memory as NoMemory, LocationOverflow, Empty, RangeOutOfBounds, LeafOutOfBounds, ElementPruned, InvalidInactivePeaks}
+use Rattle.merkle_core_parts.specs.declared.error.Error.TheVariants.{Memory as NoMemory, LocationOverflow, Empty}
+use Rattle.merkle_core_parts.specs.declared.error.Error.TheVariants.{RangeOutOfBounds, LeafOutOfBounds, ElementPruned}
+use Rattle.merkle_core_parts.specs.declared.error.Error.TheVariants.{InvalidInactivePeaks}
 use Rattle.merkle_core.specs.MadeRoots.{peaks_of}
-use Rattle.merkle_core.specs.Plans.{Asked as Span, IsRefusalOfElement, IsRefusalOfRange, IsRefusalToProveNow, IsWithinTree, Lookup, first_missing, range_positions}
+use Rattle.merkle_core.specs.Plans.{Asked as Span, IsRefusalOfElement, IsRefusalOfRange, IsRefusalToProveNow}
+use Rattle.merkle_core.specs.Plans.{IsWithinTree, Lookup, first_missing, range_positions}
 use Rattle.state_proofs_parts.specs.Bits.{all_bits, bit_count}
 use Rattle.state_proofs_parts.specs.Laws.Bits.{length-all}
 use Rattle.state_proofs.specs.declared.error.Error.{Error}

@@ -1,5 +1,7 @@
 -- Roots of what is kept are those of the state that it stands for.
-use Rattle.std.proofs.Common.{◌≡◌, ℕ, zero, suc, ◌+◌, ◌-◌, ◌*◌, ◌/◌, ◌%◌, ◌^◌, ◌<◌, ◌≤◌, Bool, true, false, eqb, cond, inl, inr, List, [], ◌∷◌, ◌++◌, length, map, drop, Option, None, Some, refl, sym, ◌∙◌, ap, ap₂, subst, arith, append-nil}
+use Rattle.std.proofs.Common.{◌≡◌, ℕ, zero, suc, ◌+◌, ◌-◌, ◌*◌, ◌/◌, ◌%◌, ◌^◌, ◌<◌, ◌≤◌, Bool, true, false, eqb, cond}
+use Rattle.std.proofs.Common.{inl, inr, List, [], ◌∷◌, ◌++◌, length, map, drop, Option, None, Some, refl, sym, ◌∙◌}
+use Rattle.std.proofs.Common.{ap, ap₂, subst, arith, append-nil}
 use Rattle.std.specs.Prelude.{◌↔◌, IsSome, replicate, unwrap_or, if◌then◌else◌, ◌==◌, nat_le}
 use Rattle.std.proofs.lemmas.Bool.{cases_lt, cond-true, cond-false, eq-eqb, ne_eqb, lt-ltb, le-ltb}
 use Rattle.std.proofs.lemmas.List.{length-map}
@@ -19,7 +21,9 @@ use Rattle.merkle_core_parts.specs.Laws.Plain.{length-plain, plain_roots}
 use Rattle.merkle_core_parts.specs.Mem.{AreKeptNodes, Nodes, IsPeakPosition, digests_from, list_root, node_at, plain_leaf_digests, plain_node}
 use Rattle.state_proofs_parts.specs.Bits.{Bits, IsChunkWidth, bit_count, chunk_at as kept_chunk, chunk_of}
 use Rattle.state_proofs_parts.specs.Laws.Bits.{kept_chunk as kept_is}
-use Rattle.state_proofs_parts.specs.Canonical.{Setting, State, chunk, chunks, chunk_bits, full_chunks, next_bit, forest, peaks, grafted_digests, grafted_root, operations_root, pending_digest, partial_digest, canonical_string, canonical_root}
+use Rattle.state_proofs_parts.specs.Canonical.{Setting, State, chunk, chunks, chunk_bits, full_chunks, next_bit}
+use Rattle.state_proofs_parts.specs.Canonical.{forest, peaks, grafted_digests, grafted_root, operations_root}
+use Rattle.state_proofs_parts.specs.Canonical.{pending_digest, partial_digest, canonical_string, canonical_root}
 use Rattle.state_proofs_parts.specs.GraftedNodes.{AreGraftedLeaves, TwoTrees, chunks_node, grafted_lookup}
 use Rattle.state_proofs_parts.specs.Grafting.{aligned_count_with, chunk_aligned_inactive_peaks}
 use Rattle.state_proofs_parts.specs.Laws.Chunks.{chunk_at as chunk_listed}

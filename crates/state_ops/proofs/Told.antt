@@ -1,5 +1,6 @@
 -- The ordered operation that is read, where the reader tells an update by its bytes: it is the one whose update is told by its fields.
-use Rattle.std.proofs.Common.{◌≡◌, ◌==◌, ◌+◌, ◌-◌, ℕ, Bool, true, false, cond, ltb, List, [], ◌∷◌, ◌++◌, length, take, drop, Option, option_map, Result, Ok, Err, refl, sym, ◌∙◌, ap}
+use Rattle.std.proofs.Common.{◌≡◌, ◌==◌, ◌+◌, ◌-◌, ℕ, Bool, true, false, cond, ltb, List, [], ◌∷◌, ◌++◌, length, take}
+use Rattle.std.proofs.Common.{drop, Option, option_map, Result, Ok, Err, refl, sym, ◌∙◌, ap}
 use Rattle.std.specs.Prelude.{IfOk}
 use Rattle.merkle_forest.specs.declared.codec.error.Error.{Error}
 use Rattle.merkle_forest.specs.declared.codec.error.Error.TheVariants.{EndOfBuffer, InvalidEnum}
@@ -9,7 +10,9 @@ use Rattle.state_ops_parts.specs.Operation as all
 use Rattle.state_ops_parts.specs.Operation.{IsValue}
 use Rattle.state_ops_parts.specs.declared.operation.Operation.TheVariants.{Delete, Update, CommitFloor}
 use Rattle.state_ops_parts.specs.declared.update.ordered.Ordered as code_update
-use Rattle.state_ops_parts.specs.Grammar.{Found, ReadsAs, item_at, told, after_zeros, with_zeros, commit_at, operation_at, padded_at, unpadded_at, fixed_at, fixed_metadata_at, fixed_floor_at, after_ordered}
+use Rattle.state_ops_parts.specs.Grammar.{Found, ReadsAs, item_at, told, after_zeros, with_zeros, commit_at}
+use Rattle.state_ops_parts.specs.Grammar.{operation_at, padded_at, unpadded_at, fixed_at, fixed_metadata_at}
+use Rattle.state_ops_parts.specs.Grammar.{fixed_floor_at, after_ordered}
 use Rattle.state_ops.specs.Operation.{ordered, Code, Operation, delete, update, commit_floor, fixed_encoding, meaning_of}
 use Rattle.state_ops.specs.Reading as reading
 use Rattle.state_ops.specs.Reading.{ordered_at, IsField, HasEncoding}

@@ -1,5 +1,7 @@
 -- What is built of a state's nodes and bits is the state's.
-use Rattle.std.proofs.Common.{◌≡◌, inr, Result, Ok, Err, ⊎_elim, ℕ, ◌+◌, ◌*◌, ◌/◌, ◌%◌, ◌^◌, ◌<◌, ◌≤◌, eqb, ltb, cond, Bool, true, false, List, length, take, drop, Option, Some, None, refl, sym, ◌∙◌, ap, subst, arith}
+use Rattle.std.proofs.Common.{◌≡◌, inr, Result, Ok, Err, ⊎_elim, ℕ, ◌+◌, ◌*◌, ◌/◌, ◌%◌, ◌^◌, ◌<◌, ◌≤◌, eqb, ltb, cond}
+use Rattle.std.proofs.Common.{Bool, true, false, List, length, take, drop, Option, Some, None, refl, sym, ◌∙◌, ap}
+use Rattle.std.proofs.Common.{subst, arith}
 use Rattle.std.specs.Prelude.{min, IfErr}
 use Rattle.std.proofs.lemmas.Bool.{cases_lt, le-ltb}
 use Rattle.std.proofs.Math.Nat.{div-add-mod, div-lt_iff_lt-mul, mul_comm, mul-lt-mul_of_pos_left}
@@ -15,7 +17,8 @@ use Rattle.merkle_forest.specs.Hashing.{Hash}
 use Rattle.merkle_forest.specs.Forest.{Rule, Tree, forest_of, position}
 use Rattle.merkle_forest.specs.Nodes.{IsNodeAt, nodes_of_height}
 use Rattle.state_proofs_parts.specs.Bits.{chunk_of}
-use Rattle.state_proofs.specs.Built.{chunks_asked, IsRefusalOfLocated, IsRefusalOfNodes, IsRefusalOfOperation, IsRefusalOfPlanned, IsRefusalOfSource, lifted, unknown_node}
+use Rattle.state_proofs.specs.Built.{chunks_asked, IsRefusalOfLocated, IsRefusalOfNodes, IsRefusalOfOperation}
+use Rattle.state_proofs.specs.Built.{IsRefusalOfPlanned, IsRefusalOfSource, lifted, unknown_node}
 use Rattle.state_proofs_parts.specs.Sources.{IsSourceOf, Source}
 use Rattle.state_proofs.specs.Required.{IsPruned, Measures}
 use Rattle.state_proofs.specs.declared.error.Error.{Error}
@@ -23,7 +26,9 @@ use Rattle.state_proofs.specs.declared.error.Error.TheVariants.{DataCorrupted, O
 use Rattle.state_proofs.specs.BuiltCode.{measures_with}
 use Rattle.state_proofs_parts.specs.Canonical.{setting_with}
 use Rattle.state_proofs_parts.specs.Grafting.{chunk_aligned_inactive_peaks}
-use Rattle.state_proofs_parts.specs.Canonical.{Setting, State, chunk_bits, full_chunks, next_bit, chunks, chunk, forest, peaks, grafted_digests, grafted_inactive, pending_digest, partial_digest}
+use Rattle.state_proofs_parts.specs.Canonical.{Setting, State, chunk_bits, full_chunks, next_bit, chunks, chunk}
+use Rattle.state_proofs_parts.specs.Canonical.{forest, peaks, grafted_digests, grafted_inactive, pending_digest}
+use Rattle.state_proofs_parts.specs.Canonical.{partial_digest}
 use Rattle.state_proofs.specs.Honest.{grafted_range}
 use Rattle.state_proofs.specs.Verified.{Parts, RangeParts}
 use Rattle.state_proofs_parts.specs.Laws.ChunkCounts.{aligned-few}

@@ -1,5 +1,6 @@
 -- Where the digests of all nodes that a proof is made of are known, the proof's digests are those of the tree.
-use Rattle.std.proofs.Common.{◌≡◌, inl, inr, ℕ, zero, suc, ◌+◌, Bool, true, false, cond, filter, List, [], ◌∷◌, ◌++◌, take, drop, Option, None, Some, refl, sym, ◌∙◌, ap, append_assoc}
+use Rattle.std.proofs.Common.{◌≡◌, inl, inr, ℕ, zero, suc, ◌+◌, Bool, true, false, cond, filter, List, [], ◌∷◌, ◌++◌}
+use Rattle.std.proofs.Common.{take, drop, Option, None, Some, refl, sym, ◌∙◌, ap, append_assoc}
 use Rattle.std.specs.List.{AllByRecursion, flat_map}
 use Rattle.std.specs.Prelude.{is_none, unwrap_or}
 use Rattle.merkle_forest.specs.declared.bagging.Bagging.TheVariants.{BackwardFold}

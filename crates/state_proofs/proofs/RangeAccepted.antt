@@ -1,5 +1,7 @@
 -- The honest proof over operations of a state verifies.
-use Rattle.std.proofs.Common.{◌≡◌, inl, inr, ⊎_elim, ℕ, zero, suc, ◌+◌, ◌-◌, ◌*◌, ◌/◌, ◌%◌, ◌^◌, ◌<◌, ◌≤◌, eqb, ltb, leb, cond, ◌||◌, Bool, true, false, List, [], ◌∷◌, ◌++◌, length, replicate, take, drop, Option, Some, None, option_map, refl, sym, ◌∙◌, ap, subst, arith}
+use Rattle.std.proofs.Common.{◌≡◌, inl, inr, ⊎_elim, ℕ, zero, suc, ◌+◌, ◌-◌, ◌*◌, ◌/◌, ◌%◌, ◌^◌, ◌<◌, ◌≤◌, eqb, ltb}
+use Rattle.std.proofs.Common.{leb, cond, ◌||◌, Bool, true, false, List, [], ◌∷◌, ◌++◌, length, replicate, take, drop}
+use Rattle.std.proofs.Common.{Option, Some, None, option_map, refl, sym, ◌∙◌, ap, subst, arith}
 use Rattle.std.specs.Prelude.{slice_get, slice_index_or}
 use Rattle.std.specs.List.{AllByRecursion}
 use Rattle.std.proofs.lemmas.Bool.{cases_lt, lt-ltb, ltb-true, le-leb, leb-false, eqb-true, eqb-false, ne_eqb, or_parts, not-true}
@@ -19,7 +21,10 @@ use Rattle.merkle_core.specs.MadeTrees.{Over, from}
 use Rattle.merkle_core.specs.Ranges.{Digests, meets, is_before, is_after, range_digests}
 use Rattle.merkle_core.specs.Reads.{Agrees, range_root}
 use Rattle.state_proofs_parts.specs.SetBits.{is_zero}
-use Rattle.state_proofs_parts.specs.Canonical.{Setting, State, chunk_bits, full_chunks, next_bit, chunks, chunk, forest, peaks, grafted_digests, grafted_inactive, grafted_root, operations_root, pending_digest, partial_digest, canonical_string, canonical_root}
+use Rattle.state_proofs_parts.specs.Canonical.{Setting, State, chunk_bits, full_chunks, next_bit, chunks, chunk}
+use Rattle.state_proofs_parts.specs.Canonical.{forest, peaks, grafted_digests, grafted_inactive, grafted_root}
+use Rattle.state_proofs_parts.specs.Canonical.{operations_root, pending_digest, partial_digest, canonical_string}
+use Rattle.state_proofs_parts.specs.Canonical.{canonical_root}
 use Rattle.state_proofs_parts.specs.Grafting.{grafted_digest}
 use Rattle.state_proofs.specs.Honest.{grafted_range, honest_range}
 use Rattle.state_proofs_parts.specs.Laws.MadeStates.{branch_grafted}
@@ -27,7 +32,8 @@ use Rattle.state_proofs_parts.specs.MadeGrafted.{joined_in, grafted_case, grafte
 use Rattle.state_proofs.specs.MadeRanges.{HasRange}
 use Rattle.state_proofs_parts.specs.MadeStates.{made_chunk}
 use Rattle.state_proofs_parts.specs.ShownChunks.{FitsChunk}
-use Rattle.state_proofs.specs.Verified.{Shown, shown_bits, stop_of, first_index, last_index, Covers, covering, given_by, shown_grafted, IsShaped, FitsShown, VerifiesRange}
+use Rattle.state_proofs.specs.Verified.{Shown, shown_bits, stop_of, first_index, last_index, Covers, covering}
+use Rattle.state_proofs.specs.Verified.{given_by, shown_grafted, IsShaped, FitsShown, VerifiesRange}
 use Rattle.state_proofs_parts.specs.Verifier.{Given, given_chunk, claimed_chunk}
 use Rattle.state_proofs_parts.specs.Laws.ChunkCounts.{Aligned, inactive-few}
 use Rattle.state_proofs_parts.specs.Laws.Chunks.{any_default, location_chunks}

@@ -1,5 +1,6 @@
 -- A proof over a range that verifies under the canonical root of a state is the honest one, or strings collide.
-use Rattle.std.proofs.Common.{◌≡◌, ◌⊎◌, inl, inr, ⊎_elim, ℕ, ◌*◌, ◌/◌, ◌%◌, ◌^◌, ◌<◌, ◌≤◌, eqb, ltb, cond, Bool, true, false, List, length, Option, None, Some, option_map, refl, ◌∙◌, ap, arith}
+use Rattle.std.proofs.Common.{◌≡◌, ◌⊎◌, inl, inr, ⊎_elim, ℕ, ◌*◌, ◌/◌, ◌%◌, ◌^◌, ◌<◌, ◌≤◌, eqb, ltb, cond, Bool, true}
+use Rattle.std.proofs.Common.{false, List, length, Option, None, Some, option_map, refl, ◌∙◌, ap, arith}
 use Rattle.std.proofs.lemmas.Bool.{lt-ltb, ltb-true, eqb-false, ne_eqb}
 use Rattle.merkle_forest.specs.declared.bagging.Bagging.TheVariants.{BackwardFold}
 use Rattle.merkle_forest.specs.Forest.{forest_of}
@@ -12,7 +13,9 @@ use Rattle.merkle_core.specs.HonestReads.{AreDigestsOver, ReadsHonestly}
 use Rattle.merkle_core.specs.Laws.HonestReads.{read_at}
 use Rattle.merkle_core.specs.MadeTrees.{Over, whole}
 use Rattle.merkle_core.specs.Ranges.{Digests}
-use Rattle.state_proofs_parts.specs.Canonical.{Setting, State, chunk_bits, full_chunks, next_bit, chunks, chunk, forest, grafted_digests, grafted_inactive, pending_digest, partial_digest, canonical_root}
+use Rattle.state_proofs_parts.specs.Canonical.{Setting, State, chunk_bits, full_chunks, next_bit, chunks, chunk}
+use Rattle.state_proofs_parts.specs.Canonical.{forest, grafted_digests, grafted_inactive, pending_digest}
+use Rattle.state_proofs_parts.specs.Canonical.{partial_digest, canonical_root}
 use Rattle.state_proofs_parts.specs.Grafting.{grafted_digest}
 use Rattle.state_proofs.specs.Honest.{grafted_range, honest_range}
 use Rattle.state_proofs_parts.specs.Laws.MadeGrafted.{grafted_fits}
@@ -22,7 +25,8 @@ use Rattle.state_proofs_parts.specs.MadeGrafted.{grafted_over, grafted_names}
 use Rattle.state_proofs.specs.MadeRanges.{held_or_made, is_covered, range_strings, HasDigestsOf}
 use Rattle.state_proofs_parts.specs.MadeStates.{made_chunk, hashed_strings}
 use Rattle.state_proofs_parts.specs.ShownChunks.{FitsChunk}
-use Rattle.state_proofs.specs.Verified.{Shown, shown_bits, stop_of, full_shown, graftable_shown, Covers, covering, given_by, IsShaped, VerifiesRange, RangeParts}
+use Rattle.state_proofs.specs.Verified.{Shown, shown_bits, stop_of, full_shown, graftable_shown, Covers, covering}
+use Rattle.state_proofs.specs.Verified.{given_by, IsShaped, VerifiesRange, RangeParts}
 use Rattle.state_proofs_parts.specs.Verifier.{claimed_chunk}
 use Rattle.state_proofs.proofs.RangeIsTrue.{RangeTold, range_told, covered_is, claimed_widths, made_widths}
 use Rattle.state_proofs.proofs.StateParts.{not_forty, value_operations}

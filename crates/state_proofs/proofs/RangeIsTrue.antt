@@ -1,5 +1,7 @@
 -- A proof over a range that verifies under the canonical root of a state tells the truth, or strings collide.
-use Rattle.std.proofs.Common.{◌≡◌, ◌⊎◌, inl, inr, ⊎_elim, ℕ, zero, suc, ◌+◌, ◌-◌, ◌*◌, ◌/◌, ◌%◌, ◌^◌, ◌<◌, ◌≤◌, eqb, ltb, leb, cond, ◌&&◌, Bool, true, false, List, [], ◌∷◌, length, replicate, Option, None, Some, option_map, IfSome, refl, sym, ◌∙◌, ap, subst, arith}
+use Rattle.std.proofs.Common.{◌≡◌, ◌⊎◌, inl, inr, ⊎_elim, ℕ, zero, suc, ◌+◌, ◌-◌, ◌*◌, ◌/◌, ◌%◌, ◌^◌, ◌<◌, ◌≤◌, eqb}
+use Rattle.std.proofs.Common.{ltb, leb, cond, ◌&&◌, Bool, true, false, List, [], ◌∷◌, length, replicate, Option, None}
+use Rattle.std.proofs.Common.{Some, option_map, IfSome, refl, sym, ◌∙◌, ap, subst, arith}
 use Rattle.std.specs.Prelude.{slice_get, slice_index_or}
 use Rattle.std.specs.List.{AllByRecursion}
 use Rattle.std.proofs.lemmas.Bool.{cases_lt, lt-ltb, le-leb, ltb-true, leb-true, and_parts, eq-eqb, ne_eqb}
@@ -21,20 +23,26 @@ use Rattle.merkle_core.specs.Laws.Sound.{agree_in}
 use Rattle.merkle_core.specs.MadeTrees.{from, whole}
 use Rattle.merkle_core.specs.MadeRoots.{peaks_of}
 use Rattle.merkle_core.specs.RangeCounts.{range_outer}
-use Rattle.state_proofs_parts.specs.Canonical.{Setting, State, chunk_bits, full_chunks, next_bit, chunks, chunk, forest, grafted_inactive, canonical_string, canonical_root}
+use Rattle.state_proofs_parts.specs.Canonical.{Setting, State, chunk_bits, full_chunks, next_bit, chunks, chunk}
+use Rattle.state_proofs_parts.specs.Canonical.{forest, grafted_inactive, canonical_string, canonical_root}
 use Rattle.state_proofs_parts.specs.Laws.MadeCanonical.{value_canonical}
 use Rattle.state_proofs_parts.specs.Laws.MadeGrafted.{SameChunk}
 use Rattle.state_proofs_parts.specs.Laws.MadeStates.{state_sound}
 use Rattle.state_proofs_parts.specs.MadeCanonical.{if_made, next_made}
 use Rattle.state_proofs.specs.MadeRanges.{is_covered, range_pending, range_partial, range_over, range_strings, HasDigestsOf, HasRange}
 use Rattle.state_proofs_parts.specs.MadeStates.{made_operations, made_grafted, made_chunk, made_pending, made_partial, made_state, hashed_strings}
-use Rattle.state_proofs.specs.Verified.{Shown, shown_bits, stop_of, first_index, last_index, full_shown, graftable_shown, Covers, covering, given_by, shown_grafted, IsShaped, FitsShown, VerifiesRange, RangeParts}
+use Rattle.state_proofs.specs.Verified.{Shown, shown_bits, stop_of, first_index, last_index, full_shown}
+use Rattle.state_proofs.specs.Verified.{graftable_shown, Covers, covering, given_by, shown_grafted, IsShaped}
+use Rattle.state_proofs.specs.Verified.{FitsShown, VerifiesRange, RangeParts}
 use Rattle.state_proofs_parts.specs.Verifier.{Given, given_chunk, claimed_chunk}
 use Rattle.state_proofs_parts.specs.Laws.ChunkCounts.{index-few}
 use Rattle.state_proofs_parts.specs.Laws.Chunks.{any_default, location_chunks, chunks-wide}
 use Rattle.state_proofs_parts.specs.Laws.Heights.{same_power, some_height}
 use Rattle.state_proofs_parts.specs.Laws.Verifier.{claimed-wide}
-use Rattle.state_proofs.proofs.StateParts.{Counted, not_forty, left_over, both_true, held_value, held_sized, next_sized, some_sized, none_sized, match_made, match_next, some_made, none_made, same_pending, same_partial, not_none, string_same, told_at, value_state, few_inactive, get_some, if_is}
+use Rattle.state_proofs.proofs.StateParts.{Counted, not_forty, left_over, both_true, held_value, held_sized}
+use Rattle.state_proofs.proofs.StateParts.{next_sized, some_sized, none_sized, match_made, match_next, some_made}
+use Rattle.state_proofs.proofs.StateParts.{none_made, same_pending, same_partial, not_none, string_same, told_at}
+use Rattle.state_proofs.proofs.StateParts.{value_state, few_inactive, get_some, if_is}
 
 -- a number of the range that is one of a chunk's locations
 record IsIn (start stop index bits : ℕ) : Type 0 where

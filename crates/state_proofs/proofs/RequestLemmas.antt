@@ -1,5 +1,6 @@
 -- Which chunks have the bits of a range, and what a log gives of one.
-use Rattle.std.proofs.Common.{◌≡◌, ℕ, zero, suc, ◌+◌, ◌-◌, ◌*◌, ◌/◌, ◌<◌, ◌≤◌, List, [], ◌∷◌, ◌++◌, append_assoc, append-nil, length, take, drop, get_or, Result, Ok, Err, refl, sym, ◌∙◌, ap, arith}
+use Rattle.std.proofs.Common.{◌≡◌, ℕ, zero, suc, ◌+◌, ◌-◌, ◌*◌, ◌/◌, ◌<◌, ◌≤◌, List, [], ◌∷◌, ◌++◌, append_assoc}
+use Rattle.std.proofs.Common.{append-nil, length, take, drop, get_or, Result, Ok, Err, refl, sym, ◌∙◌, ap, arith}
 use Rattle.std.specs.Prelude.{IfOk, OnOk}
 use Rattle.std.proofs.Math.Nat.{div-le_self, div-mul-le_self, mul-div-le, mul-le-mul_left}
 use Rattle.std.proofs.lemmas.List.{drop_more}

@@ -6,7 +6,8 @@ use Rattle.merkle_forest.specs.declared.bagging.Bagging.{Bagging}
 use Rattle.merkle_forest.specs.Forest.{Tree, leaf, branch, height, leaf_count, Rule}
 use Rattle.merkle_forest.specs.Made.{Made}
 use Rattle.merkle_forest.specs.Trees.{Located}
-use Rattle.merkle_core.specs.MadeRoots.{Naming, Streams, Bagged, folded, from_left, given_outer, peaks_of, read_peak, read_back, read_onto, read_group, read_bag, root_made, used}
+use Rattle.merkle_core.specs.MadeRoots.{Naming, Streams, Bagged, folded, from_left, given_outer, peaks_of, read_peak}
+use Rattle.merkle_core.specs.MadeRoots.{read_back, read_onto, read_group, read_bag, root_made, used}
 use Rattle.merkle_core.specs.MadeTrees.{Over, Elements, Reading, branch_made, from, given, read_tree}
 use Rattle.merkle_core.specs.Ranges.{meets, is_after, is_before}
 use Rattle.merkle_core.specs.Reads.{range_root}

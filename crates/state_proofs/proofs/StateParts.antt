@@ -1,5 +1,7 @@
 -- The canonical root of a state part by part, and what a proof holds of these parts.
-use Rattle.std.proofs.Common.{◌≡◌, inl, inr, ⊎_elim, ℕ, zero, suc, ◌+◌, ◌*◌, ◌/◌, ◌%◌, ◌^◌, ◌<◌, ◌≤◌, eqb, ltb, cond, ◌&&◌, Bool, true, false, List, [], ◌∷◌, length, Option, None, Some, option_map, IfSome, ◌↔◌, refl, sym, ◌∙◌, ap, subst, arith}
+use Rattle.std.proofs.Common.{◌≡◌, inl, inr, ⊎_elim, ℕ, zero, suc, ◌+◌, ◌*◌, ◌/◌, ◌%◌, ◌^◌, ◌<◌, ◌≤◌, eqb, ltb, cond}
+use Rattle.std.proofs.Common.{◌&&◌, Bool, true, false, List, [], ◌∷◌, length, Option, None, Some, option_map, IfSome}
+use Rattle.std.proofs.Common.{◌↔◌, refl, sym, ◌∙◌, ap, subst, arith}
 use Rattle.std.specs.Prelude.{slice_get, slice_index_or}
 use Rattle.std.specs.List.{AllByRecursion}
 use Rattle.std.proofs.lemmas.Bool.{cases_lt}
@@ -18,7 +20,10 @@ use Rattle.merkle_core.specs.Laws.MadeRoots.{peak_count}
 use Rattle.merkle_core.specs.Laws.Sound.{all_parts}
 use Rattle.merkle_core.specs.Laws.Values.{value_root}
 use Rattle.merkle_core.specs.MadeTrees.{Elements, whole, plain_over}
-use Rattle.state_proofs_parts.specs.Canonical.{Setting, State, chunk_bits, full_chunks, next_bit, chunks, chunk, forest, peaks, grafted_inactive, grafted_digests, grafted_root, operations_root, pending_digest, partial_digest, canonical_string, canonical_root}
+use Rattle.state_proofs_parts.specs.Canonical.{Setting, State, chunk_bits, full_chunks, next_bit, chunks, chunk}
+use Rattle.state_proofs_parts.specs.Canonical.{forest, peaks, grafted_inactive, grafted_digests, grafted_root}
+use Rattle.state_proofs_parts.specs.Canonical.{operations_root, pending_digest, partial_digest, canonical_string}
+use Rattle.state_proofs_parts.specs.Canonical.{canonical_root}
 use Rattle.state_proofs_parts.specs.Grafting.{grafted_digest}
 use Rattle.state_proofs_parts.specs.Laws.MadeCanonical.{SizedIf, SizedNext, MatchIf, MatchNext, value_canonical}
 use Rattle.state_proofs_parts.specs.Laws.MadeStates.{value_grafted, told_in}

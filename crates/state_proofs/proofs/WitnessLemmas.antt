@@ -1,12 +1,15 @@
 -- A witness leads from the root of the operations' tree to the canonical one.
-use Rattle.std.proofs.Common.{◌≡◌, ◌⊎◌, inl, inr, ⊎_elim, ℕ, ◌<◌, ◌≤◌, ◌^◌, Bool, List, length, eqb, ltb, Option, None, Some, option_map, IfSome, refl, sym, ◌∙◌, ap, arith, length-append}
+use Rattle.std.proofs.Common.{◌≡◌, ◌⊎◌, inl, inr, ⊎_elim, ℕ, ◌<◌, ◌≤◌, ◌^◌, Bool, List, length, eqb, ltb, Option}
+use Rattle.std.proofs.Common.{None, Some, option_map, IfSome, refl, sym, ◌∙◌, ap, arith, length-append}
 use Rattle.std.proofs.Math.Nat.{div-add-mod}
 use Rattle.merkle_forest.specs.Hashing.{Hash, number}
 use Rattle.merkle_forest.specs.Laws.Matching.{Agrees, agrees_or_collides}
 use Rattle.merkle_forest.specs.Made.{at_pending, at_partial, Made, bytes, value, strings, Collision}
 use Rattle.merkle_forest.specs.Nodes.{nodes_of_height}
 use Rattle.merkle_core.specs.Laws.MadeRoots.{number_same}
-use Rattle.state_proofs_parts.specs.Canonical.{Setting, State, chunk_bits, full_chunks, next_bit, chunk, forest, operations_root, grafted_root, pending_digest, partial_digest, canonical_string, canonical_root}
+use Rattle.state_proofs_parts.specs.Canonical.{Setting, State, chunk_bits, full_chunks, next_bit, chunk, forest}
+use Rattle.state_proofs_parts.specs.Canonical.{operations_root, grafted_root, pending_digest, partial_digest}
+use Rattle.state_proofs_parts.specs.Canonical.{canonical_string, canonical_root}
 use Rattle.state_proofs_parts.specs.Laws.MadeCanonical.{SizedIf, SizedNext, MatchIf, MatchNext, canonical_matches}
 use Rattle.state_proofs_parts.specs.MadeCanonical.{CanonicalParts, if_made, next_made}
 use Rattle.state_proofs_parts.specs.MadeStates.{made_operations, made_grafted, made_pending, made_partial, made_state, hashed_strings}

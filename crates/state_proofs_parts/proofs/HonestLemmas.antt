@@ -1,5 +1,6 @@
 -- The honest proof of a bit leads to the root of its list.
-use Rattle.std.proofs.Common.{◌≡◌, ℕ, zero, suc, ◌+◌, ◌-◌, ◌*◌, ◌/◌, ◌%◌, ◌<◌, ◌≤◌, ◌^◌, eqb, leb, ltb, Bool, false, inl, inr, List, [], ◌∷◌, ◌++◌, length, take, drop, get_or}
+use Rattle.std.proofs.Common.{◌≡◌, ℕ, zero, suc, ◌+◌, ◌-◌, ◌*◌, ◌/◌, ◌%◌, ◌<◌, ◌≤◌, ◌^◌, eqb, leb, ltb, Bool, false}
+use Rattle.std.proofs.Common.{inl, inr, List, [], ◌∷◌, ◌++◌, length, take, drop, get_or}
 use Rattle.std.proofs.Common.{Option, None, Some, option_map, refl, sym, ◌∙◌, ap, ap₂, arith, length-append}
 use Rattle.std.specs.Prelude.{◌||◌}
 use Rattle.std.proofs.lemmas.Bool.{cases_eq, cond-true, cond-false, eq-eqb, ne_eqb, lt-leb}
@@ -16,7 +17,8 @@ use Rattle.merkle_core.specs.Plans.{honest_digests}
 use Rattle.merkle_core.specs.Reads.{range_root}
 use Rattle.merkle_core.specs.Soundness.{plain_names}
 use Rattle.state_proofs_parts.specs.Bits.{IsChunkWidth, chunk_at, full_chunks}
-use Rattle.state_proofs_parts.specs.Inclusion.{also, partial_made, BitClaim, tree_read, last_of, front_of, bit_root, plain_leaf, plain_root, honest_bit_digests, honest_claim}
+use Rattle.state_proofs_parts.specs.Inclusion.{also, partial_made, BitClaim, tree_read, last_of, front_of, bit_root}
+use Rattle.state_proofs_parts.specs.Inclusion.{plain_leaf, plain_root, honest_bit_digests, honest_claim}
 use Rattle.state_proofs_parts.specs.Maps.{leaf_digests, chunks_root, sealed_root, bitmap_root}
 use Rattle.state_proofs_parts.proofs.ChunkLemmas.{length-chunks_of, at-chunks_of, chunks_of_bits}
 use Rattle.state_proofs_parts.proofs.MapLemmas.{full_more}

@@ -56,7 +56,8 @@ module _ (hash : Hash) (node : NodeHash) (bagging : Bagging) (width : ℕ) (list
   unfolding proof_digests
   put_last same = sym (cond-true (eqb chunk (length list)) _ _ (eq-eqb chunk (length list) same))
 
-  put : (chunk ≡ length list → ⊥) → honest_digests hash (tree_digest node list) bagging mmr_rule (length list) 0 chunk (chunk + 1) ++ last_digests hash width bits
+  put : (chunk ≡ length list → ⊥) → honest_digests hash (tree_digest node list) bagging mmr_rule (length list) 0 chunk
+      (chunk + 1) ++ last_digests hash width bits
       ≡ proof_digests hash node bagging width list bits chunk
   unfolding proof_digests
   put apart = sym (cond-false (eqb chunk (length list)) _ _ (ne_eqb chunk (length list) apart))

@@ -1,5 +1,6 @@
 -- Where a proof of a bit leads to the root of a list of bits its claim is true of the list, or strings collide.
-use Rattle.std.proofs.Common.{◌≡◌, ◌⊎◌, inl, inr, ⊎_elim, ℕ, zero, suc, ◌+◌, ◌-◌, ◌*◌, ◌/◌, ◌%◌, ◌<◌, ◌≤◌, ◌^◌, eqb, leb, ltb, Bool, true, false, List, [], ◌∷◌, ◌++◌, length, take, drop, get_or}
+use Rattle.std.proofs.Common.{◌≡◌, ◌⊎◌, inl, inr, ⊎_elim, ℕ, zero, suc, ◌+◌, ◌-◌, ◌*◌, ◌/◌, ◌%◌, ◌<◌, ◌≤◌, ◌^◌, eqb}
+use Rattle.std.proofs.Common.{leb, ltb, Bool, true, false, List, [], ◌∷◌, ◌++◌, length, take, drop, get_or}
 use Rattle.std.proofs.Common.{Option, None, Some, option_map, option_and_then, IfSome, Contains, refl, sym, ◌∙◌, ap, subst, arith, length-append}
 use Rattle.std.specs.Prelude.{◌||◌}
 use Rattle.std.proofs.lemmas.Bool.{cases_eq, eqb-true, eqb-false, leb-false}
@@ -124,12 +125,15 @@ module _ (hash : Hash) (hash_sized : (xs : List ℕ) → length (hash xs) ≡ 32
   there_is_root elements = by (peaks_of mmr_rule (length elements))
     where
       by : (peaks : List Located)
-          → IsTreeRoot (root_made plain_names bagging (length elements) 0 (made_bag plain_names plain_over (whole elements) (length peaks) (from_left bagging 0 (length peaks)) peaks))
+          → IsTreeRoot (root_made plain_names bagging (length elements) 0
+          (made_bag plain_names plain_over (whole elements) (length peaks) (from_left bagging 0 (length peaks))
+          peaks))
       by [] = tree_root (length elements) (bytes []) (λ clash. omega (arith, clash))
       by (peak ∷ peaks) =
           let long = bag_sized hash 32 hash_sized (λ at high. Unit {0}) plain_over plain_over (plain_fits hash 32 hash_sized) (whole elements) (whole elements)
           0 0 plain_names (length (peak ∷ peaks)) (from_left bagging 0 (length (peak ∷ peaks))) peak peaks in
-          tree_root (length elements) (made_bag plain_names plain_over (whole elements) (length (peak ∷ peaks)) (from_left bagging 0 (length (peak ∷ peaks))) (peak ∷ peaks))
+          tree_root (length elements) (made_bag plain_names plain_over (whole elements) (length (peak ∷ peaks))
+          (from_left bagging 0 (length (peak ∷ peaks))) (peak ∷ peaks))
           (λ clash. omega (arith, long, clash))
 
   root_long : (made : Made) → IsTreeRoot made → length (value hash made) ≡ 32
@@ -323,7 +327,8 @@ module _ (hash : Hash) (hash_sized : (xs : List ℕ) → length (hash xs) ≡ 32
         inr (neither_aligned tree (bytes digest) (root_long tree it.0) same)
 
     -- ---- all cases
-    by_list : (made : Made) → (length all % size ≡ 0 → value hash made ≡ value hash (also at_bitmap_root there) → Claim ⊎ Collision hash (strings hash (also at_bitmap_root there)) (strings hash made))
+    by_list : (made : Made) → (length all % size ≡ 0 → value hash made ≡ value hash (also at_bitmap_root there)
+        → Claim ⊎ Collision hash (strings hash (also at_bitmap_root there)) (strings hash made))
         → ((length all % size ≡ 0 → ⊥) → value hash made ≡ value hash partial_there → Claim ⊎ Collision hash (strings hash partial_there) (strings hash made))
         → IsSound hash bagging width all claim made
     by_list made aligned partial same =

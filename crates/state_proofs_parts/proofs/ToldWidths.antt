@@ -1,5 +1,6 @@
 -- Whether so many bytes are a chunk's.
-use Rattle.std.proofs.Common.{◌≡◌, ℕ, zero, suc, ◌*◌, ◌^◌, ◌<◌, ◌≤◌, ◌||◌, Bool, true, false, inl, inr, Option, None, Some, refl, sym, ◌∙◌, ap, eqb, eq-eqb, arith}
+use Rattle.std.proofs.Common.{◌≡◌, ℕ, zero, suc, ◌*◌, ◌^◌, ◌<◌, ◌≤◌, ◌||◌, Bool, true, false, inl, inr, Option, None}
+use Rattle.std.proofs.Common.{Some, refl, sym, ◌∙◌, ap, eqb, eq-eqb, arith}
 use Rattle.std.specs.Prelude.{IfSome, IfNone, is_some}
 use Rattle.std.proofs.lemmas.Bool.{cases_lt, ne_eqb}
 use Rattle.state_proofs_parts.specs.declared.chunk_size.ChunkSize.{ChunkSize}

@@ -1,6 +1,6 @@
 //! A hash that costs next to nothing, so that what a root costs stands aside.
 
-ghost use Rattle.std.specs.Prelude.{ℕ, List, refl, replicate};
+ghost use Rattle.std.specs.Prelude.{refl, replicate};
 
 use merkle_forest::HashFunction;
 use merkle_forest::codec::FixedBytes;

@@ -7,7 +7,6 @@ ghost use Rattle.auth_store_session.specs.Stores.{IsCache};
 use crate::plain_hash::PlainHash;
 use auth_store_device::Device;
 use auth_store_ledger::Batch;
-use auth_store_ledger::ledger::log::Log;
 use auth_store_log::operations::next_operation;
 use auth_store_log::{PlacedLog, operations_of, recover};
 use auth_store_parts::history::Places;
@@ -207,16 +206,21 @@ fn floor_in(operations: &[OrderedOperation<mmr::Family, Key, u64>]) -> u64 {
 }
 
 // The sum of the operations, the commits and the floor of the history that some bytes are the log of. All is made that
-// a ledger has but the root. Its own counts of commits and floor are private, so what stands here does the same work.
+// a ledger is made of but trees and bits. Its own counts of commits and floor are private, so what stands here does the
+// same work.
 fn take_all(alloc: Global, bytes: &[u8]) -> u64 {
     let Ok(placed) = operations_of::<mmr::Family, Key, u64>(alloc, bytes) else {
         return 0;
     };
-    let PlacedLog { operations, places } = placed;
+    let PlacedLog {
+        operations,
+        places: _,
+    } = placed;
     let commits = commits_in(&operations);
     let floor = floor_in(&operations);
-    let log = Log::of(alloc, operations, places);
-    (log.len() as u64).wrapping_add(commits).wrapping_add(floor)
+    (operations.len() as u64)
+        .wrapping_add(commits)
+        .wrapping_add(floor)
 }
 
 /// What is made of a log that is read.

@@ -1,6 +1,6 @@
 //! How the answers of a script's session are printed.
 
-ghost use Rattle.std.specs.Prelude.{◌≡◌, ◌++◌, ◌↔◌, [], None, OnOk, IsSomeAnd, codes};
+ghost use Rattle.std.specs.Prelude.{◌≡◌, ◌↔◌, [], None, OnOk, IsSomeAnd, codes};
 ghost use Rattle.std.specs.Io.KnownBytes.{Appends};
 ghost use Rattle.auth_store_parts.specs.Report.{reported};
 ghost use Rattle.auth_store_session.specs.MachineCode.{meaning_of};

@@ -9,7 +9,7 @@
 //!   put, del, proof, check: no step
 //! ```
 
-ghost use Rattle.std.specs.Prelude.{◌≡◌, ◌++◌, ◌∷◌, [], None, Some};
+ghost use Rattle.std.specs.Prelude.{◌≡◌, ◌∷◌, [], None, Some};
 ghost use Rattle.std.specs.Prelude.{IfOk, IfErr, Option, List, ℕ};
 ghost use Rattle.auth_store_client.specs.ClaimsCode.{claim_of};
 ghost use Rattle.auth_store_ledger.specs.ProvingCode.{key_answer_of};

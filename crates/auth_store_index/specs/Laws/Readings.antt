@@ -1,15 +1,21 @@
 -- The state of a log is read at its places.
-use Rattle.std.proofs.Common.{◌≡◌, ℕ, ◌+◌, true, false, cond, List, [], ◌∷◌, ◌++◌, length, Some, option_map, slice_get}
-use Rattle.std.proofs.Common.{refl, ap, sym, ◌∙◌, append_assoc, length-append}
+use Rattle.std.proofs.Common.{◌≡◌, ℕ, suc, ◌+◌, Bool, true, false, cond, ◌&&◌, List, [], ◌∷◌, ◌++◌, length, Option}
+use Rattle.std.proofs.Common.{None, Some, option_map, slice_get, refl, ap, sym, subst, ◌∙◌, arith, append_assoc}
+use Rattle.std.proofs.Common.{length-append, ⊎_elim}
+use Rattle.std.proofs.lemmas.Bool.{cases_Bool}
+use Rattle.std.specs.Prelude.{is_some}
 use Rattle.std.specs.declared.cmp.Ordering.TheVariants.{Less, Equal, Greater}
 use Rattle.std.specs.Ordering.{match_ordering, is_lt}
 use Rattle.state_ops.specs.Operation.{Operation, delete, update, ordered, commit_floor}
 use Rattle.auth_store_parts.specs.Map.{Map, key_order, with_entry, without_key, value_at, next_key, above, first_key}
 use Rattle.auth_store_parts.specs.Places.{places_of, placed}
-use Rattle.auth_store_parts.specs.History.{History, AreStates, latest_map, log_of, replayed}
-use Rattle.auth_store_parts.specs.Laws.Lookups.{same}
+use Rattle.auth_store_parts.specs.History.{History, AreStates, latest_map, log_of, replayed, is_active, is_active_on}
+use Rattle.auth_store_parts.specs.History.{active_location}
+use Rattle.auth_store_parts.specs.Laws.Lookups.{same, exact}
 use Rattle.auth_store_parts.specs.Laws.Logs.{replayed-log_of}
+use Rattle.auth_store_parts.specs.Laws.Places.{value_at-places_of, place_found}
 use Rattle.auth_store_index.specs.Readings.{value_of, value_read, state_read}
+use Rattle.auth_store_index.specs.Sources.{HasUpdate}
 
 read-with_entry : (log : List Operation) (places : Map) (k p : List ℕ)
     → state_read log (with_entry places k p) ≡ with_entry (state_read log places) k (value_read log p)
@@ -110,3 +116,59 @@ value_at-replayed log k = ap (λ s. value_at s k) (sym (read-places_of log)) ∙
 
 pub next_key-replayed : (log : List Operation) (k : List ℕ) → next_key (replayed [] log) k ≡ next_key (places_of log) k
 next_key-replayed log k = ap (λ s. next_key s k) (sym (read-places_of log)) ∙ next_key-read log (places_of log) k
+
+-- an update of the key stands at this location
+abbrev IsUpdated : List ℕ → List Operation → ℕ → Type 0
+IsUpdated q log at = (v : List ℕ) × (n : List ℕ) × (slice_get log at ≡ Some (update (ordered q v n)))
+
+-- what stands at a key's location is an update of it
+updated_where_located : (q : List ℕ) (log : List Operation) → is_some (slice_get log (active_location q log)) ≡ true
+    → IsUpdated q log (active_location q log)
+updated_where_located q [] is = absurd (cc)
+updated_where_located q (op ∷ later) is =
+    ⊎_elim
+    (λ (on : is_active_on q op later ≡ true). here op refl on)
+    (λ (off : is_active_on q op later ≡ false). behind off (updated_where_located q later
+    (sym (ap is_some (passed off)) ∙ is)))
+    (cases_Bool (is_active_on q op later))
+  where
+    passed : is_active_on q op later ≡ false
+        → slice_get (op ∷ later) (active_location q (op ∷ later)) ≡ slice_get later (active_location q later)
+    passed off =
+        let there : active_location q (op ∷ later) ≡ suc (active_location q later) =
+        ap (λ b. cond b 0 (active_location q later + 1)) off ∙ omega arith in
+        ap (slice_get (op ∷ later)) there
+
+    behind : is_active_on q op later ≡ false → IsUpdated q later (active_location q later)
+        → IsUpdated q (op ∷ later) (active_location q (op ∷ later))
+    behind off found = (found.0, found.1, passed off ∙ found.2)
+
+    both : (a b : Bool) → (a && b) ≡ true → (a ≡ true) × (b ≡ true)
+    both true b h = (refl, h)
+    both false b h = absurd (cc)
+
+    here : (o : Operation) → o ≡ op → is_active_on q o later ≡ true
+        → IsUpdated q (op ∷ later) (active_location q (op ∷ later))
+    here (delete k) is on = absurd (let none : false ≡ true = (both (same q k) false on).1 in cc)
+    here (commit_floor m f) is on = absurd (let none : false ≡ true = on in cc)
+    here (update (ordered k v n)) is on =
+        let own : is_active_on q op later ≡ true = subst (λ o. is_active_on q o later ≡ true) is on in
+        let first : active_location q (op ∷ later) ≡ 0 = ap (λ b. cond b 0 (active_location q later + 1)) own in
+        let key : k ≡ q = sym (exact q k (both (same q k) (is_active (update (ordered k v n)) later) on).0) in (
+          v,
+          n,
+          ap (slice_get (op ∷ later)) first ∙ (ap Some (sym is) ∙ ap (λ x. Some (update (ordered x v n))) key),
+        )
+
+-- an update stands at a key's place
+pub has_update : (q : List ℕ) (log : List Operation) (place : ℕ) → value_at (places_of log) q ≡ Some (place ∷ [])
+    → HasUpdate log place
+has_update q log place found =
+    let at : active_location q log ≡ place = place_found q log place found in
+    let there : IsUpdated q log (active_location q log) = updated_where_located q log
+    (one (slice_get log (active_location q log)) (sym (value_at-places_of q log) ∙ found)) in
+    (q, there.0, there.1, ap (slice_get log) (sym at) ∙ there.2)
+  where
+    one : (o : Option Operation) → option_map (λ _. active_location q log ∷ []) o ≡ Some (place ∷ []) → is_some o ≡ true
+    one None is = absurd (cc)
+    one (Some op) is = refl

@@ -1,7 +1,6 @@
 -- Maps of the code that are seen as states, whatever their values.
-use Rattle.std.proofs.Common.{◌≡◌, ℕ, arith, cond, subst, Bor, Bool, true, false, List, [], ◌∷◌, ◌++◌, ◌&&◌, Option}
-use Rattle.std.proofs.Common.{None, Some, option_map, refl, ap, sym, ◌∙◌, append_assoc}
-use Rattle.std.proofs.lemmas.List.{map-append}
+use Rattle.std.proofs.Common.{◌≡◌, ℕ, arith, cond, subst, Bor, Bool, true, false, List, [], ◌∷◌, ◌&&◌, Option}
+use Rattle.std.proofs.Common.{None, Some, option_map, refl, ap, sym, ◌∙◌}
 use Rattle.auth_store_index.specs.declared.values.Source as code
 use Rattle.auth_store_index.specs.declared.values.Source.TheVariants.{Logged, Given}
 use Rattle.std.specs.Prelude.{is_some, option_copied, map, Result, Ok, Err, IfOk, get_or, unwrap_or, drop, length, ◌+◌}
@@ -18,9 +17,11 @@ use Rattle.std.specs.BTreeMap.{insert_entry}
 use Rattle.std.specs.Map.{remove_entry}
 use Rattle.auth_store_parts.specs.Laws.Lookups.{exact}
 use Rattle.auth_store_parts.specs.Map.{Map, key_order, state_of, value_at, next_key}
-use Rattle.auth_store_parts.specs.History.{is_value, has_fields, delete_of, deletes, updates, batch_operations}
+use Rattle.auth_store_parts.specs.Places.{places_of}
+use Rattle.auth_store_parts.specs.History.{is_value, has_fields}
 use Rattle.auth_store_index.specs.Readings.{state_read}
-use Rattle.auth_store_index.specs.Sources.{source_value, value_there, reads_for, is_at, IsOwn, AreOwn}
+use Rattle.auth_store_index.specs.Sources.{value_there, reads_for, is_at, IsOwn, AreOwn, IsReadable}
+use Rattle.auth_store_index.specs.Laws.Readings.{has_update}
 
 pub there : {X : Type 0} (value : X → List ℕ) (found : Option (Bor X)) (entry : Option X) (at : Option (List ℕ))
     → option_copied found ≡ entry → option_map value entry ≡ at → is_some found ≡ is_some at
@@ -37,21 +38,6 @@ state_of-read key log (e ∷ entries) = ap (λ s. (key e.0, value_there log e.1)
 pub none_there : {X : Type 0} (value : X → List ℕ) (entry : Option X) (at : Option (List ℕ))
     → None ≡ entry → option_map value entry ≡ at → None ≡ at
 none_there value entry at none is = ap (option_map value) none ∙ is
-
--- one entry more of a map of places is passed
-pub logged_more : {K V : Type 0} (key : K → List ℕ) (value : V → List ℕ) (log : List Operation)
-    (passed more : List (K × code.Source V)) (k l : K) (place : ℕ) (left rest : List (K × ℕ)) (all : Map)
-    → more ≡ passed ++ (l, Logged place) ∷ [] → key l ≡ key k → left ≡ (k, place) ∷ rest
-    → state_of key (source_value value log) passed ++ state_of key (value_there log) left ≡ all
-    → state_of key (source_value value log) more ++ state_of key (value_there log) rest ≡ all
-logged_more key value log passed more k l place left rest all pushed copied steps whole =
-    let source = source_value value log in
-    let behind : Map = state_of key (value_there log) rest in
-    ap (λ es. state_of key source es ++ behind) pushed
-    ∙ (ap (λ s. s ++ behind) (map-append (λ e. (key e.0, source e.1)) passed ((l, Logged place) ∷ []))
-    ∙ (append_assoc (state_of key source passed) ((key l, value_there log place) ∷ []) behind
-    ∙ (ap (λ x. state_of key source passed ++ (x, value_there log place) ∷ behind) copied
-    ∙ (ap (λ es. state_of key source passed ++ state_of key (value_there log) es) (sym steps) ∙ whole))))
 
 -- where one is found, its value is there
 pub some_there : {X : Type 0} (value : X → List ℕ) (x : X) (entry : Option X) (at : Option (List ℕ))
@@ -90,29 +76,13 @@ pub words_passed : {W : Type 0} (says : W → Word) (items : List W) (at : ℕ) 
 words_passed says items at after whole past here =
     sym (at_drop_all (λ ws. map_after (map says ws) after) items at past) ∙ here
 
--- a delete for each entry
-pub delete_passed : {K : Type 0}
-    (key : K → List ℕ) (log : List Operation) (new : Map) (before after all : List Operation)
-    (k : K) (place : ℕ) (left rest : List (K × ℕ))
-    → after ≡ before ++ delete_of new (key k) → left ≡ (k, place) ∷ rest
-    → before ++ deletes (state_of key (value_there log) left) new ≡ all
-    → after ++ deletes (state_of key (value_there log) rest) new ≡ all
-delete_passed key log new before after all k place left rest does steps here =
-    let behind : List Operation = deletes (state_of key (value_there log) rest) new in
-    ap (λ l. l ++ behind) does
-    ∙ (append_assoc before (delete_of new (key k)) behind
-    ∙ (ap (λ es. before ++ deletes (state_of key (value_there log) es) new) (sym steps) ∙ here))
+-- ---- what is read, and how often
+-- where the source of a key names its place in a log, an update stands there
+pub own_readable : {V : Type 0} (log : List Operation) (key : List ℕ) (source : code.Source V)
+    → IsOwn (places_of log) key source → IsReadable log source
+own_readable log key (Logged place) own = has_update key log place own
+own_readable log key (Given v) own = tt
 
--- both parts of a batch
-pub joined : (first second third : List Operation) (old new state : Map) (words : List Word) → first ≡ []
-    → second ≡ first ++ deletes old new → third ≡ second ++ updates new old new → old ≡ state
-    → new ≡ map_after words old → third ≡ batch_operations state (map_after words state)
-joined first second third old new state words none one other is leads =
-    other ∙ (ap (λ l. l ++ updates new old new) (one ∙ ap (λ l. l ++ deletes old new) none)
-    ∙ (ap (batch_operations old) (leads ∙ ap (map_after words) is)
-    ∙ ap (λ s. batch_operations s (map_after words state)) is))
-
--- ---- how many values are read
 -- a key whose place is known is compared with no read, or given its value with none
 pub own_reads : {V : Type 0} (places : Map) (key : List ℕ) (source : code.Source V) (place : ℕ)
     → IsOwn places key source

@@ -1,15 +1,15 @@
-//! The parts of what is proved of a range of operations: copies of them, their activity bits, and the bytes of their
-//! proofs.
+//! The parts of what is proved of a range of operations that are made of what is kept: their activity bits, and the
+//! bytes of their proofs.
 
-ghost use Rattle.std.specs.Prelude.{◌≡◌, ◌<◌, ◌≤◌, ◌*◌, ◌++◌, Some, slice_get, length, map, option_map, IfOk};
-ghost use Rattle.std.specs.Prelude.{OnOk};
+ghost use Rattle.std.specs.Prelude.{◌≡◌, ◌<◌, ◌≤◌, ◌*◌, ◌++◌, List, Some, slice_get, length, map, IfOk, OnOk};
 ghost use Rattle.std.specs.List.{flat_map};
-ghost use Rattle.state_ops.specs.Operation.{meaning_of};
+ghost use Rattle.state_ops.specs.Operation as meaning;
 ghost use Rattle.auth_store_client.specs.Proving.{chunks_over, honest_operation, honest_range_bytes};
 ghost use Rattle.auth_store_client.specs.Proving.{honest_slice_bytes, log_digests, log_inactive};
-ghost use Rattle.auth_store_ledger.specs.History.{activity_bits, log_of, meanings};
+ghost use Rattle.auth_store_ledger.specs.History.{activity_bits, history_of};
 ghost use Rattle.auth_store_ledger.specs.Proving.{between};
-ghost use Rattle.auth_store_ledger.specs.Store.{setting_of_width, state_of_history};
+ghost use Rattle.auth_store_ledger.specs.Store.{IsLedgerOf, setting_of_width, state_of_history};
+ghost use Rattle.auth_store_log.specs.Records.{format_of};
 ghost use Rattle.state_proofs.specs.Honest.{honest_range};
 ghost use Rattle.state_proofs.specs.ProofsCode.{range_parts_of};
 
@@ -18,70 +18,10 @@ use super::kept::{self, chunk_size};
 use super::prove::{self, operation_proof};
 use merkle_core::proof::Proof as LogProof;
 use merkle_forest::codec::Write;
-use merkle_forest::{Family, Graftable, HashFunction, Location, PendingOf};
-use state_ops::update::Ordered;
-use state_ops::{FixedKey, FixedValue, Operation, OrderedOperation, OrderedUpdate};
+use merkle_forest::{Graftable, HashFunction, Location, PendingOf};
+use state_ops::{FixedKey, FixedValue};
 use state_proofs::RangeProof;
-use std::alloc::{AllocError, Global};
-
-// A copy of an update. It fails only when out of memory.
-fn copy_of_update<K: FixedKey, V: FixedValue>(
-    update: &OrderedUpdate<K, V>,
-) -> Result<OrderedUpdate<K, V>, AllocError>
-    ensures key { IfOk result (λ copy. K.encoding copy.key ≡ K.encoding update.now.key) }
-    ensures value { IfOk result (λ copy. V.encoding copy.value ≡ V.encoding update.now.value) }
-    ensures next { IfOk result (λ copy. K.encoding copy.next_key ≡ K.encoding update.now.next_key) }
-{
-    let key = update.key.clone()?;
-    let value = update.value.clone()?;
-    let next_key = update.next_key.clone()?;
-    Ok(Ordered {
-        key,
-        value,
-        next_key,
-    })
-}
-
-// A copy of metadata. It fails only when out of memory.
-fn copy_of_metadata<V: FixedValue>(metadata: &Option<V>) -> Result<Option<V>, AllocError>
-    ensures { IfOk result (λ copy. option_map V.encoding copy ≡ option_map V.encoding metadata.now) }
-{
-    match metadata {
-        Some(metadata) => Ok(Some(metadata.clone()?)),
-        None => Ok(None),
-    }
-}
-
-// A copy of an operation. It fails only when out of memory.
-pub(super) fn copy_of<F: Family, K: FixedKey, V: FixedValue>(
-    operation: &OrderedOperation<F, K, V>,
-) -> Result<OrderedOperation<F, K, V>, AllocError>
-    ensures { IfOk result (λ copy. meaning_of K.encoding V.encoding copy
-        ≡ meaning_of K.encoding V.encoding operation.now) }
-{
-    match operation {
-        Operation::Delete(key) => Ok(Operation::Delete(key.clone()?)),
-        Operation::Update(update) => Ok(Operation::Update(copy_of_update(update)?)),
-        Operation::CommitFloor(metadata, floor) => {
-            Ok(Operation::CommitFloor(copy_of_metadata(metadata)?, *floor))
-        }
-    }
-}
-
-// Copies of operations. It fails only when out of memory.
-fn copies_of<F: Family, K: FixedKey, V: FixedValue>(
-    alloc: Global,
-    operations: &[OrderedOperation<F, K, V>],
-) -> Result<Vec<OrderedOperation<F, K, V>>, AllocError>
-    ensures { IfOk result (λ copies. meanings K.encoding V.encoding copies.items
-        ≡ meanings K.encoding V.encoding operations.now) }
-{
-    let mut copies = Vec::new(alloc);
-    for operation in operations {
-        copies.push(copy_of(operation)?)?;
-    }
-    Ok(copies)
-}
+use std::alloc::AllocError;
 
 impl<F: Graftable, H: HashFunction, K: FixedKey, V: FixedValue, const N: usize> Ledger<
     F,
@@ -90,45 +30,32 @@ impl<F: Graftable, H: HashFunction, K: FixedKey, V: FixedValue, const N: usize> 
     V,
     N,
 > {
-    // Copies of the operations from `start` up to `stop`. It fails only when out of memory.
-    pub(super) fn copies_between(
-        &self,
-        start: u64,
-        stop: u64,
-    ) -> Result<Vec<OrderedOperation<F, K, V>>, AllocError>
-        requires ordered { start ≤ stop }
-        requires within { stop ≤ length (log_of self.now.history) }
-        ensures { IfOk result (λ copies. meanings K.encoding V.encoding copies.items
-            ≡ between start stop (log_of self.now.history)) }
-    {
-        copies_of(
-            self.alloc,
-            &self.operations()[start as usize..stop as usize],
-        )
-    }
-
     // The location of the first operation whose chunk is not pruned, or that of the next one.
     pub(super) fn kept_from(&self) -> u64
-        ensures { result ≡ 8 * N * self.now.pruned }
+        ensures { result ≡ 8 * N * self.now.kept.bits.pruned }
     {
         self.current.kept_from().as_u64()
     }
 
     // Whether the operation at a location, whose chunk is not pruned, is active.
     pub(super) fn is_active(&self, location: u64) -> bool
-        requires kept { 8 * N * self.now.pruned ≤ location }
-        requires within { location < length (log_of self.now.history) }
-        ensures { slice_get (activity_bits (log_of self.now.history)) location ≡ Some result }
+        requires kept { 8 * N * self.now.kept.bits.pruned ≤ location }
+        requires within { location < self.now.kept.operations.leaves }
+        ensures { (log : List meaning.Operation) → IsLedgerOf (setting_of_width F.merge_rule H.hash_of N)
+            (format_of (K.after tt) (V.after tt) K.SIZE V.SIZE) log self.now
+            → slice_get (activity_bits log) location ≡ Some result }
     {
         self.current.bit(location)
     }
 
     // Whether each of the operations from `start` up to `stop` is active. It fails only when out of memory.
     pub(super) fn bits_between(&self, start: u64, stop: u64) -> Result<Vec<bool>, AllocError>
-        requires kept { 8 * N * self.now.pruned ≤ start }
+        requires kept { 8 * N * self.now.kept.bits.pruned ≤ start }
         requires ordered { start ≤ stop }
-        requires within { stop ≤ length (log_of self.now.history) }
-        ensures { IfOk result (λ bits. bits.items ≡ between start stop (activity_bits (log_of self.now.history))) }
+        requires within { stop ≤ self.now.kept.operations.leaves }
+        ensures { (log : List meaning.Operation) → IsLedgerOf (setting_of_width F.merge_rule H.hash_of N)
+            (format_of (K.after tt) (V.after tt) K.SIZE V.SIZE) log self.now
+            → IfOk result (λ bits. bits.items ≡ between start stop (activity_bits log)) }
     {
         let mut bits = Vec::new(self.alloc);
         for location in start..stop {
@@ -140,12 +67,13 @@ impl<F: Graftable, H: HashFunction, K: FixedKey, V: FixedValue, const N: usize> 
     // Appends the chunks over the operations from `start` up to `stop`, of which there is one. It fails only when out
     // of memory.
     fn write_chunks(&self, start: u64, stop: u64, out: &mut Vec<u8>) -> Result<(), AllocError>
-        requires kept { 8 * N * self.now.pruned ≤ start }
+        requires kept { 8 * N * self.now.kept.bits.pruned ≤ start }
         requires some { start < stop }
-        requires within { stop ≤ length (log_of self.now.history) }
-        ensures { let setting = setting_of_width F.merge_rule H.hash_of N in OnOk result (out.new.items ≡ out.old.items
-            ++ flat_map (λ chunk. chunk)
-            (chunks_over setting (state_of_history K.SIZE V.SIZE self.now.history) start stop)) }
+        requires within { stop ≤ self.now.kept.operations.leaves }
+        ensures { (log : List meaning.Operation) → let setting = setting_of_width F.merge_rule H.hash_of N in
+            IsLedgerOf setting (format_of (K.after tt) (V.after tt) K.SIZE V.SIZE) log self.now
+            → OnOk result (out.new.items ≡ out.old.items ++ flat_map (λ chunk. chunk)
+            (chunks_over setting (state_of_history K.SIZE V.SIZE (history_of log)) start stop)) }
     {
         self.holds_a_history();
         let size = chunk_size::<N>();
@@ -167,11 +95,12 @@ impl<
 > Ledger<F, H, K, V, N> {
     // The honest bytes that prove the operation at a location active. It fails only when out of memory.
     pub(super) fn operation_bytes(&self, location: u64) -> Result<Vec<u8>, AllocError>
-        requires kept { 8 * N * self.now.pruned ≤ location }
-        requires within { location < length (log_of self.now.history) }
-        ensures { let setting = setting_of_width F.merge_rule H.hash_of N in
-            IfOk result (λ bytes. bytes.items
-            ≡ honest_operation F.pending_encoding setting K.SIZE V.SIZE self.now.history location) }
+        requires kept { 8 * N * self.now.kept.bits.pruned ≤ location }
+        requires within { location < self.now.kept.operations.leaves }
+        ensures { (log : List meaning.Operation) → let setting = setting_of_width F.merge_rule H.hash_of N in
+            IsLedgerOf setting (format_of (K.after tt) (V.after tt) K.SIZE V.SIZE) log self.now
+            → IfOk result (λ bytes. bytes.items
+            ≡ honest_operation F.pending_encoding setting K.SIZE V.SIZE (history_of log) location) }
     {
         let proof = operation_proof(self.alloc, &self.current, location as usize)?;
         let mut bytes = Vec::new(self.alloc);
@@ -181,12 +110,13 @@ impl<
 
     // The honest proof over the operations from `start` up to `stop`. It fails only when out of memory.
     fn proof_between(&self, start: u64, stop: u64) -> Result<RangeProof<F, H::Digest>, AllocError>
-        requires kept { 8 * N * self.now.pruned ≤ start }
+        requires kept { 8 * N * self.now.kept.bits.pruned ≤ start }
         requires some { start < stop }
-        requires within { stop ≤ length (log_of self.now.history) }
-        ensures { let setting = setting_of_width F.merge_rule H.hash_of N in
-            IfOk result (λ proof. range_parts_of H.Digest.encoding F.held proof
-            ≡ honest_range setting (state_of_history K.SIZE V.SIZE self.now.history) start stop) }
+        requires within { stop ≤ self.now.kept.operations.leaves }
+        ensures { (log : List meaning.Operation) → let setting = setting_of_width F.merge_rule H.hash_of N in
+            IsLedgerOf setting (format_of (K.after tt) (V.after tt) K.SIZE V.SIZE) log self.now
+            → IfOk result (λ proof. range_parts_of H.Digest.encoding F.held proof
+            ≡ honest_range setting (state_of_history K.SIZE V.SIZE (history_of log)) start stop) }
     {
         match self
             .current
@@ -200,12 +130,13 @@ impl<
     // The honest bytes that prove the operations from `start` up to `stop` and their activity bits. It fails only when
     // out of memory.
     pub(super) fn range_bytes(&self, start: u64, stop: u64) -> Result<Vec<u8>, AllocError>
-        requires kept { 8 * N * self.now.pruned ≤ start }
+        requires kept { 8 * N * self.now.kept.bits.pruned ≤ start }
         requires some { start < stop }
-        requires within { stop ≤ length (log_of self.now.history) }
-        ensures { let setting = setting_of_width F.merge_rule H.hash_of N in
-            IfOk result (λ bytes. bytes.items
-            ≡ honest_range_bytes F.pending_encoding setting K.SIZE V.SIZE self.now.history start stop) }
+        requires within { stop ≤ self.now.kept.operations.leaves }
+        ensures { (log : List meaning.Operation) → let setting = setting_of_width F.merge_rule H.hash_of N in
+            IsLedgerOf setting (format_of (K.after tt) (V.after tt) K.SIZE V.SIZE) log self.now
+            → IfOk result (λ bytes. bytes.items
+            ≡ honest_range_bytes F.pending_encoding setting K.SIZE V.SIZE (history_of log) start stop) }
     {
         let proof = self.proof_between(start, stop)?;
         let mut bytes = Vec::new(self.alloc);
@@ -217,11 +148,12 @@ impl<
     // The proof over the operations from `start` up to `stop` in the tree of the operations. It fails only when out of
     // memory.
     fn log_proof_between(&self, start: u64, stop: u64) -> Result<LogProof<F, H::Digest>, AllocError>
-        requires kept { 8 * N * self.now.pruned ≤ start }
+        requires kept { 8 * N * self.now.kept.bits.pruned ≤ start }
         requires some { start < stop }
-        requires within { stop ≤ length (log_of self.now.history) }
-        ensures { let setting = setting_of_width F.merge_rule H.hash_of N in
-            let state = state_of_history K.SIZE V.SIZE self.now.history in IfOk result (λ proof.
+        requires within { stop ≤ self.now.kept.operations.leaves }
+        ensures { (log : List meaning.Operation) → let setting = setting_of_width F.merge_rule H.hash_of N in
+            IsLedgerOf setting (format_of (K.after tt) (V.after tt) K.SIZE V.SIZE) log self.now
+            → let state = state_of_history K.SIZE V.SIZE (history_of log) in IfOk result (λ proof.
             (proof.leaves ≡ length state.operations) × (proof.inactive_peaks ≡ log_inactive setting state)
             × (map H.Digest.encoding proof.digests.items ≡ log_digests setting state start stop)) }
     {
@@ -237,12 +169,13 @@ impl<
     // The honest bytes that prove that the operations from `start` up to `stop` stand in the log. It fails only when
     // out of memory.
     pub(super) fn slice_bytes(&self, start: u64, stop: u64) -> Result<Vec<u8>, AllocError>
-        requires kept { 8 * N * self.now.pruned ≤ start }
+        requires kept { 8 * N * self.now.kept.bits.pruned ≤ start }
         requires some { start < stop }
-        requires within { stop ≤ length (log_of self.now.history) }
-        ensures { let setting = setting_of_width F.merge_rule H.hash_of N in
-            IfOk result (λ bytes. bytes.items
-            ≡ honest_slice_bytes F.pending_encoding setting K.SIZE V.SIZE self.now.history start stop) }
+        requires within { stop ≤ self.now.kept.operations.leaves }
+        ensures { (log : List meaning.Operation) → let setting = setting_of_width F.merge_rule H.hash_of N in
+            IsLedgerOf setting (format_of (K.after tt) (V.after tt) K.SIZE V.SIZE) log self.now
+            → IfOk result (λ bytes. bytes.items
+            ≡ honest_slice_bytes F.pending_encoding setting K.SIZE V.SIZE (history_of log) start stop) }
     {
         let proof = self.log_proof_between(start, stop)?;
         let mut bytes = Vec::new(self.alloc);

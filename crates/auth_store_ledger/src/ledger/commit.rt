@@ -1,30 +1,27 @@
 //! The one place where a commit is made: what it appends to a log, and what is then kept, before anything is appended.
 
 ghost use Rattle.std.specs.Prelude.{◌≡◌, ◌+◌, ◌-◌, ◌*◌, ◌<◌, ◌≤◌, ◌^◌, ◌++◌, ◌∷◌, [], true, map, drop, length};
-ghost use Rattle.std.specs.Prelude.{option_map, IfOk, OnOk};
+ghost use Rattle.std.specs.Prelude.{option_map, IfOk};
 ghost use Rattle.auth_store_index.specs.Growth.{cleared, first_set, taken};
 ghost use Rattle.auth_store_index.specs.Touched.{is_no_delete};
-ghost use Rattle.auth_store_ledger.specs.Batch as words;
-ghost use Rattle.auth_store_ledger.specs.Batch.{map_after};
 ghost use Rattle.auth_store_ledger.specs.Commits.{AreFound};
-ghost use Rattle.auth_store_ledger.specs.History.{batch_operations, meanings, replayed};
-ghost use Rattle.auth_store_parts.specs.Places.{places_of};
+ghost use Rattle.auth_store_ledger.specs.History.{meanings};
+ghost use Rattle.auth_store_parts.specs.Places.{placed};
 ghost use Rattle.state_proofs_parts.specs.Bits.{all_bits};
 ghost use Rattle.state_ops.specs.Operation.{meaning_of};
 
-use super::log::Log;
-use crate::batch::Batch;
-use auth_store_index::{Listed, ReadableBits, changes_near, first_set_from, taken_places};
+use crate::history::Places;
+use auth_store_index::{ReadableBits, first_set_from, taken_places};
 use merkle_forest::{Family, Graftable, HashFunction, Location};
 use state_current::Current;
 use state_ops::{FixedKey, FixedValue, Operation, OrderedOperation};
 use std::alloc::{AllocError, Global};
 
-/// What a batch with its commit appends to a log, and what follows from it.
+/// What a batch with its commit appends to a log, and what is then kept of the log.
 #[derive(Drop)]
-pub struct Appended<F: Graftable, H: HashFunction, K: FixedKey, V: FixedValue, const N: usize> {
-    /// The operations, the commit behind the others.
-    pub operations: Vec<OrderedOperation<F, K, V>>,
+pub struct Appended<F: Graftable, H: HashFunction, K: FixedKey, const N: usize> {
+    /// The places of the log with the operations.
+    pub places: Places<K>,
     /// What is kept of the log with them.
     pub current: Current<F, H, N>,
     /// Their encodings, one after the other.
@@ -42,27 +39,6 @@ pub(super) struct Found<F: Family, K: FixedKey, V: FixedValue> {
     pub places: Vec<u64>,
     /// The floor that the commit records.
     pub floor: u64,
-}
-
-/// The operations that a batch adds to the log, without the commit. They are told by the keys near those that it names.
-/// It fails only when out of memory.
-pub fn changes_of<F: Family, K: FixedKey, V: FixedValue>(
-    alloc: Global,
-    log: &Log<F, K, V>,
-    batch: &Batch<K, V>,
-) -> Result<Vec<OrderedOperation<F, K, V>>, AllocError>
-    ensures { let state = replayed [] log.now in let said = words.meanings K.encoding V.encoding
-        batch.now.words.items in
-        IfOk result (λ changes. meanings K.encoding V.encoding changes.items
-        ≡ batch_operations state (map_after said state)) }
-{
-    let mut listed = Listed {
-        operations: log.operations(),
-    };
-    match changes_near(alloc, &mut listed, log.places(), batch) {
-        Ok(changes) => Ok(changes),
-        Err(_) => Err(AllocError),
-    }
 }
 
 // Whether the operation counts in its batch: it is no delete.
@@ -92,19 +68,18 @@ fn bits_of<F: Family, K: FixedKey, V: FixedValue>(
     Ok(bits)
 }
 
-// The places of the log whose operations the changes and the commit behind them take out. It fails only when out of
-// memory.
+// The places of a log with these places and its last commit here, whose operations the changes and the commit behind
+// them take out. It fails only when out of memory.
 fn places_taken<F: Family, K: FixedKey, V: FixedValue>(
     alloc: Global,
-    log: &Log<F, K, V>,
+    index: &Places<K>,
+    last: usize,
     changes: &[OrderedOperation<F, K, V>],
 ) -> Result<Vec<usize>, AllocError>
-    requires { 0 < length log.now }
-    ensures { let last = length log.now - 1 in IfOk result (λ places. places.items
-        ≡ taken (places_of log.now) last (meanings K.encoding V.encoding changes.now) ++ last ∷ []) }
+    ensures { IfOk result (λ places. places.items
+        ≡ taken index.now last (meanings K.encoding V.encoding changes.now) ++ last ∷ []) }
 {
-    let last = log.len() - 1;
-    let mut places = taken_places(alloc, log.places(), last, changes)?;
+    let mut places = taken_places(alloc, index, last, changes)?;
     places.push(last)?;
     Ok(places)
 }
@@ -160,11 +135,11 @@ fn as_locations(alloc: Global, places: &[usize]) -> Result<Vec<u64>, AllocError>
     Ok(locations)
 }
 
-/// What the changes of a batch lead to in a log of operations, of which this is kept, with the commit behind them. It
-/// fails only when out of memory.
+/// What the changes of a batch lead to in a log with these places, of which this is kept, with the commit behind them.
+/// It fails only when out of memory.
 pub(super) fn found_of<F, H, K, V, const N: usize>(
     alloc: Global,
-    log: &Log<F, K, V>,
+    index: &Places<K>,
     current: &Current<F, H, N>,
     changes: Vec<OrderedOperation<F, K, V>>,
     metadata: Option<V>,
@@ -174,15 +149,17 @@ where
     H: HashFunction,
     K: FixedKey,
     V: FixedValue,
-    requires some { 0 < length log.now }
+    requires some { 0 < current.now.operations.leaves }
     requires few { current.now.operations.leaves + length changes.items < 2 ^ 62 }
     requires behind { 8 * N * current.now.bits.pruned ≤ current.now.floor }
-    ensures { IfOk result (λ found. AreFound log.now (meanings K.encoding V.encoding changes.items)
-        (option_map V.encoding metadata) (all_bits N current.now.bits) current.now.floor
-        (meanings K.encoding V.encoding found.operations.items) found.bits.items found.places.items found.floor) }
+    ensures { IfOk result (λ found. AreFound index.now (current.now.operations.leaves - 1)
+        (meanings K.encoding V.encoding changes.items) (option_map V.encoding metadata) (all_bits N current.now.bits)
+        current.now.floor (meanings K.encoding V.encoding found.operations.items) found.bits.items
+        found.places.items found.floor) }
 {
     let bits = bits_of(alloc, &changes)?;
-    let taken = places_taken(alloc, log, &changes)?;
+    let last = current.leaves().as_u64() as usize - 1;
+    let taken = places_taken(alloc, index, last, &changes)?;
     let floor = next_floor(alloc, current, &bits, &taken)?;
     let places = as_locations(alloc, &taken)?;
     let mut operations = changes;
@@ -193,4 +170,20 @@ where
         places,
         floor,
     })
+}
+
+/// The places of a log with these places and so many operations, after further operations. It fails only when out of
+/// memory.
+pub(super) fn places_after<F: Family, K: FixedKey, V: FixedValue>(
+    index: &Places<K>,
+    count: usize,
+    operations: &[OrderedOperation<F, K, V>],
+) -> Result<Places<K>, AllocError>
+    requires { count + length operations.now < 2 ^ 64 }
+    ensures { IfOk result (λ after. after
+        ≡ placed count index.now (meanings K.encoding V.encoding operations.now)) }
+{
+    let mut after = index.try_copy()?;
+    after.follow_all(count, operations)?;
+    Ok(after)
 }

@@ -3,19 +3,21 @@
 
 ghost use Rattle.std.specs.Prelude.{◌≡◌, ◌<◌, ◌≤◌, ◌+◌, ◌*◌, ◌^◌, map, length, IfOk, OnOk};
 ghost use Rattle.std.specs.List.{AllByRecursion, flat_map};
-ghost use Rattle.auth_store_ledger.specs.History.{last_floor};
+ghost use Rattle.auth_store_ledger.specs.History.{last_floor, meanings};
 ghost use Rattle.auth_store_ledger.specs.Store.{IsChunkWidth, IsKept, AreWritten};
-ghost use Rattle.auth_store_ledger.specs.Store.{grafting_height, setting_of_width};
+ghost use Rattle.auth_store_ledger.specs.Store.{encodings, grafting_height, setting_of_width};
+ghost use Rattle.auth_store_parts.specs.Places.{places_of};
 ghost use Rattle.auth_store_log.specs.Records.{format_of};
 ghost use Rattle.state_current.specs.Growth.{grown};
 ghost use Rattle.state_current.specs.Kept.{StandsFor};
 ghost use Rattle.state_proofs_parts.specs.Canonical.{State};
 
-use super::log::Log;
+use crate::history::{Places, activity_bits};
+use auth_store_log::encoding::record_bytes;
 use merkle_core::error::Error;
 use merkle_forest::{Family, Graftable, HashFunction};
 use state_current::Current;
-use state_ops::{FixedKey, FixedValue};
+use state_ops::{FixedKey, FixedValue, OrderedOperation};
 use state_proofs::chunk_size::ChunkSize;
 use std::alloc::{AllocError, Global};
 
@@ -68,22 +70,44 @@ pub fn grown_by<F: Graftable, H: HashFunction, const N: usize>(
     }
 }
 
-/// What is kept of a log, whose last floor this is, in chunks of `N` bytes: nothing of it is pruned. It fails only when
-/// out of memory.
+/// The fixed encodings of the operations. It fails only when out of memory.
+pub fn encodings_of<F: Family, K: FixedKey, V: FixedValue>(
+    alloc: Global,
+    operations: &[OrderedOperation<F, K, V>],
+) -> Result<Vec<Vec<u8>>, AllocError>
+    ensures encoded { IfOk result (λ encoded. map (λ e. e.items) encoded.items
+        ≡ encodings K.SIZE V.SIZE (meanings K.encoding V.encoding operations.now)) }
+    ensures written { OnOk result (AreWritten (format_of (K.after tt) (V.after tt) K.SIZE V.SIZE)
+        (meanings K.encoding V.encoding operations.now)) }
+{
+    let mut encoded = Vec::new(alloc);
+    for operation in operations {
+        let record = record_bytes(alloc, operation)?;
+        encoded.push(record)?;
+    }
+    Ok(encoded)
+}
+
+/// What is kept of a log of these operations, whose places and whose last floor these are, in chunks of `N` bytes:
+/// nothing of it is pruned. It fails only when out of memory.
 pub fn kept_of_log<F: Graftable, H: HashFunction, K: FixedKey, V: FixedValue, const N: usize>(
     alloc: Global,
-    log: &Log<F, K, V>,
+    operations: &[OrderedOperation<F, K, V>],
+    places: &Places<K>,
     floor: u64,
 ) -> Result<Current<F, H, N>, AllocError>
     requires width { IsChunkWidth N }
-    requires few { length log.now ≤ 2 ^ 62 }
-    requires last { floor ≡ last_floor log.now }
+    requires few { length operations.now ≤ 2 ^ 62 }
+    requires places { places.now ≡ places_of (meanings K.encoding V.encoding operations.now) }
+    requires last { floor ≡ last_floor (meanings K.encoding V.encoding operations.now) }
     ensures whole { IfOk result (λ kept. kept.bits.pruned ≡ 0) }
-    ensures kept { IfOk result (IsKept (setting_of_width F.merge_rule H.hash_of N) K.SIZE V.SIZE log.now) }
-    ensures written { OnOk result (AreWritten (format_of (K.after tt) (V.after tt) K.SIZE V.SIZE) log.now) }
+    ensures kept { IfOk result (IsKept (setting_of_width F.merge_rule H.hash_of N) K.SIZE V.SIZE
+        (meanings K.encoding V.encoding operations.now)) }
+    ensures written { OnOk result (AreWritten (format_of (K.after tt) (V.after tt) K.SIZE V.SIZE)
+        (meanings K.encoding V.encoding operations.now)) }
 {
-    let bits = log.activity_bits()?;
-    let encodings = log.encodings()?;
+    let bits = activity_bits(alloc, operations, places)?;
+    let encodings = encodings_of(alloc, operations)?;
     let empty: Current<F, H, N> = Current::new(alloc);
     grown_by(&empty, &encodings, &bits, &[], floor)
 }

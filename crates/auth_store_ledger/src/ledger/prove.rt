@@ -1,14 +1,14 @@
 //! Proofs that a store answers.
 
-ghost use Rattle.std.specs.Prelude.{◌≡◌, ◌<◌, ◌≤◌, ◌*◌, ℕ, List, IfOk, IfErr, IfSome};
-ghost use Rattle.std.specs.Prelude.{length, option_map, slice_get};
-ghost use Rattle.auth_store_ledger.specs.History as spec;
-ghost use Rattle.auth_store_ledger.specs.History.{AreStates, active_location, active_update, history_of, log_of};
-ghost use Rattle.auth_store_ledger.specs.History.{update_fields};
+ghost use Rattle.std.specs.Prelude.{◌≡◌, ◌<◌, ◌≤◌, ◌*◌, ℕ, List, IfOk, IfErr, OnOk};
+ghost use Rattle.auth_store_index.specs.Refusals.{IfLog};
+ghost use Rattle.auth_store_ledger.specs.History.{history_of};
 ghost use Rattle.auth_store_client.specs.Claims.{terms};
-ghost use Rattle.auth_store_ledger.specs.Proving.{IsAccepted, honest_answer};
-ghost use Rattle.auth_store_ledger.specs.ProvingCode.{key_answer_of};
-ghost use Rattle.auth_store_ledger.specs.Store.{IsKept, setting_of_width, state_of_log, root_of_history};
+ghost use Rattle.auth_store_ledger.specs.Proving.{IsAccepted, IsHonestAnswer, IsHonestUpdate, honest_answer};
+ghost use Rattle.auth_store_ledger.specs.ProvingCode.{found_of, key_answer_of};
+ghost use Rattle.auth_store_ledger.specs.Store.{IsKept, IsLedgerOf, IsPlaced, setting_of_width, state_of_log};
+ghost use Rattle.auth_store_ledger.specs.Store.{root_of_history};
+ghost use Rattle.auth_store_log.specs.Records.{format_of};
 ghost use Rattle.state_ops.specs.Operation as meaning;
 ghost use Rattle.state_ops.specs.Reading.{IsField};
 ghost use Rattle.state_proofs.specs.Honest.{honest_parts, key_value_proof};
@@ -16,13 +16,15 @@ ghost use Rattle.state_proofs.specs.ProofsCode.{parts_of};
 
 use super::Ledger;
 use super::absence::prove_absence;
-use super::log::Log;
-use crate::error::LedgerError;
+use crate::history::Places;
+use crate::logged::{LoggedOperations, update_at};
 use auth_store_client::laws::{honest_proofs_show_absence, honest_proofs_show_true_values};
+use auth_store_index::ReadError;
 use merkle_forest::codec::Write;
-use merkle_forest::{Family, Graftable, HashFunction, Location, PendingOf};
+use merkle_forest::{Graftable, HashFunction, Location, PendingOf};
 use state_current::Current;
-use state_ops::{FixedKey, FixedValue, Operation, OrderedOperation, OrderedUpdate};
+use state_ops::update::Ordered;
+use state_ops::{FixedKey, FixedValue};
 use state_proofs::Error;
 use state_proofs::operation::Proof;
 use state_proofs::ordered::KeyValueProof;
@@ -35,23 +37,6 @@ pub enum KeyProof<V> {
     Value(V, Vec<u8>),
     /// The key isn't there: the honest bytes of the proof that it is absent.
     Absent(Vec<u8>),
-}
-
-// The update at a location of the log, or None where another operation stands there or none.
-pub(super) fn update_at<F: Family, K: FixedKey, V: FixedValue>(
-    log: &[OrderedOperation<F, K, V>],
-    location: usize,
-) -> Option<&OrderedUpdate<K, V>>
-    ensures update { option_map (λ update. (V.encoding update.now.value, K.encoding update.now.next_key)) result
-        ≡ update_fields (slice_get (spec.meanings K.encoding V.encoding log.now) location) }
-    ensures within { IfSome result (λ _. location < length log.now) }
-{
-    match log.get(location) {
-        Some(Operation::Update(update)) => Some(update),
-        Some(Operation::Delete(_)) => None,
-        Some(Operation::CommitFloor(_, _)) => None,
-        None => None,
-    }
 }
 
 // Want of memory for a proof.
@@ -87,11 +72,10 @@ where
     }
 }
 
-// The honest bytes that prove the update at a location of the log, whose chunk is not pruned and which names this next
-// key.
-fn proof_at<F, H, K: FixedKey, V: FixedValue, const N: usize>(
+// The honest bytes that prove the update at a location of a log of which this is kept, whose chunk is not pruned and
+// which names this next key. It fails only when out of memory.
+fn proof_at<F, H, K: FixedKey, const N: usize>(
     alloc: Global,
-    log: &Log<F, K, V>,
     current: &Current<F, H, N>,
     location: usize,
     next_key: &K,
@@ -99,13 +83,13 @@ fn proof_at<F, H, K: FixedKey, V: FixedValue, const N: usize>(
 where
     F: Graftable + PendingOf<H::Digest>,
     H: HashFunction,
-    requires kept { IsKept (setting_of_width F.merge_rule H.hash_of N) K.SIZE V.SIZE log.now current.now }
     requires behind { 8 * N * current.now.bits.pruned ≤ location }
-    requires within { location < length log.now }
+    requires within { location < current.now.operations.leaves }
     ensures next { IfOk result (λ _. IsField (K.after tt) K.SIZE (K.encoding next_key.now)) }
-    ensures bytes { IfOk result (λ bytes. bytes.items
-        ≡ key_value_proof F.pending_encoding (setting_of_width F.merge_rule H.hash_of N)
-        (state_of_log K.SIZE V.SIZE log.now) location (K.encoding next_key.now)) }
+    ensures bytes { (key value : ℕ) (log : List meaning.Operation)
+        → let setting = setting_of_width F.merge_rule H.hash_of N in
+        IsKept setting key value log current.now → IfOk result (λ bytes. bytes.items
+        ≡ key_value_proof F.pending_encoding setting (state_of_log key value log) location (K.encoding next_key.now)) }
 {
     let proof = KeyValueProof::<F, K, H::Digest> {
         proof: operation_proof(alloc, current, location)?,
@@ -116,39 +100,76 @@ where
     Ok(bytes)
 }
 
-// The value of the key and the bytes that prove it, where the log has an active update of it. It fails only when out of
-// memory.
-fn prove_value<F, H, K: FixedKey, V: FixedValue, const N: usize>(
+// The value of the key and the bytes that prove it, where the log has an active update of it, which is read: the log
+// may be read on. It is refused out of memory or as the log is.
+fn prove_value<F, H, K: FixedKey, V: FixedValue, L: LoggedOperations<F, K, V>, const N: usize>(
     alloc: Global,
-    log: &Log<F, K, V>,
+    log: &mut L,
+    places: &Places<K>,
     current: &Current<F, H, N>,
     key: &K,
-) -> Result<Option<(V, Vec<u8>)>, AllocError>
+) -> Result<Option<(V, Vec<u8>)>, ReadError<L::Error>>
 where
     F: Graftable + PendingOf<H::Digest>,
     H: HashFunction,
-    requires kept { IsKept (setting_of_width F.merge_rule H.hash_of N) K.SIZE V.SIZE log.now current.now }
-    requires states { AreStates (history_of log.now) }
-    requires whole { log.now ≡ log_of (history_of log.now) }
-    ensures next { IfOk result (λ found. IfSome found (λ _.
-        IfSome (active_update (K.encoding key.now) log.now) (λ update. IsField (K.after tt) K.SIZE update.1))) }
-    ensures found { IfOk result (λ found.
-        option_map {U = List ℕ × List ℕ} (λ proved. (V.encoding proved.0, proved.1.items)) found
-        ≡ option_map (λ update. (
-          update.0,
-          key_value_proof F.pending_encoding (setting_of_width F.merge_rule H.hash_of N)
-              (state_of_log K.SIZE V.SIZE log.now) (active_location (K.encoding key.now) log.now) update.1,
-        )) (active_update (K.encoding key.now) log.now)) }
+    requires may { L.readable log.old }
+    requires placed { IsPlaced (setting_of_width F.merge_rule H.hash_of N) K.SIZE V.SIZE (L.log log.old) places.now
+        current.now }
+    ensures found { IfOk result (λ found. IsHonestUpdate (IsField (K.after tt) K.SIZE) F.pending_encoding
+        (setting_of_width F.merge_rule H.hash_of N) K.SIZE V.SIZE (L.log log.old) (K.encoding key.now)
+        (found_of V.encoding found)) }
+    ensures readable { OnOk result (L.readable log.new) }
+    ensures placed { OnOk result (IsPlaced (setting_of_width F.merge_rule H.hash_of N) K.SIZE V.SIZE (L.log log.new)
+        places.now current.now) }
+    ensures same { L.log log.new ≡ L.log log.old }
+    ensures leads { OnOk result (L.leads log.old log.new) }
+    ensures refused { IfErr result (IfLog (L.leads log.old log.new) (L.refuses log.old log.new)) }
 {
-    let location = log.active_location(key);
-    let Some(update) = update_at(log.operations(), location) else {
+    let Some(location) = places.get(key) else {
         return Ok(None);
     };
+    let Ordered {
+        value,
+        next_key,
+        ..
+    } = update_at(log, location as u64)?;
     // What is active stands behind the floor, and what is pruned before it.
     let kept_from = current.kept_from().as_u64();
     prove!(kept_from <= location as u64);
-    let bytes = proof_at(alloc, log, current, location, &update.next_key)?;
-    Ok(Some((update.value.clone()?, bytes)))
+    let bytes = proof_at(alloc, current, location, &next_key)?;
+    Ok(Some((value, bytes)))
+}
+
+// The value of the key and the bytes that prove it, or the bytes that prove that it isn't there; what they name are
+// keys and values. It is refused out of memory or as the log is.
+fn key_proof<F, H, K: FixedKey, V: FixedValue, L: LoggedOperations<F, K, V>, const N: usize>(
+    alloc: Global,
+    log: &mut L,
+    places: &Places<K>,
+    current: &Current<F, H, N>,
+    key: &K,
+) -> Result<KeyProof<V>, ReadError<L::Error>>
+where
+    F: Graftable + PendingOf<H::Digest>,
+    H: HashFunction,
+    requires may { L.readable log.old }
+    requires placed { IsPlaced (setting_of_width F.merge_rule H.hash_of N) K.SIZE V.SIZE (L.log log.old) places.now
+        current.now }
+    ensures ok { IfOk result (λ found. IsHonestAnswer (IsField (K.after tt) K.SIZE) (IsField (V.after tt) V.SIZE)
+        F.pending_encoding (setting_of_width F.merge_rule H.hash_of N) K.SIZE V.SIZE (history_of (L.log log.old))
+        (K.encoding key.now) (key_answer_of V.encoding found)) }
+    ensures same { L.log log.new ≡ L.log log.old }
+    ensures leads { OnOk result (L.leads log.old log.new) }
+    ensures refused { IfErr result (IfLog (L.leads log.old log.new) (L.refuses log.old log.new)) }
+{
+    let found = prove_value(alloc, log, places, current, key)?;
+    match found {
+        Some((value, bytes)) => Ok(KeyProof::Value(value, bytes)),
+        None => {
+            let bytes = prove_absence(alloc, log, places, current, key)?;
+            Ok(KeyProof::Absent(bytes))
+        }
+    }
 }
 
 impl<
@@ -158,27 +179,42 @@ impl<
     V: FixedValue,
     const N: usize,
 > Ledger<F, H, K, V, N> {
+    // Where the updates stand that give keys their values, and what is kept of the log.
+    fn parts(&self) -> (&Places<K>, &Current<F, H, N>)
+        ensures { (log : List meaning.Operation) → let setting = setting_of_width F.merge_rule H.hash_of N in
+            IsLedgerOf setting (format_of (K.after tt) (V.after tt) K.SIZE V.SIZE) log self.now
+            → IsPlaced setting K.SIZE V.SIZE log result.0.now result.1.now }
+    {
+        (&self.places, &self.current)
+    }
+
     /// The value of the key, or that it isn't there, with the honest bytes that prove it under the root of this moment.
-    /// It fails only when out of memory.
-    pub fn prove_key(&self, key: &K) -> Result<KeyProof<V>, LedgerError>
+    /// The operation that the proof is of is read of the log. It is refused out of memory or as the log is.
+    pub fn prove_key<L: LoggedOperations<F, K, V>>(
+        &self,
+        log: &mut L,
+        key: &K,
+    ) -> Result<KeyProof<V>, ReadError<L::Error>>
+        requires may { L.readable log.old }
+        requires of { IsLedgerOf (setting_of_width F.merge_rule H.hash_of N)
+            (format_of (K.after tt) (V.after tt) K.SIZE V.SIZE) (L.log log.old) self.now }
         ensures ok { let setting = setting_of_width F.merge_rule H.hash_of N in
             IfOk result (λ found. key_answer_of V.encoding found
-            ≡ honest_answer F.pending_encoding setting K.SIZE V.SIZE self.now.history (K.encoding key.now)) }
+            ≡ honest_answer F.pending_encoding setting K.SIZE V.SIZE (history_of (L.log log.old))
+            (K.encoding key.now)) }
         ensures shown { let terms = terms F.merge_rule H.hash_of N H.Digest.SIZE F.is_pending F.pending_encoding
             (K.after tt) (V.after tt) K.SIZE V.SIZE in
-            let root = root_of_history (setting_of_width F.merge_rule H.hash_of N) K.SIZE V.SIZE self.now.history in
+            let root = root_of_history (setting_of_width F.merge_rule H.hash_of N) K.SIZE V.SIZE
+            (history_of (L.log log.old)) in
             IfOk result (λ found. IsAccepted terms root (K.encoding key.now) (key_answer_of V.encoding found)) }
-        ensures err { IfErr result (λ e. e ≡ LedgerError.Memory) }
+        ensures same { L.log log.new ≡ L.log log.old }
+        ensures leads { OnOk result (L.leads log.old log.new) }
+        ensures refused { IfErr result (IfLog (L.leads log.old log.new) (L.refuses log.old log.new)) }
     {
         honest_proofs_show_true_values::<F, H, K, V, N>();
         honest_proofs_show_absence::<F, H, K, V, N>();
-        let found = prove_value(self.alloc, &self.log, &self.current, key)?;
-        match found {
-            Some((value, bytes)) => Ok(KeyProof::Value(value, bytes)),
-            None => {
-                let bytes = prove_absence(self.alloc, &self.log, &self.current, key)?;
-                Ok(KeyProof::Absent(bytes))
-            }
-        }
+        self.holds_a_history();
+        let (places, current) = self.parts();
+        key_proof(self.alloc, log, places, current, key)
     }
 }

@@ -1,7 +1,10 @@
 //! How far what is kept of a history is pruned.
 
-ghost use Rattle.std.specs.Prelude.{◌≡◌, ◌≤◌, IfOk, IfErr, OnErr};
-ghost use Rattle.auth_store_ledger.specs.Store.{IsPrunedUpTo, floor_of, setting_of_width};
+ghost use Rattle.std.specs.Prelude.{◌≡◌, ◌≤◌, List, IfOk, IfErr, OnErr};
+ghost use Rattle.auth_store_ledger.specs.History.{history_of};
+ghost use Rattle.auth_store_ledger.specs.Store.{IsLedgerOf, IsPrunedUpTo, floor_of, setting_of_width};
+ghost use Rattle.auth_store_log.specs.Records.{format_of};
+ghost use Rattle.state_ops.specs.Operation as meaning;
 
 use super::Ledger;
 use crate::error::LedgerError;
@@ -17,7 +20,7 @@ impl<F: Graftable, H: HashFunction, K: FixedKey, V: FixedValue, const N: usize> 
 > {
     /// How many chunks are pruned.
     pub fn pruned_chunks(&self) -> u64
-        ensures { result ≡ self.now.pruned }
+        ensures { result ≡ self.now.kept.bits.pruned }
     {
         self.current.pruned_chunks()
     }
@@ -26,10 +29,13 @@ impl<F: Graftable, H: HashFunction, K: FixedKey, V: FixedValue, const N: usize> 
     /// number of chunks that end by the location, but no fewer than before. It fails only when out of memory, and all
     /// stays as it was then.
     pub fn prune(&mut self, location: u64) -> Result<u64, LedgerError>
-        requires { location ≤ floor_of self.old.history }
-        ensures ok { IfOk result (λ chunks. self.new ≡ record self.old { pruned = chunks }) }
-        ensures to { let setting = setting_of_width F.merge_rule H.hash_of N in
-            IfOk result (IsPrunedUpTo setting self.old.history self.old.pruned location) }
+        requires { (log : List meaning.Operation) × IsLedgerOf (setting_of_width F.merge_rule H.hash_of N)
+            (format_of (K.after tt) (V.after tt) K.SIZE V.SIZE) log self.old × (location ≤ floor_of (history_of log)) }
+        ensures of { (log : List meaning.Operation) → let setting = setting_of_width F.merge_rule H.hash_of N in
+            let format = format_of (K.after tt) (V.after tt) K.SIZE V.SIZE in
+            IsLedgerOf setting format log self.old → IfOk result (λ chunks. IsLedgerOf setting format log self.new
+            × IsPrunedUpTo setting (history_of log) self.old.kept.bits.pruned location chunks) }
+        ensures pruned { IfOk result (λ chunks. self.new.kept.bits.pruned ≡ chunks) }
         ensures refused { IfErr result (λ e. e ≡ LedgerError.Memory) }
         ensures unchanged { OnErr result (self.new ≡ self.old) }
     {

@@ -1,24 +1,30 @@
 //! Proofs of operations by their locations: of one that is active, of a range with its activity bits, and of a slice of
 //! the log.
 
-ghost use Rattle.std.specs.Prelude.{◌≡◌, ◌<◌, ◌≤◌, ◌*◌, length, None, Ok, IfOk, IfErr};
+ghost use Rattle.std.specs.Prelude.{◌≡◌, ◌<◌, ◌≤◌, ◌*◌, true, List, None, Some, Ok, Err, IfOk, IfErr, IfSome, OnOk};
+ghost use Rattle.std.specs.Prelude.{slice_get};
 ghost use Rattle.auth_store_client.specs.Claims.{terms};
-ghost use Rattle.auth_store_ledger.specs.History.{log_of};
+ghost use Rattle.auth_store_client.specs.Proving.{honest_operation};
+ghost use Rattle.auth_store_index.specs.Refusals.{IfLog};
+ghost use Rattle.auth_store_ledger.specs.History.{activity_bits, history_of};
 ghost use Rattle.auth_store_ledger.specs.Proving.{IsUnproved, answer_of_operation, answer_of_range, answer_of_slice};
 ghost use Rattle.auth_store_ledger.specs.Proving.{range_answer, range_refusal, slice_answer};
 ghost use Rattle.auth_store_ledger.specs.Proving.{IsAcceptedOperation, IsAcceptedRange, IsAcceptedSlice};
 ghost use Rattle.auth_store_ledger.specs.ProvingCode.{operation_answer_of, range_answer_of, slice_answer_of};
-ghost use Rattle.auth_store_ledger.specs.Store.{root_of_history, setting_of_width};
+ghost use Rattle.auth_store_ledger.specs.Store.{IsLedgerOf, root_of_history, setting_of_width};
+ghost use Rattle.auth_store_log.specs.Records.{format_of};
+ghost use Rattle.state_ops.specs.Operation as meaning;
+ghost use Rattle.state_ops.specs.Operation.{meaning_of};
 
 use super::Ledger;
-use super::between::copy_of;
 use crate::error::{ProofError, Unprovable};
+use crate::logged::{LoggedOperations, operations_between, read_operation};
 use auth_store_client::laws::{
     honest_operations_are_shown, honest_ranges_are_shown, honest_slices_are_shown,
 };
+use auth_store_index::ReadError;
 use merkle_forest::{Family, Graftable, HashFunction, PendingOf};
 use state_ops::{FixedKey, FixedValue, OrderedOperation};
-use std::alloc::AllocError;
 
 /// An operation of the log, and the honest bytes of the proof that it is active.
 #[derive(Debug, Drop)]
@@ -57,13 +63,79 @@ impl<
     V: FixedValue,
     const N: usize,
 > Ledger<F, H, K, V, N> {
+    // Why the operation at a location is not looked at, or None where it is: the log has none there, or its chunk is
+    // pruned.
+    fn location_refusal(&self, location: u64) -> Option<Unprovable>
+        ensures refusal { (log : List meaning.Operation) → let setting = setting_of_width F.merge_rule H.hash_of N in
+            IsLedgerOf setting (format_of (K.after tt) (V.after tt) K.SIZE V.SIZE) log self.now
+            → IfSome result (λ why. answer_of_operation F.pending_encoding setting K.SIZE V.SIZE (history_of log)
+            self.now.kept.bits.pruned location ≡ Err why) }
+        ensures kept { result ≡ None → 8 * N * self.now.kept.bits.pruned ≤ location }
+        ensures within { result ≡ None → location < self.now.kept.operations.leaves }
+    {
+        if self.len() <= location {
+            return Some(Unprovable::OutOfRange);
+        }
+        if location < self.kept_from() {
+            return Some(Unprovable::Pruned);
+        }
+        None
+    }
+
+    // Why the operation at a location is not proved active, or None where it is: it is not looked at, or is not active.
+    fn operation_refusal(&self, location: u64) -> Option<Unprovable>
+        ensures refusal { (log : List meaning.Operation) → let setting = setting_of_width F.merge_rule H.hash_of N in
+            IsLedgerOf setting (format_of (K.after tt) (V.after tt) K.SIZE V.SIZE) log self.now
+            → IfSome result (λ why. answer_of_operation F.pending_encoding setting K.SIZE V.SIZE (history_of log)
+            self.now.kept.bits.pruned location ≡ Err why) }
+        ensures kept { result ≡ None → 8 * N * self.now.kept.bits.pruned ≤ location }
+        ensures within { result ≡ None → location < self.now.kept.operations.leaves }
+        ensures active { (log : List meaning.Operation) → IsLedgerOf (setting_of_width F.merge_rule H.hash_of N)
+            (format_of (K.after tt) (V.after tt) K.SIZE V.SIZE) log self.now
+            → result ≡ None → slice_get (activity_bits log) location ≡ Some true }
+    {
+        if let Some(why) = self.location_refusal(location) {
+            return Some(why);
+        }
+        if !self.is_active(location) {
+            return Some(Unprovable::Inactive);
+        }
+        None
+    }
+
+    // The operation at a location with the honest bytes that prove it. It is refused out of memory or as the log is.
+    fn operation_with_proof<L: LoggedOperations<F, K, V>>(
+        &self,
+        log: &mut L,
+        location: u64,
+    ) -> Result<ProvedOperation<F, K, V>, ReadError<L::Error>>
+        requires may { L.readable log.old }
+        requires of { IsLedgerOf (setting_of_width F.merge_rule H.hash_of N)
+            (format_of (K.after tt) (V.after tt) K.SIZE V.SIZE) (L.log log.old) self.now }
+        requires kept { 8 * N * self.now.kept.bits.pruned ≤ location }
+        requires within { location < self.now.kept.operations.leaves }
+        ensures operation { IfOk result (λ proved. slice_get (L.log log.old) location
+            ≡ Some (meaning_of K.encoding V.encoding proved.operation)) }
+        ensures bytes { let setting = setting_of_width F.merge_rule H.hash_of N in
+            IfOk result (λ proved. proved.bytes.items
+            ≡ honest_operation F.pending_encoding setting K.SIZE V.SIZE (history_of (L.log log.old)) location) }
+        ensures same { L.log log.new ≡ L.log log.old }
+        ensures leads { OnOk result (L.leads log.old log.new) }
+        ensures refused { IfErr result (IfLog (L.leads log.old log.new) (L.refuses log.old log.new)) }
+    {
+        let operation = read_operation(log, location)?;
+        let bytes = self.operation_bytes(location)?;
+        Ok(ProvedOperation { operation, bytes })
+    }
+
     // Why the operations from `start` up to `stop` are not proved, or None where they are.
     fn range_refusal(&self, start: u64, stop: u64) -> Option<Unprovable>
-        ensures refusal { result ≡ range_refusal (setting_of_width F.merge_rule H.hash_of N) self.now.history
-            self.now.pruned start stop }
-        ensures kept { result ≡ None → 8 * N * self.now.pruned ≤ start }
+        ensures refusal { (log : List meaning.Operation) → let setting = setting_of_width F.merge_rule H.hash_of N in
+            IsLedgerOf setting (format_of (K.after tt) (V.after tt) K.SIZE V.SIZE) log self.now
+            → result ≡ range_refusal setting (history_of log) self.now.kept.bits.pruned start stop }
+        ensures kept { result ≡ None → 8 * N * self.now.kept.bits.pruned ≤ start }
         ensures some { result ≡ None → start < stop }
-        ensures within { result ≡ None → stop ≤ length (log_of self.now.history) }
+        ensures within { result ≡ None → stop ≤ self.now.kept.operations.leaves }
     {
         if stop <= start {
             return Some(Unprovable::EmptyRange);
@@ -77,17 +149,27 @@ impl<
         None
     }
 
-    // The operations from `start` up to `stop` with their activity bits and the proof of both. It fails only when out
-    // of memory.
-    fn range_between(&self, start: u64, stop: u64) -> Result<ProvedRange<F, K, V>, AllocError>
-        requires kept { 8 * N * self.now.pruned ≤ start }
+    // The operations from `start` up to `stop` with their activity bits and the proof of both.
+    fn range_between<L: LoggedOperations<F, K, V>>(
+        &self,
+        log: &mut L,
+        start: u64,
+        stop: u64,
+    ) -> Result<ProvedRange<F, K, V>, ReadError<L::Error>>
+        requires may { L.readable log.old }
+        requires of { IsLedgerOf (setting_of_width F.merge_rule H.hash_of N)
+            (format_of (K.after tt) (V.after tt) K.SIZE V.SIZE) (L.log log.old) self.now }
+        requires kept { 8 * N * self.now.kept.bits.pruned ≤ start }
         requires some { start < stop }
-        requires within { stop ≤ length (log_of self.now.history) }
-        ensures { let setting = setting_of_width F.merge_rule H.hash_of N in
+        requires within { stop ≤ self.now.kept.operations.leaves }
+        ensures range { let setting = setting_of_width F.merge_rule H.hash_of N in
             IfOk result (λ proved. range_answer_of K.encoding V.encoding proved
-            ≡ range_answer F.pending_encoding setting K.SIZE V.SIZE self.now.history start stop) }
+            ≡ range_answer F.pending_encoding setting K.SIZE V.SIZE (history_of (L.log log.old)) start stop) }
+        ensures same { L.log log.new ≡ L.log log.old }
+        ensures leads { OnOk result (L.leads log.old log.new) }
+        ensures refused { IfErr result (IfLog (L.leads log.old log.new) (L.refuses log.old log.new)) }
     {
-        let operations = self.copies_between(start, stop)?;
+        let operations = operations_between(self.alloc, log, start, stop)?;
         let active = self.bits_between(start, stop)?;
         let bytes = self.range_bytes(start, stop)?;
         Ok(ProvedRange {
@@ -97,100 +179,137 @@ impl<
         })
     }
 
-    // The operations from `start` up to `stop` with the proof that the log has them. It fails only when out of memory.
-    fn slice_between(&self, start: u64, stop: u64) -> Result<ProvedSlice<F, K, V>, AllocError>
-        requires kept { 8 * N * self.now.pruned ≤ start }
+    // The operations from `start` up to `stop` with the proof that the log has them.
+    fn slice_between<L: LoggedOperations<F, K, V>>(
+        &self,
+        log: &mut L,
+        start: u64,
+        stop: u64,
+    ) -> Result<ProvedSlice<F, K, V>, ReadError<L::Error>>
+        requires may { L.readable log.old }
+        requires of { IsLedgerOf (setting_of_width F.merge_rule H.hash_of N)
+            (format_of (K.after tt) (V.after tt) K.SIZE V.SIZE) (L.log log.old) self.now }
+        requires kept { 8 * N * self.now.kept.bits.pruned ≤ start }
         requires some { start < stop }
-        requires within { stop ≤ length (log_of self.now.history) }
-        ensures { let setting = setting_of_width F.merge_rule H.hash_of N in
+        requires within { stop ≤ self.now.kept.operations.leaves }
+        ensures slice { let setting = setting_of_width F.merge_rule H.hash_of N in
             IfOk result (λ proved. slice_answer_of K.encoding V.encoding proved
-            ≡ slice_answer F.pending_encoding setting K.SIZE V.SIZE self.now.history start stop) }
+            ≡ slice_answer F.pending_encoding setting K.SIZE V.SIZE (history_of (L.log log.old)) start stop) }
+        ensures same { L.log log.new ≡ L.log log.old }
+        ensures leads { OnOk result (L.leads log.old log.new) }
+        ensures refused { IfErr result (IfLog (L.leads log.old log.new) (L.refuses log.old log.new)) }
     {
-        let operations = self.copies_between(start, stop)?;
+        let operations = operations_between(self.alloc, log, start, stop)?;
         let bytes = self.slice_bytes(start, stop)?;
         Ok(ProvedSlice { operations, bytes })
     }
 
     /// The operation at a location with the proof that it is active: the client accepts it under the root of this
     /// moment. It is refused where the log has no such operation, then where its chunk is pruned, then where it is not
-    /// active; or out of memory.
-    pub fn prove_operation(&self, location: u64) -> Result<ProvedOperation<F, K, V>, ProofError>
+    /// active, before the log is read; or out of memory, or as the log is.
+    pub fn prove_operation<L: LoggedOperations<F, K, V>>(
+        &self,
+        log: &mut L,
+        location: u64,
+    ) -> Result<ProvedOperation<F, K, V>, ProofError<L::Error>>
+        requires may { L.readable log.old }
+        requires of { IsLedgerOf (setting_of_width F.merge_rule H.hash_of N)
+            (format_of (K.after tt) (V.after tt) K.SIZE V.SIZE) (L.log log.old) self.now }
         ensures ok { let setting = setting_of_width F.merge_rule H.hash_of N in
             IfOk result (λ proved. Ok (operation_answer_of K.encoding V.encoding proved)
-            ≡ answer_of_operation F.pending_encoding setting K.SIZE V.SIZE self.now.history self.now.pruned location) }
+            ≡ answer_of_operation F.pending_encoding setting K.SIZE V.SIZE (history_of (L.log log.old))
+            self.now.kept.bits.pruned location) }
         ensures shown { let terms = terms F.merge_rule H.hash_of N H.Digest.SIZE F.is_pending F.pending_encoding
             (K.after tt) (V.after tt) K.SIZE V.SIZE in
-            let root = root_of_history (setting_of_width F.merge_rule H.hash_of N) K.SIZE V.SIZE self.now.history in
+            let root = root_of_history (setting_of_width F.merge_rule H.hash_of N) K.SIZE V.SIZE
+            (history_of (L.log log.old)) in
             IfOk result (λ proved. IsAcceptedOperation terms root location
             (operation_answer_of K.encoding V.encoding proved)) }
+        ensures same { L.log log.new ≡ L.log log.old }
+        ensures leads { OnOk result (L.leads log.old log.new) }
         ensures err { let setting = setting_of_width F.merge_rule H.hash_of N in
-            IfErr result (IsUnproved
-            (answer_of_operation F.pending_encoding setting K.SIZE V.SIZE self.now.history self.now.pruned location)) }
+            IfErr result (IsUnproved (L.leads log.old log.new) (L.refuses log.old log.new)
+            (answer_of_operation F.pending_encoding setting K.SIZE V.SIZE (history_of (L.log log.old))
+            self.now.kept.bits.pruned location)) }
     {
         honest_operations_are_shown::<F, H, K, V, N>();
-        let Some(operation) = self.operations().get(location as usize) else {
-            return Err(ProofError::Unprovable(Unprovable::OutOfRange));
-        };
         self.holds_a_history();
-        if location < self.kept_from() {
-            return Err(ProofError::Unprovable(Unprovable::Pruned));
+        if let Some(why) = self.operation_refusal(location) {
+            return Err(ProofError::Unprovable(why));
         }
-        if !self.is_active(location) {
-            return Err(ProofError::Unprovable(Unprovable::Inactive));
-        }
-        let bytes = self.operation_bytes(location)?;
-        let operation = copy_of(operation)?;
-        Ok(ProvedOperation { operation, bytes })
+        Ok(self.operation_with_proof(log, location)?)
     }
 
     /// The operations from `start` up to `stop` with their activity bits and the proof of both: the client accepts it
     /// under the root of this moment. It is refused where the range is empty, then where the log has not all of them,
-    /// then where the chunk over the first is pruned; or out of memory.
-    pub fn prove_range(&self, start: u64, stop: u64) -> Result<ProvedRange<F, K, V>, ProofError>
+    /// then where the chunk over the first is pruned, before the log is read; or out of memory, or as the log is.
+    pub fn prove_range<L: LoggedOperations<F, K, V>>(
+        &self,
+        log: &mut L,
+        start: u64,
+        stop: u64,
+    ) -> Result<ProvedRange<F, K, V>, ProofError<L::Error>>
+        requires may { L.readable log.old }
+        requires of { IsLedgerOf (setting_of_width F.merge_rule H.hash_of N)
+            (format_of (K.after tt) (V.after tt) K.SIZE V.SIZE) (L.log log.old) self.now }
         ensures ok { let setting = setting_of_width F.merge_rule H.hash_of N in
             IfOk result (λ proved. Ok (range_answer_of K.encoding V.encoding proved)
-            ≡ answer_of_range F.pending_encoding setting K.SIZE V.SIZE self.now.history self.now.pruned start stop) }
+            ≡ answer_of_range F.pending_encoding setting K.SIZE V.SIZE (history_of (L.log log.old))
+            self.now.kept.bits.pruned start stop) }
         ensures shown { let terms = terms F.merge_rule H.hash_of N H.Digest.SIZE F.is_pending F.pending_encoding
             (K.after tt) (V.after tt) K.SIZE V.SIZE in
-            let root = root_of_history (setting_of_width F.merge_rule H.hash_of N) K.SIZE V.SIZE self.now.history in
-            IfOk result (λ proved. IsAcceptedRange terms root start (range_answer_of K.encoding V.encoding proved)) }
+            let root = root_of_history (setting_of_width F.merge_rule H.hash_of N) K.SIZE V.SIZE
+            (history_of (L.log log.old)) in
+            IfOk result (λ proved. IsAcceptedRange terms root start
+            (range_answer_of K.encoding V.encoding proved)) }
+        ensures same { L.log log.new ≡ L.log log.old }
+        ensures leads { OnOk result (L.leads log.old log.new) }
         ensures err { let setting = setting_of_width F.merge_rule H.hash_of N in
-            IfErr result (IsUnproved
-            (answer_of_range F.pending_encoding setting K.SIZE V.SIZE self.now.history self.now.pruned start stop)) }
+            IfErr result (IsUnproved (L.leads log.old log.new) (L.refuses log.old log.new)
+            (answer_of_range F.pending_encoding setting K.SIZE V.SIZE (history_of (L.log log.old))
+            self.now.kept.bits.pruned start stop)) }
     {
         honest_ranges_are_shown::<F, H, K, V, N>();
         self.holds_a_history();
         if let Some(why) = self.range_refusal(start, stop) {
             return Err(ProofError::Unprovable(why));
         }
-        match self.range_between(start, stop) {
-            Ok(proved) => Ok(proved),
-            Err(_) => Err(ProofError::Memory),
-        }
+        Ok(self.range_between(log, start, stop)?)
     }
 
     /// The operations from `start` up to `stop` with the proof that the log has them: the client accepts it under the
     /// root of this moment. It is refused as `prove_range` is.
-    pub fn prove_log(&self, start: u64, stop: u64) -> Result<ProvedSlice<F, K, V>, ProofError>
+    pub fn prove_log<L: LoggedOperations<F, K, V>>(
+        &self,
+        log: &mut L,
+        start: u64,
+        stop: u64,
+    ) -> Result<ProvedSlice<F, K, V>, ProofError<L::Error>>
+        requires may { L.readable log.old }
+        requires of { IsLedgerOf (setting_of_width F.merge_rule H.hash_of N)
+            (format_of (K.after tt) (V.after tt) K.SIZE V.SIZE) (L.log log.old) self.now }
         ensures ok { let setting = setting_of_width F.merge_rule H.hash_of N in
             IfOk result (λ proved. Ok (slice_answer_of K.encoding V.encoding proved)
-            ≡ answer_of_slice F.pending_encoding setting K.SIZE V.SIZE self.now.history self.now.pruned start stop) }
+            ≡ answer_of_slice F.pending_encoding setting K.SIZE V.SIZE (history_of (L.log log.old))
+            self.now.kept.bits.pruned start stop) }
         ensures shown { let terms = terms F.merge_rule H.hash_of N H.Digest.SIZE F.is_pending F.pending_encoding
             (K.after tt) (V.after tt) K.SIZE V.SIZE in
-            let root = root_of_history (setting_of_width F.merge_rule H.hash_of N) K.SIZE V.SIZE self.now.history in
-            IfOk result (λ proved. IsAcceptedSlice terms root start (slice_answer_of K.encoding V.encoding proved)) }
+            let root = root_of_history (setting_of_width F.merge_rule H.hash_of N) K.SIZE V.SIZE
+            (history_of (L.log log.old)) in
+            IfOk result (λ proved. IsAcceptedSlice terms root start
+            (slice_answer_of K.encoding V.encoding proved)) }
+        ensures same { L.log log.new ≡ L.log log.old }
+        ensures leads { OnOk result (L.leads log.old log.new) }
         ensures err { let setting = setting_of_width F.merge_rule H.hash_of N in
-            IfErr result (IsUnproved
-            (answer_of_slice F.pending_encoding setting K.SIZE V.SIZE self.now.history self.now.pruned start stop)) }
+            IfErr result (IsUnproved (L.leads log.old log.new) (L.refuses log.old log.new)
+            (answer_of_slice F.pending_encoding setting K.SIZE V.SIZE (history_of (L.log log.old))
+            self.now.kept.bits.pruned start stop)) }
     {
         honest_slices_are_shown::<F, H, K, V, N>();
         self.holds_a_history();
         if let Some(why) = self.range_refusal(start, stop) {
             return Err(ProofError::Unprovable(why));
         }
-        match self.slice_between(start, stop) {
-            Ok(proved) => Ok(proved),
-            Err(_) => Err(ProofError::Memory),
-        }
+        Ok(self.slice_between(log, start, stop)?)
     }
 }

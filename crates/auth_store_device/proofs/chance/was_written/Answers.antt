@@ -27,7 +27,8 @@ loop-place-preserved c =
     read ∙ ap (whole c.loop-place.file.items) (sym (changes-call at.0 c.entry.result)) in
     let step = written-step size c.args.page c.args.slot shown sofar call c.loop-place.file.items c.make_whole.new.file.items c.loop-place.is_found none
     c.loop-place.invariant.0 made c.loop-place.invariant.1 in
-    let has : c.has_slot-is_found-in-loop-place.result ≡ has_slot size c.args.slot shown (page_at size c.args.page c.make_whole.new.file.items) = search rules in
+    let has : c.has_slot-is_found-in-loop-place.result ≡ has_slot size c.args.slot shown
+    (page_at size c.args.page c.make_whole.new.file.items) = search rules in
     let next : file_after call sofar ≡ file_from (shown_file base) (take (place + 1) calls) =
     ap (λ x. file_after x sofar) is ∙ sym (so-far (shown_file base) calls place d below) in (
       step.0 ∙ ap (λ (f : File). whole f.base f.changes) next,

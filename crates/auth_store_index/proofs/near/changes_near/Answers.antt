@@ -24,7 +24,7 @@ returns-clause-what g c =
     let said = words.meanings key value c.args.batch.now.words.items in
     let state : old ≡ spec.replayed [] log =
     state_of-read key log c.locations-index.result.now.entries
-    ∙ (ap (state_read log) (c.locations-index.ensures ∙ c.requires) ∙ read-places_of log) in
+    ∙ (ap (state_read log) (c.locations-index.ensures ∙ c.requires.places) ∙ read-places_of log) in
     let is_puts : puts ≡ map_after said [] =
     c.in_ok-near.ensures.after log ∙ ap (λ es. map_after said (state_of key source es)) c.new.ensures.empty in
     near_joined said old puts gone near (spec.replayed [] log) (spec.meanings key value c.new-out.result.items)
@@ -33,20 +33,23 @@ returns-clause-what g c =
     (c.in_ok-gone.ensures log) (c.in_ok-add_all_before.ensures.near log) (ap (spec.meanings key value) c.new-out.ensures.items)
     (c.in_ok-push_gone.ensures (value_there log)) c.in_ok-push_near.ensures.what
 
+pub push_near-requires-clause-places : goal.push_near-requires-clause-places
+push_near-requires-clause-places g c = c.locations-index.ensures ∙ c.requires.places
+
+pub push_near-requires-clause-own : goal.push_near-requires-clause-own
+push_near-requires-clause-own g c =
+    let key = g.K.Write.encoding in
+    let known : Map = state_of key (λ place. place ∷ []) c.locations-index.result.now.entries in
+    subst (λ places. AreOwn key places c.add_all_before.new.near.entries) (c.locations-index.ensures ∙ c.requires.places)
+    (c.in_ok-add_all_before.ensures.own
+    (c.in_ok-near.ensures.own known (subst (AreOwn key known) (sym c.new.ensures.empty) tt)))
+
 pub returns-in_err-push_near-clause-few : goal.returns-in_err-push_near-clause-few
 returns-in_err-push_near-clause-few g c =
-    let key = g.K.Write.encoding in
-    let places : Map = state_of key (λ place. place ∷ []) c.locations-index.result.now.entries in
-    let own = c.in_ok-add_all_before.ensures.own
-    (c.in_ok-near.ensures.own places (subst (AreOwn key places) (sym c.new.ensures.empty) tt)) in
     let none = ap length c.new.ensures.empty in
-    omega (arith, none, c.in_ok-near.ensures.few, c.in_ok-add_all_before.ensures.few, c.push_near.ensures.few own)
+    omega (arith, none, c.in_ok-near.ensures.few, c.in_ok-add_all_before.ensures.few, c.push_near.ensures.few)
 
 pub returns-clause-few : goal.returns-clause-few
 returns-clause-few g c =
-    let key = g.K.Write.encoding in
-    let places : Map = state_of key (λ place. place ∷ []) c.locations-index.result.now.entries in
-    let own = c.in_ok-add_all_before.ensures.own
-    (c.in_ok-near.ensures.own places (subst (AreOwn key places) (sym c.new.ensures.empty) tt)) in
     let none = ap length c.new.ensures.empty in
-    omega (arith, none, c.in_ok-near.ensures.few, c.in_ok-add_all_before.ensures.few, c.push_near.ensures.few own)
+    omega (arith, none, c.in_ok-near.ensures.few, c.in_ok-add_all_before.ensures.few, c.push_near.ensures.few)

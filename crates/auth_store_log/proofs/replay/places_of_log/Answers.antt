@@ -1,4 +1,6 @@
-use Rattle.std.proofs.Common.{rules, ◌≡◌, ◌∙◌, ◌++◌, ◌+◌, ◌-◌, ◌≤◌, ◌∷◌, [], ap, sym, subst, refl, arith, true, false, take, drop, length, length-take, length-append, map, get_or, Bool, BTreeMap, append_assoc, eq-eqb, List, ℕ}
+use Rattle.std.proofs.Common.{rules, ◌≡◌, ◌∙◌, ◌++◌, ◌+◌, ◌-◌, ◌≤◌, ◌∷◌, [], ap, sym, subst, refl, arith, true, false}
+use Rattle.std.proofs.Common.{take, drop, length, length-take, length-append, map, get_or, Bool, BTreeMap}
+use Rattle.std.proofs.Common.{append_assoc, eq-eqb, List, ℕ}
 use Rattle.std.specs.Bool.{◌==◌}
 use Rattle.std.proofs.lemmas.Bool.{eqb-true}
 use Rattle.std.proofs.lemmas.List.{take_rest, length-map}
@@ -12,7 +14,9 @@ use Rattle.auth_store_parts.specs.Laws.Floors.{floor_rises}
 use Rattle.auth_store_parts.specs.Laws.Logs.{history_of-log_of, IsState-latest_map, IsState-replayed}
 use Rattle.auth_store_parts.specs.Laws.Places.{places_of-append}
 use Rattle.auth_store_log.specs.Batches.{IsNextBatch}
-use Rattle.auth_store_log.proofs.Batches.{IsReached, FollowsRule, cut_at, reached_first, reached_next, reached_end, first_of_log, goes_on_from, so_far, rule_followed, rule_goes_on, nothing_left, lengths, up_to, shorter, with_batch}
+use Rattle.auth_store_log.proofs.Batches.{IsReached, FollowsRule, cut_at, reached_first, reached_next, reached_end}
+use Rattle.auth_store_log.proofs.Batches.{first_of_log, goes_on_from, so_far, rule_followed, rule_goes_on}
+use Rattle.auth_store_log.proofs.Batches.{nothing_left, lengths, up_to, shorter, with_batch}
 use Rattle.auth_store_log.proofs.NamedBatches.{named_front, named_batch}
 use Rattle.auth_store_log.proofs.replay.places_of_log.Goals as goal
 

@@ -1,30 +1,37 @@
-use Rattle.std.proofs.Common.{None, refl, ◌+◌}
+use Rattle.std.proofs.Common.{◌+◌}
 use Rattle.std.specs.Prelude.{Ok, Err}
 use Rattle.auth_store_log.specs.Records.{format_of}
 use Rattle.auth_store_session.specs.Machine.{machine, operation_is, of_operation}
 use Rattle.auth_store_ledger.specs.ProvingCode.{operation_answer_of}
-use Rattle.auth_store_session.proofs.Steps.{proves_in}
-use Rattle.auth_store_session.proofs.Powers.{leaves_none, leaves_of_proof}
+use Rattle.auth_store_session.proofs.Steps.{proves_in, same_grows}
 use Rattle.auth_store_session.proofs.asking.prove_operation.Goals as goal
 
 pub returns-in-Ok-clause-steps : goal.returns-in-Ok-clause-steps
 returns-in-Ok-clause-steps g c = (
-  leaves_none None c.args.store.now.device c.args.store.now.cache refl refl,
+  c.in-Ok.ensures.leaves,
   proves_in
       (machine g.F.Family.merge_rule g.H.HashFunction.hash_of g.F.PendingOf.pending_encoding g.row.N g.K.FixedSize.SIZE g.V.FixedSize.SIZE
       (c.args.store.now.cache.page_size + 12))
       (format_of (g.K.Read.after (tt {0})) (g.V.Read.after (tt {0})) g.K.FixedSize.SIZE g.V.FixedSize.SIZE)
-      (λ proved. operation_is (operation_answer_of g.K.Write.encoding g.V.Write.encoding proved)) (of_operation c.args.location) c.args.store.now
-      (Ok c.in-Ok.proved) c.in-Ok.ensures.proof c.in-Ok.ensures.failed,
+      (λ proved. operation_is (operation_answer_of g.K.Write.encoding g.V.Write.encoding proved)) (of_operation c.args.location)
+      c.args.store.now c.prove_operation.new.self (Ok c.in-Ok.proved)
+      c.in-Ok.ensures.proof c.in-Ok.ensures.stays c.in-Ok.ensures.pruned c.in-Ok.ensures.failed,
 )
 
 pub returns-in-Err-clause-steps : goal.returns-in-Err-clause-steps
 returns-in-Err-clause-steps g c = (
-  leaves_of_proof c.in-Err.error c.args.store.now.device c.args.store.now.cache c.in-Err.ensures.err,
+  c.in-Err.ensures.leaves,
   proves_in
       (machine g.F.Family.merge_rule g.H.HashFunction.hash_of g.F.PendingOf.pending_encoding g.row.N g.K.FixedSize.SIZE g.V.FixedSize.SIZE
       (c.args.store.now.cache.page_size + 12))
       (format_of (g.K.Read.after (tt {0})) (g.V.Read.after (tt {0})) g.K.FixedSize.SIZE g.V.FixedSize.SIZE)
-      (λ proved. operation_is (operation_answer_of g.K.Write.encoding g.V.Write.encoding proved)) (of_operation c.args.location) c.args.store.now
-      (Err c.in-Err.error) c.in-Err.ensures.proof c.in-Err.ensures.failed,
+      (λ proved. operation_is (operation_answer_of g.K.Write.encoding g.V.Write.encoding proved)) (of_operation c.args.location)
+      c.args.store.now c.prove_operation.new.self (Err c.in-Err.error)
+      c.in-Err.ensures.proof c.in-Err.ensures.stays c.in-Err.ensures.pruned c.in-Err.ensures.failed,
 )
+
+pub returns-in-Ok-clause-grows : goal.returns-in-Ok-clause-grows
+returns-in-Ok-clause-grows g c = same_grows _ _ c.in-Ok.ensures.calls
+
+pub returns-in-Err-clause-grows : goal.returns-in-Err-clause-grows
+returns-in-Err-clause-grows g c = same_grows _ _ c.in-Err.ensures.calls

@@ -20,18 +20,6 @@ returns-in-Floor-clause-grows g c = here tt
 pub returns-in-Len-clause-grows : goal.returns-in-Len-clause-grows
 returns-in-Len-clause-grows g c = here tt
 
-pub returns-in-ProveKey-clause-grows : goal.returns-in-ProveKey-clause-grows
-returns-in-ProveKey-clause-grows g c = here tt
-
-pub returns-in-ProveOperation-clause-grows : goal.returns-in-ProveOperation-clause-grows
-returns-in-ProveOperation-clause-grows g c = here tt
-
-pub returns-in-ProveRange-clause-grows : goal.returns-in-ProveRange-clause-grows
-returns-in-ProveRange-clause-grows g c = here tt
-
-pub returns-in-ProveLog-clause-grows : goal.returns-in-ProveLog-clause-grows
-returns-in-ProveLog-clause-grows g c = here tt
-
 pub returns-in-Commit-clause-steps : goal.returns-in-Commit-clause-steps
 returns-in-Commit-clause-steps g c = rw c.in-Commit.is (λ left. c.commit.ensures.steps)
 

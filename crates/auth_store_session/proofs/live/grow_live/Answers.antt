@@ -1,100 +1,184 @@
-use Rattle.std.proofs.Common.{◌⊎◌, ◌+◌, ◌≤◌, ◌^◌, Some, ap, sym, subst, inr, List, ℕ, length, length-append, option_map, arith}
+use Rattle.std.proofs.Common.{◌≡◌, ◌∙◌, ◌+◌, ◌++◌, None, Some, ap, sym, subst, List, ℕ, length, option_map, arith}
 use Rattle.fault_storage_parts.specs.Crc32.{crc32}
 use Rattle.paged_blob_parts.specs.Answers.{Failures}
+use Rattle.paged_blob_parts.specs.Caches.{Cache}
 use Rattle.paged_blob_parts.specs.Calls.{Call}
-use Rattle.paged_blob_parts.specs.Moments.{here}
+use Rattle.paged_blob_parts.specs.Moments.{Grows, here}
 use Rattle.paged_blob_parts.specs.Laws.Moments.{at_end, weaker}
 use Rattle.paged_blob_parts.specs.Writers.{Keeps, written}
+use Rattle.state_proofs_parts.specs.Canonical.{Setting}
 use Rattle.auth_store_parts.specs.Batch as words
 use Rattle.auth_store_parts.specs.Batch.{Word}
-use Rattle.auth_store_parts.specs.History.{History, Commit, AreStates, log_of}
-use Rattle.auth_store_ledger.specs.Store.{commit_after}
-use Rattle.auth_store_log.specs.Records.{Format, format_of, history_bytes, AreRecorded}
-use Rattle.auth_store_session.specs.declared.error.StoreError.{StoreError}
-use Rattle.auth_store_session.specs.Machine.{commit_of, PassesLimit}
-use Rattle.auth_store_session.specs.Stores.{IsCommitRefusal, EndsDisk, Raises}
-use Rattle.auth_store_log.specs.Laws.Shown.{keeps_log}
-use Rattle.auth_store_session.proofs.Kept.{keeps_before}
-use Rattle.auth_store_session.proofs.Long.{commit_long}
-use Rattle.auth_store_session.proofs.Grown.{wider, ledger_refused}
-use Rattle.auth_store_session.proofs.Powers.{raises_ledger}
+use Rattle.auth_store_parts.specs.History.{History, history_of, log_of}
+use Rattle.auth_store_ledger.specs.Store.{LedgerState, commit_after, setting_of_width}
+use Rattle.auth_store_log.specs.Records.{Format, format_of, history_bytes}
+use Rattle.auth_store_session.specs.Reads.{IsLiveOn, LiveParts, Over, log_in, over}
+use Rattle.auth_store_session.specs.Stores.{EndsDisk, IsAppendRefusal, Raises}
+use Rattle.auth_store_session.proofs.Batches.{behind, next_longer, next_shown, next_states}
+use Rattle.auth_store_session.proofs.Lives.{live_with}
+use Rattle.auth_store_session.proofs.Logs.{keeps_on}
+use Rattle.auth_store_session.proofs.Readings.{quiet}
 use Rattle.auth_store_session.proofs.live.grow_live.Goals as goal
 
-pub returns-in-Err-clause-refused : goal.returns-in-Err-clause-refused
-returns-in-Err-clause-refused g c =
+pub returns-in-Ok-append_log-clause-live : goal.returns-in-Ok-append_log-clause-live
+returns-in-Ok-append_log-clause-live g c =
     let format : Format = format_of (g.K.Read.after tt) (g.V.Read.after tt) g.K.FixedSize.SIZE g.V.FixedSize.SIZE in
+    let setting : Setting = setting_of_width g.F.Family.merge_rule g.H.HashFunction.hash_of g.row.N in
     let said : List Word = words.meanings g.K.Write.encoding g.V.Write.encoding c.args.batch.words.items in
-    let next : History = commit_after said (option_map g.V.Write.encoding c.args.metadata) c.args.ledger.history in
-    let before : Failures = g.B.Blob.failures c.args.blob.now in
-    let Ends : Type 0 = EndsDisk (c.args.cache.now.page_size + 12) (history_bytes format next) in
-    subst (λ (e : StoreError). IsCommitRefusal before before (PassesLimit next ⊎ Ends) e) (sym c.from.ensures)
-    (ledger_refused before (PassesLimit next) Ends c.in-Err.error c.in-Err.ensures.refused)
+    let noted = option_map g.V.Write.encoding c.args.metadata in
+    let calls : List Call = g.B.Blob.calls c.args.blob.now in
+    let history : History = history_of (log_in format calls c.args.writer) in
+    let next : History = commit_after said noted history in
+    let was = c.requires.live.live.log in
+    let of = c.in-Ok.ensures.ok in
+    let recorded = c.is_recorded.ensures (log_of next) of in
+    let same : g.B.Blob.calls c.take_batch.new.blob ≡ calls = c.take_batch.ensures.reads.calls in
+    let list = written crc32 calls c.args.writer in
+    let begun : list ≡ history_bytes format history = c.requires.live.live.content in
+    let grown : history_bytes format next ≡ list ++ c.deref.result.now =
+    c.in-Ok.ensures.bytes ∙ ap (λ (l : List ℕ). list ++ l) (sym c.deref.ensures.value) in
+    let cache : c.take_batch.new.cache.page_size ≡ c.args.cache.now.page_size =
+    ap (λ (k : Cache). k.page_size) c.take_batch.ensures.reads.cache in
+    let parts : LiveParts = record { ledger = c.take_batch.new.ledger; writer = c.in-Ok-append_log.writer } in
+    let content = behind calls (g.B.Blob.calls c.take_batch.new.blob) (g.B.Blob.calls c.append_log.new.blob)
+    c.args.writer c.in-Ok-append_log.writer c.deref.result.now (history_bytes format next) same grown
+    c.in-Ok-append_log.ensures.content in
+    let all = live_with setting format (g.B.Blob.calls c.append_log.new.blob) c.append_log.new.cache parts next
+    c.in-Ok-append_log.ensures.writer content c.in-Ok-append_log.ensures.synced c.in-Ok-append_log.ensures.sized
+    c.in-Ok-append_log.ensures.named c.in-Ok-append_log.ensures.cached of recorded
+    (next_states setting format said noted history was c.take_batch.new.ledger of recorded) in
+    all.0
 
-pub returns-in-Err-clause-grows : goal.returns-in-Err-clause-grows
-returns-in-Err-clause-grows g c = here tt
-
-pub returns-in-Ok-append_live-clause-grows : goal.returns-in-Ok-append_live-clause-grows
-returns-in-Ok-append_live-clause-grows g c = weaker (λ calls keeps. tt) c.append_live.ensures.any_moment
-
-pub returns-clause-grows : goal.returns-clause-grows
-returns-clause-grows g c = weaker (λ calls keeps. tt) c.append_live.ensures.any_moment
-
-pub returns-clause-failed : goal.returns-clause-failed
-returns-clause-failed g c = λ none.
+pub returns-in-Ok-append_log-clause-next : goal.returns-in-Ok-append_log-clause-next
+returns-in-Ok-append_log-clause-next g c =
     let format : Format = format_of (g.K.Read.after tt) (g.V.Read.after tt) g.K.FixedSize.SIZE g.V.FixedSize.SIZE in
+    let setting : Setting = setting_of_width g.F.Family.merge_rule g.H.HashFunction.hash_of g.row.N in
     let said : List Word = words.meanings g.K.Write.encoding g.V.Write.encoding c.args.batch.words.items in
-    let commit : Commit = commit_of said (option_map g.V.Write.encoding c.args.metadata) c.args.ledger.history in
-    let calls : List Call = g.B.Blob.calls c.append_live.new.blob in
-    let size : ℕ = c.args.cache.now.page_size + 12 in
-    let is = c.in-Ok.ensures.ok in
-    let few = subst (λ (h : History). length (log_of h) ≤ 2 ^ 62) is c.in-Ok.ensures.within in
-    let recorded = subst (λ (h : History). AreRecorded format (log_of h)) is c.is_recorded.ensures in
-    let kept = subst (λ n. Keeps crc32 size (history_bytes format (commit_after said (option_map g.V.Write.encoding c.args.metadata) c.args.ledger.history)) n calls)
-    (ap length c.requires.live.content)
-    (subst (λ (h : History). Keeps crc32 size (history_bytes format h)
-    (length (written crc32 (g.B.Blob.calls c.args.blob.now) c.args.writer)) calls) is (at_end c.append_live.ensures.any_moment)) in (
-      few,
-      record {
-        written = c.requires.live.log;
-        next = record { states = subst AreStates is c.holds_a_history.ensures.states; recorded = recorded; few = few };
-        shown = c.a_kept_log_is_shown.ensures.pending format crc32 size calls c.args.ledger.history commit recorded kept;
-        kept = keeps_before format size c.args.ledger.history calls (keeps_log format crc32 size calls c.args.ledger.history commit kept);
-      },
+    let noted = option_map g.V.Write.encoding c.args.metadata in
+    let calls : List Call = g.B.Blob.calls c.args.blob.now in
+    let history : History = history_of (log_in format calls c.args.writer) in
+    let next : History = commit_after said noted history in
+    let was = c.requires.live.live.log in
+    let of = c.in-Ok.ensures.ok in
+    let recorded = c.is_recorded.ensures (log_of next) of in
+    let same : g.B.Blob.calls c.take_batch.new.blob ≡ calls = c.take_batch.ensures.reads.calls in
+    let list = written crc32 calls c.args.writer in
+    let begun : list ≡ history_bytes format history = c.requires.live.live.content in
+    let grown : history_bytes format next ≡ list ++ c.deref.result.now =
+    c.in-Ok.ensures.bytes ∙ ap (λ (l : List ℕ). list ++ l) (sym c.deref.ensures.value) in
+    let cache : c.take_batch.new.cache.page_size ≡ c.args.cache.now.page_size =
+    ap (λ (k : Cache). k.page_size) c.take_batch.ensures.reads.cache in
+    let parts : LiveParts = record { ledger = c.take_batch.new.ledger; writer = c.in-Ok-append_log.writer } in
+    let content = behind calls (g.B.Blob.calls c.take_batch.new.blob) (g.B.Blob.calls c.append_log.new.blob)
+    c.args.writer c.in-Ok-append_log.writer c.deref.result.now (history_bytes format next) same grown
+    c.in-Ok-append_log.ensures.content in
+    let all = live_with setting format (g.B.Blob.calls c.append_log.new.blob) c.append_log.new.cache parts next
+    c.in-Ok-append_log.ensures.writer content c.in-Ok-append_log.ensures.synced c.in-Ok-append_log.ensures.sized
+    c.in-Ok-append_log.ensures.named c.in-Ok-append_log.ensures.cached of recorded
+    (next_states setting format said noted history was c.take_batch.new.ledger of recorded) in
+    (all.1, of.keeps.few)
+
+pub returns-in-Ok-append_log-clause-powered : goal.returns-in-Ok-append_log-clause-powered
+returns-in-Ok-append_log-clause-powered g c = λ off.
+    let format : Format = format_of (g.K.Read.after tt) (g.V.Read.after tt) g.K.FixedSize.SIZE g.V.FixedSize.SIZE in
+    let setting : Setting = setting_of_width g.F.Family.merge_rule g.H.HashFunction.hash_of g.row.N in
+    let said : List Word = words.meanings g.K.Write.encoding g.V.Write.encoding c.args.batch.words.items in
+    let noted = option_map g.V.Write.encoding c.args.metadata in
+    let calls : List Call = g.B.Blob.calls c.args.blob.now in
+    let history : History = history_of (log_in format calls c.args.writer) in
+    let next : History = commit_after said noted history in
+    let was = c.requires.live.live.log in
+    let of = c.in-Ok.ensures.ok in
+    let recorded = c.is_recorded.ensures (log_of next) of in
+    let same : g.B.Blob.calls c.take_batch.new.blob ≡ calls = c.take_batch.ensures.reads.calls in
+    let list = written crc32 calls c.args.writer in
+    let begun : list ≡ history_bytes format history = c.requires.live.live.content in
+    let grown : history_bytes format next ≡ list ++ c.deref.result.now =
+    c.in-Ok.ensures.bytes ∙ ap (λ (l : List ℕ). list ++ l) (sym c.deref.ensures.value) in
+    c.in-Ok-append_log.ensures.powered
+    (next_longer setting format said noted history was c.take_batch.new.ledger of recorded list c.deref.result.now
+    begun grown)
+    (c.take_batch.ensures.reads.raised.asked ∙ off.0, omega (arith, c.take_batch.ensures.reads.left, off.1))
+
+pub returns-in-Err-clause-kept : goal.returns-in-Err-clause-kept
+returns-in-Err-clause-kept g c =
+    let format : Format = format_of (g.K.Read.after tt) (g.V.Read.after tt) g.K.FixedSize.SIZE g.V.FixedSize.SIZE in
+    let setting : Setting = setting_of_width g.F.Family.merge_rule g.H.HashFunction.hash_of g.row.N in
+    let calls : List Call = g.B.Blob.calls c.args.blob.now in
+    let new : Over = over (g.B.Blob.calls c.take_batch.new.blob) (g.B.Blob.failures c.take_batch.new.blob)
+    (g.B.Blob.left c.take_batch.new.blob) c.take_batch.new.cache in
+    let parts : LedgerState → LiveParts = λ l. record { ledger = l; writer = c.args.writer } in
+    let same : new.calls ≡ calls = c.take_batch.ensures.reads.calls in (
+      ap (λ (l : List Call). history_of (log_in format l c.args.writer)) same,
+      subst (λ (l : LedgerState). IsLiveOn setting format new.calls new.cache (parts l))
+          (sym c.in-Err.ensures.unchanged)
+          (keeps_on setting format calls c.args.cache.now (parts c.args.ledger) c.requires.live new same
+          c.take_batch.ensures.readable),
+      c.in-Err.ensures.refused,
     )
 
-pub returns-clause-refused : goal.returns-clause-refused
-returns-clause-refused g c =
-    let format : Format = format_of (g.K.Read.after tt) (g.V.Read.after tt) g.K.FixedSize.SIZE g.V.FixedSize.SIZE in
-    let said : List Word = words.meanings g.K.Write.encoding g.V.Write.encoding c.args.batch.words.items in
-    let next : History = commit_after said (option_map g.V.Write.encoding c.args.metadata) c.args.ledger.history in
-    let size : ℕ = c.args.cache.now.page_size + 12 in
-    let before : Failures = g.B.Blob.failures c.args.blob.now in
-    let after : Failures = g.B.Blob.failures c.append_live.new.blob in
-    wider before after (EndsDisk size (history_bytes format next))
-    (PassesLimit next ⊎ EndsDisk size (history_bytes format next)) c.in-Err-append_live.error (λ ends. inr ends)
-    (subst (λ (h : History). IsCommitRefusal before after (EndsDisk size (history_bytes format h)) c.in-Err-append_live.error)
-    c.in-Ok.ensures.ok c.in-Err-append_live.ensures.refused)
+pub returns-in-Err-clause-grows : goal.returns-in-Err-clause-grows
+returns-in-Err-clause-grows g c = subst (Grows (g.B.Blob.calls c.args.blob.now)) (sym c.take_batch.ensures.reads.calls)
+    (here tt)
 
-pub returns-in-Err-clause-raised : goal.returns-in-Err-clause-raised
-returns-in-Err-clause-raised g c =
-    let before : Failures = g.B.Blob.failures c.args.blob.now in
-    subst (λ (e : StoreError). Raises (Some e) before before) (sym c.from.ensures) (raises_ledger c.in-Err.error before)
+pub returns-in-Ok-append_log-clause-grows : goal.returns-in-Ok-append_log-clause-grows
+returns-in-Ok-append_log-clause-grows g c = subst (λ (l : List Call). Grows l (g.B.Blob.calls c.append_log.new.blob))
+    c.take_batch.ensures.reads.calls (weaker (λ calls keeps. tt) c.append_log.ensures.any_moment)
 
-pub returns-in-Ok-append_live-clause-powered : goal.returns-in-Ok-append_live-clause-powered
-returns-in-Ok-append_live-clause-powered g c =
+pub returns-in-Err-append_log-clause-grows : goal.returns-in-Err-append_log-clause-grows
+returns-in-Err-append_log-clause-grows g c = subst (λ (l : List Call). Grows l (g.B.Blob.calls c.append_log.new.blob))
+    c.take_batch.ensures.reads.calls (weaker (λ calls keeps. tt) c.append_log.ensures.any_moment)
+
+pub returns-in-Err-append_log-clause-failed : goal.returns-in-Err-append_log-clause-failed
+returns-in-Err-append_log-clause-failed g c = λ none.
     let format : Format = format_of (g.K.Read.after tt) (g.V.Read.after tt) g.K.FixedSize.SIZE g.V.FixedSize.SIZE in
+    let setting : Setting = setting_of_width g.F.Family.merge_rule g.H.HashFunction.hash_of g.row.N in
     let said : List Word = words.meanings g.K.Write.encoding g.V.Write.encoding c.args.batch.words.items in
-    let commit : Commit = commit_of said (option_map g.V.Write.encoding c.args.metadata) c.args.ledger.history in
-    let is = c.in-Ok.ensures.ok in
-    let more = ap (λ (h : History). length (history_bytes format h)) is in
-    let bytes = ap length c.in-Ok.ensures.bytes in
-    let recorded = subst (λ (h : History). AreRecorded format (log_of h)) is c.is_recorded.ensures in
-    let long = commit_long format c.args.ledger.history commit c.requires.live.log.recorded recorded in
-    c.in-Ok-append_live.ensures.powered (omega (
-      arith,
-      more,
-      bytes,
-      long,
-      length-append (history_bytes format c.args.ledger.history) c.in-Ok.bytes.items,
-      c.deref.ensures.len,
-    ))
+    let noted = option_map g.V.Write.encoding c.args.metadata in
+    let calls : List Call = g.B.Blob.calls c.args.blob.now in
+    let history : History = history_of (log_in format calls c.args.writer) in
+    let next : History = commit_after said noted history in
+    let was = c.requires.live.live.log in
+    let of = c.in-Ok.ensures.ok in
+    let recorded = c.is_recorded.ensures (log_of next) of in
+    let same : g.B.Blob.calls c.take_batch.new.blob ≡ calls = c.take_batch.ensures.reads.calls in
+    let list = written crc32 calls c.args.writer in
+    let begun : list ≡ history_bytes format history = c.requires.live.live.content in
+    let grown : history_bytes format next ≡ list ++ c.deref.result.now =
+    c.in-Ok.ensures.bytes ∙ ap (λ (l : List ℕ). list ++ l) (sym c.deref.ensures.value) in
+    let new : List Call = g.B.Blob.calls c.append_log.new.blob in
+    let after : Failures = g.B.Blob.failures c.append_log.new.blob in
+    let size : c.take_batch.new.cache.page_size ≡ c.args.cache.now.page_size =
+    ap (λ (k : Cache). k.page_size) c.take_batch.ensures.reads.cache in
+    let bytes : written crc32 (g.B.Blob.calls c.take_batch.new.blob) c.args.writer ++ c.deref.result.now
+    ≡ history_bytes format next =
+    ap (λ (l : List Call). written crc32 l c.args.writer ++ c.deref.result.now) same ∙ sym grown in
+    let keeps = subst (λ n. Keeps crc32 (n + 12) (history_bytes format next) (length list) new) size
+    (subst (λ (l : List Call). Keeps crc32 (c.take_batch.new.cache.page_size + 12) (history_bytes format next)
+    (length (written crc32 l c.args.writer)) new) same
+    (subst (λ l. Keeps crc32 (c.take_batch.new.cache.page_size + 12) l
+    (length (written crc32 (g.B.Blob.calls c.take_batch.new.blob) c.args.writer)) new) bytes
+    (at_end c.append_log.ensures.any_moment))) in (
+      of.keeps.few,
+      next_shown setting format said noted history was c.take_batch.new.ledger of recorded
+          (c.args.cache.now.page_size + 12) new list c.a_kept_log_is_shown.ensures.pending begun keeps,
+      subst (λ (f : Failures). IsAppendRefusal f after
+          (EndsDisk (c.args.cache.now.page_size + 12) (history_bytes format next)) c.in-Err-append_log.error)
+          (quiet _ _ c.in-Ok.ensures.reads)
+          (subst (λ n. IsAppendRefusal (g.B.Blob.failures c.take_batch.new.blob) after
+          (EndsDisk (n + 12) (history_bytes format next))
+          c.in-Err-append_log.error) size
+          (subst (λ l. IsAppendRefusal (g.B.Blob.failures c.take_batch.new.blob) after
+          (EndsDisk (c.take_batch.new.cache.page_size + 12) l) c.in-Err-append_log.error) bytes
+          c.in-Err-append_log.ensures.refused)),
+    )
+
+pub returns-in-Ok-append_log-clause-raised : goal.returns-in-Ok-append_log-clause-raised
+returns-in-Ok-append_log-clause-raised g c =
+    subst (λ (f : Failures). Raises None f (g.B.Blob.failures c.append_log.new.blob)) (quiet _ _ c.in-Ok.ensures.reads)
+    c.in-Ok-append_log.ensures.raised
+
+pub returns-in-Err-append_log-clause-raised : goal.returns-in-Err-append_log-clause-raised
+returns-in-Err-append_log-clause-raised g c =
+    subst (λ (f : Failures). Raises (Some c.in-Err-append_log.error) f (g.B.Blob.failures c.append_log.new.blob))
+    (quiet _ _ c.in-Ok.ensures.reads) c.in-Err-append_log.ensures.raised

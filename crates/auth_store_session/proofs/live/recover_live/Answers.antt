@@ -9,7 +9,11 @@ use Rattle.paged_blob_parts.specs.Caches.{Cache}
 use Rattle.paged_blob_parts.specs.CachedContent.{HoldsPagesOf}
 use Rattle.paged_blob_parts.specs.Calls.{content}
 use Rattle.state_ops.specs.Operation.{Operation, meaning_of}
-use Rattle.auth_store_parts.specs.History.{meanings, log_of}
+use Rattle.paged_blob_parts.specs.Writers.{written}
+use Rattle.state_proofs_parts.specs.Canonical.{Setting}
+use Rattle.auth_store_parts.specs.History.{history_of, meanings, log_of}
+use Rattle.auth_store_parts.specs.Laws.Logs.{history_of-log_of}
+use Rattle.auth_store_ledger.specs.Store.{IsLedgerOf, setting_of_width}
 use Rattle.auth_store_ledger.specs.declared.error.LedgerError.{LedgerError}
 use Rattle.auth_store_ledger.specs.declared.error.LedgerError.TheVariants as ledgers
 use Rattle.auth_store_log.specs.Records.{Format, format_of, history_bytes, log_bytes, recovered_log, AreRecorded}
@@ -17,6 +21,9 @@ use Rattle.auth_store_session.specs.declared.error.StoreError.{StoreError}
 use Rattle.auth_store_session.specs.Refusals.{of_ledger, of_log}
 use Rattle.auth_store_session.specs.Machine.{refusal_of}
 use Rattle.auth_store_session.specs.Stores.{IsOpenRefusal, IsNoHistory, EndsOpening, Raises}
+use Rattle.auth_store_session.specs.Reads.{LiveParts, operations_in}
+use Rattle.auth_store_session.proofs.Lives.{live_with}
+use Rattle.auth_store_session.proofs.Logs.{log_again}
 use Rattle.auth_store_session.proofs.Long.{log_long}
 use Rattle.auth_store_session.proofs.Powers.{raises_refused, raises_read, raises_ledger, raises_same}
 use Rattle.auth_store_session.proofs.live.recover_live.Goals as goal
@@ -44,24 +51,38 @@ returns-in_err-ledger-clause-refused g c =
 pub returns-clause-live : goal.returns-clause-live
 returns-clause-live g c =
     let format : Format = format_of (g.K.Read.after tt) (g.V.Read.after tt) g.K.FixedSize.SIZE g.V.FixedSize.SIZE in
+    let setting : Setting = setting_of_width g.F.Family.merge_rule g.H.HashFunction.hash_of g.row.N in
     let list : List ℕ = c.in_ok-writer.bytes.items in
     let ops : List Operation = meanings g.K.Write.encoding g.V.Write.encoding c.in_ok-log.log.operations.items in
-    let log : ops ≡ log_of c.in_ok-ledger.ledger.history = c.in_ok-log.ensures.whole ∙ ap log_of (sym c.in_ok-ledger.ensures.ok) in
-    let bytes : list ≡ history_bytes format c.in_ok-ledger.ledger.history = sym c.deref.ensures.value
-    ∙ (sym c.in_ok-log.ensures.bytes ∙ ap (log_bytes g.K.FixedSize.SIZE g.V.FixedSize.SIZE) log) in
-    record {
-      writer = c.in_ok-writer.ensures.writer;
-      content = c.in_ok-writer.ensures.content ∙ bytes;
-      synced = c.in_ok-writer.ensures.synced ∙ ap length bytes;
-      sized = c.in_ok-writer.ensures.page_size ∙ ap (λ (k : Cache). k.page_size + 12) (sym c.recover.ensures.same);
-      named = c.in_ok-writer.ensures.name.1;
-      cached = subst (λ l. HoldsPagesOf l c.recover.new.cache c.in_ok-writer.writer.blob_id) bytes c.in_ok-writer.ensures.cached;
-      log = record {
-        states = c.holds_a_history.ensures.states;
-        recorded = subst (AreRecorded format) log c.in_ok-log.ensures.recorded;
-        few = c.holds_a_history.ensures.few;
-      };
-    }
+    let whole : ops ≡ log_of (history_of ops) = c.in_ok-log.ensures.whole in
+    let bytes : list ≡ history_bytes format (history_of ops) = sym c.deref.ensures.value
+    ∙ (sym c.in_ok-log.ensures.bytes ∙ ap (log_bytes g.K.FixedSize.SIZE g.V.FixedSize.SIZE) whole) in
+    let content : written crc32 (g.B.Blob.calls c.recover.new.blob) c.in_ok-writer.writer ≡ history_bytes format (history_of ops) =
+    c.in_ok-writer.ensures.content ∙ bytes in
+    let parts : LiveParts = record { ledger = c.in_ok-ledger.ledger; writer = c.in_ok-writer.writer } in
+    (live_with setting format (g.B.Blob.calls c.recover.new.blob) c.recover.new.cache parts (history_of ops)
+    c.in_ok-writer.ensures.writer content
+    (c.in_ok-writer.ensures.synced ∙ ap length (sym c.in_ok-writer.ensures.content))
+    (c.in_ok-writer.ensures.page_size ∙ ap (λ (k : Cache). k.page_size + 12) (sym c.recover.ensures.same))
+    c.in_ok-writer.ensures.name.1
+    (subst (λ l. HoldsPagesOf l c.recover.new.cache c.in_ok-writer.writer.blob_id) (sym c.in_ok-writer.ensures.content)
+    c.in_ok-writer.ensures.cached)
+    (subst (λ (l : List Operation). IsLedgerOf setting format l c.in_ok-ledger.ledger) whole c.in_ok-ledger.ensures.ok)
+    (subst (AreRecorded format) whole c.in_ok-log.ensures.recorded) c.in_ok-log.ensures.states).0
+
+pub returns-clause-history : goal.returns-clause-history
+returns-clause-history g c =
+    let format : Format = format_of (g.K.Read.after tt) (g.V.Read.after tt) g.K.FixedSize.SIZE g.V.FixedSize.SIZE in
+    let list : List ℕ = c.in_ok-writer.bytes.items in
+    let ops : List Operation = meanings g.K.Write.encoding g.V.Write.encoding c.in_ok-log.log.operations.items in
+    let whole : ops ≡ log_of (history_of ops) = c.in_ok-log.ensures.whole in
+    let bytes : list ≡ history_bytes format (history_of ops) = sym c.deref.ensures.value
+    ∙ (sym c.in_ok-log.ensures.bytes ∙ ap (log_bytes g.K.FixedSize.SIZE g.V.FixedSize.SIZE) whole) in
+    let content : written crc32 (g.B.Blob.calls c.recover.new.blob) c.in_ok-writer.writer ≡ history_bytes format (history_of ops) =
+    c.in_ok-writer.ensures.content ∙ bytes in
+    let log = ap (operations_in format) content ∙ log_again format (log_of (history_of ops)) (subst (AreRecorded format) whole c.in_ok-log.ensures.recorded) in
+    let same = ap history_of log ∙ history_of-log_of (history_of ops) c.in_ok-log.ensures.states in
+    ap (history_bytes format) same ∙ (sym bytes ∙ c.in_ok-writer.ensures.bytes)
 
 pub returns-clause-cache : goal.returns-clause-cache
 returns-clause-cache g c = record {

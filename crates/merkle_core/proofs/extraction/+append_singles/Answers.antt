@@ -27,7 +27,8 @@ pub returns-then-most-eq0 : goal.returns-then-most-eq0
 returns-then-most-eq0 g t c digest rest is =
     let enc = g.D.Write.encoding in
     let old = encoded enc c.args.found.now.items in
-    let nodes = ap (λ k. filter (stands c.args.side) (take k (located_from c.args.first (forest_of g.F.Family.merge_rule c.args.leaves)))) c.if-most-eq0.true in (
+    let nodes = ap (λ k. filter (stands c.args.side)
+    (take k (located_from c.args.first (forest_of g.F.Family.merge_rule c.args.leaves)))) c.if-most-eq0.true in (
       is ∙ ap (λ ns. singly digest ns ++ rest) nodes,
       none_more old ∙ ap (λ ns. old ++ node_digests digest ns) (sym nodes),
     )
@@ -51,7 +52,8 @@ returns-then-not-is_on_side g t c digest rest is =
     ∙ skipped (stands c.args.side) peak (take (c.args.most - 1) later) out in
     let old = encoded enc c.args.found.now.items in
     let new = encoded enc c.append_singles.new.found.items in
-    if_ok {P = λ next. (drop next (map enc c.args.digests.now) ≡ rest) × (new ≡ old ++ node_digests digest (filter (stands c.args.side) (take (c.args.most - 1) later)))}
+    if_ok {P = λ next. (drop next (map enc c.args.digests.now) ≡ rest)
+    × (new ≡ old ++ node_digests digest (filter (stands c.args.side) (take (c.args.most - 1) later)))}
     c.append_singles.result
     (λ left it. (it.0, it.1 ∙ ap (λ ns. old ++ node_digests digest ns) (sym nodes)))
     (c.append_singles.ensures digest rest (is ∙ ap (λ ns. singly digest ns ++ rest) nodes))

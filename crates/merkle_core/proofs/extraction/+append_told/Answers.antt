@@ -68,7 +68,11 @@ returns-then-subtree-eq0 g t c (leaf q) digest rest tree made is =
     let own : enc c.digest_of_leaf-digest.result ≡ digest at (leaf q) =
     c.digest_of_leaf-digest.ensures ∙ ap (leaf_of c.args.subtree.position) (sym element) ∙ ap (λ p. leaf_of p (elements at)) tree.subtree
     ∙ sym (made.leaf at q met) in (
-      record { digest_is = own; left_is = is ∙ ap (λ ds. ds ++ rest) (given_low digest start stop at c.args.subtree.height (leaf q) c.if-subtree-eq0.true tree.level met) },
+      record {
+        digest_is = own;
+        left_is = is ∙ ap (λ ds. ds ++ rest)
+            (given_low digest start stop at c.args.subtree.height (leaf q) c.if-subtree-eq0.true tree.level met);
+      },
       pushed enc old c.push-then-subtree-eq0.new.self.items _ _ _ _ c.in_ok-push-2.ensures.items (c.new-then-subtree-eq0.ensures ∙ tree.subtree) own,
     )
 
@@ -90,7 +94,8 @@ returns g t c (branch q left right) digest rest tree made is =
     ∙ append_assoc (siblings digest start stop at left) (siblings digest start stop after right) rest in
     let one_parts = subst (λ n. drop c.args.index (map enc c.args.digests.now) ≡ siblings digest start stop n left ++ more) (sym both.same) parts in
     let first = c.in_ok-left_digest.ensures left digest more both.at_left made one_parts in
-    let two_parts = subst (λ n. drop c.in_ok-left_digest.middle (map enc c.args.digests.now) ≡ siblings digest start stop n right ++ rest) (sym both.middle) first.0.left_is in
+    let two_parts = subst (λ n. drop c.in_ok-left_digest.middle (map enc c.args.digests.now)
+    ≡ siblings digest start stop n right ++ rest) (sym both.middle) first.0.left_is in
     let second = c.in_ok-right_digest.ensures right digest rest both.at_right made two_parts in
     let left_is : enc c.in_ok-left_digest.left_digest ≡ digest at left =
     subst (λ n. enc c.in_ok-left_digest.left_digest ≡ digest n left) both.same first.0.digest_is in

@@ -43,7 +43,8 @@ returns g c digest made given =
     let k_is : c.folded_singly-singles.result ≡ k =
     c.folded_singly-singles.ensures ∙ ap (λ b. from_left b c.args.inactive c.peaks_from-peaks.result) c.root_bagging.ensures
     ∙ ap (from_left bagging c.args.inactive) total in
-    let first_part : take c.folded_singly-singles.result (located_from 0 forest) ≡ take k peaks = ap (take c.folded_singly-singles.result) all ∙ ap (λ n. take n peaks) k_is in
+    let first_part : take c.folded_singly-singles.result (located_from 0 forest)
+    ≡ take k peaks = ap (take c.folded_singly-singles.result) all ∙ ap (λ n. take n peaks) k_is in
     let others : located_from c.sides_of-first.result.next forest ≡ drop k peaks =
     c.sides_of-first.ensures.next ∙ ap (drop c.folded_singly-singles.result) all ∙ ap (λ n. drop n peaks) k_is in
     let others_all : take c.peaks_from-peaks.result (located_from c.sides_of-first.result.next forest) ≡ drop k peaks =

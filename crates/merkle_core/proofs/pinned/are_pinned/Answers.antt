@@ -84,7 +84,8 @@ returns-then-not-begins_with g c =
     ∙ ap (λ ps. as_one (folded_forward hash) fronts ++ singly digest (filter (is_before start) ps)) others_all in
     let outer_deref : map enc c.deref-2.result.now ≡ outer_before hash digest k start peaks = ap (map enc) c.deref-2.ensures.value ∙ outer_is in (
       λ yes. absurd (both_ways false refl yes),
-      λ pinned. absurd (both_ways c.begins_with.result c.if-not-begins_with.true (c.begins_with.ensures.1 (subst (λ ds. Begins ds digests) (sym outer_deref) pinned.peaks))),
+      λ pinned. absurd (both_ways c.begins_with.result c.if-not-begins_with.true
+          (c.begins_with.ensures.1 (subst (λ ds. Begins ds digests) (sym outer_deref) pinned.peaks))),
     )
 
 pub returns : goal.returns
@@ -147,7 +148,8 @@ returns g c =
       λ yes. record {
         counted = counted;
         peaks = outer_begins;
-        nodes = subst (λ ds. Begins ds (drop outer digests)) inner_deref (subst (λ ds. Begins (map enc c.deref-3.result.now) ds) rest (c.begins_with-2.ensures.0 yes));
+        nodes = subst (λ ds. Begins ds (drop outer digests)) inner_deref
+            (subst (λ ds. Begins (map enc c.deref-3.result.now) ds) rest (c.begins_with-2.ensures.0 yes));
       },
       λ pinned. c.begins_with-2.ensures.1 (subst (λ ds. Begins (map enc c.deref-3.result.now) ds) (sym rest)
           (subst (λ ds. Begins ds (drop outer digests)) (sym inner_deref) pinned.nodes)),

@@ -1,4 +1,5 @@
-use Rattle.std.proofs.Common.{◌≡◌, ◌-◌, ℕ, suc, Some, None, List, eqb, leb, cond, get_or, length, ◌<◌, ◌≤◌, true, leb-true, le-leb, sym, ◌∙◌, ap, arith, eq-eqb, rules}
+use Rattle.std.proofs.Common.{◌≡◌, ◌-◌, ℕ, suc, Some, None, List, eqb, leb, cond, get_or, length, ◌<◌, ◌≤◌, true}
+use Rattle.std.proofs.Common.{leb-true, le-leb, sym, ◌∙◌, ap, arith, eq-eqb, rules}
 use Rattle.std.proofs.lemmas.Bool.{cond-true, cond-false, ne_eqb}
 use Rattle.std.proofs.lemmas.List.Sorted.{IsPartitionPoint-from_clause}
 use Rattle.merkle_core_parts.specs.Laws.Ordered.{in-order, last_in, found-last, found-none}

@@ -49,7 +49,8 @@ returns-in_err-bytes-clause-cause g c =
     let p = err_from_is_err_and c.from_residual.result c.from_residual.ensures.1 in
     let P : ℕ → Type 0 = λ s. IsReadCause failures (file_of calls) (page * s) size c.in_err-bytes.field-0.0 in
     rw (p.1, p.2)
-    (read_cause sum size footer calls r.settled page part r.short r.within failures c.in_err-bytes.field-0.0 r.some r.sound (subst P is c.in_err-bytes.ensures.cause))
+    (read_cause sum size footer calls r.settled page part r.short r.within failures c.in_err-bytes.field-0.0 r.some
+    r.sound (subst P is c.in_err-bytes.ensures.cause))
 
 pub returns-in_default-clause-any_moment : goal.returns-in_default-clause-any_moment
 returns-in_default-clause-any_moment g c =

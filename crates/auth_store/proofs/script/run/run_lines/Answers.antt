@@ -45,7 +45,8 @@ returns-in-Err g c =
       bad = λ h. stops c.args.script.now c.in-Some.text.now c.cut_line.result.0.now c.cut_line.result.1 c.loop-left.number first
           before after (g.W.Write.contents c.end_run-status.new.out) (option_map now_in c.loop-left.running) (option_map now_in c.take_line.new.running)
           c.device_of.result taken c.cut_line.ensures.cut
-          (subst (Handled (DoesText (option_map now_in c.loop-left.running) (line_of c.cut_line.result.0.now) (option_map now_in c.take_line.new.running)) before after)
+          (subst (Handled (DoesText (option_map now_in c.loop-left.running) (line_of c.cut_line.result.0.now)
+          (option_map now_in c.take_line.new.running)) before after)
           (c.in-Err.is ∙ ap Err (end.1 h).0) c.take_line.ensures) (end.1 h).1 c.device_of.ensures;
       status = end.2;
     }

@@ -7,4 +7,6 @@ pub invariant_of-self : goal.invariant_of-self
 invariant_of-self c =
     let P = IsPartWithin c.self.inside.blocks.now.blocks in
     let is : c.self.inside.parts.now ≡ c.in_ok-part.part.now ∷ c.in_ok-part.later.now = search rules in
-    All-tail P c.in_ok-part.part.now c.in_ok-part.later.now (All-same P (c.in_ok-part.part.now ∷ c.in_ok-part.later.now) c.self.inside.parts.now (sym is) c.self.invariant)
+    All-tail P c.in_ok-part.part.now c.in_ok-part.later.now
+    (All-same P (c.in_ok-part.part.now ∷ c.in_ok-part.later.now) c.self.inside.parts.now (sym is)
+    c.self.invariant)

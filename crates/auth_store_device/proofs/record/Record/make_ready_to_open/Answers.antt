@@ -18,7 +18,8 @@ returns-then-self-len-clause-ready c =
     let has : (at.base.image_at == at.base.base_at) ≡ true = search rules in
     let last : at.base.base_at ≡ length at.calls.items = search rules in
     let none = nothing-since at.blocks all at.base c.self-2.invariant.1 (last ∙ sym (length-in at.blocks [] at.calls.items)) in
-    let image : IsImage (file_of (reverse all)) c.args.shown.now = subst (λ (l : List Call). IsImage (file_of (reverse l)) c.args.shown.now) (sym same) c.requires in
+    let image : IsImage (file_of (reverse all)) c.args.shown.now = subst
+    (λ (l : List Call). IsImage (file_of (reverse l)) c.args.shown.now) (sym same) c.requires in
     base-in-image at.blocks all at.base c.self-2.invariant.1 (eqb-true at.base.image_at at.base.base_at has)
     ∙ sym (image_settled (file_of (reverse all)) c.args.shown.now none image)
 
@@ -27,7 +28,8 @@ put_image-requires-clause-untouched c = λ i below out.
     let at = c.self-2.inside in
     let all = calls_in at.blocks [] at.calls.items in
     let same : all ≡ c.args.self.now.in_order = search rules in
-    let image : IsImage (file_of (reverse all)) c.args.shown.now = subst (λ (l : List Call). IsImage (file_of (reverse l)) c.args.shown.now) (sym same) c.requires in
+    let image : IsImage (file_of (reverse all)) c.args.shown.now = subst
+    (λ (l : List Call). IsImage (file_of (reverse l)) c.args.shown.now) (sym same) c.requires in
     let t = c.self-2.invariant.1.touched i out in
     untouched-image (file_of (reverse all)) c.args.shown.now i image below t.0 ∙ t.1
 

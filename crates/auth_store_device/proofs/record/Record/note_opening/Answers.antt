@@ -18,7 +18,8 @@ invariant_of-self c =
     base-in-image at.blocks all at.base c.self.invariant.1 (eqb-true at.base.image_at at.base.base_at has) in
     let done =
     begin-noted at.blocks at.blocks at.calls.items c.push.new.self.items (Opened at.base.image at.ready) at.base at.ready (gains-none at.blocks)
-    c.push.ensures c.self.invariant c.len.result at.ready (get_or at.blocks.images at.ready []) c.begin.new.self.touched (c.self.invariant.1.within, c.self.invariant.2) knows
+    c.push.ensures c.self.invariant c.len.result at.ready (get_or at.blocks.images at.ready [])
+    c.begin.new.self.touched (c.self.invariant.1.within, c.self.invariant.2) knows
     c.len.ensures refl c.self.invariant.2 refl in
     subst (λ b. IsWell at.blocks c.push.new.self.items b at.ready) (sym c.begin.ensures.base) done.1
 
@@ -30,6 +31,7 @@ returns c =
     let knows : get_or at.blocks.images at.base.image [] ≡ (file_of (reverse all)).base =
     base-in-image at.blocks all at.base c.self.invariant.1 (eqb-true at.base.image_at at.base.base_at has) in
     (begin-noted at.blocks at.blocks at.calls.items c.push.new.self.items (Opened at.base.image at.ready) at.base at.ready (gains-none at.blocks)
-    c.push.ensures c.self.invariant c.len.result at.ready (get_or at.blocks.images at.ready []) c.begin.new.self.touched (c.self.invariant.1.within, c.self.invariant.2) knows
+    c.push.ensures c.self.invariant c.len.result at.ready (get_or at.blocks.images at.ready [])
+    c.begin.new.self.touched (c.self.invariant.1.within, c.self.invariant.2) knows
     c.len.ensures refl c.self.invariant.2 refl).0
     ∙ ap (λ (r : Recording). opened r.ready ∷ calls_of r) c.self.view_is

@@ -13,7 +13,9 @@ invariant_of-self c =
     let done =
     change-noted at.blocks at.blocks at.calls.items c.push.new.self.items (ResizedTo c.args.len c.args.is_made) at.base at.ready (gains-none at.blocks)
     c.push.ensures c.self.invariant (at.base.has_failed || not c.args.is_made) c.change.new.self.touched tt tt refl
-    (ap (λ b. b || not c.args.is_made) c.self.invariant.1.failed) (resize-may c.args.len c.args.is_made (file_of (reverse (calls_in at.blocks [] at.calls.items))) at.base.touched c.change.new.self.touched c.change.ensures.touched) in
+    (ap (λ b. b || not c.args.is_made) c.self.invariant.1.failed)
+    (resize-may c.args.len c.args.is_made (file_of (reverse (calls_in at.blocks [] at.calls.items)))
+    at.base.touched c.change.new.self.touched c.change.ensures.touched) in
     subst (λ b. IsWell at.blocks c.push.new.self.items b at.ready) (sym c.change.ensures.base) done.1
 
 pub returns : goal.returns
@@ -21,5 +23,7 @@ returns c =
     let at = c.self.inside in
     (change-noted at.blocks at.blocks at.calls.items c.push.new.self.items (ResizedTo c.args.len c.args.is_made) at.base at.ready (gains-none at.blocks)
     c.push.ensures c.self.invariant (at.base.has_failed || not c.args.is_made) c.change.new.self.touched tt tt refl
-    (ap (λ b. b || not c.args.is_made) c.self.invariant.1.failed) (resize-may c.args.len c.args.is_made (file_of (reverse (calls_in at.blocks [] at.calls.items))) at.base.touched c.change.new.self.touched c.change.ensures.touched)).0
+    (ap (λ b. b || not c.args.is_made) c.self.invariant.1.failed)
+    (resize-may c.args.len c.args.is_made (file_of (reverse (calls_in at.blocks [] at.calls.items)))
+    at.base.touched c.change.new.self.touched c.change.ensures.touched)).0
     ∙ ap (λ (r : Recording). resized_to c.args.len c.args.is_made ∷ calls_of r) c.self.view_is

@@ -11,14 +11,16 @@ invariant_of-self c =
     let at = c.self.inside in
     let done =
     begin-noted at.blocks at.blocks at.calls.items c.push.new.self.items (SyncedAs at.ready) at.base at.ready (gains-none at.blocks) c.push.ensures
-    c.self.invariant c.len.result at.ready (get_or at.blocks.images at.ready []) c.begin.new.self.touched c.self.invariant.2 tt c.len.ensures refl c.self.invariant.2 refl in
+    c.self.invariant c.len.result at.ready (get_or at.blocks.images at.ready []) c.begin.new.self.touched
+    c.self.invariant.2 tt c.len.ensures refl c.self.invariant.2 refl in
     subst (λ b. IsWell at.blocks c.push.new.self.items b at.ready) (sym c.begin.ensures.base) done.1
 
 pub returns-then-self-clause-failed : goal.returns-then-self-clause-failed
 returns-then-self-clause-failed c = λ failed.
     let at = c.self.inside in
     (begin-noted at.blocks at.blocks at.calls.items c.push.new.self.items (SyncedAs at.ready) at.base at.ready (gains-none at.blocks) c.push.ensures
-    c.self.invariant c.len.result at.ready (get_or at.blocks.images at.ready []) c.begin.new.self.touched c.self.invariant.2 tt c.len.ensures refl c.self.invariant.2 refl).0
+    c.self.invariant c.len.result at.ready (get_or at.blocks.images at.ready []) c.begin.new.self.touched
+    c.self.invariant.2 tt c.len.ensures refl c.self.invariant.2 refl).0
     ∙ ap (λ (r : Recording). synced r.ready true ∷ calls_of r) c.self.view_is
 
 pub invariant_of-self-else-self : goal.invariant_of-self-else-self

@@ -1,20 +1,21 @@
-use Rattle.std.proofs.Common.{◌≡◌, ◌*◌, ◌<◌, ◌≤◌, Bool, List, length, slice_get, sym, ◌∙◌, ap, arith}
-use Rattle.state_ops.specs.Operation.{Operation}
-use Rattle.auth_store_ledger.specs.History.{activity_bits, log_of}
-use Rattle.auth_store_ledger.specs.Store.{LedgerState}
-use Rattle.auth_store_ledger.proofs.Proofs.{history_in}
+use Rattle.std.proofs.Common.{ℕ, ◌*◌, Bool, List, slice_get, ◌∙◌, ap, arith}
+use Rattle.state_proofs_parts.specs.Canonical.{Setting}
+use Rattle.auth_store_log.specs.Records.{Format, format_of}
+use Rattle.auth_store_ledger.specs.Store.{LedgerState, setting_of_width}
+use Rattle.auth_store_ledger.proofs.Proofs.{inside}
 use Rattle.auth_store_ledger.proofs.ledger.Ledger.is_active.Goals as goal
 
 pub bit-requires : goal.bit-requires
 bit-requires g c =
-    let keeps = c.self.invariant.1 in
-    let seen = keeps.whole ∙ ap log_of (ap history_in c.self.view_is) in
-    let pruned = ap (λ (s : LedgerState). 8 * g.row.N * s.pruned) c.self.view_is in
-    (omega (arith, pruned, c.requires.kept), omega (arith, keeps.current.leaves, ap length seen, c.requires.within))
+    let pruned = ap (λ (s : LedgerState). 8 * g.row.N * s.kept.bits.pruned) c.self.view_is in
+    let leaves = ap (λ (s : LedgerState). s.kept.operations.leaves) c.self.view_is in
+    (omega (arith, pruned, c.requires.kept), omega (arith, leaves, c.requires.within))
 
 pub returns : goal.returns
-returns g c =
-    let keeps = c.self.invariant.1 in
-    let seen = keeps.whole ∙ ap log_of (ap history_in c.self.view_is) in
-    ap (λ (l : List Operation). slice_get (activity_bits l) c.args.location) (sym seen)
-    ∙ (ap (λ (bits : List Bool). slice_get bits c.args.location) keeps.current.stands.bits ∙ c.bit.ensures)
+returns g c log of =
+    let key : ℕ = g.K.FixedSize.SIZE in
+    let value : ℕ = g.V.FixedSize.SIZE in
+    let setting : Setting = setting_of_width g.F.Family.merge_rule g.H.HashFunction.hash_of g.row.N in
+    let format : Format = format_of (g.K.Read.after tt) (g.V.Read.after tt) key value in
+    let keeps = (inside setting format log c.self.inside.places c.self.inside.commits c.self.inside.current c.args.self.now c.self.view_is of).keeps in
+    ap (λ (bits : List Bool). slice_get bits c.args.location) keeps.current.stands.bits ∙ c.bit.ensures

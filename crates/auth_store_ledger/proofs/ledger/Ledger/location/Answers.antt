@@ -1,28 +1,37 @@
-use Rattle.std.proofs.Common.{◌≡◌, ◌∙◌, ap, sym, subst, slice_get}
-use Rattle.auth_store_ledger.specs.History.{History, history_of, active_location, latest_map, update_fields}
-use Rattle.auth_store_ledger.specs.Map.{value_at}
-use Rattle.auth_store_ledger.specs.Store.{HasValueAt}
-use Rattle.auth_store_ledger.proofs.Places.{located, unlocated}
-use Rattle.auth_store_ledger.proofs.Proofs.{history_in}
+use Rattle.std.proofs.Common.{◌≡◌, ℕ, List, Some, None, [], ◌∷◌, option_map, ◌∙◌, ap, sym, subst}
+use Rattle.state_proofs_parts.specs.Canonical.{Setting}
+use Rattle.auth_store_log.specs.Records.{Format, format_of}
+use Rattle.auth_store_ledger.specs.History.{history_of}
+use Rattle.auth_store_ledger.specs.Map.{Map, value_at}
+use Rattle.auth_store_ledger.specs.Store.{HasValueAt, setting_of_width}
+use Rattle.auth_store_parts.specs.Places.{places_of}
+use Rattle.auth_store_parts.specs.Laws.Places.{place_found}
+use Rattle.auth_store_ledger.proofs.Places.{located, placed_entry, unlocated, unplaced}
+use Rattle.auth_store_ledger.proofs.Proofs.{inside}
 use Rattle.auth_store_ledger.proofs.ledger.Ledger.location.Goals as goal
 
 pub returns-in-Some : goal.returns-in-Some
-returns-in-Some g c =
-    let key = g.K.Write.encoding c.args.key.now in
-    let log = c.self.inside.log in
-    let place : c.active_location-location.result ≡ active_location key log = c.active_location-location.ensures.location in
-    let fields = c.in-Some.ensures.update ∙ (ap (λ l. update_fields (slice_get l c.active_location-location.result))
-    c.operations.ensures ∙ ap (λ n. update_fields (slice_get log n)) place) in
-    let there = located key log _ c.self.invariant.1.states c.self.invariant.1.whole (sym fields) in
-    subst (λ (h : History). HasValueAt key h c.active_location-location.result) (ap history_in c.self.view_is)
-    (subst (λ n. HasValueAt key (history_of log) n) (sym place) there)
+returns-in-Some g c log of =
+    let key_size : ℕ = g.K.FixedSize.SIZE in
+    let value : ℕ = g.V.FixedSize.SIZE in
+    let setting : Setting = setting_of_width g.F.Family.merge_rule g.H.HashFunction.hash_of g.row.N in
+    let format : Format = format_of (g.K.Read.after tt) (g.V.Read.after tt) key_size value in
+    let here = inside setting format log c.self.inside.places c.self.inside.commits c.self.inside.current c.args.self.now c.self.view_is of in
+    let key : List ℕ = g.K.Write.encoding c.args.key.now in
+    let found : value_at (places_of log) key ≡ Some (c.in-Some.location ∷ []) =
+    ap (λ (p : Map). value_at p key) (sym here.places) ∙ (sym c.get.ensures ∙ ap (option_map (λ n. n ∷ [])) c.in-Some.is) in
+    let active = placed_entry key log c.in-Some.location here.keeps.states here.keeps.whole found in
+    subst (λ (n : ℕ). HasValueAt key (history_of log) n) (place_found key log c.in-Some.location found)
+    (located key log _ here.keeps.states here.keeps.whole active)
 
 pub returns-in-None : goal.returns-in-None
-returns-in-None g c =
-    let key = g.K.Write.encoding c.args.key.now in
-    let log = c.self.inside.log in
-    let place : c.active_location-location.result ≡ active_location key log = c.active_location-location.ensures.location in
-    let fields = c.in-None.ensures.update ∙ (ap (λ l. update_fields (slice_get l c.active_location-location.result))
-    c.operations.ensures ∙ ap (λ n. update_fields (slice_get log n)) place) in
-    ap (λ (h : History). value_at (latest_map h) key) (sym (ap history_in c.self.view_is))
-    ∙ unlocated key log c.self.invariant.1.states c.self.invariant.1.whole (sym fields)
+returns-in-None g c log of =
+    let key_size : ℕ = g.K.FixedSize.SIZE in
+    let value : ℕ = g.V.FixedSize.SIZE in
+    let setting : Setting = setting_of_width g.F.Family.merge_rule g.H.HashFunction.hash_of g.row.N in
+    let format : Format = format_of (g.K.Read.after tt) (g.V.Read.after tt) key_size value in
+    let here = inside setting format log c.self.inside.places c.self.inside.commits c.self.inside.current c.args.self.now c.self.view_is of in
+    let key : List ℕ = g.K.Write.encoding c.args.key.now in
+    let missing : value_at (places_of log) key ≡ None =
+    ap (λ (p : Map). value_at p key) (sym here.places) ∙ (sym c.get.ensures ∙ ap (option_map (λ n. n ∷ [])) c.in-None.is) in
+    unlocated key log here.keeps.states here.keeps.whole (unplaced key log missing)

@@ -1,4 +1,5 @@
-use Rattle.std.proofs.Common.{ℕ, sym, arith, ◌*◌}
+use Rattle.std.proofs.Common.{ap, length, arith, ◌*◌}
+use Rattle.auth_store_ledger.specs.History.{history_of}
 use Rattle.std.proofs.lemmas.Bool.{le-ltb, lt-ltb}
 use Rattle.state_proofs_parts.specs.Canonical.{Setting}
 use Rattle.auth_store_ledger.specs.Store.{setting_of_width}
@@ -6,26 +7,26 @@ use Rattle.auth_store_ledger.proofs.Ranges.{not_refused, refused_empty, refused_
 use Rattle.auth_store_ledger.proofs.ledger.Ledger.range_refusal.Goals as goal
 
 pub returns-then-stop-start-clause-refusal : goal.returns-then-stop-start-clause-refusal
-returns-then-stop-start-clause-refusal g c =
+returns-then-stop-start-clause-refusal g c log of =
     let setting : Setting = setting_of_width g.F.Family.merge_rule g.H.HashFunction.hash_of g.row.N in
-    refused_empty setting c.args.self.now.history c.args.self.now.pruned c.args.start c.args.stop (omega arith)
+    refused_empty setting (history_of log) c.args.self.now.kept.bits.pruned c.args.start c.args.stop (omega arith)
 
 pub returns-then-len-stop-clause-refusal : goal.returns-then-len-stop-clause-refusal
-returns-then-len-stop-clause-refusal g c =
+returns-then-len-stop-clause-refusal g c log of =
     let setting : Setting = setting_of_width g.F.Family.merge_rule g.H.HashFunction.hash_of g.row.N in
-    refused_past setting c.args.self.now.history c.args.self.now.pruned c.args.start c.args.stop (omega arith)
-    (omega (arith, c.len.ensures))
+    refused_past setting (history_of log) c.args.self.now.kept.bits.pruned c.args.start c.args.stop (omega arith)
+    (omega (arith, c.len.ensures.len log of, ap length of.keeps.whole))
 
 pub returns-then-start-kept_from-clause-refusal : goal.returns-then-start-kept_from-clause-refusal
-returns-then-start-kept_from-clause-refusal g c =
+returns-then-start-kept_from-clause-refusal g c log of =
     let setting : Setting = setting_of_width g.F.Family.merge_rule g.H.HashFunction.hash_of g.row.N in
-    refused_pruned setting c.args.self.now.history c.args.self.now.pruned c.args.start c.args.stop (omega arith)
-    (omega (arith, c.len.ensures))
-    (lt-ltb c.args.start (8 * g.row.N * c.args.self.now.pruned) (omega (arith, c.kept_from.ensures)))
+    refused_pruned setting (history_of log) c.args.self.now.kept.bits.pruned c.args.start c.args.stop (omega arith)
+    (omega (arith, c.len.ensures.len log of, ap length of.keeps.whole))
+    (lt-ltb c.args.start (8 * g.row.N * c.args.self.now.kept.bits.pruned) (omega (arith, c.kept_from.ensures)))
 
 pub returns-clause-refusal : goal.returns-clause-refusal
-returns-clause-refusal g c =
+returns-clause-refusal g c log of =
     let setting : Setting = setting_of_width g.F.Family.merge_rule g.H.HashFunction.hash_of g.row.N in
-    not_refused setting c.args.self.now.history c.args.self.now.pruned c.args.start c.args.stop (omega arith)
-    (omega (arith, c.len.ensures))
-    (le-ltb c.args.start (8 * g.row.N * c.args.self.now.pruned) (omega (arith, c.kept_from.ensures)))
+    not_refused setting (history_of log) c.args.self.now.kept.bits.pruned c.args.start c.args.stop (omega arith)
+    (omega (arith, c.len.ensures.len log of, ap length of.keeps.whole))
+    (le-ltb c.args.start (8 * g.row.N * c.args.self.now.kept.bits.pruned) (omega (arith, c.kept_from.ensures)))

@@ -13,16 +13,15 @@ returns-clause-bytes g c =
     let encoding = exclusion_encoding g.F.PendingOf.pending_encoding in
     let proof : ExclusionParts = form_exclusion_of (λ (chunk : Vec ℕ Global). chunk.items) g.K.Write.encoding g.V.Write.encoding
     g.H.Digest.Write.encoding g.F.PendingOf.held c.in_ok-proof.proof in
-    c.in_ok-write.ensures.ok
-    ∙ (ap (λ (start : List ℕ). start ++ encoding proof) c.new-bytes.ensures.items ∙ ap encoding c.in_ok-proof.ensures)
-
-pub returns-clause-fields : goal.returns-clause-fields
-returns-clause-fields g c =
     let IsKey : List ℕ → Type 0 = IsField (g.K.Read.after tt) g.K.FixedSize.SIZE in
     let IsValue : List ℕ → Type 0 = IsField (g.V.Read.after tt) g.V.FixedSize.SIZE in
-    subst (λ (parts : ExclusionParts). NamesFields IsKey IsValue parts) c.in_ok-proof.ensures
-    (names_fields (λ (chunk : Vec ℕ Global). chunk.items) g.K.Write.encoding g.V.Write.encoding g.H.Digest.Write.encoding
-    g.F.PendingOf.held _ g.K.Write.is_value g.V.Write.is_value IsKey IsValue
-    (λ k is. (g.met.K.FixedSize.sized k is, λ rest. g.met.K.Read.read_again tt k rest is (g.met.K.FixedKey.within k)))
-    (λ v is. (g.met.V.FixedSize.sized v is, λ rest. g.met.V.Read.read_again tt v rest is (g.met.V.FixedValue.within v)))
-    c.in_ok-proof.proof c.in_ok-write.ensures.value)
+    record {
+      is = c.in_ok-write.ensures.ok
+          ∙ (ap (λ (start : List ℕ). start ++ encoding proof) c.new-bytes.ensures.items ∙ ap encoding c.in_ok-proof.ensures.proof);
+      names = subst (λ (parts : ExclusionParts). NamesFields IsKey IsValue parts) c.in_ok-proof.ensures.proof
+          (names_fields (λ (chunk : Vec ℕ Global). chunk.items) g.K.Write.encoding g.V.Write.encoding g.H.Digest.Write.encoding
+          g.F.PendingOf.held _ g.K.Write.is_value g.V.Write.is_value IsKey IsValue
+          (λ k is. (g.met.K.FixedSize.sized k is, λ rest. g.met.K.Read.read_again tt k rest is (g.met.K.FixedKey.within k)))
+          (λ v is. (g.met.V.FixedSize.sized v is, λ rest. g.met.V.Read.read_again tt v rest is (g.met.V.FixedValue.within v)))
+          c.in_ok-proof.proof c.in_ok-write.ensures.value);
+    }

@@ -1,4 +1,4 @@
-use Rattle.std.proofs.Common.{◌≡◌, ◌+◌, ◌*◌, ◌≤◌, ◌^◌, ◌<◌, length, ap, arith}
+use Rattle.std.proofs.Common.{arith}
 use Rattle.state_proofs_parts.specs.Laws.Bits.{length-all}
 use Rattle.auth_store_ledger.proofs.ledger.commit.next_floor.Goals as goal
 

@@ -18,16 +18,15 @@ returns-clause-next g c =
     )
 
 pub returns-clause-bytes : goal.returns-clause-bytes
-returns-clause-bytes g c =
+returns-clause-bytes g c key_size value_size log kept =
     let key : List ℕ = g.K.Write.encoding c.in_ok-clone.field-0 in
     let copied = g.met.K.Faithful.copied c.args.next_key.now c.in_ok-clone.field-0 c.in_ok-clone.ensures.cases in
     let pending = g.F.PendingOf.pending_encoding in
     let setting : Setting = setting_of_width g.F.Family.merge_rule g.H.HashFunction.hash_of g.row.N in
-    let logged : State = state_of_log g.K.FixedSize.SIZE g.V.FixedSize.SIZE c.args.log.now in
+    let logged : State = state_of_log key_size value_size log in
     c.in_ok-write.ensures.ok
     ∙ (ap (λ start. start ++ key_value_proof_encoding pending
     (parts_of g.H.Digest.Write.encoding g.F.PendingOf.held c.in_ok-operation_proof.field-0) key)
     c.new-bytes.ensures.items
-    ∙ (ap (λ parts. key_value_proof_encoding pending parts key) (c.in_ok-operation_proof.ensures g.K.FixedSize.SIZE g.V.FixedSize.SIZE
-    c.args.log.now c.requires.kept)
+    ∙ (ap (λ parts. key_value_proof_encoding pending parts key) (c.in_ok-operation_proof.ensures key_size value_size log kept)
     ∙ ap (λ (k : List ℕ). key_value_proof_encoding pending (honest_parts setting logged c.args.location) k) copied))

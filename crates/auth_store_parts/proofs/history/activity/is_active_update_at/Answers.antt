@@ -1,4 +1,5 @@
-use Rattle.std.proofs.Common.{◌≡◌, ◌∙◌, ℕ, ◌+◌, ◌<◌, ◌∷◌, [], ap, sym, refl, Bool, true, false, Some, None, List, length, option_map, unwrap_or, drop, ⊎_elim, arith}
+use Rattle.std.proofs.Common.{◌≡◌, ◌∙◌, ℕ, ◌+◌, ◌<◌, ◌∷◌, [], ap, sym, refl, Bool, true, false, Some, None, List}
+use Rattle.std.proofs.Common.{length, option_map, unwrap_or, drop, ⊎_elim, arith}
 use Rattle.std.specs.Prelude.{slice_get}
 use Rattle.std.specs.Bool.{◌==◌}
 use Rattle.std.proofs.lemmas.Option.{slice_get-map, slice_get-get_or}

@@ -1,37 +1,68 @@
-use Rattle.std.proofs.Common.{◌≡◌, refl, subst, option_map}
-use Rattle.std.specs.Prelude.{IfOk, IfErr}
+use Rattle.std.proofs.Common.{◌≡◌, ◌∙◌, ℕ, ap, refl, subst, sym, option_map}
+use Rattle.std.specs.Prelude.{IfOk, IfErr, IfSome}
 use Rattle.std.proofs.lemmas.Result.{IfErr-weaker}
-use Rattle.auth_store_parts.specs.History.{History, latest_map}
-use Rattle.auth_store_parts.specs.Map.{value_at}
-use Rattle.auth_store_session.specs.Machine.{MayRefuseRead}
+use Rattle.paged_blob_parts.specs.Caches.{Cache}
+use Rattle.auth_store_parts.specs.History.{History}
+use Rattle.auth_store_ledger.specs.Store.{setting_of_width}
+use Rattle.auth_store_log.specs.Records.{Format, format_of}
+use Rattle.auth_store_session.specs.declared.error.StoreError.TheVariants.{Failed}
+use Rattle.auth_store_session.specs.Machine.{Leaves, MayRefuseRead, refusal_of}
+use Rattle.auth_store_session.specs.Reads.{IsLiveOn, live_on, seen_on}
 use Rattle.auth_store_session.specs.Standing.{power_of}
 use Rattle.auth_store_session.specs.Stores.{StoreState}
-use Rattle.auth_store_log.specs.Records.{Format, format_of}
-use Rattle.auth_store_session.proofs.OnDevice.{one_history, read_on_device, live_stays}
-use Rattle.auth_store_session.specs.Machine.{Leaves, refusal_of}
-use Rattle.auth_store_session.proofs.Powers.{leaves_named, leaves_failed}
-use Rattle.auth_store_session.specs.declared.error.StoreError.TheVariants.{Failed}
+use Rattle.auth_store_session.proofs.Lives.{is_pruned, not_failed, stays_at}
+use Rattle.auth_store_session.proofs.OnDevice.{carried, read_on_device}
+use Rattle.auth_store_session.proofs.Powers.{leaves_failed, leaves_named}
+use Rattle.auth_store_parts.specs.History.{latest_map}
+use Rattle.auth_store_parts.specs.Map.{value_at}
 use Rattle.auth_store_session.proofs.store.Store.get.Goals as goal
 
 pub invariant_of-self : goal.invariant_of-self
-invariant_of-self g c =
-    let format : Format = format_of (g.K.Read.after tt) (g.V.Read.after tt) g.K.FixedSize.SIZE g.V.FixedSize.SIZE in (
-      c.self.invariant.0,
-      record {
-        opened = c.get_live-answer.ensures.open;
-        cache = c.get_live-answer.ensures.cache;
-        live = live_stays format c.get_live-answer.new.blob.calls c.get_live-answer.new.cache c.self.inside.live c.in-Some.live
-            c.in-Some.is c.get_live-answer.ensures.live;
-      },
-      c.self.invariant.2,
-    )
+invariant_of-self g c = (
+  c.self.invariant.0,
+  c.get_live-answer.ensures.reads.opened ∙ c.self.invariant.1,
+  c.get_live-answer.ensures.cache,
+  subst (λ l. IfSome l (IsLiveOn (setting_of_width g.F.Family.merge_rule g.H.HashFunction.hash_of g.row.N)
+      (format_of (g.K.Read.after tt) (g.V.Read.after tt) g.K.FixedSize.SIZE g.V.FixedSize.SIZE) c.get_live-answer.new.blob.calls c.get_live-answer.new.cache))
+      (sym c.in-Some.is) c.get_live-answer.ensures.live,
+  c.self.invariant.4,
+)
+
+pub returns-clause-stays : goal.returns-clause-stays
+returns-clause-stays g c = λ history live.
+    let format : Format = format_of (g.K.Read.after tt) (g.V.Read.after tt) g.K.FixedSize.SIZE g.V.FixedSize.SIZE in
+    stays_at format c.self.inside.device c.get_live-answer.new.blob c.self.inside.cache c.get_live-answer.new.cache c.self.inside.live
+    c.self.inside.pruned c.args.self.now c.in-Some.live c.self.view_is c.in-Some.is c.get_live-answer.ensures.reads.calls history live
+
+pub returns-clause-failed : goal.returns-clause-failed
+returns-clause-failed g c = λ none.
+    let format : Format = format_of (g.K.Read.after tt) (g.V.Read.after tt) g.K.FixedSize.SIZE g.V.FixedSize.SIZE in
+    absurd (not_failed format c.self.inside.device c.self.inside.cache c.self.inside.live c.self.inside.pruned c.args.self.now
+    c.in-Some.live c.self.view_is c.in-Some.is none)
+
+pub returns-clause-leaves : goal.returns-clause-leaves
+returns-clause-leaves g c =
+    let old = c.self.inside.device in
+    let new = c.get_live-answer.new.blob in
+    let now = c.get_live-answer.new.cache in
+    let refusal = refusal_of c.get_live-answer.result in
+    subst (λ (s : StoreState g.row.R.Denot). Leaves 0 refusal (power_of s.device s.cache) (power_of new now)) c.self.view_is
+    (leaves_named refusal old new c.self.inside.cache now c.get_live-answer.ensures.reads.raised c.get_live-answer.ensures.reads.left
+    (ap (λ (k : Cache). k.next_id) c.get_live-answer.ensures.reads.cache))
+
+pub returns-in_default-clause-leaves : goal.returns-in_default-clause-leaves
+returns-in_default-clause-leaves g c = leaves_failed Failed c.args.self.now.device c.args.self.now.cache refl
 
 pub returns-clause-found : goal.returns-clause-found
 returns-clause-found g c = λ history live.
-    subst (λ (h : History). IfOk c.get_live-answer.result (λ found. option_map g.V.Write.encoding found
-    ≡ value_at (latest_map h) (g.K.Write.encoding c.args.key.now)))
-    (one_history c.self.inside.device c.self.inside.cache c.self.inside.live c.self.inside.pruned c.args.self.now c.in-Some.live history
-    c.self.view_is c.in-Some.is live)
+    let format : Format = format_of (g.K.Read.after tt) (g.V.Read.after tt) g.K.FixedSize.SIZE g.V.FixedSize.SIZE in
+    let old = c.self.inside.device in
+    carried (λ (h : History) (n : ℕ). IfOk c.get_live-answer.result
+    (λ found. option_map g.V.Write.encoding found ≡ value_at (latest_map h) (g.K.Write.encoding c.args.key.now)))
+    old c.self.inside.cache (seen_on format old.calls c.self.inside.live) c.self.inside.pruned c.args.self.now
+    (live_on format old.calls c.in-Some.live) (live_on format old.calls c.in-Some.live) history c.self.view_is
+    (ap (seen_on format old.calls) c.in-Some.is)
+    (is_pruned format old.calls c.self.inside.live c.self.inside.pruned c.self.invariant.4) refl live
     c.get_live-answer.ensures.ok
 
 pub returns-clause-refused : goal.returns-clause-refused
@@ -43,16 +74,3 @@ returns-clause-refused g c = λ history live.
     (IfErr-weaker c.get_live-answer.result _ _
     (λ e cause. read_on_device old new c.self.inside.cache c.get_live-answer.new.cache e c.refuses_only_under_a_cut.ensures cause)
     c.get_live-answer.ensures.refused)
-
-pub returns-clause-leaves : goal.returns-clause-leaves
-returns-clause-leaves g c =
-    let old = c.self.inside.device in
-    let new = c.get_live-answer.new.blob in
-    let now = c.get_live-answer.new.cache in
-    let refusal = refusal_of c.get_live-answer.result in
-    subst (λ (s : StoreState g.row.R.Denot). Leaves 0 refusal (power_of s.device s.cache) (power_of new now)) c.self.view_is
-    (leaves_named refusal old new c.self.inside.cache now c.get_live-answer.ensures.raised c.get_live-answer.ensures.left
-    c.get_live-answer.ensures.names)
-
-pub returns-in_default-clause-leaves : goal.returns-in_default-clause-leaves
-returns-in_default-clause-leaves g c = leaves_failed Failed c.args.self.now.device c.args.self.now.cache refl

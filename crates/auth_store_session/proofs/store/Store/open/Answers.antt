@@ -3,6 +3,8 @@ use Rattle.auth_store_device.specs.Devices.{DeviceState}
 use Rattle.auth_store_device.specs.Logs.{HasOwnHeader}
 use Rattle.auth_store_log.specs.Records.{Format, format_of}
 use Rattle.auth_store_session.specs.Machine.{Machine, machine}
+use Rattle.auth_store_session.specs.Reads.{live_on}
+use Rattle.auth_store_session.specs.Stores.{LiveState}
 use Rattle.auth_store_session.specs.Standing.{IsOpenError, IsOpenedThrough, shown_of}
 use Rattle.auth_store_session.proofs.OnDevice.{refused_closed}
 use Rattle.auth_store_session.specs.Machine.{Leaves}
@@ -12,12 +14,17 @@ use Rattle.auth_store_session.proofs.store.Store.open.Goals as goal
 pub invariant_of-result : goal.invariant_of-result
 invariant_of-result g c = (
   c.requires.width,
-  record { opened = c.in-Ok.ensures.is_open; cache = c.open_live.ensures.cache; live = c.in-Ok.ensures.live },
+  c.in-Ok.ensures.is_open,
+  c.open_live.ensures.cache,
+  c.in-Ok.ensures.live,
   c.in-Ok.ensures.whole,
 )
 
 pub returns-in-Ok-clause-recovers : goal.returns-in-Ok-clause-recovers
-returns-in-Ok-clause-recovers g c = (c.in-Ok.live.history, (c.in-Ok.live, refl, refl), c.in-Ok.ensures.recovers)
+returns-in-Ok-clause-recovers g c =
+    let format : Format = format_of (g.K.Read.after tt) (g.V.Read.after tt) g.K.FixedSize.SIZE g.V.FixedSize.SIZE in
+    let live : LiveState = live_on format c.open_live.new.device.calls c.in-Ok.live in
+    (live.history, (live, refl, refl), c.in-Ok.ensures.recovers)
 
 pub returns-in-Err-clause-kept : goal.returns-in-Err-clause-kept
 returns-in-Err-clause-kept g c =

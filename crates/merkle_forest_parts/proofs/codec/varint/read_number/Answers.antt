@@ -1,7 +1,9 @@
 use Rattle.std.proofs.Common.{◌≡◌, ◌<◌, ◌+◌, ◌*◌, refl, arith}
 use Rattle.std.proofs.lemmas.Result.{err_from_is_err_and}
 use Rattle.merkle_forest_parts.specs.Varint.{varint_at}
-use Rattle.merkle_forest_parts.proofs.Varints.{at_first, group_fits, product_fits, sum_fits, weight_fits, next_power, encodes_on, encodes_last, encodes_tenth, at_end, is_long, is_last, goes_on, is_tenth, past_64_bits}
+use Rattle.merkle_forest_parts.proofs.Varints.{at_first, group_fits, product_fits, sum_fits, weight_fits, next_power}
+use Rattle.merkle_forest_parts.proofs.Varints.{encodes_on, encodes_last, encodes_tenth, at_end, is_long, is_last}
+use Rattle.merkle_forest_parts.proofs.Varints.{goes_on, is_tenth, past_64_bits}
 use Rattle.merkle_forest_parts.proofs.codec.varint.read_number.Goals as goal
 use Rattle.merkle_forest_parts.proofs.codec.varint.read_number.Goals.{else-byte-eq0-via-then-byte-eq0+else-group-gt0, else-byte-eq0-via-else-byte-eq0}
 

@@ -29,10 +29,15 @@ returns-clause-bytes g c =
     let sum = g.C.Checksum.checksum_of in
     let calls = g.B.Blob.calls c.args.blob.now in
     let w = c.args.self.now in
-    let P : FlushedPages → List ℕ → Type 0 = λ p tail. OnOk c.read_many_into.result (c.read_many_into.new.out ≡ slices (listed sum calls p tail) (items_of c.args.item_size c.args.offsets.now)) in
-    let made : P (pages_of w) c.view.result.tail.now = subst (λ (p : FlushedPages). P p c.view.result.tail.now) c.view.ensures.pages c.read_many_into.ensures.bytes in
+    let P : FlushedPages → List ℕ → Type 0 = λ p tail. OnOk c.read_many_into.result
+    (c.read_many_into.new.out ≡ slices (listed sum calls p tail) (items_of c.args.item_size c.args.offsets.now))
+    in
+    let made : P (pages_of w) c.view.result.tail.now = subst (λ (p : FlushedPages). P p c.view.result.tail.now)
+    c.view.ensures.pages c.read_many_into.ensures.bytes in
     let whole : P (pages_of w) w.tip.bytes = subst (λ (l : List ℕ). P (pages_of w) l) c.view.ensures.tail made in
-    subst (λ (l : List ℕ). OnOk c.read_many_into.result (c.read_many_into.new.out ≡ slices l (items_of c.args.item_size c.args.offsets.now))) (listed_is sum calls w) whole
+    subst (λ (l : List ℕ). OnOk c.read_many_into.result
+    (c.read_many_into.new.out ≡ slices l (items_of c.args.item_size c.args.offsets.now))) (listed_is sum calls w)
+    whole
 
 pub returns-clause-cached : goal.returns-clause-cached
 returns-clause-cached g c =

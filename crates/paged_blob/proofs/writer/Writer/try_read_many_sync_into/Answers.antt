@@ -13,9 +13,11 @@ returns-clause-served g c = λ calls writer sizes holds.
     let front = on_blob sum calls (pages_of w) in
     let serves = writer_serves sum calls w some_room writer c.args.cache.now sizes holds in
     let P : FlushedPages → List ℕ → Type 0 = λ p tail. Serves front c.args.cache.now p → IfOk c.try_read_many_sync_into.result
-    (λ missing. AreServed c.args.cache.now p (front ++ tail) 0 (items_of c.args.item_size c.args.offsets.now) c.try_read_many_sync_into.new.out missing.items) in
+    (λ missing. AreServed c.args.cache.now p (front ++ tail) 0 (items_of c.args.item_size c.args.offsets.now)
+    c.try_read_many_sync_into.new.out missing.items) in
     let made : P (pages_of w) c.view.result.tail.now =
     subst (λ (p : FlushedPages). P p c.view.result.tail.now) c.view.ensures.pages (c.try_read_many_sync_into.ensures.served front) in
     let whole = subst (λ (l : List ℕ). P (pages_of w) l) c.view.ensures.tail made serves in
     subst (λ (l : List ℕ). IfOk c.try_read_many_sync_into.result
-    (λ missing. AreServed c.args.cache.now (pages_of w) l 0 (items_of c.args.item_size c.args.offsets.now) c.try_read_many_sync_into.new.out missing.items)) (listed_is sum calls w) whole
+    (λ missing. AreServed c.args.cache.now (pages_of w) l 0 (items_of c.args.item_size c.args.offsets.now)
+    c.try_read_many_sync_into.new.out missing.items)) (listed_is sum calls w) whole

@@ -1,4 +1,5 @@
-use Rattle.std.proofs.Common.{rules, ◌≡◌, ◌<◌, ◌+◌, ◌-◌, ◌++◌, ◌∷◌, [], ℕ, List, true, false, cond, length, take, drop, ap, sym, subst, ◌∙◌, inl, inr, ⊎_elim, arith}
+use Rattle.std.proofs.Common.{rules, ◌≡◌, ◌<◌, ◌+◌, ◌-◌, ◌++◌, ◌∷◌, [], ℕ, List, true, false, cond, length, take}
+use Rattle.std.proofs.Common.{drop, ap, sym, subst, ◌∙◌, inl, inr, ⊎_elim, arith}
 use Rattle.std.proofs.lemmas.Bool.{cases_Bool, cond-true, cond-false}
 use Rattle.std.proofs.lemmas.List.{length-append, length-take-le, length-drop}
 use borrow.Rule.Slice.PartMut.{put_mid}
@@ -36,9 +37,11 @@ loop-offset-preserved g c =
           let size : length list ≡ pages.len + length tail = length-append front tail ∙ ap (λ n. n + length tail) serves.long in
           let found = c.try_read_sync_into-is_served.ensures.served front serves in
           let Q : ℕ → Type 0 = λ n. IsServed cache pages n range.0 range.1 in
-          let to : IsServed cache pages (pages.len + length tail) range.0 (length (take span (drop done out))) → IsServed cache pages (length list) range.0 range.1 =
+          let to : IsServed cache pages (pages.len + length tail) range.0 (length (take span (drop done out)))
+          → IsServed cache pages (length list) range.0 range.1 =
           λ s. subst Q (sym size) (subst (λ n. IsServed cache pages (pages.len + length tail) range.0 n) asked s) in
-          let back : IsServed cache pages (length list) range.0 range.1 → IsServed cache pages (pages.len + length tail) range.0 (length (take span (drop done out))) =
+          let back : IsServed cache pages (length list) range.0 range.1
+          → IsServed cache pages (pages.len + length tail) range.0 (length (take span (drop done out))) =
           λ s. subst (λ n. IsServed cache pages (pages.len + length tail) range.0 n) (sym asked) (subst Q size s) in
           let here : IsNext cache pages list range index piece named =
           ⊎_elim

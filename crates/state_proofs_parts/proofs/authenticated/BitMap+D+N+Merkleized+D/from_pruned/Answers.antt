@@ -9,7 +9,9 @@ use Rattle.state_proofs_parts.proofs.authenticated.BitMap+D+N+Merkleized+D.from_
 pub returns-clause-of_list : goal.returns-clause-of_list
 returns-clause-of_list g c all long peaks =
     parts_map (g.H.Hasher.leaf_of c.args.hasher.now) (g.H.Hasher.node_of c.args.hasher.now) g.row.N (wide-some g.row.N c.requires) all
-    c.args.chunks (map g.D.Write.encoding c.args.digests.now) long (length-map c.args.digests.now g.D.Write.encoding ∙ c.in_ok-tree.ensures.counted) peaks c.new_with_pruned_chunks-bits.result
+    c.args.chunks (map g.D.Write.encoding c.args.digests.now) long
+    (length-map c.args.digests.now g.D.Write.encoding ∙ c.in_ok-tree.ensures.counted) peaks
+    c.new_with_pruned_chunks-bits.result
     c.in_ok-tree.tree c.new_with_pruned_chunks-bits.ensures c.in_ok-tree.ensures.tree (g.D.Write.encoding c.root_over-root.result)
 
 pub returns-clause-root_of_list : goal.returns-clause-root_of_list

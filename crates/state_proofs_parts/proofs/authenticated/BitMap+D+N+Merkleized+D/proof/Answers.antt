@@ -16,7 +16,8 @@ bit_digests-requires g c =
     let pruned = c.self.inside.bits.pruned in
     let some = wide-some width c.self.invariant.wide in
     let low = subst (λ (m : Map). 8 * width * m.bits.pruned ≤ c.args.bit) (sym c.self.view_is) c.requires in
-    let chunk : pruned ≤ c.args.bit / (8 * width) = le-div pruned c.args.bit (8 * width) (omega (arith, some)) (omega (arith, low, mul_comm pruned (8 * width))) in
+    let chunk : pruned ≤ c.args.bit / (8 * width) = le-div pruned c.args.bit (8 * width) (omega (arith, some))
+    (omega (arith, low, mul_comm pruned (8 * width))) in
     let count : c.args.bit ≤ bit_count width c.self.inside.bits = omega (arith, c.if-bit-length.false, c.len-length.ensures.length) in
     let same = ap (λ n. c.args.bit / n) c.chunk_bits.ensures.bits in
     let high = chunk_within width c.self.inside.bits c.args.bit some count in

@@ -2,7 +2,8 @@ use Rattle.std.proofs.Common.{arith}
 use Rattle.std.proofs.lemmas.Nat.{one_shl}
 use Rattle.state_proofs_parts.specs.Laws.Heights.{height_of_log, eight_times}
 use Rattle.state_proofs_parts.proofs.chunk_size.ChunkSize.new.Goals as goal
-use Rattle.state_proofs_parts.proofs.chunk_size.ChunkSize.new.Goals.{then-height-gt59-via-then-height-gt59, then-height-gt59-via-else-height-gt59+then-bytes-height}
+use Rattle.state_proofs_parts.proofs.chunk_size.ChunkSize.new.Goals.{then-height-gt59-via-then-height-gt59}
+use Rattle.state_proofs_parts.proofs.chunk_size.ChunkSize.new.Goals.{then-height-gt59-via-else-height-gt59+then-bytes-height}
 
 pub returns-then-height-gt59-clause-none : goal.returns-then-height-gt59-clause-none
 returns-then-height-gt59-clause-none c height whole low =

@@ -5,7 +5,8 @@ use Rattle.state_proofs_parts.specs.VerifierCode.{form_given_of}
 use Rattle.state_proofs_parts.specs.Laws.SameNodes.{tree_of}
 use Rattle.state_proofs_parts.specs.Laws.Verifier.{node_at-is, node_at-none, not_at_height, at_height_is, not_given, is_given}
 use Rattle.state_proofs_parts.proofs.grafting.verifier.Verifier.chunk_joined_at.Goals as goal
-use Rattle.state_proofs_parts.proofs.grafting.verifier.Verifier.chunk_joined_at.Goals.{then-index-self-via-then-index-self, then-index-self-via-else-index-self+then-index-self-2}
+use Rattle.state_proofs_parts.proofs.grafting.verifier.Verifier.chunk_joined_at.Goals.{then-index-self-via-then-index-self}
+use Rattle.state_proofs_parts.proofs.grafting.verifier.Verifier.chunk_joined_at.Goals.{then-index-self-via-else-index-self+then-index-self-2}
 
 pub returns-then-position-leaf_position : goal.returns-then-position-leaf_position
 returns-then-position-leaf_position g c =

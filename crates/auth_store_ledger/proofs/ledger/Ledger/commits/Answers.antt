@@ -1,0 +1,15 @@
+use Rattle.std.proofs.Common.{ℕ}
+use Rattle.state_proofs_parts.specs.Canonical.{Setting}
+use Rattle.auth_store_log.specs.Records.{Format, format_of}
+use Rattle.auth_store_ledger.specs.Store.{setting_of_width}
+use Rattle.auth_store_ledger.proofs.Proofs.{inside}
+use Rattle.auth_store_ledger.proofs.ledger.Ledger.commits.Goals as goal
+
+pub returns : goal.returns
+returns g c log of =
+    let key : ℕ = g.K.FixedSize.SIZE in
+    let value : ℕ = g.V.FixedSize.SIZE in
+    let setting : Setting = setting_of_width g.F.Family.merge_rule g.H.HashFunction.hash_of g.row.N in
+    let format : Format = format_of (g.K.Read.after tt) (g.V.Read.after tt) key value in
+    let keeps = (inside setting format log c.self.inside.places c.self.inside.commits c.self.inside.current c.args.self.now c.self.view_is of).keeps in
+    keeps.commits

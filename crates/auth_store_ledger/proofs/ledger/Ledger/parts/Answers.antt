@@ -1,0 +1,17 @@
+use Rattle.state_proofs_parts.specs.Canonical.{Setting}
+use Rattle.auth_store_log.specs.Records.{Format, format_of}
+use Rattle.auth_store_ledger.specs.Store.{setting_of_width}
+use Rattle.auth_store_ledger.proofs.Proofs.{inside}
+use Rattle.auth_store_ledger.proofs.ledger.Ledger.parts.Goals as goal
+
+pub returns : goal.returns
+returns g c log of =
+    let setting : Setting = setting_of_width g.F.Family.merge_rule g.H.HashFunction.hash_of g.row.N in
+    let format : Format = format_of (g.K.Read.after tt) (g.V.Read.after tt) g.K.FixedSize.SIZE g.V.FixedSize.SIZE in
+    let here = inside setting format log c.self.inside.places c.self.inside.commits c.self.inside.current c.args.self.now c.self.view_is of in
+    record {
+      states = here.keeps.states;
+      whole = here.keeps.whole;
+      stand = here.places;
+      current = here.keeps.current;
+    }
