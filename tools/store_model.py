@@ -4,43 +4,15 @@
     tools/store_model.py VECTORS..
 
 Each of VECTORS is a file of lists of batches with what is expected of them; roots, prunings and the proofs of keys, of
-Merkle Mountain Ranges under the first rule of logs, are compared. A state is a dict from keys to values, both encoded; a history a list of
-(state, metadata), the oldest first; an operation a tuple ("delete", key), ("update", key, value, next key) or
-("commit", metadata, floor).
+Merkle Mountain Ranges under the first rule of logs, are compared. States, histories and operations are those of
+tools/reference/histories.py.
 """
 import json
+import pathlib
 import sys
-from hashlib import sha256
 
-
-def digest(*parts):
-    return sha256(b"".join(parts)).digest()
-
-
-def number(n):
-    return n.to_bytes(8, "big")
-
-
-def after(state, words):
-    """The state after the words of a batch, each ("put", key, value) or ("delete", key)."""
-    state = dict(state)
-    for word, key, *value in words:
-        if word == "put":
-            state[key] = value[0]
-        else:
-            state.pop(key, None)
-    return state
-
-
-def next_key(state, key):
-    return min((k for k in state if k > key), default=min(state))
-
-
-def changes(old, new):
-    """The operations of a commit that leads from one state to another, without the commit itself."""
-    deletes = [("delete", key) for key in sorted(old) if key not in new]
-    updates = [("update", key, new[key], next_key(new, key)) for key in sorted(new)]
-    return deletes + [u for u in updates if u[1] not in old or u[2:] != (old[u[1]], next_key(old, u[1]))]
+sys.path.insert(0, str(pathlib.Path(__file__).resolve().parent / "reference"))
+from histories import after, changes, digest, next_key, number  # noqa: E402 (in the folder named above)
 
 
 def bits(log):

@@ -115,6 +115,20 @@ def branch_digest(position, left, right):
     return sha256(number(position) + left + right)
 
 
+def made_of_pinned(peaks, pinned):
+    """What gives a node's digest, made of the pinned ones, one for each of these peaks. None where their number differs."""
+    if len(pinned) != len(peaks):
+        return None
+    known = {peak.position: digest for peak, digest in zip(peaks, pinned)}
+
+    def made(node):
+        if node.position in known:
+            return known[node.position]
+        return branch_digest(node.position, made(node.left), made(node.right))
+
+    return made
+
+
 def fold(left, right):
     return sha256(left + right)
 

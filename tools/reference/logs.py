@@ -20,6 +20,16 @@ def key(word):
     return unhex(word, 8)
 
 
+def batch_word(words):
+    """The word of a batch that a line is, if it is one."""
+    match words:
+        case ["put", name, value]:
+            return "put", key(name), encoded_number(number(value))
+        case ["del", name]:
+            return "del", key(name)
+    return None
+
+
 def texts(operations):
     return " ".join(map(text, operations)) or "none"
 
@@ -77,13 +87,10 @@ class Logs:
         return texts(more)
 
     def answer(self, words):
+        if word := batch_word(words):
+            self.batch.append(word)
+            return "ok"
         match words:
-            case ["put", name, value]:
-                self.batch.append(("put", key(name), encoded_number(number(value))))
-                return "ok"
-            case ["del", name]:
-                self.batch.append(("del", key(name)))
-                return "ok"
             case ["push", *words]:
                 self.log.append(operation(words))
                 return "ok"

@@ -208,16 +208,9 @@ def check_pinned(family, bagging, proof, start, elements, pinned, root):
     """Whether a proof of a range holds, and its digests that cover leaves before it are made of the pinned ones."""
     if not check_range(family, bagging, proof, start, elements, root):
         return False
-    peaks = trees.grow(family, start).peaks
-    if len(pinned) != len(peaks):
+    made = trees.made_of_pinned(trees.grow(family, start).peaks, pinned)
+    if made is None:
         return False
-    digests = {peak.position: digest for peak, digest in zip(peaks, pinned)}
-
-    def made(node):
-        if node.position in digests:
-            return digests[node.position]
-        return trees.branch_digest(node.position, made(node.left), made(node.right))
-
     forest = trees.grow(family, proof.leaves)
     stop = start + len(elements)
     for part, digest in zip(range_parts(forest, bagging, proof.inactive, start, stop), proof.digests):

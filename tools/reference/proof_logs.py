@@ -38,16 +38,9 @@ def pinned(family, proof, start, numbers, digests, root):
     """Whether each digest of the proof that is over leaves before the range is made of these pinned ones."""
     if not shows(family, proof, start, numbers, root):
         return False
-    peaks = peaks_of(family, start)
-    if len(digests) != len(peaks):
+    made = forest.made_of_pinned(peaks_of(family, start), digests)
+    if made is None:
         return False
-    at = {peak.position: digest for peak, digest in zip(peaks, digests)}
-
-    def made(node):
-        if node.position in at:
-            return at[node.position]
-        return plain_branch(node, made(node.left), made(node.right))
-
     rebuilt = led(family, proof, start, numbers)
     if rebuilt.prefix is not None and rebuilt.prefix != forest.fold_forward([made(p) for p in rebuilt.parts.folded]):
         return False

@@ -15,7 +15,7 @@ from proof_states import State
 from devices import PIECE, Device, Refused, Settings, recovered
 from histories import RECORD, number as encoded_number
 from lines import BadLine, hexed, number, play, said, unhex
-from logs import key, metadata_of
+from logs import batch_word, key, metadata_of
 
 PAGE = 64
 FOOTER = 12
@@ -683,12 +683,9 @@ class Stores:
                 return self.has_settings()
             case ["injections"]:
                 return str(self.disk.injections)
-            case ["put", name, value]:
-                self.batch.append(("put", key(name), encoded_number(number(value))))
-                return "ok"
-            case ["del", name]:
-                self.batch.append(("del", key(name)))
-                return "ok"
+        if word := batch_word(words):
+            self.batch.append(word)
+            return "ok"
         return self.step_answer(words)
 
     def step_answer(self, words):

@@ -39,7 +39,8 @@ module _ (setting : Setting) (state : State) (some : 0 < setting.width) (same : 
       by false true is set back = back refl
       by false false is set back = is
 
-  module _ (start count : ℕ) (chunks : List (List ℕ)) (covered : start / chunk_bits setting + length chunks ≡ (start + count - 1) / chunk_bits setting + 1)
+  module _ (start count : ℕ) (chunks : List (List ℕ))
+      (covered : start / chunk_bits setting + length chunks ≡ (start + count - 1) / chunk_bits setting + 1)
       (are : (i : ℕ) → i < length chunks → slice_get chunks i ≡ Some (chunk setting state (start / chunk_bits setting + i))) where
     -- so is the bit in the chunks over operations that are the state's
     pub over_is : (i : ℕ) → i < count → start + i < length state.operations

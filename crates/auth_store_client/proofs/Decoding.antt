@@ -1,5 +1,6 @@
 -- Bytes that encode a proof within the limits are read to their end, and encode one proof alone.
-use Rattle.std.proofs.Common.{◌≡◌, ℕ, ◌^◌, ◌<◌, List, [], ◌∷◌, ◌++◌, length, Option, Some, None, Ok, refl, sym, ◌∙◌, ap, append_assoc, append-nil, arith}
+use Rattle.std.proofs.Common.{◌≡◌, ℕ, ◌^◌, ◌<◌, List, [], ◌∷◌, ◌++◌, length}
+use Rattle.std.proofs.Common.{Option, Some, None, Ok, refl, sym, ◌∙◌, ap, append_assoc, append-nil, arith}
 use Rattle.std.specs.Prelude.{IfSome, slice_index_or}
 use Rattle.merkle_forest.specs.Codec.{Outcome, option_encoding, after_option}
 use Rattle.merkle_forest.specs.Laws.Matching.{append_parts}

@@ -1,5 +1,6 @@
 -- Bytes that show a key's value are those of its active update, with its next key.
-use Rattle.std.proofs.Common.{◌≡◌, ◌-◌, ℕ, zero, suc, List, [], ◌∷◌, ◌++◌, length, drop, map, replicate, Some, append_assoc, sym, ◌∙◌, ap, arith, Option}
+use Rattle.std.proofs.Common.{◌≡◌, ◌-◌, ℕ, zero, suc, List, [], ◌∷◌, ◌++◌, length}
+use Rattle.std.proofs.Common.{drop, map, replicate, Some, append_assoc, sym, ◌∙◌, ap, arith, Option}
 use Rattle.std.specs.List.{AllByRecursion}
 use Rattle.std.specs.Prelude.{slice_get, slice_index_or}
 use Rattle.merkle_forest.specs.Codec.{Outcome}

@@ -1,7 +1,8 @@
 -- A key that a state lacks is in the span of one of its keys alone.
 --
 -- Of two spans round the circle of keys that share a key one begins within the other; and no key of a state is in the span of another one.
-use Rattle.std.proofs.Common.{◌≡◌, ◌⊎◌, inl, inr, ⊎_elim, ℕ, Bool, true, false, T, List, [], ◌∷◌, None, Some, refl, ap, sym, ◌∙◌, subst}
+use Rattle.std.proofs.Common.{◌≡◌, ◌⊎◌, inl, inr, ⊎_elim, ℕ, Bool, true, false}
+use Rattle.std.proofs.Common.{T, List, [], ◌∷◌, None, Some, refl, ap, sym, ◌∙◌, subst}
 use Rattle.std.proofs.lemmas.Cmp.{nat_list_cmp_total}
 use Rattle.std.specs.declared.cmp.Ordering.{Ordering}
 use Rattle.std.specs.declared.cmp.Ordering.TheVariants.{Less, Equal, Greater}

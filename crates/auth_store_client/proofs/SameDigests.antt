@@ -1,5 +1,6 @@
 -- The digests of a range are the same of digests that are the same at each node of the forest.
-use Rattle.std.proofs.Common.{◌≡◌, ℕ, zero, suc, ◌+◌, Bool, true, false, cond, inl, inr, List, [], ◌∷◌, ◌++◌, filter, take, drop, refl, sym, ◌∙◌, ap, ap₂}
+use Rattle.std.proofs.Common.{◌≡◌, ℕ, zero, suc, ◌+◌, Bool, true, false, cond, inl, inr, List}
+use Rattle.std.proofs.Common.{[], ◌∷◌, ◌++◌, filter, take, drop, refl, sym, ◌∙◌, ap, ap₂}
 use Rattle.std.specs.List.{AllByRecursion, flat_map}
 use Rattle.std.proofs.lemmas.List.Concat.{flat_map-cons}
 use Rattle.merkle_forest.specs.declared.bagging.Bagging.TheVariants.{BackwardFold}
@@ -32,7 +33,8 @@ drop_all P zero xs all = all
 drop_all P (suc n) [] all = tt
 drop_all P (suc n) (x ∷ xs) all = drop_all P n xs all.1
 
-module _ (one other : Digests) (forest : List Tree) (same : (first : ℕ) (tree : Tree) → IsNodeAt first tree forest → one first tree ≡ other first tree) where
+module _ (one other : Digests) (forest : List Tree)
+    (same : (first : ℕ) (tree : Tree) → IsNodeAt first tree forest → one first tree ≡ other first tree) where
   siblings_same : (start stop at : ℕ) (t : Tree) → IsNodeAt at t forest → siblings one start stop at t ≡ siblings other start stop at t
   siblings_same start stop at (leaf p) stands = ap (λ d. cond (meets start stop (at, leaf p)) [] (d ∷ [])) (same at (leaf p) stands)
   siblings_same start stop at (branch p left right) stands =

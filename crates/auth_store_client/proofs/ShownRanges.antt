@@ -1,5 +1,6 @@
 -- What bytes show of operations with their bits, from the proof and the chunks that were read of them.
-use Rattle.std.proofs.Common.{◌≡◌, ℕ, Bool, ◌^◌, ◌<◌, List, ◌++◌, ◌-◌, length, take, drop, Option, refl, sym, ◌∙◌, ap, subst, arith, length-append}
+use Rattle.std.proofs.Common.{◌≡◌, ℕ, Bool, ◌^◌, ◌<◌, List, ◌++◌, ◌-◌, length}
+use Rattle.std.proofs.Common.{take, drop, Option, refl, sym, ◌∙◌, ap, subst, arith, length-append}
 use Rattle.std.proofs.lemmas.List.{drop_at, take_rest}
 use Rattle.merkle_forest.specs.Codec.{Outcome}
 use Rattle.state_ops.specs.Operation.{Operation}

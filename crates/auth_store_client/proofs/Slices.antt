@@ -1,5 +1,6 @@
 -- Bytes that encode a witness and a proof within the limits are read to their end, and encode these alone.
-use Rattle.std.proofs.Common.{◌≡◌, ℕ, ◌^◌, ◌<◌, ◌≤◌, List, [], ◌++◌, length, Option, Some, None, Ok, refl, sym, ◌∙◌, ap, append_assoc, append-nil, arith}
+use Rattle.std.proofs.Common.{◌≡◌, ℕ, ◌^◌, ◌<◌, ◌≤◌, List, [], ◌++◌, length}
+use Rattle.std.proofs.Common.{Option, Some, None, Ok, refl, sym, ◌∙◌, ap, append_assoc, append-nil, arith}
 use Rattle.std.specs.Prelude.{IfSome, option_map}
 use Rattle.std.proofs.lemmas.List.{length-map}
 use Rattle.merkle_forest.specs.Codec.{◌>>=◌, Outcome, option_encoding, after_option}
@@ -147,7 +148,8 @@ module _ (digest held : List ℕ → Outcome) (IsPending : Option (List ℕ) →
 
 -- so is what the code holds of them
 module _ {D P : Type 0} (encoding : D → List ℕ) (is_value : D → Type 0) (size : ℕ) (sized : (d : D) → is_value d → length (encoding d) ≡ size)
-    (held : P → Option (List ℕ)) (is_held : P → Type 0) (IsPending : Option (List ℕ) → Type 0) (holds : (p : P) → is_held p → IsPending (held p)) where
+    (held : P → Option (List ℕ)) (is_held : P → Type 0) (IsPending : Option (List ℕ) → Type 0)
+    (holds : (p : P) → is_held p → IsPending (held p)) where
   next_fits : (p : Option (ℕ × D)) → HasNext is_value p
       → IfSome (option_map {U = ℕ × List ℕ} (λ x. (x.0, encoding x.1)) p) (λ x. (x.0 < 2 ^ 64) × (length x.1 ≡ size))
   next_fits None value = tt

@@ -33,7 +33,8 @@ base-gains held later calls base gaining b =
     }
 
 -- the first calls stay
-first-stay : (count : ℕ) (calls : List Call) (call : Call) → count ≤ length calls → content_after count (calls ++ call ∷ []) ≡ content_after count calls
+first-stay : (count : ℕ) (calls : List Call) (call : Call) → count ≤ length calls
+    → content_after count (calls ++ call ∷ []) ≡ content_after count calls
 first-stay count calls call there = ap (λ l. content (reverse l)) (take-append-le count calls (call ∷ []) there)
 
 -- a call leaves alone what is outside then

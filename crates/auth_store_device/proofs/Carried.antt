@@ -1,5 +1,6 @@
 -- How the open log is carried on by a change of it.
-use Rattle.std.proofs.Common.{◌≡◌, ℕ, ◌+◌, ◌-◌, ◌≤◌, Bool, true, false, ◌||◌, IsFalse, List, [], ◌∷◌, ◌++◌, length, take, drop, replicate, cond}
+use Rattle.std.proofs.Common.{◌≡◌, ℕ, ◌+◌, ◌-◌, ◌≤◌, Bool, true, false, ◌||◌}
+use Rattle.std.proofs.Common.{IsFalse, List, [], ◌∷◌, ◌++◌, length, take, drop, replicate, cond}
 use Rattle.std.proofs.Common.{sym, ◌∙◌, ap, subst, inl, inr, ⊎_elim, arith}
 use Rattle.std.proofs.lemmas.Bool.{true≢false, cond-true}
 use Rattle.std.proofs.lemmas.List.{length-drop}

@@ -1,5 +1,6 @@
 -- Slots of pages, and the files that may have had them.
-use Rattle.std.proofs.Common.{◌≡◌, ℕ, zero, suc, ◌+◌, ◌*◌, ◌/◌, ◌<◌, ◌≤◌, ◌==◌, ◌&&◌, nat_lt, nat_le, Bool, true, false, ◌||◌, List, [], ◌∷◌, length}
+use Rattle.std.proofs.Common.{◌≡◌, ℕ, zero, suc, ◌+◌, ◌*◌, ◌/◌, ◌<◌, ◌≤◌, ◌==◌}
+use Rattle.std.proofs.Common.{◌&&◌, nat_lt, nat_le, Bool, true, false, ◌||◌, List, [], ◌∷◌, length}
 use Rattle.std.proofs.Common.{take, drop, get_or}
 use Rattle.std.proofs.Common.{sym, ◌∙◌, ap, refl, arith}
 use Rattle.std.specs.Int.{w16, w32, from_be_bytes}
@@ -117,7 +118,8 @@ or-flip false true = refl
 or-flip false false = refl
 
 -- one call more, whole
-pub written-step : (size page : ℕ) (slot : Slot) (shown : List ℕ) (before : File) (call : Call) (file now : List ℕ) (found : Bool) → is_base call ≡ false
+pub written-step : (size page : ℕ) (slot : Slot) (shown : List ℕ) (before : File) (call : Call) (file now : List ℕ) (found : Bool)
+    → is_base call ≡ false
     → file ≡ whole before.base before.changes → now ≡ whole file (change_in call)
     → found ≡ was_written size page slot shown before.base before.changes
     → (now ≡ whole (file_after call before).base (file_after call before).changes)

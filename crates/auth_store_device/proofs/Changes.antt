@@ -1,5 +1,6 @@
 -- The open log is carried on by each call that the store took.
-use Rattle.std.proofs.Common.{◌≡◌, ℕ, ◌+◌, ◌-◌, ◌^◌, ◌<◌, ◌≤◌, min, max, ◌&&◌, nat_lt, Bool, true, false, cond, Option, Some, None, Result, Ok, Err}
+use Rattle.std.proofs.Common.{◌≡◌, ℕ, ◌+◌, ◌-◌, ◌^◌, ◌<◌, ◌≤◌, min, max}
+use Rattle.std.proofs.Common.{◌&&◌, nat_lt, Bool, true, false, cond, Option, Some, None, Result, Ok, Err}
 use Rattle.std.proofs.Common.{List, [], ◌∷◌, length, take, drop, sym, ◌∙◌, ap, subst, inl, inr, refl, arith}
 use Rattle.std.proofs.lemmas.Bool.{leb-true, leb-false, and_parts}
 use Rattle.rand_core.specs.Stream.{Stream, next_u64}
@@ -85,7 +86,8 @@ made_at config modes.Sync offset (byte ∷ bytes) store calls number live o =
 
 torn_at : (offset : ℕ) (bytes : List ℕ) (kept : List Bool) (mode : WriteMode) (store : Store) (calls : List Call) (number : ℕ) (live : List ℕ)
     → IsOpenLog store (file_of calls) (at_eight number live)
-    → IsOpenLog (fixed_write offset bytes kept (at_eight number live) store).1 (file_of (wrote (place_of mode offset bytes) bytes (is_sync mode) false ∷ calls))
+    → IsOpenLog (fixed_write offset bytes kept (at_eight number live) store).1
+    (file_of (wrote (place_of mode offset bytes) bytes (is_sync mode) false ∷ calls))
     (fixed_write offset bytes kept (at_eight number live) store).0
 torn_at offset bytes kept modes.Plain store calls number live o = torn_carried store (file_of calls) (at_eight number live) offset bytes kept o
 torn_at offset [] kept modes.Sync store calls number live o = empty_failed store (file_of calls) (at_eight number live) offset kept o
@@ -121,7 +123,8 @@ part_at config size store calls words number live o = at (drawn.0 && nat_lt (low
     at false is = nowhere_carried store (file_of calls) (at_eight number live) size o
 
 module _ {R : Type 0} (stream : R → Stream) where
-  pub write_made : (blob changed : Blob Handle) (offset : ℕ) (bytes : List ℕ) (mode : WriteMode) (old new : Storage Store R) (answer : Result Unit StorageError)
+  pub write_made : (blob changed : Blob Handle) (offset : ℕ) (bytes : List ℕ) (mode : WriteMode) (old new : Storage Store R)
+      (answer : Result Unit StorageError)
       (calls now : List Call) → FaultyWrites stream blob offset bytes (mode_below mode) old answer changed new → told_of answer ≡ Made
       → now ≡ wrote (place_of mode offset bytes) bytes (is_sync mode) true ∷ calls → IsOpenLog old.inner (file_of calls) blob.inner
       → IsOpenLog new.inner (file_of now) changed.inner
@@ -195,7 +198,8 @@ module _ {R : Type 0} (stream : R → Stream) where
       }
 
   -- and why one is refused
-  pub read_cause : (rate : Probability) (handle : Handle) (offset count : ℕ) (old new : Storage Store R) (e : StorageError) (file : File) (failures : Failures)
+  pub read_cause : (rate : Probability) (handle : Handle) (offset count : ℕ) (old new : Storage Store R) (e : StorageError)
+      (file : File) (failures : Failures)
       → old.injections < 2 ^ 64 - 1 → IsFaultyCall {T = Vec ℕ Global} stream Read rate (MemoryReads handle offset count) old (Err e) new
       → IsOpenLog old.inner file handle → IsReadCause failures file offset count (refusal_of kinds.Read e)
   read_cause rate handle offset count old new e file failures some (inl (full, is, same)) o = absurd (omega (arith, some, full))

@@ -98,7 +98,8 @@ bytes-begun full last next begun =
     (one_more (blocks_of full last) next.items)
 
 -- bytes are put behind those of the last block
-bytes-put : (full : List (Vec ℕ Global)) (last next bytes : List ℕ) → next ≡ last ++ bytes → GainsBytes (blocks_with full last) (blocks_with full next)
+bytes-put : (full : List (Vec ℕ Global)) (last next bytes : List ℕ) → next ≡ last ++ bytes
+    → GainsBytes (blocks_with full last) (blocks_with full next)
 bytes-put full last next bytes is =
     subst (λ l. GainsBytes (blocks_with full last) (blocks_with full l)) (sym is) (grown (map (λ (b : Vec ℕ Global). b.items) full) last bytes)
 

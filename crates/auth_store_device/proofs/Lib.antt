@@ -7,6 +7,7 @@ pub mod Headers
 pub mod Helds
 pub mod KeptCalls
 pub mod Listed
+pub mod Numbers
 pub mod Opened
 pub mod Shown
 pub mod Outcomes

@@ -84,7 +84,8 @@ numbered-added next added (stored ∷ later) is numbered =
     ]
 
 -- the number of a new file leads to it
-pub first-added : (next : ℕ) (added : StoredFile) (all : List StoredFile) → added.number ≡ next → is_log added ≡ true → are_numbered next all ≡ true
+pub first-added : (next : ℕ) (added : StoredFile) (all : List StoredFile) → added.number ≡ next → is_log added ≡ true
+    → are_numbered next all ≡ true
     → list_any is_log all ≡ false → IsFirst (has_number next) is_log (in_order added all)
 first-added next added [] is log numbered none = (eqb-from added.number next is ∙ sym log, λ is_not. tt)
   where

@@ -99,7 +99,8 @@ has-left [] [] by = refl
 has-left [] (left ∷ others) by = absurd by
 has-left (stored ∷ later) [] by = absurd by
 has-left (stored ∷ later) (left ∷ others) by =
-    ap (λ b. b || list_any is_log others) (ap (λ name. is_name log_partition log_name name) by.0) ∙ ap (λ b. is_log stored || b) (has-left later others by.3)
+    ap (λ b. b || list_any is_log others) (ap (λ name. is_name log_partition log_name name) by.0)
+    ∙ ap (λ b. is_log stored || b) (has-left later others by.3)
 
 number-left : (number : ℕ) (all lefts : List StoredFile) → AreLeftOf all lefts → list_any (has_number number) lefts ≡ list_any (has_number number) all
 number-left number [] [] by = refl

@@ -1,5 +1,6 @@
 -- What one change makes of an image.
-use Rattle.std.proofs.Common.{◌≡◌, ◌⊎◌, ℕ, ◌+◌, ◌-◌, ◌<◌, ◌≤◌, max, min, Bool, true, false, not, List, [], ◌∷◌, length, get_or, drop}
+use Rattle.std.proofs.Common.{◌≡◌, ◌⊎◌, ℕ, ◌+◌, ◌-◌, ◌<◌, ◌≤◌, max}
+use Rattle.std.proofs.Common.{min, Bool, true, false, not, List, [], ◌∷◌, length, get_or, drop}
 use Rattle.std.proofs.Common.{sym, ◌∙◌, ap, inl, inr, ⊎_elim, refl, subst, arith}
 use Rattle.std.proofs.lemmas.List.{ext_get_or, get_or_past, length-drop}
 use Rattle.std.proofs.lemmas.Bool.{cases_lt, and_from, and_left, and_right, or_left, or_right, eq-eqb, eqb-true, le-leb, lt-leb, lt-ltb, le-ltb, not_from_false}
@@ -95,7 +96,8 @@ reached_torn file bytes offset laid kept ok r =
 abbrev pub IsBetween : ℕ → ℕ → ℕ → Type 0
 IsBetween old asked reached = ((asked ≤ reached) × (reached ≤ old)) ⊎ ((old ≤ reached) × (reached ≤ asked))
 
-between_each : (file : File) (live bytes : List ℕ) (asked reached i : ℕ) → IsReached file live → IsReached file bytes → IsBetween (length live) asked reached
+between_each : (file : File) (live bytes : List ℕ) (asked reached i : ℕ) → IsReached file live → IsReached file bytes
+    → IsBetween (length live) asked reached
     → may_hold file.base (resize asked ∷ file.changes) i (get_or (resized reached bytes) i 0) ≡ true
 between_each file live bytes asked reached i l r is =
     let now = get_or (resized reached bytes) i 0 in

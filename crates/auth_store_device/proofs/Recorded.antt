@@ -1,5 +1,6 @@
 -- What is true of a record stays true as it gets more room, and as calls are noted.
-use Rattle.std.proofs.Common.{◌≡◌, ◌⊎◌, ℕ, ◌+◌, ◌-◌, ◌^◌, ◌<◌, ◌≤◌, min, inl, inr, ⊎_elim, Bool, false, List, [], ◌∷◌, ◌++◌, length, take, get_or, reverse}
+use Rattle.std.proofs.Common.{◌≡◌, ◌⊎◌, ℕ, ◌+◌, ◌-◌, ◌^◌, ◌<◌, ◌≤◌, min, inl}
+use Rattle.std.proofs.Common.{inr, ⊎_elim, Bool, false, List, [], ◌∷◌, ◌++◌, length, take, get_or, reverse}
 use Rattle.std.proofs.Common.{sym, ◌∙◌, ap, refl, subst, arith, length-append}
 use Rattle.std.specs.declared.alloc.Global.{Global}
 use Rattle.std.specs.declared.vec.Vec.{Vec}
@@ -63,7 +64,8 @@ module _ (held later : Held) (calls now : List Kept) (kept : Kept) (base : Base)
     abbrev pub Noted : Base → Type 0
     Noted next = (reverse (calls_in later [] now) ≡ call-of ∷ reverse all-of) × IsWell later now next ready
 
-    noted-with : (next : Base) → HasItsBytes later kept → KnowsBase later (reverse all-of) kept → IsBase later (all-of ++ call-of ∷ []) next → Noted next
+    noted-with : (next : Base) → HasItsBytes later kept → KnowsBase later (reverse all-of) kept
+        → IsBase later (all-of ++ call-of ∷ []) next → Noted next
     noted-with next has knows b =
         let done = noted held later calls now kept gaining is well.0 has knows in (
           ap reverse done.0 ∙ calls-push all-of call-of,

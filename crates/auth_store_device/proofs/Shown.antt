@@ -1,5 +1,6 @@
 -- An opening of the log, and its admission.
-use Rattle.std.proofs.Common.{◌≡◌, ◌⊎◌, ℕ, ◌+◌, ◌-◌, ◌^◌, ◌<◌, ◌≤◌, Bool, true, false, cond, ◌||◌, List, [], ◌∷◌, ◌++◌, length, take, drop, get_or, replicate}
+use Rattle.std.proofs.Common.{◌≡◌, ◌⊎◌, ℕ, ◌+◌, ◌-◌, ◌^◌, ◌<◌, ◌≤◌, Bool, true}
+use Rattle.std.proofs.Common.{false, cond, ◌||◌, List, [], ◌∷◌, ◌++◌, length, take, drop, get_or, replicate}
 use Rattle.std.proofs.Common.{sym, ◌∙◌, ap, subst, inl, inr, ⊎_elim, refl, arith}
 use Rattle.std.specs.Prelude.{unwrap_or, None, Some, Err}
 use Rattle.fault_storage_parts.specs.declared.error.HeaderError.{HeaderError}
@@ -204,7 +205,8 @@ module _ {R : Type 0} (stream : R → Stream) (rate : Probability) (old mid : St
     made_handle (valid, inr (missing, is, same)) none = (ap (λ (x : Opened Handle). x.blob) is, same)
 
     pub found_shows : (new : Store) (bytes : List ℕ) → IsFaultyCall stream Open rate (FaultyOpens log_partition log_name log_versions) old (Ok opened) mid
-        → IsOrderly old.inner → has_log old.inner ≡ true → bytes ≡ durable_log old.inner → new ≡ published opened.blob.inner.number bytes mid.inner
+        → IsOrderly old.inner → has_log old.inner ≡ true → bytes ≡ durable_log old.inner
+        → new ≡ published opened.blob.inner.number bytes mid.inner
         → IsOpenLog new (shown_file (behind_header (durable_log old.inner))) opened.blob.inner × ((log_of new).log ≡ [])
     found_shows new bytes call o has copied is =
         let r = found_handle (answered call) o has in
@@ -221,8 +223,10 @@ module _ {R : Type 0} (stream : R → Stream) (rate : Probability) (old mid : St
         )
 
     -- which admits the log that was there, and nothing else
-    pub found_admitted : (new : Store) (bytes : List ℕ) → IsFaultyCall stream Open rate (FaultyOpens log_partition log_name log_versions) old (Ok opened) mid
-        → IsOrderly old.inner → has_log old.inner ≡ true → bytes ≡ durable_log old.inner → new ≡ published opened.blob.inner.number bytes mid.inner
+    pub found_admitted : (new : Store) (bytes : List ℕ)
+        → IsFaultyCall stream Open rate (FaultyOpens log_partition log_name log_versions) old (Ok opened) mid
+        → IsOrderly old.inner → has_log old.inner ≡ true → bytes ≡ durable_log old.inner
+        → new ≡ published opened.blob.inner.number bytes mid.inner
         → new ≡ after_admission old.inner (Ok opened) mid.inner
     found_admitted new bytes call o has copied is =
         let r = found_handle (answered call) o has in

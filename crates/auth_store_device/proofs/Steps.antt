@@ -1,5 +1,6 @@
 -- How a device is carried on by each call.
-use Rattle.std.proofs.Common.{◌≡◌, ℕ, zero, suc, ◌<◌, Bool, true, false, Option, Some, None, List, [], ◌∷◌, length, drop, sym, ◌∙◌, ap, subst, refl, arith}
+use Rattle.std.proofs.Common.{◌≡◌, ℕ, zero, suc, ◌<◌, Bool, true, false, Option, Some, None}
+use Rattle.std.proofs.Common.{List, [], ◌∷◌, length, drop, sym, ◌∙◌, ap, subst, refl, arith}
 use Rattle.std.specs.Prelude.{IfNone, IfSome, ◌⊎◌}
 use Rattle.std.specs.declared.alloc.Global.{Global}
 use Rattle.std.specs.declared.vec.Vec.{Vec}
@@ -96,11 +97,13 @@ pub own_fine : (store : Store) → IsOrderly store → HasOwnHeader store → ha
 own_fine store o own there =
     let file = log_of store in
     let durable = durable_log store in
-    made_fine durable (left-keeps 8 file.base durable file.log [] (durable-left file.base file.log) (made-headed file.base (own there)).long o.past ∙ own there)
+    made_fine durable
+    (left-keeps 8 file.base durable file.log [] (durable-left file.base file.log) (made-headed file.base (own there)).long o.past ∙ own there)
 
 module _ {R : Type 0} where
   -- a crash of a closed device
-  pub crashed : (old new : DeviceState R) (words after : Stream) → ◌≡◌ {A = Store × Stream} (new.storage.inner, after) (crashed_store old.storage.inner words)
+  pub crashed : (old new : DeviceState R) (words after : Stream)
+      → ◌≡◌ {A = Store × Stream} (new.storage.inner, after) (crashed_store old.storage.inner words)
       → old.log ≡ None → new.log ≡ old.log → new.calls ≡ old.calls → new.refused ≡ 0 → IsDevice old → IsDevice new
   crashed old new words after is closed log calls none d =
       let store = old.storage.inner in
@@ -188,7 +191,8 @@ module _ {R : Type 0} where
       not_number is = cc
 
 -- what the device answers of an opening tells of the store's answer
-pub tells_ok : (answer : Result (Opened (Blob Handle)) Error) (log : Blob Handle) (count : ℕ) → Ok log ≡ opening_answer answer → TellsOpening answer (Ok count)
+pub tells_ok : (answer : Result (Opened (Blob Handle)) Error) (log : Blob Handle) (count : ℕ) → Ok log ≡ opening_answer answer
+    → TellsOpening answer (Ok count)
 tells_ok (Ok shown) log count is = refl
 tells_ok (Err e) log count is = cc
 
@@ -198,7 +202,8 @@ tells_err (Ok shown) e result told is = cc
 tells_err (Err refusal) e result told is = let same : e ≡ opening_refusal refusal = cc in told ∙ ap Err same
 
 -- a header that is the device's own is not refused
-pub own_refused : (store : Store) (fault : HeaderError) → IsOrderly store → HasOwnHeader store → (has_log store ≡ true) × (log_fault store ≡ Some fault) → ⊥
+pub own_refused : (store : Store) (fault : HeaderError) → IsOrderly store → HasOwnHeader store
+    → (has_log store ≡ true) × (log_fault store ≡ Some fault) → ⊥
 own_refused store fault o own (there, found) = let none = own_fine store o own there in cc
 
 module _ {R : Type 0} (stream : R → Stream) where

@@ -112,6 +112,7 @@ failures_in storage refused is_open is_asked = record {
   is_open = is_open;
   is_asked = is_asked;
   settings = Some storage.config;
+  files = storage.inner.next;
 }
 
 -- what has refused calls of the device so far

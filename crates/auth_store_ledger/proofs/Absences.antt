@@ -1,5 +1,6 @@
 -- What a store's proof of absence holds.
-use Rattle.std.proofs.Common.{◌≡◌, ℕ, ◌-◌, ◌<◌, ◌≤◌, subst, inl, inr, List, [], ◌∷◌, Option, None, Some, option_map, length, refl, ap, sym, ◌∙◌}
+use Rattle.std.proofs.Common.{◌≡◌, ℕ, ◌-◌, ◌<◌, ◌≤◌, subst, inl, inr, List, []}
+use Rattle.std.proofs.Common.{◌∷◌, Option, None, Some, option_map, length, refl, ap, sym, ◌∙◌}
 use Rattle.std.proofs.lemmas.Option.{slice_get_past}
 use Rattle.std.proofs.lemmas.Bool.{cases_lt}
 use Rattle.std.specs.Prelude.{IsSome, slice_get, unwrap_or}
@@ -54,7 +55,8 @@ pub update_within : (log : List Operation) (place : ℕ) (fields : List ℕ × L
     → place < length log
 update_within log place fields is = elim (cases_lt place (length log)) [
   | inl lt ↦ lt
-  | inr le ↦ absurd (let gone : ◌≡◌ {A = Option (List ℕ × List ℕ)} None (Some fields) = sym (ap update_fields (slice_get_past log place le)) ∙ is in cc)
+  | inr le ↦ absurd
+      (let gone : ◌≡◌ {A = Option (List ℕ × List ℕ)} None (Some fields) = sym (ap update_fields (slice_get_past log place le)) ∙ is in cc)
 ]
 
 -- with these fields

@@ -82,7 +82,8 @@ found_entry proof value bytes (Some v) is =
     )
 
 -- where none was found, none is there
-pub missing_entry : (proof : List ℕ) (at : Option (List ℕ)) → ◌≡◌ {A = Option (List ℕ × List ℕ)} None (option_map (λ v. (v, proof)) at) → at ≡ None
+pub missing_entry : (proof : List ℕ) (at : Option (List ℕ))
+    → ◌≡◌ {A = Option (List ℕ × List ℕ)} None (option_map (λ v. (v, proof)) at) → at ≡ None
 missing_entry proof None is = refl
 missing_entry proof (Some v) is = absurd (let gone : ◌≡◌ {A = Option (List ℕ × List ℕ)} None (Some (v, proof)) = is in cc)
 

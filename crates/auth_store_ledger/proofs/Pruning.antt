@@ -1,5 +1,6 @@
 -- What may be pruned of what is kept of a log.
-use Rattle.std.proofs.Common.{◌≡◌, ◌⊎◌, ℕ, zero, suc, ◌*◌, ◌≤◌, ◌/◌, ◌∙◌, Bool, true, false, inl, inr, List, [], ◌∷◌, Some, ap, sym, subst, arith, refl}
+use Rattle.std.proofs.Common.{◌≡◌, ◌⊎◌, ℕ, zero, suc, ◌*◌, ◌≤◌, ◌/◌, ◌∙◌}
+use Rattle.std.proofs.Common.{Bool, true, false, inl, inr, List, [], ◌∷◌, Some, ap, sym, subst, arith, refl}
 use Rattle.std.specs.Prelude.{slice_get, slice_index_or}
 use Rattle.merkle_forest.specs.Forest.{Rule}
 use Rattle.state_proofs_parts.specs.Bits.{Bits, all_bits}

@@ -1,5 +1,6 @@
 -- What a ledger keeps of a history's log, and what of it may be pruned.
-use Rattle.std.specs.Prelude.{◌≡◌, ℕ, ◌*◌, ◌/◌, ◌^◌, ◌≤◌, ◌+◌, ⊤, if◌then◌else◌, List, [], ◌∷◌, length, slice_get, Some}
+use Rattle.std.specs.Prelude.{◌≡◌, ℕ, ◌*◌, ◌/◌, ◌^◌, ◌≤◌, ◌+◌}
+use Rattle.std.specs.Prelude.{⊤, if◌then◌else◌, List, [], ◌∷◌, length, slice_get, Some}
 use Rattle.state_ops.specs.Operation.{Operation, update, ordered}
 use Rattle.state_proofs_parts.specs.Canonical.{Setting}
 use Rattle.state_current.specs.Kept.{Kept, StandsFor}

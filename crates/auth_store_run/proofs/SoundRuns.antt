@@ -86,12 +86,12 @@ module _ (m : Machine) (format : Format) where
   step_tells before after (live history pruned) (ask_get key) answer next step = ⊎_elim
       (λ said. no (value _) answer next said tt)
       (λ refuses. no (refused refuses.0) answer next refuses.1 tt)
-      step.1
+      step.2
   step_tells before after (live history pruned) (ask_proof question) answer next step = ⊎_elim
       (λ said. no (told_proof (proof_of m history pruned question)) answer next said
       (no_root (proof_of m history pruned question) next))
       (λ refuses. no (refused refuses.0) answer next refuses.1 tt)
-      step.1
+      step.2
   step_tells before after (live history pruned) ask_root answer next step =
       told answer _ next history pruned step.0 (inr refl) step.1
   step_tells before after (live history pruned) ask_commits answer next step = no (commits_are _) answer next step.0 tt

@@ -6,7 +6,7 @@ use Rattle.auth_store_device.specs.Devices.{DeviceState, after_asking}
 use Rattle.auth_store_device.specs.Logs.{HasOwnHeader}
 use Rattle.auth_store_log.specs.Records.{Format}
 use Rattle.auth_store_session.specs.Machine.{Machine, Request, Answer, ask_crash, ask_config, ask_cut, has_crashed}
-use Rattle.auth_store_session.specs.Machine.{is_set, not_open, asked_to_cut, names_given, Leaves}
+use Rattle.auth_store_session.specs.Machine.{is_set, not_open, asked_to_cut, openings_in, Leaves}
 use Rattle.auth_store_session.specs.Standing.{Steps, closed_at, power_of}
 use Rattle.auth_store_session.proofs.Powers.{passes_crash, is_crash, leaves_same, passes_asking, stays}
 use Rattle.auth_store_session.proofs.Rests.{rests_in, header_same, IsRefusedClosed}
@@ -17,8 +17,8 @@ pub crash_rests : {R : Type 0} (m : Machine) (format : Format) (device new : Dev
     → new.refused ≡ 0 → new.left ≡ None → new.storage.inner.next ≡ device.storage.inner.next
     → Steps m format (closed_at device cache) ask_crash has_crashed (closed_at new cache)
 crash_rests m format device new cache calls header injected refused left files =
-    let crash = is_crash device new cache injected refused left files in (
-      passes_crash device new cache injected refused left,
+    let crash = is_crash device new cache injected refused left files calls in (
+      passes_crash device new cache injected refused left files calls,
       rests_in m format device new cache ask_crash has_crashed calls header (λ history pending. (refl, refl, crash))
           (λ history. (refl, refl, crash)),
     )
@@ -51,8 +51,8 @@ cut_rests {R = R} m format device new cache calls is =
 pub refused_rests : {R : Type 0} (m : Machine) (format : Format) (device : DeviceState R) (cache : Cache) (request : Request)
     → IsRefusedClosed request → Steps m format (closed_at device cache) request not_open (closed_at device cache)
 refused_rests m format device cache request is = (
-  subst (λ p. Leaves (names_given request) None p (power_of device cache)) (sym (is.turned (power_of device cache)))
-      (stays (names_given request) None (power_of device cache) refl refl),
+  subst (λ p. Leaves (openings_in request) None p (power_of device cache)) (sym (is.turned (power_of device cache)))
+      (stays (openings_in request) None (power_of device cache) refl refl),
   rests_in m format device device cache request not_open refl (λ own. own)
       (λ history pending. is.steps m (power_of device cache) history pending)
       (λ history. is.doubts m (power_of device cache) history),

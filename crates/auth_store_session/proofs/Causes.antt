@@ -1,6 +1,9 @@
 -- What a run tells of causes: they were there.
-use Rattle.std.proofs.Common.{◌≡◌, ◌+◌, ◌<◌, ℕ, Bool, true, false, List, [], ◌∷◌, Option, None, refl, sym, ◌∙◌, ap, subst, ⊎_elim, arith}
+use Rattle.std.proofs.Common.{◌≡◌, ◌+◌, ◌<◌, ℕ, Bool, true, false, List, []}
+use Rattle.std.proofs.Common.{◌∷◌, Option, None, refl, sym, ◌∙◌, ap, subst, ⊎_elim, arith}
 use Rattle.std.specs.Prelude.{⊤, IsTrue, Result, Ok, Err}
+use Rattle.paged_blob_parts.specs.Calls.{Call}
+use Rattle.paged_blob_parts.specs.Moments.{Grows}
 use Rattle.auth_store_parts.specs.History.{History}
 use Rattle.auth_store_ledger.specs.Store.{commit_after}
 use Rattle.auth_store_ledger.specs.declared.error.Unprovable.{Unprovable as NoProof}
@@ -17,7 +20,10 @@ use Rattle.auth_store_session.specs.Machine.{Proved, proof_of, told_proof, opene
 use Rattle.auth_store_session.specs.Machine.{commits_are, floor_is, len_is, pruned_to, proof, has_closed, has_crashed}
 use Rattle.auth_store_session.specs.Machine.{is_set, refused, not_open, still_open, MayRefuseRead, MayRefuseOpening}
 use Rattle.auth_store_session.specs.Machine.{MayRefuseBatch, MayRefuseAppend, IsStep, IsRun, IsSpent, Passes, turned}
-use Rattle.auth_store_session.specs.Machine.{refusal_in, faults_in, faults_told, AskNoCut, TellNoCut}
+use Rattle.auth_store_session.specs.Machine.{refusal_in, faults_in, faults_told, AskNoCut, TellNoCut, IsRunSeen}
+use Rattle.auth_store_session.specs.Machine.{GivesNumbers, openings_of}
+use Rattle.auth_store_session.proofs.Opens.{grows_on}
+use Rattle.auth_store_session.proofs.Powers.{same_grows}
 
 -- what a refusal tells of the power
 abbrev Why : Power → Power → StoreError → Type 0
@@ -177,7 +183,7 @@ step_why m before after (live history pruned) (ask_commit words metadata) e next
 step_why m before after (live history pruned) (ask_get key) e next step = ⊎_elim
     (λ said. plain e (value _) said refl)
     (λ refuses. let (error, is, cause) = refuses in why_of before after e error is (read_why before after error cause))
-    step.1
+    step.2
 step_why m before after (live history pruned) ask_root e next step = plain e (root_is _) step.0 refl
 step_why m before after (live history pruned) ask_commits e next step = plain e (commits_are _) step.0 refl
 step_why m before after (live history pruned) ask_floor e next step = plain e (floor_is _) step.0 refl
@@ -189,7 +195,7 @@ step_why m before after (live history pruned) (ask_prune location) e next step =
 step_why m before after (live history pruned) (ask_proof question) e next step = ⊎_elim
     (λ said. told_why before after e (proof_of m history pruned question) said)
     (λ refuses. let (error, is, cause) = refuses in why_of before after e error is (read_why before after error cause))
-    step.1
+    step.2
 step_why m before after (live history pruned) ask_close e next step = plain e has_closed step.0 refl
 step_why m before after (live history pruned) ask_crash e next step = plain e still_open step.0 refl
 step_why m before after (live history pruned) ask_config e next step = plain e is_set step.0 refl
@@ -208,35 +214,37 @@ step_why m before after (failed history commit) ask_crash e next step = plain e 
 step_why m before after (failed history commit) ask_config e next step = plain e is_set step.0 refl
 step_why m before after (failed history commit) (ask_cut calls) e next step = plain e is_set step.0 refl
 
--- what a request makes of the power without its calls injects nothing
-turned_injected : (request : Request) (answer : Answer) (power : Power) → (turned request answer power).injected ≡ power.injected
-turned_injected ask_open answer power = refl
-turned_injected (ask_commit words metadata) answer power = refl
-turned_injected (ask_get key) answer power = refl
-turned_injected ask_root answer power = refl
-turned_injected ask_commits answer power = refl
-turned_injected ask_floor answer power = refl
-turned_injected ask_len answer power = refl
-turned_injected (ask_prune location) answer power = refl
-turned_injected (ask_proof question) answer power = refl
-turned_injected ask_close answer power = refl
-turned_injected ask_config answer power = refl
-turned_injected (ask_cut calls) answer power = refl
-turned_injected ask_crash opened power = refl
-turned_injected ask_crash (committed root) power = refl
-turned_injected ask_crash (value found) power = refl
-turned_injected ask_crash (root_is root) power = refl
-turned_injected ask_crash (commits_are count) power = refl
-turned_injected ask_crash (floor_is location) power = refl
-turned_injected ask_crash (len_is count) power = refl
-turned_injected ask_crash (pruned_to chunks) power = refl
-turned_injected ask_crash (proof found) power = refl
-turned_injected ask_crash has_closed power = refl
-turned_injected ask_crash has_crashed power = refl
-turned_injected ask_crash is_set power = refl
-turned_injected ask_crash (refused e) power = refl
-turned_injected ask_crash not_open power = refl
-turned_injected ask_crash still_open power = refl
+-- what a request makes of the power without its calls injects nothing, gives no number and makes no call
+turned_seen : (request : Request) (answer : Answer) (power : Power)
+    → let now = turned request answer power in
+    (now.injected ≡ power.injected) × (now.names ≡ power.names) × (now.files ≡ power.files) × (now.calls ≡ power.calls)
+turned_seen ask_open answer power = (refl, refl, refl, refl)
+turned_seen (ask_commit words metadata) answer power = (refl, refl, refl, refl)
+turned_seen (ask_get key) answer power = (refl, refl, refl, refl)
+turned_seen ask_root answer power = (refl, refl, refl, refl)
+turned_seen ask_commits answer power = (refl, refl, refl, refl)
+turned_seen ask_floor answer power = (refl, refl, refl, refl)
+turned_seen ask_len answer power = (refl, refl, refl, refl)
+turned_seen (ask_prune location) answer power = (refl, refl, refl, refl)
+turned_seen (ask_proof question) answer power = (refl, refl, refl, refl)
+turned_seen ask_close answer power = (refl, refl, refl, refl)
+turned_seen ask_config answer power = (refl, refl, refl, refl)
+turned_seen (ask_cut calls) answer power = (refl, refl, refl, refl)
+turned_seen ask_crash opened power = (refl, refl, refl, refl)
+turned_seen ask_crash (committed root) power = (refl, refl, refl, refl)
+turned_seen ask_crash (value found) power = (refl, refl, refl, refl)
+turned_seen ask_crash (root_is root) power = (refl, refl, refl, refl)
+turned_seen ask_crash (commits_are count) power = (refl, refl, refl, refl)
+turned_seen ask_crash (floor_is location) power = (refl, refl, refl, refl)
+turned_seen ask_crash (len_is count) power = (refl, refl, refl, refl)
+turned_seen ask_crash (pruned_to chunks) power = (refl, refl, refl, refl)
+turned_seen ask_crash (proof found) power = (refl, refl, refl, refl)
+turned_seen ask_crash has_closed power = (refl, refl, refl, refl)
+turned_seen ask_crash has_crashed power = (refl, refl, refl, refl)
+turned_seen ask_crash is_set power = (refl, refl, refl, refl)
+turned_seen ask_crash (refused e) power = (refl, refl, refl, refl)
+turned_seen ask_crash not_open power = (refl, refl, refl, refl)
+turned_seen ask_crash still_open power = (refl, refl, refl, refl)
 
 -- nor does it ask for a cut, where the request does not
 turned_asked : (request : Request) (answer : Answer) (power : Power) (requests : List Request) → AskNoCut (request ∷ requests)
@@ -288,7 +296,7 @@ fewer_asked (ask_cut calls) requests none = absurd none
 told_injected : (before after : Power) (request : Request) (answer : Answer) → Passes request answer before after
     → after.injected ≡ before.injected + faults_in (refusal_in answer)
 told_injected before after request answer passes =
-    omega (arith, passes.injected, turned_injected request answer before)
+    omega (arith, passes.injected, (turned_seen request answer before).0)
 
 pub run_faults : (m : Machine) (before : Power) (first : State) (requests : List Request) (answers : List Answer) (after : Power)
     (last : State) → IsRun m before first requests answers after last → after.injected ≡ before.injected + faults_told answers
@@ -299,6 +307,32 @@ run_faults m before first (request ∷ requests) (answer ∷ answers) after last
     let later = run_faults m ran.0 ran.1 requests answers after last ran.4 in omega (arith, here, later)
 run_faults m before first [] (answer ∷ answers) after last ran = absurd ran
 run_faults m before first (request ∷ requests) [] after last ran = absurd ran
+
+-- names and numbers of files are given by openings alone, and the record of the calls goes on
+pub run_numbers : (see : State → State) (m : Machine) (before : Power) (first : State) (requests : List Request)
+    (answers : List Answer) (after : Power) (last : State) → IsRunSeen see m before first requests answers after last
+    → GivesNumbers (openings_of requests) before after
+run_numbers see m before first [] [] after last ran =
+    let names : after.names ≡ before.names = ap (λ (p : Power). p.names) ran.0 in
+    let files : after.files ≡ before.files = ap (λ (p : Power). p.files) ran.0 in
+    record {
+      names = (omega (arith, names), omega (arith, names));
+      files = (omega (arith, files), omega (arith, files));
+      calls = same_grows before.calls after.calls (ap (λ (p : Power). p.calls) ran.0);
+    }
+run_numbers see m before first (request ∷ requests) (answer ∷ answers) after last ran =
+    let passes : Passes request answer before ran.0 = ran.3 in
+    let here = passes.numbers in
+    let seen = turned_seen request answer before in
+    let later = run_numbers see m ran.0 ran.1 requests answers after last ran.4 in
+    record {
+      names = (omega (arith, here.names, seen.1, later.names), omega (arith, here.names, seen.1, later.names));
+      files = (omega (arith, here.files, seen.2, later.files), omega (arith, here.files, seen.2, later.files));
+      calls = grows_on before.calls ran.0.calls after.calls
+          (subst (λ (calls : List Call). Grows calls ran.0.calls) seen.3 here.calls) later.calls;
+    }
+run_numbers see m before first [] (answer ∷ answers) after last ran = absurd ran
+run_numbers see m before first (request ∷ requests) [] after last ran = absurd ran
 
 -- where no cut was asked for, none stands, and no step tells of one
 uncut_told : (m : Machine) (before after : Power) (state : State) (request : Request) (answer : Answer) (next : State)

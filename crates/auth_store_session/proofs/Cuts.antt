@@ -63,7 +63,7 @@ uncut m before after (live history pruned) (ask_commit words metadata) answer ne
 uncut m before after (live history pruned) (ask_get key) answer next step ack = ⊎_elim
     (λ said. plain answer (value _) ack said refl)
     (λ refuses. plain answer (refused refuses.0) ack refuses.1 refl)
-    step.1
+    step.2
 uncut m before after (live history pruned) ask_root answer next step ack = plain answer (root_is _) ack step.0 refl
 uncut m before after (live history pruned) ask_commits answer next step ack = plain answer (commits_are _) ack step.0 refl
 uncut m before after (live history pruned) ask_floor answer next step ack = plain answer (floor_is _) ack step.0 refl
@@ -76,7 +76,7 @@ uncut m before after (live history pruned) (ask_proof question) answer next step
     (λ said. plain answer (told_proof (proof_of m history pruned question)) ack said
     (told_no_commit (proof_of m history pruned question)))
     (λ refuses. plain answer (refused refuses.0) ack refuses.1 refl)
-    step.1
+    step.2
 uncut m before after (live history pruned) ask_close answer next step ack = plain answer has_closed ack step.0 refl
 uncut m before after (live history pruned) ask_crash answer next step ack = plain answer still_open ack step.0 refl
 uncut m before after (live history pruned) ask_config answer next step ack = plain answer is_set ack step.0 refl

@@ -1,5 +1,6 @@
 -- What is kept of a history, whatever openings show: its log begins what each of them recovers.
-use Rattle.std.proofs.Common.{◌≡◌, ◌≤◌, ◌<◌, ◌++◌, ⊎_elim, ℕ, zero, suc, List, [], ◌∷◌, length, take, arith, refl, sym, subst, ◌∙◌, ap, inl, inr, append_assoc}
+use Rattle.std.proofs.Common.{◌≡◌, ◌≤◌, ◌<◌, ◌++◌, ⊎_elim, ℕ, zero, suc, List, []}
+use Rattle.std.proofs.Common.{◌∷◌, length, take, arith, refl, sym, subst, ◌∙◌, ap, inl, inr, append_assoc}
 use Rattle.std.proofs.lemmas.List.{length-take, take-take, append-nil}
 use Rattle.std.proofs.lemmas.Bool.{cases_lt}
 use Rattle.std.proofs.Math.Seq.{take-length}

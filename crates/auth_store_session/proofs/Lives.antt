@@ -1,5 +1,6 @@
 -- What a store's parts say of what it is seen as.
-use Rattle.std.proofs.Common.{◌≡◌, ◌⊎◌, ◌+◌, ◌<◌, ◌≤◌, ℕ, List, Option, None, Some, Result, Ok, Err, ap, refl, subst, sym, ◌∙◌}
+use Rattle.std.proofs.Common.{◌≡◌, ◌⊎◌, ◌+◌, ◌<◌, ◌≤◌, ℕ, List}
+use Rattle.std.proofs.Common.{Option, None, Some, Result, Ok, Err, ap, refl, subst, sym, ◌∙◌}
 use Rattle.std.specs.Prelude.{IfErr, IfOk, IfSome, IsSomeAnd, is_some, length, option_map, true}
 use Rattle.fault_storage_parts.specs.Crc32.{crc32}
 use Rattle.paged_blob_parts.specs.Caches.{Cache}

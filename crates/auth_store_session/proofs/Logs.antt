@@ -1,5 +1,6 @@
 -- The operations that the bytes of a log are, and the log of a live store.
-use Rattle.std.proofs.Common.{◌≡◌, ◌+◌, ◌/◌, ◌<◌, ◌++◌, ℕ, List, [], ◌∷◌, map, length, take, drop, true, refl, ap, sym, subst, ◌∙◌, arith}
+use Rattle.std.proofs.Common.{◌≡◌, ◌+◌, ◌/◌, ◌<◌, ◌++◌, ℕ, List, []}
+use Rattle.std.proofs.Common.{◌∷◌, map, length, take, drop, true, refl, ap, sym, subst, ◌∙◌, arith}
 use Rattle.std.proofs.Math.Seq.{take-append_seam, drop-append_seam}
 use Rattle.std.proofs.Math.Nat.{div-eq_of_eq-mul_left}
 use Rattle.std.specs.List.{flat_map}

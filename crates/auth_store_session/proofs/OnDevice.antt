@@ -1,5 +1,6 @@
 -- Why a store on a device refuses, from the causes of its parts; and what its calls leave.
-use Rattle.std.proofs.Common.{◌≡◌, ◌⊎◌, ◌+◌, ◌-◌, ◌<◌, ◌≤◌, ◌^◌, ◌==◌, is_some, ℕ, List, ◌∷◌, Option, Some, None, Result, Ok, Err}
+use Rattle.std.proofs.Common.{◌≡◌, ◌⊎◌, ◌+◌, ◌-◌, ◌<◌, ◌≤◌, ◌^◌}
+use Rattle.std.proofs.Common.{◌==◌, is_some, ℕ, List, ◌∷◌, Option, Some, None, Result, Ok, Err}
 use Rattle.std.proofs.Common.{inl, inr, refl, sym, subst, ap, ◌∙◌, ⊎_elim, length, arith}
 use Rattle.std.specs.Prelude.{IsTrue, IsFalse, OnOk, IfSome, IsSomeAnd}
 use Rattle.std.proofs.lemmas.Bool.{false_from_ne_true, eqb-true}
@@ -96,7 +97,7 @@ module _ {R : Type 0} (m : Machine) (format : Format) (old mid new : DeviceState
     recovery_on_device NumberEnded injected refused shown law through (inl (inr full)) = inl (inl (inr (omega (arith, full, refused))))
     recovery_on_device NumberEnded injected refused shown law through (inr (inl names)) = inl (inr (inl names))
     recovery_on_device NumberEnded injected refused shown law through (inr (inr (inl long))) =
-        inl (inr (inr (inl (subst (λ (bytes : List ℕ). 2 ^ 64 ≤ length bytes + 4096) shown long))))
+        inl (inr (inr (inl (shown_of old, through.0, subst (λ (bytes : List ℕ). 2 ^ 64 ≤ length bytes + 4096) shown long))))
     recovery_on_device NumberEnded injected refused shown law through (inr (inr (inr first))) = inr first
     recovery_on_device Memory injected refused shown law through cause = tt
     recovery_on_device Corrupt injected refused shown law through cause =

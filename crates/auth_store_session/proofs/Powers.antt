@@ -1,13 +1,29 @@
 -- What the calls of a request leave of the power of a device and its cache.
-use Rattle.std.proofs.Common.{◌≡◌, ◌⊎◌, inl, inr, ◌+◌, ◌≤◌, ℕ, Option, Some, None, Result, Ok, Err, is_some, refl, sym, ◌∙◌, ap, subst, arith}
+use Rattle.std.proofs.Common.{Bool, true, false, cond, List}
+use Rattle.rand_core.specs.Stream.{Stream}
+use Rattle.fault_storage_parts.specs.declared.error.Call.TheVariants.{Open}
+use Rattle.fault_storage_parts.specs.declared.error.Error.{Error as StorageError}
+use Rattle.fault_storage.specs.declared.faulty.Blob.{Blob}
+use Rattle.fault_storage.specs.declared.faulty.Storage.{Storage}
+use Rattle.fault_storage.specs.declared.storage.Opened.{Opened}
+use Rattle.fault_storage.specs.Directory.{admitted}
+use Rattle.fault_storage.specs.Faults.{IsFaultyCall, FaultyOpens}
+use Rattle.fault_storage_parts.specs.declared.header.Versions.{Versions}
+use Rattle.fault_storage.specs.Stores.{Store, Handle}
+use Rattle.std.proofs.Common.{◌≡◌, ◌⊎◌, inl, inr, ◌+◌, ◌*◌, ◌≤◌, ℕ, Option, Some}
+use Rattle.std.proofs.Common.{None, Result, Ok, Err, is_some, refl, sym, ◌∙◌, ap, subst, arith}
 use Rattle.paged_blob_parts.specs.Answers.{Failures, failures_after}
 use Rattle.paged_blob_parts.specs.Caches.{Cache}
+use Rattle.paged_blob_parts.specs.Calls.{Call}
+use Rattle.paged_blob_parts.specs.Moments.{Grows, here}
 use Rattle.paged_blob_parts.specs.declared.error.Error.{Error}
 use Rattle.paged_blob_parts.specs.declared.error.Error.TheVariants.{Injected, BlobMissing, BlobInsufficientLength}
 use Rattle.paged_blob_parts.specs.declared.error.Error.TheVariants.{NumberEnded, Memory, PowerCut, ChecksumMismatch}
 use Rattle.auth_store_device.specs.declared.error.OpenError.{OpenError}
 use Rattle.auth_store_device.specs.declared.error.OpenError.TheVariants as openings
 use Rattle.auth_store_device.specs.Devices.{DeviceState, calls_left, failures_of, injected_after, refused_after, left_after_opening}
+use Rattle.auth_store_device.specs.Devices.{IsOpeningCall, after_admission}
+use Rattle.auth_store_device.specs.Logs.{log_partition, log_name, log_versions, has_log}
 use Rattle.auth_store_ledger.specs.declared.error.LedgerError.{LedgerError}
 use Rattle.auth_store_ledger.specs.declared.error.LedgerError.TheVariants as ledgers
 use Rattle.auth_store_log.specs.Causes.{failures_after_reading}
@@ -24,15 +40,15 @@ use Rattle.auth_store_session.specs.Stores.{Raises}
 pub raises_none : (refusal : Option StoreError) (failures : Failures) → faults_in refusal ≡ 0 → cuts_in refusal ≡ 0
     → Raises refusal failures failures
 raises_none refusal failures faults cuts =
-    record { injected = omega (arith, faults); refused = omega (arith, cuts); asked = refl }
+    record { injected = omega (arith, faults); refused = omega (arith, cuts); asked = refl; files = refl }
 
 pub raises_same : (before after : Failures) → after ≡ before → Raises None before after
 raises_same before after same = subst (Raises None before) (sym same) (raises_none None before refl refl)
 
 -- calls of which the last is refused
 raises_after : (e : Error) (failures : Failures) → Raises (Some (of_blob e)) failures (failures_after {T = Unit {0}} (Err e) failures)
-raises_after (Injected kind) failures = record { injected = omega arith; refused = omega arith; asked = refl }
-raises_after PowerCut failures = record { injected = omega arith; refused = omega arith; asked = refl }
+raises_after (Injected kind) failures = record { injected = omega arith; refused = omega arith; asked = refl; files = refl }
+raises_after PowerCut failures = record { injected = omega arith; refused = omega arith; asked = refl; files = refl }
 raises_after BlobMissing failures = raises_none (Some (of_blob BlobMissing)) failures refl refl
 raises_after BlobInsufficientLength failures = raises_none (Some (of_blob BlobInsufficientLength)) failures refl refl
 raises_after NumberEnded failures = raises_none (Some (of_blob NumberEnded)) failures refl refl
@@ -72,23 +88,33 @@ spent_by (Some before) None asked fewer = absurd (cc)
 spent_by (Some before) (Some left) asked fewer = (left, refl, fewer)
 
 -- calls of a device
-pub leaves_of : {R : Type 0} (names : ℕ) (refusal : Option StoreError) (old new : DeviceState R) (cache now : Cache)
+pub leaves_of : {R : Type 0} (openings : ℕ) (refusal : Option StoreError) (old new : DeviceState R) (cache now : Cache)
     → Raises refusal (failures_of old) (failures_of new) → calls_left new.left ≤ calls_left old.left
-    → (cache.next_id ≤ now.next_id) × (now.next_id ≤ cache.next_id + names)
-    → Leaves names refusal (power_of old cache) (power_of new now)
-leaves_of names refusal old new cache now raises fewer given = record {
-  injected = raises.injected;
-  refused = raises.refused;
-  left = spent_by old.left new.left raises.asked fewer;
-  names = given;
-}
+    → (cache.next_id ≤ now.next_id) × (now.next_id ≤ cache.next_id + 3 * openings) → Grows old.calls new.calls
+    → Leaves openings refusal (power_of old cache) (power_of new now)
+leaves_of openings refusal old new cache now raises fewer given grows =
+    let files : new.storage.inner.next ≡ old.storage.inner.next = raises.files in
+    record {
+      injected = raises.injected;
+      refused = raises.refused;
+      left = spent_by old.left new.left raises.asked fewer;
+      numbers = record {
+        names = given;
+        files = (omega (arith, files), omega (arith, files));
+        calls = grows;
+      };
+    }
 
 -- calls that give no name
 pub leaves_named : {R : Type 0} (refusal : Option StoreError) (old new : DeviceState R) (cache now : Cache)
     → Raises refusal (failures_of old) (failures_of new) → calls_left new.left ≤ calls_left old.left → now.next_id ≡ cache.next_id
-    → Leaves 0 refusal (power_of old cache) (power_of new now)
+    → Grows old.calls new.calls → Leaves 0 refusal (power_of old cache) (power_of new now)
 leaves_named refusal old new cache now raises fewer same =
     leaves_of 0 refusal old new cache now raises fewer (omega (arith, same), omega (arith, same))
+
+-- the record of no call goes on, and one that stays
+pub same_grows : (old new : List Call) → new ≡ old → Grows old new
+same_grows old new is = subst (Grows old) (sym is) (here tt)
 
 -- an opening lets fewer calls through, or as many
 pub opening_left : {T : Type 0} (result : Result T OpenError) (left : Option ℕ)
@@ -104,13 +130,17 @@ opening_left (Err openings.Memory) left = omega arith
 opening_left (Err openings.PowerCut) left = omega arith
 
 -- nothing is called
-pub stays : (names : ℕ) (refusal : Option StoreError) (power : Power) → faults_in refusal ≡ 0 → cuts_in refusal ≡ 0
-    → Leaves names refusal power power
-stays names refusal power faults cuts = record {
+pub stays : (openings : ℕ) (refusal : Option StoreError) (power : Power) → faults_in refusal ≡ 0 → cuts_in refusal ≡ 0
+    → Leaves openings refusal power power
+stays openings refusal power faults cuts = record {
   injected = omega (arith, faults);
   refused = omega (arith, cuts);
   left = kept power.left;
-  names = (omega arith, omega arith);
+  numbers = record {
+    names = (omega arith, omega arith);
+    files = (omega arith, omega arith);
+    calls = here tt;
+  };
 }
   where
     kept : (left : Option ℕ) → IsSpent left left
@@ -148,33 +178,92 @@ leaves_same old new cache now is =
 -- an opening of the device that is refused
 opening_after : (e : OpenError) (before after : Failures) → after.injected ≡ injected_after {T = ℕ} (Err e) before.injected
     → after.refused ≡ refused_after {T = ℕ} (Err e) before.refused → after.is_asked ≡ before.is_asked
-    → Raises (Some (of_opening e)) before after
-opening_after openings.Injected before after injected refused asked =
-    record { injected = injected; refused = omega (arith, refused); asked = asked }
-opening_after (openings.Header fault) before after injected refused asked =
-    record { injected = omega (arith, injected); refused = omega (arith, refused); asked = asked }
-opening_after openings.NumberEnded before after injected refused asked =
-    record { injected = omega (arith, injected); refused = omega (arith, refused); asked = asked }
-opening_after openings.Memory before after injected refused asked =
-    record { injected = omega (arith, injected); refused = omega (arith, refused); asked = asked }
-opening_after openings.PowerCut before after injected refused asked =
-    record { injected = omega (arith, injected); refused = refused; asked = asked }
+    → after.files ≡ before.files → Raises (Some (of_opening e)) before after
+opening_after openings.Injected before after injected refused asked files =
+    record { injected = injected; refused = omega (arith, refused); asked = asked; files = files }
+opening_after (openings.Header fault) before after injected refused asked files =
+    record { injected = omega (arith, injected); refused = omega (arith, refused); asked = asked; files = files }
+opening_after openings.NumberEnded before after injected refused asked files =
+    record { injected = omega (arith, injected); refused = omega (arith, refused); asked = asked; files = files }
+opening_after openings.Memory before after injected refused asked files =
+    record { injected = omega (arith, injected); refused = omega (arith, refused); asked = asked; files = files }
+opening_after openings.PowerCut before after injected refused asked files =
+    record { injected = omega (arith, injected); refused = refused; asked = asked; files = files }
 
 pub raises_opening : {R : Type 0} (e : OpenError) (old new : DeviceState R)
     → new.storage.injections ≡ injected_after {T = ℕ} (Err e) old.storage.injections
     → new.refused ≡ refused_after {T = ℕ} (Err e) old.refused → is_some new.left ≡ is_some old.left
-    → Raises (Some (of_opening e)) (failures_of old) (failures_of new)
-raises_opening e old new injected refused asked = opening_after e (failures_of old) (failures_of new) injected refused asked
+    → new.storage.inner ≡ old.storage.inner → Raises (Some (of_opening e)) (failures_of old) (failures_of new)
+raises_opening e old new injected refused asked same =
+    opening_after e (failures_of old) (failures_of new) injected refused asked (ap (λ (s : Store). s.next) same)
 
--- one that succeeds, and calls behind it
-pub raises_behind : {R : Type 0} (refusal : Option StoreError) (old mid new : DeviceState R)
+-- an opening of the store in memory gives one number of a file at most
+memory_next : (name : List ℕ) (versions : Versions) (partition : List ℕ) (old new : Store)
+    (answer : Result (Opened (Blob Handle)) StorageError) → FaultyOpens partition name versions old answer new
+    → (old.next ≤ new.next) × (new.next ≤ old.next + 1)
+memory_next name versions partition old new (Ok opened) (named, inl there) =
+    let same = ap (λ (s : Store). s.next) there.3 in (omega (arith, same), omega (arith, same))
+memory_next name versions partition old new (Ok opened) (named, inr made) =
+    let more = ap (λ (s : Store). s.next) made.2 in (omega (arith, more), omega (arith, more))
+memory_next name versions partition old new (Err e) (same, why) =
+    let is = ap (λ (s : Store). s.next) same in (omega (arith, is), omega (arith, is))
+
+-- its admission gives none
+admitted_next : (old : Store) (answer : Result (Opened (Blob Handle)) StorageError) (left : Store)
+    → (after_admission old answer left).next ≡ left.next
+admitted_next old (Ok opened) left = by (has_log old)
+  where
+    by : (there : Bool) → (cond there (admitted log_partition log_name left) left).next ≡ left.next
+    by true = refl
+    by false = refl
+admitted_next old (Err e) left = refl
+
+-- and so an opening of the device
+module _ {R : Type 0} (stream : R → Stream) (old new : DeviceState R) where
+  same_next : new ≡ old → (old.storage.inner.next ≤ new.storage.inner.next) × (new.storage.inner.next ≤ old.storage.inner.next + 1)
+  same_next is = let same = ap (λ (d : DeviceState R). d.storage.inner.next) is in (omega (arith, same), omega (arith, same))
+
+  pub opening_next : (result : Result ℕ OpenError) → IsOpeningCall stream old result new
+      → (old.storage.inner.next ≤ new.storage.inner.next) × (new.storage.inner.next ≤ old.storage.inner.next + 1)
+  opening_next result (inl (e, inl ended, told)) = same_next ended.2
+  opening_next result (inl (e, inr cut, told)) =
+      let same = ap (λ (d : DeviceState R). d.storage.inner.next) cut.4 in (omega (arith, same), omega (arith, same))
+  opening_next result (inr (inl lacks)) = same_next lacks.2
+  opening_next result (inr (inr (through, (answer, below, call, tells, is)))) =
+      let last = ap (λ (s : Storage Store R). s.inner.next) is ∙ admitted_next old.storage.inner answer below.inner in
+      let both = called below answer call in (omega (arith, last, both), omega (arith, last, both))
+    where
+      called : (below : Storage Store R) (answer : Result (Opened (Blob Handle)) StorageError)
+          → IsFaultyCall stream Open old.storage.config.«open» (FaultyOpens log_partition log_name log_versions) old.storage answer below
+          → (old.storage.inner.next ≤ below.inner.next) × (below.inner.next ≤ old.storage.inner.next + 1)
+      called below answer (inl ended) =
+          let same = ap (λ (s : Storage Store R). s.inner.next) ended.2 in (omega (arith, same), omega (arith, same))
+      called below answer (inr (inl unmade)) =
+          let same = ap (λ (s : Storage Store R). s.inner.next) unmade.3 in (omega (arith, same), omega (arith, same))
+      called below answer (inr (inr (inl lost))) =
+          let same = ap (λ (s : Storage Store R). s.inner.next) lost.3 in (omega (arith, same), omega (arith, same))
+      called below answer (inr (inr (inr answers))) =
+          memory_next log_name log_versions log_partition old.storage.inner below.inner answer answers.3
+
+-- an opening of the device that succeeds, and calls behind it
+pub leaves_behind : {R : Type 0} (refusal : Option StoreError) (old mid new : DeviceState R) (cache now : Cache)
     → mid.storage.injections ≡ old.storage.injections → mid.refused ≡ old.refused → is_some mid.left ≡ is_some old.left
-    → Raises refusal (failures_of mid) (failures_of new) → Raises refusal (failures_of old) (failures_of new)
-raises_behind refusal old mid new injected refused asked raises = record {
-  injected = subst (λ n. new.storage.injections ≡ n + faults_in refusal) injected raises.injected;
-  refused = subst (λ n. new.refused ≡ n + cuts_in refusal) refused raises.refused;
-  asked = raises.asked ∙ asked;
-}
+    → (old.storage.inner.next ≤ mid.storage.inner.next) × (mid.storage.inner.next ≤ old.storage.inner.next + 1)
+    → Raises refusal (failures_of mid) (failures_of new) → calls_left new.left ≤ calls_left old.left
+    → (cache.next_id ≤ now.next_id) × (now.next_id ≤ cache.next_id + 3) → Grows old.calls new.calls
+    → Leaves 1 refusal (power_of old cache) (power_of new now)
+leaves_behind refusal old mid new cache now injected refused asked given raises fewer names grows =
+    let files : new.storage.inner.next ≡ mid.storage.inner.next = raises.files in
+    record {
+      injected = subst (λ n. new.storage.injections ≡ n + faults_in refusal) injected raises.injected;
+      refused = subst (λ n. new.refused ≡ n + cuts_in refusal) refused raises.refused;
+      left = spent_by old.left new.left (raises.asked ∙ asked) fewer;
+      numbers = record {
+        names = names;
+        files = (omega (arith, files, given), omega (arith, files, given));
+        calls = grows;
+      };
+    }
 
 -- a cut that is asked for
 pub passes_asking : {R : Type 0} (device new : DeviceState R) (cache now : Cache) (calls : ℕ)
@@ -186,19 +275,25 @@ passes_asking device new cache now calls is =
 
 -- a crash
 pub passes_crash : {R : Type 0} (device new : DeviceState R) (cache : Cache) → new.storage.injections ≡ device.storage.injections
-    → new.refused ≡ 0 → new.left ≡ None → Passes ask_crash has_crashed (power_of device cache) (power_of new cache)
-passes_crash device new cache injected refused left = record {
+    → new.refused ≡ 0 → new.left ≡ None → new.storage.inner.next ≡ device.storage.inner.next → new.calls ≡ device.calls
+    → Passes ask_crash has_crashed (power_of device cache) (power_of new cache)
+passes_crash device new cache injected refused left files calls = record {
   injected = omega (arith, injected);
   refused = omega (arith, refused);
   left = left;
-  names = (omega arith, omega arith);
+  numbers = record {
+    names = (omega arith, omega arith);
+    files = (omega (arith, files), omega (arith, files));
+    calls = same_grows device.calls new.calls calls;
+  };
 }
 
 pub is_crash : {R : Type 0} (device new : DeviceState R) (cache : Cache) → new.storage.injections ≡ device.storage.injections
-    → new.refused ≡ 0 → new.left ≡ None → new.storage.inner.next ≡ device.storage.inner.next
+    → new.refused ≡ 0 → new.left ≡ None → new.storage.inner.next ≡ device.storage.inner.next → new.calls ≡ device.calls
     → IsCrash (power_of device cache) (power_of new cache)
-is_crash device new cache injected refused left files =
+is_crash device new cache injected refused left files calls =
     ap (λ n. record (power_of new cache) { injected = n }) injected
     ∙ ap (λ n. record (power_of new cache) { injected = device.storage.injections; refused = n }) refused
     ∙ ap (λ l. record (power_of new cache) { injected = device.storage.injections; refused = 0; left = l }) left
     ∙ ap (λ n. record (power_of new cache) { injected = device.storage.injections; refused = 0; left = None; files = n }) files
+    ∙ ap (λ c. record (power_of device cache) { refused = 0; left = None; calls = c }) calls

@@ -1,5 +1,6 @@
 -- What a read of one operation of the log says, and why it is refused.
-use Rattle.std.proofs.Common.{◌≡◌, ◌+◌, ◌-◌, ◌*◌, ◌/◌, ◌<◌, ◌≤◌, ℕ, zero, suc, false, List, Some, ap, refl, subst, sym, ◌∙◌, true, length, arith}
+use Rattle.std.proofs.Common.{◌≡◌, ◌+◌, ◌-◌, ◌*◌, ◌/◌, ◌<◌, ◌≤◌, ℕ, zero}
+use Rattle.std.proofs.Common.{suc, false, List, Some, ap, refl, subst, sym, ◌∙◌, true, length, arith}
 use Rattle.std.proofs.lemmas.Nat.{le-div, mul-le}
 use Rattle.std.proofs.Math.Nat.{div-mul-le_self}
 use Rattle.std.specs.Prelude.{Err, IfErr, Ok, OnOk, Result}

@@ -38,6 +38,7 @@ quiet one other is =
       is_open = is.opened i;
       is_asked = is.raised.asked i;
       settings = is.settings i;
+      files = is.raised.files i;
     }
 
 -- a request that reads nothing leaves all as it was

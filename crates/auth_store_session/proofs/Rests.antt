@@ -1,5 +1,6 @@
 -- Steps of a session without an open store, and what closing leaves.
-use Rattle.std.proofs.Common.{◌≡◌, ◌⊎◌, ◌+◌, ℕ, Bool, List, ◌∷◌, Option, Some, None, true, false, is_some, refl, sym, ◌∙◌, subst, ap, inl, inr}
+use Rattle.std.proofs.Common.{◌≡◌, ◌⊎◌, ◌+◌, ℕ, Bool, List, ◌∷◌, Option}
+use Rattle.std.proofs.Common.{Some, None, true, false, is_some, refl, sym, ◌∙◌, subst, ap, inl, inr}
 use Rattle.fault_storage_parts.specs.Crc32.{crc32}
 use Rattle.paged_blob_parts.specs.Caches.{Cache}
 use Rattle.paged_blob_parts.specs.Calls.{Call, opened, file_of}
@@ -204,7 +205,8 @@ rests_at format store device cache (doubtful history) is calls header shows stan
 
 -- a store that is closed
 pub closes_in : {R : Type 0} (m : Machine) (format : Format) (store : StoreState R) (device : DeviceState R) (cache : Cache)
-    → power_of device cache ≡ power_of store.device store.cache → cache ≡ store.cache → device.calls ≡ store.device.calls → HasOwnHeader device.storage.inner
+    → power_of device cache ≡ power_of store.device store.cache → cache ≡ store.cache → device.calls ≡ store.device.calls
+    → HasOwnHeader device.storage.inner
     → ((history : History) → IsLiveAt store history → OpeningsShow format (store.cache.page_size + 12) history None device.calls)
     → Moves m format (open_at store) machine.ask_close machine.has_closed (closed_at device cache)
 closes_in m format store device cache same is calls header shows (live history pruned) none stands =

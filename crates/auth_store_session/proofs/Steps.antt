@@ -1,8 +1,7 @@
 -- A call of an open store is a step of the machine.
-use Rattle.std.proofs.Common.{◌≡◌, ◌+◌, ◌<◌, ◌≤◌, ℕ, List, ◌⊎◌, Option, Some, None, refl, sym, ◌∙◌, subst, ap, inl, inr, ⊎_elim}
+use Rattle.std.proofs.Common.{◌≡◌, ◌+◌, ◌<◌, ◌≤◌, ℕ, List, ◌⊎◌}
+use Rattle.std.proofs.Common.{Option, Some, None, refl, sym, ◌∙◌, subst, ap, inl, inr, ⊎_elim}
 use Rattle.std.specs.Prelude.{Result, Ok, Err, IfOk, IfErr, OnOk, OnErr, option_map}
-use Rattle.paged_blob_parts.specs.Calls.{Call}
-use Rattle.paged_blob_parts.specs.Moments.{Grows, here}
 use Rattle.auth_store_parts.specs.Batch.{Word}
 use Rattle.auth_store_parts.specs.History.{History, Commit, latest_map}
 use Rattle.auth_store_parts.specs.Map.{value_at}
@@ -77,17 +76,17 @@ pub gets_in : {R V : Type 0} (m : Machine) (format : Format) (encoding : V → L
     → ((history : History) → IsLiveAt old history
     → IfErr result (MayRefuseRead (power_of old.device old.cache) (power_of new.device new.cache)))
     → ((history : History) → IsLiveAt old history → IsLiveAt new history) → new.pruned ≡ old.pruned
-    → (old.live ≡ None → (result ≡ Err Failed) × (new ≡ old))
+    → new.device.calls ≡ old.device.calls → (old.live ≡ None → (result ≡ Err Failed) × (new ≡ old))
     → MovesOpen m format old (ask_get key) (answer_of (λ found. value (option_map encoding found)) result) new
-gets_in m format encoding key old new (Ok found) is refuses stays kept lost (live history pruned) stands =
-    (live history pruned, (refl, inl (ap value (is history stands.0))), (stays history stands.0, kept ∙ stands.1))
-gets_in m format encoding key old new (Err e) is refuses stays kept lost (live history pruned) stands =
-    (live history pruned, (refl, inr (e, refl, refuses history stands.0)), (stays history stands.0, kept ∙ stands.1))
-gets_in m format encoding key old new result is refuses stays kept lost (failed history commit) stands =
+gets_in m format encoding key old new (Ok found) is refuses stays kept calls lost (live history pruned) stands =
+    (live history pruned, (refl, calls, inl (ap value (is history stands.0))), (stays history stands.0, kept ∙ stands.1))
+gets_in m format encoding key old new (Err e) is refuses stays kept calls lost (live history pruned) stands =
+    (live history pruned, (refl, calls, inr (e, refl, refuses history stands.0)), (stays history stands.0, kept ∙ stands.1))
+gets_in m format encoding key old new result is refuses stays kept calls lost (failed history commit) stands =
     stays_failed m format old new (ask_get key) (λ found. value (option_map encoding found)) result history commit (lost stands.0)
     (λ power h c answer at. (at, refl, refl)) stands
-gets_in m format encoding key old new result is refuses stays kept lost (closed history pending) stands = absurd stands
-gets_in m format encoding key old new result is refuses stays kept lost (doubtful history) stands = absurd stands
+gets_in m format encoding key old new result is refuses stays kept calls lost (closed history pending) stands = absurd stands
+gets_in m format encoding key old new result is refuses stays kept calls lost (doubtful history) stands = absurd stands
 
 -- a read may be refused for any proof
 pub refused_read : {A : Type 0} (before after : Power) (said : A → Proved) (expected : Result Proved NoProof) (e : StoreError)
@@ -130,24 +129,25 @@ pub proves_in : {R P : Type 0} (m : Machine) (format : Format) (said : P → Pro
     → ((history : History) → IsLiveAt old history → AnswersProof (power_of old.device old.cache) (power_of new.device new.cache) said
     (proof_of m history old.pruned question) result)
     → ((history : History) → IsLiveAt old history → IsLiveAt new history) → new.pruned ≡ old.pruned
-    → (old.live ≡ None → (result ≡ Err Failed) × (new ≡ old))
+    → new.device.calls ≡ old.device.calls → (old.live ≡ None → (result ≡ Err Failed) × (new ≡ old))
     → MovesOpen m format old (ask_proof question) (answer_of (λ found. proof (said found)) result) new
-proves_in m format said question old new result is stays kept lost (live history pruned) stands =
+proves_in m format said question old new result is stays kept calls lost (live history pruned) stands =
     let before = power_of old.device old.cache in
     let after = power_of new.device new.cache in (
       live history pruned,
       (
         refl,
+        calls,
         told_in before after said (proof_of m history pruned question) result
             (subst (λ (n : ℕ). AnswersProof before after said (proof_of m history n question) result) stands.1 (is history stands.0)),
       ),
       (stays history stands.0, kept ∙ stands.1),
     )
-proves_in m format said question old new result is stays kept lost (failed history commit) stands =
+proves_in m format said question old new result is stays kept calls lost (failed history commit) stands =
     stays_failed m format old new (ask_proof question) (λ found. proof (said found)) result history commit (lost stands.0)
     (λ power h c answer at. (at, refl, refl)) stands
-proves_in m format said question old new result is stays kept lost (closed history pending) stands = absurd stands
-proves_in m format said question old new result is stays kept lost (doubtful history) stands = absurd stands
+proves_in m format said question old new result is stays kept calls lost (closed history pending) stands = absurd stands
+proves_in m format said question old new result is stays kept calls lost (doubtful history) stands = absurd stands
 
 -- a store that is pruned
 pub prunes_in : {R : Type 0} (m : Machine) (format : Format) (location : ℕ) (old new : StoreState R) (result : Result ℕ StoreError)
@@ -238,16 +238,13 @@ stays_in m format old new request answer cache alive kept calls steps fails (fai
 stays_in m format old new request answer cache alive kept calls steps fails (closed history pending) stands = absurd stands
 stays_in m format old new request answer cache alive kept calls steps fails (doubtful history) stands = absurd stands
 
-pub same_grows : (old new : List Call) → new ≡ old → Grows old new
-same_grows old new is = subst (Grows old) (sym is) (here tt)
-
 -- an open store that is to be opened, or to crash
 pub still_open_in : {R K V : Type 0} (m : Machine) (format : Format) (keys : K → List ℕ) (values : V → List ℕ) (step : Step K V)
     (store : StoreState R) → ((sizes : Sizes) × (step ≡ steps.Open sizes)) ⊎ ((step ≡ steps.Crash) ⊎ (step ≡ steps.Close))
     → IsLeftOpen (request_of keys values step) → StepsOpen m format store (request_of keys values step) still_open store
 still_open_in m format keys values step store (inl is) left =
     subst (λ s. StepsOpen m format store (request_of keys values s) still_open store) (sym is.1) (
-      stays 3 None (power_of store.device store.cache) refl refl,
+      stays 1 None (power_of store.device store.cache) refl refl,
       stays_in m format store store ask_open still_open refl refl refl refl (λ history pruned. (refl, refl, refl)) (λ history commit. (refl, refl, refl)),
     )
 still_open_in m format keys values step store (inr (inl is)) left =

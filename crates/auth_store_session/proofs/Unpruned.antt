@@ -79,10 +79,11 @@ steps_unpruned m before after history pruned other (ask_commit words metadata) a
       ⊎_elim (λ kept. inl (ap (with_pruned other) kept.0, kept.1)) (λ lost. inr (ap (with_pruned other) lost.0, lost.1, lost.2)) r.2,
     ))
     step
-steps_unpruned m before after history pruned other (ask_get key) answer next asked behind too step = (ap (with_pruned other) step.0, step.1)
+steps_unpruned m before after history pruned other (ask_get key) answer next asked behind too step = (ap (with_pruned other) step.0, step.1, step.2)
 steps_unpruned m before after history pruned other (ask_proof question) answer next asked behind too step = (
   ap (with_pruned other) step.0,
-  ⊎_elim (λ said. inl (said ∙ ap told_proof (proofs_alike m history pruned other question behind too))) inr step.1,
+  step.1,
+  ⊎_elim (λ said. inl (said ∙ ap told_proof (proofs_alike m history pruned other question behind too))) inr step.2,
 )
 steps_unpruned m before after history pruned other ask_open answer next asked behind too step = (step.0, ap (with_pruned other) step.1, step.2)
 steps_unpruned m before after history pruned other ask_root answer next asked behind too step = (step.0, ap (with_pruned other) step.1, step.2)

@@ -1,11 +1,14 @@
 -- The machine of a session: what each request answers, and what it leaves.
-use Rattle.std.specs.Prelude.{◌≡◌, ◌<◌, ◌≤◌, ◌+◌, ◌++◌, ◌^◌, ◌⊎◌, ℕ, ⊤, Bool, true, false, IsTrue, IsFalse, List, []}
-use Rattle.std.specs.Prelude.{◌∷◌, length, Option, None, Some, Result, Ok, Err}
+use Rattle.std.specs.Prelude.{◌≡◌, ◌<◌, ◌≤◌, ◌+◌, ◌*◌, ◌++◌, ◌^◌, ◌⊎◌, ℕ, ⊤, Bool, true, false, IsTrue, IsFalse, List}
+use Rattle.std.specs.Prelude.{[], ◌∷◌, length, Option, None, Some, Result, Ok, Err}
 use Rattle.merkle_forest.specs.Forest.{Rule}
 use Rattle.merkle_forest.specs.Hashing.{Hash}
 use Rattle.state_proofs_parts.specs.Canonical.{Setting}
 use Rattle.state_ops.specs.Operation.{Operation, fixed_size}
+use Rattle.paged_blob_parts.specs.Calls.{Call, file_of}
 use Rattle.paged_blob_parts.specs.Flushes.{physical_size}
+use Rattle.paged_blob_parts.specs.Images.{IsImage}
+use Rattle.paged_blob_parts.specs.Moments.{Grows}
 use Rattle.auth_store_parts.specs.Batch.{Word, map_after}
 use Rattle.auth_store_parts.specs.Map.{value_at}
 use Rattle.auth_store_device.specs.Devices.{after_asking, is_cut}
@@ -135,24 +138,24 @@ pub data Answer : Type 0 where
   still_open : Answer
 
 -- What the machine sees of the device under it and of its cache: how many faults were injected so far, and how many
--- calls a cut refused since the last crash; how many names the cache has given, how many bytes the log has on the disk,
--- which number the next file of the disk has; and how many more calls are let through until the power is cut, where
--- that was asked for since the last crash.
+-- calls a cut refused since the last crash; how many names the cache has given, and which number the next file of the
+-- disk has; the calls that were made of the log, the newest first, which say what bytes the disk may have; and how many
+-- more calls are let through until the power is cut, where that was asked for since the last crash.
 pub record Power : Type 0 where
   pub injected : ℕ
   pub refused : ℕ
   pub names : ℕ
-  pub size : ℕ
   pub files : ℕ
+  pub calls : List Call
   pub left : Option ℕ
 
 -- the power after a cut was asked for that lets so many calls through, unless one stands
 abbrev pub asked_to_cut : ℕ → Power → Power
 asked_to_cut calls power = record power { left = after_asking calls power.left }
 
--- a crash ends a cut and the count of the calls that it refused; it leaves some of the bytes that were not durable
+-- a crash ends a cut and the count of the calls that it refused
 abbrev pub IsCrash : Power → Power → Type 0
-IsCrash before after = after ≡ record before { left = None; refused = 0; size = after.size }
+IsCrash before after = after ≡ record before { left = None; refused = 0 }
 
 -- the refusal that an answer tells of, and a call's result
 abbrev pub refusal_in : Answer → Option StoreError
@@ -177,22 +180,33 @@ abbrev pub IsSpent : Option ℕ → Option ℕ → Type 0
 IsSpent None after = after ≡ None
 IsSpent (Some before) after = (left : ℕ) × (after ≡ Some left) × (left ≤ before)
 
--- What calls leave of the power of which the last was refused for that, or none: a fault that was injected, and a call
--- that a cut refused, ends them; they use up what a cut lets through; and they give so many names at most.
-pub record Leaves (most : ℕ) (refusal : Option StoreError) (before after : Power) : Type 0 where
+-- an opening gives three names of the cache and one number of a file at most, no other call gives one, and the record
+-- of the calls goes on
+pub record GivesNumbers (openings : ℕ) (before after : Power) : Type 0 where
+  pub names : (before.names ≤ after.names) × (after.names ≤ before.names + 3 * openings)
+  pub files : (before.files ≤ after.files) × (after.files ≤ before.files + openings)
+  pub calls : Grows before.calls after.calls
+
+-- What calls leave of the power, with so many openings among them, of which the last was refused for that, or none: a
+-- fault that was injected, and a call that a cut refused, ends them; and they use up what a cut lets through.
+pub record Leaves (openings : ℕ) (refusal : Option StoreError) (before after : Power) : Type 0 where
   pub injected : after.injected ≡ before.injected + faults_in refusal
   pub refused : after.refused ≡ before.refused + cuts_in refusal
   pub left : IsSpent before.left after.left
-  pub names : (before.names ≤ after.names) × (after.names ≤ before.names + most)
+  pub numbers : GivesNumbers openings before after
 
 -- a count of refusals is about to pass its type
 abbrev pub IsEnding : Power → Type 0
 IsEnding power = (2 ^ 64 ≤ power.injected + 1) ⊎ (2 ^ 64 ≤ power.refused + 1)
 
--- and in an opening the names of the cache, the bytes of the disk, or the numbers of its files are
+-- the calls that were made of the log may have left so many bytes that their places end
+abbrev pub MayEndDisk : List Call → Type 0
+MayEndDisk calls = (bytes : List ℕ) × IsImage (file_of calls) bytes × (2 ^ 64 ≤ length bytes + 4096)
+
+-- and in an opening the names of the cache, the places on the disk, or the numbers of its files are
 abbrev pub IsEndingOpening : Power → Type 0
 IsEndingOpening power =
-    IsEnding power ⊎ (2 ^ 64 ≤ power.names + 3) ⊎ (2 ^ 64 ≤ power.size + 4096) ⊎ (2 ^ 64 ≤ power.files + 1)
+    IsEnding power ⊎ (2 ^ 64 ≤ power.names + 3) ⊎ MayEndDisk power.calls ⊎ (2 ^ 64 ≤ power.files + 1)
 
 -- what there is, as this
 abbrev pub as_proved : {A : Type 0} → (A → Proved) → Result A Unprovable → Result Proved Unprovable
@@ -348,11 +362,11 @@ IsStepLive m before after history pruned ask_close answer next =
 IsStepLive m before after history pruned (ask_commit words metadata) answer next =
     IsCommitting m before after history pruned words metadata answer next
 IsStepLive m before after history pruned (ask_get key) answer next =
-    (next ≡ live history pruned)
+    (next ≡ live history pruned) × (after.calls ≡ before.calls)
     × ((answer ≡ value (value_at (latest_map history) key))
     ⊎ ((error : StoreError) × (answer ≡ refused error) × MayRefuseRead before after error))
 IsStepLive m before after history pruned (ask_proof question) answer next =
-    (next ≡ live history pruned)
+    (next ≡ live history pruned) × (after.calls ≡ before.calls)
     × ((answer ≡ told_proof (proof_of m history pruned question))
     ⊎ ((error : StoreError) × (answer ≡ refused error) × MayRefuseRead before after error))
 IsStepLive m before after history pruned (ask_prune location) answer next =
@@ -392,10 +406,10 @@ IsStep m before after (failed history commit) request answer next =
     IsStepFailed before after history commit request answer next
 IsStep m before after (doubtful history) request answer next = IsStepInDoubt m before after history request answer next
 
--- how many names of its cache an opening gives at most; no other request gives one
-abbrev pub names_given : Request → ℕ
-names_given ask_open = 3
-names_given request = 0
+-- how many openings a request may make
+abbrev pub openings_in : Request → ℕ
+openings_in ask_open = 1
+openings_in request = 0
 
 -- What a request makes of the power without its calls: a cut is asked for, or a crash ends it.
 abbrev pub turned : Request → Answer → Power → Power
@@ -404,12 +418,13 @@ turned ask_crash has_crashed power = record power { left = None; refused = 0 }
 turned request answer power = power
 
 -- The power before a step and after it: a fault was injected in it where its answer tells of one, and a cut refused a
--- call where it tells of that, and no more; and its calls use up what a cut lets through. So in a run there are as many
--- answers that tell of an injected fault as faults were injected, and one that tells of a cut comes only after so many
--- calls as were asked for since the last crash.
+-- call where it tells of that, and no more; its calls use up what a cut lets through, and are recorded. So in a run
+-- there are as many answers that tell of an injected fault as faults were injected; one that tells of a cut comes only
+-- after so many calls as were asked for since the last crash; and an opening says that a number ends only after so many
+-- openings, or calls that left so many bytes.
 abbrev pub Passes : Request → Answer → Power → Power → Type 0
 Passes request answer before after =
-    Leaves (names_given request) (refusal_in answer) (turned request answer before) after
+    Leaves (openings_in request) (refusal_in answer) (turned request answer before) after
 
 -- A run: an answer for each request, one step after the other; each step meets the power that the one before left, and
 -- the state that it left, as that is seen.
@@ -433,6 +448,11 @@ IsRunInDoubt m before first requests answers after last = IsRunSeen in_doubt m b
 abbrev pub faults_told : List Answer → ℕ
 faults_told [] = 0
 faults_told (answer ∷ answers) = faults_told answers + faults_in (refusal_in answer)
+
+-- how many openings requests may make
+abbrev pub openings_of : List Request → ℕ
+openings_of [] = 0
+openings_of (request ∷ requests) = openings_of requests + openings_in request
 
 -- no request asks for a cut of the power
 abbrev pub AskNoCut : List Request → Type 0

@@ -42,8 +42,8 @@ power_of device cache = record {
   injected = device.storage.injections;
   refused = device.refused;
   names = cache.next_id;
-  size = length (shown_of device);
   files = device.storage.inner.next;
+  calls = device.calls;
   left = device.left;
 }
 
@@ -110,7 +110,7 @@ abbrev pub power_in : {R : Type 0} → Option (DeviceState R × Cache) → Optio
 power_in (Some parts) store = power_of parts.0 parts.1
 power_in None (Some store) = power_of store.device store.cache
 power_in None None =
-    record { injected = 0; refused = 0; names = 0; size = 0; files = 0; left = None }
+    record { injected = 0; refused = 0; names = 0; files = 0; calls = []; left = None }
 
 -- the settings by which its device fails
 abbrev pub config_in : {R : Type 0} → Option (DeviceState R × Cache) → Option (StoreState R) → Option Config

@@ -73,11 +73,12 @@ with_pruned None pruned = None
 with_pruned (Some now) pruned = Some (record now { pruned = pruned })
 
 -- What the calls of a request leave of what has refused calls, of which the last was refused for that, or none: an
--- injected fault and a call that a cut refuses are counted, and none asks for a cut.
+-- injected fault and a call that a cut refuses are counted, and none asks for a cut or makes a file.
 pub record Raises (refusal : Option StoreError) (before after : Failures) : Type 0 where
   pub injected : after.injected ≡ before.injected + faults_in refusal
   pub refused : after.refused ≡ before.refused + cuts_in refusal
   pub asked : after.is_asked ≡ before.is_asked
+  pub files : after.files ≡ before.files
 
 -- Why a call over the blob may refuse: a count was raised, a number ended, or there was no memory.
 abbrev pub IsRefusal : Failures → Failures → Type 0 → StoreError → Type 0

@@ -12,7 +12,7 @@ ghost use Rattle.auth_store_device.specs.Devices.{DeviceState};
 ghost use Rattle.auth_store_device.specs.Settings.{IsNew};
 ghost use Rattle.auth_store_log.specs.Records.{Format, begun, history_bytes, recovered_log};
 ghost use Rattle.auth_store_session.specs.Machine.{Machine, Power, State, Request, Answer, IsShownOf, IsStep, IsRun};
-ghost use Rattle.auth_store_session.specs.Machine.{Passes, IsRunSeen};
+ghost use Rattle.auth_store_session.specs.Machine.{Passes, IsRunSeen, GivesNumbers, openings_of};
 ghost use Rattle.auth_store_session.specs.Machine.{AsksNoPrune, IsBehind, ask_prune, live};
 ghost use Rattle.auth_store_session.specs.Machine.{AskNoCut, TellNoCut, faults_told, AskNoCrash, AcknowledgeNone};
 ghost use Rattle.auth_store_session.specs.Machine.{closed, in_doubt, kept_history, Begins, GoesOn, IsCertain};
@@ -59,7 +59,8 @@ pub fn a_run_goes_on()
 {}
 
 /// A run tells causes that were there: of injected faults as many answers as faults were injected, and of a cut of the
-/// power none where none was asked for.
+/// power none where none was asked for; and where an opening says that a number ends, there were that many openings, or
+/// the calls that were made left so many bytes, since openings alone give names and files, and the record only grows.
 pub fn a_run_tells_causes()
     ensures faults { (m : Machine) (before : Power) (first : State) (requests : List Request) (answers : List Answer)
         (after : Power) (last : State) → IsRun m before first requests answers after last
@@ -67,6 +68,9 @@ pub fn a_run_tells_causes()
     ensures cuts { (m : Machine) (before : Power) (first : State) (requests : List Request) (answers : List Answer)
         (after : Power) (last : State) → IsRun m before first requests answers after last
         → before.left ≡ None → AskNoCut requests → TellNoCut answers }
+    ensures numbers { (see : State → State) (m : Machine) (before : Power) (first : State) (requests : List Request)
+        (answers : List Answer) (after : Power) (last : State)
+        → IsRunSeen see m before first requests answers after last → GivesNumbers (openings_of requests) before after }
 {}
 
 /// A cut of the power that stands does so until a crash is asked for, and till then no opening and no commit succeeds.

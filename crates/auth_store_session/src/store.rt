@@ -129,7 +129,7 @@ where
         IsOpenedThrough format (cache.old.page_size + 12) (shown_of device.old) device.old.calls device.new.calls }
     ensures header { HasOwnHeader device.old.storage.inner → HasOwnHeader device.new.storage.inner }
     ensures settings { device.new.storage.config ≡ device.old.storage.config }
-    ensures leaves { Leaves 3 (refusal_of result) (power_of device.old cache.old) (power_of device.new cache.new) }
+    ensures leaves { Leaves 1 (refusal_of result) (power_of device.old cache.old) (power_of device.new cache.new) }
     ensures cache { IsCache cache.new }
     ensures page_size { cache.new.page_size ≡ cache.old.page_size }
     ensures refused { let format = format_of (K.after tt) (V.after tt) K.SIZE V.SIZE in
@@ -185,8 +185,8 @@ where
         ensures settings { MatchResult result (λ store. store.device.storage.config ≡ device.storage.config)
             (λ refused. refused.device.storage.config ≡ device.storage.config) }
         ensures leaves { MatchResult result
-            (λ store. Leaves 3 None (power_of device cache) (power_of store.device store.cache))
-            (λ refused. Leaves 3 (Some refused.error) (power_of device cache) (power_of refused.device refused.cache)) }
+            (λ store. Leaves 1 None (power_of device cache) (power_of store.device store.cache))
+            (λ refused. Leaves 1 (Some refused.error) (power_of device cache) (power_of refused.device refused.cache)) }
         ensures cache { IfErr result (λ refused. IsCache refused.cache
             × (refused.cache.page_size ≡ cache.page_size)) }
         ensures refused { let format = format_of (K.after tt) (V.after tt) K.SIZE V.SIZE in

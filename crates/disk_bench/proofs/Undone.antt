@@ -71,7 +71,8 @@ write_read earlier offset n size is_sync sync lost bytes file new same n_is size
     ∙ ap (λ l. wrote offset bytes sync true ∷ calls_from earlier l) undone
 
 -- so is a resize
-pub resize_read : (earlier : List Step) (to size : ℕ) (lost file new : List ℕ) → size ≡ length file → lost ≡ drop to file → new ≡ resized to file
+pub resize_read : (earlier : List Step) (to size : ℕ) (lost file new : List ℕ) → size ≡ length file → lost ≡ drop to file
+    → new ≡ resized to file
     → resized_to to true ∷ calls_from earlier (before_resize size lost new) ≡ resized_to to true ∷ calls_from earlier file
 resize_read earlier to size lost file new size_is lost_is new_is =
     let undone : before_resize size lost new ≡ file =

@@ -1,5 +1,6 @@
 -- Generations that have begun.
-use Rattle.std.proofs.Common.{◌≡◌, ◌<◌, ◌+◌, ◌∷◌, ◌++◌, [], ℕ, Bool, true, false, not, cond, Option, Some, None, List, filter, subst, refl, arith}
+use Rattle.std.proofs.Common.{◌≡◌, ◌<◌, ◌+◌, ◌∷◌, ◌++◌, [], ℕ, Bool, true}
+use Rattle.std.proofs.Common.{false, not, cond, Option, Some, None, List, filter, subst, refl, arith}
 use Rattle.std.specs.Prelude.{find}
 use Rattle.fault_storage.specs.declared.pending.Ticket.{Ticket}
 use Rattle.fault_storage.specs.Pending.{
@@ -26,7 +27,8 @@ begun_more : (next : ℕ) (entries : List Entry) → HaveBegun next entries → 
 begun_more next [] all = tt
 begun_more next (entry ∷ later) all = let here : entry.generation < next = all.0 in (omega arith, begun_more next later all.1)
 
-begun_put : (next : ℕ) (entries : List Entry) (added : Entry) → HaveBegun next entries → added.generation < next → HaveBegun next (entries ++ added ∷ [])
+begun_put : (next : ℕ) (entries : List Entry) (added : Entry) → HaveBegun next entries → added.generation < next
+    → HaveBegun next (entries ++ added ∷ [])
 begun_put next [] added all here = (here, tt)
 begun_put next (entry ∷ later) added all here = (all.0, begun_put next later added all.1 here)
 
@@ -45,7 +47,8 @@ begun_changed test change next (entry ∷ later) same all = by (test entry) (beg
   where
     by : (b : Bool) → HaveBegun next (changed test change later)
         → HaveBegun next (cond b (change entry ∷ later) (entry ∷ changed test change later))
-    by true rest = let here : (change entry).generation ≡ entry.generation = same entry in let before : entry.generation < next = all.0 in (omega arith, all.1)
+    by true rest = let here : (change entry).generation ≡ entry.generation = same entry in
+        let before : entry.generation < next = all.0 in (omega arith, all.1)
     by false rest = (all.0, rest)
 
 begun_found : (test : Entry → Bool) (next : ℕ) (entries : List Entry) (entry : Entry) → HaveBegun next entries → find test entries ≡ Some entry
@@ -53,11 +56,13 @@ begun_found : (test : Entry → Bool) (next : ℕ) (entries : List Entry) (entry
 begun_found test next [] entry all found = cc
 begun_found test next (first ∷ later) entry all found = by (test first) found (begun_found test next later entry all.1)
   where
-    by : (b : Bool) → cond b (Some first) (find test later) ≡ Some entry → (find test later ≡ Some entry → entry.generation < next) → entry.generation < next
+    by : (b : Bool) → cond b (Some first) (find test later) ≡ Some entry → (find test later ≡ Some entry → entry.generation < next)
+        → entry.generation < next
     by true is rest = let same : first ≡ entry = cc in subst (λ (e : Entry). e.generation < next) same all.0
     by false is rest = rest is
 
-pub orderly_changed : (ticket : Ticket) (registry : Registry) (change : Entry → Entry) → ((entry : Entry) → (change entry).generation ≡ entry.generation)
+pub orderly_changed : (ticket : Ticket) (registry : Registry) (change : Entry → Entry)
+    → ((entry : Entry) → (change entry).generation ≡ entry.generation)
     → IsOrderly registry → IsOrderly (changed_for ticket change registry)
 orderly_changed ticket registry change same all = begun_changed (is_of ticket) change registry.next registry.entries same all
 

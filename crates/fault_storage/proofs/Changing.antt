@@ -18,10 +18,12 @@ kept-fixed : (config : WriteConfig) (mode : WriteMode) (at : ℕ) (bytes : List 
 kept-fixed config Plain at bytes kept = refl
 kept-fixed config Sync at bytes kept = refl
 
-pub write-failed : (config : WriteConfig) (mode : WriteMode) (offset : ℕ) (bytes : List ℕ) (handle : Handle) (store with left : Store) (number start at : ℕ)
+pub write-failed : (config : WriteConfig) (mode : WriteMode) (offset : ℕ) (bytes : List ℕ) (handle : Handle)
+    (store with left : Store) (number start at : ℕ)
     (live room shown : List ℕ) (kept laid : List Bool) (words later : Stream) (mutation : Mutation)
     → record { number = number; offset = start; live = live } ≡ handle
-    → at ≡ start + offset → mutation ≡ mutation_for config mode at bytes → with ≡ issued number mutation store → left ≡ revised number (kept_of kept) with
+    → at ≡ start + offset → mutation ≡ mutation_for config mode at bytes → with ≡ issued number mutation store
+    → left ≡ revised number (kept_of kept) with
     → room ≡ live → laid ≡ kept → shown ≡ with_kept at bytes laid room
     → ◌≡◌ {A = List Bool × Stream} (kept, later) (kept_bytes (mode_of config.mode) (rate_of config.retention) (length bytes) words)
     → ◌≡◌ {A = (Handle × Store) × Stream} ((record { number = number; offset = start; live = shown }, left), later)
@@ -83,7 +85,8 @@ shortened-issued number furthest size rate store with left le issues revises =
 pub resize-made : (rate : Rate) (handle : Handle) (store left : Store) (number start size all : ℕ) (live room shown : List ℕ)
     → record { number = number; offset = start; live = live } ≡ handle
     → all ≡ start + size → left ≡ issued number (resized_to all rate) store → room ≡ live → shown ≡ resized all room
-    → ◌≡◌ {A = Handle × Store} (record { number = number; offset = start; live = shown }, left) (resized_whole (Some (handle.offset + size)) rate handle store)
+    → ◌≡◌ {A = Handle × Store} (record { number = number; offset = start; live = shown }, left)
+    (resized_whole (Some (handle.offset + size)) rate handle store)
 resize-made rate handle store left number start size all live room shown view there issues roomy shows =
     ap (λ l. (record { number = number; offset = start; live = l }, left)) (shows ∙ ap (resized all) roomy)
     ∙ ap (λ s. (record { number = number; offset = start; live = resized all live }, s)) issues
@@ -91,7 +94,8 @@ resize-made rate handle store left number start size all live room shown view th
     ∙ ap (λ (h : Handle). resized_whole (Some (h.offset + size)) rate h store) view
 
 -- a resize that failed, where it is drawn how far it goes
-pub resize-failed : (config : ResizeConfig) (handle : Handle) (store left : Store) (number start size old all : ℕ) (live shown : List ℕ) (reached : Option ℕ)
+pub resize-failed : (config : ResizeConfig) (handle : Handle) (store left : Store) (number start size old all : ℕ)
+    (live shown : List ℕ) (reached : Option ℕ)
     (words later : Stream)
     → record { number = number; offset = start; live = live } ≡ handle → old ≡ length live → all ≡ start + size
     → ◌≡◌ {A = Option ℕ × Stream} (reached, later) (failed_length (rate_of config.retention) old all words)

@@ -25,7 +25,8 @@ sample-zero rate words zero = rw zero refl
 
 pub plain-call : {S R T : Type 0} (stream : R → Stream) (call : Call) (rate : Probability) (Answers : S → Result T Error → S → Type 0)
     (old new : Storage S R) (result : Result T Error)
-    → rate.numerator ≡ 0 → old.injections < 2 ^ 64 - 1 → IsFaultyCall stream call rate Answers old result new → IsPlainCall stream Answers old result new
+    → rate.numerator ≡ 0 → old.injections < 2 ^ 64 - 1 → IsFaultyCall stream call rate Answers old result new
+    → IsPlainCall stream Answers old result new
 plain-call stream call rate Answers old new result zero room (inl full) = absurd (omega (arith, full.0))
 plain-call stream call rate Answers old new result zero room (inr (inl refused)) =
     let same = sym refused.3 in (
@@ -82,13 +83,15 @@ pub plain-resize : {R : Type 0} (stream : R → Stream) (blob changed : Blob Han
     → IsPlainCall stream (λ below answer after. MemoryResizes blob.inner size below answer changed.inner after) old result new
 plain-resize stream blob changed size old new result quiet room (inl (ended, inl full, kept, same)) = absurd (omega arith)
 plain-resize stream blob changed size old new result quiet room (inl (ended, inr far, kept, same)) = (
-  subst (λ r. MemoryResizes blob.inner size old.inner r changed.inner new.inner) (sym ended) (ap (λ b. b.inner) kept, ap (λ s. s.inner) same, inl (refl, far)),
+  subst (λ r. MemoryResizes blob.inner size old.inner r changed.inner new.inner) (sym ended)
+      (ap (λ b. b.inner) kept, ap (λ s. s.inner) same, inl (refl, far)),
   ap (λ s. stream s.rng) same,
   ap (λ s. s.injections) same,
   ap (λ s. s.config) same,
 )
 plain-resize stream blob changed size old new result quiet room (inr (inl (want, below, near, kept, same))) = (
-  subst (λ r. MemoryResizes blob.inner size old.inner r changed.inner new.inner) (sym want) (ap (λ b. b.inner) kept, ap (λ s. s.inner) same, inr (refl, near)),
+  subst (λ r. MemoryResizes blob.inner size old.inner r changed.inner new.inner) (sym want)
+      (ap (λ b. b.inner) kept, ap (λ s. s.inner) same, inr (refl, near)),
   ap (λ s. stream s.rng) same,
   ap (λ s. s.injections) same,
   ap (λ s. s.config) same,

@@ -31,7 +31,8 @@ all-changed (stored ∷ later) (left ∷ others) number words before =
     changed-at stored left later others number words (has_number number left) before (all-changed later others number words before.3)
 
 settled-at : (files lefts : List StoredFile) (number : ℕ) (words after : Stream) (there : Bool) → AreLeftOf files lefts
-    → AreLeftOf files (cond {A = List StoredFile × Stream} there (changed (has_number number) (λ file. (settled file words).0) lefts, after) (lefts, words)).0
+    → AreLeftOf files
+    (cond {A = List StoredFile × Stream} there (changed (has_number number) (λ file. (settled file words).0) lefts, after) (lefts, words)).0
 settled-at files lefts number words after true before = all-changed files lefts number words before
 settled-at files lefts number words after false before = before
 

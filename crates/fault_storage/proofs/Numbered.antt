@@ -1,5 +1,6 @@
 -- The numbers of a store's files stay below its next one.
-use Rattle.std.proofs.Common.{◌≡◌, ◌<◌, ◌≤◌, ◌+◌, ◌∷◌, [], ℕ, Bool, true, false, cond, ◌||◌, List, length, filter, Ok, ap, inl, inr, arith}
+use Rattle.std.proofs.Common.{◌≡◌, ◌<◌, ◌≤◌, ◌+◌, ◌∷◌, [], ℕ, Bool}
+use Rattle.std.proofs.Common.{true, false, cond, ◌||◌, List, length, filter, Ok, ap, inl, inr, arith}
 use Rattle.std.specs.List.{list_any}
 use Rattle.std.proofs.lemmas.Bool.{false≢true}
 use Rattle.rand_core.specs.Stream.{Stream}
@@ -17,7 +18,8 @@ pub below_more : (next further : ℕ) (files : List StoredFile) → next ≤ fur
 below_more next further [] more below = tt
 below_more next further (stored ∷ later) more below = (omega (arith, below.0), below_more next further later more below.1)
 
-pub below_filtered : (test : StoredFile → Bool) (next : ℕ) (files : List StoredFile) → AreNumberedBelow next files → AreNumberedBelow next (filter test files)
+pub below_filtered : (test : StoredFile → Bool) (next : ℕ) (files : List StoredFile) → AreNumberedBelow next files
+    → AreNumberedBelow next (filter test files)
 below_filtered test next [] below = tt
 below_filtered test next (stored ∷ later) below = by (test stored) (below_filtered test next later below.1)
   where

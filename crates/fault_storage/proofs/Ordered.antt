@@ -87,7 +87,8 @@ before_changed test change name (stored ∷ later) all = by (test stored) (befor
     by true rest = (all.0, all.1)
     by false rest = (all.0, rest)
 
-pub ordered_changed : (test : StoredFile → Bool) (change : File → File) (files : List StoredFile) → AreInOrder files → AreInOrder (changed test change files)
+pub ordered_changed : (test : StoredFile → Bool) (change : File → File) (files : List StoredFile) → AreInOrder files
+    → AreInOrder (changed test change files)
 ordered_changed test change [] order = tt
 ordered_changed test change (stored ∷ later) order = by (test stored) (ordered_changed test change later order.1)
   where

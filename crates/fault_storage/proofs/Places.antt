@@ -58,7 +58,8 @@ neither true c e = absurd (false≢true (sym e))
 neither false c e = (refl, e)
 
 -- where none passes, nothing is changed
-pub changed-none : (test : StoredFile → Bool) (change : File → File) (files : List StoredFile) → list_any test files ≡ false → changed test change files ≡ files
+pub changed-none : (test : StoredFile → Bool) (change : File → File) (files : List StoredFile) → list_any test files ≡ false
+    → changed test change files ≡ files
 changed-none test change [] none = refl
 changed-none test change (stored ∷ later) none =
     let both : (test stored ≡ false) × (list_any test later ≡ false) = neither (test stored) (list_any test later) none in

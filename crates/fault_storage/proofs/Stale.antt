@@ -1,5 +1,6 @@
 -- Tickets of older generations.
-use Rattle.std.proofs.Common.{◌≡◌, ◌<◌, ◌∷◌, ◌++◌, [], ℕ, Bool, true, false, not, cond, ◌&&◌, ◌==◌, Option, Some, None, List, filter, ap, refl, ◌∙◌, arith}
+use Rattle.std.proofs.Common.{◌≡◌, ◌<◌, ◌∷◌, ◌++◌, [], ℕ, Bool, true, false, not, cond}
+use Rattle.std.proofs.Common.{◌&&◌, ◌==◌, Option, Some, None, List, filter, ap, refl, ◌∙◌, arith}
 use Rattle.std.specs.Prelude.{find}
 use Rattle.std.proofs.lemmas.Bool.{and_right, ne_eqb}
 use Rattle.fault_storage.specs.declared.pending.Ticket.{Ticket}
@@ -8,7 +9,8 @@ use Rattle.fault_storage.specs.Pending.{Entry, Registry, IsPast, is_of, has_name
 use Rattle.fault_storage.specs.Pending.{fresh, followed, begun, forgotten, continued, admitted, admitted_by, entry_of}
 
 -- one that passes or not, before others of which none does
-passed_by : (test : Entry → Bool) (entry : Entry) (later : List Entry) → test entry ≡ false → find test later ≡ None → find test (entry ∷ later) ≡ None
+passed_by : (test : Entry → Bool) (entry : Entry) (later : List Entry) → test entry ≡ false → find test later ≡ None
+    → find test (entry ∷ later) ≡ None
 passed_by test entry later fails none = ap (λ b. cond b (Some entry) (find test later)) fails ∙ none
 
 -- of entries of which none passes, neither the first does nor a later one
@@ -16,7 +18,8 @@ apart : (b : Bool) (entry : Entry) (found : Option Entry) → cond b (Some entry
 apart true entry found e = cc
 apart false entry found e = (refl, e)
 
-none_kept : (test keep : Entry → Bool) (entry : Entry) (later kept : List Entry) (here : Bool) → (here ≡ true → test entry ≡ false) → find test kept ≡ None
+none_kept : (test keep : Entry → Bool) (entry : Entry) (later kept : List Entry) (here : Bool) → (here ≡ true → test entry ≡ false)
+    → find test kept ≡ None
     → find test (cond here (entry ∷ kept) kept) ≡ None
 none_kept test keep entry later kept true fails none = passed_by test entry kept (fails refl) none
 none_kept test keep entry later kept false fails none = none
@@ -91,7 +94,8 @@ past_forgetting ticket registry partition name past = record {
 }
 
 pub past_changed : (ticket : Ticket) (registry : Registry) (other : Ticket) (change : Entry → Entry)
-    → ((entry : Entry) → is_of ticket (change entry) ≡ is_of ticket entry) → IsPast ticket registry → IsPast ticket (changed_for other change registry)
+    → ((entry : Entry) → is_of ticket (change entry) ≡ is_of ticket entry) → IsPast ticket registry
+    → IsPast ticket (changed_for other change registry)
 past_changed ticket registry other change same past = record {
   given = past.given;
   stale = none_changed (is_of ticket) (is_of other) change registry.entries same past.stale;

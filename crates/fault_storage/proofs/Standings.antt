@@ -36,7 +36,8 @@ pub first-found : (test : Entry → Bool) (entries : List Entry) (place : ℕ) (
     → ((change : Entry → Entry) → take place entries ++ changed test change (drop place entries) ≡ changed test change entries)
     → IsFirst test entries place
 first-found test entries place entry lt is passes same changes =
-    let first : drop place entries ≡ entry ∷ drop (suc place) entries = drop-cons entries place entry lt ∙ ap (λ s. s ∷ drop (suc place) entries) (sym is) in
+    let first : drop place entries ≡ entry ∷ drop (suc place) entries = drop-cons entries place entry lt
+    ∙ ap (λ s. s ∷ drop (suc place) entries) (sym is) in
     record {
       within = lt;
       is = λ d. sym same ∙ ap (find test) first ∙ ap (λ b. cond b (Some entry) (find test (drop (suc place) entries))) passes
@@ -53,7 +54,8 @@ neither true entry found e = cc
 neither false entry found e = (refl, e)
 
 -- where none passes, nothing is changed
-pub changed-none : (test : Entry → Bool) (change : Entry → Entry) (entries : List Entry) → find test entries ≡ None → changed test change entries ≡ entries
+pub changed-none : (test : Entry → Bool) (change : Entry → Entry) (entries : List Entry) → find test entries ≡ None
+    → changed test change entries ≡ entries
 changed-none test change [] none = refl
 changed-none test change (entry ∷ later) none =
     let both : (test entry ≡ false) × (find test later ≡ None) = neither (test entry) entry (find test later) none in

@@ -1,7 +1,8 @@
 -- The debts of names. A name that is admitted anew begins a generation, and later opens of it are of that generation
 -- until the next one begins. An open has a ticket, with its generation and a number that no other open has; a
 -- generation has the number of its first open.
-use Rattle.std.specs.Prelude.{◌≡◌, ⊤, ℕ, ◌+◌, ◌-◌, ◌^◌, ◌<◌, ◌⊎◌, ◌==◌, ◌&&◌, Bool, true, false, not, if◌then◌else◌}
+use Rattle.std.specs.Prelude.{◌≡◌, ⊤, ℕ, ◌+◌, ◌-◌, ◌^◌, ◌<◌}
+use Rattle.std.specs.Prelude.{◌⊎◌, ◌==◌, ◌&&◌, Bool, true, false, not, if◌then◌else◌}
 use Rattle.std.specs.Prelude.{Option, Some, None, is_some, Result, MatchResult, List, [], ◌∷◌, ◌++◌, filter, find}
 use Rattle.std.specs.Prelude.{length, slice_index_or, slice_set}
 use Rattle.std.specs.List.{list_any}

@@ -8,7 +8,8 @@
 //!
 //! A ticket of an older generation changes nothing, whatever call it comes to.
 
-ghost use Rattle.std.specs.Prelude.{◌≡◌, ◌<◌, ◌-◌, ◌+◌, ◌^◌, ◌⊎◌, ◌++◌, ◌∷◌, ◌==◌, not, is_some, None, Some, [], true};
+ghost use Rattle.std.specs.Prelude.{◌≡◌, ◌<◌, ◌-◌, ◌+◌, ◌^◌, ◌⊎◌};
+ghost use Rattle.std.specs.Prelude.{◌++◌, ◌∷◌, ◌==◌, not, is_some, None, Some, [], true};
 ghost use Rattle.std.specs.Prelude.{false, IfOk, OnErr, MatchResult, MatchOption, filter, find};
 ghost use Rattle.std.specs.List.{list_any};
 ghost use Rattle.std.specs.Vec.{vec_len, vec_capacity};

@@ -56,7 +56,8 @@ after_odd n odd = ap (λ r. cond (eqb r 1) (bit_xor (n / 2) polynomial) (n / 2))
 -- a polynomial taken out twice is none
 twice : (a b p : ℕ) → bit_xor (bit_xor a p) (bit_xor b p) ≡ bit_xor a b
 twice a b p =
-    xor_assoc a p (bit_xor b p) ∙ ap (bit_xor a) (ap (bit_xor p) (xor_comm b p) ∙ sym (xor_assoc p p b) ∙ ap (λ z. bit_xor z b) (xor_self p) ∙ xor_zero_l b)
+    xor_assoc a p (bit_xor b p)
+    ∙ ap (bit_xor a) (ap (bit_xor p) (xor_comm b p) ∙ sym (xor_assoc p p b) ∙ ap (λ z. bit_xor z b) (xor_self p) ∙ xor_zero_l b)
 
 once : (a b p : ℕ) → bit_xor (bit_xor a p) b ≡ bit_xor (bit_xor a b) p
 once a b p = xor_assoc a p b ∙ ap (bit_xor a) (xor_comm p b) ∙ sym (xor_assoc a b p)
@@ -112,7 +113,8 @@ byte-step left byte lt =
     let high : bit_xor left byte / 2 ^ 8 ≡ left / 2 ^ 8 =
     xor_shr left byte 8 ∙ ap (bit_xor (left / 2 ^ 8)) (omega arith) ∙ xor_zero_r (left / 2 ^ 8) in
     let low : bit_xor left byte % 2 ^ 8 ≡ bit_xor (left % 2 ^ 8) byte = xor_mod left byte 8 ∙ ap (bit_xor (left % 2 ^ 8)) (omega arith) in
-    byte-split (bit_xor left byte) ∙ ap (λ h. bit_xor h (after_bits 8 (bit_xor left byte % 2 ^ 8))) high ∙ ap (λ l. bit_xor (left / 2 ^ 8) (after_bits 8 l)) low
+    byte-split (bit_xor left byte) ∙ ap (λ h. bit_xor h (after_bits 8 (bit_xor left byte % 2 ^ 8))) high
+    ∙ ap (λ l. bit_xor (left / 2 ^ 8) (after_bits 8 l)) low
 
 -- so many bits, and so many more
 pub bits-add : (j k n : ℕ) → after_bits k (after_bits j n) ≡ after_bits (j + k) n
@@ -208,7 +210,8 @@ four-more left first last bytes a b c d first-is last-is =
 
 -- the first eight bytes
 pub front-eight : (bytes : List ℕ) → 8 ≤ length bytes
-    → get_or bytes 0 0 ∷ get_or bytes 1 0 ∷ get_or bytes 2 0 ∷ get_or bytes 3 0 ∷ get_or bytes 4 0 ∷ get_or bytes 5 0 ∷ get_or bytes 6 0 ∷ get_or bytes 7 0 ∷ []
+    → get_or bytes 0 0 ∷ get_or bytes 1 0 ∷ get_or bytes 2 0 ∷ get_or bytes 3 0 ∷ get_or bytes 4 0 ∷ get_or bytes 5 0 ∷ get_or bytes 6
+    0 ∷ get_or bytes 7 0 ∷ []
     ≡ take 8 bytes
 front-eight [] lt = absurd (omega arith)
 front-eight (a ∷ []) lt = absurd (omega arith)

@@ -1,5 +1,6 @@
 -- What one sample is.
-use Rattle.std.proofs.Common.{◌≡◌, ℕ, suc, ◌%◌, Bool, true, false, nat_lt, cond, List, [], ◌∷◌, ◌++◌, ◌∙◌, ap, sym, refl, append_assoc}
+use Rattle.std.proofs.Common.{◌≡◌, ℕ, suc, ◌%◌, Bool, true, false, nat_lt, cond}
+use Rattle.std.proofs.Common.{List, [], ◌∷◌, ◌++◌, ◌∙◌, ap, sym, refl, append_assoc}
 use Rattle.rand_core.specs.Stream.{Stream, next_u64}
 use Rattle.fault_storage_parts.specs.Draws.{Rate, is_certain, sample, samples}
 
@@ -15,7 +16,10 @@ sample-drawn rate words open_to_chance =
     ap (λ b. cond b (nat_lt 0 rate.numerator, words) (nat_lt ((next_u64 words).0 % rate.denominator) rate.numerator, (next_u64 words).1)) open_to_chance
 
 pub samples-suc : (rate : Rate) (count : ℕ) (words : Stream)
-    → samples rate (suc count) words ≡ ((sample rate words).0 ∷ (samples rate count (sample rate words).1).0, (samples rate count (sample rate words).1).1)
+    → samples rate (suc count) words ≡ (
+      (sample rate words).0 ∷ (samples rate count (sample rate words).1).0,
+      (samples rate count (sample rate words).1).1,
+    )
 unfolding samples
 samples-suc rate count words = refl
 

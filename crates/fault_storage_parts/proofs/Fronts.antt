@@ -1,5 +1,6 @@
 -- What leaves the first bytes of a file as they are.
-use Rattle.std.proofs.Common.{◌≡◌, ◌≤◌, ◌+◌, ◌-◌, ◌++◌, ◌∷◌, [], ℕ, Bool, true, false, cond, List, length, take, drop, replicate, refl, ◌∙◌, arith}
+use Rattle.std.proofs.Common.{◌≡◌, ◌≤◌, ◌+◌, ◌-◌, ◌++◌, ◌∷◌, [], ℕ, Bool}
+use Rattle.std.proofs.Common.{true, false, cond, List, length, take, drop, replicate, refl, ◌∙◌, arith}
 use Rattle.std.proofs.lemmas.List.{length-append, length-take-le, take-append-le, take-take}
 use Rattle.rand_core.specs.Stream.{Stream}
 use Rattle.fault_storage_parts.specs.Files.{

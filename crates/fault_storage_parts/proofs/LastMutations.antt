@@ -19,7 +19,8 @@ pub recast-put : (change : Mutation → Mutation) (old rest new : List code.Muta
     → new ≡ rest ++ put ∷ []
     → mutation_of put ≡ change (mutation_of last) → log_of new ≡ recast change (log_of old)
 recast-put change old rest new last put taken made is =
-    ap log_of made ∙ map-append mutation_of rest (put ∷ []) ∙ ap (λ m. log_of rest ++ m ∷ []) is ∙ sym (recast-snoc change (log_of rest) (mutation_of last))
+    ap log_of made ∙ map-append mutation_of rest (put ∷ []) ∙ ap (λ m. log_of rest ++ m ∷ []) is
+    ∙ sym (recast-snoc change (log_of rest) (mutation_of last))
     ∙ ap (recast change) (sym (ap log_of taken ∙ map-append mutation_of rest (last ∷ [])))
 
 -- it holds of the one

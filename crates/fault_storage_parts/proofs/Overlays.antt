@@ -1,5 +1,6 @@
 -- A file that is grown before bytes are laid over it.
-use Rattle.std.proofs.Common.{◌≡◌, ◌≤◌, ◌+◌, ◌-◌, ◌++◌, ℕ, List, length, take, drop, replicate, get_or, inl, inr, ap, sym, refl, ◌∙◌, arith}
+use Rattle.std.proofs.Common.{◌≡◌, ◌≤◌, ◌+◌, ◌-◌, ◌++◌, ℕ, List, length}
+use Rattle.std.proofs.Common.{take, drop, replicate, get_or, inl, inr, ap, sym, refl, ◌∙◌, arith}
 use Rattle.std.proofs.lemmas.Bool.{cases_lt}
 use Rattle.std.proofs.lemmas.List.{
   append-nil,
@@ -24,7 +25,8 @@ grown-at size file i = elim (cases_lt i (length file)) [
 ]
 
 pub length-grown : (size : ℕ) (file : List ℕ) → length (grown size file) ≡ length file + (size - length file)
-length-grown size file = length-append file (replicate (size - length file) 0) ∙ ap (λ n. length file + n) (length-replicate {A = ℕ} (size - length file) 0)
+length-grown size file = length-append file (replicate (size - length file) 0)
+    ∙ ap (λ n. length file + n) (length-replicate {A = ℕ} (size - length file) 0)
 
 front : (offset end : ℕ) (file : List ℕ) → offset ≤ end → take offset (grown end file) ≡ take offset (grown offset file)
 front offset end file le =

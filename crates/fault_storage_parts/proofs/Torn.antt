@@ -102,7 +102,8 @@ torn-past bytes t i le =
     ∙ zeros-at (length bytes - t.count) (i - t.count)
 
 -- the version that is said is the one that was written, where both of its bytes were
-said-whole : (bytes : List ℕ) (w : ℕ) → w < 2 ^ 16 → get_or bytes 6 0 ≡ get_or (front w) 6 0 → get_or bytes 7 0 ≡ get_or (front w) 7 0 → version_in bytes ≡ w
+said-whole : (bytes : List ℕ) (w : ℕ) → w < 2 ^ 16 → get_or bytes 6 0 ≡ get_or (front w) 6 0 → get_or bytes 7 0 ≡ get_or (front w) 7 0
+    → version_in bytes ≡ w
 said-whole bytes w small six seven =
     ap (λ b. from_be_bytes w16 (b ∷ get_or bytes 7 0 ∷ [])) six
     ∙ ap (λ b. from_be_bytes w16 (get_or (front w) 6 0 ∷ b ∷ [])) seven
@@ -120,7 +121,8 @@ pub record Matches (bytes front_bytes : List ℕ) (k : ℕ) : Type 0 where
   pub same : (i : ℕ) → i < k → get_or bytes i 0 ≡ get_or front_bytes i 0
   pub all : k < length bytes → k < 12 → get_or bytes k 0 ≢ get_or front_bytes k 0
 
-pub said-front : (bytes : List ℕ) (t : IsTornCreation bytes) (i : ℕ) → i < t.count → i < 12 → get_or bytes i 0 ≡ get_or (front (version_in bytes)) i 0
+pub said-front : (bytes : List ℕ) (t : IsTornCreation bytes) (i : ℕ) → i < t.count → i < 12
+    → get_or bytes i 0 ≡ get_or (front (version_in bytes)) i 0
 said-front bytes t i lt front_lt =
     let written : (j : ℕ) → j < t.count → j < 12 → get_or bytes j 0 ≡ get_or (front t.version) j 0 =
     λ j l m. torn-at bytes t j l ∙ region-at t.version j m in
@@ -226,7 +228,8 @@ torn-short bytes t k small m long = elim (cases_lt (length bytes) 4096) [
 ]
 
 -- what is zero from a place on
-pub zeros-from : (bytes : List ℕ) (k : ℕ) → ((i : ℕ) → i < length (drop k bytes) → get_or (drop k bytes) i 0 ≡ 0) → (i : ℕ) → k ≤ i → get_or bytes i 0 ≡ 0
+pub zeros-from : (bytes : List ℕ) (k : ℕ) → ((i : ℕ) → i < length (drop k bytes) → get_or (drop k bytes) i 0 ≡ 0) → (i : ℕ) → k ≤ i
+    → get_or bytes i 0 ≡ 0
 zeros-from bytes k zeros i le =
     let here : k + (i - k) ≡ i = omega (arith, le) in
     sym (get_or-drop k bytes (i - k) 0 ∙ ap (λ j. get_or bytes j 0) here) ∙ elim (cases_lt (i - k) (length (drop k bytes))) [
@@ -234,5 +237,6 @@ zeros-from bytes k zeros i le =
       | inr past ↦ get_or_past (drop k bytes) (i - k) 0 past
     ]
 
-pub zeros-behind : (bytes : List ℕ) (k : ℕ) → ((i : ℕ) → k ≤ i → get_or bytes i 0 ≡ 0) → (i : ℕ) → i < length (drop k bytes) → get_or (drop k bytes) i 0 ≡ 0
+pub zeros-behind : (bytes : List ℕ) (k : ℕ) → ((i : ℕ) → k ≤ i → get_or bytes i 0 ≡ 0) → (i : ℕ) → i < length (drop k bytes)
+    → get_or (drop k bytes) i 0 ≡ 0
 zeros-behind bytes k zeros i lt = get_or-drop k bytes i 0 ∙ zeros (k + i) (omega arith)

@@ -1,6 +1,7 @@
 -- The headers of files. A created file begins with a region of its layout; what a crash leaves of a region that was
 -- being written is a beginning of it, followed by zeros. A header that is read has to pass its checks, in their order.
-use Rattle.std.specs.Prelude.{◌≡◌, ℕ, ◌-◌, ◌<◌, ◌≤◌, ◌^◌, ◌==◌, ◌&&◌, ◌⊎◌, nat_le, Bool, true, if◌then◌else◌, Option}
+use Rattle.std.specs.Prelude.{◌≡◌, ℕ, ◌-◌, ◌<◌, ◌≤◌, ◌^◌, ◌==◌}
+use Rattle.std.specs.Prelude.{◌&&◌, ◌⊎◌, nat_le, Bool, true, if◌then◌else◌, Option}
 use Rattle.std.specs.Prelude.{Some, None, is_some, unwrap_or, List, [], ◌∷◌, ◌++◌, length, take, drop, replicate}
 use Rattle.std.specs.Prelude.{slice_index}
 use Rattle.std.specs.Int.{w16, w32, to_be_bytes, from_be_bytes}

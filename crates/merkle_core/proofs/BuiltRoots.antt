@@ -1,5 +1,6 @@
 -- Proofs that are built out of the nodes of a plain tree lead to its root.
-use Rattle.std.proofs.Common.{◌≡◌, ℕ, ◌+◌, ◌-◌, ◌^◌, ◌<◌, ◌≤◌, take, drop, length, List, ◌∷◌, [], Some, option_map, sym, ◌∙◌, ap, subst, arith}
+use Rattle.std.proofs.Common.{◌≡◌, ℕ, ◌+◌, ◌-◌, ◌^◌, ◌<◌, ◌≤◌, take, drop}
+use Rattle.std.proofs.Common.{length, List, ◌∷◌, [], Some, option_map, sym, ◌∙◌, ap, subst, arith}
 use Rattle.std.proofs.lemmas.List.{length-take-le, length-drop}
 use Rattle.std.specs.List.{AllByRecursion}
 use Rattle.merkle_forest.specs.declared.bagging.Bagging.{Bagging}

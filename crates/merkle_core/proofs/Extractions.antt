@@ -1,5 +1,6 @@
 -- Nodes that a proof of a range tells, as a walk finds them.
-use Rattle.std.proofs.Common.{◌≡◌, ℕ, zero, suc, ◌+◌, ◌≤◌, Bool, true, false, filter, map, drop, length, get_or, List, [], ◌∷◌, ◌++◌}
+use Rattle.std.proofs.Common.{◌≡◌, ℕ, zero, suc, ◌+◌, ◌≤◌, Bool, true, false}
+use Rattle.std.proofs.Common.{filter, map, drop, length, get_or, List, [], ◌∷◌, ◌++◌}
 use Rattle.std.proofs.Common.{refl, sym, ◌∙◌, ap, ap₂, arith, append_assoc}
 use Rattle.std.proofs.lemmas.List.{map-append}
 use Rattle.merkle_forest.specs.Forest.{Tree, leaf, branch, position, height, leaf_count}
@@ -9,7 +10,8 @@ use Rattle.merkle_core.specs.Extracted.{told_nodes, inner_told, node_digests}
 use Rattle.merkle_core.specs.Ranges.{Digests, meets, siblings, inner_digests}
 
 -- one more node
-pub pushed : {D : Type 0} (encoding : D → List ℕ) (old new : List (ℕ × D)) (p q : ℕ) (d : D) (e : List ℕ) → new ≡ old ++ ((p, d) ∷ []) → p ≡ q
+pub pushed : {D : Type 0} (encoding : D → List ℕ) (old new : List (ℕ × D)) (p q : ℕ) (d : D) (e : List ℕ)
+    → new ≡ old ++ ((p, d) ∷ []) → p ≡ q
     → encoding d ≡ e → encoded encoding new ≡ encoded encoding old ++ ((q, e) ∷ [])
 pushed encoding old new p q d e is place same =
     ap (encoded encoding) is ∙ map-append (λ one. (one.0, encoding one.1)) old ((p, d) ∷ [])
@@ -38,7 +40,8 @@ module _ (digest : Digests) (start stop : ℕ) where
   given_out at (leaf p) out = rw out refl
   given_out at (branch p left right) out = rw out refl
 
-  pub given_low : (at high : ℕ) (t : Tree) → high ≡ 0 → high ≡ height t → meets start stop (at, t) ≡ true → siblings digest start stop at t ≡ []
+  pub given_low : (at high : ℕ) (t : Tree) → high ≡ 0 → high ≡ height t → meets start stop (at, t) ≡ true
+      → siblings digest start stop at t ≡ []
   given_low at high (leaf p) low level met = rw met refl
   given_low at high (branch p left right) low level met = absurd (omega (arith, low, level))
 
@@ -65,7 +68,8 @@ module _ (digest : Digests) (start stop : ℕ) where
       ∙ ap (λ ns. old ++ node_digests digest ns) (sym (told_branch at p left right met))
 
   -- peaks of which the first meets the range or does not
-  pub peaks_out : (peak : Located) (peaks : List Located) → meets start stop peak ≡ false → inner_told start stop (peak ∷ peaks) ≡ inner_told start stop peaks
+  pub peaks_out : (peak : Located) (peaks : List Located) → meets start stop peak ≡ false
+      → inner_told start stop (peak ∷ peaks) ≡ inner_told start stop peaks
   peaks_out peak peaks out = rw out refl
 
   pub peaks_met : (peak : Located) (peaks : List Located) → meets start stop peak ≡ true

@@ -167,7 +167,8 @@ module _ (start stop : ℕ) (some : start < stop) where
       (length-as_one (folded_backward H) d ∙ ap (min 1) (counts (is_after stop) (drop k peaks)))))
 
 -- digests of trees that are made of elements, and of what is known of the nodes beside them
-module _ (leaf_of : ℕ → List ℕ → List ℕ) (node_of : ℕ → List ℕ → List ℕ → List ℕ) (elements : Elements) (start stop : ℕ) (known : Lookup) where
+module _ (leaf_of : ℕ → List ℕ → List ℕ) (node_of : ℕ → List ℕ → List ℕ → List ℕ) (elements : Elements)
+    (start stop : ℕ) (known : Lookup) where
   abbrev pub shown_digest : Digests
   shown_digest at (leaf p) = cond (meets start stop (at, leaf p)) (leaf_of p (elements at)) (unwrap_or (known p) [])
   shown_digest at (branch p left right) =
@@ -199,7 +200,8 @@ pub record HasGiven (leaf_of : ℕ → List ℕ → List ℕ) (node_of : ℕ →
   pub made : AreMadeOf leaf_of node_of elements start stop digest
   pub given : AreGiven k start stop peaks digest digests
 
-module _ (leaf_of : ℕ → List ℕ → List ℕ) (node_of : ℕ → List ℕ → List ℕ → List ℕ) (elements : Elements) (rule : Rule) (pairs : IsPairing rule)
+module _ (leaf_of : ℕ → List ℕ → List ℕ) (node_of : ℕ → List ℕ → List ℕ → List ℕ) (elements : Elements) (rule : Rule)
+    (pairs : IsPairing rule)
     (leaf_total inactive : ℕ) (bagging : Bagging) (start stop : ℕ) (some : start < stop) (digests : List (List ℕ)) where
   abbrev peaks : List Located
   peaks = peaks_of rule leaf_total

@@ -290,7 +290,8 @@ module _ (hash : Hash) (names : Naming) (over : Over) (elements : Elements) (dig
         same = ap (λ x. hash (fold_string x (value hash rest.made))) it.same ∙ ap (λ x. hash (fold_string (digest peak.0 peak.1) x)) rest.same;
       }
 
-  pub back_read : (n at : ℕ) (peak : Located) (peaks : List Located) (outer more : List (List ℕ)) → Ascend at (peak ∷ peaks) → BackRead n peak peaks outer more
+  pub back_read : (n at : ℕ) (peak : Located) (peaks : List Located) (outer more : List (List ℕ)) → Ascend at (peak ∷ peaks)
+      → BackRead n peak peaks outer more
   back_read n at peak [] outer more up = back_last n peak outer more
   back_read n at peak (next ∷ peaks) outer more up =
       let rest = back_read (suc n) (end_of peak) next peaks outer more up.1 in
@@ -330,7 +331,8 @@ module _ (hash : Hash) (names : Naming) (over : Over) (elements : Elements) (dig
       ≡ onto_of singly (suc n) (folded names 1 n first x) peaks rest
   onto_step_is singly n first x peak peaks streams rest is = rw is refl
 
-  pub onto_read : (singly n at : ℕ) (first : Made) (f : List ℕ) (peaks : List Located) (outer more : List (List ℕ)) → value hash first ≡ f → Ascend at peaks
+  pub onto_read : (singly n at : ℕ) (first : Made) (f : List ℕ) (peaks : List Located) (outer more : List (List ℕ))
+      → value hash first ≡ f → Ascend at peaks
       → OntoRead singly n first f peaks outer more
   onto_read zero n at first f [] outer more same up = record { made = first; is = refl; same = same }
   onto_read (suc singly) n at first f [] outer more same up = record { made = first; is = refl; same = same }
@@ -456,7 +458,8 @@ module _ (hash : Hash) (names : Naming) (over : Over) (elements : Elements) (dig
         made = it.made;
         is = ap (λ ds. group_of (suc singly) n first (peak ∷ peaks) (ds ++ outer, inner (peak ∷ peaks) ++ more))
             (sym (onto_as_group (suc singly) (peak ∷ peaks) none))
-            ∙ group_other_is singly n first peak peaks (onto_outer (suc singly) (peak ∷ peaks) ++ outer, inner (peak ∷ peaks) ++ more) not_front ∙ it.is;
+            ∙ group_other_is singly n first peak peaks (onto_outer (suc singly) (peak ∷ peaks) ++ outer, inner (peak ∷ peaks) ++ more) not_front
+            ∙ it.is;
         same = it.same;
       })
       (cases_Bool (is_before start peak))
@@ -539,7 +542,8 @@ module _ (hash : Hash) (names : Naming) (over : Over) (elements : Elements) (dig
         made = rest.made;
         is = ap (λ ds. bag_of (suc singly) (peak ∷ peaks) (ds, inner (peak ∷ peaks))) digests
             ∙ ap (λ ds. bag_of (suc singly) (peak ∷ peaks) (own_outer peak later, ds)) (sym (none_left (inner (peak ∷ peaks))))
-            ∙ bag_own_is singly peak peaks (own_outer peak later, inner (peak ∷ peaks) ++ []) (later, inner peaks ++ []) it.made not_front it.is ∙ rest.is;
+            ∙ bag_own_is singly peak peaks (own_outer peak later, inner (peak ∷ peaks) ++ []) (later, inner peaks ++ []) it.made not_front it.is
+            ∙ rest.is;
         same = rest.same ∙ items_value singly peak peaks;
       })
       (cases_Bool (is_before start peak))

@@ -268,7 +268,8 @@ module _ (hash : Hash) (names : Naming) (over : Over) (bagging : Bagging) (diges
   singly_left = from_left bagging inactive (length peaks)
 
   -- the peaks are there, the first one apart
-  with_first : (first : Located) (rest : List Located) → peaks ≡ first ∷ rest → leaves ≤ 2 ^ 62 → stop ≤ leaves → inactive ≤ length peaks → Ascend 0 peaks
+  with_first : (first : Located) (rest : List Located) → peaks ≡ first ∷ rest → leaves ≤ 2 ^ 62 → stop ≤ leaves
+      → inactive ≤ length peaks → Ascend 0 peaks
       → option_map (value hash) (range_root names over bagging rule leaves inactive start elements digests)
       ≡ Some (hash (root_string bagging leaves inactive (bagged hash bagging (items hash inactive (singly digest peaks)))))
   with_first first rest split few inside enough up =

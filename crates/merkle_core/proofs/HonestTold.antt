@@ -1,5 +1,6 @@
 -- The honest proof of a range gives the digests of the nodes that it tells.
-use Rattle.std.proofs.Common.{◌≡◌, ◌⊎◌, inl, inr, ⊎_elim, ℕ, ◌+◌, ◌<◌, ◌≤◌, min, Bool, List, [], ◌++◌, length, filter, take, drop, refl, sym, ◌∙◌, ap}
+use Rattle.std.proofs.Common.{◌≡◌, ◌⊎◌, inl, inr, ⊎_elim, ℕ, ◌+◌, ◌<◌, ◌≤◌}
+use Rattle.std.proofs.Common.{min, Bool, List, [], ◌++◌, length, filter, take, drop, refl, sym, ◌∙◌, ap}
 use Rattle.std.proofs.Common.{true, arith, append_assoc, ◌||◌}
 use Rattle.std.proofs.lemmas.Bool.{or_parts, not-true, leb-false}
 use Rattle.std.proofs.lemmas.List.{length-map}

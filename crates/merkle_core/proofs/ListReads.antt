@@ -102,7 +102,8 @@ module _ (hash : Hash) (names : Naming) (over_claimed over_real : Over) (claimed
   -- of a peak
   abbrev PeakTold : Located → List Located → Streams → Made × Streams → Type 0
   PeakTold peak peaks streams got = Agrees hash got.0 (made_peak over_real real peak)
-      → (streams.0 ≡ own_outer peak got.1.0) × ((more : List (List ℕ)) → got.1.1 ≡ inner peaks ++ more → streams.1 ≡ inner (peak ∷ peaks) ++ more)
+      → (streams.0 ≡ own_outer peak got.1.0)
+      × ((more : List (List ℕ)) → got.1.1 ≡ inner peaks ++ more → streams.1 ≡ inner (peak ∷ peaks) ++ more)
 
   peak_met : (peak : Located) (peaks : List Located) (streams : Streams) (x : Made × List (List ℕ)) → meets start stop peak ≡ true
       → TreeTold peak.0 peak.1 streams.1 x → PeakTold peak peaks streams (x.0, (streams.0, x.1))
@@ -242,7 +243,8 @@ module _ (hash : Hash) (names : Naming) (over_claimed over_real : Over) (claimed
   GroupTold singly n d there f peaks streams got = Agrees hash got.0 (made_onto names over_real real last singly n there peaks)
       → (d ≡ folded_onto hash f (D (befores (take singly peaks)))) × Took (group_outer singly peaks) (inner peaks) streams got.1
 
-  group_front : (singly n : ℕ) (d : List ℕ) (there : Made) (f : List ℕ) (peak : Located) (peaks : List Located) (streams : Streams) (got : Made × Streams)
+  group_front : (singly n : ℕ) (d : List ℕ) (there : Made) (f : List ℕ) (peak : Located) (peaks : List Located)
+      (streams : Streams) (got : Made × Streams)
       → is_before start peak ≡ true
       → GroupTold singly (suc n) d (folded names 1 n there (made_peak over_real real peak)) (hash (fold_string f (digest peak.0 peak.1))) peaks streams got
       → GroupTold (suc singly) n d there f (peak ∷ peaks) streams got

@@ -104,7 +104,8 @@ module _ (digest other : Digests) where
       let m = length (filter (is_after stop) (take k peaks)) in
       let rest = all_back AreSame fronts (backs ++ inner) all in
       sym (assembled_is digest start stop hash bagging k n m peaks refl refl)
-      ∙ ap (λ ds. assembled hash bagging n ds m (singly digest backs) (singly digest inner)) (same_all fronts (all_front AreSame fronts (backs ++ inner) all))
+      ∙ ap (λ ds. assembled hash bagging n ds m (singly digest backs) (singly digest inner))
+      (same_all fronts (all_front AreSame fronts (backs ++ inner) all))
       ∙ ap (λ ds. assembled hash bagging n (singly other fronts) m ds (singly digest inner)) (same_all backs (all_front AreSame backs inner rest))
       ∙ ap (λ ds. assembled hash bagging n (singly other fronts) m (singly other backs) ds) (same_all inner (all_back AreSame backs inner rest))
       ∙ assembled_is other start stop hash bagging k n m peaks refl refl

@@ -40,7 +40,8 @@ plain_same p q same = cc
 
 -- two strings at one site, each at the top, on the left or on the right: they are on one side, so they are one
 pub merge : (Top : Type 0) (own : List ℕ) (lefts rights : Strings) (s : Site) (u v : List ℕ)
-    → (Top × (own ≡ u)) ⊎ (Contains lefts (s, u) ⊎ Contains rights (s, u)) → (Top × (own ≡ v)) ⊎ (Contains lefts (s, v) ⊎ Contains rights (s, v))
+    → (Top × (own ≡ u)) ⊎ (Contains lefts (s, u) ⊎ Contains rights (s, u))
+    → (Top × (own ≡ v)) ⊎ (Contains lefts (s, v) ⊎ Contains rights (s, v))
     → (Contains lefts (s, u) → Contains lefts (s, v) → u ≡ v) → (Contains rights (s, u) → Contains rights (s, v) → u ≡ v)
     → ((w : List ℕ) → Top → Contains lefts (s, w) → ⊥) → ((w : List ℕ) → Top → Contains rights (s, w) → ⊥) → ((w z : List ℕ)
     → Contains lefts (s, w) → Contains rights (s, z) → ⊥) → u ≡ v
@@ -67,7 +68,8 @@ module _ (hash : Hash) where
       (Contains-append_cases ((at_plain p, number p ++ (value hash x ++ value hash y)) ∷ []) (strings hash x ++ strings hash y) (s, u) here)
 
   -- every site is that of a node of the tree
-  pub site_in : (at : ℕ) (t : Tree) (made : Made) → Partial at t made → (s : Site) (u : List ℕ) → Contains (strings hash made) (s, u) → IsSiteIn at t s
+  pub site_in : (at : ℕ) (t : Tree) (made : Made) → Partial at t made → (s : Site) (u : List ℕ)
+      → Contains (strings hash made) (s, u) → IsSiteIn at t s
   site_in at (leaf p) made (inl given) s u here = absurd (nothing (s, u) (subst (λ m. Contains (strings hash m) (s, u)) given.1 here))
   site_in at (leaf p) made (inr own) s u here =
       let is = only (at_plain p, number p ++ own.0) (s, u) (subst (λ m. Contains (strings hash m) (s, u)) own.1 here) in
@@ -90,7 +92,8 @@ module _ (hash : Hash) where
       let one = numbered at is.0 (branch p left right) is.1 (inl (refl, refl)) (inr (inr is.2)) (plain_same p (position is.1) (top ∙ is.3)) in
       omega (arith, one.0, within-fits is.0 (at + leaf_count left) is.1 right is.2, leaf_count-pos left)
 
-  not_both : (at p : ℕ) (left right : Tree) → Numbered at (branch p left right) → (s : Site) → IsSiteIn at left s → IsSiteIn (at + leaf_count left) right s → ⊥
+  not_both : (at p : ℕ) (left right : Tree) → Numbered at (branch p left right) → (s : Site) → IsSiteIn at left s
+      → IsSiteIn (at + leaf_count left) right s → ⊥
   not_both at p left right numbered s l r =
       let one = numbered l.0 r.0 l.1 r.1 (inr (inl l.2)) (inr (inr r.2)) (plain_same (position l.1) (position r.1) (sym l.3 ∙ r.3)) in
       omega (arith, one.0, within-fits l.0 at l.1 left l.2, within-fits r.0 (at + leaf_count left) r.1 right r.2, leaf_count-pos l.1)

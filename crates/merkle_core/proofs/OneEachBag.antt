@@ -1,5 +1,6 @@
 -- One string a site, in plain peaks that are bagged.
-use Rattle.std.proofs.Common.{◌≡◌, ◌⊎◌, inl, inr, ⊎_elim, ℕ, zero, suc, ◌+◌, ◌<◌, ◌≤◌, List, [], ◌∷◌, ◌++◌, length, Contains, sym, ◌∙◌, ap, subst, arith}
+use Rattle.std.proofs.Common.{◌≡◌, ◌⊎◌, inl, inr, ⊎_elim, ℕ, zero, suc, ◌+◌, ◌<◌}
+use Rattle.std.proofs.Common.{◌≤◌, List, [], ◌∷◌, ◌++◌, length, Contains, sym, ◌∙◌, ap, subst, arith}
 use Rattle.std.proofs.lemmas.List.Elements.{Contains-append_cases}
 use Rattle.merkle_forest.specs.Hashing.{Hash}
 use Rattle.merkle_forest.specs.Trees.{Located}
@@ -43,7 +44,8 @@ module _ (hash : Hash) (last : ℕ) where
   -- two parts with sites of their own, under a site that neither has
   pub one_of_both : (site : Site) (x y : Made) (X Y : Site → Type 0) → ((s : Site) (u : List ℕ) → Contains (strings hash x) (s, u) → X s)
       → ((s : Site) (u : List ℕ) → Contains (strings hash y) (s, u) → Y s)
-      → ((s : Site) → site ≡ s → X s → ⊥) → ((s : Site) → site ≡ s → Y s → ⊥) → ((s : Site) → X s → Y s → ⊥) → OneEach (strings hash x)
+      → ((s : Site) → site ≡ s → X s → ⊥) → ((s : Site) → site ≡ s → Y s → ⊥) → ((s : Site) → X s → Y s → ⊥)
+      → OneEach (strings hash x)
       → OneEach (strings hash y)
       → OneEach (strings hash (hashed site [] (both x y)))
   one_of_both site x y X Y in_x in_y not_x not_y apart one_x one_y s u v one other =
@@ -70,9 +72,11 @@ module _ (hash : Hash) (last : ℕ) where
       (λ r. ⊎_elim (λ is. inl (inr is)) (λ is. inr (is.0, omega (arith, is.1), is.2)) (back_site (suc n) next peaks own.1 own.3 s u r)) below)
       (parts_of (at_fold n last) own.0 own.1 s u (subst (λ m. Contains (strings hash m) (s, u)) own.4 here))
 
-  pub back_one : (n : ℕ) (peak : Located) (peaks : List Located) (made : Made) → Apart (peak ∷ peaks) → Back n peak peaks made → OneEach (strings hash made)
+  pub back_one : (n : ℕ) (peak : Located) (peaks : List Located) (made : Made) → Apart (peak ∷ peaks) → Back n peak peaks made
+      → OneEach (strings hash made)
   back_one n peak [] made apart is = one_each hash peak.0 peak.1 made apart.0 is
-  back_one n peak (next ∷ peaks) made apart (inl given) = λ s u v one other. absurd (nothing (s, u) (subst (λ m. Contains (strings hash m) (s, u)) given.1 one))
+  back_one n peak (next ∷ peaks) made apart (inl given) = λ s u v one other.
+      absurd (nothing (s, u) (subst (λ m. Contains (strings hash m) (s, u)) given.1 one))
   back_one n peak (next ∷ peaks) made apart (inr own) =
       subst (λ m. OneEach (strings hash m)) (sym own.4)
       (one_of_both (at_fold n last) own.0 own.1 (IsSiteIn peak.0 peak.1) (IsBackSite (suc n) (next ∷ peaks))

@@ -1,5 +1,6 @@
 -- One string a site, in the root of a plain tree that is hashed or rebuilt.
-use Rattle.std.proofs.Common.{◌≡◌, ◌⊎◌, inl, inr, ⊎_elim, ℕ, zero, suc, ◌+◌, ◌^◌, ◌≤◌, ◌||◌, ltb, List, [], ◌∷◌, ◌++◌}
+use Rattle.std.proofs.Common.{◌≡◌, ◌⊎◌, inl, inr, ⊎_elim, ℕ, zero, suc}
+use Rattle.std.proofs.Common.{◌+◌, ◌^◌, ◌≤◌, ◌||◌, ltb, List, [], ◌∷◌, ◌++◌}
 use Rattle.std.proofs.Common.{length, take, drop, Contains, None, Some, option_map, option_and_then, IfSome, refl, sym}
 use Rattle.std.proofs.Common.{◌∙◌, ap, subst, arith}
 use Rattle.std.specs.List.{list_all}
@@ -87,7 +88,8 @@ module _ (hash : Hash) (last : ℕ) where
   pub back_good : (n : ℕ) (peak : Located) (peaks : List Located) (made : Made) → Apart (peak ∷ peaks) → Back hash last n peak peaks made → Good made
   back_good n peak peaks made apart is = (
     back_one hash last n peak peaks made apart is,
-    λ s u here. ⊎_elim (λ node. inl (is_plain (peak ∷ peaks) s node)) (λ fold. inr (fold.0, last, fold.2)) (back_site hash last n peak peaks made is s u here),
+    λ s u here.
+        ⊎_elim (λ node. inl (is_plain (peak ∷ peaks) s node)) (λ fold. inr (fold.0, last, fold.2)) (back_site hash last n peak peaks made is s u here),
   )
 
   onto_inner : (inactive n : ℕ) (first : Made) (peaks : List Located) (made : Made) → ((s : Site) (u : List ℕ)
@@ -108,7 +110,8 @@ module _ (hash : Hash) (last : ℕ) where
       is.2 s u here
 
   onto_good : (inactive n : ℕ) (first : Made) (peaks : List Located) (made : Made) (P : Site → Type 0)
-      → ((s : Site) (u : List ℕ) → Contains (strings hash first) (s, u) → IsLeftSite hash last n P s) → ((s : Site) → P s → (p : ℕ) × (s ≡ at_plain p))
+      → ((s : Site) (u : List ℕ) → Contains (strings hash first) (s, u) → IsLeftSite hash last n P s)
+      → ((s : Site) → P s → (p : ℕ) × (s ≡ at_plain p))
       → ((s : Site) → P s → IsSiteOf peaks s → ⊥) → Apart peaks → 2 ≤ n → n + length peaks ≡ suc last → OneEach (strings hash first)
       → Onto hash last inactive n first peaks made → Good made
   onto_good inactive n first peaks made P in_first plain_p apart_p apart two total one is = (
@@ -198,7 +201,8 @@ module _ (hash : Hash) (last : ℕ) where
         (λ is. bind_good (λ (x : Made × Streams). Partial peak.0 peak.1 x.0) (λ (x : Made × Streams). Back hash last n peak (next ∷ peaks) x.0)
         (λ x. option_map (λ y. (folded plain_names n last x.0 y.0, y.1)) (read_back plain_names plain_over claimed start stop last (suc n) next peaks x.1))
         (read_peak plain_over claimed start stop peak streams) (peak_partial peak streams)
-        (λ x here. map_good (λ (y : Made × Streams). Back hash last (suc n) next peaks y.0) (λ (y : Made × Streams). Back hash last n peak (next ∷ peaks) y.0)
+        (λ x here.
+        map_good (λ (y : Made × Streams). Back hash last (suc n) next peaks y.0) (λ (y : Made × Streams). Back hash last n peak (next ∷ peaks) y.0)
         (λ y. (folded plain_names n last x.0 y.0, y.1)) (read_back plain_names plain_over claimed start stop last (suc n) next peaks x.1) (back_read
         (suc n) next peaks x.1)
         (λ y there. inr (x.0, y.0, here, there, refl))))
@@ -248,7 +252,8 @@ module _ (hash : Hash) (last : ℕ) where
         → IfSome (option_and_then (λ x. read_group plain_names plain_over claimed start stop last inactive 2 x.0 peaks x.1) (given_outer streams))
         (λ x. Good x.0)
     given_group inactive peak peaks ([], inner) apart total = tt
-    given_group inactive peak peaks ((d ∷ outer), inner) apart total = group_read inactive 2 d peaks (outer, inner) apart.2 (omega arith) (omega (arith, total))
+    given_group inactive peak peaks ((d ∷ outer), inner) apart total = group_read inactive 2 d peaks (outer, inner) apart.2
+        (omega arith) (omega (arith, total))
 
     bag_read : (inactive : ℕ) (peaks : List Located) (streams : Streams) → Apart peaks → length peaks ≡ last
         → IfSome (read_bag plain_names plain_over claimed start stop last inactive peaks streams) (λ x. Good x.0)
@@ -271,7 +276,8 @@ module _ (hash : Hash) (last : ℕ) where
         (λ made is. from_peak inactive peak peaks x.0 made apart (omega (arith, total)) here is)))
 
   -- the root's own string stands at a site of its own
-  pub root_good : (string : List ℕ) (bag : Made) → Good bag → (s : Site) (u v : List ℕ) → Contains ((at_tree_root, string) ∷ strings hash bag) (s, u)
+  pub root_good : (string : List ℕ) (bag : Made) → Good bag → (s : Site) (u v : List ℕ)
+      → Contains ((at_tree_root, string) ∷ strings hash bag) (s, u)
       → Contains ((at_tree_root, string) ∷ strings hash bag) (s, v) → u ≡ v
   root_good string bag good s u v one other = by (parts u one) (parts v other)
     where

@@ -265,7 +265,8 @@ module _ (hash : Hash) (none : List ℕ) (bagging : Bagging) (rule : Rule) (pair
       (located_all (IsNode T) T (λ first node stands. peak-node first node T stands))))
       (λ bag all. root_sites (value hash (both (bytes (number n)) (both (bytes (domain_of bagging ∷ inactive_count claim.inactive)) bag))) bag all))
 
-  if_both : (P Q R : Made → Type 0) → ((made : Made) → P made → Q made → R made) → (got : Option Made) → IfSome got P → IfSome got Q → IfSome got R
+  if_both : (P Q R : Made → Type 0) → ((made : Made) → P made → Q made → R made) → (got : Option Made) → IfSome got P
+      → IfSome got Q → IfSome got R
   if_both P Q R each None p q = tt
   if_both P Q R each (Some made) p q = each made p q
 

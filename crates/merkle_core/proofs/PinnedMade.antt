@@ -130,7 +130,8 @@ module _ (hash : Hash) where
   or_sized size None m known sized = sized
   or_sized size (Some e) m known sized = known
 
-  none_or : (size : ℕ) (none : List ℕ) (o : Option (List ℕ)) → IfSome o (λ d. length d ≡ size) → length none ≡ size → length (unwrap_or o none) ≡ size
+  none_or : (size : ℕ) (none : List ℕ) (o : Option (List ℕ)) → IfSome o (λ d. length d ≡ size) → length none ≡ size
+      → length (unwrap_or o none) ≡ size
   none_or size none None known sized = sized
   none_or size none (Some e) known sized = known
 
@@ -155,7 +156,8 @@ module _ (hash : Hash) where
         ≡ folded_forward hash (singly digest (peak ∷ peaks))
     front_value peak peaks = onto_value 2 (made peak) (digest peak.0 peak.1) peaks (same peak)
 
-  module _ (size : ℕ) (hash_sized : (xs : List ℕ) → length (hash xs) ≡ size) (none : List ℕ) (none_sized : length none ≡ size) (elements : List (List ℕ))
+  module _ (size : ℕ) (hash_sized : (xs : List ℕ) → length (hash xs) ≡ size) (none : List ℕ) (none_sized : length none ≡ size)
+      (elements : List (List ℕ))
       (peaks : List Located) (pinned : List (List ℕ)) (sized : AllSized size pinned) where
     abbrev known : Lookup
     known = at_peak peaks pinned
@@ -196,7 +198,8 @@ module _ (rule : Rule) (pairs : IsPairing rule) (start count : ℕ) (pinned : Li
   abbrev K : Lookup
   K = at_peak (peaks_of rule start) pinned
 
-  pub pinned_peak : (at : ℕ) (t : Tree) (e : List ℕ) → IsNodeAt at t (forest_of rule count) → K (position t) ≡ Some e → IsPeakAt at t (forest_of rule start)
+  pub pinned_peak : (at : ℕ) (t : Tree) (e : List ℕ) → IsNodeAt at t (forest_of rule count) → K (position t) ≡ Some e
+      → IsPeakAt at t (forest_of rule start)
   pinned_peak at t e stands is =
       let trees = forest_of rule start in
       let found = if_there (λ d. (n : Located) × IsPeakAt n.0 n.1 trees × (position n.1 ≡ position t)) (K (position t)) e is
@@ -206,7 +209,8 @@ module _ (rule : Rule) (pairs : IsPairing rule) (start count : ℕ) (pinned : Li
       subst (λ k. IsPeakAt k t trees) same.0 (subst (λ g. IsPeakAt found.0.0 g trees) same.1 found.1)
 
 -- what is pinned at a peak that stands in a tree is the digest there, where the tree agrees with that of the list
-module _ (hash : Hash) (none : List ℕ) (elements : List (List ℕ)) (rule : Rule) (pairs : IsPairing rule) (start count : ℕ) (pinned : List (List ℕ)) where
+module _ (hash : Hash) (none : List ℕ) (elements : List (List ℕ)) (rule : Rule) (pairs : IsPairing rule) (start count : ℕ)
+    (pinned : List (List ℕ)) where
   abbrev known_there : Lookup
   known_there = at_peak (peaks_of rule start) pinned
 

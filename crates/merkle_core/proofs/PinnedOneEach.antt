@@ -282,7 +282,8 @@ module _ (hash : Hash) (none : List ℕ) (bagging : Bagging) (rule : Rule) (pair
   abbrev pub IsSiteBefore : Site → Type 0
   IsSiteBefore s = (first : ℕ) × (node : Tree) × IsNodeAt first node T × (first + leaf_count node ≤ claim.start) × (s ≡ at_plain (position node))
 
-  site_before : (ns : List Located) → AllByRecursion (IsNode T) ns → AllByRecursion (λ n. early n ≡ true) ns → (s : Site) → IsSiteOf ns s → IsSiteBefore s
+  site_before : (ns : List Located) → AllByRecursion (IsNode T) ns → AllByRecursion (λ n. early n ≡ true) ns → (s : Site)
+      → IsSiteOf ns s → IsSiteBefore s
   site_before [] stand end s is = absurd is
   site_before (n ∷ ns) stand end s (inl is) =
       let within = within-fits is.0 n.0 is.1 n.1 is.2 in

@@ -104,7 +104,8 @@ pub peak_apart : (digest : Digests) (start stop : ℕ) (peak : Located) (peaks :
 peak_apart digest start stop peak peaks out = ap (λ ns. singly digest (filter (is_before start) ns)) (inner_out start stop peak peaks out)
 
 -- digests, and then more
-pub more_singly : (digest : Digests) (old one new : List (List ℕ)) (xs ys : List Located) → one ≡ old ++ singly digest xs → new ≡ one ++ singly digest ys
+pub more_singly : (digest : Digests) (old one new : List (List ℕ)) (xs ys : List Located) → one ≡ old ++ singly digest xs
+    → new ≡ one ++ singly digest ys
     → new ≡ old ++ singly digest (xs ++ ys)
 more_singly digest old one new xs ys first second =
     let f : Located → List ℕ = λ n. digest n.0 n.1 in
@@ -118,6 +119,7 @@ pushed_digest encoding old new d e is same =
     ap (map encoding) is ∙ map-append encoding old (d ∷ []) ∙ ap (λ x. map encoding old ++ (x ∷ [])) same
 
 -- no digest begins each list
-pub begins_none : {D : Type 0} (encoding : D → List ℕ) (front : List D) (digests : List (List ℕ)) → length front < 1 → Begins (map encoding front) digests
+pub begins_none : {D : Type 0} (encoding : D → List ℕ) (front : List D) (digests : List (List ℕ)) → length front < 1
+    → Begins (map encoding front) digests
 begins_none encoding [] digests lt = (digests, refl)
 begins_none encoding (d ∷ front) digests lt = absurd (omega (arith, lt))

@@ -1,5 +1,6 @@
 -- Digests that are looked up one after the other, and those of a proof that they make.
-use Rattle.std.proofs.Common.{get_or, ◌≡◌, ℕ, zero, suc, ◌<◌, ◌≤◌, map, take, length, List, [], ◌∷◌, Option, Some, None, refl, sym, ◌∙◌, ap, arith}
+use Rattle.std.proofs.Common.{get_or, ◌≡◌, ℕ, zero, suc, ◌<◌, ◌≤◌, map, take, length}
+use Rattle.std.proofs.Common.{List, [], ◌∷◌, Option, Some, None, refl, sym, ◌∙◌, ap, arith}
 use Rattle.std.specs.Prelude.{slice_get}
 use Rattle.merkle_forest.specs.Forest.{Rule}
 use Rattle.merkle_core_parts.specs.declared.error.Error.{Error}

@@ -1,5 +1,6 @@
 -- The digests of a range proof, from those of its nodes in order of reading.
-use Rattle.std.proofs.Common.{◌≡◌, ℕ, ◌+◌, ◌≤◌, Bool, true, false, filter, map, take, drop, length, List, [], ◌∷◌, ◌++◌, Some, refl, sym, ◌∙◌, ap, ap₂, arith}
+use Rattle.std.proofs.Common.{◌≡◌, ℕ, ◌+◌, ◌≤◌, Bool, true, false, filter, map, take, drop}
+use Rattle.std.proofs.Common.{length, List, [], ◌∷◌, ◌++◌, Some, refl, sym, ◌∙◌, ap, ap₂, arith}
 use Rattle.std.proofs.lemmas.List.{map-append, append_assoc, length-map, length-append, take-append-drop, take_at, drop_at}
 use Rattle.std.proofs.lemmas.List.Elements.{filter-append}
 use Rattle.std.specs.List.{flat_map, take-map, drop-map}
@@ -67,7 +68,8 @@ module _ (digest : Digests) (start stop : ℕ) where
       ≡ inner_digests digest start stop (take k peaks) ++ inner_digests digest start stop (drop k peaks)
   inner_parts k peaks =
       ap (λ ps. singly digest (inner_nodes start stop ps)) (sym (take-append-drop k peaks))
-      ∙ ap (λ ps. singly digest (flat_map (λ peak. sibling_nodes start stop peak.0 peak.1) ps)) (filter-append (meets start stop) (take k peaks) (drop k peaks))
+      ∙ ap (λ ps. singly digest (flat_map (λ peak. sibling_nodes start stop peak.0 peak.1) ps))
+      (filter-append (meets start stop) (take k peaks) (drop k peaks))
       ∙ ap (singly digest) (flat_parts (λ peak. sibling_nodes start stop peak.0 peak.1) (filter (meets start stop)
       (take k peaks)) (filter (meets start stop) (drop k peaks)))
       ∙ map-append _ (inner_nodes start stop (take k peaks)) (inner_nodes start stop (drop k peaks))
@@ -83,13 +85,15 @@ module _ (digest : Digests) (start stop : ℕ) where
       → take n (singly digest (filter test peaks)) ≡ singly digest (filter test (take k peaks))
   side_first test k n peaks is =
       ap (take n) (side_parts test k peaks)
-      ∙ take_at (singly digest (filter test (take k peaks))) (singly digest (filter test (drop k peaks))) n (length-map (filter test (take k peaks)) _ ∙ sym is)
+      ∙ take_at (singly digest (filter test (take k peaks))) (singly digest (filter test (drop k peaks))) n
+      (length-map (filter test (take k peaks)) _ ∙ sym is)
 
   pub side_rest : (test : Located → Bool) (k n : ℕ) (peaks : List Located) → n ≡ passing test (take k peaks)
       → drop n (singly digest (filter test peaks)) ≡ singly digest (filter test (drop k peaks))
   side_rest test k n peaks is =
       ap (drop n) (side_parts test k peaks)
-      ∙ drop_at (singly digest (filter test (take k peaks))) (singly digest (filter test (drop k peaks))) n (length-map (filter test (take k peaks)) _ ∙ sym is)
+      ∙ drop_at (singly digest (filter test (take k peaks))) (singly digest (filter test (drop k peaks))) n
+      (length-map (filter test (take k peaks)) _ ∙ sym is)
 
   pub assembled_is : (hash : Hash) (bagging : Bagging) (k n m : ℕ) (peaks : List Located) → n ≡ passing (is_before start) (take k peaks)
       → m ≡ passing (is_after stop) (take k peaks)

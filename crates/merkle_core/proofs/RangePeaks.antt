@@ -138,7 +138,8 @@ module _ (hash : Hash) (names : Naming) (over : Over) (elements : Elements) (sta
   bag_met : (singly : ℕ) (peak : Located) (peaks : List Located) (streams : Streams) → is_before start peak ≡ false
       → bag (suc singly) (peak ∷ peaks) streams ≡ option_and_then (later singly peaks) (one peak streams)
   bag_met singly peak peaks streams met =
-      ap (λ b. cond b (option_and_then (λ x. group singly 2 x.0 peaks x.1) (given_outer streams)) (option_and_then (later singly peaks) (one peak streams))) met
+      ap (λ b.
+      cond b (option_and_then (λ x. group singly 2 x.0 peaks x.1) (given_outer streams)) (option_and_then (later singly peaks) (one peak streams))) met
 
   pub bag_own_missing : (singly : ℕ) (peak : Located) (peaks : List Located) (streams : Streams) → is_before start peak ≡ false
       → one peak streams ≡ None → bag (suc singly) (peak ∷ peaks) streams ≡ None

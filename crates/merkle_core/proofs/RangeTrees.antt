@@ -1,5 +1,6 @@
 -- A tree over a range: how far it reaches, and what is read of it.
-use Rattle.std.proofs.Common.{◌≡◌, ℕ, zero, suc, ◌+◌, ◌-◌, ◌*◌, ◌%◌, ◌^◌, ◌<◌, ◌≤◌, true, false, ◌||◌, List, [], ◌∷◌}
+use Rattle.std.proofs.Common.{◌≡◌, ℕ, zero, suc, ◌+◌, ◌-◌, ◌*◌, ◌%◌}
+use Rattle.std.proofs.Common.{◌^◌, ◌<◌, ◌≤◌, true, false, ◌||◌, List, [], ◌∷◌}
 use Rattle.std.proofs.Common.{length, map, get_or, Option, None, Some, option_map, refl, sym, ◌∙◌, ap, arith}
 use Rattle.std.specs.Prelude.{slice_index_or}
 use Rattle.std.proofs.lemmas.Bool.{or_parts, not-true, leb-false}
@@ -109,7 +110,8 @@ module _ (rule : Rule) (hash : Hash) (leaf_of : ℕ → List ℕ → List ℕ) (
         },
       ) in
       rw (met, one.is, two.is)
-      (ap (λ d. Some (d, more)) (by.branch at high q one.made two.made there ∙ ap (λ x. node_of q x (value hash two.made)) one.same ∙ ap (node_of q a) two.same
+      (ap (λ d. Some (d, more))
+      (by.branch at high q one.made two.made there ∙ ap (λ x. node_of q x (value hash two.made)) one.same ∙ ap (node_of q a) two.same
       ∙ ap (λ n. node_of n a b) (sym tree.subtree)))
 
 -- the one leaf of a tree of height 0 that meets the range stands in it

@@ -125,7 +125,8 @@ next_named [] at t next up = absurd cc
 next_named (l ∷ locations) at t next up = named_here l locations (at, t) up.0 (ltb-true l (at + leaf_count t) next)
 
 -- the two trees below a branch that holds a named leaf
-pub found_both : (locations rest after : List ℕ) (end at p : ℕ) (left right : Tree) (old mid new : List ℕ) → end ≡ at + leaf_count (branch p left right)
+pub found_both : (locations rest after : List ℕ) (end at p : ℕ) (left right : Tree) (old mid new : List ℕ)
+    → end ≡ at + leaf_count (branch p left right)
     → is_next end locations ≡ true → AscendFrom at locations → AreFound locations rest old mid at left
     → AreFound rest after mid new (at + leaf_count left) right → AreFound locations after old new at (branch p left right)
 found_both locations rest after end at p left right old mid new end_is next up one two =
@@ -156,7 +157,8 @@ multi_dropped front rest first (peak ∷ peaks) from below =
     (multi_dropped front rest first peaks from.1 below)
 
 -- a peak, and those after it
-pub found_peak : (locations rest : List ℕ) (first next : ℕ) (node : Tree) (peaks : List Located) (old mid new : List ℕ) → next ≡ first + leaf_count node
+pub found_peak : (locations rest : List ℕ) (first next : ℕ) (node : Tree) (peaks : List Located) (old mid new : List ℕ)
+    → next ≡ first + leaf_count node
     → AllFrom next peaks → AreFound locations rest old mid first node → new ≡ mid ++ positions_of (multi_nodes rest peaks)
     → new ≡ old ++ positions_of (multi_nodes locations ((first, node) ∷ peaks))
 found_peak locations rest first next node peaks old mid new is from one grown =

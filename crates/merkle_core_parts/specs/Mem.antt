@@ -1,5 +1,6 @@
 -- A tree that is kept in memory as the digests of its nodes.
-use Rattle.std.specs.Prelude.{◌≡◌, ◌==◌, Bool, ℕ, suc, ◌+◌, ◌-◌, ◌≤◌, ◌⊎◌, List, [], ◌∷◌, ◌++◌, map, length, drop, find}
+use Rattle.std.specs.Prelude.{◌≡◌, ◌==◌, Bool, ℕ, suc, ◌+◌, ◌-◌, ◌≤◌}
+use Rattle.std.specs.Prelude.{◌⊎◌, List, [], ◌∷◌, ◌++◌, map, length, drop, find}
 use Rattle.std.specs.Prelude.{slice_get, slice_set, slice_index_or, Option, Some, option_map, unwrap_or, nat_le, nat_lt}
 use Rattle.std.specs.Prelude.{if◌then◌else◌}
 use Rattle.merkle_forest.specs.Forest.{Tree, leaf, branch, position, leaf_count, size, Rule, forest_of}

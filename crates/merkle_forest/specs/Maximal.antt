@@ -1,5 +1,6 @@
 -- The maximal nodes over the leaves of a range.
-use Rattle.std.specs.Prelude.{◌≡◌, ◌&&◌, ℕ, ◌+◌, ◌*◌, ◌≤◌, ◌^◌, Bool, nat_le, if◌then◌else◌, List, [], ◌∷◌, ◌++◌, map}
+use Rattle.std.specs.Prelude.{◌≡◌, ◌&&◌, ℕ, ◌+◌, ◌*◌, ◌≤◌, ◌^◌}
+use Rattle.std.specs.Prelude.{Bool, nat_le, if◌then◌else◌, List, [], ◌∷◌, ◌++◌, map}
 use Rattle.merkle_forest.specs.Forest.{Tree, leaf, branch, leaf_count, size, leaves, Rule, forest_of}
 use Rattle.merkle_forest.specs.Trees.{Located}
 use Rattle.merkle_forest.specs.Nodes.{IsWithin, IsNodeAt}

@@ -1,6 +1,7 @@
 -- Which nodes a forest has. A node is told by the location of the first leaf below it, or by its position, together
 -- with its height.
-use Rattle.std.specs.Prelude.{◌≡◌, ◌==◌, ℕ, suc, ◌+◌, ◌≤◌, ◌^◌, ◌⊎◌, ◌↔◌, if◌then◌else◌, List, [], ◌∷◌, length}
+use Rattle.std.specs.Prelude.{◌≡◌, ◌==◌, ℕ, suc, ◌+◌, ◌≤◌, ◌^◌}
+use Rattle.std.specs.Prelude.{◌⊎◌, ◌↔◌, if◌then◌else◌, List, [], ◌∷◌, length}
 use Rattle.std.specs.Prelude.{slice_get, Some}
 use Rattle.merkle_forest.specs.Forest.{Tree, leaf, branch, position, height, leaf_count, size, leaves, Rule, forest_of}
 

@@ -1,6 +1,7 @@
 //! Where the nodes of a forest stand, and when they are born.
 
-ghost use Rattle.std.specs.Prelude.{◌≡◌, ◌↔◌, ◌≤◌, ◌<◌, ◌+◌, ◌-◌, ◌*◌, ◌/◌, ◌^◌, ℕ, nat_lt, if◌then◌else◌, length};
+ghost use Rattle.std.specs.Prelude.{◌≡◌, ◌↔◌, ◌≤◌, ◌<◌, ◌+◌, ◌-◌};
+ghost use Rattle.std.specs.Prelude.{◌*◌, ◌/◌, ◌^◌, ℕ, nat_lt, if◌then◌else◌, length};
 ghost use Rattle.merkle_forest.specs.Forest.{Tree, position, height, forest_of};
 ghost use Rattle.merkle_forest.specs.Maximal.{AreChunkPeaks};
 ghost use Rattle.merkle_forest.specs.Laws.Nodes.{stands-counted};

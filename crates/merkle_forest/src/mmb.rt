@@ -25,7 +25,8 @@
 //! there is one peak more. So n leaves have floor(log2(n + 1)) peaks, and as many nodes less than 2n: there the next
 //! leaf stands.
 
-ghost use Rattle.std.specs.Prelude.{◌≡◌, ◌≤◌, ◌<◌, ◌+◌, ◌*◌, ◌-◌, ◌/◌, ◌%◌, ◌^◌, ◌∷◌, [], ℕ, length, map, slice_get};
+ghost use Rattle.std.specs.Prelude.{◌≡◌, ◌≤◌, ◌<◌, ◌+◌, ◌*◌, ◌-◌};
+ghost use Rattle.std.specs.Prelude.{◌/◌, ◌%◌, ◌^◌, ◌∷◌, [], ℕ, length, map, slice_get};
 ghost use Rattle.std.specs.Prelude.{Some};
 ghost use Rattle.merkle_forest.specs.Forest.{leaf, branch, height, size, mmb_rule, forest_of};
 ghost use Rattle.merkle_forest.specs.Nodes.{IsSize, StandsAt, IsFirstLeaf};

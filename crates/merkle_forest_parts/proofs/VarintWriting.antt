@@ -1,5 +1,6 @@
 -- Writing a varint group by group, as a loop does.
-use Rattle.std.proofs.Common.{◌≡◌, ℕ, ◌+◌, ◌/◌, ◌%◌, ◌<◌, ◌≤◌, List, [], ◌∷◌, ◌++◌, sym, ◌∙◌, ap, append_assoc, arith, refl}
+use Rattle.std.proofs.Common.{◌≡◌, ℕ, ◌+◌, ◌/◌, ◌%◌, ◌<◌, ◌≤◌, List}
+use Rattle.std.proofs.Common.{[], ◌∷◌, ◌++◌, sym, ◌∙◌, ap, append_assoc, arith, refl}
 use Rattle.merkle_forest_parts.specs.Codec.{Extends}
 use Rattle.merkle_forest_parts.specs.Varint.{varint}
 use Rattle.merkle_forest_parts.specs.Laws.Varint.{varint_small, varint_large}

@@ -1,5 +1,6 @@
 -- A cut within a page, from what its calls gave.
-use Rattle.std.proofs.Common.{◌≡◌, ℕ, ◌+◌, ◌*◌, ◌<◌, ◌≤◌, ◌^◌, true, false, List, [], ◌∷◌, length, take, Result, Option, Some}
+use Rattle.std.proofs.Common.{◌≡◌, ℕ, ◌+◌, ◌*◌, ◌<◌, ◌≤◌, ◌^◌}
+use Rattle.std.proofs.Common.{true, false, List, [], ◌∷◌, length, take, Result, Option, Some}
 use Rattle.std.proofs.Common.{sym, ◌∙◌, ap, subst, refl, arith}
 use Rattle.paged_format.specs.declared.footer.Slot.{Slot}
 use Rattle.paged_format.specs.Footers.{content_size}
@@ -50,7 +51,8 @@ module _ (sum : List ℕ → ℕ) (size : ℕ) (footer : 12 < size) (calls : Lis
       resized_moments sum size footer calls settled page part short within result at (page + 1) mid at_is (omega arith) (λ _. omega arith)
       (last_there sum size footer calls settled page part short within some) (subst R same records)
 
-  module _ (bytes shown again third : List ℕ) (slice : IsSlice (file_of calls) (page * from) size bytes) (shown_is : shown ≡ bytes) (again_is : again ≡ bytes)
+  module _ (bytes shown again third : List ℕ) (slice : IsSlice (file_of calls) (page * from) size bytes) (shown_is : shown ≡ bytes)
+      (again_is : again ≡ bytes)
       (third_is : third ≡ bytes) (counted : Slot) (len crc : ℕ) (found : Option (Slot × ℕ)) (found_is : found ≡ counted_slot sum (length shown) shown)
       (counts : found ≡ Some (counted, len)) (crc_is : crc ≡ sum (take part again)) (before mid : List Call) (same : before ≡ calls)
       (mid_is : mid ≡ resized_to ((page + 1) * from) true ∷ before) where

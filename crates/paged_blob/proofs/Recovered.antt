@@ -26,12 +26,14 @@ tip_bytes size content base None ends =
 tip_bytes size content base (Some last) ends = ends.bytes
 
 -- while nothing was done, what withstands is kept
-pub still : (sum : List ℕ → ℕ) (size : ℕ) → 12 < size → (old : List ℕ) (calls : List Call) (most synced : ℕ) → Withstands sum size old synced (file_of calls)
+pub still : (sum : List ℕ → ℕ) (size : ℕ) → 12 < size → (old : List ℕ) (calls : List Call) (most synced : ℕ)
+    → Withstands sum size old synced (file_of calls)
     → Through (Keeps sum size old (min most synced)) calls calls
 still sum size some_room old calls most synced w =
     here (keeps_less sum size old synced (min most synced) calls (omega arith) (withstands_keeps sum size (omega (arith, some_room)) old synced calls w))
 
-pub goes_on : (sum : List ℕ → ℕ) (size : ℕ) → 12 < size → size ≤ 65536 → (content : List ℕ) (calls : List Call) → IsCut sum size content calls
+pub goes_on : (sum : List ℕ → ℕ) (size : ℕ) → 12 < size → size ≤ 65536 → (content : List ℕ) (calls : List Call)
+    → IsCut sum size content calls
     → (last : Option LastPage) → EndsWith size content (file_of calls).base last → physical_size size (length content) + 4096 < 2 ^ 64
     → (w : WriterState) (capacity count : ℕ) → count ≡ length content → w.page_size ≡ size → w.synced ≡ count → w.slot ≡ slot_of last
     → w.tip ≡ record { offset = count / content_size size * content_size size; bytes = bytes_of last; capacity = capacity }

@@ -1,5 +1,6 @@
 -- A blob of which all is durable is cut.
-use Rattle.std.proofs.Common.{◌≡◌, ℕ, ◌+◌, ◌-◌, ◌*◌, ◌/◌, ◌<◌, ◌≤◌, ◌^◌, Bool, true, false, not, ◌||◌, min, List, [], ◌∷◌, length, take, drop}
+use Rattle.std.proofs.Common.{◌≡◌, ℕ, ◌+◌, ◌-◌, ◌*◌, ◌/◌, ◌<◌, ◌≤◌}
+use Rattle.std.proofs.Common.{◌^◌, Bool, true, false, not, ◌||◌, min, List, [], ◌∷◌, length, take, drop}
 use Rattle.std.proofs.Common.{Result, Option, None, Some, Ok, Err, OnOk, sym, ◌∙◌, ap}
 use Rattle.std.proofs.Common.{inl, inr, ⊎_elim, refl, subst, arith}
 use Rattle.std.proofs.lemmas.Bool.{cases_lt, cond-true, cond-false, lt-ltb, le-ltb}
@@ -161,7 +162,8 @@ module _ (sum : List ℕ → ℕ) (size : ℕ) (footer : 12 < size) (calls : Lis
       (done_keeps sum size footer old (length live) page part short within (resized_to (count * size) ok ∷ calls) (resized_done count ok enough more there)))
 
   -- the last sync
-  pub sync_moments : {T : Type 0} (result : Result T Error) (mid new : List Call) → IsDone mid → (file_of mid).failed ≡ false → Through KeepsOld calls mid
+  pub sync_moments : {T : Type 0} (result : Result T Error) (mid new : List Call) → IsDone mid → (file_of mid).failed ≡ false
+      → Through KeepsOld calls mid
       → RecordsSync result mid new → Through KeepsOld calls new
   sync_moments result mid new d sound so_far records =
       goes_on_sync KeepsOld calls mid new result so_far records

@@ -1,5 +1,6 @@
 -- A writer's sync that was started.
-use Rattle.std.proofs.Common.{◌≡◌, ℕ, ◌+◌, ◌-◌, ◌*◌, ◌/◌, ◌%◌, ◌<◌, ◌≤◌, ◌^◌, true, false, Result, Ok, Err, OnOk, IsTrue, IsFalse}
+use Rattle.std.proofs.Common.{◌≡◌, ℕ, ◌+◌, ◌-◌, ◌*◌, ◌/◌, ◌%◌, ◌<◌}
+use Rattle.std.proofs.Common.{◌≤◌, ◌^◌, true, false, Result, Ok, Err, OnOk, IsTrue, IsFalse}
 use Rattle.std.proofs.lemmas.Bool.{eqb-true}
 use Rattle.paged_blob_parts.specs.Images.{IsImage, may_hold}
 use Rattle.std.proofs.Common.{List, [], ◌∷◌, ◌++◌, length, take, drop, sym, ◌∙◌, ap, subst, refl, arith}

@@ -1,5 +1,6 @@
 -- Each byte of a file that is resized, or over which bytes are laid.
-use Rattle.std.proofs.Common.{◌≡◌, ℕ, ◌+◌, ◌-◌, ◌<◌, ◌≤◌, max, List, ◌++◌, length, get_or, take, drop, replicate, sym, ◌∙◌, ap}
+use Rattle.std.proofs.Common.{◌≡◌, ℕ, ◌+◌, ◌-◌, ◌<◌, ◌≤◌, max, List}
+use Rattle.std.proofs.Common.{◌++◌, length, get_or, take, drop, replicate, sym, ◌∙◌, ap}
 use Rattle.std.proofs.Common.{⊎_elim, refl, arith}
 use Rattle.std.proofs.lemmas.List.{length-append, length-take, length-drop, length-replicate, get_or_append_left, get_or-append_right, get_or-take, get_or-drop}
 use Rattle.std.proofs.lemmas.List.{get_or-replicate, get_or_past, ext_get_or, append-nil}
@@ -36,7 +37,8 @@ length-with_bytes offset bytes file = simp (length-append, length-resized, lengt
 behind : (offset : ℕ) (bytes file : List ℕ) → List ℕ
 behind offset bytes file = bytes ++ drop (offset + length bytes) file
 
-laid : (offset : ℕ) (bytes file : List ℕ) (i : ℕ) → offset ≤ i → get_or (with_bytes offset bytes file) i 0 ≡ get_or (behind offset bytes file) (i - offset) 0
+laid : (offset : ℕ) (bytes file : List ℕ) (i : ℕ) → offset ≤ i
+    → get_or (with_bytes offset bytes file) i 0 ≡ get_or (behind offset bytes file) (i - offset) 0
 unfolding with_bytes behind
 laid offset bytes file i from = get_or-append_right (resized offset file) (behind offset bytes file) offset i 0 (length-resized offset file) from
 
@@ -51,7 +53,8 @@ unfolding with_bytes
 with_bytes_before offset bytes file i before =
     get_or_append_left (resized offset file) _ 0 i (omega (arith, length-resized offset file, before)) ∙ resized_in offset file i before
 
-pub with_bytes_behind : (offset : ℕ) (bytes file : List ℕ) (i : ℕ) → offset + length bytes ≤ i → get_or (with_bytes offset bytes file) i 0 ≡ get_or file i 0
+pub with_bytes_behind : (offset : ℕ) (bytes file : List ℕ) (i : ℕ) → offset + length bytes ≤ i
+    → get_or (with_bytes offset bytes file) i 0 ≡ get_or file i 0
 unfolding behind
 with_bytes_behind offset bytes file i past =
     laid offset bytes file i (omega (arith, past))

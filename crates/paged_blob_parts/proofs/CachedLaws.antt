@@ -11,7 +11,8 @@ use Rattle.paged_blob_parts.specs.Writers.{from_page}
 use Rattle.paged_blob_parts.proofs.FlushLaws.{piece_is}
 
 -- more content to come
-pub holds_pages_more : (content more : List ℕ) (cache : Cache) (blob_id : ℕ) → HoldsPagesOf content cache blob_id → HoldsPagesOf (content ++ more) cache blob_id
+pub holds_pages_more : (content more : List ℕ) (cache : Cache) (blob_id : ℕ) → HoldsPagesOf content cache blob_id
+    → HoldsPagesOf (content ++ more) cache blob_id
 holds_pages_more content more cache blob_id holds = record {
   each = λ page within named.
       let h = holds.each page within named in
@@ -25,8 +26,10 @@ holds_pages_more content more cache blob_id holds = record {
 }
 
 -- the pages that a flush gives
-pub holds_pages_given : (size first n : ℕ) → 12 < size → (content part : List ℕ) (old new : Cache) (blob_id given_first : ℕ) → old.page_size ≡ content_size size
-    → new.page_size ≡ old.page_size → given_first ≡ first → part ≡ take n (from_page size first content) → n ≤ length (from_page size first content)
+pub holds_pages_given : (size first n : ℕ) → 12 < size → (content part : List ℕ) (old new : Cache) (blob_id given_first : ℕ)
+    → old.page_size ≡ content_size size
+    → new.page_size ≡ old.page_size → given_first ≡ first → part ≡ take n (from_page size first content)
+    → n ≤ length (from_page size first content)
     → AreGiven old.pages new.pages blob_id given_first old.page_size part (length part / old.page_size)
     → HoldsPagesOf content old blob_id → HoldsPagesOf content new blob_id
 holds_pages_given size first n some_room content part old new blob_id given_first room_is same first_is part_is inside given holds = record {

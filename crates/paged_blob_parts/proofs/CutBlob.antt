@@ -25,7 +25,8 @@ take_min n bytes =
     (cases_lt n (length bytes))
 
 -- what keeps so many bytes keeps fewer
-pub keeps_less : (sum : List ℕ → ℕ) (size : ℕ) (old : List ℕ) (count less : ℕ) (calls : List Call) → less ≤ count → Keeps sum size old count calls
+pub keeps_less : (sum : List ℕ → ℕ) (size : ℕ) (old : List ℕ) (count less : ℕ) (calls : List Call) → less ≤ count
+    → Keeps sum size old count calls
     → Keeps sum size old less calls
 keeps_less sum size old count less calls fewer keeps = λ image is.
     let k = keeps image is in

@@ -1,5 +1,6 @@
 -- Pages that are read with no writer.
-use Rattle.std.proofs.Common.{◌≡◌, ℕ, ◌+◌, ◌-◌, ◌*◌, ◌/◌, ◌<◌, ◌≤◌, List, length, take, drop, sym, ◌∙◌, ap, ⊎_elim, arith}
+use Rattle.std.proofs.Common.{◌≡◌, ℕ, ◌+◌, ◌-◌, ◌*◌, ◌/◌, ◌<◌}
+use Rattle.std.proofs.Common.{◌≤◌, List, length, take, drop, sym, ◌∙◌, ap, ⊎_elim, arith}
 use Rattle.std.proofs.lemmas.Bool.{cases_lt}
 use Rattle.std.proofs.lemmas.List.{take_all, length-take-le, length-drop}
 use Rattle.std.proofs.lemmas.Nat.{mul-le, div-add-mod', div_below, le-div, mod_below}
@@ -13,7 +14,8 @@ use Rattle.paged_blob_parts.proofs.Scanned.{first_page}
 use Rattle.paged_blob_parts.proofs.Shown.{page_shown, counts}
 
 -- one page alone
-one_page : (sum : List ℕ → ℕ) (size : ℕ) → 12 < size → (bytes : List ℕ) → length bytes ≡ size → length (recovered sum size bytes) ≡ shown_len sum size bytes
+one_page : (sum : List ℕ → ℕ) (size : ℕ) → 12 < size → (bytes : List ℕ) → length bytes ≡ size
+    → length (recovered sum size bytes) ≡ shown_len sum size bytes
 one_page sum size footer bytes long =
     let all : take size bytes ≡ bytes = take_all size bytes (omega (arith, long)) in
     let same = ap (shown_len sum size) all in

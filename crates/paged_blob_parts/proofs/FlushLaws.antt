@@ -1,6 +1,7 @@
 -- A flush at the page where the tip begins: what holds of the file at each moment stays, also where the write fails, and the content is
 -- on the disk as far as it was flushed.
-use Rattle.std.proofs.Common.{◌≡◌, ℕ, zero, suc, ◌+◌, ◌-◌, ◌*◌, ◌/◌, ◌%◌, ◌==◌, ltb, cond, ◌<◌, ◌≤◌, ◌^◌, min, Bool, true, false, Option, Some, None}
+use Rattle.std.proofs.Common.{◌≡◌, ℕ, zero, suc, ◌+◌, ◌-◌, ◌*◌, ◌/◌, ◌%◌, ◌==◌}
+use Rattle.std.proofs.Common.{ltb, cond, ◌<◌, ◌≤◌, ◌^◌, min, Bool, true, false, Option, Some, None}
 use Rattle.std.proofs.Common.{List, [], ◌∷◌, length, get_or, take, drop, sym, ◌∙◌, ap, subst, inr, ⊎_elim, refl, arith}
 use Rattle.std.proofs.lemmas.Bool.{cases_lt, cases_Bool, and_parts, leb-true, ltb-true, eqb-true, eqb-false, lt-ltb, le-ltb, or_cases, cond-true, cond-false}
 use Rattle.std.proofs.lemmas.List.{length-take, length-drop, length-take-le, take-take, take_all, drop-drop, drop-take, get_or-take, get_or-drop}
@@ -126,7 +127,8 @@ pub whole_has : (P : List ℕ → Type 0) (base : List ℕ) (changes : List Chan
 whole_has P base [] each = each
 whole_has P base (change ∷ earlier) each = each.0
 
-module _ (sum : List ℕ → ℕ) (size : ℕ) (some_room : 12 < size) (small : size ≤ 65536) (content file : List ℕ) (first n : ℕ) (slot : Option DurableSlot)
+module _ (sum : List ℕ → ℕ) (size : ℕ) (some_room : 12 < size) (small : size ≤ 65536) (content file : List ℕ) (first n : ℕ)
+    (slot : Option DurableSlot)
     (bytes : List ℕ) (reach : first * size ≤ length file) (is : bytes ≡ take n (from_page size first content))
     (within : n ≤ length (from_page size first content)) (stays : StaysWithin slot (min (content_size size) n)) where
   pages : List ℕ
@@ -464,7 +466,8 @@ module _ (sum : List ℕ → ℕ) (size : ℕ) (some_room : 12 < size) (content 
       }
 
 -- the slot that is durable says no more than the first page that is flushed has
-pub stays_min : (sum : List ℕ → ℕ) (size : ℕ) (file : File) (synced first n : ℕ) (slot : Option DurableSlot) → IsBegun sum size file synced first slot
+pub stays_min : (sum : List ℕ → ℕ) (size : ℕ) (file : File) (synced first n : ℕ) (slot : Option DurableSlot)
+    → IsBegun sum size file synced first slot
     → StaysWithin slot n → StaysWithin slot (min (content_size size) n)
 stays_min sum size file synced first n None begun stays = tt
 stays_min sum size file synced first n (Some kept) begun stays = omega (arith, stays, durable_len sum size kept.len file first begun.1.durable)

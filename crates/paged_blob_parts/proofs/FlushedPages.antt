@@ -49,7 +49,8 @@ module _ (size first : ℕ) (pages file : List ℕ) (reach : first * size ≤ le
       ∙ ap (λ n. get_or pages n 0) (omega (arith, place)))
 
   -- and those behind stay
-  pub page_behind : (page : ℕ) → first * size + length pages ≤ page * size → page_at size page (with_bytes (first * size) pages file) ≡ page_at size page file
+  pub page_behind : (page : ℕ) → first * size + length pages ≤ page * size
+      → page_at size page (with_bytes (first * size) pages file) ≡ page_at size page file
   page_behind page past =
       same_page size page page (with_bytes (first * size) pages file) file (omega (arith, new_length, past))
       (λ i short below. with_bytes_behind (first * size) pages file (page * size + i) (omega (arith, past)))

@@ -1,5 +1,6 @@
 -- Pages that are kept.
-use Rattle.std.proofs.Common.{◌≡◌, ◌⊎◌, ℕ, zero, suc, ◌+◌, ◌<◌, Bool, true, false, not, List, [], ◌∷◌, ◌++◌, length, get_or, Contains}
+use Rattle.std.proofs.Common.{◌≡◌, ◌⊎◌, ℕ, zero, suc, ◌+◌, ◌<◌, Bool, true}
+use Rattle.std.proofs.Common.{false, not, List, [], ◌∷◌, ◌++◌, length, get_or, Contains}
 use Rattle.std.proofs.Common.{sym, ◌∙◌, ap, subst, inl, inr, ⊎_elim, arith}
 use Rattle.std.specs.List.{filter, remove}
 use Rattle.std.proofs.lemmas.Bool.{cases_lt, cases_Bool, cond-true, cond-false, and_from, eq-eqb, not-true, both_ways}
@@ -128,7 +129,8 @@ given_more old mid new blob_id first size bytes count number page before number_
 }
 
 -- where none of the pages is at a place, each is elsewhere
-pub none_at : (blob_id number : ℕ) (xs : List CachedPage) → ((k : ℕ) (d : CachedPage) → k < length xs → is_at blob_id number (get_or xs k d) ≡ false)
+pub none_at : (blob_id number : ℕ) (xs : List CachedPage)
+    → ((k : ℕ) (d : CachedPage) → k < length xs → is_at blob_id number (get_or xs k d) ≡ false)
     → (p : Page) → Contains (pages_of xs) p → IsElsewhere blob_id number p
 none_at blob_id number [] off p within = absurd (none p within)
 none_at blob_id number (x ∷ xs) off p within =

@@ -8,14 +8,16 @@ use Rattle.paged_blob_parts.proofs.Bytes.{resized_in, resized_out, with_bytes_in
 
 -- a change gives a byte its value in the whole file, or leaves it as it was
 pub one_live : (change : Change) (file : List ℕ) (i : ℕ)
-    → (may_give change i (get_or (changed change file) i 0) ≡ true) ⊎ ((may_leave change i ≡ true) × (get_or (changed change file) i 0 ≡ get_or file i 0))
+    → (may_give change i (get_or (changed change file) i 0) ≡ true)
+    ⊎ ((may_leave change i ≡ true) × (get_or (changed change file) i 0 ≡ get_or file i 0))
 one_live (write offset bytes kept) file i =
     ⊎_elim
     (λ before. inr (or_right (not kept) _ (not_from_false _ (and_left _ _ (lt-leb offset i before))), with_bytes_before offset bytes file i before))
     (λ from. ⊎_elim
     (λ below. inl (and_from _ _ (and_from _ _ (le-leb offset i from) (lt-ltb i (offset + length bytes) below)) (eq-eqb _ _ (with_bytes_in offset
     bytes file i from below))))
-    (λ past. inr (or_right (not kept) _ (not_from_false _ (and_right _ _ (le-ltb i (offset + length bytes) past))), with_bytes_behind offset bytes file i past))
+    (λ past.
+    inr (or_right (not kept) _ (not_from_false _ (and_right _ _ (le-ltb i (offset + length bytes) past))), with_bytes_behind offset bytes file i past))
     (cases_lt i (offset + length bytes)))
     (cases_lt i offset)
 one_live (resize size) file i =

@@ -1,5 +1,6 @@
 -- Whole pages that are read, and kept.
-use Rattle.std.proofs.Common.{◌≡◌, ℕ, ◌+◌, ◌-◌, ◌*◌, ◌/◌, ◌%◌, ◌<◌, ◌≤◌, false, min, List, [], ◌++◌, length, take, drop, sym, ◌∙◌, ap}
+use Rattle.std.proofs.Common.{◌≡◌, ℕ, ◌+◌, ◌-◌, ◌*◌, ◌/◌, ◌%◌, ◌<◌}
+use Rattle.std.proofs.Common.{◌≤◌, false, min, List, [], ◌++◌, length, take, drop, sym, ◌∙◌, ap}
 use Rattle.std.proofs.Common.{Contains, inl, inr, refl, ⊎_elim, arith}
 use Rattle.std.proofs.lemmas.Bool.{cases_lt}
 use Rattle.std.proofs.Math.Seq.{take-append-add, drop-append-add}
@@ -89,7 +90,8 @@ page_ends page count room size some whole =
     mul-le-mul_right size ((le-div_iff_mul-le {k = room} {x = page + 1} {y = count} some).1 whole)
 
 -- a page of a beginning
-pub page_of_front : (room page count : ℕ) (bytes : List ℕ) → (page + 1) * room ≤ count → page_at room page (take count bytes) ≡ page_at room page bytes
+pub page_of_front : (room page count : ℕ) (bytes : List ℕ) → (page + 1) * room ≤ count
+    → page_at room page (take count bytes) ≡ page_at room page bytes
 page_of_front room page count bytes whole =
     let rest = count - page * room in
     let split : count ≡ page * room + rest = omega (arith, whole) in
@@ -124,7 +126,8 @@ one_more all out piece offset done count span at span_is within there at_is is b
     let next : drop at all ≡ drop done rest = ap (λ n. drop n all) at_is ∙ sym (drop-drop done offset all) in
     let piece_is : piece ≡ take count (drop done rest) = is ∙ ap (λ n. take n (drop at all)) count_is ∙ ap (take count) next in
     let left : length rest ≡ length all - offset = length-drop offset all in
-    let long : length piece ≡ count = ap length piece_is ∙ length-take-le count (drop done rest) (omega (arith, left, there, within, length-drop done rest)) in
+    let long : length piece ≡ count = ap length piece_is
+    ∙ length-take-le count (drop done rest) (omega (arith, left, there, within, length-drop done rest)) in
     take-put_mid done span out piece (done + count) (omega (arith, long)) (omega (arith, within))
     ∙ ap (λ l. l ++ piece) before ∙ ap (λ l. take done rest ++ l) piece_is ∙ further done count rest (omega (arith, left, there, within))
 
@@ -132,7 +135,8 @@ pub longer : (n : ℕ) (now is : List ℕ) → take n now ≡ is → length is �
 longer n now is same long = omega (arith, ap length same, length-take n now, long)
 
 -- a slice of the content: what of it is on the blob, then what of it is in memory
-pub slice_of_both : (all tip front back : List ℕ) (count offset n k from start : ℕ) → length all ≡ count → k ≡ min (count - offset) n → from ≡ offset - count
+pub slice_of_both : (all tip front back : List ℕ) (count offset n k from start : ℕ) → length all ≡ count → k ≡ min (count - offset) n
+    → from ≡ offset - count
     → start ≡ min offset count → offset + n ≤ count + length tip → front ≡ take k (drop start all) → back ≡ take (n - k) (drop from tip)
     → front ++ back ≡ take n (drop offset (all ++ tip))
 slice_of_both all tip front back count offset n k from start long k_is from_is start_is fits front_is back_is =
@@ -164,7 +168,8 @@ slice_of_both all tip front back count offset n k from start long k_is from_is s
     let k_n : k ≡ n = omega (arith, k_is, left_long, inside) in
     let no_more : n - k ≡ 0 = omega (arith, k_n) in
     let nothing : back ≡ [] = second ∙ ap (λ m. take m tip) no_more in
-    ap (λ l. front ++ l) nothing ∙ append-nil front ∙ first ∙ ap (λ m. take m left) k_n ∙ sym (take-append-le n left tip (omega (arith, inside, left_long)))
+    ap (λ l. front ++ l) nothing ∙ append-nil front ∙ first ∙ ap (λ m. take m left) k_n
+    ∙ sym (take-append-le n left tip (omega (arith, inside, left_long)))
     ∙ sym (ap (take n) rest))
     (cases_lt (count - offset) n))
     (cases_lt count offset)
@@ -199,7 +204,8 @@ kept_long room all page is whole =
 
 -- where a whole page of these bytes is given, the pages of whatever goes on from them stay kept
 pub stays_given : (size page : ℕ) (all bytes : List ℕ) (old new : Cache) (blob_id given_first : ℕ) → 12 < size → old.page_size ≡ content_size size
-    → new.page_size ≡ old.page_size → given_first ≡ page → (page + 1) * content_size size ≤ length all → bytes ≡ page_at (content_size size) page all
+    → new.page_size ≡ old.page_size → given_first ≡ page → (page + 1) * content_size size ≤ length all
+    → bytes ≡ page_at (content_size size) page all
     → AreGiven old.pages new.pages blob_id given_first old.page_size bytes (length bytes / old.page_size) → StaysKept all old new blob_id
 stays_given size page all bytes old new blob_id given_first footer sizes same first whole is given = λ more holds.
     let room = content_size size in

@@ -1,5 +1,6 @@
 -- Bytes of a page that a change leaves, and a slot that it writes.
-use Rattle.std.proofs.Common.{◌≡◌, ◌⊎◌, ℕ, ◌+◌, ◌-◌, ◌*◌, ◌<◌, ◌≤◌, ◌^◌, Bool, true, false, not, ◌&&◌, ◌==◌, List, [], ◌++◌, length, get_or, take, drop}
+use Rattle.std.proofs.Common.{◌≡◌, ◌⊎◌, ℕ, ◌+◌, ◌-◌, ◌*◌, ◌<◌, ◌≤◌, ◌^◌}
+use Rattle.std.proofs.Common.{Bool, true, false, not, ◌&&◌, ◌==◌, List, [], ◌++◌, length, get_or, take, drop}
 use Rattle.std.proofs.Common.{sym, ◌∙◌, ap}
 use Rattle.std.proofs.Common.{inl, inr, ⊎_elim, refl, arith}
 use Rattle.std.specs.Int.{w16, w32, from_be_bytes}
@@ -186,11 +187,13 @@ module _ (size : ℕ) (footer : 12 < size) where
       ∙ sym (drop-take 2 4 (drop (page * size + slot_start size slot) file)) ∙ ap (drop 2) (sym (slot_region page slot file)))
 
   -- what a slot says
-  pub says_len : (slot : Slot) (page : List ℕ) (len crc : ℕ) → len < 2 ^ 16 → slot_in size slot page ≡ slot_bytes len crc → slot_len size slot page ≡ len
+  pub says_len : (slot : Slot) (page : List ℕ) (len crc : ℕ) → len < 2 ^ 16 → slot_in size slot page ≡ slot_bytes len crc
+      → slot_len size slot page ≡ len
   says_len slot page len crc fits is =
       len_in size slot page ∙ ap (λ bytes. from_be_bytes w16 (take 2 bytes)) is ∙ from_be_bytes-to_be_bytes_2 len fits
 
-  pub says_crc : (slot : Slot) (page : List ℕ) (len crc : ℕ) → crc < 2 ^ 32 → slot_in size slot page ≡ slot_bytes len crc → slot_crc size slot page ≡ crc
+  pub says_crc : (slot : Slot) (page : List ℕ) (len crc : ℕ) → crc < 2 ^ 32 → slot_in size slot page ≡ slot_bytes len crc
+      → slot_crc size slot page ≡ crc
   says_crc slot page len crc fits is =
       crc_in size slot page ∙ ap (λ bytes. from_be_bytes w32 (take 4 (drop 2 bytes))) is ∙ from_be_bytes-to_be_bytes_4 crc fits
 

@@ -1,5 +1,6 @@
 -- What is recovered of a file, some pages at a time.
-use Rattle.std.proofs.Common.{◌≡◌, ◌⊎◌, ℕ, zero, suc, ◌+◌, ◌-◌, ◌*◌, ◌/◌, ◌<◌, ◌≤◌, IsFalse, List, length, take, drop, sym, ◌∙◌, ap, inl, inr, ⊎_elim, arith}
+use Rattle.std.proofs.Common.{◌≡◌, ◌⊎◌, ℕ, zero, suc, ◌+◌, ◌-◌, ◌*◌, ◌/◌, ◌<◌}
+use Rattle.std.proofs.Common.{◌≤◌, IsFalse, List, length, take, drop, sym, ◌∙◌, ap, inl, inr, ⊎_elim, arith}
 use Rattle.std.proofs.lemmas.Bool.{cases_lt}
 use Rattle.std.proofs.lemmas.List.{take-take, drop-take, drop-drop, length-take, length-take-le, length-drop}
 use Rattle.std.proofs.Math.Nat.{le-div_iff_mul-le}
@@ -124,7 +125,8 @@ module _ (sum : List ℕ → ℕ) (size : ℕ) (footer : 12 < size) where
   recovered_short bytes = short_within (length bytes) bytes (omega arith)
 
 -- so many pages, each no longer than the physical one, end within the blob
-pub pages_end : (page count pages size blob_size : ℕ) → 0 < size → page + count ≤ pages → pages ≡ blob_size / size → (page + count) * size ≤ blob_size
+pub pages_end : (page count pages size blob_size : ℕ) → 0 < size → page + count ≤ pages → pages ≡ blob_size / size
+    → (page + count) * size ≤ blob_size
 pages_end page count pages size blob_size some within is =
     (le-div_iff_mul-le {k = size} {x = page + count} {y = blob_size} some).0 (omega (arith, within, is))
 

@@ -105,7 +105,8 @@ module _ (cache : Cache) (pages : FlushedPages) (list : List ℕ) where
       (IsServed cache pages (length list) range.0 range.1 × (piece ≡ slice_at list range) × (named ≡ []))
       ⊎ ((IsServed cache pages (length list) range.0 range.1 → ⊥) × (named ≡ index ∷ []))
 
-  served-append : (index : ℕ) (ranges : List (ℕ × ℕ)) (out missing : List ℕ) (range : ℕ × ℕ) (piece named : List ℕ) → length out ≡ total ranges
+  served-append : (index : ℕ) (ranges : List (ℕ × ℕ)) (out missing : List ℕ) (range : ℕ × ℕ) (piece named : List ℕ)
+      → length out ≡ total ranges
       → length piece ≡ range.1 → AreServed cache pages list index ranges out missing → IsNext range (index + length ranges) piece named
       → AreServed cache pages list index (ranges ++ range ∷ []) (out ++ piece) (missing ++ named)
   served-append index [] out missing range piece named long piece_long none here =

@@ -122,7 +122,8 @@ module _ (sum : List ℕ → ℕ) (size : ℕ) (footer : 12 < size) where
         (b.0, sure_change (content_size size) file change failed k b.0 b.1 (spared k below b.0) (omega (arith, next, long)));
   }
 
-  fewer_whole : (old : List ℕ) (most fewer : ℕ) (file : List ℕ) → fewer ≤ most → HoldsPrefix sum size old most file → HoldsPrefix sum size old fewer file
+  fewer_whole : (old : List ℕ) (most fewer : ℕ) (file : List ℕ) → fewer ≤ most → HoldsPrefix sum size old most file
+      → HoldsPrefix sum size old fewer file
   fewer_whole old most fewer file le holds = λ page slot within there. holds page slot within (omega (arith, there, le))
 
   -- so many bytes withstand where a slot vouches for those of the last page

@@ -1,5 +1,6 @@
 -- What a writer takes into memory and flushes, told of the writer as its call was given it.
-use Rattle.std.proofs.Common.{◌≡◌, ℕ, ◌+◌, ◌*◌, ◌/◌, ◌<◌, ◌≤◌, ◌^◌, None, false, true, Result, List, ◌∷◌, ◌++◌, length, take, drop, sym, ◌∙◌, ap, subst, arith}
+use Rattle.std.proofs.Common.{◌≡◌, ℕ, ◌+◌, ◌*◌, ◌/◌, ◌<◌, ◌≤◌, ◌^◌, None, false}
+use Rattle.std.proofs.Common.{true, Result, List, ◌∷◌, ◌++◌, length, take, drop, sym, ◌∙◌, ap, subst, arith}
 use Rattle.std.proofs.lemmas.List.{length-take}
 use Rattle.paged_format.specs.Footers.{content_size}
 use Rattle.paged_format.specs.Tips.{Tip}
@@ -88,7 +89,8 @@ module _ (sum : List ℕ → ℕ) (calls : List Call) (w given : WriterState) (s
           written_is sum new next some_room (written sum calls w)
           (pages_after sum calls w some_room small is a_page part first whole first_is new now fit tip tip_is) ∙ ap (written sum calls) seen
 
-      pub flushed_cached : (before after : Cache) (given_first : ℕ) → before.page_size ≡ content_size given.page_size → after.page_size ≡ before.page_size
+      pub flushed_cached : (before after : Cache) (given_first : ℕ) → before.page_size ≡ content_size given.page_size
+          → after.page_size ≡ before.page_size
           → given_first ≡ first → AreGiven before.pages after.pages w.blob_id given_first before.page_size part (length part / before.page_size)
           → HoldsPagesOf (written sum calls given) before given.blob_id → HoldsPagesOf (written sum new next) after given.blob_id
       flushed_cached before after given_first sizes same given_is pages holds =

@@ -1,5 +1,6 @@
 -- What becomes of a writer and its blob by a flush, by a sync, and by bytes that are only in memory.
-use Rattle.std.proofs.Common.{◌≡◌, ℕ, zero, suc, ◌+◌, ◌-◌, ◌*◌, ◌/◌, ◌%◌, ◌<◌, ◌≤◌, ◌^◌, ◌==◌, Bool, true, false, Option, Some, None, Result, Ok, Err, OnOk}
+use Rattle.std.proofs.Common.{◌≡◌, ℕ, zero, suc, ◌+◌, ◌-◌, ◌*◌, ◌/◌, ◌%◌, ◌<◌}
+use Rattle.std.proofs.Common.{◌≤◌, ◌^◌, ◌==◌, Bool, true, false, Option, Some, None, Result, Ok, Err, OnOk}
 use Rattle.std.proofs.Common.{List, [], ◌∷◌, ◌++◌, length, take, drop, sym, ◌∙◌, ap, subst, ⊎_elim, refl, arith}
 use Rattle.std.proofs.lemmas.Bool.{cases_lt, cases_Bool, or_from, eqb-true, eqb-false, eq-eqb, cond-true, cond-false}
 use Rattle.std.proofs.lemmas.List.{length-append, length-drop, length-take-le, take-take, take_all}
@@ -30,12 +31,14 @@ use Rattle.paged_blob_parts.proofs.CachedLaws.{holds_pages_given}
 use Rattle.paged_blob_parts.proofs.FlushLaws.{count_below, whole_has, stays_min, durable_len, flush_kept, shown_next, last_next, next_ends}
 
 -- more content to come
-each_weaker : (P Q : List ℕ → Type 0) (base : List ℕ) (changes : List Change) → ((file : List ℕ) → P file → Q file) → EachBeginning P base changes
+each_weaker : (P Q : List ℕ → Type 0) (base : List ℕ) (changes : List Change) → ((file : List ℕ) → P file → Q file)
+    → EachBeginning P base changes
     → EachBeginning Q base changes
 each_weaker P Q base [] f p = f base p
 each_weaker P Q base (change ∷ earlier) f p = (f (whole base (change ∷ earlier)) p.0, each_weaker P Q base earlier f p.1)
 
-holds_more : (sum : List ℕ → ℕ) (size : ℕ) (bytes more file : List ℕ) → HoldsContent sum size bytes file → HoldsContent sum size (bytes ++ more) file
+holds_more : (sum : List ℕ → ℕ) (size : ℕ) (bytes more file : List ℕ) → HoldsContent sum size bytes file
+    → HoldsContent sum size (bytes ++ more) file
 holds_more sum size bytes more file holds = λ page slot ok.
     let s = holds page slot ok in
     let start = page * content_size size in
@@ -80,7 +83,8 @@ writer_more sum size calls bytes more durable tip slot w fits = record {
 }
 
 -- less that is durable
-pub keeps_less : (sum : List ℕ → ℕ) (size : ℕ) (bytes : List ℕ) (less more : ℕ) (calls : List Call) → less ≤ more → Keeps sum size bytes more calls
+pub keeps_less : (sum : List ℕ → ℕ) (size : ℕ) (bytes : List ℕ) (less more : ℕ) (calls : List Call) → less ≤ more
+    → Keeps sum size bytes more calls
     → Keeps sum size bytes less calls
 keeps_less sum size bytes less more calls le keeps = λ image is.
     let r = keeps image is in
@@ -90,7 +94,8 @@ keeps_less sum size bytes less more calls le keeps = λ image is.
     }
 
 -- where the tip begins
-module _ (sum : List ℕ → ℕ) (size : ℕ) (some_room : 12 < size) (small : size ≤ 65536) (calls : List Call) (bytes : List ℕ) (durable : ℕ) (tip : Tip)
+module _ (sum : List ℕ → ℕ) (size : ℕ) (some_room : 12 < size) (small : size ≤ 65536) (calls : List Call) (bytes : List ℕ)
+    (durable : ℕ) (tip : Tip)
     (slot : Option DurableSlot) (w : IsWriterOf sum size calls bytes durable tip slot) where
   abbrev first : ℕ
   first = tip.offset / content_size size
@@ -159,7 +164,8 @@ module _ (sum : List ℕ → ℕ) (size : ℕ) (some_room : 12 < size) (small : 
   -- whole pages of the tip are flushed: the tip begins behind them
   pub pages_flushed : (count : ℕ) → 0 < count → count * content_size size ≤ length tip.bytes
       → SumsFit sum size (page_count size (length (take (count * content_size size) tip.bytes))) (take (count * content_size size) tip.bytes)
-      → IsWriterOf sum size (wrote (first * size) (flushed_bytes sum size slot (take (count * content_size size) tip.bytes)) false true ∷ calls) bytes durable
+      → IsWriterOf sum size
+      (wrote (first * size) (flushed_bytes sum size slot (take (count * content_size size) tip.bytes)) false true ∷ calls) bytes durable
       (record tip { offset = tip.offset + count * content_size size; bytes = drop (count * content_size size) tip.bytes }) None
   pages_flushed count some le fit =
       let room = content_size size in
@@ -317,7 +323,8 @@ module _ (sum : List ℕ → ℕ) (size : ℕ) (some_room : 12 < size) (calls : 
         };
   }
 
-  settled_begun : (s : Option DurableSlot) → EndsBy sum size (content calls) (length bytes) pages s → length (content calls) ≡ (pages + pages_begun s) * size
+  settled_begun : (s : Option DurableSlot) → EndsBy sum size (content calls) (length bytes) pages s
+      → length (content calls) ≡ (pages + pages_begun s) * size
       → IsBegun sum size settled (length bytes) pages s
   settled_begun None ends long = omega (arith, ends)
   settled_begun (Some last) ends long = (
@@ -365,7 +372,8 @@ module _ (sum : List ℕ → ℕ) (size : ℕ) (some_room : 12 < size) (calls : 
       }
 
   -- a sync that succeeds settles the content
-  pub sync_writer : (made : List ℕ) → MakesDurable calls made → (tip : Tip) → tip.offset ≡ pages * content_size size → tip.bytes ≡ drop tip.offset bytes
+  pub sync_writer : (made : List ℕ) → MakesDurable calls made → (tip : Tip) → tip.offset ≡ pages * content_size size
+      → tip.bytes ≡ drop tip.offset bytes
       → physical_size size (length bytes) + 4096 < 2 ^ 64 → IsWriterOf sum size (synced made true ∷ calls) bytes (length bytes) tip slot
   sync_writer made durable_made tip begins tip_is numbers =
       subst (λ m. IsWriterOf sum size (synced m true ∷ calls) bytes (length bytes) tip slot) (sym (durable_made.content f.sound))
@@ -464,7 +472,8 @@ new_writer sum size some calls empty tip at none =
         omega (arith, v.some, ap (slot_len size slot) empty_page ∙ said_nothing size slot)
 
 -- the calls of a writer's flush of its whole pages
-module _ (sum : List ℕ → ℕ) (calls : List Call) (w : WriterState) (some_room : 12 < w.page_size) (small : w.page_size ≤ 65536) (is : IsWriter sum calls w)
+module _ (sum : List ℕ → ℕ) (calls : List Call) (w : WriterState) (some_room : 12 < w.page_size) (small : w.page_size ≤ 65536)
+    (is : IsWriter sum calls w)
     (full : content_size w.page_size ≤ length w.tip.bytes) (part : List ℕ) (first : ℕ)
     (part_is_whole : part ≡ take (length w.tip.bytes / content_size w.page_size * content_size w.page_size) w.tip.bytes)
     (first_is : first ≡ w.tip.offset / content_size w.page_size) where
@@ -641,7 +650,8 @@ module _ (sum : List ℕ → ℕ) (calls : List Call) (w : WriterState) (some_ro
       (part_within sum w.page_size some_room small calls (written sum calls w) w.synced w.tip w.slot is n (omega arith)) given
 
   -- after a sync, the tip begins behind its whole pages
-  pub settled_after : (mid new : List Call) → IsAllThere mid → (made : List ℕ) → MakesDurable mid made → new ≡ synced made true ∷ mid → (next : WriterState)
+  pub settled_after : (mid new : List Call) → IsAllThere mid → (made : List ℕ) → MakesDurable mid made → new ≡ synced made true ∷ mid
+      → (next : WriterState)
       → next.page_size ≡ w.page_size → next.synced ≡ w.tip.offset + length w.tip.bytes → next.slot ≡ last_slot sum w.page_size w.slot w.tip.bytes
       → next.tip ≡ record w.tip {
         offset = w.tip.offset + length w.tip.bytes / content_size w.page_size * content_size w.page_size;

@@ -27,7 +27,8 @@ module _ (sum : List ℕ → ℕ) (calls : List Call) (w : WriterState) where
   pub readable_of : (pages : FlushedPages) (tip : List ℕ) → pages ≡ record { physical_page_size = w.page_size; blob_id = w.blob_id; len = w.tip.offset }
       → tip ≡ w.tip.bytes → readable sum pages.physical_page_size calls pages.len tip ≡ written sum calls w
   readable_of pages tip made tip_is =
-      ap (λ (p : FlushedPages). readable sum p.physical_page_size calls p.len tip) made ∙ ap (readable sum w.page_size calls w.tip.offset) tip_is ∙ readable_is
+      ap (λ (p : FlushedPages). readable sum p.physical_page_size calls p.len tip) made
+      ∙ ap (readable sum w.page_size calls w.tip.offset) tip_is ∙ readable_is
 
   -- the pages that are kept are those that it asks for
   pub kept_asked : (pages : FlushedPages) (tip : List ℕ) (cache : Cache)

@@ -33,16 +33,17 @@ RecordsOpening old new = (shown : List ℕ) × IsImage (file_of old) shown × (n
 
 -- what has refused calls of a blob so far: how many faults were injected, how many calls a cut of the power refused,
 -- and whether an opening stands, without which none is taken; whether a cut was asked for, without which none comes;
--- and the settings by which faults are drawn, where any are
+-- the settings by which faults are drawn, where any are; and which number the next file of its store has
 pub record Failures : Type 0 where
   pub injected : ℕ
   pub refused : ℕ
   pub is_open : Bool
   pub is_asked : Bool
   pub settings : Option Config
+  pub files : ℕ
 
--- this after a call: an injected fault and a call that a cut refuses are counted; no call asks for a cut or changes the
--- settings
+-- this after a call: an injected fault and a call that a cut refuses are counted; no call asks for a cut, changes the
+-- settings or makes a file
 abbrev pub failures_after : {T : Type 0} → Result T Error → Failures → Failures
 failures_after (Ok _) failures = failures
 failures_after (Err (Injected _)) failures = record failures { injected = failures.injected + 1 }

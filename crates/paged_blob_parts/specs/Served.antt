@@ -1,5 +1,6 @@
 -- Reading many slices of a list at once, and what of them is served from memory.
-use Rattle.std.specs.Prelude.{◌≡◌, ◌⊎◌, ℕ, ◌+◌, ◌*◌, ◌/◌, ◌%◌, ◌<◌, ◌≤◌, nat_le, Bool, IsFalse, List, [], ◌∷◌, length}
+use Rattle.std.specs.Prelude.{◌≡◌, ◌⊎◌, ℕ, ◌+◌, ◌*◌, ◌/◌, ◌%◌}
+use Rattle.std.specs.Prelude.{◌<◌, ◌≤◌, nat_le, Bool, IsFalse, List, [], ◌∷◌, length}
 use Rattle.std.specs.Prelude.{take, drop, map, sum_by, Contains}
 use Rattle.std.specs.List.{list_all, flat_map}
 use Rattle.paged_format.specs.Footers.{content_size}

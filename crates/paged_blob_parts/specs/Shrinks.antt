@@ -1,5 +1,6 @@
 -- A blob whose pages hold a content up to where it ends, whatever stands behind, and how it is cut.
-use Rattle.std.specs.Prelude.{◌≡◌, ◌⊎◌, ℕ, ◌+◌, ◌*◌, ◌<◌, ◌-◌, ◌/◌, ◌≤◌, ⊤, true, IsTrue, IsFalse, List, [], ◌∷◌}
+use Rattle.std.specs.Prelude.{◌≡◌, ◌⊎◌, ℕ, ◌+◌, ◌*◌, ◌<◌, ◌-◌}
+use Rattle.std.specs.Prelude.{◌/◌, ◌≤◌, ⊤, true, IsTrue, IsFalse, List, [], ◌∷◌}
 use Rattle.std.specs.Prelude.{length, take}
 use Rattle.std.specs.Int.{w16, to_be_bytes}
 use Rattle.paged_format.specs.declared.footer.Slot.{Slot}

@@ -1,5 +1,6 @@
 -- What holds between a writer of pages and its blob, over plain values, and what is then recovered of each image.
-use Rattle.std.specs.Prelude.{◌≡◌, ℕ, ◌+◌, ◌-◌, ◌*◌, ◌/◌, ◌%◌, ◌<◌, ◌≤◌, ◌^◌, min, IsTrue, IsFalse, Option, None, Some}
+use Rattle.std.specs.Prelude.{◌≡◌, ℕ, ◌+◌, ◌-◌, ◌*◌, ◌/◌, ◌%◌}
+use Rattle.std.specs.Prelude.{◌<◌, ◌≤◌, ◌^◌, min, IsTrue, IsFalse, Option, None, Some}
 use Rattle.std.specs.Prelude.{List, [], ◌∷◌, ◌++◌, length, get_or, take, drop}
 use Rattle.paged_format.specs.declared.footer.Slot.{Slot}
 use Rattle.paged_format.specs.Footers.{content_size, slot_bytes, slot_start, slot_len}

@@ -108,6 +108,7 @@ impl Blob for MemoryDisk {
       is_open = true;
       is_asked = false;
       settings = None;
+      files = 0;
     } };
 
     ghost left = { λ _. 0 };

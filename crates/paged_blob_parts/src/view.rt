@@ -1,6 +1,7 @@
 //! A list that is read: whole pages that stand on a blob, and what stands behind them in memory.
 
-ghost use Rattle.std.specs.Prelude.{◌≡◌, ◌⊎◌, ◌+◌, ◌*◌, ◌<◌, ◌≤◌, ◌^◌, ◌++◌, ◌∷◌, ◌↔◌, [], ℕ, List, if◌then◌else◌};
+ghost use Rattle.std.specs.Prelude.{◌≡◌, ◌⊎◌, ◌+◌, ◌*◌, ◌<◌, ◌≤◌};
+ghost use Rattle.std.specs.Prelude.{◌^◌, ◌++◌, ◌∷◌, ◌↔◌, [], ℕ, List, if◌then◌else◌};
 ghost use Rattle.std.specs.Prelude.{nat_le, length, take, drop, Contains, IsTrue, IsFalse};
 ghost use Rattle.std.specs.Prelude.{IfOk, IfErr, OnOk, IsErr};
 ghost use Rattle.paged_format.specs.Footers.{IsPageSize, content_size};

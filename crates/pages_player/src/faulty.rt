@@ -50,6 +50,7 @@ impl Blob for FaultyDisk {
       is_open = true;
       is_asked = false;
       settings = None;
+      files = 0;
     } };
 
     ghost left = { λ _. 0 };

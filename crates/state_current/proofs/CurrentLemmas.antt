@@ -148,7 +148,8 @@ module _ (setting : Setting) (state : State) (kept : Kept) (facts : IsGraftable 
         → digests_from rule n (grafted_lookup rule hash trees) 0 ≡ peak_digests (grafted_digests setting state) (forest setting state)
     peaks_are few n is =
         ap (λ k. digests_from rule k (grafted_lookup rule hash trees) 0) is
-        ∙ ap (λ ps. map (λ peak. unwrap_or (grafted_lookup rule hash trees peak.0) []) (map position_and_height ps)) (located_from-zero (forest_of rule count))
+        ∙ ap (λ ps. map (λ peak. unwrap_or (grafted_lookup rule hash trees peak.0) []) (map position_and_height ps))
+        (located_from-zero (forest_of rule count))
         ∙ at-peaks (grafted_lookup rule hash trees) (grafted_digests setting state) (forest_of rule count) (peak_read few)
 
     pub grafted_root_is : count ≤ 2 ^ 62 → (n inactive : ℕ) (digests : List (List ℕ)) (root : List ℕ) → n ≡ kept.operations.leaves
@@ -368,7 +369,8 @@ pruned_of_bits width full bits some is =
       le-div bits.pruned (bit_count width bits) (8 * width) (omega (arith, some)) (omega (arith, mul_comm bits.pruned (8 * width))),
     )
 
-pub rest_of_bits : (width full next bits : ℕ) → full ≡ bits / (8 * width) → next ≡ bits % (8 * width) → (next ≡ 0 → ⊥) → 8 * width * full < bits
+pub rest_of_bits : (width full next bits : ℕ) → full ≡ bits / (8 * width) → next ≡ bits % (8 * width) → (next ≡ 0 → ⊥)
+    → 8 * width * full < bits
 rest_of_bits width full next bits full_is next_is some =
     omega (
       arith,

@@ -1,5 +1,6 @@
 -- What is kept stands for the state that has grown.
-use Rattle.std.proofs.Common.{◌≡◌, ◌⊎◌, ℕ, ◌+◌, ◌-◌, ◌*◌, ◌/◌, ◌^◌, ◌<◌, ◌≤◌, Bool, true, false, eqb, cond, inl, inr}
+use Rattle.std.proofs.Common.{◌≡◌, ◌⊎◌, ℕ, ◌+◌, ◌-◌, ◌*◌, ◌/◌}
+use Rattle.std.proofs.Common.{◌^◌, ◌<◌, ◌≤◌, Bool, true, false, eqb, cond, inl, inr}
 use Rattle.std.proofs.Common.{List, [], ◌∷◌, ◌++◌, length, drop, Some, refl, sym, ◌∙◌, ap, ap₂, subst, arith}
 use Rattle.std.proofs.Common.{length-append}
 use Rattle.std.specs.List.{AllByRecursion}
@@ -153,7 +154,8 @@ passed : (leaf : ℕ → List ℕ) (size count at p : ℕ) (places : List ℕ) �
     → is_updated at (leaves_over leaf size count (p ∷ places)) ≡ true
 passed leaf size count at p places is = by (nat_lt (p / size) count)
   where
-    by : (b : Bool) → is_updated at (cond b ((p / size, leaf (p / size)) ∷ leaves_over leaf size count places) (leaves_over leaf size count places)) ≡ true
+    by : (b : Bool)
+        → is_updated at (cond b ((p / size, leaf (p / size)) ∷ leaves_over leaf size count places) (leaves_over leaf size count places)) ≡ true
     by true = ap (λ b. eqb (p / size) at || b) is ∙ or_right (eqb (p / size) at)
     by false = is
 
@@ -168,7 +170,8 @@ pub all_covered : (leaf : ℕ → List ℕ) (size count : ℕ) (places : List �
     → AllByRecursion (λ at. at / size < count → is_updated (at / size) (leaves_over leaf size count places) ≡ true) places
 all_covered leaf size count places = go places (λ at is. is)
   where
-    go : (rest : List ℕ) → ((at : ℕ) → is_updated at (leaves_over leaf size count rest) ≡ true → is_updated at (leaves_over leaf size count places) ≡ true)
+    go : (rest : List ℕ)
+        → ((at : ℕ) → is_updated at (leaves_over leaf size count rest) ≡ true → is_updated at (leaves_over leaf size count places) ≡ true)
         → AllByRecursion (λ at. at / size < count → is_updated (at / size) (leaves_over leaf size count places) ≡ true) rest
     go [] later = tt
     go (p ∷ rest) later =
@@ -240,7 +243,8 @@ module _ (setting : Setting) (facts : IsGraftable setting.rule) (state : State) 
             subst (λ d. IsGraftedLeaf setting state (k + index) d) (sym it.0)
             (leaf_right (k + index) (fresh (k + index) (omega arith) (omega (arith, it.1, more))));
         updates = all_right (IsGraftedLeaf setting state) leaf (8 * setting.width) k places
-            (all_mapped (λ at. at / (8 * setting.width) < k → IsReady setting.rule setting.width setting.grafting_height tree bits (at / (8 * setting.width)))
+            (all_mapped
+            (λ at. at / (8 * setting.width) < k → IsReady setting.rule setting.width setting.grafting_height tree bits (at / (8 * setting.width)))
             (λ at. at / (8 * setting.width) < k → IsGraftedLeaf setting state (at / (8 * setting.width)) (leaf (at / (8 * setting.width))))
             (λ at is_ready lt. leaf_right (at / (8 * setting.width)) (is_ready lt)) places old);
         covered = all_covered leaf (8 * setting.width) k places;
@@ -331,7 +335,8 @@ stands_after setting facts low state change before after m stands together withi
     let later_bits : later.bits ≡ all_bits width after.bits =
     ap (λ bs. cleared (bs ++ change.bits) change.cleared) stands.bits ∙ sym bits_are in
     let paired : length state.bits ≡ length state.operations =
-    ap length stands.bits ∙ length-all width before.bits ∙ together.bits ∙ stands.operations.counted ∙ length-plain setting.hash rule 0 state.operations in
+    ap length stands.bits ∙ length-all width before.bits ∙ together.bits ∙ stands.operations.counted
+    ∙ length-plain setting.hash rule 0 state.operations in
     let more : k ≤ l = omega (arith, k_is, l_is, grow_more rule facts width level stands.whole low before together after.operations after.bits it) in
     let are : AreBrought setting state later change.cleared (leaves_from leaf_at k (l - k)) (leaves_over leaf_at (8 * width) k change.cleared) =
     brought setting facts later after.operations after.bits stands.whole of_operations later_bits state change.cleared more

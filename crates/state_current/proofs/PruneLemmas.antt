@@ -20,7 +20,8 @@ use Rattle.state_proofs_parts.specs.Bits.{all_bits}
 use Rattle.state_current.proofs.SettledNodes.{settled_grafted, settled_within}
 use Rattle.state_current.specs.Kept.{AreClearBefore, AreTogether, Kept, StandsFor}
 
-pub pruned_boundary : (rule : Rule) (nodes : Nodes) (location : ℕ) → nodes.boundary ≤ location → (pruned_before rule nodes location).boundary ≡ location
+pub pruned_boundary : (rule : Rule) (nodes : Nodes) (location : ℕ) → nodes.boundary ≤ location
+    → (pruned_before rule nodes location).boundary ≡ location
 pruned_boundary rule nodes location le =
     elim (cases_lt nodes.boundary location) [
       | inl further ↦ ap (λ (n : Nodes). n.boundary) (pruned-further rule nodes location further)

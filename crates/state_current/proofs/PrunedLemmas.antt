@@ -254,7 +254,8 @@ module _ (rule : Rule) (root : ℕ → ℕ → ℕ) (pairs : IsPairing rule) (ro
                     let chunk_before : first / x < c =
                     (elim (cases_lt (first / x) c) [
                       | inl lt ↦ lt
-                      | inr ge ↦ absurd (let more : c * x ≤ (first / x) * x = mul-le c x (first / x) x ge (omega arith) in omega (arith, more, parts, before))
+                      | inr ge ↦ absurd (let more : c * x ≤ (first / x) * x = mul-le c x (first / x) x ge (omega arith) in
+                          omega (arith, more, parts, before))
                     ]) in
                     let it = covering (forest_of rule c) (first / x) (omega (arith, chunk_before, leaves-forest_of rule pairs c)) in
                     omega (arith, low, chunk_free first (height tree) above it.0 it.1 it.2 it.3 it.4))

@@ -1,5 +1,6 @@
 -- What is read of a state's two trees, pruned or not.
-use Rattle.std.proofs.Common.{◌≡◌, ℕ, ◌+◌, ◌*◌, ◌^◌, ◌<◌, ◌≤◌, inl, inr, true, false, List, length, Option, None, Some, refl, ◌∙◌, ap, subst, arith}
+use Rattle.std.proofs.Common.{◌≡◌, ℕ, ◌+◌, ◌*◌, ◌^◌, ◌<◌, ◌≤◌, inl, inr}
+use Rattle.std.proofs.Common.{true, false, List, length, Option, None, Some, refl, ◌∙◌, ap, subst, arith}
 use Rattle.std.specs.Prelude.{IsSome, IfSome}
 use Rattle.merkle_forest.specs.Forest.{Tree, position, height, Rule, forest_of}
 use Rattle.merkle_forest.specs.Hashing.{Hash}

@@ -1,5 +1,6 @@
 -- Chunks are settled where each of their peaks is born in time.
-use Rattle.std.proofs.Common.{◌≡◌, inl, inr, ℕ, ◌+◌, ◌*◌, ◌/◌, ◌^◌, ◌<◌, ◌≤◌, List, [], ◌∷◌, sym, ◌∙◌, ap, subst, arith}
+use Rattle.std.proofs.Common.{◌≡◌, inl, inr, ℕ, ◌+◌, ◌*◌, ◌/◌, ◌^◌}
+use Rattle.std.proofs.Common.{◌<◌, ◌≤◌, List, [], ◌∷◌, sym, ◌∙◌, ap, subst, arith}
 use Rattle.std.specs.Prelude.{◌↔◌}
 use Rattle.std.proofs.lemmas.Bool.{cases_lt}
 use Rattle.std.proofs.lemmas.Nat.{div-add-mod', mul-le, pow-add}
@@ -29,7 +30,8 @@ abbrev pub AreSettledBefore : Rule → ℕ → ℕ → ℕ → ℕ → Type 0
 AreSettledBefore rule level operations chunks limit = (first : ℕ) (peak : Tree) → IsPeakAt first peak (forest_of rule chunks) → first < limit
     → HasNode (forest_of rule operations) (first * 2 ^ level) (height peak + level)
 
-module _ (rule : Rule) (pairs : IsPairing rule) (aligned : Aligned rule) (birth : ℕ → ℕ → ℕ) (born : AreBorn rule birth) (level operations chunks : ℕ) where
+module _ (rule : Rule) (pairs : IsPairing rule) (aligned : Aligned rule) (birth : ℕ → ℕ → ℕ) (born : AreBorn rule birth)
+    (level operations chunks : ℕ) where
   -- a peak is raised to a node exactly if that is born in time
   pub raised : (first : ℕ) (peak : Tree) → IsPeakAt first peak (forest_of rule chunks)
       → HasNode (forest_of rule operations) (first * 2 ^ level) (height peak + level) ↔ (birth (first * 2 ^ level) (height peak + level) ≤ operations)

@@ -181,7 +181,8 @@ module _ {F K V A B C D E G H : Type 0} (key_of : K → List ℕ) (value_of : V 
     (Key : K → Type 0) (Value : V → Type 0) (key_field : (k : K) → Key k → IsField key ks (key_of k))
     (value_field : (v : V) → Value v → IsField value vs (value_of v)) where
   found_at : (old new : List ℕ) (o : Code F K V A B C D E G H)
-      → fixed_at key value (item_at (after_ordered key value)) ks vs (ks + vs + ks) old ≡ Ok (all.meaning_of key_of value_of (bytes_of key_of value_of) o, new)
+      → fixed_at key value (item_at (after_ordered key value)) ks vs (ks + vs + ks) old ≡ Ok
+      (all.meaning_of key_of value_of (bytes_of key_of value_of) o, new)
       → old ≡ fixed_encoding ks vs (meaning_of key_of value_of o) ++ new
       → IsValue Key Value (λ u. Key u.key × (Value u.value × Key u.next_key)) o
       → reading.operation_at key value ks vs old ≡ Ok (meaning_of key_of value_of o, new)

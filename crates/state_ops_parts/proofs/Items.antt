@@ -53,12 +53,14 @@ floor_is old new n small ends is =
     ∙ ends in
     ap (λ y. y >>= λ x. cond (ltb (2 ^ 62) x.0) (Err Invalid) (Ok x)) found ∙ floor_ok x new (ltb (2 ^ 62) x.0) ended
 
-pub floor_reads : (old new : List ℕ) (result : Result ℕ Error) → Reads varint old new (after_number (2 ^ 62) old) ⊥ result → IfOk result (λ n. n < 2 ^ 64)
+pub floor_reads : (old new : List ℕ) (result : Result ℕ Error) → Reads varint old new (after_number (2 ^ 62) old) ⊥ result
+    → IfOk result (λ n. n < 2 ^ 64)
     → ReadsAs (λ n. n) varint old new (floor_at old) ⊥ result
 floor_reads old new (Ok n) reads small = (floor_is old new n small reads.0 reads.1, reads.1)
 floor_reads old new (Err e) refused small = refuses_as _ _ e (after_number (2 ^ 62) old) (floor_at old) (λ l. l) (floor_fails (varint_at old)) refused
 
-pub floor_within : (old new : List ℕ) (result : Result ℕ Error) → Reads varint old new (after_number (2 ^ 62) old) ⊥ result → IfOk result (λ n. n < 2 ^ 64)
+pub floor_within : (old new : List ℕ) (result : Result ℕ Error) → Reads varint old new (after_number (2 ^ 62) old) ⊥ result
+    → IfOk result (λ n. n < 2 ^ 64)
     → IfOk result (λ n. n ≤ 2 ^ 62)
 floor_within old new (Ok n) reads small = number_within (2 ^ 62) n new new small (sym (ap (after_number (2 ^ 62)) reads.1) ∙ reads.0)
 floor_within old new (Err e) refused small = tt

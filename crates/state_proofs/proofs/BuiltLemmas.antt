@@ -53,7 +53,8 @@ unfolding pending_digest
 built_pending setting state =
     let full : ℕ = full_chunks setting state in
     let nodes : ℕ = nodes_of_height setting.grafting_height (forest setting state) in
-    let of : ℕ → Option (List ℕ) = λ k. cond (ltb k full) (Some (setting.hash (chunk_of setting.width (drop (chunk_bits setting * k) state.bits)))) None in
+    let of : ℕ
+    → Option (List ℕ) = λ k. cond (ltb k full) (Some (setting.hash (chunk_of setting.width (drop (chunk_bits setting * k) state.bits)))) None in
     ⊎_elim
     (λ lt. let least : min nodes full ≡ nodes = omega (arith, lt) in
     ap of least
@@ -190,7 +191,8 @@ built_digests setting state source power floor digests it whole at none is =
     (take (grafted_inactive setting state) (peaks_of setting.rule m)) (drop (grafted_inactive setting state) (peaks_of setting.rule m))) it.leaves
 
 -- a proof holds what the honest one does where each part is its part
-pub same_range : (l m i j : ℕ) (ds es : List (List ℕ)) (p q r s : Option (List ℕ)) (o u : List ℕ) → l ≡ m → i ≡ j → ds ≡ es → p ≡ q → r ≡ s → o ≡ u
+pub same_range : (l m i j : ℕ) (ds es : List (List ℕ)) (p q r s : Option (List ℕ)) (o u : List ℕ) → l ≡ m → i ≡ j → ds ≡ es
+    → p ≡ q → r ≡ s → o ≡ u
     → ◌≡◌ {A = RangeParts} (record { leaves = l; inactive = i; digests = ds; pending = p; partial = r; operations_root = o })
     (record { leaves = m; inactive = j; digests = es; pending = q; partial = s; operations_root = u })
 same_range l m i j ds es p q r s o u a b c d e f = rw (a, b, c, d, e, f) refl

@@ -162,7 +162,8 @@ stand_among forest (t ∷ ts) all =
 
 -- the digests of the proof of a range, of whose peaks so many are inactive
 pub known_digests : (hash : Hash) (rule : Rule) (known : Lookup) (digest : Digests) (leaf_total inactive start stop : ℕ)
-    → ((first : ℕ) (tree : Tree) (d : List ℕ) → IsNodeAt first tree (forest_of rule leaf_total) → known (position tree) ≡ Some d → d ≡ digest first tree)
+    → ((first : ℕ) (tree : Tree) (d : List ℕ) → IsNodeAt first tree (forest_of rule leaf_total) → known (position tree) ≡ Some d
+    → d ≡ digest first tree)
     → first_missing known (range_positions rule leaf_total start stop) ≡ None
     → range_digests hash (looked_up known) BackwardFold start stop (take inactive (peaks_of rule leaf_total)) (drop inactive (peaks_of rule leaf_total))
     ≡ range_digests hash digest BackwardFold start stop (take inactive (peaks_of rule leaf_total)) (drop inactive (peaks_of rule leaf_total))

@@ -35,7 +35,8 @@ OfGrafted rule n = IsOfPart Any (Unit {0}) 4 (peaks_of rule n)
 abbrev IsGraftedRoot : Hash → Rule → ℕ → Made → Type 0
 IsGraftedRoot hash rule n made = IsOne (OfGrafted rule n) (strings hash made)
 
-grafted_read : (hash : Hash) (rule : Rule) → IsPairing rule → (level : ℕ) (chunk : ℕ → List ℕ) (n inactive start stop outer : ℕ) (claimed : Elements)
+grafted_read : (hash : Hash) (rule : Rule) → IsPairing rule
+    → (level : ℕ) (chunk : ℕ → List ℕ) (n inactive start stop outer : ℕ) (claimed : Elements)
     (digests : List (List ℕ))
     → IfSome (read_root grafted_names (grafted_over level chunk) BackwardFold rule n inactive start stop claimed outer digests)
     (IsGraftedRoot hash rule n)

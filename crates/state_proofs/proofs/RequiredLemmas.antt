@@ -1,5 +1,6 @@
 -- Required chunks: the three that there may be, in order.
-use Rattle.std.proofs.Common.{◌≡◌, ◌⊎◌, inl, inr, ⊎_elim, ◌↔◌, ℕ, zero, suc, ◌+◌, ◌/◌, ◌%◌, ◌<◌, ◌≤◌, cond, ltb, Bool}
+use Rattle.std.proofs.Common.{◌≡◌, ◌⊎◌, inl, inr, ⊎_elim, ◌↔◌, ℕ, zero}
+use Rattle.std.proofs.Common.{suc, ◌+◌, ◌/◌, ◌%◌, ◌<◌, ◌≤◌, cond, ltb, Bool}
 use Rattle.std.proofs.Common.{true, false, List, [], ◌∷◌, ◌++◌, Option, None, Some, refl, sym, ◌∙◌, ap, subst, arith}
 use Rattle.std.specs.Prelude.{Contains, slice_index, IsSomeAnd}
 use Rattle.std.specs.List.Sorted.{IsStrictlyIncreasing}
@@ -91,7 +92,8 @@ IsQueried chunk_bits bits location queried = ⊥
 queried_is : (chunk_bits bits : ℕ) (location queried : Option ℕ) (i : ℕ) → IsQueried chunk_bits bits location queried → queried ≡ Some i
     → IsSomeAnd location (λ l. i ≡ l / chunk_bits)
 queried_is chunk_bits bits None None i it is = absurd (let e : ◌≡◌ {A = Option ℕ} None (Some i) = is in cc)
-queried_is chunk_bits bits (Some l) (Some q) i it is = (let e : ◌≡◌ {A = Option ℕ} (Some q) (Some i) = is in let same : q ≡ i = cc in sym same ∙ it.0)
+queried_is chunk_bits bits (Some l) (Some q) i it is = (let e : ◌≡◌ {A = Option ℕ} (Some q) (Some i) = is in
+    let same : q ≡ i = cc in sym same ∙ it.0)
 queried_is chunk_bits bits None (Some q) i it is = absurd it
 queried_is chunk_bits bits (Some l) None i it is = absurd it
 
@@ -165,7 +167,8 @@ pub asked_none : (chunk_bits bits : ℕ) (location queried : Option ℕ) → loc
     → IsQueried chunk_bits bits location queried
 asked_none chunk_bits bits location queried one other = rw (one, other) tt
 
-pub asked_some : (chunk_bits bits l q : ℕ) (location queried : Option ℕ) → location ≡ Some l → queried ≡ Some q → q ≡ l / chunk_bits → l < bits
+pub asked_some : (chunk_bits bits l q : ℕ) (location queried : Option ℕ) → location ≡ Some l → queried ≡ Some q
+    → q ≡ l / chunk_bits → l < bits
     → IsQueried chunk_bits bits location queried
 asked_some chunk_bits bits l q location queried one other at within = rw (one, other) (at, within)
 

@@ -1,5 +1,6 @@
 -- What is read of a proof's digests depends on how the branches over the range are hashed, and on no other branches.
-use Rattle.std.proofs.Common.{◌≡◌, ℕ, zero, suc, ◌+◌, ◌||◌, Bool, true, false, cond, List, [], ◌∷◌, length, Option, None, Some, option_map, refl, ◌∙◌, ap, ltb}
+use Rattle.std.proofs.Common.{◌≡◌, ℕ, zero, suc, ◌+◌, ◌||◌, Bool, true, false, cond, List}
+use Rattle.std.proofs.Common.{[], ◌∷◌, length, Option, None, Some, option_map, refl, ◌∙◌, ap, ltb}
 use Rattle.std.specs.List.{AllByRecursion, list_all}
 use Rattle.std.specs.Prelude.{option_and_then, ◌^◌}
 use Rattle.merkle_forest.specs.declared.bagging.Bagging.{Bagging}

@@ -36,7 +36,8 @@ use Rattle.state_proofs_parts.specs.Laws.ChunkCounts.{inactive-few}
 use Rattle.state_proofs_parts.specs.Laws.Heights.{pow_le}
 
 -- digests of chunks, as they are held, made and given
-pub held_value : (hash : Hash) (site : Site) (chunk : List ℕ) (There Covered : Type 0) (test : Bool) (held : Option (List ℕ)) → (test ≡ true → Covered)
+pub held_value : (hash : Hash) (site : Site) (chunk : List ℕ) (There Covered : Type 0) (test : Bool) (held : Option (List ℕ))
+    → (test ≡ true → Covered)
     → FitsChunk hash chunk There Covered held → option_map (value hash) (held_or_made (chunk_made site chunk) test held) ≡ held
 held_value hash site chunk There Covered test None covered fits = refl
 held_value hash site chunk There Covered true (Some d) covered fits = ap (λ digest. Some digest) (sym (fits.1 (covered refl)))
@@ -88,11 +89,13 @@ match_next hash n k None other is = tt
 match_next hash n k (Some one) None is = tt
 match_next hash n k (Some one) (Some other) is = is
 
-pub some_made : (site : Site) (real : List ℕ) (test : Bool) (m : Made) → cond test (Some (chunk_made site real)) None ≡ Some m → m ≡ chunk_made site real
+pub some_made : (site : Site) (real : List ℕ) (test : Bool) (m : Made) → cond test (Some (chunk_made site real)) None ≡ Some m
+    → m ≡ chunk_made site real
 some_made site real true m is = let e : Some (chunk_made site real) ≡ Some m = is in cc
 some_made site real false m is = let e : None ≡ Some m = is in cc
 
-pub none_made : (site : Site) (real : List ℕ) (test : Bool) (m : Made) → cond test None (Some (chunk_made site real)) ≡ Some m → m ≡ chunk_made site real
+pub none_made : (site : Site) (real : List ℕ) (test : Bool) (m : Made) → cond test None (Some (chunk_made site real)) ≡ Some m
+    → m ≡ chunk_made site real
 none_made site real true m is = let e : None ≡ Some m = is in cc
 none_made site real false m is = let e : Some (chunk_made site real) ≡ Some m = is in cc
 
@@ -105,7 +108,8 @@ same_pending hash site chunk real true true (Some d) on some has agrees = agrees
 same_pending hash site chunk real true false (Some d) on some has agrees = absurd cc
 same_pending hash site chunk real false is_there (Some d) on some has agrees = absurd cc
 
-pub same_partial : (hash : Hash) (site : Site) (chunk real : List ℕ) (test is_none : Bool) (held : Option (List ℕ)) (n k : ℕ) → test ≡ true → is_none ≡ false
+pub same_partial : (hash : Hash) (site : Site) (chunk real : List ℕ) (test is_none : Bool) (held : Option (List ℕ)) (n k : ℕ)
+    → test ≡ true → is_none ≡ false
     → (held ≡ None → ⊥) → Agrees hash (next_made (option_map (λ m. (n, m)) (held_or_made (chunk_made site chunk) test held)))
     (next_made (option_map (λ m. (k, m)) (cond is_none None (Some (chunk_made site real))))) → chunk ≡ real
 same_partial hash site chunk real test is_none None n k on some has agrees = absurd (has refl)
@@ -133,7 +137,8 @@ told_at Told claimed real start stop l first node from to low high tall (t ∷ t
     ⊎_elim (λ within. told_in Told claimed real start stop l first node from to low high tall (leaves ts) t within parts.1.0)
     (λ rest. told_at Told claimed real start stop l first node from to low high tall ts rest parts.0) stands
 
-pub string_same : (hash : Hash) (a b c d : List ℕ) (p q : Option (List ℕ)) (n : ℕ) (r s : Option (List ℕ)) → a ≡ b → c ≡ d → p ≡ q → r ≡ s
+pub string_same : (hash : Hash) (a b c d : List ℕ) (p q : Option (List ℕ)) (n : ℕ) (r s : Option (List ℕ)) → a ≡ b
+    → c ≡ d → p ≡ q → r ≡ s
     → hash (canonical_string a c p n r) ≡ hash (canonical_string b d q n s)
 string_same hash a b c d p q n r s one two three four =
     ap (λ x. hash (canonical_string x c p n r)) one ∙ ap (λ x. hash (canonical_string b x p n r)) two
@@ -188,7 +193,8 @@ abbrev pub Counted : Rule → Type 0
 Counted rule = (leaf_total part level : ℕ) → leaf_total ≤ 2 ^ 62 → 0 < level → level ≤ 62
     → HasNode (forest_of rule leaf_total) (part * 2 ^ level) level ↔ (part < nodes_of_height level (forest_of rule leaf_total))
 
-pub few_inactive : (setting : Setting) (state : State) → IsPairing setting.rule → length state.operations ≤ 2 ^ 62 → grafted_inactive setting state < 2 ^ 64
+pub few_inactive : (setting : Setting) (state : State) → IsPairing setting.rule → length state.operations ≤ 2 ^ 62
+    → grafted_inactive setting state < 2 ^ 64
 few_inactive setting state pairs few =
     omega (arith, few, inactive-few setting state, length-located (forest setting state), peak_count setting.rule pairs (length state.operations))
 

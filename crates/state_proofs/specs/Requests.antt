@@ -1,5 +1,6 @@
 -- What is answered where operations are asked for from a location on, and why none are.
-use Rattle.std.specs.Prelude.{◌≡◌, ◌<◌, ◌≤◌, ◌⊎◌, ℕ, ◌+◌, ◌-◌, ◌*◌, ◌/◌, Bool, List, [], ◌∷◌, length, drop, map, min}
+use Rattle.std.specs.Prelude.{◌≡◌, ◌<◌, ◌≤◌, ◌⊎◌, ℕ, ◌+◌, ◌-◌}
+use Rattle.std.specs.Prelude.{◌*◌, ◌/◌, Bool, List, [], ◌∷◌, length, drop, map, min}
 use Rattle.std.specs.Prelude.{slice_index_or}
 use Rattle.merkle_core_parts.specs.declared.error.Error.TheVariants.{RangeOutOfBounds}
 use Rattle.state_proofs.specs.declared.error.Error.{Error}

@@ -6,7 +6,8 @@
 --      chunk 0            chunk 1            chunk 2
 --      . . . . . 5 6 7    8 9 10 .. 15       16 17 . . .       of the 21: three chunks are covered, the last is partial
 --                |-------- shown ----------------|
-use Rattle.std.specs.Prelude.{◌≡◌, ℕ, ◌+◌, ◌-◌, ◌*◌, ◌/◌, ◌%◌, ◌^◌, ◌<◌, ◌≤◌, true, List, [], ◌∷◌, length, Option, None}
+use Rattle.std.specs.Prelude.{◌≡◌, ℕ, ◌+◌, ◌-◌, ◌*◌, ◌/◌, ◌%◌}
+use Rattle.std.specs.Prelude.{◌^◌, ◌<◌, ◌≤◌, true, List, [], ◌∷◌, length, Option, None}
 use Rattle.std.specs.Prelude.{Some, option_map, slice_get, slice_index_or}
 use Rattle.std.specs.List.{AllByRecursion}
 use Rattle.merkle_forest.specs.declared.bagging.Bagging.TheVariants.{BackwardFold}

@@ -253,7 +253,8 @@ last_held width pruned kept bytes held some small = by held.count held.counted
         let left : kept ≡ 8 * width * count + (kept - 8 * (length bytes - width)) = omega (arith, eight, first, reaches) in
         elim (cases_lt (kept - 8 * (length bytes - width)) (8 * width)) [
           | inl few ↦ ap (λ last. (last, kept - 8 * (length bytes - width))) chunk
-              ∙ sym (last_partial width count (kept - 8 * (length bytes - width)) (take kept (bits_in bytes)) (omega (arith, left, reaches)) few (long ∙ left))
+              ∙ sym
+              (last_partial width count (kept - 8 * (length bytes - width)) (take kept (bits_in bytes)) (omega (arith, left, reaches)) few (long ∙ left))
           | inr many ↦
               let all : kept - 8 * (length bytes - width) ≡ 8 * width = omega (arith, many, held.enough, is, first, mul_comm width count) in
               ap₂ (λ last n. (last, n)) chunk all

@@ -1,5 +1,6 @@
 -- A map after each call is one of the list after it.
-use Rattle.std.proofs.Common.{◌≡◌, ℕ, suc, ◌+◌, ◌-◌, ◌*◌, ◌/◌, ◌%◌, ◌<◌, ◌≤◌, Bool, true, false, eqb, leb, inl, inr, List, [], ◌∷◌, ◌++◌, length, drop}
+use Rattle.std.proofs.Common.{◌≡◌, ℕ, suc, ◌+◌, ◌-◌, ◌*◌, ◌/◌, ◌%◌, ◌<◌}
+use Rattle.std.proofs.Common.{◌≤◌, Bool, true, false, eqb, leb, inl, inr, List, [], ◌∷◌, ◌++◌, length, drop}
 use Rattle.std.proofs.Common.{refl, sym, ◌∙◌, ap, ap₂, subst, arith, length-append, length-drop, eq-eqb}
 use Rattle.std.specs.List.{AllByRecursion}
 use Rattle.std.specs.Prelude.{◌||◌, slice_set}
@@ -305,10 +306,12 @@ map-set width bits tree chunks bit at value is kept =
         omega (arith, is.leaves.0, ap (λ n. n / (8 * width)) (length-set bits.kept at value)),
         elim (cases_lt chunk tree.leaves) [
           | inl lt ↦
-              subst (AllByRecursion (λ n. (bits.pruned ≤ n) × (n < tree.leaves))) (sym (cond-false (leb tree.leaves chunk) _ _ (lt-leb tree.leaves chunk lt)))
+              subst (AllByRecursion (λ n. (bits.pruned ≤ n) × (n < tree.leaves)))
+              (sym (cond-false (leb tree.leaves chunk) _ _ (lt-leb tree.leaves chunk lt)))
               (all_with (λ n. (bits.pruned ≤ n) × (n < tree.leaves)) chunks chunk (low, lt) is.leaves.1)
           | inr le ↦
-              subst (AllByRecursion (λ n. (bits.pruned ≤ n) × (n < tree.leaves))) (sym (cond-true (leb tree.leaves chunk) _ _ (le-leb tree.leaves chunk le)))
+              subst (AllByRecursion (λ n. (bits.pruned ≤ n) × (n < tree.leaves)))
+              (sym (cond-true (leb tree.leaves chunk) _ _ (le-leb tree.leaves chunk le)))
               is.leaves.1
         ],
       );

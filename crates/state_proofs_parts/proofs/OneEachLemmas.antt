@@ -1,5 +1,6 @@
 -- One string a site, in the root of a list of bits and in one that is rebuilt from a proof of a bit.
-use Rattle.std.proofs.Common.{◌≡◌, ◌⊎◌, inl, inr, ⊎_elim, ℕ, zero, suc, ◌*◌, ◌/◌, ◌%◌, Bool, eqb, leb, ltb, cond, ◌||◌, List, [], ◌∷◌, ◌++◌, length, Contains}
+use Rattle.std.proofs.Common.{◌≡◌, ◌⊎◌, inl, inr, ⊎_elim, ℕ, zero, suc, ◌*◌, ◌/◌, ◌%◌}
+use Rattle.std.proofs.Common.{Bool, eqb, leb, ltb, cond, ◌||◌, List, [], ◌∷◌, ◌++◌, length, Contains}
 use Rattle.std.proofs.Common.{Option, None, Some, option_map, IfSome, sym, ◌∙◌, ap, subst, arith}
 use Rattle.std.proofs.lemmas.List.Elements.{Contains-append_cases}
 use Rattle.merkle_forest.specs.declared.bagging.Bagging.{Bagging}
@@ -74,7 +75,8 @@ module _ (hash : Hash) where
           (first_or_rest (at_bitmap_root, string) (strings hash inner) s w rest))
           (first_or_rest (site, string) ((at_bitmap_root, string) ∷ strings hash inner) s w here)
 
-      by : ((at_bitmap_root ≡ s) × (string ≡ u)) ⊎ Contains tree (s, u) → ((at_bitmap_root ≡ s) × (string ≡ v)) ⊎ Contains tree (s, v) → u ≡ v
+      by : ((at_bitmap_root ≡ s) × (string ≡ u)) ⊎ Contains tree (s, u)
+          → ((at_bitmap_root ≡ s) × (string ≡ v)) ⊎ Contains tree (s, v) → u ≡ v
       by (inl a) (inl b) = sym a.1 ∙ b.1
       by (inl a) (inr b) = absurd (not_bitmap_root s a.0 (site_of (hashed site [] inner) good.0 s v b))
       by (inr a) (inl b) = absurd (not_bitmap_root s b.0 (site_of (hashed site [] inner) good.0 s u a))

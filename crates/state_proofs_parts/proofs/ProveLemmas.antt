@@ -1,5 +1,6 @@
 -- The digests that are put together as a proof are the honest ones.
-use Rattle.std.proofs.Common.{◌≡◌, ℕ, ◌+◌, ◌*◌, ◌/◌, ◌%◌, ◌<◌, ◌≤◌, eqb, inl, inr, Bool, List, [], ◌∷◌, ◌++◌, length}
+use Rattle.std.proofs.Common.{◌≡◌, ℕ, ◌+◌, ◌*◌, ◌/◌, ◌%◌, ◌<◌}
+use Rattle.std.proofs.Common.{◌≤◌, eqb, inl, inr, Bool, List, [], ◌∷◌, ◌++◌, length}
 use Rattle.std.proofs.Common.{sym, ◌∙◌, ap, arith, append-nil}
 use Rattle.std.proofs.lemmas.Bool.{cases_eq, cond-true, cond-false, eq-eqb, ne_eqb}
 use Rattle.std.proofs.lemmas.Nat.{div_below}
@@ -37,7 +38,8 @@ module _ (hash : Hash) (leaf_of : LeafHash) (node_of : NodeHash) (bagging : Bagg
   many : length leaves ≡ length all / size
   many = length-leaf_digests leaf_of width 0 chunks ∙ length-chunks_of width (length all / size) all
 
-  in_tree : (at ≡ length all / size → ⊥) → proof_digests hash node_of bagging width leaves bits at ≡ tree (length chunks) ++ last_digests hash width bits
+  in_tree : (at ≡ length all / size → ⊥)
+      → proof_digests hash node_of bagging width leaves bits at ≡ tree (length chunks) ++ last_digests hash width bits
   unfolding proof_digests
   in_tree apart =
       cond-false (eqb at (length leaves)) _ _ (ne_eqb at (length leaves) (λ same. apart (same ∙ many)))

@@ -1,5 +1,6 @@
 -- A tree that is hashed or rebuilt has none of the bitmap's own sites.
-use Rattle.std.proofs.Common.{ℕ, zero, suc, ◌+◌, ◌^◌, ◌||◌, ltb, cond, List, [], ◌∷◌, length, take, drop, None, Some, option_map, option_and_then, IfSome}
+use Rattle.std.proofs.Common.{ℕ, zero, suc, ◌+◌, ◌^◌, ◌||◌, ltb, cond, List, []}
+use Rattle.std.proofs.Common.{◌∷◌, length, take, drop, None, Some, option_map, option_and_then, IfSome}
 use Rattle.std.specs.List.{list_all}
 use Rattle.merkle_forest.specs.declared.bagging.Bagging.{Bagging}
 use Rattle.merkle_forest.specs.Forest.{Tree, leaf, branch, height, leaf_count, Rule}

@@ -1,5 +1,6 @@
 -- Where a proof of a bit leads to the root of a list of bits its claim is true of the list, or strings collide.
-use Rattle.std.proofs.Common.{◌≡◌, ◌⊎◌, inl, inr, ⊎_elim, ℕ, zero, suc, ◌+◌, ◌-◌, ◌*◌, ◌/◌, ◌%◌, ◌<◌, ◌≤◌, ◌^◌, eqb}
+use Rattle.std.proofs.Common.{◌≡◌, ◌⊎◌, inl, inr, ⊎_elim, ℕ, zero, suc, ◌+◌}
+use Rattle.std.proofs.Common.{◌-◌, ◌*◌, ◌/◌, ◌%◌, ◌<◌, ◌≤◌, ◌^◌, eqb}
 use Rattle.std.proofs.Common.{leb, ltb, Bool, true, false, List, [], ◌∷◌, ◌++◌, length, take, drop, get_or}
 use Rattle.std.proofs.Common.{Option, None, Some, option_map, option_and_then, IfSome, Contains, refl, sym, ◌∙◌, ap, subst, arith, length-append}
 use Rattle.std.specs.Prelude.{◌||◌}
@@ -329,7 +330,8 @@ module _ (hash : Hash) (hash_sized : (xs : List ℕ) → length (hash xs) ≡ 32
     -- ---- all cases
     by_list : (made : Made) → (length all % size ≡ 0 → value hash made ≡ value hash (also at_bitmap_root there)
         → Claim ⊎ Collision hash (strings hash (also at_bitmap_root there)) (strings hash made))
-        → ((length all % size ≡ 0 → ⊥) → value hash made ≡ value hash partial_there → Claim ⊎ Collision hash (strings hash partial_there) (strings hash made))
+        → ((length all % size ≡ 0 → ⊥) → value hash made ≡ value hash partial_there
+        → Claim ⊎ Collision hash (strings hash partial_there) (strings hash made))
         → IsSound hash bagging width all claim made
     by_list made aligned partial same =
         elim (cases_eq (length all % size) 0) [

@@ -3,7 +3,8 @@
 --    bits fill their chunks     the proof is that of the bit's chunk in the tree
 --    the bit's chunk is full    that, and the digest of the last chunk
 --    the bit's chunk is last    the tree's root alone
-use Rattle.std.specs.Prelude.{◌≡◌, ◌⊎◌, ◌==◌, ◌||◌, ℕ, ◌+◌, ◌-◌, ◌*◌, ◌/◌, ◌%◌, ◌<◌, ◌++◌, Bool, nat_le, nat_lt}
+use Rattle.std.specs.Prelude.{◌≡◌, ◌⊎◌, ◌==◌, ◌||◌, ℕ, ◌+◌, ◌-◌}
+use Rattle.std.specs.Prelude.{◌*◌, ◌/◌, ◌%◌, ◌<◌, ◌++◌, Bool, nat_le, nat_lt}
 use Rattle.std.specs.Prelude.{if◌then◌else◌, List, [], ◌∷◌, length, take, slice_index_or, Option, None, Some}
 use Rattle.std.specs.Prelude.{option_map}
 use Rattle.merkle_forest.specs.declared.bagging.Bagging.{Bagging}

@@ -13,7 +13,8 @@
 //! A map is merkleized, and knows its root; or it has changed since: bits that were pushed have no leaf yet, and the
 //! leaves of chunks with a bit that was set stand as they were. To merkleize it makes up for both.
 
-ghost use Rattle.std.specs.Prelude.{◌≡◌, ◌<◌, ◌≤◌, ◌+◌, ◌-◌, ◌*◌, ◌/◌, ◌%◌, ◌^◌, ◌++◌, [], ◌∷◌, ◌↔◌, false, Bool, ℕ};
+ghost use Rattle.std.specs.Prelude.{◌≡◌, ◌<◌, ◌≤◌, ◌+◌, ◌-◌, ◌*◌, ◌/◌};
+ghost use Rattle.std.specs.Prelude.{◌%◌, ◌^◌, ◌++◌, [], ◌∷◌, ◌↔◌, false, Bool, ℕ};
 ghost use Rattle.std.specs.Prelude.{List};
 ghost use Rattle.std.specs.Prelude.{length, take, slice_set, slice_index_or, option_map, map, Some, IsTrue, OnOk};
 ghost use Rattle.std.specs.Prelude.{OnErr, IfOk, IfErr};

@@ -24,7 +24,8 @@
 //! A family whose nodes are born at once has no pending chunk. The digest of the pending chunk and of the partial one
 //! stand in the canonical string.
 
-ghost use Rattle.std.specs.Prelude.{◌≡◌, ◌<◌, ◌≤◌, ◌+◌, ◌*◌, ◌/◌, ◌^◌, ◌++◌, [], ◌∷◌, ℕ, List, map, length, IfOk, OnOk};
+ghost use Rattle.std.specs.Prelude.{◌≡◌, ◌<◌, ◌≤◌, ◌+◌, ◌*◌, ◌/◌};
+ghost use Rattle.std.specs.Prelude.{◌^◌, ◌++◌, [], ◌∷◌, ℕ, List, map, length, IfOk, OnOk};
 ghost use Rattle.std.specs.Prelude.{slice_index_or};
 ghost use Rattle.merkle_forest.specs.Forest.{leaf_count, leaves};
 ghost use Rattle.merkle_forest.specs.Nodes.{nodes_at, nodes_of_height};

@@ -1,6 +1,7 @@
 //! Proofs of a bit: their digests, and the root that one leads to.
 
-ghost use Rattle.std.specs.Prelude.{◌≡◌, ◌<◌, ◌≤◌, ◌+◌, ◌-◌, ◌*◌, ◌/◌, ◌%◌, ◌^◌, ◌++◌, ◌==◌, [], ◌∷◌, Bool, ℕ, List};
+ghost use Rattle.std.specs.Prelude.{◌≡◌, ◌<◌, ◌≤◌, ◌+◌, ◌-◌, ◌*◌, ◌/◌};
+ghost use Rattle.std.specs.Prelude.{◌%◌, ◌^◌, ◌++◌, ◌==◌, [], ◌∷◌, Bool, ℕ, List};
 ghost use Rattle.std.specs.Prelude.{Some};
 ghost use Rattle.std.specs.Prelude.{IfOk, IfErr, length, map, option_map, if◌then◌else◌};
 ghost use Rattle.merkle_forest.specs.Forest.{mmr_rule};

@@ -9,7 +9,8 @@
 //!      1 chunk       0d                02                03           bytes
 //! ```
 
-ghost use Rattle.std.specs.Prelude.{◌≡◌, ◌<◌, ◌≤◌, ◌+◌, ◌-◌, ◌*◌, ◌/◌, ◌%◌, ◌^◌, ◌++◌, [], ◌∷◌, ◌↔◌, false, ℕ, List};
+ghost use Rattle.std.specs.Prelude.{◌≡◌, ◌<◌, ◌≤◌, ◌+◌, ◌-◌, ◌*◌, ◌/◌};
+ghost use Rattle.std.specs.Prelude.{◌%◌, ◌^◌, ◌++◌, [], ◌∷◌, ◌↔◌, false, ℕ, List};
 ghost use Rattle.std.specs.Prelude.{length, replicate, slice_set, slice_index_or, take, drop, IsTrue};
 ghost use Rattle.std.specs.Prelude.{IfOk, OnOk, OnErr};
 ghost use Rattle.state_proofs_parts.specs.Bits.{Bits, IsChunkWidth, bits_of, bits_in, chunk_at, bit_count, last_chunk};

@@ -63,6 +63,7 @@ impl Blob for UndoDisk {
       is_open = true;
       is_asked = false;
       settings = None;
+      files = 0;
     } };
 
     ghost left = { λ _. 0 };

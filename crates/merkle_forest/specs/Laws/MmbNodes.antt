@@ -1,5 +1,6 @@
 -- Where the nodes and the peaks of a Merkle Mountain Belt stand, and when they are born.
-use Rattle.std.proofs.Common.{◌≡◌, ℕ, zero, suc, ◌+◌, ◌-◌, ◌*◌, ◌/◌, ◌%◌, ◌^◌, ◌≤◌, ◌⊎◌, inl, inr, List, [], ◌∷◌, refl}
+use Rattle.std.proofs.Common.{◌≡◌, ℕ, zero, suc, ◌+◌, ◌-◌, ◌*◌, ◌/◌}
+use Rattle.std.proofs.Common.{◌%◌, ◌^◌, ◌≤◌, ◌⊎◌, inl, inr, List, [], ◌∷◌, refl}
 use Rattle.std.proofs.Common.{sym, ◌∙◌, ap, subst, arith, pow-suc, le_antisymm}
 use Rattle.std.proofs.lemmas.Nat.{pow_pos}
 use Rattle.merkle_forest.specs.Forest.{Tree, position, height, leaf_count, leaves, forest_of, mmb_rule}

@@ -1,6 +1,7 @@
 -- The parent that is born with a leaf of a Merkle Mountain Belt: one higher than the lowest ones of the location after
 -- the leaf's are many. There is none where two locations after the leaf's is a power of two.
-use Rattle.std.proofs.Common.{◌≡◌, ◌≢◌, ℕ, zero, suc, ◌+◌, ◌-◌, ◌*◌, ◌/◌, ◌%◌, ◌^◌, ◌<◌, ◌≤◌, length, sym, ◌∙◌, ap}
+use Rattle.std.proofs.Common.{◌≡◌, ◌≢◌, ℕ, zero, suc, ◌+◌, ◌-◌, ◌*◌}
+use Rattle.std.proofs.Common.{◌/◌, ◌%◌, ◌^◌, ◌<◌, ◌≤◌, length, sym, ◌∙◌, ap}
 use Rattle.std.proofs.Common.{subst, arith, pow-suc}
 use Rattle.std.proofs.lemmas.Nat.{pow_pos, pow_below, mod-pow-add, div-add-mod', ones_cat, zero_from_ones}
 use Rattle.std.proofs.lemmas.Nat.Bits.{bit_at-trailing_ones}

@@ -1,5 +1,6 @@
 -- Where the nodes and the peaks of a Merkle Mountain Range stand.
-use Rattle.std.proofs.Common.{◌≡◌, ℕ, zero, suc, ◌+◌, ◌-◌, ◌*◌, ◌^◌, ◌<◌, ◌≤◌, inl, inr, List, [], ◌∷◌, refl, sym, ◌∙◌}
+use Rattle.std.proofs.Common.{◌≡◌, ℕ, zero, suc, ◌+◌, ◌-◌, ◌*◌, ◌^◌}
+use Rattle.std.proofs.Common.{◌<◌, ◌≤◌, inl, inr, List, [], ◌∷◌, refl, sym, ◌∙◌}
 use Rattle.std.proofs.Common.{ap, subst, arith, pow-suc, mul_assoc, le_antisymm}
 use Rattle.merkle_forest.specs.Laws.Powers.{pow_le, pow_order}
 use Rattle.std.proofs.lemmas.Nat.{pow_pos, pow_below, ones_cat, ones_le_self}

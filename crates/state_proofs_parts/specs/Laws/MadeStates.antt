@@ -1,5 +1,6 @@
 -- A canonical root that a proof leads to: what the proof claims is true of the state, or strings collide.
-use Rattle.std.proofs.Common.{◌≡◌, ◌⊎◌, inl, inr, ⊎_elim, ℕ, zero, suc, ◌+◌, ◌/◌, ◌==◌, ◌<◌, ◌≤◌, ◌^◌, ltb, Bool, true}
+use Rattle.std.proofs.Common.{◌≡◌, ◌⊎◌, inl, inr, ⊎_elim, ℕ, zero, suc}
+use Rattle.std.proofs.Common.{◌+◌, ◌/◌, ◌==◌, ◌<◌, ◌≤◌, ◌^◌, ltb, Bool, true}
 use Rattle.std.proofs.Common.{false, cond, List, [], ◌∷◌, ◌++◌, length, replicate, Option, IfSome, refl, sym, ◌∙◌, ap}
 use Rattle.std.proofs.Common.{subst, arith}
 use Rattle.std.specs.Prelude.{slice_index_or}

@@ -1,5 +1,6 @@
 -- A node over whole chunks stands in the tree of the operations and in that of the chunks.
-use Rattle.std.proofs.Common.{◌≡◌, ℕ, zero, suc, ◌+◌, ◌-◌, ◌*◌, ◌/◌, ◌^◌, ◌<◌, ◌≤◌, refl, sym, ◌∙◌, ap, subst, arith}
+use Rattle.std.proofs.Common.{◌≡◌, ℕ, zero, suc, ◌+◌, ◌-◌, ◌*◌, ◌/◌}
+use Rattle.std.proofs.Common.{◌^◌, ◌<◌, ◌≤◌, refl, sym, ◌∙◌, ap, subst, arith}
 use Rattle.std.proofs.Common.{add-zero}
 use Rattle.std.proofs.Math.Nat.{mul_assoc, mul-div_cancel, mul-le-mul_left}
 use Rattle.std.proofs.lemmas.Nat.{pow_pos, pow-add}

@@ -7,7 +7,8 @@ abbrev pub invariant-loop-left : goal.invariant-loop-left
 invariant-loop-left g l = record {
   within : l.left ≤ l.count;
   found : up_to_last (is_commit_record (format_of (g.K.Read.after tt) (g.V.Read.after tt) g.K.FixedSize.SIZE g.V.FixedSize.SIZE)) (pieces l.size l.left l.bytes)
-      ≡ up_to_last (is_commit_record (format_of (g.K.Read.after tt) (g.V.Read.after tt) g.K.FixedSize.SIZE g.V.FixedSize.SIZE)) (pieces l.size l.count l.bytes);
+      ≡ up_to_last (is_commit_record (format_of (g.K.Read.after tt) (g.V.Read.after tt) g.K.FixedSize.SIZE g.V.FixedSize.SIZE))
+      (pieces l.size l.count l.bytes);
 }
 
 abbrev pub decreases-loop-left : goal.decreases-loop-left

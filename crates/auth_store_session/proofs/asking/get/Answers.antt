@@ -2,7 +2,8 @@ use Rattle.std.proofs.Common.{◌+◌}
 use Rattle.std.specs.Prelude.{Ok, Err}
 use Rattle.auth_store_log.specs.Records.{format_of}
 use Rattle.auth_store_session.specs.Machine.{machine}
-use Rattle.auth_store_session.proofs.Steps.{gets_in, same_grows}
+use Rattle.auth_store_session.proofs.Powers.{same_grows}
+use Rattle.auth_store_session.proofs.Steps.{gets_in}
 use Rattle.auth_store_session.proofs.asking.get.Goals as goal
 
 pub returns-in-Ok-clause-steps : goal.returns-in-Ok-clause-steps
@@ -13,7 +14,7 @@ returns-in-Ok-clause-steps g c = (
       (c.args.store.now.cache.page_size + 12))
       (format_of (g.K.Read.after (tt {0})) (g.V.Read.after (tt {0})) g.K.FixedSize.SIZE g.V.FixedSize.SIZE) g.V.Write.encoding
       (g.K.Write.encoding c.args.key.now) c.args.store.now c.get.new.self (Ok c.in-Ok.found) c.in-Ok.ensures.found c.in-Ok.ensures.refused
-      c.in-Ok.ensures.stays c.in-Ok.ensures.pruned c.in-Ok.ensures.failed,
+      c.in-Ok.ensures.stays c.in-Ok.ensures.pruned c.in-Ok.ensures.calls c.in-Ok.ensures.failed,
 )
 
 pub returns-in-Err-clause-steps : goal.returns-in-Err-clause-steps
@@ -24,7 +25,7 @@ returns-in-Err-clause-steps g c = (
       (c.args.store.now.cache.page_size + 12))
       (format_of (g.K.Read.after (tt {0})) (g.V.Read.after (tt {0})) g.K.FixedSize.SIZE g.V.FixedSize.SIZE) g.V.Write.encoding
       (g.K.Write.encoding c.args.key.now) c.args.store.now c.get.new.self (Err c.in-Err.error) c.in-Err.ensures.found c.in-Err.ensures.refused
-      c.in-Err.ensures.stays c.in-Err.ensures.pruned c.in-Err.ensures.failed,
+      c.in-Err.ensures.stays c.in-Err.ensures.pruned c.in-Err.ensures.calls c.in-Err.ensures.failed,
 )
 
 pub returns-in-Ok-clause-grows : goal.returns-in-Ok-clause-grows

@@ -4,7 +4,8 @@ use Rattle.auth_store_log.specs.Records.{format_of}
 use Rattle.auth_store_session.specs.Machine.{Machine, Question, machine, key_is, of_key, proof_of}
 use Rattle.auth_store_session.specs.Standing.{power_of}
 use Rattle.auth_store_ledger.specs.ProvingCode.{key_answer_of}
-use Rattle.auth_store_session.proofs.Steps.{proves_in, refused_read, same_grows}
+use Rattle.auth_store_session.proofs.Powers.{same_grows}
+use Rattle.auth_store_session.proofs.Steps.{proves_in, refused_read}
 use Rattle.auth_store_session.proofs.asking.prove.Goals as goal
 
 pub returns-in-Ok-clause-steps : goal.returns-in-Ok-clause-steps
@@ -17,7 +18,7 @@ returns-in-Ok-clause-steps g c = (
       (λ found. key_is (key_answer_of g.V.Write.encoding found)) (of_key (g.K.Write.encoding c.args.key.now))
       c.args.store.now c.prove_key.new.self (Ok c.in-Ok.found)
       (λ history live. ap (λ answer. Ok (key_is answer)) (sym (c.in-Ok.ensures.proof history live))) c.in-Ok.ensures.stays
-      c.in-Ok.ensures.pruned c.in-Ok.ensures.failed,
+      c.in-Ok.ensures.pruned c.in-Ok.ensures.calls c.in-Ok.ensures.failed,
 )
 
 pub returns-in-Err-clause-steps : goal.returns-in-Err-clause-steps
@@ -32,7 +33,7 @@ returns-in-Err-clause-steps g c =
           (λ found. key_is (key_answer_of g.V.Write.encoding found)) question old new (Err c.in-Err.error)
           (λ history live. refused_read (power_of old.device old.cache) (power_of new.device new.cache)
           (λ found. key_is (key_answer_of g.V.Write.encoding found)) (proof_of m history old.pruned question) c.in-Err.error
-          (c.in-Err.ensures.refused history live)) c.in-Err.ensures.stays c.in-Err.ensures.pruned c.in-Err.ensures.failed,
+          (c.in-Err.ensures.refused history live)) c.in-Err.ensures.stays c.in-Err.ensures.pruned c.in-Err.ensures.calls c.in-Err.ensures.failed,
     )
 
 pub returns-in-Ok-clause-grows : goal.returns-in-Ok-clause-grows

@@ -3,7 +3,8 @@ use Rattle.std.specs.Prelude.{Ok, Err}
 use Rattle.auth_store_log.specs.Records.{format_of}
 use Rattle.auth_store_session.specs.Machine.{machine, operation_is, of_operation}
 use Rattle.auth_store_ledger.specs.ProvingCode.{operation_answer_of}
-use Rattle.auth_store_session.proofs.Steps.{proves_in, same_grows}
+use Rattle.auth_store_session.proofs.Powers.{same_grows}
+use Rattle.auth_store_session.proofs.Steps.{proves_in}
 use Rattle.auth_store_session.proofs.asking.prove_operation.Goals as goal
 
 pub returns-in-Ok-clause-steps : goal.returns-in-Ok-clause-steps
@@ -15,7 +16,7 @@ returns-in-Ok-clause-steps g c = (
       (format_of (g.K.Read.after (tt {0})) (g.V.Read.after (tt {0})) g.K.FixedSize.SIZE g.V.FixedSize.SIZE)
       (λ proved. operation_is (operation_answer_of g.K.Write.encoding g.V.Write.encoding proved)) (of_operation c.args.location)
       c.args.store.now c.prove_operation.new.self (Ok c.in-Ok.proved)
-      c.in-Ok.ensures.proof c.in-Ok.ensures.stays c.in-Ok.ensures.pruned c.in-Ok.ensures.failed,
+      c.in-Ok.ensures.proof c.in-Ok.ensures.stays c.in-Ok.ensures.pruned c.in-Ok.ensures.calls c.in-Ok.ensures.failed,
 )
 
 pub returns-in-Err-clause-steps : goal.returns-in-Err-clause-steps
@@ -27,7 +28,7 @@ returns-in-Err-clause-steps g c = (
       (format_of (g.K.Read.after (tt {0})) (g.V.Read.after (tt {0})) g.K.FixedSize.SIZE g.V.FixedSize.SIZE)
       (λ proved. operation_is (operation_answer_of g.K.Write.encoding g.V.Write.encoding proved)) (of_operation c.args.location)
       c.args.store.now c.prove_operation.new.self (Err c.in-Err.error)
-      c.in-Err.ensures.proof c.in-Err.ensures.stays c.in-Err.ensures.pruned c.in-Err.ensures.failed,
+      c.in-Err.ensures.proof c.in-Err.ensures.stays c.in-Err.ensures.pruned c.in-Err.ensures.calls c.in-Err.ensures.failed,
 )
 
 pub returns-in-Ok-clause-grows : goal.returns-in-Ok-clause-grows

@@ -4,8 +4,8 @@ use Rattle.auth_store_log.specs.Records.{format_of}
 use Rattle.auth_store_session.specs.Machine.{machine, Leaves}
 use Rattle.auth_store_session.specs.Standing.{power_of}
 use Rattle.auth_store_session.specs.Stores.{StoreState}
-use Rattle.auth_store_session.proofs.Steps.{prunes_in, same_grows}
-use Rattle.auth_store_session.proofs.Powers.{leaves_same, leaves_unpruned}
+use Rattle.auth_store_session.proofs.Steps.{prunes_in}
+use Rattle.auth_store_session.proofs.Powers.{leaves_same, leaves_unpruned, same_grows}
 use Rattle.auth_store_session.proofs.asking.prune.Goals as goal
 
 pub returns-in-Ok-clause-steps : goal.returns-in-Ok-clause-steps

@@ -80,7 +80,8 @@ returns-clause-history g c =
     ∙ (sym c.in_ok-log.ensures.bytes ∙ ap (log_bytes g.K.FixedSize.SIZE g.V.FixedSize.SIZE) whole) in
     let content : written crc32 (g.B.Blob.calls c.recover.new.blob) c.in_ok-writer.writer ≡ history_bytes format (history_of ops) =
     c.in_ok-writer.ensures.content ∙ bytes in
-    let log = ap (operations_in format) content ∙ log_again format (log_of (history_of ops)) (subst (AreRecorded format) whole c.in_ok-log.ensures.recorded) in
+    let log = ap (operations_in format) content
+    ∙ log_again format (log_of (history_of ops)) (subst (AreRecorded format) whole c.in_ok-log.ensures.recorded) in
     let same = ap history_of log ∙ history_of-log_of (history_of ops) c.in_ok-log.ensures.states in
     ap (history_bytes format) same ∙ (sym bytes ∙ c.in_ok-writer.ensures.bytes)
 

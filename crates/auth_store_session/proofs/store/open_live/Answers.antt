@@ -1,4 +1,4 @@
-use Rattle.std.proofs.Common.{◌+◌, Ok, None, Some, ap, sym, subst, arith}
+use Rattle.std.proofs.Common.{◌+◌, Ok, None, Some, inr, ap, sym, subst, arith}
 use Rattle.std.specs.Prelude.{IfErr}
 use Rattle.std.proofs.lemmas.Result.{err_from_is_err_and}
 use Rattle.paged_blob_parts.specs.Calls.{content}
@@ -9,7 +9,8 @@ use Rattle.auth_store_session.specs.Standing.{IsOpenError, power_of, shown_of}
 use Rattle.auth_store_device.specs.Devices.{calls_left}
 use Rattle.auth_store_session.specs.Refusals.{of_opening}
 use Rattle.auth_store_session.proofs.OnDevice.{device_refused, recovery_on_device, opened_uncut, shown_through}
-use Rattle.auth_store_session.proofs.Powers.{leaves_of, opening_left, raises_opening, raises_behind}
+use Rattle.auth_store_session.proofs.Opens.{opened_grows}
+use Rattle.auth_store_session.proofs.Powers.{leaves_behind, leaves_of, opening_left, opening_next, raises_opening, same_grows}
 use Rattle.auth_store_session.proofs.store.open_live.Goals as goal
 
 pub returns-in_err-count-clause-refused : goal.returns-in_err-count-clause-refused
@@ -52,11 +53,13 @@ returns-in_err-count-clause-leaves g c =
     let e = c.in_err-count.field-0.0 in
     let p = err_from_is_err_and c.from_residual.result c.from_residual.ensures.1 in
     let fewer = opening_left c.open.result old.left in
-    subst (λ r. Leaves 3 (refusal_of r) (power_of old names) (power_of new names)) (sym p.1)
-    (subst (λ (x : StoreError). Leaves 3 (Some x) (power_of old names) (power_of new names)) (sym p.2)
-    (leaves_of 3 (Some (of_opening e)) old new names names
-    (raises_opening e old new c.in_err-count.ensures.count c.in_err-count.ensures.refusals c.open.ensures.asked)
-    (omega (arith, ap calls_left c.open.ensures.left, fewer)) (omega arith, omega arith)))
+    subst (λ r. Leaves 1 (refusal_of r) (power_of old names) (power_of new names)) (sym p.1)
+    (subst (λ (x : StoreError). Leaves 1 (Some x) (power_of old names) (power_of new names)) (sym p.2)
+    (leaves_of 1 (Some (of_opening e)) old new names names
+    (raises_opening e old new c.in_err-count.ensures.count c.in_err-count.ensures.refusals c.open.ensures.asked
+    c.in_err-count.ensures.refused.2)
+    (omega (arith, ap calls_left c.open.ensures.left, fewer)) (omega arith, omega arith)
+    (same_grows old.calls new.calls c.in_err-count.ensures.refused.0)))
 
 pub returns-in_err-live-clause-leaves : goal.returns-in_err-live-clause-leaves
 returns-in_err-live-clause-leaves g c =
@@ -68,12 +71,15 @@ returns-in_err-live-clause-leaves g c =
     let e = c.in_err-live.field-0.0 in
     let p = err_from_is_err_and c.from_residual-in_err-live.result c.from_residual-in_err-live.ensures.1 in
     let fewer = opening_left c.open.result old.left in
-    subst (λ r. Leaves 3 (refusal_of r) (power_of old names) (power_of new now)) (sym p.1)
-    (subst (λ (x : StoreError). Leaves 3 (Some x) (power_of old names) (power_of new now)) (sym p.2)
-    (leaves_of 3 (Some e) old new names now
-    (raises_behind (Some e) old mid new c.in_ok-count.ensures.count c.in_ok-count.ensures.refusals c.in_ok-count.ensures.asked
-    c.in_err-live.ensures.raised)
-    (omega (arith, ap calls_left c.open.ensures.left, fewer, c.recover_live-recovered.ensures.left)) c.recover_live-recovered.ensures.names))
+    let format : Format = format_of (g.K.Read.after tt) (g.V.Read.after tt) g.K.FixedSize.SIZE g.V.FixedSize.SIZE in
+    let through = shown_through format (names.page_size + 12) old.calls mid.calls new.calls (shown_of old) c.in_ok-count.ensures.shows
+    c.in_ok-count.ensures.records c.recover_live-recovered.ensures.any_moment in
+    subst (λ r. Leaves 1 (refusal_of r) (power_of old names) (power_of new now)) (sym p.1)
+    (subst (λ (x : StoreError). Leaves 1 (Some x) (power_of old names) (power_of new now)) (sym p.2)
+    (leaves_behind (Some e) old mid new names now c.in_ok-count.ensures.count c.in_ok-count.ensures.refusals c.in_ok-count.ensures.asked
+    (opening_next g.R.Rng.stream old mid c.open.result c.open.ensures.draw) c.in_err-live.ensures.raised
+    (omega (arith, ap calls_left c.open.ensures.left, fewer, c.recover_live-recovered.ensures.left)) c.recover_live-recovered.ensures.names
+    (opened_grows format (names.page_size + 12) old.calls new.calls (shown_of old) (inr through))))
 
 pub returns-clause-leaves : goal.returns-clause-leaves
 returns-clause-leaves g c =
@@ -81,7 +87,12 @@ returns-clause-leaves g c =
     let mid = c.open.new.self in
     let new = c.recover_live-recovered.new.blob in
     let fewer = opening_left c.open.result old.left in
-    leaves_of 3 None old new c.args.cache.now c.recover_live-recovered.new.cache
-    (raises_behind None old mid new c.in_ok-count.ensures.count c.in_ok-count.ensures.refusals c.in_ok-count.ensures.asked
-    c.in_ok-live.ensures.raised)
+    let format : Format = format_of (g.K.Read.after tt) (g.V.Read.after tt) g.K.FixedSize.SIZE g.V.FixedSize.SIZE in
+    let size = c.args.cache.now.page_size + 12 in
+    let through = shown_through format size old.calls mid.calls new.calls (shown_of old) c.in_ok-count.ensures.shows
+    c.in_ok-count.ensures.records c.recover_live-recovered.ensures.any_moment in
+    leaves_behind None old mid new c.args.cache.now c.recover_live-recovered.new.cache c.in_ok-count.ensures.count
+    c.in_ok-count.ensures.refusals c.in_ok-count.ensures.asked (opening_next g.R.Rng.stream old mid c.open.result c.open.ensures.draw)
+    c.in_ok-live.ensures.raised
     (omega (arith, ap calls_left c.open.ensures.left, fewer, c.recover_live-recovered.ensures.left)) c.recover_live-recovered.ensures.names
+    (opened_grows format size old.calls new.calls (shown_of old) (inr through))

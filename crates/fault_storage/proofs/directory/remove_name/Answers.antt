@@ -4,4 +4,5 @@ use Rattle.fault_storage.specs.Directory.{has_name}
 use Rattle.fault_storage.proofs.directory.remove_name.Goals as goal
 
 pub returns-clause-files : goal.returns-clause-files
-returns-clause-files c = filter_same _ (λ it. not (has_name c.args.partition.now c.args.name.now it)) _ (λ x b g h. search rules) _ _ c.retain.ensures.filtered
+returns-clause-files c = filter_same _ (λ it. not (has_name c.args.partition.now c.args.name.now it)) _ (λ x b g h. search rules) _ _
+    c.retain.ensures.filtered

@@ -1,4 +1,5 @@
-use Rattle.std.proofs.Common.{◌≡◌, ◌∙◌, ◌<◌, ◌≤◌, ◌-◌, ◌≢◌, ◌^◌, ◌⊎◌, ℕ, inl, inr, Bool, false, List, length, take, drop, get_or, ap, sym, subst, arith, IsTrue}
+use Rattle.std.proofs.Common.{◌≡◌, ◌∙◌, ◌<◌, ◌≤◌, ◌-◌, ◌≢◌, ◌^◌, ◌⊎◌, ℕ}
+use Rattle.std.proofs.Common.{inl, inr, Bool, false, List, length, take, drop, get_or, ap, sym, subst, arith, IsTrue}
 use Rattle.std.proofs.lemmas.Bool.{false≢true, ltb-true, lt-ltb}
 use Rattle.std.proofs.lemmas.List.{take_rest}
 use Rattle.fault_storage_parts.specs.Headers.{front, version_in, IsTornCreation}
@@ -10,7 +11,8 @@ use Rattle.fault_storage_parts.proofs.header.is_torn_creation.Goals.{
 }
 
 -- the match that is found is that of the front that the bytes say
-found : (bytes front_bytes : List ℕ) (version k : ℕ) → version ≡ version_in bytes → front_bytes ≡ front version → (k ≤ length bytes) × (k ≤ 12)
+found : (bytes front_bytes : List ℕ) (version k : ℕ) → version ≡ version_in bytes → front_bytes ≡ front version
+    → (k ≤ length bytes) × (k ≤ 12)
     → ((i : ℕ) → i < k → get_or bytes i 0 ≡ get_or front_bytes i 0) → (k < length bytes → k < 12 → get_or bytes k 0 ≢ get_or front_bytes k 0)
     → Matches bytes (front (version_in bytes)) k
 found bytes front_bytes version k said is within same all =
@@ -51,7 +53,8 @@ pub returns-then-matching-lt12 : goal.returns-then-matching-lt12
 returns-then-matching-lt12 c =
     let m = found c.args.bytes.now c.checked_front.result c.version_said.result c.matching-matching.result c.version_said.ensures c.checked_front.ensures
     c.matching-matching.ensures.within c.matching-matching.ensures.same c.matching-matching.ensures.all in (
-      λ yes. torn c.args.bytes.now c.matching-matching.result c.version_said.result c.version_said.ensures (omega arith) (omega arith) c.if-matching-eq0.false m
+      λ yes.
+          torn c.args.bytes.now c.matching-matching.result c.version_said.result c.version_said.ensures (omega arith) (omega arith) c.if-matching-eq0.false m
           (c.are_zeros.ensures.0 c.if-not-are_zeros.false) (inl c.if-matching-lt12.true),
       λ t. lt-ltb c.matching-matching.result 12 c.if-matching-lt12.true,
     )
@@ -60,7 +63,8 @@ pub returns-else-matching-lt12 : goal.returns-else-matching-lt12
 returns-else-matching-lt12 c =
     let m = found c.args.bytes.now c.checked_front.result c.version_said.result c.matching-matching.result c.version_said.ensures c.checked_front.ensures
     c.matching-matching.ensures.within c.matching-matching.ensures.same c.matching-matching.ensures.all in (
-      λ yes. torn c.args.bytes.now c.matching-matching.result c.version_said.result c.version_said.ensures (omega arith) (omega arith) c.if-matching-eq0.false m
+      λ yes.
+          torn c.args.bytes.now c.matching-matching.result c.version_said.result c.version_said.ensures (omega arith) (omega arith) c.if-matching-eq0.false m
           (c.are_zeros.ensures.0 c.if-not-are_zeros.false) (inr (ltb-true (length c.args.bytes.now) 4096 yes)),
       λ t. lt-ltb (length c.args.bytes.now) 4096 (torn-short c.args.bytes.now t c.matching-matching.result (omega (arith, c.version_said.ensures)) m
           (omega arith)),

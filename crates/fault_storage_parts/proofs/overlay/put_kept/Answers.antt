@@ -47,7 +47,8 @@ one_more offset i bytes kept file next at there is =
     ∙ ap (λ ks. with_kept (offset + i) (get_or bytes i 0 ∷ drop (suc i) bytes) ks file) (drop-cons kept i false there)
     ∙ rw add-one refl in
     sym (heads ∙ step (offset + i) (get_or bytes i 0) (drop (i + 1) bytes) (get_or kept i false) (drop (i + 1) kept) file
-    ∙ ap (λ o. with_kept o (drop (i + 1) bytes) (drop (i + 1) kept) (cond (get_or kept i false) (with_bytes (offset + i) (get_or bytes i 0 ∷ []) file) file))
+    ∙ ap
+    (λ o. with_kept o (drop (i + 1) bytes) (drop (i + 1) kept) (cond (get_or kept i false) (with_bytes (offset + i) (get_or bytes i 0 ∷ []) file) file))
     (omega arith)
     ∙ ap (with_kept (offset + (i + 1)) (drop (i + 1) bytes) (drop (i + 1) kept)) (sym is))
 

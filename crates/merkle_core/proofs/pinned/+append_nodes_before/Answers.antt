@@ -34,7 +34,8 @@ returns-then-not-meets_range g t c node tree =
     let out : meets start stop (at, node) ≡ false = sym (c.meets_range.ensures node tree) ∙ c.if-not-meets_range.true in
     pushed_digest enc c.args.found.now.items c.push.new.self.items c.digest_before.result (digest at node) c.in_ok-push.ensures.items
     (c.digest_before.ensures node tree)
-    ∙ ap (λ ns. old ++ singly digest ns) (sym (one_before start stop at node (omega (arith, c.if-pins-subtree.false)) (omega (arith, c.requires.within)) out))
+    ∙ ap (λ ns. old ++ singly digest ns)
+    (sym (one_before start stop at node (omega (arith, c.if-pins-subtree.false)) (omega (arith, c.requires.within)) out))
 
 pub returns-then-subtree-eq0 : goal.returns-then-subtree-eq0
 returns-then-subtree-eq0 g t c node tree =

@@ -1,4 +1,5 @@
-use Rattle.std.proofs.Common.{◌≡◌, suc, ◌+◌, ◌-◌, true, false, List, [], ◌∷◌, ◌++◌, map, filter, take, replicate, sym, ◌∙◌, ap, arith}
+use Rattle.std.proofs.Common.{◌≡◌, suc, ◌+◌, ◌-◌, true, false, List, []}
+use Rattle.std.proofs.Common.{◌∷◌, ◌++◌, map, filter, take, replicate, sym, ◌∙◌, ap, arith}
 use Rattle.std.proofs.lemmas.Bool.{le-leb, lt-leb}
 use Rattle.merkle_forest.specs.Forest.{leaf_count, forest_of}
 use Rattle.merkle_forest.specs.Peaks.{located_from}

@@ -20,7 +20,8 @@ returns-in_err-own g t c =
     let enc = g.D.Write.encoding in
     let ps = located_from c.args.first (forest_of g.F.Family.merge_rule c.args.leaves) in
     ap (option_map enc) c.from_residual.ensures
-    ∙ sym (ap (λ ds. at_peak ps (map enc ds) c.args.position) (no_digest c.args.digests.now c.in_err-own.ensures.cases) ∙ no_digest_there ps c.args.position)
+    ∙ sym
+    (ap (λ ds. at_peak ps (map enc ds) c.args.position) (no_digest c.args.digests.now c.in_err-own.ensures.cases) ∙ no_digest_there ps c.args.position)
 
 pub returns-then-peak-position : goal.returns-then-peak-position
 returns-then-peak-position g t c =

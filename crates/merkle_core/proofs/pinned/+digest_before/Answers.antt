@@ -59,5 +59,6 @@ returns g t c (branch q left right) tree =
     subst (λ n. enc c.digest_before-left_digest.result ≡ digest n left) both.same (c.digest_before-left_digest.ensures left both.at_left) in
     let right_is : enc c.digest_before-right_digest.result ≡ digest (at + leaf_count left) right =
     subst (λ n. enc c.digest_before-right_digest.result ≡ digest n right) both.middle (c.digest_before-right_digest.ensures right both.at_right) in
-    c.digest_of_branch.ensures ∙ ap₂ (node_of p) left_is right_is ∙ ap (λ n. node_of n (digest at left) (digest (at + leaf_count left) right)) tree.subtree
+    c.digest_of_branch.ensures ∙ ap₂ (node_of p) left_is right_is
+    ∙ ap (λ n. node_of n (digest at left) (digest (at + leaf_count left) right)) tree.subtree
     ∙ sym (made_of_two node_of none known at p q left right tree.subtree is)

@@ -72,7 +72,8 @@ returns-then-not-begins_with g c =
     let backs = singly digest (filter (is_before start) (drop k peaks)) in
     let front_is : map enc c.append_peaks_before.new.found.items ≡ fronts =
     c.in_ok-append_peaks_before.ensures
-    ∙ ap (λ xs. map enc xs ++ singly digest (filter (is_before start) (take c.folded_singly-singles.result (located_from 0 forest)))) c.new-front.ensures.items
+    ∙ ap (λ xs. map enc xs ++ singly digest (filter (is_before start) (take c.folded_singly-singles.result (located_from 0 forest))))
+    c.new-front.ensures.items
     ∙ ap (λ ps. singly digest (filter (is_before start) ps)) first_part in
     let one_is : map enc c.append_folded_forward.new.found.items ≡ as_one (folded_forward hash) fronts =
     c.in_ok-append_folded_forward.ensures
@@ -118,7 +119,8 @@ returns g c =
     let backs = singly digest (filter (is_before start) (drop k peaks)) in
     let front_is : map enc c.append_peaks_before.new.found.items ≡ fronts =
     c.in_ok-append_peaks_before.ensures
-    ∙ ap (λ xs. map enc xs ++ singly digest (filter (is_before start) (take c.folded_singly-singles.result (located_from 0 forest)))) c.new-front.ensures.items
+    ∙ ap (λ xs. map enc xs ++ singly digest (filter (is_before start) (take c.folded_singly-singles.result (located_from 0 forest))))
+    c.new-front.ensures.items
     ∙ ap (λ ps. singly digest (filter (is_before start) ps)) first_part in
     let one_is : map enc c.append_folded_forward.new.found.items ≡ as_one (folded_forward hash) fronts =
     c.in_ok-append_folded_forward.ensures

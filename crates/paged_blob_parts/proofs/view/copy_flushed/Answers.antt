@@ -1,4 +1,5 @@
-use Rattle.std.proofs.Common.{rules, ◌≡◌, ◌≤◌, ◌<◌, ◌+◌, ◌-◌, ◌*◌, ◌/◌, ◌%◌, ℕ, length, take, drop, ap, sym, subst, refl, ◌∙◌, ⊎_elim, arith}
+use Rattle.std.proofs.Common.{rules, ◌≡◌, ◌≤◌, ◌<◌, ◌+◌, ◌-◌, ◌*◌, ◌/◌}
+use Rattle.std.proofs.Common.{◌%◌, ℕ, length, take, drop, ap, sym, subst, refl, ◌∙◌, ⊎_elim, arith}
 use Rattle.std.proofs.lemmas.List.{take_all, length-take-le, length-drop}
 use Rattle.paged_format.specs.Footers.{content_size}
 use Rattle.paged_blob_parts.specs.Caches.{Page}

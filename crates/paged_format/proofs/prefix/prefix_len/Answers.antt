@@ -5,7 +5,8 @@ use Rattle.paged_format.specs.Laws.Pages.{shown_within, length_recovered-whole, 
 use Rattle.paged_format.proofs.prefix.prefix_len.Goals as goal
 
 -- the first page that is left
-first : (sum : List ℕ → ℕ) (size : ℕ) (rest page : List ℕ) (shown : ℕ) → page ≡ take size rest → size ≤ length rest → shown ≡ shown_len sum (length page) page
+first : (sum : List ℕ → ℕ) (size : ℕ) (rest page : List ℕ) (shown : ℕ) → page ≡ take size rest → size ≤ length rest
+    → shown ≡ shown_len sum (length page) page
     → shown ≡ shown_len sum size (take size rest)
 first sum size rest page shown is long shows =
     let fits : length page ≡ size = ap length is ∙ length-take-le size rest long in

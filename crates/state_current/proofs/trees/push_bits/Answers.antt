@@ -1,4 +1,5 @@
-use Rattle.std.proofs.Common.{◌*◌, ◌^◌, ◌<◌, ◌++◌, ◌∷◌, [], false, length, get_or, take, append-nil, append_assoc, length-append, sym, ◌∙◌, ap, arith}
+use Rattle.std.proofs.Common.{◌*◌, ◌^◌, ◌<◌, ◌++◌, ◌∷◌, [], false, length}
+use Rattle.std.proofs.Common.{get_or, take, append-nil, append_assoc, length-append, sym, ◌∙◌, ap, arith}
 use Rattle.std.proofs.lemmas.List.{take_all, take_more, length-take}
 use Rattle.state_proofs_parts.specs.Bits.{Bits, bit_count}
 use Rattle.state_current.proofs.trees.push_bits.Goals as goal

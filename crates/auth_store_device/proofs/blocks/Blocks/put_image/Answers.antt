@@ -1,4 +1,5 @@
-use Rattle.std.proofs.Common.{rules, arith, ◌≡◌, ◌+◌, ◌*◌, ◌<◌, ◌∷◌, ◌++◌, List, ℕ, [], length, get_or, sym, subst, ap, ◌∙◌, append_assoc, length-append}
+use Rattle.std.proofs.Common.{rules, arith, ◌≡◌, ◌+◌, ◌*◌, ◌<◌, ◌∷◌, ◌++◌, List}
+use Rattle.std.proofs.Common.{ℕ, [], length, get_or, sym, subst, ap, ◌∙◌, append_assoc, length-append}
 use Rattle.std.proofs.lemmas.List.{get_or_append_left, get_or-append_right}
 use Rattle.std.proofs.lemmas.List.Elements.{All-push}
 use Rattle.auth_store_device.specs.declared.blocks.Part.{Part}

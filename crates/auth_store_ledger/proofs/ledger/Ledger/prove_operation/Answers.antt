@@ -1,4 +1,5 @@
-use Rattle.std.proofs.Common.{rules, ◌≡◌, ◌≤◌, ◌^◌, ◌*◌, ◌∙◌, ℕ, List, Option, None, Some, Err, length, slice_get, ap, sym, subst, arith}
+use Rattle.std.proofs.Common.{rules, ◌≡◌, ◌≤◌, ◌^◌, ◌*◌, ◌∙◌, ℕ}
+use Rattle.std.proofs.Common.{List, Option, None, Some, Err, length, slice_get, ap, sym, subst, arith}
 use Rattle.std.specs.Prelude.{IfSome}
 use Rattle.std.proofs.lemmas.Bool.{le-ltb}
 use Rattle.state_ops.specs.Operation.{Operation, meaning_of}

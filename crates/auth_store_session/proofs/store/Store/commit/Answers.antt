@@ -68,4 +68,4 @@ returns-clause-leaves g c =
     subst (λ (s : StoreState g.row.R.Denot). Leaves 0 refusal (power_of s.device s.cache) (power_of new now))
     c.self.view_is
     (leaves_named refusal c.self.inside.device new c.self.inside.cache now c.commit_live-answer.ensures.raised
-    c.commit_live-answer.ensures.left c.commit_live-answer.ensures.names)
+    c.commit_live-answer.ensures.left c.commit_live-answer.ensures.names c.commit_live-answer.ensures.grows)

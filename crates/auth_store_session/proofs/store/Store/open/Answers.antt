@@ -49,5 +49,5 @@ returns-in-Ok-clause-leaves g c = c.in-Ok.ensures.leaves
 
 pub returns-in-Err-clause-leaves : goal.returns-in-Err-clause-leaves
 returns-in-Err-clause-leaves g c =
-    subst (λ (d : DeviceState g.row.R.Denot). Leaves 3 (Some c.in-Err.error) (power_of c.args.device c.args.cache) (power_of d c.open_live.new.cache))
+    subst (λ (d : DeviceState g.row.R.Denot). Leaves 1 (Some c.in-Err.error) (power_of c.args.device c.args.cache) (power_of d c.open_live.new.cache))
     (sym c.close.ensures) c.in-Err.ensures.leaves

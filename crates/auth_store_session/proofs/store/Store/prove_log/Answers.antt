@@ -12,7 +12,7 @@ use Rattle.auth_store_session.specs.Standing.{power_of}
 use Rattle.auth_store_session.specs.Stores.{StoreState}
 use Rattle.auth_store_session.proofs.Lives.{answers_on_device, is_pruned, not_failed, stays_at}
 use Rattle.auth_store_session.proofs.OnDevice.{carried}
-use Rattle.auth_store_session.proofs.Powers.{leaves_failed, leaves_named}
+use Rattle.auth_store_session.proofs.Powers.{leaves_failed, leaves_named, same_grows}
 use Rattle.auth_store_client.specs.Claims.{Terms, terms}
 use Rattle.auth_store_ledger.specs.Proving.{IsAcceptedSlice, answer_of_slice}
 use Rattle.auth_store_ledger.specs.ProvingCode.{slice_answer_of}
@@ -53,7 +53,7 @@ returns-clause-leaves g c =
     let refusal = refusal_of c.prove_log_live-answer.result in
     subst (λ (s : StoreState g.row.R.Denot). Leaves 0 refusal (power_of s.device s.cache) (power_of new now)) c.self.view_is
     (leaves_named refusal old new c.self.inside.cache now c.prove_log_live-answer.ensures.reads.raised c.prove_log_live-answer.ensures.reads.left
-    (ap (λ (k : Cache). k.next_id) c.prove_log_live-answer.ensures.reads.cache))
+    (ap (λ (k : Cache). k.next_id) c.prove_log_live-answer.ensures.reads.cache) (same_grows old.calls new.calls c.prove_log_live-answer.ensures.reads.calls))
 
 pub returns-in_default-clause-leaves : goal.returns-in_default-clause-leaves
 returns-in_default-clause-leaves g c = leaves_failed Failed c.args.self.now.device c.args.self.now.cache refl

@@ -8,7 +8,8 @@ use Rattle.fault_storage.proofs.memory.files.settle_in.Goals as goal
 
 -- the file at the place, settled
 settling : (number : ℕ) (shown files next : List StoredFile) (place : ℕ) (stored : StoredFile) (file : File) (words after : Stream) → shown ≡ files
-    → IsPlace (has_number number) shown place → stored ≡ get_or files place stored → ◌≡◌ {A = File × Stream} (file, after) (settled stored.file words)
+    → IsPlace (has_number number) shown place → stored ≡ get_or files place stored
+    → ◌≡◌ {A = File × Stream} (file, after) (settled stored.file words)
     → ◌≡◌ {A = List StoredFile × Stream} (set files place (record stored { file = file }), after) (settled_in number files words)
 settling number shown files next place stored file words after same at is drawn =
     let there : IsPlace (has_number number) files place = subst (λ (l : List StoredFile). IsPlace (has_number number) l place) same at in

@@ -11,8 +11,10 @@ use Rattle.fault_storage_parts.proofs.blob_file.BlobFile.settle_next.Goals as go
 
 -- room for all of a log is room for what is left of it
 rest : (log left : List code.Mutation) (size more choice larger : ℕ) → left ≡ drop 1 log → size ≤ more → choice ≤ larger
-    → ((k : ℕ) (d : code.Mutation) → k < length log → HasRoomFor size (mutation_of (get_or log k d)) × (chosen_bytes (mutation_of (get_or log k d)) ≤ choice))
-    → (k : ℕ) (d : code.Mutation) → k < length left → HasRoomFor more (mutation_of (get_or left k d)) × (chosen_bytes (mutation_of (get_or left k d)) ≤ larger)
+    → ((k : ℕ) (d : code.Mutation) → k < length log
+    → HasRoomFor size (mutation_of (get_or log k d)) × (chosen_bytes (mutation_of (get_or log k d)) ≤ choice))
+    → (k : ℕ) (d : code.Mutation) → k < length left
+    → HasRoomFor more (mutation_of (get_or left k d)) × (chosen_bytes (mutation_of (get_or left k d)) ≤ larger)
 rest log left size more choice larger is grows widens room k d lt =
     let there : get_or left k d ≡ get_or log (1 + k) d = ap (λ l. get_or l k d) is ∙ get_or-drop 1 log k d in
     let at = room (1 + k) d (omega (arith, ap length is, length-drop 1 log, lt)) in
@@ -35,7 +37,8 @@ invariant_of-self g c =
 
 settling : (base next : List ℕ) (log left : List code.Mutation) (here : code.Mutation) (words after : Stream) (file : File)
     → record { base = base; log = log_of log } ≡ file → 0 < length log → here ≡ get_or log 0 here
-    → next ≡ applied (drawn_choice (mutation_of here) words).0 (mutation_of here) base → after ≡ (drawn_choice (mutation_of here) words).1 → left ≡ drop 1 log
+    → next ≡ applied (drawn_choice (mutation_of here) words).0 (mutation_of here) base
+    → after ≡ (drawn_choice (mutation_of here) words).1 → left ≡ drop 1 log
     → ◌≡◌ {A = File × Stream} (record { base = next; log = log_of left }, after) (settled file words)
 settling base next log left here words after file view some is applies draws leaves =
     ap (λ b. (record { base = b; log = log_of left }, after)) applies

@@ -1,4 +1,5 @@
-use Rattle.std.proofs.Common.{◌≡◌, ◌∙◌, take, ◌+◌, ◌^◌, ◌-◌, ◌<◌, ◌≤◌, ap, sym, bit_xor, drop, length, get_or, drop-cons, add-one, List, ℕ}
+use Rattle.std.proofs.Common.{◌≡◌, ◌∙◌, take, ◌+◌, ◌^◌, ◌-◌, ◌<◌}
+use Rattle.std.proofs.Common.{◌≤◌, ap, sym, bit_xor, drop, length, get_or, drop-cons, add-one, List, ℕ}
 use Rattle.std.proofs.lemmas.List.{drop_all, take-append-drop}
 use Rattle.fault_storage_parts.specs.Crc32.{after_bits, after_bytes}
 use Rattle.fault_storage_parts.proofs.Crc.{bytes-append}

@@ -23,7 +23,8 @@ returns-clause-singles g c =
     let total : c.peaks_from-peaks.result ≡ length (peaks_of rule c.args.proof.now.leaves) =
     c.peaks_from-peaks.ensures.count ∙ ap length (located_from-zero (forest_of rule c.as_u64-leaves.result))
     ∙ ap (λ n. length (peaks_of rule n)) c.as_u64-leaves.ensures in
-    c.folded_singly-singles.ensures ∙ ap (λ b. from_left b inactive c.peaks_from-peaks.result) c.root_bagging.ensures ∙ ap (from_left bagging inactive) total
+    c.folded_singly-singles.ensures ∙ ap (λ b. from_left b inactive c.peaks_from-peaks.result) c.root_bagging.ensures
+    ∙ ap (from_left bagging inactive) total
 
 pub folds_of-requires-clause-counted : goal.folds_of-requires-clause-counted
 folds_of-requires-clause-counted g c =

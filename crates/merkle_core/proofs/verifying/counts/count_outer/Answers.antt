@@ -18,7 +18,8 @@ returns g c =
     let forest = forest_of rule c.args.leaves in
     let all : located_from 0 forest ≡ peaks_of rule c.args.leaves = located_from-zero forest in
     let next = c.sides_of-one.result.next in
-    let later : located_from next forest ≡ drop c.args.inactive (peaks_of rule c.args.leaves) = c.sides_of-one.ensures.next ∙ ap (drop c.args.inactive) all in
+    let later : located_from next forest ≡ drop c.args.inactive (peaks_of rule c.args.leaves) = c.sides_of-one.ensures.next
+    ∙ ap (drop c.args.inactive) all in
     let taken : take c.args.peaks (located_from next forest) ≡ drop c.args.inactive (peaks_of rule c.args.leaves) =
     ap (take c.args.peaks) later ∙ all_taken c.args.peaks (drop c.args.inactive (peaks_of rule c.args.leaves))
     (omega (arith, c.requires.peaks, rest_fits c.args.inactive (peaks_of rule c.args.leaves))) in

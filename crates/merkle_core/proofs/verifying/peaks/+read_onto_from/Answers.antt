@@ -65,7 +65,8 @@ returns-then-singly-eq0 g t c made names last n over same by =
     ap (λ d. Some (d, rest)) c.fold.ensures
     ∙ sym (ap (λ ps. valued hash (read_onto names over elements start stop last c.args.singly n made ps streams)) parts
     ∙ ap (λ k. valued hash (read_onto names over elements start stop last k n made ((c.args.first, there.0) ∷ beyond) streams)) c.if-singly-eq0.true
-    ∙ onto_back hash names over elements start stop last n made (c.args.first, there.0) beyond streams rest (enc c.args.so_far) (enc c.in_ok-others.others) same
+    ∙ onto_back hash names over elements start stop last n made (c.args.first, there.0) beyond streams rest (enc c.args.so_far)
+    (enc c.in_ok-others.others) same
     (sym (c.in_ok-others.ensures (c.args.first, there.0) beyond names last n over parts by)))
 
 pub returns-in_err-own : goal.returns-in_err-own
@@ -111,7 +112,8 @@ returns g t c made names last n over same by =
     (sym (c.in_ok-own.ensures it.node over it.tree by)) in
     let next : Made = folded names 1 n made own.made in
     let next_is : value hash next ≡ enc c.fold-so_far.result =
-    fold_value hash names over elements start stop last 1 n made own.made (enc c.args.so_far) (enc c.in_ok-own.own) same own.same ∙ sym c.fold-so_far.ensures in
+    fold_value hash names over elements start stop last 1 n made own.made (enc c.args.so_far) (enc c.in_ok-own.own) same own.same
+    ∙ sym c.fold-so_far.ensures in
     c.read_onto_from.ensures next names last (suc n) over next_is by
     ∙ sym (ap (λ ps. valued hash (read_onto names over elements start stop last c.args.singly n made ps streams)) step
     ∙ ap (λ k. valued hash (read_onto names over elements start stop last k n made ((at.0.first, it.node) ∷ located_from at.1 forest) streams)) more

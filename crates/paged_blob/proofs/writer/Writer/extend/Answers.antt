@@ -1,4 +1,5 @@
-use Rattle.std.proofs.Common.{rules, arith, ◌≡◌, ◌≤◌, ◌+◌, ◌<◌, ◌^◌, ◌++◌, ℕ, List, length, take, drop, subst, sym, ap, ◌∙◌, refl}
+use Rattle.std.proofs.Common.{rules, arith, ◌≡◌, ◌≤◌, ◌+◌, ◌<◌, ◌^◌}
+use Rattle.std.proofs.Common.{◌++◌, ℕ, List, length, take, drop, subst, sym, ap, ◌∙◌, refl}
 use Rattle.std.proofs.lemmas.List.{append-nil, append_assoc, length-append, length-take-le, length-drop, take_all, drop-drop, take-append-drop}
 use Rattle.std.proofs.Math.Seq.{take-add}
 use Rattle.paged_format.specs.Tips.{Tip}
@@ -39,8 +40,10 @@ loop-rest-init g c =
     }
 
 -- what is left fits
-fits_left : (sum : List ℕ → ℕ) (old mid : List Call) (w v : WriterState) (bytes rest : List ℕ) (done : ℕ) → 12 < w.page_size → v.page_size ≡ w.page_size
-    → IsWriter sum old w → IsWriter sum mid v → written sum mid v ≡ written sum old w ++ take done bytes → done ≤ length bytes → rest ≡ drop done bytes
+fits_left : (sum : List ℕ → ℕ) (old mid : List Call) (w v : WriterState) (bytes rest : List ℕ) (done : ℕ) → 12 < w.page_size
+    → v.page_size ≡ w.page_size
+    → IsWriter sum old w → IsWriter sum mid v → written sum mid v ≡ written sum old w ++ take done bytes → done ≤ length bytes
+    → rest ≡ drop done bytes
     → physical_size w.page_size (w.tip.offset + length w.tip.bytes + length bytes) + 4096 < 2 ^ 64
     → physical_size v.page_size (v.tip.offset + length v.tip.bytes + length rest) + 4096 < 2 ^ 64
 fits_left sum old mid w v bytes rest done some same is_old is_mid so_far within left fits =

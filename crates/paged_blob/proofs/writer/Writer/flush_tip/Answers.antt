@@ -1,4 +1,5 @@
-use Rattle.std.proofs.Common.{rules, arith, ◌≡◌, ◌+◌, ◌*◌, ◌/◌, ◌<◌, ◌≤◌, ℕ, Bool, true, false, List, [], ◌∷◌, length, OnOk, subst, sym, ap, ⊎_elim}
+use Rattle.std.proofs.Common.{rules, arith, ◌≡◌, ◌+◌, ◌*◌, ◌/◌, ◌<◌, ◌≤◌, ℕ}
+use Rattle.std.proofs.Common.{Bool, true, false, List, [], ◌∷◌, length, OnOk, subst, sym, ap, ⊎_elim}
 use Rattle.std.proofs.lemmas.Bool.{cases_lt, both_ways}
 use Rattle.std.proofs.lemmas.List.{nil_from_length}
 use Rattle.paged_format.specs.Footers.{content_size}

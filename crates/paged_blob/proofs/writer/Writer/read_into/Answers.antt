@@ -28,7 +28,8 @@ returns-clause-bytes g c =
     let tip_is : c.as_bytes.result.now ≡ w.tip.bytes = search rules in
     let all = readable_of g.C.Checksum.checksum_of (g.B.Blob.calls c.args.blob.now) w c.flushed_pages-pages.result c.as_bytes.result.now
     c.flushed_pages-pages.ensures tip_is in
-    subst (λ (l : List ℕ). OnOk c.read_into.result (c.read_into.new.out ≡ take (length c.args.out.now) (drop c.args.offset l))) all c.read_into.ensures.bytes
+    subst (λ (l : List ℕ). OnOk c.read_into.result (c.read_into.new.out ≡ take (length c.args.out.now) (drop c.args.offset l))) all
+    c.read_into.ensures.bytes
 
 pub returns-clause-cached : goal.returns-clause-cached
 returns-clause-cached g c =

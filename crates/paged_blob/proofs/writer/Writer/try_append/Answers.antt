@@ -21,7 +21,8 @@ returns-clause-writer g c =
     let fits : physical_size w.page_size (w.tip.offset + length w.tip.bytes + length bytes) + 4096 < 2 ^ 64 = search rules in
     let all : take c.in_ok-append.field-0 bytes ≡ bytes = take_all c.in_ok-append.field-0 bytes (omega (arith, c.in_ok-append.ensures.count)) in
     let tip = c.append.new.self in
-    let tip_is : tip ≡ record w.tip { bytes = w.tip.bytes ++ bytes } = c.in_ok-append.ensures.ok ∙ ap (λ l. record w.tip { bytes = w.tip.bytes ++ l }) all in
+    let tip_is : tip ≡ record w.tip { bytes = w.tip.bytes ++ bytes } = c.in_ok-append.ensures.ok
+    ∙ ap (λ l. record w.tip { bytes = w.tip.bytes ++ l }) all in
     λ calls writer.
     let is : IsWriter sum calls w = subst (λ v. IsWriter sum calls v) (sym seen) writer in
     subst (λ (t : Tip). IsWriter sum calls (record w { tip = t })) (sym tip_is) (more_writer sum calls w some_room is bytes fits)
@@ -37,7 +38,8 @@ returns-clause-content g c =
     let fits : physical_size w.page_size (w.tip.offset + length w.tip.bytes + length bytes) + 4096 < 2 ^ 64 = search rules in
     let all : take c.in_ok-append.field-0 bytes ≡ bytes = take_all c.in_ok-append.field-0 bytes (omega (arith, c.in_ok-append.ensures.count)) in
     let tip = c.append.new.self in
-    let tip_is : tip ≡ record w.tip { bytes = w.tip.bytes ++ bytes } = c.in_ok-append.ensures.ok ∙ ap (λ l. record w.tip { bytes = w.tip.bytes ++ l }) all in
+    let tip_is : tip ≡ record w.tip { bytes = w.tip.bytes ++ bytes } = c.in_ok-append.ensures.ok
+    ∙ ap (λ l. record w.tip { bytes = w.tip.bytes ++ l }) all in
     λ calls writer.
     let is : IsWriter sum calls w = subst (λ v. IsWriter sum calls v) (sym seen) writer in
     ap (λ (t : Tip). written sum calls (record w { tip = t })) tip_is ∙ more_written sum calls w some_room is bytes fits
@@ -54,7 +56,8 @@ returns-clause-cached g c =
     let fits : physical_size w.page_size (w.tip.offset + length w.tip.bytes + length bytes) + 4096 < 2 ^ 64 = search rules in
     let all : take c.in_ok-append.field-0 bytes ≡ bytes = take_all c.in_ok-append.field-0 bytes (omega (arith, c.in_ok-append.ensures.count)) in
     let tip = c.append.new.self in
-    let tip_is : tip ≡ record w.tip { bytes = w.tip.bytes ++ bytes } = c.in_ok-append.ensures.ok ∙ ap (λ l. record w.tip { bytes = w.tip.bytes ++ l }) all in
+    let tip_is : tip ≡ record w.tip { bytes = w.tip.bytes ++ bytes } = c.in_ok-append.ensures.ok
+    ∙ ap (λ l. record w.tip { bytes = w.tip.bytes ++ l }) all in
     λ calls cache writer holds.
     let is : IsWriter sum calls w = subst (λ v. IsWriter sum calls v) (sym seen) writer in
     let before = subst (λ v. HoldsPagesOf (written sum calls v) cache v.blob_id) (sym seen) holds in
@@ -73,7 +76,8 @@ returns-clause-under_way g c =
     let fits : physical_size w.page_size (w.tip.offset + length w.tip.bytes + length bytes) + 4096 < 2 ^ 64 = search rules in
     let all : take c.in_ok-append.field-0 bytes ≡ bytes = take_all c.in_ok-append.field-0 bytes (omega (arith, c.in_ok-append.ensures.count)) in
     let tip = c.append.new.self in
-    let tip_is : tip ≡ record w.tip { bytes = w.tip.bytes ++ bytes } = c.in_ok-append.ensures.ok ∙ ap (λ l. record w.tip { bytes = w.tip.bytes ++ l }) all in
+    let tip_is : tip ≡ record w.tip { bytes = w.tip.bytes ++ bytes } = c.in_ok-append.ensures.ok
+    ∙ ap (λ l. record w.tip { bytes = w.tip.bytes ++ l }) all in
     λ calls started way.
     let is : IsUnderWay sum calls w started = subst (λ v. IsUnderWay sum calls v started) (sym seen) way in
     subst (λ (t : Tip). IsUnderWay sum calls (record w { tip = t }) started) (sym tip_is) (more_under_way sum calls w some_room started is bytes fits)
@@ -87,7 +91,8 @@ returns-clause-list g c =
     let seen : w ≡ c.args.self.now = c.self.view_is in
     let all : take c.in_ok-append.field-0 bytes ≡ bytes = take_all c.in_ok-append.field-0 bytes (omega (arith, c.in_ok-append.ensures.count)) in
     let tip = c.append.new.self in
-    let tip_is : tip ≡ record w.tip { bytes = w.tip.bytes ++ bytes } = c.in_ok-append.ensures.ok ∙ ap (λ l. record w.tip { bytes = w.tip.bytes ++ l }) all in
+    let tip_is : tip ≡ record w.tip { bytes = w.tip.bytes ++ bytes } = c.in_ok-append.ensures.ok
+    ∙ ap (λ l. record w.tip { bytes = w.tip.bytes ++ l }) all in
     λ calls.
     ap (λ (t : Tip). written sum calls (record w { tip = t })) tip_is ∙ more_list sum calls w bytes ∙ ap (λ v. written sum calls v ++ bytes) seen
 
@@ -100,7 +105,8 @@ returns-clause-pages g c =
     let seen : w ≡ c.args.self.now = c.self.view_is in
     let all : take c.in_ok-append.field-0 bytes ≡ bytes = take_all c.in_ok-append.field-0 bytes (omega (arith, c.in_ok-append.ensures.count)) in
     let tip = c.append.new.self in
-    let tip_is : tip ≡ record w.tip { bytes = w.tip.bytes ++ bytes } = c.in_ok-append.ensures.ok ∙ ap (λ l. record w.tip { bytes = w.tip.bytes ++ l }) all in
+    let tip_is : tip ≡ record w.tip { bytes = w.tip.bytes ++ bytes } = c.in_ok-append.ensures.ok
+    ∙ ap (λ l. record w.tip { bytes = w.tip.bytes ++ l }) all in
     λ calls cache holds.
     let before = subst (λ v. HoldsPagesOf (written sum calls v) cache v.blob_id) (sym seen) holds in
     subst (λ (t : Tip). HoldsPagesOf (written sum calls (record w { tip = t })) cache w.blob_id) (sym tip_is)

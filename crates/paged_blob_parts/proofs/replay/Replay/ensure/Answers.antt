@@ -58,7 +58,8 @@ loop-self-preserved g c =
     let P : List Call → Type 0 = λ l. ReadsOn (listed sum l s.sealed.pages s.sealed.tail.items) s.next
     (drop s.taken s.held.items) n.next (drop n.taken n.held.items) in
     let over : P old = subst P i.calls e.reads in
-    let Q : FlushedPages → List ℕ → ℕ → ℕ → Type 0 = λ p t a b. ReadsOn (listed sum old p t) s.next (drop a s.held.items) n.next (drop b n.held.items) in
+    let Q : FlushedPages → List ℕ → ℕ → ℕ
+    → Type 0 = λ p t a b. ReadsOn (listed sum old p t) s.next (drop a s.held.items) n.next (drop b n.held.items) in
     let one : Q pages s.sealed.tail.items s.taken n.taken = subst (λ (p : FlushedPages). Q p s.sealed.tail.items s.taken n.taken) i.pages over in
     let two : Q pages tail s.taken n.taken = subst (λ (t : List ℕ). Q pages t s.taken n.taken) i.tail one in
     let three : Q pages tail 0 n.taken = subst (λ (a : ℕ). Q pages tail a n.taken) i.taken two in

@@ -87,7 +87,8 @@ invariant_of-self-2 g c =
       floor = c.self.inside.floor;
     } in
     let at : c.new-2.result ≡ 8 * g.row.N * c.args.chunk =
-    c.new-2.ensures ∙ ap (λ k. c.args.chunk * k) (c.bits.ensures.bits ∙ ap (λ w. 8 * w) c.chunk_size-size.ensures) ∙ mul_comm c.args.chunk (8 * g.row.N) in
+    c.new-2.ensures ∙ ap (λ k. c.args.chunk * k) (c.bits.ensures.bits ∙ ap (λ w. 8 * w) c.chunk_size-size.ensures)
+    ∙ mul_comm c.args.chunk (8 * g.row.N) in
     let it : ArePruned rule g.row.N c.args.chunk before after = record {
       further = further;
       there = there;
@@ -122,7 +123,8 @@ returns-clause-stands g c height state stands =
       floor = c.self.inside.floor;
     } in
     let at : c.new-2.result ≡ 8 * g.row.N * c.args.chunk =
-    c.new-2.ensures ∙ ap (λ k. c.args.chunk * k) (c.bits.ensures.bits ∙ ap (λ w. 8 * w) c.chunk_size-size.ensures) ∙ mul_comm c.args.chunk (8 * g.row.N) in
+    c.new-2.ensures ∙ ap (λ k. c.args.chunk * k) (c.bits.ensures.bits ∙ ap (λ w. 8 * w) c.chunk_size-size.ensures)
+    ∙ mul_comm c.args.chunk (8 * g.row.N) in
     let it : ArePruned rule g.row.N c.args.chunk before after = record {
       further = further;
       there = there;
@@ -181,7 +183,8 @@ returns-in_err-prune-2-clause-refused g c =
     subst (λ n. IsSettled rule c.self.invariant.level n c.args.chunk) (sym leaves_now) (c.requires.settled c.self.invariant.level whole) in
     let there = settled_ends rule g.met.F.Family.merges_equals g.row.N c.self.invariant.level c.args.chunk c.self.inside.operations.leaves whole settled in
     let at : c.new-2.result ≡ 8 * g.row.N * c.args.chunk =
-    c.new-2.ensures ∙ ap (λ k. c.args.chunk * k) (c.bits.ensures.bits ∙ ap (λ w. 8 * w) c.chunk_size-size.ensures) ∙ mul_comm c.args.chunk (8 * g.row.N) in
+    c.new-2.ensures ∙ ap (λ k. c.args.chunk * k) (c.bits.ensures.bits ∙ ap (λ w. 8 * w) c.chunk_size-size.ensures)
+    ∙ mul_comm c.args.chunk (8 * g.row.N) in
     let p = err_from_is_err_and c.from_residual-in_err-prune-2.result c.from_residual-in_err-prune-2.ensures.1 in
     subst (λ r. IfErr r (λ e. e ≡ Memory)) (sym p.1)
     (p.2 ∙ prune_memory c.self.inside.operations.leaves c.new-2.result c.in_err-prune-2.field-0.0 (omega (arith, at, there))

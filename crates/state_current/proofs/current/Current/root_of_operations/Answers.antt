@@ -42,5 +42,6 @@ returns g c height state stands =
     (c.inactive_count-inactive.ensures
     ∙ ap (λ n. inactive_peaks c.self.inside.floor (located (forest_of g.F.Family.merge_rule n))) (c.as_u64-leaves.ensures ∙ c.leaves.ensures.leaves))
     (c.in-Ok.ensures.of_list leaf_digests here.operations
-    ∙ ap (λ b. list_root g.H.HashFunction.hash_of (plain_node g.H.HashFunction.hash_of) b g.F.Family.merge_rule leaf_digests c.inactive_count-inactive.result)
+    ∙ ap
+    (λ b. list_root g.H.HashFunction.hash_of (plain_node g.H.HashFunction.hash_of) b g.F.Family.merge_rule leaf_digests c.inactive_count-inactive.result)
     c.new-hasher.ensures)

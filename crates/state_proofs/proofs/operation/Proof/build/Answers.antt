@@ -30,7 +30,8 @@ returns-in-Err-clause-refused g c = λ height known whole answers.
     let index_is : c.index_of-index.result ≡ start / (8 * g.row.N) =
     c.index_of-index.ensures ∙ ap (λ n. n / (8 * c.of_bytes.result.width)) (c.as_u64.ensures ∙ c.location-loc.ensures)
     ∙ ap (λ w. start / (8 * w)) c.of_bytes.ensures in
-    let kept : start / (8 * g.row.N) < pruned → ⊥ = λ less. absurd (omega (arith, less, index_is, c.if-index-pruned_chunks.false, c.pruned_chunks.ensures)) in
+    let kept : start / (8 * g.row.N) < pruned
+    → ⊥ = λ less. absurd (omega (arith, less, index_is, c.if-index-pruned_chunks.false, c.pruned_chunks.ensures)) in
     operation_refusal measures (source_of c.args.plan bits pruned known) start c.in-Err.e kept
     (subst (λ (s : Asked). IsRefusalOfSource measures (source_of s bits pruned known) c.in-Err.e) c.from-range_plan.ensures
     (c.in-Err.ensures.refused height known whole answers))

@@ -21,7 +21,8 @@ returns-clause-honest g c = λ height state whole is floor root.
     let plan_is : c.in-Ok.plan ≡ span =
     c.in-Ok.ensures.plan ∙ ap (λ n. span_of n c.args.loc (c.args.loc + 1)) (c.new-leaves.ensures ∙ c.leaf_count.ensures.count) in
     subst (λ (s : Asked). IsSourceOf setting state (source_of s bits pruned known)
-    → IfOk c.build.result (λ proof. form_parts_of g.C.AsSlice.items g.D.Write.encoding g.F.PendingOf.held proof ≡ honest_parts setting state s.start)) plan_is
+    → IfOk c.build.result
+    (λ proof. form_parts_of g.C.AsSlice.items g.D.Write.encoding g.F.PendingOf.held proof ≡ honest_parts setting state s.start)) plan_is
     (λ it. c.build.ensures.honest height known state whole (search rules) it floor root) is
 
 pub returns-clause-refused : goal.returns-clause-refused

@@ -22,7 +22,8 @@ returns-clause-told g c = λ level digest whole shows.
     let height : level ≡ size.grafting_height =
     same_power level size.grafting_height (sym whole ∙ ap (λ n. 8 * n) (sym c.in-Some.ensures.some) ∙ size.whole) in
     let operations_is : map (λ e. e.now) c.deref-2.result.now ≡ operations =
-    ap (map (λ e. e.now)) c.deref-2.ensures.value ∙ c.in_ok-elements.ensures ∙ ap (map (λ e. e.items)) c.deref.ensures.value ∙ c.in_ok-encoded.ensures in
+    ap (map (λ e. e.now)) c.deref-2.ensures.value ∙ c.in_ok-elements.ensures ∙ ap (map (λ e. e.items)) c.deref.ensures.value
+    ∙ c.in_ok-encoded.ensures in
     let chunks_is : map (λ chunk. chunk.now) c.deref-3.result.now ≡ chunks =
     ap (map (λ chunk. chunk.now)) c.deref-3.ensures.value ∙ c.in_ok-shown_chunks.ensures in
     let same : shown_with c.as_u64.result (map (λ e. e.now) c.deref-2.result.now) (map (λ chunk. chunk.now) c.deref-3.result.now) size.width ≡ asked =

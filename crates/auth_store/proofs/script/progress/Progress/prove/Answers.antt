@@ -74,7 +74,8 @@ returns-in_ok-report_present-in-Value g c =
       found,
       root_is digest,
       ap (λ (a : Answer). exchange (ask_proof (of_key c.args.key.bytes)) a ∷ next) shown
-          ∙ ap (λ a. exchange (ask_proof (of_key c.args.key.bytes)) (proof (key_is found)) ∷ exchange ask_root (meaning_of bytes_of bytes_of value_of a) ∷ [])
+          ∙ ap (λ a.
+          exchange (ask_proof (of_key c.args.key.bytes)) (proof (key_is found)) ∷ exchange ask_root (meaning_of bytes_of bytes_of value_of a) ∷ [])
           c.in-Root.is,
       refl,
       ap (λ (n : ℕ). Some (reported (codes "present " ++ decimal n)))
@@ -105,7 +106,8 @@ returns-in_ok-report_absent-in-Absent g c =
       found,
       root_is digest,
       ap (λ (a : Answer). exchange (ask_proof (of_key c.args.key.bytes)) a ∷ next) shown
-          ∙ ap (λ a. exchange (ask_proof (of_key c.args.key.bytes)) (proof (key_is found)) ∷ exchange ask_root (meaning_of bytes_of bytes_of value_of a) ∷ [])
+          ∙ ap (λ a.
+          exchange (ask_proof (of_key c.args.key.bytes)) (proof (key_is found)) ∷ exchange ask_root (meaning_of bytes_of bytes_of value_of a) ∷ [])
           c.in-Root.is,
       refl,
       refl,

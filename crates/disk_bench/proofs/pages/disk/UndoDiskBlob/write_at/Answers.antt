@@ -22,7 +22,8 @@ returns-clause-calls c =
     let pushed : reverse c.push.new.self.items ≡ step ∷ steps = grind (arith, common_steps) in
     let calls : calls_from (reverse c.push.new.self.items) new ≡ wrote c.place_of-place.result bytes (is_sync c.args.mode) true ∷ calls_from steps file =
     ap (λ l. calls_from l new) pushed
-    ∙ write_read steps c.place_of-place.result (length bytes) c.len-size.result c.eq-is_sync.result (is_sync c.args.mode) c.in_ok-lost.lost.items bytes file new
+    ∙ write_read steps c.place_of-place.result (length bytes) c.len-size.result c.eq-is_sync.result (is_sync c.args.mode)
+    c.in_ok-lost.lost.items bytes file new
     sync refl size lost laid in
     calls ∙ ap (λ p. wrote p bytes (is_sync c.args.mode) true ∷ calls_from steps file) c.place_of-place.ensures.is
 
@@ -41,6 +42,7 @@ invariant_of-self-else-is_err c =
     let pushed : reverse c.push.new.self.items ≡ step ∷ steps = grind (arith, common_steps) in
     let calls : calls_from (reverse c.push.new.self.items) new ≡ wrote c.place_of-place.result bytes (is_sync c.args.mode) true ∷ calls_from steps file =
     ap (λ l. calls_from l new) pushed
-    ∙ write_read steps c.place_of-place.result (length bytes) c.len-size.result c.eq-is_sync.result (is_sync c.args.mode) c.in_ok-lost.lost.items bytes file new
+    ∙ write_read steps c.place_of-place.result (length bytes) c.len-size.result c.eq-is_sync.result (is_sync c.args.mode)
+    c.in_ok-lost.lost.items bytes file new
     sync refl size lost laid in
     record { live = laid ∙ ap (with_bytes c.place_of-place.result bytes) disk.live ∙ sym (ap content calls) }

@@ -6,10 +6,12 @@ use Rattle.fault_storage.specs.Directory.{placed, in_order, with_partition, has_
 use Rattle.fault_storage.proofs.memory.storage.Storage.place_file_unless.Goals as goal
 
 -- the file is placed
-placing : (partition name bytes : List ℕ) (old : Store) (partitions with : List (List ℕ)) (files had put : List StoredFile) (order : List ℕ) (next after : ℕ)
+placing : (partition name bytes : List ℕ) (old : Store) (partitions with : List (List ℕ)) (files had put : List StoredFile)
+    (order : List ℕ) (next after : ℕ)
     (noted : List ℕ × List ℕ) (file : File) → record { partitions = partitions; files = files; order = order; next = next } ≡ old → had ≡ files
     → noted ≡ (partition, name) → file ≡ settled_at bytes → with ≡ with_partition partition partitions
-    → put ≡ in_order (record { name = noted; number = next; file = file }) (filter (λ other. not (has_name partition name other)) had) → after ≡ next + 1
+    → put ≡ in_order (record { name = noted; number = next; file = file }) (filter (λ other. not (has_name partition name other)) had)
+    → after ≡ next + 1
     → record { partitions = with; files = put; order = order; next = after } ≡ placed partition name bytes old
 placing partition name bytes old partitions with files had put order next after noted file view same names settles notes puts takes =
     let left = λ (l : List StoredFile). filter (λ other. not (has_name partition name other)) l in
