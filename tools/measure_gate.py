@@ -3,16 +3,19 @@
 
     tools/measure_gate.py FOLDER [CORES]
 
-Clones the commit that is checked out into FOLDER, which must not be there, and runs `rt ci --anew` in it, which takes nothing of
-earlier runs, on the first CORES processors where that is said (`taskset`). The output goes to FOLDER.log. Prints a table in minutes of processor time: the proofs of each crate,
-its tests, its edits with their seed; what is left is layout, compilers and runs. The processor time of each process of the prover is
-read twice a second, so that a crate's figures lack at most a second each; the sum is that of all processes, as the system counts it.
+Clones the commit that is checked out into FOLDER, which must not be there, and runs `rt ci` in it, which is to take nothing of
+earlier runs (`--anew`, where the kit's rt knows the word; one that does not keeps nothing), on the first CORES processors
+where that is said (`taskset`). The output goes to FOLDER.log. Prints a table in minutes of processor time: the proofs of each
+crate, its tests, its edits with their seed; what is left is layout, compilers and runs. The processor time of each process of
+the prover is read twice a second, so that a crate's figures lack at most a second each; the sum is that of all processes, as
+the system counts it.
 """
 
 import collections
 import os
 import pathlib
 import resource
+import shutil
 import subprocess
 import sys
 import time
@@ -85,7 +88,7 @@ def main():
         sys.exit(__doc__.strip())
     folder = pathlib.Path(sys.argv[1]).resolve()
     subprocess.run(["git", "clone", "-q", ROOT, folder], check=True)
-    words = ["rt", "ci", "--anew"]
+    words = ["rt", "ci"] + ["--anew"] * ("--anew" in pathlib.Path(shutil.which("rt")).read_text(encoding="utf-8"))
     if len(sys.argv) == 3:
         words = ["taskset", "-c", ",".join(map(str, range(int(sys.argv[2])))), *words]
     start = time.time()

@@ -7,6 +7,7 @@ The words of a line are listed in the player's README.md. Everything is made ane
 by leaf, each digest recomputed from nothing, each proof taken apart node by node.
 """
 
+import copy
 from functools import partial
 
 import forest
@@ -94,9 +95,59 @@ class Case:
             chunk = number(*rest)
             need(bits.pruned <= chunk <= bits.full())
             bits.pruned = chunk
+        elif word in ("overlay", "stage"):
+            end, *rest = rest
+            need(end in ("apply", "cancel"))
+            changed = copy.deepcopy(bits)
+            told = (self.overlaid if word == "overlay" else self.staged)(changed, *rest)
+            if end == "apply":
+                self.bits = changed
+            return told
         else:
             return self.bits_told(word, *rest)
         return "ok"
+
+    def overlaid(self, after, *steps):
+        """What steps answer that change the bits: `before` is a copy of what they were."""
+        before, told = copy.deepcopy(after), []
+        for step in steps:
+            name, equals, word = step.partition("=")
+            if name == "push" and equals:
+                need(word in ("0", "1"))
+                after.known.append(word == "1")
+            elif name == "clear" and equals:
+                need(after.is_kept(number(word)))
+                after.set(number(word), False)
+            elif name == "reserve" and equals:
+                number(word)
+            elif equals:
+                told.append(self.overlay_at(after, name, number(word)))
+            else:
+                told.append(self.overlay_told(before, after, name))
+        return joined(told, " ")
+
+    def overlay_at(self, after, name, place):
+        need(name in ("get", "chunk", "read"))
+        need(after.is_kept(place if name == "get" else place * after.size))
+        return truth(after.at(place)) if name == "get" else after.chunk(place).hex()
+
+    def overlay_told(self, before, after, name):
+        there = [at for at in range(before.pruned * before.size, before.count())]
+        told = {
+            "len": after.count, "read_len": after.count, "added": lambda: after.count() - before.count(),
+            "cleared": lambda: sum(before.at(at) and not after.at(at) for at in there),
+            "pruned_bits": lambda: after.pruned * after.size, "pruned_chunks": lambda: after.pruned,
+        }
+        need(name in told)
+        return str(told[name]())
+
+    def staged(self, after, word, places):
+        before = copy.deepcopy(after)
+        after.known += [] if word == "none" else pattern(word)
+        for place in listed(places, number):
+            need(after.is_kept(place))
+            after.set(place, False)
+        return "%s %s" % (self.overlay_told(before, after, "added"), self.overlay_told(before, after, "cleared"))
 
     def bits_told(self, word, *rest):
         bits = self.bits

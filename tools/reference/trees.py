@@ -383,6 +383,8 @@ class Player:
             tree.apply(batch.made(tree))
         elif call == "apply":
             tree.apply(self.made[words[0]])
+        elif call == "wait":
+            return self.waited(name, *words)
         elif call == "prune":
             tree.prune(count(words[0]))
         elif call == "prune-all":
@@ -390,6 +392,17 @@ class Player:
         else:
             return self.asked(tree, call, words)
         return "ok"
+
+    def waited(self, name, made, end, *steps):
+        """What steps ask of a tree for which a batch waits, that is taken away; then it is applied, or the tree stays."""
+        if end not in ("apply", "cancel"):
+            raise BadLine
+        made, after = self.made.pop(made), self.trees[name].copy()
+        after.apply(made)
+        told = [self.asked(after, *((it, ()) if it in ("leaves", "boundary") else ("node", (it,)))) for it in steps]
+        if end == "apply":
+            self.trees[name] = after
+        return joined(told)
 
     def asked(self, nodes, call, words):
         if call == "leaves":

@@ -21,3 +21,4 @@ pub use paged_blob::{Blob, CacheRef, CallKind, WriteMode};
 pub use rand_pcg::Pcg32;
 pub use script::{ScriptEnd, new_device, run_script};
 pub use state_ops::{Operation, OrderedOperation, OrderedUpdate};
+pub use state_proofs::{BitOverlay, Prunable, stage_bits};

@@ -1,5 +1,5 @@
 -- What is kept of a log stays in step with it as it grows.
-use Rattle.std.proofs.Common.{◌≡◌, ℕ, ◌+◌, ◌*◌, ◌^◌, ◌<◌, ◌≤◌, Bool, false, Result, Ok, Err, IfOk, inl, inr, List, []}
+use Rattle.std.proofs.Common.{◌≡◌, ℕ, ◌+◌, ◌*◌, ◌^◌, ◌<◌, ◌≤◌, Bool, false, inl, inr, List, []}
 use Rattle.std.proofs.Common.{◌∷◌, ◌++◌, length, map, slice_set, refl, sym, ◌∙◌, ap, subst, arith, length-append}
 use Rattle.std.proofs.lemmas.Bool.{cases_lt}
 use Rattle.std.proofs.lemmas.List.{length-map, map-append}
@@ -55,12 +55,6 @@ places_within start first last end (place ∷ places) from to all =
     let low : first ≤ place = all.0.0 in
     let high : place < last = all.0.1 in
     ((omega (arith, from, low), omega (arith, to, high)), places_within start first last end places from to all.1)
-
--- what three clauses of an answer lead to
-pub all_ok : {A E : Type 0} (r : Result A E) (P Q R S : A → Type 0) → ((a : A) → P a → Q a → R a → S a) → IfOk r P → IfOk r Q → IfOk r R
-    → IfOk r S
-all_ok (Ok a) P Q R S leads p q r = leads a p q r
-all_ok (Err e) P Q R S leads p q r = tt
 
 -- of what stands for no operations nothing is pruned
 pub nothing_pruned : (setting : Setting) (kept : Kept) → StandsFor setting (record { operations = []; bits = []; floor = 0 }) kept

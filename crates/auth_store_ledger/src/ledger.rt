@@ -34,8 +34,8 @@ use auth_store_index::{ReadError, changes_near};
 use auth_store_log::PlacedLog;
 use auth_store_log::laws::a_log_has_floors_within;
 use auth_store_log::records::ends_batch;
-use commit::{Appended, Found, found_of, places_after};
-use kept::{encodings_of, grown_by, joined, kept_of_log};
+use commit::{Found, found_of, grow_or_back};
+use kept::{encodings_of, joined, kept_of_log};
 use merkle_forest::{Family, Graftable, HashFunction};
 use state_current::Current;
 use state_ops::{FixedKey, FixedValue, Operation, OrderedOperation};
@@ -176,37 +176,34 @@ impl<F: Graftable, H: HashFunction, K: FixedKey, V: FixedValue, const N: usize> 
         })
     }
 
-    // What is kept of the log with the changes that a batch makes in it and with its commit, and what the log grows by.
-    // It is refused where the log would pass 2^62 operations, or out of memory.
-    fn with_changes(
-        &self,
+    // Takes the changes that a batch makes in the log, with its commit, and answers the bytes that the log grows by. It
+    // is refused where the log would pass 2^62 operations, or out of memory; the ledger then stays as it was.
+    fn take_changes(
+        &mut self,
         changes: Vec<OrderedOperation<F, K, V>>,
         metadata: Option<V>,
-    ) -> Result<Appended<F, H, K, N>, LedgerError>
+    ) -> Result<Vec<u8>, LedgerError>
         requires changes { AreChanges (setting_of_width F.merge_rule H.hash_of N)
-            (format_of (K.after tt) (V.after tt) K.SIZE V.SIZE) self.now
+            (format_of (K.after tt) (V.after tt) K.SIZE V.SIZE) self.old
             (spec.meanings K.encoding V.encoding changes.items) }
         ensures ok { (log : List meaning.Operation) (said : List Word)
             → let setting = setting_of_width F.merge_rule H.hash_of N in
             let format = format_of (K.after tt) (V.after tt) K.SIZE V.SIZE in
             let next = commit_after said (option_map V.encoding metadata) (history_of log) in
-            IsLedgerOf setting format log self.now
+            IsLedgerOf setting format log self.old
             → spec.meanings K.encoding V.encoding changes.items ≡ changes_of said log
-            → IfOk result (λ appended. IsLedgerOf setting format (log_of next) (record {
-              places = appended.places;
-              commits = self.now.commits + 1;
-              kept = appended.current;
-            })) }
+            → OnOk result (IsLedgerOf setting format (log_of next) self.new) }
         ensures bytes { (log : List meaning.Operation) (said : List Word)
             → let next = commit_after said (option_map V.encoding metadata) (history_of log) in
             IsLedgerOf (setting_of_width F.merge_rule H.hash_of N)
-            (format_of (K.after tt) (V.after tt) K.SIZE V.SIZE) log self.now
+            (format_of (K.after tt) (V.after tt) K.SIZE V.SIZE) log self.old
             → spec.meanings K.encoding V.encoding changes.items ≡ changes_of said log
-            → IfOk result (λ appended. log_bytes K.SIZE V.SIZE (log_of next)
-            ≡ log_bytes K.SIZE V.SIZE log ++ appended.bytes.items) }
-        ensures pruned { IfOk result (λ appended. appended.current.bits.pruned ≡ self.now.kept.bits.pruned) }
+            → IfOk result (λ bytes. log_bytes K.SIZE V.SIZE (log_of next)
+            ≡ log_bytes K.SIZE V.SIZE log ++ bytes.items) }
+        ensures pruned { self.new.kept.bits.pruned ≡ self.old.kept.bits.pruned }
+        ensures err { OnErr result (self.new ≡ self.old) }
         ensures refused { IfErr result (λ e. (e ≡ LedgerError.Memory) ⊎ ((e ≡ LedgerError.NumberEnded)
-            × (2 ^ 62 ≤ self.now.kept.operations.leaves + length changes.items))) }
+            × (2 ^ 62 ≤ self.old.kept.operations.leaves + length changes.items))) }
     {
         let leaves = self.current.leaves().as_u64();
         if changes.len() as u64 >= MAX_OPERATIONS - leaves {
@@ -219,14 +216,20 @@ impl<F: Graftable, H: HashFunction, K: FixedKey, V: FixedValue, const N: usize> 
             floor,
         } = found_of(self.alloc, &self.places, &self.current, changes, metadata)?;
         let encodings = encodings_of(self.alloc, &operations)?;
-        let current = grown_by(&self.current, &encodings, &bits, &places, floor)?;
         let bytes = joined(self.alloc, &encodings)?;
-        let places = places_after(&self.places, leaves as usize, &operations)?;
-        Ok(Appended {
-            places,
-            current,
-            bytes,
-        })
+        let earlier = self.places.follow_updates(leaves as usize, &operations)?;
+        grow_or_back(
+            &mut self.places,
+            earlier,
+            &mut self.current,
+            &encodings,
+            &bits,
+            &places,
+            floor,
+        )?;
+        self.places.follow_deletes(&operations);
+        self.commits += 1;
+        Ok(bytes)
     }
 
     // What the batch changes in the log. It is refused out of memory, or as the log is.
@@ -250,41 +253,6 @@ impl<F: Graftable, H: HashFunction, K: FixedKey, V: FixedValue, const N: usize> 
         ensures refused { IfErr result (IfLog (L.leads log.old log.new) (L.refuses log.old log.new)) }
     {
         changes_near(self.alloc, log, &self.places, batch)
-    }
-
-    // What is kept of the log with the batch and its commit, and what the log grows by. It is refused as `commit` is.
-    fn next_commit<L: LoggedOperations<F, K, V>>(
-        &self,
-        log: &mut L,
-        batch: &Batch<K, V>,
-        metadata: Option<V>,
-    ) -> Result<Appended<F, H, K, N>, CommitError<L::Error>>
-        requires may { L.readable log.old }
-        requires of { IsLedgerOf (setting_of_width F.merge_rule H.hash_of N)
-            (format_of (K.after tt) (V.after tt) K.SIZE V.SIZE) (L.log log.old) self.now }
-        ensures ok { let said = words.meanings K.encoding V.encoding batch.now.words.items in
-            let next = commit_after said (option_map V.encoding metadata) (history_of (L.log log.old)) in
-            IfOk result (λ appended. IsLedgerOf (setting_of_width F.merge_rule H.hash_of N)
-            (format_of (K.after tt) (V.after tt) K.SIZE V.SIZE) (log_of next) (record {
-              places = appended.places;
-              commits = self.now.commits + 1;
-              kept = appended.current;
-            })) }
-        ensures bytes { let said = words.meanings K.encoding V.encoding batch.now.words.items in
-            let next = commit_after said (option_map V.encoding metadata) (history_of (L.log log.old)) in
-            IfOk result (λ appended. log_bytes K.SIZE V.SIZE (log_of next)
-            ≡ log_bytes K.SIZE V.SIZE (L.log log.old) ++ appended.bytes.items) }
-        ensures pruned { IfOk result (λ appended. appended.current.bits.pruned ≡ self.now.kept.bits.pruned) }
-        ensures same { L.log log.new ≡ L.log log.old }
-        ensures few { L.reads log.new ≤ L.reads log.old + 2 * length batch.now.words.items }
-        ensures leads { OnOk result (L.leads log.old log.new) }
-        ensures refused { let said = words.meanings K.encoding V.encoding batch.now.words.items in
-            let next = commit_after said (option_map V.encoding metadata) (history_of (L.log log.old)) in
-            IfErr result (IsUncommitted (length (log_of next)) (L.leads log.old log.new) (L.refuses log.old log.new)) }
-    {
-        let changes = self.changes_in(log, batch)?;
-        let appended = self.with_changes(changes, metadata)?;
-        Ok(appended)
     }
 
     /// Takes the batch with its commit behind the log, and answers the bytes that the log grows by. Values that the
@@ -316,14 +284,8 @@ impl<F: Graftable, H: HashFunction, K: FixedKey, V: FixedValue, const N: usize> 
             let next = commit_after said (option_map V.encoding metadata) (history_of (L.log log.old)) in
             IfErr result (IsUncommitted (length (log_of next)) (L.leads log.old log.new) (L.refuses log.old log.new)) }
     {
-        let Appended {
-            places,
-            current,
-            bytes,
-        } = self.next_commit(log, &batch, metadata)?;
-        self.places = places;
-        self.commits += 1;
-        self.current = current;
+        let changes = self.changes_in(log, &batch)?;
+        let bytes = self.take_changes(changes, metadata)?;
         Ok(bytes)
     }
 

@@ -1,4 +1,13 @@
 //! A log that is recovered of a blob.
+//!
+//! What is recovered of the blob ends where its pages do: between two batches, or in the midst of a batch or of an
+//! operation. It is cut behind its last commit, durably; where there is none, all of it is, and the log begins with the
+//! commit of the empty history:
+//!
+//! ```text
+//!     recovered    commit  update a  commit  update a  update c  comm
+//!     the log      commit  update a  commit
+//! ```
 
 ghost use Rattle.std.specs.Prelude.{◌≡◌, ◌+◌, ◌<◌, ◌≤◌, [], max, take, length, IsFalse, IfOk, IfErr, OnOk};
 ghost use Rattle.paged_format.specs.Footers.{IsPageSize};

@@ -6,10 +6,10 @@ use Rattle.std.specs.Prelude.{is_some, if◌then◌else◌, unwrap_or, MatchOpti
 use Rattle.std.specs.Ordering.{is_lt}
 use Rattle.state_ops.specs.declared.Operation as code
 use Rattle.state_ops.specs.Operation.{Operation, Code, meaning_of, delete, update, commit_floor, ordered}
-use Rattle.auth_store_parts.specs.Map.{Map, key_order, state_of, value_at, entry_of}
+use Rattle.auth_store_parts.specs.Map.{Map, key_order, value_at, entry_of}
 use Rattle.auth_store_parts.specs.History.{active_location, active_update, update_fields}
 use Rattle.auth_store_parts.specs.Places.{places_of}
-use Rattle.auth_store_parts.specs.Chains.{Pointer, first_of, behind, first_by, first_after, over_delete, over_update}
+use Rattle.auth_store_parts.specs.Chains.{Pointer, behind, first_by, first_after, over_delete, over_update}
 use Rattle.auth_store_parts.specs.Chains.{over_deletes, up_to_update, walk, deletes_in_front}
 use Rattle.auth_store_parts.specs.Laws.Places.{value_at-places_of, place_found}
 

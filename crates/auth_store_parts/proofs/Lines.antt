@@ -12,7 +12,6 @@ use Rattle.hex.proofs.HexLemmas.{decode_of-ok}
 use Rattle.merkle_forest_parts.specs.declared.codec.fixed_bytes.FixedBytes.{FixedBytes}
 use Rattle.auth_store_parts.specs.Script.{IsKey, IsNumber, decimal_value}
 use Rattle.auth_store_parts.specs.Line.{◌>>=◌, key_from, key_of, is_number, number_of, after, begins, device_line, proof_line}
-use Rattle.auth_store_parts.specs.declared.script.line.Line.{Line}
 use Rattle.auth_store_parts.specs.declared.script.line.Line.TheVariants.{CheckAbsent}
 
 otherwise : (b : Bool) → (b ≡ true → ⊥) → b ≡ false

@@ -1,6 +1,6 @@
 -- Operations that have their keys at their locations.
 use Rattle.std.proofs.Common.{◌≡◌, ℕ, zero, suc, ◌+◌, ◌<◌, take, drop, subst, List, [], ◌∷◌, map, length, Option}
-use Rattle.std.proofs.Common.{None, Some, option_map, slice_get, slice_index_or, refl, ap, sym, ◌∙◌, arith}
+use Rattle.std.proofs.Common.{Some, option_map, slice_get, slice_index_or, refl, ap, sym, ◌∙◌, arith}
 use Rattle.std.proofs.lemmas.List.{take-map}
 use Rattle.state_ops.specs.Operation.{Operation}
 use Rattle.auth_store_parts.specs.Ranked.{named, AreNamed}

@@ -3,6 +3,7 @@ pub mod Lookups
 pub mod Logs
 pub mod Actives
 pub mod Places
+pub mod Staged
 pub mod Floors
 pub mod Below
 pub mod Entries

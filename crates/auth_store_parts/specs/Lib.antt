@@ -2,6 +2,7 @@ pub mod Map
 pub mod Batch
 pub mod History
 pub mod Places
+pub mod Staged
 pub mod Ranked
 pub mod Fronts
 pub mod Chains

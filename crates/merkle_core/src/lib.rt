@@ -21,7 +21,7 @@ pub mod verifying;
 pub use building::{historical_range_proof, multi_proof, range_proof};
 pub use extraction::ExtractionError;
 pub use merkle_core_parts::batch::{MerkleizedBatch, UnmerkleizedBatch};
-pub use merkle_core_parts::{Config, Error, Mem, batch, error, mem};
+pub use merkle_core_parts::{Config, Error, Mem, Reserved, Unreserved, batch, error, mem};
 pub use merkle_forest::{Bagging, ByteHash, HashFunction, MAX_PINNED_NODES};
 pub use mmb::Mmb;
 pub use mmr::Mmr;

@@ -22,3 +22,4 @@ pub mod Rebuilt
 pub mod Replaced
 pub mod Sorted
 pub mod Updated
+pub mod Waiting

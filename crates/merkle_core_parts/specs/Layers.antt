@@ -2,13 +2,13 @@
 -- lead.
 use Rattle.std.specs.Prelude.{◌≡◌, ◌==◌, Bool, true, ℕ, ◌+◌, ◌-◌, ◌^◌, ◌<◌, ◌≤◌, ◌⊎◌, List, [], ◌∷◌, map, length}
 use Rattle.std.specs.Prelude.{slice_get, Option, Some, None}
-use Rattle.std.specs.Prelude.{nat_lt, if◌then◌else◌}
+use Rattle.std.specs.Prelude.{nat_lt, take, if◌then◌else◌}
 use Rattle.std.specs.Option.{option_or}
 use Rattle.merkle_forest.specs.Forest.{Tree, position, Rule, forest_of}
 use Rattle.merkle_forest.specs.Nodes.{IsNodeAt}
 use Rattle.merkle_core_parts.specs.Mem.{Base, Layer, Nodes, NodeHash, Replacement, AreNodesOf, tree_digest, node_count}
 use Rattle.merkle_core_parts.specs.Mem.{node_at}
-use Rattle.merkle_core_parts.specs.Mem.{with_layer, value_after}
+use Rattle.merkle_core_parts.specs.Mem.{AreKeptNodes, Growth, own_layer, with_layer, with_batch, value_after}
 
 -- the digest that replacements leave at an index, where one of them is at it
 abbrev pub replacement_at : List Replacement → ℕ → Option (List ℕ)
@@ -20,6 +20,12 @@ replacement_at (one ∷ more) index =
 abbrev pub layer_at : Rule → Layer → ℕ → Option (List ℕ)
 layer_at rule layer p =
     if nat_lt p (node_count rule layer.base.leaves) then replacement_at layer.changed p
+    else slice_get layer.digests (p - node_count rule layer.base.leaves)
+
+-- the digest of a new node of a layer at a position
+abbrev pub new_at : Rule → Layer → ℕ → Option (List ℕ)
+new_at rule layer p =
+    if nat_lt p (node_count rule layer.base.leaves) then None
     else slice_get layer.digests (p - node_count rule layer.base.leaves)
 
 -- the digest at a position, where layers stand over what is known without them: the newest layer that has one has it
@@ -107,3 +113,23 @@ AreLed node rule (layer ∷ below) (before ∷ earlier) list =
 abbrev pub IsOfOne : NodeHash → Rule → Nodes → List (List (List ℕ)) → Type 0
 IsOfOne node rule nodes [] = ⊥
 IsOfOne node rule nodes (list ∷ lists) = AreNodesOf node rule list nodes ⊎ IsOfOne node rule nodes lists
+
+-- a tree, and what it is once a batch that waits for it is applied, with those below it that the tree is without
+pub record Waiting : Type 0 where
+  pub before : Nodes
+  pub after : Nodes
+
+-- a tree for which a batch waits, that so many layers below it come before
+abbrev pub waiting_for : Rule → Nodes → ℕ → Growth → Waiting
+waiting_for rule nodes count batch = record {
+  before = nodes;
+  after = with_batch rule (with_layers rule nodes (take count batch.below)) batch;
+}
+
+-- what waits is shaped as it has to be: so many layers follow the tree, and then the batch
+pub record IsWaiting (rule : Rule) (nodes : Nodes) (count : ℕ) (batch : Growth) : Type 0 where
+  pub shape : AreKeptNodes rule nodes
+  pub whole : IsWhole rule (own_layer batch)
+  pub within : count ≤ length batch.below
+  pub stacked : AreStacked rule batch.base.leaves (take count batch.below)
+  pub follows : nodes.leaves ≡ oldest_leaves batch.base.leaves (take count batch.below)

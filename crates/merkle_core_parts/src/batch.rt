@@ -4,7 +4,7 @@
 //! as layers that they share (layer.rt), and so needs no copy of the tree.
 
 ghost use Rattle.std.specs.Prelude.{◌≡◌, ◌<◌, ◌≤◌, ◌+◌, ◌^◌, ◌++◌, ◌∷◌, [], ℕ, List, map, length};
-ghost use Rattle.std.specs.Prelude.{option_map, IfOk, IfErr, false};
+ghost use Rattle.std.specs.Prelude.{option_map, take, IfOk, IfErr, false};
 ghost use Rattle.std.specs.Prelude.{◌↔◌, IsOk, ◌||◌, OnOk, None, find, nat_le, nat_lt};
 ghost use Rattle.merkle_core_parts.specs.Errors.{IsRefusalOver, IsRefusalPast, IsRefusalOfMany, IsRefusalAt};
 ghost use Rattle.merkle_core_parts.specs.Errors.{first_refused, IsRefusalOfUpdates};
@@ -571,6 +571,14 @@ impl<F: Family, D: Digest> MerkleizedBatch<F, D> {
         ensures stacked { AreStacked F.merge_rule self.now.base.leaves (map (λ layer. layer.value) result.now) }
     {
         &self.below
+    }
+
+    // The newest of these layers, so many.
+    pub(crate) fn following(&self, count: usize) -> &[Rc<Layer<F, D>>]
+        requires { count ≤ length self.now.below }
+        ensures { map (λ layer. layer.value) result.now ≡ take count self.now.below }
+    {
+        &self.below[..count]
     }
 
     // Why the batch is not applied to a tree that is none of its bases: M14 where batches were given up and the tree

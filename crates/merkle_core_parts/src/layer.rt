@@ -10,9 +10,11 @@ ghost use Rattle.std.specs.Prelude.{OnOk, OnErr};
 ghost use Rattle.std.specs.Option.{option_or};
 ghost use Rattle.std.specs.Prelude.{vec_len, vec_capacity};
 ghost use Rattle.merkle_core_parts.specs.Layers.{replacement_at, layer_at, known_above, with_layers, oldest_leaves};
+ghost use Rattle.merkle_core_parts.specs.Layers.{new_at};
 ghost use Rattle.merkle_core_parts.specs.Layers.{AreStacked, IsWhole};
 ghost use Rattle.merkle_core_parts.specs.Laws.Replaced.{AreFrom};
 ghost use Rattle.merkle_core_parts.specs.Mem.{Base, Nodes, encoded, node_count, with_layer, replaced_from, replaced_at};
+ghost use Rattle.merkle_core_parts.specs.Mem.{AreKeptNodes, node_at, value_after};
 
 use crate::rebuild::{put_all, put_pinned};
 use merkle_forest::family::Family;
@@ -140,6 +142,28 @@ impl<F: Family, D: Digest> Layer<F, D> {
         &self.changed
     }
 
+    // The digest of a new node at a position.
+    fn new_node(&self, position: u64) -> Option<D>
+        ensures { option_map D.encoding result ≡ new_at F.merge_rule self.now position }
+    {
+        let first = F::location_to_position(Location::new(self.base_leaves)).as_u64();
+        if position < first {
+            return None;
+        }
+        self.digests.get((position - first) as usize).copied()
+    }
+
+    // The digest of the node at a position of a base with the new nodes, where the base has this one there.
+    fn there_or_new(&self, there: Option<D>, position: u64) -> Option<D>
+        ensures { option_map D.encoding result
+            ≡ option_or (option_map D.encoding there) (new_at F.merge_rule self.now position) }
+    {
+        match there {
+            Some(digest) => Some(digest),
+            None => self.new_node(position),
+        }
+    }
+
     // The digest that the layer has at a position: one that it changes, or a new one.
     pub(crate) fn node(&self, position: u64) -> Option<D>
         ensures { option_map D.encoding result ≡ layer_at F.merge_rule self.now position }
@@ -190,6 +214,50 @@ fn put_layer<F: Family, D: Digest>(
     put_pinned(pinned, layer.changed());
 }
 
+// Finds room for the nodes of layers after those of a tree that begin at a position, up to those of so many leaves. Out
+// of memory: nothing changes.
+pub(crate) fn reserve_room<F: Family, D: Digest>(
+    start: u64,
+    digests: &mut Vec<D>,
+    leaves: u64,
+) -> Result<(), AllocError>
+    requires few { leaves ≤ 2 ^ 62 }
+    requires within { start + length digests.old.items ≤ node_count F.merge_rule leaves }
+    ensures room { OnOk result (node_count F.merge_rule leaves ≤ start + vec_capacity digests.new) }
+    ensures unchanged { digests.new.items ≡ digests.old.items }
+{
+    let size = F::location_to_position(Location::new(leaves)).as_u64();
+    digests.reserve((size - start) as usize - digests.len())
+}
+
+// Puts the nodes of layers after those of a tree that begin at a position, the oldest first and the own one last, and
+// changes those that they change. There has to be room for them.
+pub(crate) fn put_reserved<F: Family, D: Digest>(
+    start: u64,
+    pinned: &mut Vec<(u64, D)>,
+    digests: &mut Vec<D>,
+    own: &Layer<F, D>,
+    following: &[Rc<Layer<F, D>>],
+)
+    requires whole { IsWhole F.merge_rule own.now }
+    requires stacked { AreStacked F.merge_rule own.now.base.leaves (map (λ layer. layer.value) following.now) }
+    requires counted { start + length digests.old.items ≡ node_count F.merge_rule
+        (oldest_leaves own.now.base.leaves (map (λ layer. layer.value) following.now)) }
+    requires room { node_count F.merge_rule own.now.leaves ≤ start + vec_capacity digests.old }
+    ensures applied { (nodes : Nodes) → start ≡ node_count F.merge_rule nodes.boundary
+        → encoded D.encoding pinned.old.items ≡ nodes.pinned → map D.encoding digests.old.items ≡ nodes.digests
+        → let after = with_layer F.merge_rule
+        (with_layers F.merge_rule nodes (map (λ layer. layer.value) following.now)) own.now in
+        (encoded D.encoding pinned.new.items ≡ after.pinned) × (map D.encoding digests.new.items ≡ after.digests) }
+{
+    let mut left = following.len();
+    while left > 0 {
+        left -= 1;
+        put_layer(start, pinned, digests, &following[left]);
+    }
+    put_layer(start, pinned, digests, own);
+}
+
 // Puts the nodes of layers after those of a tree that begin at a position, the oldest first and the own one last, and
 // changes those that they change. Out of memory: nothing changes.
 pub(crate) fn put_layers<F: Family, D: Digest>(
@@ -211,13 +279,49 @@ pub(crate) fn put_layers<F: Family, D: Digest>(
         (encoded D.encoding pinned.new.items ≡ after.pinned) × (map D.encoding digests.new.items ≡ after.digests)) }
     ensures unchanged { OnErr result ((pinned.new ≡ pinned.old) × (digests.new.items ≡ digests.old.items)) }
 {
-    let size = F::location_to_position(Location::new(own.leaves())).as_u64();
-    digests.reserve((size - start) as usize - digests.len())?;
-    let mut left = following.len();
-    while left > 0 {
-        left -= 1;
-        put_layer(start, pinned, digests, &following[left]);
-    }
-    put_layer(start, pinned, digests, own);
+    reserve_room::<F, D>(start, digests, own.leaves())?;
+    put_reserved(start, pinned, digests, own, following);
     Ok(())
+}
+
+// The digest of the node at a position of a tree with a layer, where the tree has this one there: the layer's where it
+// changes the node, and a new node where the tree has none.
+fn node_with<F: Family, D: Digest>(
+    layer: &Layer<F, D>,
+    there: Option<D>,
+    position: u64,
+) -> Option<D>
+    ensures { option_map D.encoding result ≡ option_map (value_after layer.now.changed position)
+        (option_or (option_map D.encoding there) (new_at F.merge_rule layer.now position)) }
+{
+    let digest = layer.there_or_new(there, position)?;
+    match replacement_of(&layer.changed, position) {
+        Some(changed) => Some(changed),
+        None => Some(digest),
+    }
+}
+
+// The digest of the node at a position of a tree with layers, the oldest of which comes first over it and the own one
+// last, where the tree has this one there.
+pub(crate) fn node_with_layers<F: Family, D: Digest>(
+    own: &Layer<F, D>,
+    following: &[Rc<Layer<F, D>>],
+    there: Option<D>,
+    position: u64,
+) -> Option<D>
+    requires whole { IsWhole F.merge_rule own.now }
+    requires stacked { AreStacked F.merge_rule own.now.base.leaves (map (λ layer. layer.value) following.now) }
+    ensures { (nodes : Nodes) → AreKeptNodes F.merge_rule nodes
+        → nodes.leaves ≡ oldest_leaves own.now.base.leaves (map (λ layer. layer.value) following.now)
+        → option_map D.encoding there ≡ node_at F.merge_rule nodes position
+        → option_map D.encoding result ≡ node_at F.merge_rule (with_layer F.merge_rule
+        (with_layers F.merge_rule nodes (map (λ layer. layer.value) following.now)) own.now) position }
+{
+    let mut found = there;
+    let mut newer = following.len();
+    while newer > 0 {
+        newer -= 1;
+        found = node_with(&following[newer], found, position);
+    }
+    node_with(own, found, position)
 }

@@ -14,4 +14,4 @@ pub mod peaks;
 pub mod rebuild;
 
 pub use error::Error;
-pub use mem::{Config, Mem};
+pub use mem::{Config, Mem, Reserved, Unreserved};

@@ -15,7 +15,7 @@ use crate::batch::{MerkleizedBatch, UnmerkleizedBatch};
 use crate::components::{leaves_of, placed_at_peaks};
 use crate::error::Error;
 use crate::growth::known_digest;
-use crate::layer::{Layer, put_layers};
+use crate::layer::{Layer, node_with_layers, put_layers, put_reserved, reserve_room};
 use crate::peaks::{count_peaks, have_all_peaks, peaks_of, pinned_of, root_of_tree};
 use merkle_forest::family::{MAX_LEAVES, MAX_PINNED_NODES};
 use merkle_forest::hasher::Hasher;
@@ -398,5 +398,164 @@ impl<F: Family, D: Digest> Mem<F, D> {
         )?;
         self.leaves = batch.leaves().as_u64();
         Ok(())
+    }
+
+    /// The tree with room for the batch, and for those below it that the tree is without: `Reserved::apply_batch` then
+    /// takes them in, and can no longer be refused. It is refused as `apply_batch` is: M14, M13, out of memory: M23;
+    /// the tree is then given back as it was, and the batch is given up (own).
+    pub fn reserve_for(
+        self,
+        batch: MerkleizedBatch<F, D>,
+    ) -> Result<Reserved<F, D>, Unreserved<F, D>>
+        ensures before { IfOk result (λ waiting. waiting.before ≡ self) }
+        ensures after { IfOk result (λ waiting. (count : ℕ)
+            × IsFirstAt (base_of F.merge_rule self) (bases batch.base batch.below) count
+            × (waiting.after ≡ with_batch F.merge_rule
+            (with_layers F.merge_rule self (take count batch.below)) batch)) }
+        ensures refused { IfErr result (λ back. IsRefusalOnto batch (base_of F.merge_rule self) back.error) }
+        ensures unchanged { IfErr result (λ back. back.tree ≡ self) }
+    {
+        let Some(count) = self.following(batch.layer(), batch.below()) else {
+            let error = batch.refusal(self.leaves);
+            return Err(Unreserved { tree: self, error });
+        };
+        let mut tree = self;
+        let leaves = batch.leaves().as_u64();
+        let Ok(()) = reserve_room::<F, D>(tree.start, &mut tree.digests, leaves) else {
+            return Err(Unreserved {
+                tree,
+                error: Error::Memory,
+            });
+        };
+        Ok(Reserved {
+            alloc: tree.alloc,
+            leaves: tree.leaves,
+            boundary: tree.boundary,
+            start: tree.start,
+            pinned: tree.pinned,
+            digests: tree.digests,
+            batch,
+            count,
+        })
+    }
+}
+
+/// A tree that found no room for a batch, or is none of its bases, and why (own).
+#[derive(Debug, Drop)]
+pub struct Unreserved<F: Family, D: Digest> {
+    /// The tree as it was.
+    pub tree: Mem<F, D>,
+    /// Why the batch is refused.
+    pub error: Error<F>,
+}
+
+/// A tree and a batch that waits to be applied to it, for which all room is found (own). Contracts see the tree as it
+/// is, and as it will be.
+#[derive(Debug, Drop)]
+pub struct Reserved<F: Family, D: Digest> {
+    alloc: Global,
+    leaves: u64,
+    boundary: u64,
+    start: u64,
+    pinned: Vec<(u64, D)>,
+    // With room for the nodes of the batch, and of those below it that the tree is without.
+    digests: Vec<D>,
+    batch: MerkleizedBatch<F, D>,
+    // How many of the layers below the batch the tree is without.
+    count: usize,
+}
+
+impl<F: Family, D: Digest> Model for Reserved<F, D> {
+    ghost use Rattle.std.specs.Prelude.{◌≡◌, ◌≤◌, ◌+◌, ◌^◌, map, length, vec_capacity};
+    ghost use Rattle.merkle_core_parts.specs.Layers.{Waiting, IsWaiting, waiting_for};
+    ghost use Rattle.merkle_core_parts.specs.Mem.{node_count, encoded};
+
+    ghost Value = { Waiting };
+
+    ghost view = { λ m. waiting_for F.merge_rule (record {
+      leaves = m.leaves;
+      boundary = m.boundary;
+      pinned = encoded D.encoding m.pinned.items;
+      digests = map D.encoding m.digests.items;
+    }) m.count m.batch };
+
+    ghost invariant = { λ m. (m.leaves ≤ 2 ^ 62) × (m.start ≡ node_count F.merge_rule m.boundary)
+        × IsWaiting F.merge_rule (record {
+          leaves = m.leaves;
+          boundary = m.boundary;
+          pinned = encoded D.encoding m.pinned.items;
+          digests = map D.encoding m.digests.items;
+        }) m.count m.batch
+        × (length m.pinned.items ≤ 62)
+        × (node_count F.merge_rule m.batch.leaves ≤ m.start + vec_capacity m.digests) };
+}
+
+impl<F: Family, D: Digest> Reserved<F, D> {
+    /// How many leaves the tree has once the batch is applied.
+    pub fn leaves(&self) -> Location<F>
+        ensures leaves { result ≡ self.now.after.leaves }
+        ensures few { result ≤ 2 ^ 62 }
+    {
+        self.batch.leaves()
+    }
+
+    /// The location before which leaves are pruned. The batch leaves it as it is.
+    pub fn pruning_boundary(&self) -> Location<F>
+        ensures boundary { result ≡ self.now.after.boundary }
+        ensures within { result ≤ self.now.after.leaves }
+        ensures shape { AreKeptNodes F.merge_rule self.now.after }
+    {
+        Location::new(self.boundary)
+    }
+
+    /// The digest that the node at a position has once the batch is applied. Where no node stands there then, or it is
+    /// pruned, it is None; a pinned one is there.
+    pub fn get_node(&self, position: Position<F>) -> Option<D>
+        ensures { option_map D.encoding result ≡ node_at F.merge_rule self.now.after position }
+    {
+        let place = position.as_u64();
+        let there = known_digest(&self.pinned, self.start, &self.digests, place);
+        let following = self.batch.following(self.count);
+        node_with_layers(self.batch.layer(), following, there, place)
+    }
+
+    /// The tree with the batch, and with those below it that it was without. It takes no memory.
+    pub fn apply_batch(self) -> Mem<F, D>
+        ensures { result ≡ self.after }
+    {
+        let mut pinned = self.pinned;
+        let mut digests = self.digests;
+        put_reserved(
+            self.start,
+            &mut pinned,
+            &mut digests,
+            self.batch.layer(),
+            self.batch.following(self.count),
+        );
+        Mem {
+            alloc: self.alloc,
+            leaves: self.batch.leaves().as_u64(),
+            boundary: self.boundary,
+            start: self.start,
+            pinned,
+            digests,
+            family: PhantomData,
+        }
+    }
+
+    /// The tree as it was, without the batch. It takes no memory.
+    pub fn cancel(self) -> Mem<F, D>
+        ensures { result ≡ self.before }
+    {
+        let waiting = self;
+        Mem {
+            alloc: waiting.alloc,
+            leaves: waiting.leaves,
+            boundary: waiting.boundary,
+            start: waiting.start,
+            pinned: waiting.pinned,
+            digests: waiting.digests,
+            family: PhantomData,
+        }
     }
 }

@@ -2,7 +2,14 @@
 //!
 //! A chunk of leaves is full when its last leaf is there, and graftable when the node over it is born. Where a family's
 //! nodes are born with their last leaf no full chunk is pending, and a proof has nothing to hold. Where they are born
-//! later, a proof holds the digest of the one that is pending, if any.
+//! later, a proof holds the digest of the one that is pending, if any. In chunks of eight leaves:
+//!
+//! ```text
+//!     leaves                  7    8    9   10   11   ..   16   17   18   19
+//!     full chunks             0    1    1    1    1         2    2    2    2
+//!     graftable, a range      0    1    1    1    1         2    2    2    2
+//!     graftable, a belt       0    0    0    0    1         1    1    1    2        one is pending in between
+//! ```
 
 ghost use Rattle.std.specs.Prelude.{◌≡◌, ◌<◌, ◌≤◌, ◌/◌, ◌^◌, ◌++◌, ◌↔◌, ℕ, List, [], length, Option, Some, None, Ok};
 ghost use Rattle.std.specs.Prelude.{IsSome, IfSome, option_map, refl, ⊤};

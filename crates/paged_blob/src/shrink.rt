@@ -1,4 +1,15 @@
 //! Cutting a blob of pages.
+//!
+//! The pages behind the new end are taken off first. Where the end is within a page, the slot that counts there hands
+//! over to the other by three writes, each durable before the next, so that at each moment one of both stands whole. A
+//! page of eight bytes that is cut to five:
+//!
+//! ```text
+//!     abcdefgh  | 8    -       the slot that counts says eight
+//!     abcdefgh  | 8    0       the other gets the checksum of five bytes, with a length that never verifies
+//!     abcdefgh  | 8    5       and its length: both verify, the greater counts
+//!     abcdefgh  | 0    5       the slot that counted is zeroed: five bytes are left
+//! ```
 
 ghost use Rattle.std.specs.Prelude.{◌≡◌, ◌+◌, ◌*◌, ◌<◌, ◌≤◌, ◌^◌, ◌↔◌, [], ℕ, length, take, IsTrue, IsFalse};
 ghost use Rattle.std.specs.Prelude.{◌⊎◌, min, OnOk, IfOk, IfErr};

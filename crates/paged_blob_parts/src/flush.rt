@@ -1,4 +1,14 @@
 //! What a writer puts on the disk: pages of content with their footers.
+//!
+//! A page in which a completed sync ended has a slot that is durable. A flush over it writes each byte that this slot
+//! vouches for, and the slot, as they stand there, and says the new length in the other slot: so whatever a crash tears
+//! of the write, the durable slot stands whole. Of pages of eight bytes, with `*` at the slot that stays:
+//!
+//! ```text
+//!     durable      abcde...  | 5*   -
+//!     appended          fghij
+//!     flushed      abcdefgh  | 5*   8      ij......  | 2    -       the next page keeps no slot
+//! ```
 
 ghost use Rattle.std.specs.Prelude.{◌≡◌, ◌+◌, ◌-◌, ◌*◌, ◌<◌, ◌≤◌, ◌^◌, ◌++◌, false, length, IfOk, OnOk, IfErr};
 ghost use Rattle.paged_format.specs.Footers.{IsPageSize, content_size, footer_bytes};

@@ -1,16 +1,18 @@
-//! Lists of bits in chunks, of which chunks are pruned from the front: `bits NEW | CHANGE | QUESTION`.
+//! Lists of bits in chunks, of which chunks are pruned from the front: `bits NEW | CHANGE | QUESTION`, and changes that
+//! are laid over one (`overlays`).
 
 ghost use Rattle.state_proofs_parts.specs.Bits.{IsChunkWidth};
 
 use crate::arguments::{
     Answer, Line, array_digits, bit, bit_told, bits, chunk_told, done, done_if, number, truth,
 };
+use crate::overlays::{overlay, stage};
 use case_lines::{Unanswered, bytes, digits};
 use state_proofs::Prunable;
 use std::alloc::Global;
 
-// The most bits that a case may have, and the most that a line may add.
-const MOST: u64 = 1 << 40;
+/// The most bits that a case may have, and the most that a line may add.
+pub(crate) const MOST: u64 = 1 << 40;
 
 /// A list of bits, in chunks of one of these sizes.
 #[derive(Drop)]
@@ -77,6 +79,17 @@ impl Bits {
 }
 
 fn of_list<const N: usize>(alloc: Global, list: &mut Prunable<N>, words: &[&str]) -> Answer
+    requires { IsChunkWidth N }
+{
+    match words {
+        ["overlay", end, steps @ ..] => overlay(alloc, list, end, steps),
+        ["stage", end, more, places] => stage(alloc, list, end, more, places),
+        words => of_call(alloc, list, words),
+    }
+}
+
+// A call of the list itself.
+fn of_call<const N: usize>(alloc: Global, list: &mut Prunable<N>, words: &[&str]) -> Answer
     requires { IsChunkWidth N }
 {
     match words {

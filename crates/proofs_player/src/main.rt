@@ -12,6 +12,7 @@ mod log_proofs;
 mod map_proofs;
 mod map_told;
 mod maps;
+mod overlays;
 mod reading;
 mod refusals;
 mod state;

@@ -4,9 +4,9 @@ use Rattle.std.proofs.Common.{◌^◌, ◌<◌, ◌≤◌, Bool, true, false, eq
 use Rattle.std.proofs.Common.{List, [], ◌∷◌, ◌++◌, length, drop, Some, refl, sym, ◌∙◌, ap, ap₂, subst, arith}
 use Rattle.std.proofs.Common.{length-append}
 use Rattle.std.specs.List.{AllByRecursion}
-use Rattle.std.specs.Prelude.{◌||◌, nat_lt, replicate, slice_set, unwrap_or}
+use Rattle.std.specs.Prelude.{◌||◌, nat_lt, slice_set, unwrap_or}
 use Rattle.std.proofs.lemmas.Bool.{cases_lt, cond-true, cond-false, eq-eqb, lt-ltb, le-ltb}
-use Rattle.std.proofs.lemmas.List.{length-replicate, set-append_right, length-set}
+use Rattle.std.proofs.lemmas.List.{length-set}
 use Rattle.std.proofs.lemmas.Nat.{pow_pos, le-div, mul-le}
 use Rattle.std.proofs.Math.Nat.{mul_comm}
 use Rattle.merkle_forest.specs.Forest.{position, height, Rule, forest_of}
@@ -34,19 +34,9 @@ use Rattle.state_current.proofs.ReadLemmas.{after_boundary}
 use Rattle.state_current.proofs.TreeLemmas.{length-leaves_from, get-leaves_from}
 
 -- ---- bits that are cleared
-pub cleared_more : (bits : List Bool) (places : List ℕ) (at : ℕ) → cleared bits (places ++ at ∷ []) ≡ slice_set (cleared bits places) at false
-cleared_more bits [] at = refl
-cleared_more bits (p ∷ places) at = cleared_more (slice_set bits p false) places at
-
 pub length-cleared : (bits : List Bool) (places : List ℕ) → length (cleared bits places) ≡ length bits
 length-cleared bits [] = refl
 length-cleared bits (p ∷ places) = length-cleared (slice_set bits p false) places ∙ length-set bits p false
-
-pub all_set : (width : ℕ) (old new : Bits) (at : ℕ) → 8 * width * old.pruned ≤ at
-    → new ≡ record old { kept = slice_set old.kept (at - 8 * width * old.pruned) false } → all_bits width new ≡ slice_set (all_bits width old) at false
-all_set width old new at le is =
-    let size : ℕ = 8 * width * old.pruned in
-    ap (all_bits width) is ∙ sym (set-append_right (replicate size false) old.kept size at false (length-replicate size false) le)
 
 -- ---- so many chunks have their node, and more as there are more operations
 -- they are no more than the operations
@@ -297,6 +287,16 @@ module _ (rule : Rule) (facts : IsGraftable rule) (width level : ℕ) (whole : 8
   grow_old m places there =
       places_ready rule facts width level whole low tree bits tree.leaves m before.chunks.leaves places refl it.few it.counted boundary_is grow_more
       (subst (λ p. AllByRecursion (λ at. (8 * width * p ≤ at) × (at < m)) places) (sym it.pruned) there)
+
+-- what is kept is told by its parts
+abbrev pub kept_of : Nodes → Nodes → Bits → ℕ → Kept
+kept_of operations chunks bits floor = record { operations = operations; chunks = chunks; bits = bits; floor = floor }
+
+pub same_kept : (operations operations_are chunks chunks_are : Nodes) (bits bits_are : Bits) (floor : ℕ) → operations ≡ operations_are
+    → chunks ≡ chunks_are → bits ≡ bits_are → kept_of operations chunks bits floor ≡ kept_of operations_are chunks_are bits_are floor
+same_kept operations operations_are chunks chunks_are bits bits_are floor same_operations same_chunks same_bits =
+    ap (λ o. kept_of o chunks bits floor) same_operations ∙ ap (λ c. kept_of operations_are c bits floor) same_chunks
+    ∙ ap (λ b. kept_of operations_are chunks_are b floor) same_bits
 
 -- the leaves that the code makes
 abbrev pub leaf_of : Setting → (ℕ → ℕ → ℕ) → Nodes → Bits → ℕ → List ℕ

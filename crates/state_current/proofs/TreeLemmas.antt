@@ -134,17 +134,17 @@ pub replaced_none : (xs : List (List ℕ)) → replaced xs [] ≡ xs
 replaced_none xs = refl
 
 -- ---- what an answer that is there says
-pub ok_leaves : {E : Type 0} (r : Result Nodes E) (before more count : ℕ) → more ≡ count
-    → IfOk r (λ after. after.leaves ≡ before + more) → IfOk r (λ after. after.leaves ≡ before + count)
-ok_leaves (Ok after) before more count same is = is ∙ ap (λ k. before + k) same
-ok_leaves (Err e) before more count same is = tt
+pub ok_leaves : {A E : Type 0} (leaves : A → ℕ) (r : Result A E) (before more count : ℕ) → more ≡ count
+    → IfOk r (λ made. leaves made ≡ before + more) → IfOk r (λ made. leaves made ≡ before + count)
+ok_leaves leaves (Ok made) before more count same is = is ∙ ap (λ k. before + k) same
+ok_leaves leaves (Err e) before more count same is = tt
 
-pub ok_nodes : {E : Type 0} (r : Result Nodes E) (node : NodeHash) (rule : Rule) (one other : List (List ℕ)) → one ≡ other
-    → IfOk r (λ after. AreNodesOf node rule one after) → IfOk r (λ after. AreNodesOf node rule other after)
-ok_nodes (Ok after) node rule one other same is = subst (λ ds. AreNodesOf node rule ds after) same is
-ok_nodes (Err e) node rule one other same is = tt
+pub ok_nodes : {A E : Type 0} (nodes : A → Nodes) (r : Result A E) (node : NodeHash) (rule : Rule) (one other : List (List ℕ)) → one ≡ other
+    → IfOk r (λ made. AreNodesOf node rule one (nodes made)) → IfOk r (λ made. AreNodesOf node rule other (nodes made))
+ok_nodes nodes (Ok made) node rule one other same is = subst (λ ds. AreNodesOf node rule ds (nodes made)) same is
+ok_nodes nodes (Err e) node rule one other same is = tt
 
-pub ok_count : {E : Type 0} (r : Result Nodes E) (one other : ℕ) → one ≡ other → IfOk r (λ after. after.leaves ≡ one)
-    → IfOk r (λ after. after.leaves ≡ other)
-ok_count (Ok after) one other same is = is ∙ same
-ok_count (Err e) one other same is = tt
+pub ok_count : {A E : Type 0} (leaves : A → ℕ) (r : Result A E) (one other : ℕ) → one ≡ other → IfOk r (λ made. leaves made ≡ one)
+    → IfOk r (λ made. leaves made ≡ other)
+ok_count leaves (Ok made) one other same is = is ∙ same
+ok_count leaves (Err e) one other same is = tt

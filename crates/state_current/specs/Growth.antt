@@ -1,18 +1,14 @@
 -- A state that grows: what a batch changes of it, and what its chunks' leaves are brought to.
-use Rattle.std.specs.Prelude.{◌≡◌, ◌==◌, ℕ, ◌+◌, ◌*◌, ◌/◌, ◌^◌, ◌<◌, Bool, true, false, List, [], ◌∷◌, ◌++◌, length}
-use Rattle.std.specs.Prelude.{Some, slice_get, slice_set}
+use Rattle.std.specs.Prelude.{◌≡◌, ◌==◌, ℕ, ◌+◌, ◌*◌, ◌/◌, ◌^◌, ◌<◌, Bool, true, List, ◌++◌, length}
+use Rattle.std.specs.Prelude.{Some, slice_get}
 use Rattle.std.specs.List.{AllByRecursion, list_any}
 use Rattle.merkle_forest.specs.Forest.{Tree, height}
 use Rattle.merkle_forest.specs.Nodes.{IsNodeAt, nodes_of_height}
 use Rattle.merkle_forest.specs.Trees.{plain_digest}
 use Rattle.merkle_core_parts.specs.Mem.{Replacement}
+pub use Rattle.state_proofs_parts.specs.Bits.{cleared}
 use Rattle.state_proofs_parts.specs.Canonical.{Setting, State, chunk, forest}
 use Rattle.state_proofs_parts.specs.Grafting.{grafted}
-
--- bits after those at these places are cleared, one after the other
-abbrev pub cleared : List Bool → List ℕ → List Bool
-cleared bits [] = bits
-cleared bits (at ∷ more) = cleared (slice_set bits at false) more
 
 -- what is added to a state: operations, and a bit for each; the places whose bits are cleared then; and the new floor
 pub record Change : Type 0 where

@@ -1,49 +1,59 @@
 //! Trees that are brought to a state that has grown.
 
 ghost use Rattle.std.specs.Prelude.{◌≡◌, ◌<◌, ◌≤◌, ◌+◌, ◌-◌, ◌*◌, ◌/◌, ◌^◌, ◌++◌, [], ℕ, List, map, length, IfOk};
-ghost use Rattle.std.specs.Prelude.{IfErr, OnOk};
+ghost use Rattle.std.specs.Prelude.{IfErr};
 ghost use Rattle.merkle_forest.specs.Forest.{forest_of};
 ghost use Rattle.merkle_forest.specs.Nodes.{nodes_of_height};
 ghost use Rattle.state_proofs_parts.specs.GraftedNodes.{chunks_node};
-ghost use Rattle.state_current.specs.Growth.{cleared};
-ghost use Rattle.state_proofs_parts.specs.Bits.{all_bits};
 ghost use Rattle.std.specs.List.{AllByRecursion};
 ghost use Rattle.merkle_core_parts.specs.Mem.{AreNodesOf, base_of, plain_leaf_digests, plain_node, replaced};
-ghost use Rattle.merkle_core_parts.specs.Mem.{with_leaves};
-ghost use Rattle.state_proofs_parts.specs.Bits.{IsChunkWidth, bit_count};
+ghost use Rattle.merkle_core_parts.specs.Mem.{with_batch, with_leaves};
+ghost use Rattle.state_proofs_parts.specs.Bits.{IsChunkWidth};
 ghost use Rattle.state_current.specs.ChunkLeaves.{IsReady, chunk_leaf, leaves_from, leaves_over};
 
-use merkle_core::Mem;
-use merkle_core::batch::UnmerkleizedBatch;
+use merkle_core::batch::{MerkleizedBatch, UnmerkleizedBatch};
 use merkle_core::error::Error;
+use merkle_core::{Mem, Reserved, Unreserved};
 use merkle_forest::hasher::{HashFunction, Hasher, Standard};
 use merkle_forest::{Bagging, Digest, Family, Graftable, Location, Position};
 use state_proofs::grafting::hasher::GraftedHasher;
 use state_proofs::grafting::{graft, graftable_chunks};
-use state_proofs::{ChunkSize, Prunable};
-use std::alloc::AllocError;
+use state_proofs::{BitOverlay, ChunkSize, Prunable};
 
-// A copy of the tree to which the batch is applied.
-pub(crate) fn applied_to_copy<F: Family, H: Hasher<F>>(
+// The batch, made over the tree that is its base.
+fn made_over<F: Family, H: Hasher<F>>(
     tree: &Mem<F, H::Digest>,
     batch: UnmerkleizedBatch<F, H::Digest>,
     hasher: &H,
-) -> Result<Mem<F, H::Digest>, Error<F>>
+) -> Result<MerkleizedBatch<F, H::Digest>, Error<F>>
     requires base { batch.base ≡ base_of F.merge_rule tree.now }
     requires alone { batch.below ≡ [] }
     requires kept { AllByRecursion (λ one. tree.now.boundary ≤ one.0) batch.updates }
-    ensures boundary { IfOk result (λ after. after.boundary ≡ tree.now.boundary) }
-    ensures leaves { IfOk result (λ after. after.leaves ≡ tree.now.leaves + length batch.added) }
+    ensures base { IfOk result (λ made. made.base ≡ base_of F.merge_rule tree.now) }
+    ensures leaves { IfOk result (λ made. made.leaves ≡ tree.now.leaves + length batch.added) }
     ensures of_list { (leaf_digests : List (List ℕ)) → AreNodesOf
         (H.node_of hasher.now) F.merge_rule leaf_digests tree.now
-        → IfOk result (λ after. AreNodesOf (H.node_of hasher.now) F.merge_rule (with_leaves leaf_digests batch) after) }
+        → IfOk result (λ made. AreNodesOf (H.node_of hasher.now) F.merge_rule (with_leaves leaf_digests batch)
+        (with_batch F.merge_rule tree.now made)) }
     ensures refused { IfErr result (λ e. e ≡ Error.Memory) }
 {
     let _boundary = tree.pruning_boundary();
-    let mut after = tree.try_copy()?;
-    let batch = batch.merkleize(tree, hasher)?;
-    after.apply_batch(&batch)?;
-    Ok(after)
+    let made = batch.merkleize(tree, hasher)?;
+    Ok(made)
+}
+
+// The tree with the room for a batch that is made over it, or as it was.
+fn reserved<F: Family, D: Digest>(
+    tree: Mem<F, D>,
+    batch: MerkleizedBatch<F, D>,
+) -> Result<Reserved<F, D>, Unreserved<F, D>>
+    requires { batch.base ≡ base_of F.merge_rule tree }
+    ensures before { IfOk result (λ waiting. waiting.before ≡ tree) }
+    ensures after { IfOk result (λ waiting. waiting.after ≡ with_batch F.merge_rule tree batch) }
+    ensures refused { IfErr result (λ back. back.error ≡ Error.Memory) }
+    ensures unchanged { IfErr result (λ back. back.tree ≡ tree) }
+{
+    tree.reserve_for(batch)
 }
 
 // The batch with leaves of these operations.
@@ -66,42 +76,65 @@ fn add_operations<F: Family, H: HashFunction>(
     Ok(batch)
 }
 
-// The tree of the operations with more of them.
-pub(crate) fn grow_operations<F: Family, H: HashFunction>(
+// The batch of more operations, made over their tree.
+fn operations_over<F: Family, H: HashFunction>(
     tree: &Mem<F, H::Digest>,
     operations: &[Vec<u8>],
-) -> Result<Mem<F, H::Digest>, Error<F>>
+) -> Result<MerkleizedBatch<F, H::Digest>, Error<F>>
     requires few { tree.now.leaves + length operations.now ≤ 2 ^ 62 }
-    ensures boundary { IfOk result (λ after. after.boundary ≡ tree.now.boundary) }
-    ensures leaves { IfOk result (λ after. after.leaves ≡ tree.now.leaves + length operations.now) }
+    ensures base { IfOk result (λ made. made.base ≡ base_of F.merge_rule tree.now) }
+    ensures leaves { IfOk result (λ made. made.leaves ≡ tree.now.leaves + length operations.now) }
     ensures of_list { (elements : List (List ℕ))
         → AreNodesOf (plain_node H.hash_of) F.merge_rule (plain_leaf_digests H.hash_of F.merge_rule 0 elements) tree.now
-        → IfOk result (λ after. AreNodesOf (plain_node H.hash_of) F.merge_rule
-        (plain_leaf_digests H.hash_of F.merge_rule 0 (elements ++ map (λ e. e.items) operations.now)) after) }
+        → IfOk result (λ made. AreNodesOf (plain_node H.hash_of) F.merge_rule
+        (plain_leaf_digests H.hash_of F.merge_rule 0 (elements ++ map (λ e. e.items) operations.now))
+        (with_batch F.merge_rule tree.now made)) }
     ensures refused { IfErr result (λ e. e ≡ Error.Memory) }
 {
     let hasher: Standard<H> = Standard::new(Bagging::BackwardFold);
     let batch = add_operations::<F, H>(tree.new_batch()?, &hasher, operations)?;
-    applied_to_copy(tree, batch, &hasher)
+    made_over(tree, batch, &hasher)
+}
+
+// The tree of the operations with the room for more of them, or as it was.
+pub(crate) fn grow_operations<F: Family, H: HashFunction>(
+    tree: Mem<F, H::Digest>,
+    operations: &[Vec<u8>],
+) -> Result<Reserved<F, H::Digest>, Unreserved<F, H::Digest>>
+    requires few { tree.leaves + length operations.now ≤ 2 ^ 62 }
+    ensures before { IfOk result (λ waiting. waiting.before ≡ tree) }
+    ensures boundary { IfOk result (λ waiting. waiting.after.boundary ≡ tree.boundary) }
+    ensures leaves { IfOk result (λ waiting. waiting.after.leaves ≡ tree.leaves + length operations.now) }
+    ensures of_list { (elements : List (List ℕ))
+        → AreNodesOf (plain_node H.hash_of) F.merge_rule (plain_leaf_digests H.hash_of F.merge_rule 0 elements) tree
+        → IfOk result (λ waiting. AreNodesOf (plain_node H.hash_of) F.merge_rule
+        (plain_leaf_digests H.hash_of F.merge_rule 0 (elements ++ map (λ e. e.items) operations.now)) waiting.after) }
+    ensures refused { IfErr result (λ back. back.error ≡ Error.Memory) }
+    ensures unchanged { IfErr result (λ back. back.tree ≡ tree) }
+{
+    match operations_over::<F, H>(&tree, operations) {
+        Ok(batch) => reserved(tree, batch),
+        Err(error) => Err(Unreserved { tree, error }),
+    }
 }
 
 // The digest of the leaf of a chunk.
 fn leaf_of_chunk<F: Graftable, H: HashFunction, const N: usize>(
-    tree: &Mem<F, H::Digest>,
-    bits: &Prunable<N>,
+    tree: &Reserved<F, H::Digest>,
+    bits: &BitOverlay<N>,
     height: u32,
     chunk: u64,
 ) -> H::Digest
     requires low { height ≤ 62 }
-    requires ready { IsReady F.merge_rule N height tree.now bits.now chunk }
+    requires ready { IsReady F.merge_rule N height tree.now.after bits.now.after chunk }
     ensures { H.Digest.encoding result
-        ≡ chunk_leaf F.merge_rule F.root_of H.hash_of N height tree.now bits.now chunk }
+        ≡ chunk_leaf F.merge_rule F.root_of H.hash_of N height tree.now.after bits.now.after chunk }
 {
     let _leaves = tree.leaves();
     let _boundary = tree.pruning_boundary();
     let position = F::subtree_root(chunk * (1u64 << height), height);
     match tree.get_node(Position::new(position)) {
-        Some(digest) => graft::<H>(bits.get_chunk(chunk), &digest),
+        Some(digest) => graft::<H>(bits.chunk_bytes(chunk), &digest),
         None => unreachable!(),
     }
 }
@@ -109,8 +142,8 @@ fn leaf_of_chunk<F: Graftable, H: HashFunction, const N: usize>(
 // The batch with leaves of so many chunks from one on, which is the one after the leaves.
 fn add_leaves<F: Graftable, H: HashFunction, const N: usize>(
     batch: UnmerkleizedBatch<F, H::Digest>,
-    tree: &Mem<F, H::Digest>,
-    bits: &Prunable<N>,
+    tree: &Reserved<F, H::Digest>,
+    bits: &BitOverlay<N>,
     height: u32,
     first: u64,
     end: u64,
@@ -119,9 +152,11 @@ fn add_leaves<F: Graftable, H: HashFunction, const N: usize>(
     requires none { batch.added ≡ [] }
     requires ordered { first ≤ end }
     requires few { batch.base.leaves + (end - first) ≤ 2 ^ 62 }
-    requires ready { (chunk : ℕ) → first ≤ chunk → chunk < end → IsReady F.merge_rule N height tree.now bits.now chunk }
+    requires ready { (chunk : ℕ) → first ≤ chunk → chunk < end
+        → IsReady F.merge_rule N height tree.now.after bits.now.after chunk }
     ensures added { IfOk result (λ more. more ≡ record batch {
-      added = leaves_from (chunk_leaf F.merge_rule F.root_of H.hash_of N height tree.now bits.now) first (end - first);
+      added = leaves_from (chunk_leaf F.merge_rule F.root_of H.hash_of N height tree.now.after bits.now.after) first
+          (end - first);
     }) }
     ensures refused { IfErr result (λ e. e ≡ Error.Memory) }
 {
@@ -135,8 +170,8 @@ fn add_leaves<F: Graftable, H: HashFunction, const N: usize>(
 // The batch with new digests of the leaves over these places, of which there are so many.
 fn update_leaves<F: Graftable, H: HashFunction, const N: usize>(
     batch: UnmerkleizedBatch<F, H::Digest>,
-    tree: &Mem<F, H::Digest>,
-    bits: &Prunable<N>,
+    tree: &Reserved<F, H::Digest>,
+    bits: &BitOverlay<N>,
     height: u32,
     count: u64,
     places: &[u64],
@@ -144,13 +179,13 @@ fn update_leaves<F: Graftable, H: HashFunction, const N: usize>(
     requires low { height ≤ 62 }
     requires wide { IsChunkWidth N }
     requires none { batch.updates ≡ [] }
-    requires pruned { batch.boundary ≤ bits.now.pruned }
+    requires pruned { batch.boundary ≤ bits.now.after.pruned }
     requires within { count ≤ batch.base.leaves }
     requires ready { AllByRecursion (λ at. at / (8 * N) < count
-        → IsReady F.merge_rule N height tree.now bits.now (at / (8 * N))) places.now }
+        → IsReady F.merge_rule N height tree.now.after bits.now.after (at / (8 * N))) places.now }
     ensures updated { IfOk result (λ more. more ≡ record batch {
-      updates = leaves_over (chunk_leaf F.merge_rule F.root_of H.hash_of N height tree.now bits.now) (8 * N) count
-          places.now;
+      updates = leaves_over (chunk_leaf F.merge_rule F.root_of H.hash_of N height tree.now.after bits.now.after) (8 * N)
+          count places.now;
     }) }
     ensures refused { IfErr result (λ e. e ≡ Error.Memory) }
 {
@@ -166,32 +201,35 @@ fn update_leaves<F: Graftable, H: HashFunction, const N: usize>(
     Ok(batch)
 }
 
-// The tree of the chunks, brought to a tree of operations and bits that have grown, of which these places are cleared.
-pub(crate) fn grow_chunks<F: Graftable, H: HashFunction, const N: usize>(
+// The batch that brings the tree of the chunks to a tree of operations and bits that have grown, of which these places
+// are cleared.
+fn chunks_over<F: Graftable, H: HashFunction, const N: usize>(
     chunks: &Mem<F, H::Digest>,
-    tree: &Mem<F, H::Digest>,
-    bits: &Prunable<N>,
+    tree: &Reserved<F, H::Digest>,
+    bits: &BitOverlay<N>,
     size: ChunkSize,
     places: &[u64],
-) -> Result<Mem<F, H::Digest>, Error<F>>
+) -> Result<MerkleizedBatch<F, H::Digest>, Error<F>>
     requires width { size.width ≡ N }
-    requires pruned { chunks.now.boundary ≤ bits.now.pruned }
-    requires more { chunks.now.leaves ≤ nodes_of_height size.grafting_height (forest_of F.merge_rule tree.now.leaves) }
+    requires pruned { chunks.now.boundary ≤ bits.now.after.pruned }
+    requires more { chunks.now.leaves
+        ≤ nodes_of_height size.grafting_height (forest_of F.merge_rule tree.now.after.leaves) }
     requires new { (chunk : ℕ) → chunks.now.leaves ≤ chunk
-        → chunk < nodes_of_height size.grafting_height (forest_of F.merge_rule tree.now.leaves)
-        → IsReady F.merge_rule N size.grafting_height tree.now bits.now chunk }
+        → chunk < nodes_of_height size.grafting_height (forest_of F.merge_rule tree.now.after.leaves)
+        → IsReady F.merge_rule N size.grafting_height tree.now.after bits.now.after chunk }
     requires old { AllByRecursion (λ at. at / (8 * N) < chunks.now.leaves
-        → IsReady F.merge_rule N size.grafting_height tree.now bits.now (at / (8 * N))) places.now }
-    ensures boundary { IfOk result (λ after. after.boundary ≡ chunks.now.boundary) }
-    ensures leaves { IfOk result (λ after. after.leaves
-        ≡ nodes_of_height size.grafting_height (forest_of F.merge_rule tree.now.leaves)) }
+        → IsReady F.merge_rule N size.grafting_height tree.now.after bits.now.after (at / (8 * N))) places.now }
+    ensures base { IfOk result (λ made. made.base ≡ base_of F.merge_rule chunks.now) }
+    ensures leaves { IfOk result (λ made. made.leaves
+        ≡ nodes_of_height size.grafting_height (forest_of F.merge_rule tree.now.after.leaves)) }
     ensures of_list { (leaf_digests : List (List ℕ))
         → AreNodesOf (chunks_node H.hash_of F.merge_rule size.grafting_height) F.merge_rule leaf_digests chunks.now
-        → let leaf = chunk_leaf F.merge_rule F.root_of H.hash_of N size.grafting_height tree.now bits.now in
-        let count = nodes_of_height size.grafting_height (forest_of F.merge_rule tree.now.leaves) in
-        IfOk result (λ after. AreNodesOf (chunks_node H.hash_of F.merge_rule size.grafting_height) F.merge_rule
+        → let leaf = chunk_leaf F.merge_rule F.root_of H.hash_of N size.grafting_height
+        tree.now.after bits.now.after in
+        let count = nodes_of_height size.grafting_height (forest_of F.merge_rule tree.now.after.leaves) in
+        IfOk result (λ made. AreNodesOf (chunks_node H.hash_of F.merge_rule size.grafting_height) F.merge_rule
         (replaced (leaf_digests ++ leaves_from leaf chunks.now.leaves (count - chunks.now.leaves))
-        (leaves_over leaf (8 * N) chunks.now.leaves places.now)) after) }
+        (leaves_over leaf (8 * N) chunks.now.leaves places.now)) (with_batch F.merge_rule chunks.now made)) }
     ensures refused { IfErr result (λ e. e ≡ Error.Memory) }
 {
     let hasher: GraftedHasher<F, Standard<H>> = GraftedHasher::new(
@@ -209,45 +247,47 @@ pub(crate) fn grow_chunks<F: Graftable, H: HashFunction, const N: usize>(
         end,
     )?;
     let batch = update_leaves::<F, H, N>(batch, tree, bits, size.grafting_height, first, places)?;
-    applied_to_copy(chunks, batch, &hasher)
+    made_over(chunks, batch, &hasher)
 }
 
-// Appends bits.
-fn push_bits<const N: usize>(bits: &mut Prunable<N>, more: &[bool]) -> Result<(), AllocError>
-    requires { bit_count N bits.old + length more.now ≤ 2 ^ 62 }
-    ensures { OnOk result (bits.new ≡ record bits.old { kept = bits.old.kept ++ more.now }) }
-{
-    for bit in more {
-        bits.push(*bit)?;
-    }
-    Ok(())
-}
-
-// Clears the bits at these places, one after the other.
-fn clear_bits<const N: usize>(bits: &mut Prunable<N>, places: &[u64])
-    requires { AllByRecursion (λ at. (8 * N * bits.old.pruned ≤ at) × (at < bit_count N bits.old)) places.now }
-    ensures pruned { bits.new.pruned ≡ bits.old.pruned }
-    ensures all { all_bits N bits.new ≡ cleared (all_bits N bits.old) places.now }
-{
-    for place in places {
-        bits.set_bit(*place, false);
-    }
-}
-
-// A copy of the bits with more of them, of which those at these places are cleared.
-pub(crate) fn grow_bits<const N: usize>(
-    bits: &Prunable<N>,
-    more: &[bool],
+// The tree of the chunks with the room for what brings it to a tree of operations and bits that have grown, of which
+// these places are cleared, or as it was.
+pub(crate) fn grow_chunks<F: Graftable, H: HashFunction, const N: usize>(
+    chunks: Mem<F, H::Digest>,
+    tree: &Reserved<F, H::Digest>,
+    bits: &BitOverlay<N>,
+    size: ChunkSize,
     places: &[u64],
-) -> Result<Prunable<N>, AllocError>
-    requires few { bit_count N bits.now + length more.now ≤ 2 ^ 62 }
-    requires there { AllByRecursion (λ at. (8 * N * bits.now.pruned ≤ at)
-        × (at < bit_count N bits.now + length more.now)) places.now }
-    ensures pruned { IfOk result (λ after. after.pruned ≡ bits.now.pruned) }
-    ensures all { IfOk result (λ after. all_bits N after ≡ cleared (all_bits N bits.now ++ more.now) places.now) }
+) -> Result<Reserved<F, H::Digest>, Unreserved<F, H::Digest>>
+    requires width { size.width ≡ N }
+    requires pruned { chunks.boundary ≤ bits.now.after.pruned }
+    requires more { chunks.leaves
+        ≤ nodes_of_height size.grafting_height (forest_of F.merge_rule tree.now.after.leaves) }
+    requires new { (chunk : ℕ) → chunks.leaves ≤ chunk
+        → chunk < nodes_of_height size.grafting_height (forest_of F.merge_rule tree.now.after.leaves)
+        → IsReady F.merge_rule N size.grafting_height tree.now.after bits.now.after chunk }
+    requires old { AllByRecursion (λ at. at / (8 * N) < chunks.leaves
+        → IsReady F.merge_rule N size.grafting_height tree.now.after bits.now.after (at / (8 * N))) places.now }
+    ensures before { IfOk result (λ waiting. waiting.before ≡ chunks) }
+    ensures boundary { IfOk result (λ waiting. waiting.after.boundary ≡ chunks.boundary) }
+    ensures leaves { IfOk result (λ waiting. waiting.after.leaves
+        ≡ nodes_of_height size.grafting_height (forest_of F.merge_rule tree.now.after.leaves)) }
+    ensures of_list { (leaf_digests : List (List ℕ))
+        → AreNodesOf (chunks_node H.hash_of F.merge_rule size.grafting_height) F.merge_rule leaf_digests chunks
+        → let leaf = chunk_leaf F.merge_rule F.root_of H.hash_of N size.grafting_height
+        tree.now.after bits.now.after in
+        let count = nodes_of_height size.grafting_height (forest_of F.merge_rule tree.now.after.leaves) in
+        IfOk result (λ waiting. AreNodesOf (chunks_node H.hash_of F.merge_rule size.grafting_height) F.merge_rule
+        (replaced (leaf_digests ++ leaves_from leaf chunks.leaves (count - chunks.leaves))
+        (leaves_over leaf (8 * N) chunks.leaves places.now)) waiting.after) }
+    ensures refused { IfErr result (λ back. back.error ≡ Error.Memory) }
+    ensures unchanged { IfErr result (λ back. back.tree ≡ chunks) }
 {
-    let mut after = bits.try_copy()?;
-    push_bits(&mut after, more)?;
-    clear_bits(&mut after, places);
-    Ok(after)
+    match chunks_over::<F, H, N>(&chunks, tree, bits, size, places) {
+        Ok(batch) => reserved(chunks, batch),
+        Err(error) => Err(Unreserved {
+            tree: chunks,
+            error,
+        }),
+    }
 }

@@ -25,8 +25,8 @@ pub use proof::request::RangeProofSpec;
 pub use required::{RequiredChunks, required_chunks};
 pub use snapshot::Snapshot;
 pub use state_proofs_parts::{
-    BitList, BitMap, BitmapReadable, ChunkForm, ChunkSize, MerkleizedBitMap, Prunable,
+    BitList, BitMap, BitOverlay, BitmapReadable, ChunkForm, ChunkSize, MerkleizedBitMap, Prunable,
     UnmerkleizedBitMap, authenticated, bitmap, bitmap_error, bitmap_laws, bits, canonical,
-    chunk_form, chunk_size, grafting, inclusion, prunable, seal, shown_chunk,
+    chunk_form, chunk_size, grafting, inclusion, overlay, prunable, seal, shown_chunk, stage_bits,
 };
 pub use witness::OpsRootWitness;

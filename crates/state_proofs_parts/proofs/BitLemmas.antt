@@ -9,7 +9,7 @@ use Rattle.std.proofs.Math.Nat.{pow-suc}
 use Rattle.std.proofs.lemmas.Bool.{cases_eq, cases_lt, eqb-true, eqb-false, eq-eqb, ne_eqb}
 use Rattle.std.proofs.lemmas.List.{ext_get_or, length-set, get_or-set_same, get_or-set_other, get_or_append_left}
 use Rattle.std.proofs.lemmas.List.{get_or-append-add, set-append_left, set-append_right, take_at, take_all, drop_at}
-use Rattle.std.proofs.lemmas.List.{drop_all, drop-drop, replicate-append-replicate, get_or-take, get_or-drop}
+use Rattle.std.proofs.lemmas.List.{drop_all, drop-drop, replicate-append-replicate, get_or-take, get_or-drop, take-append-drop}
 use Rattle.std.proofs.lemmas.Nat.Bits.{bit_at_lowest, bit_at-suc}
 use Rattle.state_proofs_parts.specs.Bits.{byte_of, chunk_of, bits_of, bits_in}
 
@@ -117,6 +117,10 @@ drop-bits_in (suc count) (byte ∷ bytes) =
     ap (λ k. drop k whole) more ∙ sym (drop-drop (8 * count) 8 whole)
     ∙ ap (drop (8 * count)) (drop_at (bits_of 8 byte) (bits_in bytes) 8 (length-bits_of 8 byte))
     ∙ drop-bits_in count bytes
+
+pub bits_in-front : (count : ℕ) (bytes : List ℕ) → bits_in bytes ≡ bits_in (take count bytes) ++ bits_in (drop count bytes)
+bits_in-front count bytes =
+    ap bits_in (sym (take-append-drop count bytes)) ∙ bits_in-append (take count bytes) (drop count bytes)
 
 -- ---- zeros after the last bit
 byte_of-zeros : (n : ℕ) → byte_of (replicate n false) ≡ 0

@@ -3,8 +3,8 @@
 --    bytes    [ first bytes ][ zeros ]                   what is held
 --    grown    [ first bytes ][ zeros  ...  ]             with room for the new bytes, up to the end of a chunk
 --    after    [ first bytes ][ part ][ zeros ]
-use Rattle.std.proofs.Common.{◌≡◌, ℕ, zero, suc, ◌+◌, ◌-◌, ◌*◌, ◌/◌, ◌%◌, ◌^◌, ◌<◌, ◌≤◌, Bool, false, min, inl, inr}
-use Rattle.std.proofs.Common.{List, [], ◌∷◌, ◌++◌, length, take, drop, replicate, refl, sym, ◌∙◌, ap, ap₂, arith}
+use Rattle.std.proofs.Common.{◌≡◌, ℕ, suc, ◌+◌, ◌-◌, ◌*◌, ◌/◌, ◌%◌, ◌^◌, ◌<◌, ◌≤◌, false, min, inl, inr}
+use Rattle.std.proofs.Common.{List, ◌++◌, length, take, drop, replicate, sym, ◌∙◌, ap, ap₂, arith}
 use Rattle.std.proofs.Common.{append_assoc, length-append, length-drop}
 use Rattle.std.proofs.lemmas.Bool.{cases_lt}
 use Rattle.std.proofs.lemmas.Grind.{div_ceil_times}
@@ -12,8 +12,8 @@ use Rattle.std.proofs.lemmas.List.{take_at, take_all, drop_at, take-append-le, l
 use Rattle.std.proofs.lemmas.List.{replicate-append-replicate, length-replicate, take-append-drop}
 use Rattle.std.proofs.Math.Nat.{mul_comm}
 use Rattle.std.proofs.lemmas.Nat.{mul-le}
-use Rattle.state_proofs_parts.specs.Bits.{IsHeld, bits_of, bits_in}
-use Rattle.state_proofs_parts.proofs.BitLemmas.{length-bits_of, length-bits_in, bits_in-append, bits_in-zeros, drop-bits_in}
+use Rattle.state_proofs_parts.specs.Bits.{IsHeld, bits_in}
+use Rattle.state_proofs_parts.proofs.BitLemmas.{length-bits_in, bits_in-append, bits_in-zeros, drop-bits_in}
 use Rattle.state_proofs_parts.proofs.HeldLemmas.{Holds, held-length}
 use Rattle.state_proofs_parts.proofs.WidthLemmas.{wide-some}
 

@@ -1,5 +1,5 @@
 -- How bits are held in bytes.
-use Rattle.std.proofs.Common.{◌≡◌, ℕ, zero, suc, ◌+◌, ◌-◌, ◌*◌, ◌^◌, ◌<◌, ◌≤◌, Bool, false, eqb, ◌/◌, ◌%◌, inl, inr}
+use Rattle.std.proofs.Common.{◌≡◌, ℕ, zero, suc, ◌+◌, ◌-◌, ◌*◌, ◌^◌, ◌<◌, ◌≤◌, ◌≢◌, Bool, false, eqb, ◌/◌, ◌%◌, inl, inr}
 use Rattle.std.proofs.Common.{List, [], ◌∷◌, ◌++◌, length, take, drop, get_or, replicate, refl, sym, ◌∙◌, ap, ap₂}
 use Rattle.std.proofs.Common.{subst, arith, append_assoc, length-append}
 use Rattle.std.proofs.Math.Nat.{mul_comm, mul_assoc, mul-add}
@@ -7,9 +7,9 @@ use Rattle.std.proofs.lemmas.Bool.{cases_lt, cond-true, cond-false, ne_eqb, eq-e
 use Rattle.std.proofs.lemmas.Nat.{div-mul-add, mod-mul-add, mul-le}
 use Rattle.std.specs.Prelude.{slice_set}
 use Rattle.std.proofs.lemmas.List.{length-take-le, length-drop, drop-drop, drop-take, take-append-drop, get_or-drop}
-use Rattle.std.proofs.lemmas.List.{drop_at, take_at, take_all, drop-set-lt, drop-replicate, take_more_set}
+use Rattle.std.proofs.lemmas.List.{drop_at, take_at, take_all, drop-set-lt, drop-replicate, take_more_set, drop_all, take-set-le}
 use Rattle.state_proofs_parts.specs.Bits.{Bits, IsHeld, bits_in, chunk_of, chunk_at, bit_count, last_chunk}
-use Rattle.state_proofs_parts.proofs.BitLemmas.{length-bits_in, drop-bits_in, drop_padded, chunk_of-padded, chunk_of-bits_in}
+use Rattle.state_proofs_parts.proofs.BitLemmas.{length-bits_in, drop-bits_in, bits_in-front, drop_padded, chunk_of-padded, chunk_of-bits_in}
 use Rattle.state_proofs_parts.proofs.ChunkLemmas.{chunks_of_bits}
 use Rattle.state_proofs_parts.proofs.WidthLemmas.{wide-some}
 
@@ -157,6 +157,87 @@ set_within width pruned kept bytes more at bit held lt are long = record {
   };
   bits_are = ap (take kept) are ∙ take_set_below kept (bits_in bytes) at bit lt;
 }
+
+-- the last bit is taken away
+pub take_take : {A : Type 0} (m n : ℕ) (xs : List A) → m ≤ n → take m (take n xs) ≡ take m xs
+take_take zero n xs le = refl
+take_take (suc m) zero xs le = absurd (omega (arith, le))
+take_take (suc m) (suc n) [] le = refl
+take_take (suc m) (suc n) (x ∷ xs) le = ap (λ rest. x ∷ rest) (take_take m n xs (omega (arith, le)))
+
+one_less : (width left count : ℕ) → 1 ≤ width → left + width ≡ width * count → (before : ℕ) × (left ≡ width * before)
+one_less width left zero some is = absurd (omega (arith, some, is))
+one_less width left (suc count) some is = (count, omega (arith, is))
+
+zeros_more : (room same kept : ℕ) → same ≡ room → 0 < kept → kept ≤ room → suc (room - kept) ≡ same - (kept - 1)
+zeros_more room same kept is some enough = omega (arith, is, some, enough)
+
+drop_cleared : (n : ℕ) (bits : List Bool) → n < length bits → drop n (slice_set bits n false) ≡ false ∷ drop (suc n) bits
+drop_cleared n [] lt = absurd (omega (arith, lt))
+drop_cleared zero (bit ∷ bits) lt = refl
+drop_cleared (suc n) (bit ∷ bits) lt = drop_cleared n bits (omega (arith, lt))
+
+pub some_chunk : (width pruned kept : ℕ) (bytes : List ℕ) → IsHeld width pruned kept bytes → 0 < kept → width ≤ length bytes
+some_chunk width pruned kept bytes held some = by held.count held.counted
+  where
+    by : (count : ℕ) → length bytes ≡ width * count → width ≤ length bytes
+    by zero is = absurd (omega (arith, is, held.enough, some))
+    by (suc count) is = omega (arith, is)
+
+-- its chunk with it, where it is the only bit there
+pub pop_chunk : (width pruned kept : ℕ) (bytes more : List ℕ) (left : ℕ) → IsHeld width pruned kept bytes → 0 < kept
+    → left + width ≡ length bytes → kept - 1 ≡ 8 * left → more ≡ take left bytes
+    → Holds width pruned (kept - 1) more (take (kept - 1) (take kept (bits_in bytes)))
+pop_chunk width pruned kept bytes more left held some_bit all alone are =
+    let some = wide-some width held.wide in
+    let long : length more ≡ left = ap length are ∙ length-take-le left bytes (omega (arith, all)) in
+    let before = one_less width left held.count some (omega (arith, all, held.counted)) in
+    let reach : length (bits_in more) ≡ kept - 1 = omega (arith, length-bits_in more, long, alone) in
+    let fewer_bits : kept - 1 ≤ kept = omega arith in
+    let room : 0 ≡ 8 * length more - (kept - 1) = omega (arith, long, alone) in
+    record {
+      held = record {
+        wide = held.wide;
+        few = omega (arith, held.few);
+        low = held.low;
+        count = before.0;
+        counted = omega (arith, long, before.1);
+        enough = omega (arith, long, alone);
+        tight = omega (arith, long, alone, some);
+        zeros = drop_all (kept - 1) (bits_in more) (omega (arith, reach))
+            ∙ ap (λ n. replicate n false) room;
+      };
+      bits_are = take_all (kept - 1) (bits_in more) (omega (arith, reach))
+          ∙ sym (take_take (kept - 1) kept (bits_in bytes) fewer_bits
+          ∙ ap (take (kept - 1)) (bits_in-front left bytes ∙ ap (λ front. bits_in front ++ bits_in (drop left bytes)) (sym are))
+          ∙ take_at (bits_in more) (bits_in (drop left bytes)) (kept - 1) reach);
+    }
+
+-- alone, where there are others
+pub pop_bit : (width pruned kept : ℕ) (bytes more : List ℕ) (left : ℕ) → IsHeld width pruned kept bytes → 0 < kept
+    → left + width ≡ length bytes → kept - 1 ≢ 8 * left → bits_in more ≡ slice_set (bits_in bytes) (kept - 1) false
+    → length more ≡ length bytes → Holds width pruned (kept - 1) more (take (kept - 1) (take kept (bits_in bytes)))
+pop_bit width pruned kept bytes more left held some_bit all others are long =
+    let past : 8 * left < kept - 1 = omega (arith, held.tight, all, some_bit, others) in
+    let within : kept - 1 < length (bits_in bytes) = omega (arith, length-bits_in bytes, held.enough, some_bit) in
+    let next : suc (kept - 1) ≡ kept = omega (arith, some_bit) in
+    let fewer_bits : kept - 1 ≤ kept = omega arith in
+    record {
+      held = record {
+        wide = held.wide;
+        few = omega (arith, held.few);
+        low = held.low;
+        count = held.count;
+        counted = long ∙ held.counted;
+        enough = omega (arith, long, held.enough);
+        tight = omega (arith, long, all, past);
+        zeros = ap (drop (kept - 1)) are ∙ drop_cleared (kept - 1) (bits_in bytes) within
+            ∙ ap (λ n. false ∷ drop n (bits_in bytes)) next ∙ ap (λ rest. false ∷ rest) held.zeros
+            ∙ ap (λ n. replicate n false) (zeros_more (8 * length bytes) (8 * length more) kept (omega (arith, long)) some_bit held.enough);
+      };
+      bits_are = ap (take (kept - 1)) are ∙ take-set-le (kept - 1) (bits_in bytes) (kept - 1) false (omega arith)
+          ∙ sym (take_take (kept - 1) kept (bits_in bytes) fewer_bits);
+    }
 
 fewer : (width i count : ℕ) → width * i ≤ width * count → width * (count - i) ≡ width * count - width * i
 fewer width zero count le = let whole : count - 0 ≡ count = omega arith in omega (arith, ap (λ n. width * n) whole)

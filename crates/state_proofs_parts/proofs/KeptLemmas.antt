@@ -1,5 +1,5 @@
 -- What is kept of a list of bits.
-use Rattle.std.proofs.Common.{◌≡◌, ℕ, ◌+◌, ◌-◌, ◌*◌, ◌≤◌, Bool, false, List, [], ◌∷◌, ◌++◌, length, drop, get_or, sym}
+use Rattle.std.proofs.Common.{◌≡◌, ℕ, ◌+◌, ◌-◌, ◌*◌, ◌≤◌, Bool, false, List, ◌++◌, length, drop, get_or, sym}
 use Rattle.std.proofs.Common.{◌∙◌, ap, arith, length-append, length-drop}
 use Rattle.std.proofs.Math.Nat.{mul-add}
 use Rattle.std.proofs.lemmas.List.{drop-drop, drop-append-le, drop-set-add, get_or-drop, length-set}

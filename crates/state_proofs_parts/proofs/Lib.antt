@@ -10,6 +10,7 @@ pub mod LeafLemmas
 pub mod MadeLemmas
 pub mod MapLemmas
 pub mod OneEachLemmas
+pub mod OverlayLemmas
 pub mod PartsLemmas
 pub mod PeakSteps
 pub mod ProveLemmas

@@ -3,7 +3,7 @@
 --    bits    1 0 1 1 0 0 0 0   0 1          ten bits, in chunks of one byte: the second one is partial, and zeros
 --    chunks        0d            02         stand for the bits that are not there
 use Rattle.std.specs.Prelude.{◌≡◌, ℕ, zero, suc, ◌+◌, ◌-◌, ◌*◌, ◌/◌, ◌%◌, ◌^◌, ◌<◌, ◌≤◌, ◌==◌, Bool, false}
-use Rattle.std.specs.Prelude.{if◌then◌else◌, List, [], ◌∷◌, ◌++◌, length, take, drop, replicate}
+use Rattle.std.specs.Prelude.{if◌then◌else◌, List, [], ◌∷◌, ◌++◌, length, take, drop, replicate, slice_set}
 
 -- so many bytes are a chunk's: their bits are a power of two, 2^62 at most
 abbrev pub IsChunkWidth : ℕ → Type 0
@@ -59,6 +59,11 @@ bit_count width bits = 8 * width * bits.pruned + length bits.kept
 -- all bits, where those that are pruned are clear
 abbrev pub all_bits : ℕ → Bits → List Bool
 all_bits width bits = replicate (8 * width * bits.pruned) false ++ bits.kept
+
+-- bits after those at these places are cleared, one after the other
+abbrev pub cleared : List Bool → List ℕ → List Bool
+cleared bits [] = bits
+cleared bits (at ∷ more) = cleared (slice_set bits at false) more
 
 -- The last chunk, and how many of its bits there are. Where no bit is kept it is zeros, and has none; where the bits
 -- fill their chunks it is the last full one.

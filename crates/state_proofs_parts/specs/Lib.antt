@@ -11,6 +11,7 @@ pub mod MadeGrafted
 pub mod MadeStates
 pub mod Maps
 pub mod MapsCode
+pub mod Overlay
 pub mod Parts
 pub mod PeakEnds
 pub mod SameNodes

@@ -187,6 +187,18 @@ impl<const N: usize> Prunable<N> {
         self.pruned
     }
 
+    // How many bits are kept.
+    pub(crate) fn kept_bits(&self) -> u64
+        ensures { result ≡ length self.now.kept }
+    {
+        self.kept
+    }
+
+    // The allocator of the bits.
+    pub(crate) fn allocator(&self) -> Global {
+        self.alloc
+    }
+
     /// Whether a bit that is there, and not pruned, is set. In the Rust: `commonware_utils::bitmap::Prunable::get_bit`.
     pub fn get_bit(&self, bit: u64) -> bool
         requires kept { 8 * N * self.now.pruned ≤ bit }
@@ -292,6 +304,30 @@ impl<const N: usize> Prunable<N> {
         fill_bit(&mut self.bytes, self.kept, bit);
         self.kept += 1;
         Ok(())
+    }
+
+    // Takes the last bit away.
+    pub(crate) fn pop(&mut self)
+        requires { 0 < length self.old.kept }
+        ensures { self.new ≡ record self.old { kept = take (length self.old.kept - 1) self.old.kept } }
+    {
+        let at = self.kept - 1;
+        let left = self.bytes.len() - N;
+        self.kept = at;
+        if at == 8 * left as u64 {
+            self.bytes.truncate(left);
+            return;
+        }
+        put_bit(&mut self.bytes, at, false);
+    }
+
+    // Finds room for so many more bits. It fails only when out of memory. The bits stay as they were, and what room
+    // there is, contracts do not see.
+    pub(crate) fn reserve(&mut self, bits: usize) -> Result<(), AllocError>
+        ensures { self.new ≡ self.old }
+    {
+        let chunk = (self.chunk_bits() / 8) as usize;
+        self.bytes.reserve(bits / 8 + chunk)
     }
 
     /// Appends the bits of these bytes, the least of each byte first. That the bits there fill their bytes is on the

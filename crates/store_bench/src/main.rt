@@ -8,6 +8,7 @@
 mod calls;
 mod commits;
 mod device;
+mod logs;
 mod openings;
 mod plain_hash;
 mod reads;

@@ -14,6 +14,7 @@ mod stores;
 mod texts;
 mod told;
 mod tree;
+mod waiting;
 mod widths;
 mod words;
 

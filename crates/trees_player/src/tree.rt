@@ -19,6 +19,7 @@ impl<F: Family> Shelves<F> {
     pub fn call_tree(&mut self, alloc: Global, name: &str, call: &[&str]) -> Answer {
         match call {
             ["grow", elements @ ..] => self.grow(alloc, name, elements),
+            ["wait", made, end, steps @ ..] => self.wait(alloc, name, made, end, steps),
             [what] => self.call_tree_alone(alloc, name, what),
             [what, word] => self.call_tree_with(alloc, name, what, word),
             [what, boundary, parts @ ..] => self.make_tree(alloc, name, what, boundary, parts),

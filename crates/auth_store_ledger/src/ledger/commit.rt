@@ -1,32 +1,26 @@
 //! The one place where a commit is made: what it appends to a log, and what is then kept, before anything is appended.
 
 ghost use Rattle.std.specs.Prelude.{◌≡◌, ◌+◌, ◌-◌, ◌*◌, ◌<◌, ◌≤◌, ◌^◌, ◌++◌, ◌∷◌, [], true, map, drop, length};
-ghost use Rattle.std.specs.Prelude.{option_map, IfOk};
+ghost use Rattle.std.specs.Prelude.{option_map, IfOk, OnOk, OnErr};
 ghost use Rattle.auth_store_index.specs.Growth.{cleared, first_set, taken};
 ghost use Rattle.auth_store_index.specs.Touched.{is_no_delete};
-ghost use Rattle.auth_store_ledger.specs.Commits.{AreFound};
+ghost use Rattle.auth_store_ledger.specs.Commits.{AreFound, CanGrow};
 ghost use Rattle.auth_store_ledger.specs.History.{meanings};
-ghost use Rattle.auth_store_parts.specs.Places.{placed};
+ghost use Rattle.auth_store_ledger.specs.Store.{setting_of_width};
+ghost use Rattle.auth_store_parts.specs.Staged.{told, taken_back, CanTakeBack};
+ghost use Rattle.state_current.specs.Growth.{grown};
+ghost use Rattle.state_current.specs.Kept.{StandsFor};
 ghost use Rattle.state_proofs_parts.specs.Bits.{all_bits};
+ghost use Rattle.state_proofs_parts.specs.Canonical.{State};
 ghost use Rattle.state_ops.specs.Operation.{meaning_of};
 
+use super::kept::grow_by;
 use crate::history::Places;
 use auth_store_index::{ReadableBits, first_set_from, taken_places};
 use merkle_forest::{Family, Graftable, HashFunction, Location};
 use state_current::Current;
 use state_ops::{FixedKey, FixedValue, Operation, OrderedOperation};
 use std::alloc::{AllocError, Global};
-
-/// What a batch with its commit appends to a log, and what is then kept of the log.
-#[derive(Drop)]
-pub struct Appended<F: Graftable, H: HashFunction, K: FixedKey, const N: usize> {
-    /// The places of the log with the operations.
-    pub places: Places<K>,
-    /// What is kept of the log with them.
-    pub current: Current<F, H, N>,
-    /// Their encodings, one after the other.
-    pub bytes: Vec<u8>,
-}
 
 /// What the changes of a batch lead to in a log, with the commit behind them.
 #[derive(Drop)]
@@ -172,18 +166,38 @@ where
     })
 }
 
-/// The places of a log with these places and so many operations, after further operations. It fails only when out of
-/// memory.
-pub(super) fn places_after<F: Family, K: FixedKey, V: FixedValue>(
-    index: &Places<K>,
-    count: usize,
-    operations: &[OrderedOperation<F, K, V>],
-) -> Result<Places<K>, AllocError>
-    requires { count + length operations.now < 2 ^ 64 }
-    ensures { IfOk result (λ after. after
-        ≡ placed count index.now (meanings K.encoding V.encoding operations.now)) }
+/// More comes to what is kept, as `grow_by` says. It fails only when out of memory: what is kept then stays as it was,
+/// and the places are given back what they had before.
+pub(super) fn grow_or_back<F: Graftable, H: HashFunction, K: FixedKey, const N: usize>(
+    index: &mut Places<K>,
+    earlier: Vec<(K, Option<usize>)>,
+    current: &mut Current<F, H, N>,
+    operations: &[Vec<u8>],
+    bits: &[bool],
+    cleared: &[u64],
+    floor: u64,
+) -> Result<(), AllocError>
+    requires can { CanTakeBack index.old (told K.encoding earlier.items) }
+    requires room { CanGrow N current.old (length operations.now) bits.now cleared.now }
+    ensures kept { OnOk result (index.new ≡ index.old) }
+    ensures leaves { OnOk result (current.new.operations.leaves
+        ≡ current.old.operations.leaves + length operations.now) }
+    ensures pruned { current.new.bits.pruned ≡ current.old.bits.pruned }
+    ensures stands { (state : State) → let setting = setting_of_width F.merge_rule H.hash_of N in
+        StandsFor setting state current.old → OnOk result (StandsFor setting (grown state (record {
+          operations = map (λ e. e.items) operations.now;
+          bits = bits.now;
+          cleared = cleared.now;
+          floor = floor;
+        })) current.new) }
+    ensures back { OnErr result (index.new ≡ taken_back index.old (told K.encoding earlier.items)) }
+    ensures unchanged { OnErr result (current.new ≡ current.old) }
 {
-    let mut after = index.try_copy()?;
-    after.follow_all(count, operations)?;
-    Ok(after)
+    match grow_by(current, operations, bits, cleared, floor) {
+        Ok(()) => Ok(()),
+        Err(e) => {
+            index.take_back(earlier);
+            Err(e)
+        }
+    }
 }

@@ -1,7 +1,7 @@
 //! What is kept of a log beside its operations: their tree, the tree of the chunks of their bits, the bits and the
 //! floor.
 
-ghost use Rattle.std.specs.Prelude.{◌≡◌, ◌<◌, ◌≤◌, ◌+◌, ◌*◌, ◌^◌, map, length, IfOk, OnOk};
+ghost use Rattle.std.specs.Prelude.{◌≡◌, ◌<◌, ◌≤◌, ◌+◌, ◌*◌, ◌^◌, map, length, IfOk, OnOk, OnErr};
 ghost use Rattle.std.specs.List.{AllByRecursion, flat_map};
 ghost use Rattle.auth_store_ledger.specs.History.{last_floor, meanings};
 ghost use Rattle.auth_store_ledger.specs.Store.{IsChunkWidth, IsKept, AreWritten};
@@ -40,32 +40,33 @@ pub(super) fn out_of_memory<F: Family>(error: Error<F>) -> AllocError
     }
 }
 
-/// What is kept, with more operations and a bit for each, after which the bits at these places, whose chunks are not
-/// pruned, are cleared, and another floor. It fails only when out of memory.
-pub fn grown_by<F: Graftable, H: HashFunction, const N: usize>(
-    current: &Current<F, H, N>,
+/// More operations and a bit for each come to what is kept, after which the bits at these places, whose chunks are not
+/// pruned, are cleared, and the floor is another. It fails only when out of memory; what is kept then stays as it was.
+pub fn grow_by<F: Graftable, H: HashFunction, const N: usize>(
+    current: &mut Current<F, H, N>,
     operations: &[Vec<u8>],
     bits: &[bool],
     cleared: &[u64],
     floor: u64,
-) -> Result<Current<F, H, N>, AllocError>
-    requires few { current.now.operations.leaves + length operations.now ≤ 2 ^ 62 }
+) -> Result<(), AllocError>
+    requires few { current.old.operations.leaves + length operations.now ≤ 2 ^ 62 }
     requires paired { length bits.now ≡ length operations.now }
-    requires there { AllByRecursion (λ at. (8 * N * current.now.bits.pruned ≤ at)
-        × (at < current.now.operations.leaves + length operations.now)) cleared.now }
-    ensures leaves { IfOk result (λ after. after.operations.leaves
-        ≡ current.now.operations.leaves + length operations.now) }
-    ensures pruned { IfOk result (λ after. after.bits.pruned ≡ current.now.bits.pruned) }
+    requires there { AllByRecursion (λ at. (8 * N * current.old.bits.pruned ≤ at)
+        × (at < current.old.operations.leaves + length operations.now)) cleared.now }
+    ensures leaves { OnOk result (current.new.operations.leaves
+        ≡ current.old.operations.leaves + length operations.now) }
+    ensures pruned { current.new.bits.pruned ≡ current.old.bits.pruned }
     ensures stands { (state : State) → let setting = setting_of_width F.merge_rule H.hash_of N in
-        StandsFor setting state current.now → IfOk result (λ after. StandsFor setting (grown state (record {
+        StandsFor setting state current.old → OnOk result (StandsFor setting (grown state (record {
           operations = map (λ e. e.items) operations.now;
           bits = bits.now;
           cleared = cleared.now;
           floor = floor;
-        })) after) }
+        })) current.new) }
+    ensures unchanged { OnErr result (current.new ≡ current.old) }
 {
-    match current.grown(operations, bits, cleared, floor) {
-        Ok(after) => Ok(after),
+    match current.grow(operations, bits, cleared, floor) {
+        Ok(()) => Ok(()),
         Err(error) => Err(out_of_memory(error)),
     }
 }
@@ -108,8 +109,9 @@ pub fn kept_of_log<F: Graftable, H: HashFunction, K: FixedKey, V: FixedValue, co
 {
     let bits = activity_bits(alloc, operations, places)?;
     let encodings = encodings_of(alloc, operations)?;
-    let empty: Current<F, H, N> = Current::new(alloc);
-    grown_by(&empty, &encodings, &bits, &[], floor)
+    let mut kept: Current<F, H, N> = Current::new(alloc);
+    grow_by(&mut kept, &encodings, &bits, &[], floor)?;
+    Ok(kept)
 }
 
 // The bytes, one after the other. It fails only when out of memory.

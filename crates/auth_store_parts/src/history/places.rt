@@ -17,6 +17,8 @@ ghost use Rattle.auth_store_parts.specs.Map.{state_of, value_at};
 ghost use Rattle.auth_store_parts.specs.Places.{after_place, placed, places_of, updates_in_front, located_key};
 ghost use Rattle.auth_store_parts.specs.Places.{located_keys};
 
+mod staged;
+
 use merkle_forest::Family;
 use state_ops::{FixedKey, FixedValue, Operation, OrderedOperation};
 use std::alloc::{AllocError, Global};

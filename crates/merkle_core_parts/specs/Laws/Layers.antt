@@ -36,7 +36,7 @@ or_again : (o p q : Option (List ℕ)) → option_or (option_or o p) q ≡ optio
 or_again None p q = refl
 or_again (Some x) p q = refl
 
-or_none : (o : Option (List ℕ)) → option_or o None ≡ o
+pub or_none : (o : Option (List ℕ)) → option_or o None ≡ o
 or_none None = refl
 or_none (Some x) = refl
 

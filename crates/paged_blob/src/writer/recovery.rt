@@ -1,4 +1,11 @@
 //! A list that is recovered of a blob, until it is cut where it ends and a writer goes on.
+//!
+//! ```text
+//!     pages        abcdefgh   ijk.....   mnopqrst   (torn)         as a crash left them
+//!     open         abcdefgh   ijk                                  up to the first that is not whole; nothing changes
+//!     truncate     abcdefgh   ijk                                  the pages behind are taken off, one slot is left
+//!     append       abcdefgh   ijkl....                             a writer goes on where the list ends
+//! ```
 
 ghost use Rattle.std.specs.Prelude.{◌≡◌, ◌⊎◌, ◌+◌, ◌*◌, ◌/◌, ◌<◌, ◌≤◌, ◌^◌, [], ℕ, max, min, take, length};
 ghost use Rattle.std.specs.Prelude.{None, Some, Option, IsFalse, IfOk, IfErr, OnOk, OnErr, IfSome};

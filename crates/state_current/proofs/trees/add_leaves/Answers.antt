@@ -10,7 +10,8 @@ use Rattle.state_current.proofs.trees.add_leaves.Goals as goal
 
 pub loop-chunk-init : goal.loop-chunk-init
 loop-chunk-init g c =
-    let leaf = chunk_leaf g.F.Family.merge_rule g.F.Graftable.root_of g.H.HashFunction.hash_of g.row.N c.args.height c.args.tree.now c.args.bits.now in
+    let leaf = chunk_leaf g.F.Family.merge_rule g.F.Graftable.root_of g.H.HashFunction.hash_of g.row.N
+    c.args.height c.args.tree.now.after c.args.bits.now.after in
     let none : 0 ≡ c.args.first - c.args.first = omega arith in
     ap (λ ds. record c.args.batch { added = ds }) (c.requires.none ∙ ap (leaves_from leaf c.args.first) none)
 
@@ -20,19 +21,22 @@ leaf_of_chunk-requires g c =
 
 pub loop-chunk-preserved : goal.loop-chunk-preserved
 loop-chunk-preserved g c =
-    leaf_next (chunk_leaf g.F.Family.merge_rule g.F.Graftable.root_of g.H.HashFunction.hash_of g.row.N c.args.height c.args.tree.now c.args.bits.now)
+    leaf_next (chunk_leaf g.F.Family.merge_rule g.F.Graftable.root_of g.H.HashFunction.hash_of g.row.N
+    c.args.height c.args.tree.now.after c.args.bits.now.after)
     c.args.batch c.loop-chunk.batch c.in_ok-batch.batch c.args.first c.loop-chunk.chunk _ (omega arith) c.loop-chunk.invariant
     c.leaf_of_chunk.ensures c.in_ok-batch.ensures.added
 
 pub returns-clause-added : goal.returns-clause-added
 returns-clause-added g c =
-    let leaf = chunk_leaf g.F.Family.merge_rule g.F.Graftable.root_of g.H.HashFunction.hash_of g.row.N c.args.height c.args.tree.now c.args.bits.now in
+    let leaf = chunk_leaf g.F.Family.merge_rule g.F.Graftable.root_of g.H.HashFunction.hash_of g.row.N
+    c.args.height c.args.tree.now.after c.args.bits.now.after in
     let last : c.loop-chunk.chunk - c.args.first ≡ c.args.end - c.args.first = omega arith in
     c.loop-chunk.invariant ∙ ap (λ n. record c.args.batch { added = leaves_from leaf c.args.first n }) last
 
 pub returns-in_err-batch-clause-refused : goal.returns-in_err-batch-clause-refused
 returns-in_err-batch-clause-refused g c =
-    let leaf = chunk_leaf g.F.Family.merge_rule g.F.Graftable.root_of g.H.HashFunction.hash_of g.row.N c.args.height c.args.tree.now c.args.bits.now in
+    let leaf = chunk_leaf g.F.Family.merge_rule g.F.Graftable.root_of g.H.HashFunction.hash_of g.row.N
+    c.args.height c.args.tree.now.after c.args.bits.now.after in
     let many : length c.loop-chunk.batch.added ≡ c.loop-chunk.chunk - c.args.first =
     ap (λ (b : Additions). length b.added) c.loop-chunk.invariant ∙ length-leaves_from leaf c.args.first (c.loop-chunk.chunk - c.args.first) in
     let base : c.loop-chunk.batch.base.leaves ≡ c.args.batch.base.leaves = ap (λ (b : Additions). b.base.leaves) c.loop-chunk.invariant in

@@ -16,7 +16,8 @@ loop-place-init g c = ap (λ us. record c.args.batch { updates = us }) c.require
 
 pub loop-place-preserved : goal.loop-place-preserved
 loop-place-preserved g c =
-    let leaf = chunk_leaf g.F.Family.merge_rule g.F.Graftable.root_of g.H.HashFunction.hash_of g.row.N c.args.height c.args.tree.now c.args.bits.now in
+    let leaf = chunk_leaf g.F.Family.merge_rule g.F.Graftable.root_of g.H.HashFunction.hash_of g.row.N
+    c.args.height c.args.tree.now.after c.args.bits.now.after in
     let i = c.loop-place.place-index in
     let at = get_or c.args.places.now i 0 in
     let size = c.chunk_size_bits-size.ensures.bits in
@@ -40,7 +41,8 @@ loop-place-preserved g c =
 
 pub returns-clause-updated : goal.returns-clause-updated
 returns-clause-updated g c =
-    let leaf = chunk_leaf g.F.Family.merge_rule g.F.Graftable.root_of g.H.HashFunction.hash_of g.row.N c.args.height c.args.tree.now c.args.bits.now in
+    let leaf = chunk_leaf g.F.Family.merge_rule g.F.Graftable.root_of g.H.HashFunction.hash_of g.row.N
+    c.args.height c.args.tree.now.after c.args.bits.now.after in
     c.loop-place.invariant
     ∙ ap (λ ps. record c.args.batch { updates = leaves_over leaf (8 * g.row.N) c.args.count ps })
     (take_all c.loop-place.place-index c.args.places.now (omega arith))
@@ -51,8 +53,8 @@ returns-in_err-batch-clause-refused g c =
     let i = c.loop-place.place-index in
     let at = get_or c.args.places.now i 0 in
     let chunk : at / c.chunk_size_bits-size.result ≡ at / (8 * g.row.N) = ap (λ k. at / k) c.chunk_size_bits-size.ensures.bits in
-    let ready : IsReady rule g.row.N c.args.height c.args.tree.now c.args.bits.now (at / (8 * g.row.N)) =
-    all_at (λ k. k / (8 * g.row.N) < c.args.count → IsReady rule g.row.N c.args.height c.args.tree.now c.args.bits.now (k / (8 * g.row.N)))
+    let ready : IsReady rule g.row.N c.args.height c.args.tree.now.after c.args.bits.now.after (at / (8 * g.row.N)) =
+    all_at (λ k. k / (8 * g.row.N) < c.args.count → IsReady rule g.row.N c.args.height c.args.tree.now.after c.args.bits.now.after (k / (8 * g.row.N)))
     c.args.places.now i c.loop-place-test.true c.requires.ready (omega (arith, chunk, c.if-chunk-count.true)) in
     let base : c.loop-place.batch.base.leaves ≡ c.args.batch.base.leaves = ap (λ (b : Additions). b.base.leaves) c.loop-place.invariant in
     let boundary : c.loop-place.batch.boundary ≡ c.args.batch.boundary = ap (λ (b : Additions). b.boundary) c.loop-place.invariant in

@@ -1,4 +1,4 @@
-use Rattle.std.proofs.Common.{◌≡◌, ◌∙◌, ap, sym, ◌∷◌, [], Some, option_map, List, ℕ}
+use Rattle.std.proofs.Common.{◌∙◌, ap, sym, ◌∷◌, [], Some, option_map}
 use Rattle.state_ops.specs.Operation.{meaning_of}
 use Rattle.auth_store_parts.specs.History.{update_fields, meanings}
 use Rattle.auth_store_parts.proofs.ChainCode.{none_placed, placed_at, placed_past}
