@@ -2,9 +2,7 @@
 
 ghost use Rattle.std.specs.Prelude.{◌≡◌, None};
 
-use crate::asked::{Asking, sizes, small_sizes};
 use crate::standing::Standing;
-use crate::told::{all_told, told};
 use auth_store_device::Device;
 use auth_store_session::{Sizes, StoreError};
 use case_lines::Unanswered;
@@ -12,19 +10,9 @@ use fault_storage::Config;
 use merkle_forest::{mmb, mmr};
 use rand_pcg::Pcg32;
 use std::alloc::Global;
-
-/// A family with a width of chunks.
-#[derive(Clone, Copy)]
-pub enum Kind {
-    /// A Merkle Mountain Range, with chunks of one byte.
-    Range,
-    /// A Range, with chunks of 32 bytes.
-    WideRange,
-    /// A Merkle Mountain Belt, with chunks of one byte.
-    Belt,
-    /// A Belt, with chunks of 32 bytes.
-    WideBelt,
-}
+use store_lines::asked::Asking;
+use store_lines::told::{all_told, told};
+use store_lines::words::Kind;
 
 /// A place for a session or a store of each family and width, of which one at most is taken.
 #[derive(Drop)]
@@ -35,29 +23,6 @@ pub struct Any {
     wide_range: Standing<mmr::Family, 32>,
     belt: Standing<mmb::Family, 1>,
     wide_belt: Standing<mmb::Family, 32>,
-}
-
-/// The kind of a family and a width; the sizes of its buffers where a store is asked for.
-pub fn asked_for(words: &[&str]) -> Result<(Kind, Option<Sizes>), Unanswered> {
-    match words {
-        ["session", family, width] => Ok((kind_of(family, width)?, None)),
-        ["store", family, width] => Ok((kind_of(family, width)?, Some(small_sizes()))),
-        ["store", family, width, write, replay] => {
-            Ok((kind_of(family, width)?, Some(sizes(write, replay)?)))
-        }
-        _ => Err(Unanswered::BadLine),
-    }
-}
-
-/// The kind of a family and a width.
-pub fn kind_of(family: &str, width: &str) -> Result<Kind, Unanswered> {
-    match (family, width) {
-        ("mmr", "1") => Ok(Kind::Range),
-        ("mmr", "32") => Ok(Kind::WideRange),
-        ("mmb", "1") => Ok(Kind::Belt),
-        ("mmb", "32") => Ok(Kind::WideBelt),
-        _ => Err(Unanswered::BadLine),
-    }
 }
 
 impl Any {

@@ -2,20 +2,17 @@
 #![tactic(auto)]
 
 mod any;
-mod asked;
-mod clients;
-mod devices;
-mod openings;
-mod refusals;
 mod standing;
-mod told;
 
 use any::Any;
-use asked::Asked;
 use auth_store_device::Device;
 use case_lines::{Player, Unanswered};
+use device_lines::{calls, openings};
 use rand_pcg::Pcg32;
 use std::alloc::Global;
+use store_lines::asked::Asked;
+use store_lines::words::asked_for;
+use store_lines::{clients, refusals};
 
 /// What stands in a case: a device, or a session or store that has it; and what was said for the next step.
 #[derive(Drop)]
@@ -29,7 +26,7 @@ struct Stores {
 impl Stores {
     // Makes a device that draws of a seed, and remembers how many pages a cache keeps.
     fn begin_device(&mut self, alloc: Global, words: &[&str]) -> Result<String, Unanswered> {
-        let (device, kept) = devices::begun(alloc, words)?;
+        let (device, kept) = calls::begun(alloc, words)?;
         self.kept = kept;
         let _before = self.any.taken_apart();
         let _other = self.device.replace(device);
@@ -39,7 +36,7 @@ impl Stores {
 
     // Hands the device, which is closed, to a session or to a store.
     fn hand_over(&mut self, alloc: Global, words: &[&str]) -> Result<String, Unanswered> {
-        let (kind, sizes) = any::asked_for(words)?;
+        let (kind, sizes) = asked_for(words)?;
         let Some(device) = self.device.take() else {
             return Err(Unanswered::BadLine);
         };
@@ -121,8 +118,8 @@ impl Player for Stores {
     fn answer(&mut self, alloc: Global, words: &[&str]) -> Result<String, Unanswered> {
         match words {
             ["device", words @ ..] => match &mut self.device {
-                Some(device) if !devices::is_beginning(words) => {
-                    devices::answer(alloc, device, words)
+                Some(device) if !calls::is_beginning(words) => {
+                    calls::answer(alloc, device, words)
                 }
                 _ => self.begin_device(alloc, words),
             },

@@ -4,7 +4,6 @@ ghost use Rattle.std.specs.Prelude.{◌≡◌, None};
 ghost use Rattle.auth_store_ledger.specs.Store.{IsChunkWidth};
 ghost use Rattle.auth_store_session.specs.Stores.{IsCache};
 
-use crate::asked::{Asking, Name, Root};
 use auth_store_device::Device;
 use auth_store_run::{Ran, run, run_session};
 use auth_store_session::{Answer, Session, Sizes, Step, Store, StoreError};
@@ -15,9 +14,9 @@ use paged_blob::CacheRef;
 use rand_pcg::Pcg32;
 use std::alloc::{AllocError, Global};
 use std::mem;
-
-/// What a session, or a store, answers.
-pub type Told<F> = Answer<F, Root, Name, u64>;
+use store_lines::asked::Asking;
+use store_lines::told::Told;
+use store_lines::words::{Name, Root};
 
 type Alone<F, const N: usize> = Store<Pcg32, F, ByteHash, Name, u64, N>;
 

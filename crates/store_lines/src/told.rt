@@ -1,8 +1,7 @@
 //! Answers of a session, as words.
 
-use crate::asked::Name;
 use crate::refusals;
-use crate::standing::Told;
+use crate::words::{Name, Root};
 use auth_store_ledger::{KeyProof, ProvedOperation, ProvedRange, ProvedSlice};
 use auth_store_session::Answer;
 use case_lines::Unanswered;
@@ -10,6 +9,9 @@ use merkle_forest::Family;
 use merkle_forest::digest::Digest;
 use state_ops::OrderedOperation;
 use std::alloc::Global;
+
+/// What a session, or a store, answers.
+pub type Told<F> = Answer<F, Root, Name, u64>;
 
 /// An answer as words.
 pub fn told<F: Family>(alloc: Global, answer: &Told<F>) -> Result<String, Unanswered> {

@@ -1,7 +1,7 @@
 //! Devices that no store has: made, and called.
 
-use crate::asked::first_settings;
 use crate::refusals;
+use crate::settings::first_settings;
 use auth_store_device::Device;
 use case_lines::{Unanswered, bytes, digits};
 use fault_storage::{faulty, memory};

@@ -1,14 +1,13 @@
-//! Refusals: their numbers, and what they carry.
+//! What a device refuses: numbers, and what they carry.
 
 use auth_store_device::OpenError;
-use auth_store_session::StoreError;
 use case_lines::Unanswered;
 use fault_storage::HeaderError;
 use paged_blob::{CallKind, Error};
 use std::alloc::Global;
 
-// The number of a header's fault.
-fn header_number(fault: HeaderError) -> &'static str {
+/// The number of a header's fault.
+pub fn header_number(fault: HeaderError) -> &'static str {
     match fault {
         HeaderError::Magic => "H1",
         HeaderError::LayoutNotAllowed => "H2",
@@ -19,8 +18,8 @@ fn header_number(fault: HeaderError) -> &'static str {
     }
 }
 
-// The name of a call.
-fn call_name(call: CallKind) -> &'static str {
+/// The name of a call.
+pub fn call_name(call: CallKind) -> &'static str {
     match call {
         CallKind::Read => "read",
         CallKind::Write => "write",
@@ -53,22 +52,4 @@ pub fn of_opening(alloc: Global, error: OpenError) -> Result<String, Unanswered>
         OpenError::PowerCut => "F10",
     };
     Ok(number.to_string(alloc)?)
-}
-
-/// What a store refuses.
-pub fn of_store(alloc: Global, error: StoreError) -> Result<String, Unanswered> {
-    let number = error.number();
-    let carried = match error {
-        StoreError::Fault(None) => " open",
-        StoreError::Fault(Some(call)) => return Ok(format!(in alloc;
-            "{number} {}",
-            call_name(call)
-        )?),
-        StoreError::Header(fault) => return Ok(format!(in alloc;
-            "{number} {}",
-            header_number(fault)
-        )?),
-        _ => "",
-    };
-    Ok(format!(in alloc; "{number}{carried}")?)
 }

@@ -1,7 +1,6 @@
 //! What a client says of a proof, without a store.
 
-use crate::any::{Kind, kind_of};
-use crate::asked::{Name, Root, key};
+use crate::words::{Kind, Name, Root, key, kind_of};
 use auth_store_client::{Claim, check};
 use case_lines::{Unanswered, bytes};
 use merkle_forest::codec::FixedBytes;
