@@ -170,7 +170,7 @@ where
 /// each step, of its kind, and what was acknowledged begins the log of every later history; and each history of the run
 /// is of keys and values, so that a client's yes under any root that is answered is true of it, or strings collide
 /// (`laws`). A device of which nothing was called yet stands for the empty history, for every seed
-/// (`auth_store_session::laws::a_new_device_stands_for_the_empty_history`).
+/// (`auth_store_laws::a_new_device_stands_for_the_empty_history`).
 pub fn run<R, F, H, K, V, const N: usize>(
     alloc: Global,
     device: Device<R>,

@@ -1,9 +1,5 @@
 pub mod AtRest
 pub mod Batches
-pub mod Begins
-pub mod Causes
-pub mod Cuts
-pub mod Doubts
 pub mod Grown
 pub mod Kept
 pub mod Lives
@@ -19,6 +15,4 @@ pub mod Refused
 pub mod Rests
 pub mod Runs
 pub mod Sound
-pub mod Stays
 pub mod Steps
-pub mod Unpruned

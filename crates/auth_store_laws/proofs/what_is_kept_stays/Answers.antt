@@ -1,5 +1,5 @@
-use Rattle.auth_store_session.proofs.Stays.{step_goes_on, run_goes_on}
-use Rattle.auth_store_session.proofs.laws.what_is_kept_stays.Goals as goal
+use Rattle.auth_store_laws.proofs.Stays.{step_goes_on, run_goes_on}
+use Rattle.auth_store_laws.proofs.what_is_kept_stays.Goals as goal
 
 pub returns-clause-step : goal.returns-clause-step
 returns-clause-step c = step_goes_on

@@ -1,5 +1,5 @@
-use Rattle.auth_store_session.proofs.Unpruned.{with_pruned, keeps_history, steps_unpruned, prune_leaves}
-use Rattle.auth_store_session.proofs.laws.pruning_changes_no_answer.Goals as goal
+use Rattle.auth_store_laws.proofs.Unpruned.{with_pruned, keeps_history, steps_unpruned, prune_leaves}
+use Rattle.auth_store_laws.proofs.pruning_changes_no_answer.Goals as goal
 
 pub returns-clause-history : goal.returns-clause-history
 returns-clause-history c m before after history pruned location answer next step =

@@ -1,5 +1,5 @@
-use Rattle.auth_store_session.proofs.Causes.{run_faults, run_cuts, run_numbers}
-use Rattle.auth_store_session.proofs.laws.a_run_tells_causes.Goals as goal
+use Rattle.auth_store_laws.proofs.Causes.{run_faults, run_cuts, run_numbers}
+use Rattle.auth_store_laws.proofs.a_run_tells_causes.Goals as goal
 
 pub returns-clause-faults : goal.returns-clause-faults
 returns-clause-faults c = run_faults

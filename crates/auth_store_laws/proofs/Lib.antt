@@ -1,0 +1,6 @@
+mod Begins
+mod Causes
+mod Cuts
+mod Doubts
+mod Stays
+mod Unpruned

@@ -1,5 +1,0 @@
-use Rattle.auth_store_session.proofs.Begins.{stands_for_none}
-use Rattle.auth_store_session.proofs.laws.a_new_device_stands_for_the_empty_history.Goals as goal
-
-pub returns : goal.returns
-returns g c = stands_for_none c.what_is_encoded_is_recorded.ensures
