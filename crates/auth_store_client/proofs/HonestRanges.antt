@@ -4,7 +4,7 @@ use Rattle.std.proofs.Common.{Bool, List, [], ◌∷◌, length, map, take, drop
 use Rattle.std.specs.Prelude.{slice_get, if◌then◌else◌, ◌==◌}
 use Rattle.std.proofs.lemmas.List.{length-take-le, length-drop}
 use Rattle.std.proofs.lemmas.Option.{slice_get-get_or}
-use Rattle.merkle_core.specs.Laws.Sound.{all_take, all_drop}
+use Rattle.merkle_proofs.specs.Laws.Sound.{all_take, all_drop}
 use Rattle.state_proofs_parts.specs.Bits.{chunks_of}
 use Rattle.state_proofs_parts.specs.Laws.Bits.{length-chunk_of}
 use Rattle.state_proofs_parts.specs.Canonical.{Setting, State, chunk_bits, full_chunks, next_bit, chunks, chunk}

@@ -5,10 +5,10 @@ use Rattle.std.proofs.lemmas.List.{length-map}
 use Rattle.merkle_forest.specs.declared.bagging.Bagging.TheVariants.{BackwardFold}
 use Rattle.merkle_forest.specs.Perfect.{IsPairing}
 use Rattle.merkle_forest.specs.Trees.{plain_digest}
-use Rattle.merkle_core.specs.HonestReads.{ReadsHonestly}
-use Rattle.merkle_core.specs.Laws.HonestReads.{read_at, plain_made, plain_children}
-use Rattle.merkle_core.specs.Laws.MadeTrees.{AllSized}
-use Rattle.merkle_core.specs.MadeTrees.{whole, plain_over}
+use Rattle.merkle_proofs.specs.HonestReads.{ReadsHonestly}
+use Rattle.merkle_proofs.specs.Laws.HonestReads.{read_at, plain_made, plain_children}
+use Rattle.merkle_proofs.specs.Laws.MadeTrees.{AllSized}
+use Rattle.merkle_proofs.specs.MadeTrees.{whole, plain_over}
 use Rattle.state_ops.specs.Operation.{Operation, fixed_encoding}
 use Rattle.state_proofs_parts.specs.Canonical.{Setting, State}
 use Rattle.state_proofs_parts.specs.MadeStates.{operations_names}

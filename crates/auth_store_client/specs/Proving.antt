@@ -5,9 +5,9 @@ use Rattle.std.specs.List.{flat_map}
 use Rattle.merkle_forest.specs.declared.bagging.Bagging.TheVariants.{BackwardFold}
 use Rattle.merkle_forest.specs.Trees.{inactive_peaks}
 use Rattle.merkle_core_parts.specs.Mem.{plain_leaf_digests, plain_node, tree_digest}
-use Rattle.merkle_core.specs.MadeRoots.{peaks_of}
-use Rattle.merkle_core.specs.Plans.{honest_digests}
-use Rattle.merkle_core.specs.Proofs.{proof_encoding}
+use Rattle.merkle_proofs.specs.MadeRoots.{peaks_of}
+use Rattle.merkle_proofs.specs.Plans.{honest_digests}
+use Rattle.merkle_proofs.specs.Proofs.{proof_encoding}
 use Rattle.state_proofs_parts.specs.Canonical.{Setting, State, chunk_bits, chunks}
 use Rattle.state_proofs.specs.Encoded.{range_proof_encoding}
 use Rattle.state_proofs.specs.Honest.{honest_range, key_value_proof, operation_proof}

@@ -2,17 +2,17 @@
 
 ghost use Rattle.std.specs.Prelude.{◌≡◌, ◌+◌, ℕ, List, map, length, IfOk, IfErr, OnOk};
 ghost use Rattle.merkle_core_parts.specs.Mem.{NodeHash, tree_digest};
-ghost use Rattle.merkle_core.specs.Plans.{looked_up, honest_digests, IsLookupOf, IsProvable};
-ghost use Rattle.merkle_core.specs.Plans.{IsRefusalToProveNow, IsRefusalToProveElement};
+ghost use Rattle.merkle_proofs.specs.Plans.{looked_up, honest_digests, IsLookupOf, IsProvable};
+ghost use Rattle.merkle_proofs.specs.Plans.{IsRefusalToProveNow, IsRefusalToProveElement};
 
-use crate::building::{element_proof, range_proof};
-use crate::proof::Proof;
-use crate::readable::Readable;
-use merkle_core_parts::batch::MerkleizedBatch;
-use merkle_core_parts::{Error, Mem};
+use merkle_core_parts::{Error, Readable};
 use merkle_forest::family::Family;
 use merkle_forest::hasher::Hasher;
 use merkle_forest::{Digest, Location};
+use merkle_memory::Mem;
+use merkle_memory::batch::MerkleizedBatch;
+use merkle_proofs::Proof;
+use merkle_proofs::building::{element_proof, range_proof};
 use std::alloc::Global;
 use std::ops::Range;
 

@@ -33,6 +33,10 @@ abbrev pub known_above : Rule → List Layer → (ℕ → Option (List ℕ)) →
 known_above rule [] known p = known p
 known_above rule (layer ∷ below) known p = option_or (layer_at rule layer p) (known_above rule below known p)
 
+-- the nodes that a batch makes, and those that the batches below it make
+abbrev pub made_by : Rule → Growth → ℕ → Option (List ℕ)
+made_by rule batch = known_above rule (own_layer batch ∷ batch.below) (λ p. None)
+
 -- what the nodes that a batch needs are read from: a tree, the layers over it, the newest first, and whether others
 -- were given up
 pub record Layered : Type 0 where

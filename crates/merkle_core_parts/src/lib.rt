@@ -1,17 +1,11 @@
-//! The tree that is kept in memory, and the batches of its changes. The crate ports `merkle::mem` and `merkle::batch`
-//! of commonware-storage 2026.10.0; `In the Rust` names what an item is there.
+//! What is said of trees that are kept in memory, and of the batches of their changes; what their nodes are read from,
+//! and what calls of them refuse. The crate ports parts of `merkle` of commonware-storage 2026.10.0; `In the Rust` names
+//! what an item is there.
 #![tactic(auto)]
 
-pub mod batch;
-pub mod components;
 pub mod error;
-pub mod growth;
 pub mod laws;
-mod layer;
-mod layered;
-pub mod mem;
-pub mod peaks;
-pub mod rebuild;
+pub mod readable;
 
 pub use error::Error;
-pub use mem::{Config, Mem, Reserved, Unreserved};
+pub use readable::Readable;

@@ -13,9 +13,9 @@ use Rattle.merkle_core_parts.specs.declared.error.Error.{Error as MerkleError}
 use Rattle.merkle_core_parts.specs.declared.error.Error.TheVariants.{Memory as NoMemory, LocationOverflow, Empty}
 use Rattle.merkle_core_parts.specs.declared.error.Error.TheVariants.{RangeOutOfBounds, LeafOutOfBounds, ElementPruned}
 use Rattle.merkle_core_parts.specs.declared.error.Error.TheVariants.{InvalidInactivePeaks}
-use Rattle.merkle_core.specs.MadeRoots.{peaks_of}
-use Rattle.merkle_core.specs.Plans.{Asked as Span, IsRefusalOfElement, IsRefusalOfRange, IsRefusalToProveNow}
-use Rattle.merkle_core.specs.Plans.{IsWithinTree, Lookup, first_missing, range_positions}
+use Rattle.merkle_proofs.specs.MadeRoots.{peaks_of}
+use Rattle.merkle_proofs.specs.Plans.{Asked as Span, IsRefusalOfElement, IsRefusalOfRange, IsRefusalToProveNow}
+use Rattle.merkle_proofs.specs.Plans.{IsWithinTree, Lookup, first_missing, range_positions}
 use Rattle.state_proofs_parts.specs.Bits.{all_bits, bit_count}
 use Rattle.state_proofs_parts.specs.Laws.Bits.{length-all}
 use Rattle.state_proofs.specs.declared.error.Error.{Error}

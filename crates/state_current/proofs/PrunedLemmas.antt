@@ -15,8 +15,8 @@ use Rattle.merkle_forest.specs.Nodes.{HasNode, IsNodeAt, IsPeakAt}
 use Rattle.merkle_forest.specs.Perfect.{IsPairing}
 use Rattle.merkle_core_parts.specs.Laws.Plain.{leaf-place}
 use Rattle.merkle_core_parts.specs.Mem.{node_count}
-use Rattle.merkle_core.specs.Plans.{Lookup}
-use Rattle.merkle_core.specs.MultiReads.{both_there}
+use Rattle.merkle_proofs.specs.Plans.{Lookup}
+use Rattle.merkle_proofs.specs.MultiReads.{both_there}
 use Rattle.state_proofs_parts.specs.GraftedNodes.{TwoTrees, chunks_node, grafted_lookup, known_or_made, node_over}
 use Rattle.state_proofs_parts.specs.Verifier.{node_at}
 use Rattle.state_proofs_parts.specs.Laws.GraftedNodes.{Aligned, Roots, node_over-is, node_over-some}

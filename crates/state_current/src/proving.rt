@@ -3,8 +3,8 @@
 ghost use Rattle.std.specs.Prelude.{◌≡◌, ◌<◌, ◌≤◌, ◌+◌, ◌*◌, ◌/◌, ◌^◌, ℕ, map, length, IfOk, IfErr};
 ghost use Rattle.merkle_forest.specs.declared.bagging.Bagging.TheVariants.{BackwardFold};
 ghost use Rattle.merkle_forest.specs.Trees.{inactive_peaks};
-ghost use Rattle.merkle_core.specs.MadeRoots.{peaks_of};
-ghost use Rattle.merkle_core.specs.Plans.{IsRefusalToProveNow, honest_digests};
+ghost use Rattle.merkle_proofs.specs.MadeRoots.{peaks_of};
+ghost use Rattle.merkle_proofs.specs.Plans.{IsRefusalToProveNow, honest_digests};
 ghost use Rattle.merkle_core_parts.specs.Mem.{node_at, plain_leaf_digests, plain_node, tree_digest};
 ghost use Rattle.merkle_core_parts.specs.declared.error.Error.TheVariants.{Memory as NoMemory};
 ghost use Rattle.state_proofs_parts.specs.Bits.{all_bits};

@@ -9,9 +9,9 @@ use Rattle.merkle_core_parts.specs.declared.error.Error.{Error as MerkleError}
 use Rattle.merkle_core_parts.specs.declared.error.Error.TheVariants.{LocationOverflow, Empty, RangeOutOfBounds, InvalidSize, LeafOutOfBounds}
 use Rattle.merkle_core_parts.specs.declared.error.Error.TheVariants.{DuplicateLocation, UnsortedLocation, ElementPruned, InvalidPinnedNodes}
 use Rattle.merkle_core_parts.specs.declared.error.Error.TheVariants.{StaleBatch, AncestorDropped, InvalidInactivePeaks, MissingNode, Memory as NoMemory}
-use Rattle.merkle_core.specs.MadeRoots.{peaks_of}
-use Rattle.merkle_core.specs.Plans.{Asked as Span, IsRefusalToBuild, IsWithinTree, Lookup, honest_digests, looked_up}
-use Rattle.merkle_core.specs.Ranges.{Digests, range_digests}
+use Rattle.merkle_proofs.specs.MadeRoots.{peaks_of}
+use Rattle.merkle_proofs.specs.Plans.{Asked as Span, IsRefusalToBuild, IsWithinTree, Lookup, honest_digests, looked_up}
+use Rattle.merkle_proofs.specs.Ranges.{Digests, range_digests}
 use Rattle.merkle_forest.specs.declared.bagging.Bagging.TheVariants.{BackwardFold}
 use Rattle.merkle_forest.specs.Hashing.{Hash}
 use Rattle.merkle_forest.specs.Forest.{Rule, Tree, forest_of, position}

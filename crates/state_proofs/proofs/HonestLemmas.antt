@@ -4,7 +4,7 @@ use Rattle.merkle_forest.specs.declared.bagging.Bagging.{Bagging}
 use Rattle.merkle_forest.specs.declared.bagging.Bagging.TheVariants.{BackwardFold}
 use Rattle.merkle_forest.specs.Forest.{Tree}
 use Rattle.merkle_forest.specs.Trees.{Located, located}
-use Rattle.merkle_core.specs.Ranges.{range_digests}
+use Rattle.merkle_proofs.specs.Ranges.{range_digests}
 use Rattle.state_proofs_parts.specs.Canonical.{Setting, State, chunk_bits, grafted_digests, grafted_inactive, forest, peaks}
 use Rattle.state_proofs_parts.specs.Grafting.{chunk_aligned_inactive_peaks}
 use Rattle.state_proofs.specs.Honest.{grafted_range}

@@ -8,9 +8,9 @@ use Rattle.merkle_forest.specs.Forest.{Tree, leaf, branch, position, leaf_count,
 use Rattle.merkle_forest.specs.Hashing.{Hash}
 use Rattle.merkle_forest.specs.Nodes.{IsWithin, IsNodeAt}
 use Rattle.merkle_forest.specs.Trees.{Located, located}
-use Rattle.merkle_core.specs.MadeRoots.{peaks_of}
-use Rattle.merkle_core.specs.Plans.{Lookup, looked_up, first_missing, positions_of, sibling_nodes, inner_nodes, range_nodes, range_positions}
-use Rattle.merkle_core.specs.Ranges.{Digests, is_before, is_after, meets, singly, siblings, inner_digests, range_digests}
+use Rattle.merkle_proofs.specs.MadeRoots.{peaks_of}
+use Rattle.merkle_proofs.specs.Plans.{Lookup, looked_up, first_missing, positions_of, sibling_nodes, inner_nodes, range_nodes, range_positions}
+use Rattle.merkle_proofs.specs.Ranges.{Digests, is_before, is_after, meets, singly, siblings, inner_digests, range_digests}
 
 case_of : (P : Bool → Type 0) (test : Bool) → P true → P false → P test
 case_of P true one other = one

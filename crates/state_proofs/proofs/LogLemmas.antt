@@ -5,8 +5,8 @@ use Rattle.merkle_forest.specs.declared.bagging.Bagging.{Bagging}
 use Rattle.merkle_forest.specs.declared.bagging.Bagging.TheVariants.{BackwardFold}
 use Rattle.merkle_forest.specs.Forest.{Rule}
 use Rattle.merkle_forest.specs.Hashing.{Hash}
-use Rattle.merkle_core.specs.MadeTrees.{plain_over}
-use Rattle.merkle_core.specs.Reads.{HashesAs}
+use Rattle.merkle_proofs.specs.MadeTrees.{plain_over}
+use Rattle.merkle_proofs.specs.Reads.{HashesAs}
 use Rattle.state_proofs.specs.LogProofs.{leaf_hash, branch_hash}
 
 pub plainly : (rule : Rule) (hash : Hash) → HashesAs rule hash (leaf_hash hash) (branch_hash hash) plain_over

@@ -6,11 +6,11 @@ use Rattle.merkle_forest.specs.Hashing.{Hash}
 use Rattle.merkle_forest.specs.Made.{Site, at_pending, at_partial, Made, bytes, strings}
 use Rattle.merkle_forest.specs.Perfect.{IsPairing}
 use Rattle.merkle_forest.specs.declared.bagging.Bagging.TheVariants.{BackwardFold}
-use Rattle.merkle_core.specs.Laws.MadeTrees.{choose}
-use Rattle.merkle_core.specs.MadeRoots.{peaks_of, read_root}
-use Rattle.merkle_core.specs.MadeTrees.{Elements, from}
-use Rattle.merkle_core.specs.OneEach.{OneEach}
-use Rattle.merkle_core.specs.RangeCounts.{range_outer}
+use Rattle.merkle_proofs.specs.Laws.MadeTrees.{choose}
+use Rattle.merkle_proofs.specs.MadeRoots.{peaks_of, read_root}
+use Rattle.merkle_proofs.specs.MadeTrees.{Elements, from}
+use Rattle.merkle_proofs.specs.OneEach.{OneEach}
+use Rattle.merkle_proofs.specs.RangeCounts.{range_outer}
 use Rattle.state_proofs_parts.specs.Canonical.{Setting}
 use Rattle.state_proofs_parts.specs.MadeCanonical.{if_made, next_made, canonical_made, chunk_made}
 use Rattle.state_proofs_parts.specs.MadeGrafted.{grafted_over, grafted_names}

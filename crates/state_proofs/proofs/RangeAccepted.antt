@@ -16,10 +16,10 @@ use Rattle.merkle_forest.specs.Made.{Made, value}
 use Rattle.merkle_forest.specs.Nodes.{IsWithin, IsNodeAt, nodes_of_height}
 use Rattle.merkle_forest.specs.Perfect.{IsPairing}
 use Rattle.merkle_forest.specs.Trees.{Located, located, peak_digests}
-use Rattle.merkle_core.specs.MadeRoots.{Naming}
-use Rattle.merkle_core.specs.MadeTrees.{Over, from}
-use Rattle.merkle_core.specs.Ranges.{Digests, meets, is_before, is_after, range_digests}
-use Rattle.merkle_core.specs.Reads.{Agrees, range_root}
+use Rattle.merkle_proofs.specs.MadeRoots.{Naming}
+use Rattle.merkle_proofs.specs.MadeTrees.{Over, from}
+use Rattle.merkle_proofs.specs.Ranges.{Digests, meets, is_before, is_after, range_digests}
+use Rattle.merkle_proofs.specs.Reads.{Agrees, range_root}
 use Rattle.state_proofs_parts.specs.SetBits.{is_zero}
 use Rattle.state_proofs_parts.specs.Canonical.{Setting, State, chunk_bits, full_chunks, next_bit, chunks, chunk}
 use Rattle.state_proofs_parts.specs.Canonical.{forest, peaks, grafted_digests, grafted_inactive, grafted_root}

@@ -9,10 +9,10 @@ use Rattle.merkle_forest.specs.Laws.Matching.{Agrees}
 use Rattle.merkle_forest.specs.Made.{Site, at_pending, at_partial, Collision}
 use Rattle.merkle_forest.specs.Nodes.{nodes_of_height}
 use Rattle.merkle_forest.specs.Perfect.{IsPairing}
-use Rattle.merkle_core.specs.HonestReads.{AreDigestsOver, ReadsHonestly}
-use Rattle.merkle_core.specs.Laws.HonestReads.{read_at}
-use Rattle.merkle_core.specs.MadeTrees.{Over, whole}
-use Rattle.merkle_core.specs.Ranges.{Digests}
+use Rattle.merkle_proofs.specs.HonestReads.{AreDigestsOver, ReadsHonestly}
+use Rattle.merkle_proofs.specs.Laws.HonestReads.{read_at}
+use Rattle.merkle_proofs.specs.MadeTrees.{Over, whole}
+use Rattle.merkle_proofs.specs.Ranges.{Digests}
 use Rattle.state_proofs_parts.specs.Canonical.{Setting, State, chunk_bits, full_chunks, next_bit, chunks, chunk}
 use Rattle.state_proofs_parts.specs.Canonical.{forest, grafted_digests, grafted_inactive, pending_digest}
 use Rattle.state_proofs_parts.specs.Canonical.{partial_digest, canonical_root}

@@ -19,11 +19,11 @@ use Rattle.merkle_forest.specs.Made.{at_pending, at_partial, Made, bytes, value,
 use Rattle.merkle_forest.specs.Nodes.{nodes_of_height}
 use Rattle.merkle_forest.specs.Perfect.{IsPairing}
 use Rattle.merkle_forest.specs.Trees.{Located, located}
-use Rattle.merkle_core.specs.Laws.MadeTrees.{AgreeOver, all_sized}
-use Rattle.merkle_core.specs.Laws.Sound.{agree_in}
-use Rattle.merkle_core.specs.MadeTrees.{from, whole}
-use Rattle.merkle_core.specs.MadeRoots.{peaks_of}
-use Rattle.merkle_core.specs.RangeCounts.{range_outer}
+use Rattle.merkle_proofs.specs.Laws.MadeTrees.{AgreeOver, all_sized}
+use Rattle.merkle_proofs.specs.Laws.Sound.{agree_in}
+use Rattle.merkle_proofs.specs.MadeTrees.{from, whole}
+use Rattle.merkle_proofs.specs.MadeRoots.{peaks_of}
+use Rattle.merkle_proofs.specs.RangeCounts.{range_outer}
 use Rattle.state_proofs_parts.specs.Canonical.{Setting, State, chunk_bits, full_chunks, next_bit, chunks, chunk}
 use Rattle.state_proofs_parts.specs.Canonical.{forest, grafted_inactive, canonical_string, canonical_root}
 use Rattle.state_proofs_parts.specs.Laws.MadeCanonical.{value_canonical}

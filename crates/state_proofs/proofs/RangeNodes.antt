@@ -8,12 +8,12 @@ use Rattle.merkle_forest.specs.Forest.{Tree, leaf, branch, height, leaf_count, R
 use Rattle.merkle_forest.specs.Hashing.{Hash, leaf_string, node_string}
 use Rattle.merkle_forest.specs.Made.{Made, value}
 use Rattle.merkle_forest.specs.Perfect.{IsPairing}
-use Rattle.merkle_core.specs.Extracted.{AreMadeOf, AreGiven}
-use Rattle.merkle_core.specs.MadeRoots.{Naming, from_left, peaks_of}
-use Rattle.merkle_core.specs.MadeTrees.{Over, from}
-use Rattle.merkle_core.specs.Plans.{honest_digests}
-use Rattle.merkle_core.specs.Ranges.{Digests}
-use Rattle.merkle_core.specs.Reads.{range_root}
+use Rattle.merkle_proofs.specs.Extracted.{AreMadeOf, AreGiven}
+use Rattle.merkle_proofs.specs.MadeRoots.{Naming, from_left, peaks_of}
+use Rattle.merkle_proofs.specs.MadeTrees.{Over, from}
+use Rattle.merkle_proofs.specs.Plans.{honest_digests}
+use Rattle.merkle_proofs.specs.Ranges.{Digests}
+use Rattle.merkle_proofs.specs.Reads.{range_root}
 use Rattle.state_proofs_parts.specs.Canonical.{Setting, State, chunk_bits, chunks, grafted_digests, grafted_inactive}
 use Rattle.state_proofs_parts.specs.Grafting.{grafted, grafted_digest}
 use Rattle.state_proofs.specs.Honest.{grafted_range, honest_range}

@@ -7,10 +7,10 @@ use Rattle.merkle_forest.specs.Hashing.{Hash, leaf_string, node_string}
 use Rattle.merkle_forest.specs.Nodes.{IsWithin, IsNodeAt}
 use Rattle.merkle_forest.specs.Perfect.{IsPairing}
 use Rattle.merkle_forest.specs.Trees.{Located, located}
-use Rattle.merkle_core.specs.Extracted.{AreMadeOf, AreGiven, told_nodes, inner_told, node_digests}
-use Rattle.merkle_core.specs.MadeRoots.{peaks_of}
-use Rattle.merkle_core.specs.MadeTrees.{from}
-use Rattle.merkle_core.specs.Ranges.{Digests, is_before, is_after, meets, singly, siblings, inner_digests}
+use Rattle.merkle_proofs.specs.Extracted.{AreMadeOf, AreGiven, told_nodes, inner_told, node_digests}
+use Rattle.merkle_proofs.specs.MadeRoots.{peaks_of}
+use Rattle.merkle_proofs.specs.MadeTrees.{from}
+use Rattle.merkle_proofs.specs.Ranges.{Digests, is_before, is_after, meets, singly, siblings, inner_digests}
 use Rattle.state_proofs_parts.specs.Grafting.{grafted}
 use Rattle.state_proofs.specs.RangeExtracted.{AreMadeOfShown, told_by}
 use Rattle.state_proofs.specs.Verified.{Shown, stop_of, given_by, graftable_shown, RangeParts}

@@ -7,11 +7,11 @@ use Rattle.merkle_forest.specs.declared.bagging.Bagging.{Bagging}
 use Rattle.merkle_forest.specs.Forest.{Tree, leaf, branch, height, leaf_count, Rule}
 use Rattle.merkle_forest.specs.Made.{Made}
 use Rattle.merkle_forest.specs.Trees.{Located}
-use Rattle.merkle_core.specs.MadeRoots.{Naming, Streams, Bagged, folded, from_left, given_outer, peaks_of, read_peak}
-use Rattle.merkle_core.specs.MadeRoots.{read_back, read_onto, read_group, read_bag, root_made, used}
-use Rattle.merkle_core.specs.MadeTrees.{Over, Elements, Reading, branch_made, from, given, read_tree}
-use Rattle.merkle_core.specs.Ranges.{meets, is_after, is_before}
-use Rattle.merkle_core.specs.Reads.{range_root}
+use Rattle.merkle_proofs.specs.MadeRoots.{Naming, Streams, Bagged, folded, from_left, given_outer, peaks_of, read_peak}
+use Rattle.merkle_proofs.specs.MadeRoots.{read_back, read_onto, read_group, read_bag, root_made, used}
+use Rattle.merkle_proofs.specs.MadeTrees.{Over, Elements, Reading, branch_made, from, given, read_tree}
+use Rattle.merkle_proofs.specs.Ranges.{meets, is_after, is_before}
+use Rattle.merkle_proofs.specs.Reads.{range_root}
 
 then_same : {A B : Type 0} (f g : A → Option B) → ((x : A) → f x ≡ g x) → (got : Option A) → option_and_then f got ≡ option_and_then g got
 then_same f g same None = refl

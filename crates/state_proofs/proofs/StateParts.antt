@@ -15,11 +15,11 @@ use Rattle.merkle_forest.specs.Laws.Matching.{Agrees}
 use Rattle.merkle_forest.specs.Nodes.{IsNodeAt, HasNode, nodes_of_height}
 use Rattle.merkle_forest.specs.Perfect.{IsPairing}
 use Rattle.merkle_forest.specs.Trees.{Located, located, plain_digest, inactive_peaks, tree_root}
-use Rattle.merkle_core.specs.Laws.MadeTrees.{AgreeOver, value_plain}
-use Rattle.merkle_core.specs.Laws.MadeRoots.{peak_count}
-use Rattle.merkle_core.specs.Laws.Sound.{all_parts}
-use Rattle.merkle_core.specs.Laws.Values.{value_root}
-use Rattle.merkle_core.specs.MadeTrees.{Elements, whole, plain_over}
+use Rattle.merkle_proofs.specs.Laws.MadeTrees.{AgreeOver, value_plain}
+use Rattle.merkle_proofs.specs.Laws.MadeRoots.{peak_count}
+use Rattle.merkle_proofs.specs.Laws.Sound.{all_parts}
+use Rattle.merkle_proofs.specs.Laws.Values.{value_root}
+use Rattle.merkle_proofs.specs.MadeTrees.{Elements, whole, plain_over}
 use Rattle.state_proofs_parts.specs.Canonical.{Setting, State, chunk_bits, full_chunks, next_bit, chunks, chunk}
 use Rattle.state_proofs_parts.specs.Canonical.{forest, peaks, grafted_inactive, grafted_digests, grafted_root}
 use Rattle.state_proofs_parts.specs.Canonical.{operations_root, pending_digest, partial_digest, canonical_string}

@@ -6,7 +6,7 @@ use Rattle.merkle_forest.specs.Hashing.{Hash, number}
 use Rattle.merkle_forest.specs.Laws.Matching.{Agrees, agrees_or_collides}
 use Rattle.merkle_forest.specs.Made.{at_pending, at_partial, Made, bytes, value, strings, Collision}
 use Rattle.merkle_forest.specs.Nodes.{nodes_of_height}
-use Rattle.merkle_core.specs.Laws.MadeRoots.{number_same}
+use Rattle.merkle_proofs.specs.Laws.MadeRoots.{number_same}
 use Rattle.state_proofs_parts.specs.Canonical.{Setting, State, chunk_bits, full_chunks, next_bit, chunk, forest}
 use Rattle.state_proofs_parts.specs.Canonical.{operations_root, grafted_root, pending_digest, partial_digest}
 use Rattle.state_proofs_parts.specs.Canonical.{canonical_string, canonical_root}

@@ -3,8 +3,8 @@ use Rattle.std.specs.Prelude.{◌≡◌, ◌≢◌, ◌<◌, ◌^◌, ◌⊎◌,
 use Rattle.merkle_core_parts.specs.declared.error.Error.{Error as MerkleError}
 use Rattle.merkle_core_parts.specs.declared.error.Error.TheVariants.{ElementPruned, LocationOverflow}
 use Rattle.merkle_core_parts.specs.declared.error.Error.TheVariants.{Memory as NoMemory}
-use Rattle.merkle_core.specs.Plans.{Asked as Span, IsRefusalOfElement, IsRefusalOfRange, IsWithinTree, Lookup}
-use Rattle.merkle_core.specs.Plans.{first_missing, range_positions}
+use Rattle.merkle_proofs.specs.Plans.{Asked as Span, IsRefusalOfElement, IsRefusalOfRange, IsWithinTree, Lookup}
+use Rattle.merkle_proofs.specs.Plans.{first_missing, range_positions}
 use Rattle.merkle_forest.specs.Forest.{Rule}
 use Rattle.state_proofs.specs.declared.error.Error.{Error}
 use Rattle.state_proofs.specs.declared.error.Error.TheVariants.{DataCorrupted, OperationPruned, Merkle, Memory}

@@ -1,6 +1,6 @@
 -- What proofs are built from, as the code holds it.
 use Rattle.std.specs.Prelude.{ℕ, Bool, List, ◌*◌}
-use Rattle.merkle_core.specs.Plans.{Asked, Lookup}
+use Rattle.merkle_proofs.specs.Plans.{Asked, Lookup}
 use Rattle.merkle_forest.specs.Forest.{Rule}
 use Rattle.state_proofs.specs.Required.{Measures}
 use Rattle.state_proofs_parts.specs.Sources.{Source}

@@ -5,7 +5,7 @@ use Rattle.merkle_forest.specs.Codec.{◌>>=◌, Outcome, LacksAfter, option_enc
 use Rattle.merkle_forest.specs.Forest.{Rule}
 use Rattle.merkle_forest.specs.Hashing.{Hash}
 use Rattle.merkle_forest.specs.Varint.{varint, after_number}
-use Rattle.merkle_core.specs.Proofs.{proof_encoding, after_proof, ProofLacks}
+use Rattle.merkle_proofs.specs.Proofs.{proof_encoding, after_proof, ProofLacks}
 use Rattle.state_proofs.specs.Verified.{RangeParts, Parts, Verifies}
 
 -- Merkle proof, pending digest as the family encodes it, partial digest if any, and root of the operations' tree

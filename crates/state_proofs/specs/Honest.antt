@@ -1,7 +1,7 @@
 -- The honest proofs of a state, and their bytes.
 use Rattle.std.specs.Prelude.{ℕ, ◌+◌, ◌/◌, List, length, take, drop, Option}
 use Rattle.merkle_forest.specs.declared.bagging.Bagging.TheVariants.{BackwardFold}
-use Rattle.merkle_core.specs.Ranges.{range_digests}
+use Rattle.merkle_proofs.specs.Ranges.{range_digests}
 use Rattle.state_proofs_parts.specs.Canonical.{Setting, State, chunk_bits, chunk, peaks, grafted_digests}
 use Rattle.state_proofs_parts.specs.Canonical.{grafted_inactive}
 use Rattle.state_proofs_parts.specs.Canonical.{operations_root, pending_digest, partial_digest}

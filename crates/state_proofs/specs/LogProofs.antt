@@ -4,10 +4,10 @@ use Rattle.merkle_forest.specs.declared.bagging.Bagging.TheVariants.{BackwardFol
 use Rattle.merkle_forest.specs.Forest.{Rule}
 use Rattle.merkle_forest.specs.Hashing.{Hash, leaf_string, node_string}
 use Rattle.merkle_forest.specs.Made.{value}
-use Rattle.merkle_core.specs.MadeTrees.{plain_over}
-use Rattle.merkle_core.specs.MultiReads.{multi_root}
-use Rattle.merkle_core.specs.Reads.{range_root}
-use Rattle.merkle_core.specs.Soundness.{plain_names}
+use Rattle.merkle_proofs.specs.MadeTrees.{plain_over}
+use Rattle.merkle_proofs.specs.MultiReads.{multi_root}
+use Rattle.merkle_proofs.specs.Reads.{range_root}
+use Rattle.merkle_proofs.specs.Soundness.{plain_names}
 
 -- of operations that stand from a location on. None: the proof leads to no root
 abbrev pub log_root : Rule → Hash → ℕ → ℕ → ℕ → List (List ℕ) → List (List ℕ) → Option (List ℕ)

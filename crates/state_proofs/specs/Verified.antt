@@ -15,8 +15,8 @@ use Rattle.merkle_forest.specs.Forest.{Rule, forest_of}
 use Rattle.merkle_forest.specs.Hashing.{Hash}
 use Rattle.merkle_forest.specs.Made.{Made, value}
 use Rattle.merkle_forest.specs.Nodes.{nodes_of_height}
-use Rattle.merkle_core.specs.MadeTrees.{Over}
-use Rattle.merkle_core.specs.Reads.{range_root}
+use Rattle.merkle_proofs.specs.MadeTrees.{Over}
+use Rattle.merkle_proofs.specs.Reads.{range_root}
 use Rattle.state_proofs_parts.specs.SetBits.{is_set}
 use Rattle.state_proofs_parts.specs.ShownChunks.{FitsChunk}
 use Rattle.state_proofs_parts.specs.Canonical.{canonical_string}

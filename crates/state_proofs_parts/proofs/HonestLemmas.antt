@@ -12,10 +12,10 @@ use Rattle.merkle_forest.specs.Forest.{mmr_rule}
 use Rattle.merkle_forest.specs.Hashing.{Hash, leaf_string, number}
 use Rattle.merkle_forest.specs.Made.{Site, at_bitmap_root, Made, bytes, both, hashed, value}
 use Rattle.merkle_core_parts.specs.Mem.{node_count, tree_digest, plain_leaf_digests, plain_node, list_root}
-use Rattle.merkle_core.specs.MadeTrees.{plain_over}
-use Rattle.merkle_core.specs.Plans.{honest_digests}
-use Rattle.merkle_core.specs.Reads.{range_root}
-use Rattle.merkle_core.specs.Soundness.{plain_names}
+use Rattle.merkle_proofs.specs.MadeTrees.{plain_over}
+use Rattle.merkle_proofs.specs.Plans.{honest_digests}
+use Rattle.merkle_proofs.specs.Reads.{range_root}
+use Rattle.merkle_proofs.specs.Soundness.{plain_names}
 use Rattle.state_proofs_parts.specs.Bits.{IsChunkWidth, chunk_at, full_chunks}
 use Rattle.state_proofs_parts.specs.Inclusion.{also, partial_made, BitClaim, tree_read, last_of, front_of, bit_root}
 use Rattle.state_proofs_parts.specs.Inclusion.{plain_leaf, plain_root, honest_bit_digests, honest_claim}

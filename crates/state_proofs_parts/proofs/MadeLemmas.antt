@@ -9,8 +9,8 @@ use Rattle.merkle_forest.specs.Laws.Rules.{mmr_merges_equals}
 use Rattle.merkle_forest.specs.Made.{at_bitmap_root, Made, value}
 use Rattle.merkle_core_parts.specs.Laws.Plain.{plain_roots}
 use Rattle.merkle_core_parts.specs.Mem.{plain_node, list_root as list_root_of}
-use Rattle.merkle_core.specs.Laws.Values.{value_list}
-use Rattle.merkle_core.specs.Soundness.{list_root}
+use Rattle.merkle_proofs.specs.Laws.Values.{value_list}
+use Rattle.merkle_proofs.specs.Soundness.{list_root}
 use Rattle.state_proofs_parts.specs.Bits.{chunk_at, full_chunks}
 use Rattle.state_proofs_parts.specs.Inclusion.{also, partial_made, last_made, made_bitmap, plain_leaf, plain_root}
 use Rattle.state_proofs_parts.specs.Maps.{chunks_root, sealed_root, bitmap_root}

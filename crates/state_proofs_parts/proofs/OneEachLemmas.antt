@@ -7,11 +7,11 @@ use Rattle.merkle_forest.specs.declared.bagging.Bagging.{Bagging}
 use Rattle.merkle_forest.specs.Forest.{mmr_rule}
 use Rattle.merkle_forest.specs.Hashing.{Hash, number}
 use Rattle.merkle_forest.specs.Made.{Site, at_bitmap_root, at_last_chunk, Made, bytes, both, hashed, value, Strings, strings}
-use Rattle.merkle_core.specs.Laws.MadeBags.{map_good}
-use Rattle.merkle_core.specs.Laws.MadeTrees.{choose}
-use Rattle.merkle_core.specs.MadeTrees.{plain_over}
-use Rattle.merkle_core.specs.OneEach.{OneEach}
-use Rattle.merkle_core.specs.Soundness.{list_root}
+use Rattle.merkle_proofs.specs.Laws.MadeBags.{map_good}
+use Rattle.merkle_proofs.specs.Laws.MadeTrees.{choose}
+use Rattle.merkle_proofs.specs.MadeTrees.{plain_over}
+use Rattle.merkle_proofs.specs.OneEach.{OneEach}
+use Rattle.merkle_proofs.specs.Soundness.{list_root}
 use Rattle.state_proofs_parts.specs.Bits.{chunk_at, full_chunks}
 use Rattle.state_proofs_parts.specs.Inclusion.{also, partial_made, last_made, made_bitmap, BitClaim, tree_read, last_of, front_of, partial_read, bit_root}
 use Rattle.state_proofs_parts.proofs.SiteLemmas.{IsTreeSite, IsOfTree, root_sites, range_sited}

@@ -9,7 +9,7 @@ use Rattle.merkle_forest.specs.declared.bagging.Bagging.{Bagging}
 use Rattle.merkle_forest.specs.Forest.{mmr_rule}
 use Rattle.merkle_forest.specs.Hashing.{Hash}
 use Rattle.merkle_core_parts.specs.Mem.{NodeHash, tree_digest}
-use Rattle.merkle_core.specs.Plans.{honest_digests}
+use Rattle.merkle_proofs.specs.Plans.{honest_digests}
 use Rattle.state_proofs_parts.specs.Bits.{Bits, AreBitsOf, full_chunks}
 use Rattle.state_proofs_parts.specs.Inclusion.{honest_bit_digests}
 use Rattle.state_proofs_parts.specs.InclusionCode.{last_digests, proof_digests}

@@ -11,8 +11,8 @@ use Rattle.merkle_forest.specs.Hashing.{Hash, number}
 use Rattle.merkle_forest.specs.Made.{at_bitmap_root, Made, bytes, value}
 use Rattle.merkle_core_parts.specs.Laws.Held.{right-there}
 use Rattle.merkle_core_parts.specs.Mem.{Nodes, NodeHash, AreNodesOf, node_at, tree_digest, list_root}
-use Rattle.merkle_core.specs.MadeTrees.{Over}
-use Rattle.merkle_core.specs.Plans.{IsLookupOf, honest_digests}
+use Rattle.merkle_proofs.specs.MadeTrees.{Over}
+use Rattle.merkle_proofs.specs.Plans.{IsLookupOf, honest_digests}
 use Rattle.std.specs.Prelude.{IfSome}
 use Rattle.std.proofs.Common.{subst, append-nil}
 use Rattle.state_proofs_parts.specs.Inclusion.{also, partial_made, BitClaim, tree_read, last_of, front_of, partial_read, bit_root}

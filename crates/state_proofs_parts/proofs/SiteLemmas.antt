@@ -6,15 +6,15 @@ use Rattle.merkle_forest.specs.declared.bagging.Bagging.{Bagging}
 use Rattle.merkle_forest.specs.Forest.{Tree, leaf, branch, height, leaf_count, Rule}
 use Rattle.merkle_forest.specs.Made.{Site, at_bitmap_root, at_last_chunk, Made, bytes, both, hashed}
 use Rattle.merkle_forest.specs.Trees.{Located}
-use Rattle.merkle_core.specs.Laws.MadeBags.{bind_good, map_good}
-use Rattle.merkle_core.specs.Laws.MadeTrees.{choose}
-use Rattle.merkle_core.specs.MadeRoots.{folded, made_peak, made_back, made_onto, made_bag, from_left, peaks_of, root_made}
-use Rattle.merkle_core.specs.MadeRoots.{Streams, Bagged, given_outer, read_peak, read_back, read_onto, read_group, read_bag, used}
-use Rattle.merkle_core.specs.MadeTrees.{Elements, from, whole, plain_over, leaf_made, branch_made, made_tree, given, read_tree}
-use Rattle.merkle_core.specs.RangeCounts.{range_outer}
-use Rattle.merkle_core.specs.Ranges.{meets, is_before, is_after}
-use Rattle.merkle_core.specs.Reads.{range_root}
-use Rattle.merkle_core.specs.Soundness.{plain_names, list_root}
+use Rattle.merkle_proofs.specs.Laws.MadeBags.{bind_good, map_good}
+use Rattle.merkle_proofs.specs.Laws.MadeTrees.{choose}
+use Rattle.merkle_proofs.specs.MadeRoots.{folded, made_peak, made_back, made_onto, made_bag, from_left, peaks_of, root_made}
+use Rattle.merkle_proofs.specs.MadeRoots.{Streams, Bagged, given_outer, read_peak, read_back, read_onto, read_group, read_bag, used}
+use Rattle.merkle_proofs.specs.MadeTrees.{Elements, from, whole, plain_over, leaf_made, branch_made, made_tree, given, read_tree}
+use Rattle.merkle_proofs.specs.RangeCounts.{range_outer}
+use Rattle.merkle_proofs.specs.Ranges.{meets, is_before, is_after}
+use Rattle.merkle_proofs.specs.Reads.{range_root}
+use Rattle.merkle_proofs.specs.Soundness.{plain_names, list_root}
 
 -- a site that a bitmap does not have beside its tree's
 abbrev pub IsTreeSite : Site → Type 0

@@ -14,15 +14,15 @@ use Rattle.merkle_forest.specs.Laws.Matching.{equal_or_not, append_parts, In}
 use Rattle.merkle_forest.specs.Laws.Rules.{mmr_merges_equals}
 use Rattle.merkle_forest.specs.Made.{Site, at_tree_root, at_bitmap_root, at_last_chunk, Made, bytes, both, hashed, value, Strings, strings, Collision}
 use Rattle.merkle_forest.specs.Trees.{Located}
-use Rattle.merkle_core.specs.Laws.MadeBags.{bag_good, bag_sized, map_good}
-use Rattle.merkle_core.specs.Laws.MadeRoots.{number_same}
-use Rattle.merkle_core.specs.Laws.MadeTrees.{AllSized, choose, plain_fits}
-use Rattle.merkle_core.specs.Laws.Sound.{plain_sound, all_take, all_drop}
-use Rattle.merkle_core.specs.MadeRoots.{from_left, made_bag, peaks_of, root_made, Streams, used, read_bag, read_root}
-use Rattle.merkle_core.specs.MadeTrees.{from, whole, plain_over}
-use Rattle.merkle_core.specs.RangeCounts.{range_outer}
-use Rattle.merkle_core.specs.Reads.{claim_of}
-use Rattle.merkle_core.specs.Soundness.{plain_names, list_root, RangeClaim, IsTrueOf as IsTrueOfList, IsSound as IsSoundRange}
+use Rattle.merkle_proofs.specs.Laws.MadeBags.{bag_good, bag_sized, map_good}
+use Rattle.merkle_proofs.specs.Laws.MadeRoots.{number_same}
+use Rattle.merkle_proofs.specs.Laws.MadeTrees.{AllSized, choose, plain_fits}
+use Rattle.merkle_proofs.specs.Laws.Sound.{plain_sound, all_take, all_drop}
+use Rattle.merkle_proofs.specs.MadeRoots.{from_left, made_bag, peaks_of, root_made, Streams, used, read_bag, read_root}
+use Rattle.merkle_proofs.specs.MadeTrees.{from, whole, plain_over}
+use Rattle.merkle_proofs.specs.RangeCounts.{range_outer}
+use Rattle.merkle_proofs.specs.Reads.{claim_of}
+use Rattle.merkle_proofs.specs.Soundness.{plain_names, list_root, RangeClaim, IsTrueOf as IsTrueOfList, IsSound as IsSoundRange}
 use Rattle.state_proofs_parts.specs.Bits.{IsChunkWidth, chunk_at, full_chunks}
 use Rattle.state_proofs_parts.specs.Inclusion.{also, partial_made, last_made, BitClaim, tree_read, last_of, front_of, bit_root, IsTrueOf}
 use Rattle.state_proofs_parts.specs.Inclusion.{IsSound}

@@ -9,8 +9,8 @@ use Rattle.merkle_forest.specs.Hashing.{Hash, node_string}
 use Rattle.merkle_forest.specs.Nodes.{IsNodeAt, nodes_of_height}
 use Rattle.merkle_forest.specs.Trees.{plain_digest}
 use Rattle.merkle_core_parts.specs.Mem.{NodeHash, plain_leaf_digests, plain_node}
-use Rattle.merkle_core.specs.Plans.{IsLookupOf, Lookup}
-use Rattle.merkle_core.specs.MultiReads.{both_there}
+use Rattle.merkle_proofs.specs.Plans.{IsLookupOf, Lookup}
+use Rattle.merkle_proofs.specs.MultiReads.{both_there}
 use Rattle.state_proofs_parts.specs.Canonical.{Setting, State, chunk, forest, grafted_digests}
 use Rattle.state_proofs_parts.specs.Grafting.{grafted}
 use Rattle.state_proofs_parts.specs.SameNodes.{IsSameNode}

@@ -13,10 +13,10 @@ use Rattle.merkle_forest.specs.Hashing.{Hash, leaf_string, number}
 use Rattle.merkle_forest.specs.Made.{Site, at_bitmap_root, at_last_chunk, Made, bytes, both, hashed, value, strings}
 use Rattle.merkle_forest.specs.Made.{Collision}
 use Rattle.merkle_core_parts.specs.Mem.{NodeHash, tree_digest, plain_node}
-use Rattle.merkle_core.specs.MadeTrees.{Over}
-use Rattle.merkle_core.specs.Plans.{honest_digests}
-use Rattle.merkle_core.specs.Reads.{range_root}
-use Rattle.merkle_core.specs.Soundness.{plain_names, list_root}
+use Rattle.merkle_proofs.specs.MadeTrees.{Over}
+use Rattle.merkle_proofs.specs.Plans.{honest_digests}
+use Rattle.merkle_proofs.specs.Reads.{range_root}
+use Rattle.merkle_proofs.specs.Soundness.{plain_names, list_root}
 use Rattle.state_proofs_parts.specs.Bits.{chunk_at, full_chunks}
 use Rattle.state_proofs_parts.specs.Maps.{LeafHash, leaf_digests, chunks_root, bitmap_root}
 

@@ -4,7 +4,7 @@ use Rattle.merkle_forest.specs.declared.bagging.Bagging.{Bagging}
 use Rattle.merkle_forest.specs.Forest.{mmr_rule}
 use Rattle.merkle_forest.specs.Hashing.{Hash}
 use Rattle.merkle_core_parts.specs.Mem.{NodeHash, tree_digest, list_root}
-use Rattle.merkle_core.specs.Plans.{honest_digests}
+use Rattle.merkle_proofs.specs.Plans.{honest_digests}
 use Rattle.state_proofs_parts.specs.Bits.{Bits, last_chunk}
 
 -- the digest of the last chunk, where it is partial

@@ -1,8 +1,8 @@
 -- The grafted tree as it is made. `chunk` gives the chunk that begins at a location.
 use Rattle.std.specs.Prelude.{ℕ, ◌/◌, ◌==◌, nat_lt, Bool, true, false, List, [], ◌∷◌, replicate, slice_index_or}
 use Rattle.merkle_forest.specs.Made.{at_plain, at_joined, at_grafted_root, at_grafted_fold, Made, bytes, both, hashed}
-use Rattle.merkle_core.specs.MadeTrees.{Over}
-use Rattle.merkle_core.specs.MadeRoots.{Naming}
+use Rattle.merkle_proofs.specs.MadeTrees.{Over}
+use Rattle.merkle_proofs.specs.MadeRoots.{Naming}
 use Rattle.state_proofs_parts.specs.SetBits.{is_zero}
 
 -- a chunk with a set bit is joined in; for one without, the node's string stands at both sites

@@ -24,8 +24,8 @@ use Rattle.merkle_forest.specs.declared.bagging.Bagging.TheVariants.{BackwardFol
 use Rattle.merkle_forest.specs.Made.{at_operations_root, at_fold, at_pending, at_partial, Made, Strings, strings}
 use Rattle.merkle_forest.specs.Nodes.{nodes_of_height}
 use Rattle.merkle_forest.specs.Trees.{inactive_peaks}
-use Rattle.merkle_core.specs.MadeTrees.{Elements, whole, plain_over}
-use Rattle.merkle_core.specs.MadeRoots.{Naming, made_root}
+use Rattle.merkle_proofs.specs.MadeTrees.{Elements, whole, plain_over}
+use Rattle.merkle_proofs.specs.MadeRoots.{Naming, made_root}
 use Rattle.state_proofs_parts.specs.Canonical.{Setting, State, chunk_bits, full_chunks, next_bit, chunks, chunk, forest}
 use Rattle.state_proofs_parts.specs.Canonical.{peaks, grafted_inactive}
 use Rattle.state_proofs_parts.specs.MadeCanonical.{canonical_made, chunk_made}

@@ -2,7 +2,7 @@
 -- operations.
 use Rattle.std.specs.Prelude.{ℕ, ◌+◌, ◌*◌, ◌^◌}
 use Rattle.merkle_forest.specs.Forest.{Rule}
-use Rattle.merkle_core.specs.Subtrees.{HasTree}
+use Rattle.merkle_proofs.specs.Subtrees.{HasTree}
 
 -- the node at the position `ops` is over whole chunks of operations, and the one at the position `grafted` over as many
 -- leaves, one for each of these chunks

@@ -1,6 +1,6 @@
 -- What proofs are built from: known nodes of a tree, and bits of which chunks may be pruned.
 use Rattle.std.specs.Prelude.{◌≡◌, ℕ, Bool, List, length, Some}
-use Rattle.merkle_core.specs.Plans.{Asked as Span, Lookup}
+use Rattle.merkle_proofs.specs.Plans.{Asked as Span, Lookup}
 use Rattle.merkle_forest.specs.Forest.{Tree, position}
 use Rattle.merkle_forest.specs.Nodes.{IsNodeAt}
 use Rattle.state_proofs_parts.specs.Canonical.{Setting, State, forest, grafted_digests}

@@ -12,11 +12,11 @@ ghost use Rattle.state_proofs_parts.specs.MapsCode.{leaves_from, leaves_at};
 
 use crate::bitmap_error::{Error, out_of_memory};
 use crate::prunable::Prunable;
-use merkle_core_parts::Mem;
-use merkle_core_parts::batch::UnmerkleizedBatch;
 use merkle_forest::hasher::Hasher;
 use merkle_forest::mmr::Family;
 use merkle_forest::{Digest, Location};
+use merkle_memory::Mem;
+use merkle_memory::batch::UnmerkleizedBatch;
 
 // The batch with leaves of so many chunks from one on, which is the one after the leaves.
 fn add_chunks<D: Digest, const N: usize, H: Hasher<Family, Digest = D>>(

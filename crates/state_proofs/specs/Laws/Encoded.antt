@@ -7,8 +7,8 @@ use Rattle.merkle_forest.specs.Laws.Codec.{fixed_again, option_again}
 use Rattle.merkle_forest.specs.Laws.Lists.{bind_ok}
 use Rattle.merkle_forest.specs.Varint.{varint, after_number}
 use Rattle.merkle_forest.specs.Laws.Varint.{after_number_again, number_within}
-use Rattle.merkle_core.specs.Laws.Proofs.{proof_again, proof_within}
-use Rattle.merkle_core.specs.Proofs.{proof_encoding, after_proof}
+use Rattle.merkle_proofs.specs.Laws.Proofs.{proof_again, proof_within}
+use Rattle.merkle_proofs.specs.Proofs.{proof_encoding, after_proof}
 use Rattle.state_proofs.specs.Encoded.{range_proof_encoding, operation_proof_encoding, after_range_proof}
 use Rattle.state_proofs.specs.Encoded.{after_operation_proof, FitsRange, Fits}
 use Rattle.state_proofs.specs.Verified.{RangeParts, Parts}

@@ -10,8 +10,8 @@ use Rattle.merkle_forest.specs.Forest.{Tree, leaf, branch, leaf_count, Rule, for
 use Rattle.merkle_forest.specs.Hashing.{Hash}
 use Rattle.merkle_forest.specs.Laws.Peaks.{leaf_count-pos}
 use Rattle.merkle_forest.specs.Trees.{Located, located}
-use Rattle.merkle_core.specs.Ranges.{Digests, before_digests, after_digests, inner_digests, meets, siblings}
-use Rattle.merkle_core.specs.Ranges.{range_digests}
+use Rattle.merkle_proofs.specs.Ranges.{Digests, before_digests, after_digests, inner_digests, meets, siblings}
+use Rattle.merkle_proofs.specs.Ranges.{range_digests}
 
 -- where a tree meets a range
 meets_yes : (start stop at : ℕ) (t : Tree) → start < at + leaf_count t → at < stop → meets start stop (at, t) ≡ true

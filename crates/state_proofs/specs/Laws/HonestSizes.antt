@@ -11,7 +11,7 @@ use Rattle.merkle_forest.specs.Hashing.{Hash, node_string, root_of}
 use Rattle.merkle_forest.specs.Nodes.{nodes_of_height}
 use Rattle.merkle_forest.specs.Perfect.{IsPairing}
 use Rattle.merkle_forest.specs.Trees.{tree_root}
-use Rattle.merkle_core.specs.Laws.Sized.{AreSized, IsSized, Gives, range_sized}
+use Rattle.merkle_proofs.specs.Laws.Sized.{AreSized, IsSized, Gives, range_sized}
 use Rattle.state_proofs_parts.specs.SetBits.{is_zero}
 use Rattle.state_proofs_parts.specs.Canonical.{Setting, State, chunk_bits, full_chunks, next_bit, chunk, forest, peaks}
 use Rattle.state_proofs_parts.specs.Canonical.{grafted_digests, grafted_inactive, operations_root, pending_digest}

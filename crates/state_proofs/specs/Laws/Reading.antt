@@ -5,7 +5,7 @@ use Rattle.std.specs.Prelude.{IfSome, IsTrue, option_map}
 use Rattle.std.proofs.lemmas.List.{length-map}
 use Rattle.merkle_forest.specs.Codec.{◌>>=◌, Outcome}
 use Rattle.merkle_forest.specs.Lists.{AreItems}
-use Rattle.merkle_core.specs.Laws.Proofs.{all_sized}
+use Rattle.merkle_proofs.specs.Laws.Proofs.{all_sized}
 use Rattle.state_proofs.specs.declared.operation.Proof.{Proof}
 use Rattle.state_proofs.specs.declared.proof.RangeProof.{RangeProof}
 use Rattle.state_proofs.specs.Encoded.{range_proof_encoding, operation_proof_encoding, key_value_proof_encoding}

@@ -1,7 +1,7 @@
 //! Proofs of one operation that are built out of known nodes and the bits of a bitmap.
 
 ghost use Rattle.std.specs.Prelude.{◌≡◌, ◌<◌, ◌+◌, ◌*◌, ◌^◌, ℕ, IfOk, IfErr, OnOk};
-ghost use Rattle.merkle_core.specs.Plans.{Lookup, AnswersAs};
+ghost use Rattle.merkle_proofs.specs.Plans.{Lookup, AnswersAs};
 ghost use Rattle.state_proofs_parts.specs.Bits.{IsChunkWidth};
 ghost use Rattle.state_proofs.specs.Built.{IsBuildable, IsRefusalOfLocated, IsRefusalOfOperation};
 ghost use Rattle.state_proofs_parts.specs.Sources.{IsSourceOf};

@@ -2,9 +2,9 @@
 
 ghost use Rattle.std.specs.Prelude.{◌≡◌, ◌<◌, ◌≤◌, ◌*◌, ◌/◌, ◌%◌, ◌^◌, ◌==◌, ℕ, Some, None, map, length, drop, min};
 ghost use Rattle.std.specs.Prelude.{nat_lt, if◌then◌else◌, IfOk, IfErr, OnOk, option_map};
-ghost use Rattle.merkle_core.specs.MadeRoots.{peaks_of};
-ghost use Rattle.merkle_core.specs.Plans.{Lookup, AnswersAs, IsWithinTree, first_missing, honest_digests, looked_up};
-ghost use Rattle.merkle_core.specs.Plans.{range_positions};
+ghost use Rattle.merkle_proofs.specs.MadeRoots.{peaks_of};
+ghost use Rattle.merkle_proofs.specs.Plans.{Lookup, AnswersAs, IsWithinTree, first_missing, honest_digests, looked_up};
+ghost use Rattle.merkle_proofs.specs.Plans.{range_positions};
 ghost use Rattle.merkle_forest.specs.declared.bagging.Bagging.TheVariants.{BackwardFold};
 ghost use Rattle.merkle_forest.specs.Forest.{forest_of};
 ghost use Rattle.merkle_forest.specs.Nodes.{nodes_of_height};

@@ -1,8 +1,8 @@
 //! The nodes that a proof over a range of operations tells.
 
 ghost use Rattle.std.specs.Prelude.{◌≡◌, ◌≤◌, ◌^◌, ◌*◌, ℕ, map, IfOk, IfErr, OnOk};
-ghost use Rattle.merkle_core.specs.Extracted.{AreExtracted};
-ghost use Rattle.merkle_core.specs.Ranges.{Digests};
+ghost use Rattle.merkle_proofs.specs.Extracted.{AreExtracted};
+ghost use Rattle.merkle_proofs.specs.Ranges.{Digests};
 ghost use Rattle.state_proofs.specs.ProofsCode.{range_parts_of};
 ghost use Rattle.state_proofs.specs.RangeExtracted.{IsRefusalToTell, ShowsDigests, shown_with, told_by};
 ghost use Rattle.state_proofs.specs.Verified.{IsShaped, VerifiesRange};

@@ -15,9 +15,9 @@ use Rattle.merkle_forest.specs.Laws.Places.{node-left, node-right}
 use Rattle.merkle_forest.specs.Nodes.{IsNodeAt, StandsAt, IsHeightAt, IsBranchOf, HasBranch}
 use Rattle.merkle_forest.specs.Perfect.{IsPairing}
 use Rattle.merkle_core_parts.specs.Mem.{NodeHash}
-use Rattle.merkle_core.specs.Plans.{Lookup}
-use Rattle.merkle_core.specs.MultiReads.{both_there}
-use Rattle.merkle_core.specs.Subtrees.{IsTreeAt}
+use Rattle.merkle_proofs.specs.Plans.{Lookup}
+use Rattle.merkle_proofs.specs.MultiReads.{both_there}
+use Rattle.merkle_proofs.specs.Subtrees.{IsTreeAt}
 use Rattle.state_proofs_parts.specs.GraftedNodes.{TwoTrees, chunks_node, digest_of_found, grafted_lookup, known_or_made}
 use Rattle.state_proofs_parts.specs.GraftedNodes.{node_over}
 use Rattle.state_proofs_parts.specs.SameNodes.{IsSameNode}

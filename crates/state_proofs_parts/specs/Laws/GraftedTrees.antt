@@ -22,9 +22,9 @@ use Rattle.merkle_core_parts.specs.Laws.Mem.{get_some}
 use Rattle.merkle_core_parts.specs.Laws.Plain.{digest-plain, leaf-place, length-plain}
 use Rattle.merkle_core_parts.specs.Mem.{AreKeptNodes, AreNodesOf, Nodes, digest_at, node_at as kept_at, node_count}
 use Rattle.merkle_core_parts.specs.Mem.{plain_leaf_digests, tree_digest}
-use Rattle.merkle_core.specs.Plans.{Lookup}
-use Rattle.merkle_core.specs.MultiReads.{both_there}
-use Rattle.merkle_core.specs.Subtrees.{HasTree}
+use Rattle.merkle_proofs.specs.Plans.{Lookup}
+use Rattle.merkle_proofs.specs.MultiReads.{both_there}
+use Rattle.merkle_proofs.specs.Subtrees.{HasTree}
 use Rattle.state_proofs_parts.specs.Sources.{IsSourceOf, Source}
 use Rattle.state_proofs_parts.specs.Canonical.{Setting, State, chunk, chunk_bits, chunks, forest, grafted_digests}
 use Rattle.state_proofs_parts.specs.GraftedNodes.{AreGraftedLeaves, IsLookupOfChunks, IsLookupOfOperations, TwoTrees}

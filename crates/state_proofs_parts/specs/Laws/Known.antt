@@ -16,10 +16,10 @@ use Rattle.merkle_core_parts.specs.Laws.Kept.{kept}
 use Rattle.merkle_forest.specs.Laws.Places.{node-left, node-right}
 use Rattle.merkle_core_parts.specs.Laws.Rebuilt.{after-leaf}
 use Rattle.merkle_core_parts.specs.Mem.{Nodes, AreKeptNodes, IsKept, node_at}
-use Rattle.merkle_core.specs.MadeRoots.{peaks_of}
-use Rattle.merkle_core.specs.Plans.{Lookup, first_missing, sibling_nodes, inner_nodes, range_nodes, positions_of}
-use Rattle.merkle_core.specs.Plans.{range_positions}
-use Rattle.merkle_core.specs.Ranges.{is_before, is_after, meets}
+use Rattle.merkle_proofs.specs.MadeRoots.{peaks_of}
+use Rattle.merkle_proofs.specs.Plans.{Lookup, first_missing, sibling_nodes, inner_nodes, range_nodes, positions_of}
+use Rattle.merkle_proofs.specs.Plans.{range_positions}
+use Rattle.merkle_proofs.specs.Ranges.{is_before, is_after, meets}
 
 module _ (P : Located → Type 0) where
   pub all_if : (b : Bool) (xs ys : List Located) → (b ≡ true → AllByRecursion P xs) → (b ≡ false → AllByRecursion P ys)

@@ -5,7 +5,7 @@ use Rattle.merkle_forest.specs.Hashing.{Hash, number}
 use Rattle.state_proofs_parts.specs.Canonical.{canonical_string}
 use Rattle.merkle_forest.specs.Made.{Made, both, value}
 use Rattle.merkle_forest.specs.Laws.Matching.{Matches, append_parts}
-use Rattle.merkle_core.specs.Laws.MadeTrees.{Sized}
+use Rattle.merkle_proofs.specs.Laws.MadeTrees.{Sized}
 use Rattle.state_proofs_parts.specs.MadeCanonical.{CanonicalParts, if_made, next_made, canonical_made}
 
 module _ (hash : Hash) where

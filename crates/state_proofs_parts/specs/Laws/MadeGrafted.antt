@@ -5,7 +5,7 @@ use Rattle.std.proofs.lemmas.Bool.{eqb-true, and_parts}
 use Rattle.merkle_forest.specs.Hashing.{Hash, number}
 use Rattle.state_proofs_parts.specs.SetBits.{is_zero}
 use Rattle.merkle_forest.specs.Made.{Made, bytes, both, value}
-use Rattle.merkle_core.specs.Laws.MadeTrees.{Sized, Fits}
+use Rattle.merkle_proofs.specs.Laws.MadeTrees.{Sized, Fits}
 use Rattle.merkle_forest.specs.Laws.Matching.{Matches, Agrees}
 use Rattle.state_proofs_parts.specs.MadeGrafted.{grafted_case, grafted_over}
 

@@ -14,11 +14,11 @@ use Rattle.state_proofs_parts.specs.SetBits.{is_zero}
 use Rattle.state_proofs_parts.specs.Grafting.{grafted, grafted_digest}
 use Rattle.merkle_forest.specs.Made.{Made, bytes, both, value, strings, Collision}
 use Rattle.merkle_forest.specs.Laws.Matching.{Agrees, agrees_or_collides}
-use Rattle.merkle_core.specs.MadeTrees.{Elements, whole, branch_made, made_tree}
-use Rattle.merkle_core.specs.Laws.MadeTrees.{Sized, AllSized, AgreeOver}
-use Rattle.merkle_core.specs.MadeRoots.{made_root, read_root}
-use Rattle.merkle_core.specs.Laws.MadeRoots.{IsRoot, Tells, root_good}
-use Rattle.merkle_core.specs.Laws.Sound.{over_location, all_take, all_drop, if_some}
+use Rattle.merkle_proofs.specs.MadeTrees.{Elements, whole, branch_made, made_tree}
+use Rattle.merkle_proofs.specs.Laws.MadeTrees.{Sized, AllSized, AgreeOver}
+use Rattle.merkle_proofs.specs.MadeRoots.{made_root, read_root}
+use Rattle.merkle_proofs.specs.Laws.MadeRoots.{IsRoot, Tells, root_good}
+use Rattle.merkle_proofs.specs.Laws.Sound.{over_location, all_take, all_drop, if_some}
 use Rattle.state_proofs_parts.specs.MadeGrafted.{chunk_at, joined_in, grafted_case, grafted_over, grafted_names}
 use Rattle.state_proofs_parts.specs.Laws.MadeGrafted.{SameChunk, grafted_fits}
 use Rattle.state_proofs_parts.specs.MadeCanonical.{CanonicalParts, if_made, next_made, canonical_made}

@@ -10,13 +10,13 @@ use Rattle.merkle_forest.specs.Nodes.{IsWithin}
 use Rattle.merkle_forest.specs.Perfect.{IsPerfect}
 use Rattle.merkle_forest.specs.Trees.{Located}
 use Rattle.merkle_forest.specs.declared.bagging.Bagging.{Bagging}
-use Rattle.merkle_core.specs.Laws.MadeBags.{bind_good, map_good}
-use Rattle.merkle_core.specs.Laws.MadeTrees.{choose}
-use Rattle.merkle_core.specs.MadeRoots.{Naming, folded, made_peak, made_back, made_onto, made_bag, root_made, Streams}
-use Rattle.merkle_core.specs.MadeRoots.{Bagged, given_outer}
-use Rattle.merkle_core.specs.MadeRoots.{read_peak, read_back, read_onto, read_group, read_bag}
-use Rattle.merkle_core.specs.MadeTrees.{Over, Elements, made_tree, read_tree}
-use Rattle.merkle_core.specs.Ranges.{meets, is_before, is_after}
+use Rattle.merkle_proofs.specs.Laws.MadeBags.{bind_good, map_good}
+use Rattle.merkle_proofs.specs.Laws.MadeTrees.{choose}
+use Rattle.merkle_proofs.specs.MadeRoots.{Naming, folded, made_peak, made_back, made_onto, made_bag, root_made, Streams}
+use Rattle.merkle_proofs.specs.MadeRoots.{Bagged, given_outer}
+use Rattle.merkle_proofs.specs.MadeRoots.{read_peak, read_back, read_onto, read_group, read_bag}
+use Rattle.merkle_proofs.specs.MadeTrees.{Over, Elements, made_tree, read_tree}
+use Rattle.merkle_proofs.specs.Ranges.{meets, is_before, is_after}
 use Rattle.state_proofs_parts.specs.Laws.OneEachLists.{IsOne, Implies, none_one, wider_one, top_one, append_one}
 use Rattle.state_proofs_parts.specs.Laws.OneEachTrees.{part_of, Numbered, IsOf, IsIn, of_position, of_part}
 

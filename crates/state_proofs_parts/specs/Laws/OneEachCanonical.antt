@@ -3,7 +3,7 @@ use Rattle.std.proofs.Common.{◌≡◌, ◌⊎◌, inl, inr, ⊎_elim, ℕ, ◌
 use Rattle.std.proofs.Common.{IfSome, arith}
 use Rattle.merkle_forest.specs.Hashing.{Hash}
 use Rattle.merkle_forest.specs.Made.{Site, at_canonical, Made, both, value, Strings, strings}
-use Rattle.merkle_core.specs.OneEach.{OneEach}
+use Rattle.merkle_proofs.specs.OneEach.{OneEach}
 use Rattle.state_proofs_parts.specs.MadeCanonical.{CanonicalParts, if_made, next_made, canonical_made, chunk_made}
 use Rattle.state_proofs_parts.specs.Laws.OneEachLists.{IsOne, none_one, top_one, append_one}
 use Rattle.state_proofs_parts.specs.Laws.OneEachTrees.{part_of}

@@ -3,7 +3,7 @@ use Rattle.std.proofs.Common.{◌≡◌, ◌⊎◌, inl, inr, ⊎_elim, ℕ, zer
 use Rattle.std.proofs.Common.{subst, arith}
 use Rattle.std.proofs.lemmas.List.Elements.{Contains-append_cases}
 use Rattle.merkle_forest.specs.Made.{Site, Strings}
-use Rattle.merkle_core.specs.OneEach.{OneEach}
+use Rattle.merkle_proofs.specs.OneEach.{OneEach}
 
 nothing : {A : Type 0} (x : A) → Contains [] x → ⊥
 nothing x here = omega (arith, here.1)

@@ -13,11 +13,11 @@ use Rattle.merkle_forest.specs.Nodes.{IsWithin, IsNodeAt}
 use Rattle.merkle_forest.specs.Perfect.{IsPerfect, ArePerfect, IsPairing}
 use Rattle.merkle_forest.specs.Trees.{Located, located}
 use Rattle.merkle_forest.specs.declared.bagging.Bagging.{Bagging}
-use Rattle.merkle_core.specs.Laws.MadeBags.{map_good}
-use Rattle.merkle_core.specs.Laws.MadeTrees.{choose}
-use Rattle.merkle_core.specs.MadeRoots.{Naming, from_left, peaks_of, bag_of, root_made, made_root, Bagged, read_bag}
-use Rattle.merkle_core.specs.MadeRoots.{used, read_root}
-use Rattle.merkle_core.specs.MadeTrees.{Over, Elements, made_tree}
+use Rattle.merkle_proofs.specs.Laws.MadeBags.{map_good}
+use Rattle.merkle_proofs.specs.Laws.MadeTrees.{choose}
+use Rattle.merkle_proofs.specs.MadeRoots.{Naming, from_left, peaks_of, bag_of, root_made, made_root, Bagged, read_bag}
+use Rattle.merkle_proofs.specs.MadeRoots.{used, read_root}
+use Rattle.merkle_proofs.specs.MadeTrees.{Over, Elements, made_tree}
 use Rattle.state_proofs_parts.specs.Canonical.{peaks}
 use Rattle.state_proofs_parts.specs.MadeGrafted.{grafted_names}
 use Rattle.state_proofs_parts.specs.MadeStates.{operations_names}

@@ -10,9 +10,9 @@ use Rattle.merkle_forest.specs.Nodes.{nodes_of_height}
 use Rattle.merkle_forest.specs.Perfect.{IsPerfect, IsPairing}
 use Rattle.merkle_forest.specs.Trees.{plain_digest, inactive_peaks}
 use Rattle.merkle_forest.specs.declared.bagging.Bagging.TheVariants.{BackwardFold}
-use Rattle.merkle_core.specs.Laws.MadeTrees.{choose, value_plain}
-use Rattle.merkle_core.specs.MadeTrees.{Over, plain_over, whole, made_tree}
-use Rattle.merkle_core.specs.OneEach.{OneEach}
+use Rattle.merkle_proofs.specs.Laws.MadeTrees.{choose, value_plain}
+use Rattle.merkle_proofs.specs.MadeTrees.{Over, plain_over, whole, made_tree}
+use Rattle.merkle_proofs.specs.OneEach.{OneEach}
 use Rattle.state_proofs_parts.specs.SetBits.{is_zero}
 use Rattle.state_proofs_parts.specs.Canonical.{Setting, State, chunk, full_chunks, next_bit, peaks, forest}
 use Rattle.state_proofs_parts.specs.Canonical.{grafted_inactive}

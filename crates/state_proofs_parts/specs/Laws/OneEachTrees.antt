@@ -12,10 +12,10 @@ use Rattle.merkle_forest.specs.Made.{at_fold}
 use Rattle.merkle_forest.specs.Made.{at_grafted_fold, at_plain, at_joined, Made, bytes, both, value, strings}
 use Rattle.merkle_forest.specs.Nodes.{IsWithin}
 use Rattle.merkle_forest.specs.Perfect.{IsPerfect}
-use Rattle.merkle_core.specs.Laws.MadeBags.{bind_good, map_good}
-use Rattle.merkle_core.specs.Laws.MadeTrees.{choose}
-use Rattle.merkle_core.specs.MadeTrees.{Over, plain_over, Elements, leaf_made, branch_made, made_tree, given, read_tree}
-use Rattle.merkle_core.specs.Ranges.{meets}
+use Rattle.merkle_proofs.specs.Laws.MadeBags.{bind_good, map_good}
+use Rattle.merkle_proofs.specs.Laws.MadeTrees.{choose}
+use Rattle.merkle_proofs.specs.MadeTrees.{Over, plain_over, Elements, leaf_made, branch_made, made_tree, given, read_tree}
+use Rattle.merkle_proofs.specs.Ranges.{meets}
 use Rattle.state_proofs_parts.specs.SetBits.{is_zero}
 use Rattle.state_proofs_parts.specs.MadeGrafted.{grafted_case, grafted_over}
 use Rattle.state_proofs_parts.specs.Laws.OneEachLists.{IsOne, Implies, none_one, top_one, append_one}

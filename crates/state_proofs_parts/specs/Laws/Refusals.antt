@@ -7,7 +7,7 @@ use Rattle.merkle_core_parts.specs.declared.error.Error.{Error}
 use Rattle.merkle_core_parts.specs.declared.error.Error.TheVariants.{LocationOverflow, LeafOutOfBounds, ElementPruned}
 use Rattle.merkle_core_parts.specs.declared.error.Error.TheVariants.{StaleBatch, AncestorDropped, Memory}
 use Rattle.merkle_core_parts.specs.declared.error.Error.TheVariants.{InvalidInactivePeaks}
-use Rattle.merkle_core.specs.Plans.{Lookup, first_missing, range_positions, IsRefusalToProveElement}
+use Rattle.merkle_proofs.specs.Plans.{Lookup, first_missing, range_positions, IsRefusalToProveElement}
 
 pub past_memory : {F : Type 0} (leaves : ℕ) (e : Error F) → leaves < 2 ^ 62 → IsRefusalPast leaves e → e ≡ Memory
 past_memory leaves (LocationOverflow location) few refused = absurd (omega (arith, few, refused.1))

@@ -9,7 +9,7 @@ use Rattle.merkle_forest.specs.Laws.NodeGrowth.{node-stays, numbered, one-node}
 use Rattle.merkle_forest.specs.Laws.Nodes.{node-leaves}
 use Rattle.merkle_forest.specs.Nodes.{IsNodeAt, HasNode, IsSubtree, StandsAt, IsBirth, IsFirstLeaf, IsPositionOfNode}
 use Rattle.merkle_forest.specs.Perfect.{IsPairing}
-use Rattle.merkle_core.specs.Subtrees.{HasTree}
+use Rattle.merkle_proofs.specs.Subtrees.{HasTree}
 use Rattle.state_proofs_parts.specs.SameNodes.{IsSameNode}
 
 -- the tree at the position of a node

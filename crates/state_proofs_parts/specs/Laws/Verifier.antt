@@ -12,8 +12,8 @@ use Rattle.merkle_forest.specs.Laws.NodeGrowth.{node-stays, numbered, one-node}
 use Rattle.merkle_forest.specs.Made.{bytes, both, value}
 use Rattle.merkle_forest.specs.Nodes.{IsWithin, IsNodeAt}
 use Rattle.merkle_forest.specs.Perfect.{IsPairing}
-use Rattle.merkle_core.specs.Reads.{HashesAs}
-use Rattle.merkle_core.specs.Subtrees.{HasTree}
+use Rattle.merkle_proofs.specs.Reads.{HashesAs}
+use Rattle.merkle_proofs.specs.Subtrees.{HasTree}
 use Rattle.state_proofs_parts.specs.Grafting.{grafted}
 use Rattle.state_proofs_parts.specs.Laws.MadeStates.{value_case, no_chunk}
 use Rattle.state_proofs_parts.specs.MadeGrafted.{grafted_over}

@@ -3,7 +3,7 @@
 ghost use Rattle.std.specs.Prelude.{◌≡◌, ℕ, option_map};
 ghost use Rattle.merkle_forest.specs.Forest.{Tree};
 ghost use Rattle.merkle_forest.specs.Nodes.{StandsAt};
-ghost use Rattle.merkle_core.specs.Subtrees.{IsTreeAt};
+ghost use Rattle.merkle_proofs.specs.Subtrees.{IsTreeAt};
 ghost use Rattle.state_proofs_parts.specs.GraftedNodes.{chunks_node, grafted_lookup, known_or_made};
 
 use crate::grafting::hasher::GraftedHasher;

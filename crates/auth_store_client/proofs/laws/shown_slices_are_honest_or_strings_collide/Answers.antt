@@ -1,7 +1,7 @@
 use Rattle.std.proofs.Common.{◌≡◌, ◌≤◌, ◌^◌, ℕ, List, length, map, inl, ⊎_elim, inr, ◌∙◌, subst, arith}
 use Rattle.std.specs.List.{All}
 use Rattle.std.proofs.lemmas.List.{length-map}
-use Rattle.merkle_core.specs.Laws.MadeTrees.{AllSized, all_sized}
+use Rattle.merkle_proofs.specs.Laws.MadeTrees.{AllSized, all_sized}
 use Rattle.state_ops.specs.Operation.{fixed_encoding}
 use Rattle.state_proofs_parts.specs.Canonical.{Setting, State}
 use Rattle.state_proofs.specs.Witness.{HasWitnessOf, honest_witness}

@@ -1,8 +1,8 @@
 use Rattle.std.proofs.Common.{◌≡◌, ℕ, List, refl}
 use Rattle.merkle_forest.specs.Hashing.{Hash}
 use Rattle.merkle_forest.specs.Forest.{Rule}
-use Rattle.merkle_core.specs.declared.extraction.ExtractionError.{ExtractionError}
-use Rattle.merkle_core.specs.declared.extraction.ExtractionError.TheVariants.{InvalidProof, RootMismatch, Memory}
+use Rattle.merkle_proofs.specs.declared.extraction.ExtractionError.{ExtractionError}
+use Rattle.merkle_proofs.specs.declared.extraction.ExtractionError.TheVariants.{InvalidProof, RootMismatch, Memory}
 use Rattle.state_proofs_parts.specs.Canonical.{Setting}
 use Rattle.state_proofs.specs.RangeExtracted.{IsRefusalToTell}
 use Rattle.state_proofs.specs.Verified.{Shown, VerifiesRange, RangeParts}

@@ -3,9 +3,9 @@ use Rattle.merkle_forest.specs.Hashing.{Hash}
 use Rattle.merkle_forest.specs.Forest.{Rule}
 use Rattle.std.specs.Prelude.{option_map}
 use Rattle.merkle_forest.specs.Made.{value}
-use Rattle.merkle_core.specs.MadeTrees.{plain_over}
-use Rattle.merkle_core.specs.Reads.{range_root}
-use Rattle.merkle_core.specs.Soundness.{plain_names}
+use Rattle.merkle_proofs.specs.MadeTrees.{plain_over}
+use Rattle.merkle_proofs.specs.Reads.{range_root}
+use Rattle.merkle_proofs.specs.Soundness.{plain_names}
 use Rattle.state_proofs.proofs.LogLemmas.{plainly, carried}
 use Rattle.state_proofs.proofs.verify.verify_proof.Goals as goal
 

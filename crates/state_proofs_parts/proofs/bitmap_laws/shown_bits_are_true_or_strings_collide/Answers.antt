@@ -1,4 +1,4 @@
-use Rattle.merkle_core.specs.Laws.MadeTrees.{all_sized}
+use Rattle.merkle_proofs.specs.Laws.MadeTrees.{all_sized}
 use Rattle.state_proofs_parts.proofs.SoundLemmas.{bit_sound}
 use Rattle.state_proofs_parts.proofs.bitmap_laws.shown_bits_are_true_or_strings_collide.Goals as goal
 

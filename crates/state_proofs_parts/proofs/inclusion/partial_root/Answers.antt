@@ -4,8 +4,8 @@ use Rattle.std.proofs.lemmas.Grind.{common_steps}
 use Rattle.std.proofs.lemmas.List.{length-map}
 use Rattle.merkle_forest.specs.Forest.{mmr_rule}
 use Rattle.merkle_forest.specs.Made.{value}
-use Rattle.merkle_core.specs.Reads.{range_root}
-use Rattle.merkle_core.specs.Soundness.{plain_names}
+use Rattle.merkle_proofs.specs.Reads.{range_root}
+use Rattle.merkle_proofs.specs.Soundness.{plain_names}
 use Rattle.state_proofs_parts.specs.Inclusion.{BitClaim}
 use Rattle.state_proofs_parts.specs.Maps.{bitmap_string}
 use Rattle.state_proofs_parts.proofs.ReadLemmas.{read_last, read_before, last-mapped, front-mapped}

@@ -1,6 +1,6 @@
 use Rattle.std.proofs.Common.{◌≡◌, ℕ, ◌∙◌, ◌*◌, List, length, sym, ap, ap₂, arith}
 use Rattle.std.proofs.lemmas.List.{length-map}
-use Rattle.merkle_core.specs.MadeRoots.{peaks_of}
+use Rattle.merkle_proofs.specs.MadeRoots.{peaks_of}
 use Rattle.merkle_forest.specs.Trees.{inactive_peaks}
 use Rattle.state_ops.specs.Operation.{Operation, fixed_encoding}
 use Rattle.state_proofs_parts.specs.Canonical.{Setting}

@@ -9,7 +9,7 @@ use Rattle.merkle_forest.specs.Hashing.{root_of}
 use Rattle.merkle_forest.specs.Trees.{located}
 use Rattle.state_proofs_parts.specs.Grafting.{chunk_aligned_inactive_peaks}
 use Rattle.state_proofs_parts.specs.GraftedNodes.{grafted_lookup}
-use Rattle.merkle_core.specs.Plans.{Lookup}
+use Rattle.merkle_proofs.specs.Plans.{Lookup}
 use Rattle.state_proofs_parts.specs.Laws.Heights.{same_power}
 use Rattle.state_current.proofs.CurrentLemmas.{IsGraftable, all_are, aligned_within, peaks_known, grafted_root_is}
 use Rattle.state_current.proofs.current.Current.root_of_grafted.Goals as goal

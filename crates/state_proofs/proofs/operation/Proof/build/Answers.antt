@@ -1,6 +1,6 @@
 use Rattle.std.proofs.Common.{◌≡◌, ◌<◌, ◌+◌, ◌*◌, ◌/◌, ℕ, List, Bool, length, drop, sym, ◌∙◌, ap, subst, arith}
 use Rattle.std.proofs.lemmas.Nat.{pow_pos}
-use Rattle.merkle_core.specs.Plans.{Asked, IsWithinTree}
+use Rattle.merkle_proofs.specs.Plans.{Asked, IsWithinTree}
 use Rattle.state_proofs_parts.specs.Bits.{chunk_of}
 use Rattle.state_proofs.specs.Built.{IsBuildable, IsRefusalOfSource}
 use Rattle.state_proofs_parts.specs.Sources.{IsSourceOf}

@@ -1,6 +1,6 @@
 use Rattle.std.proofs.Common.{rules, ◌≡◌, ℕ, List, Bool, sym, ◌∙◌, ap, subst}
 use Rattle.std.specs.Prelude.{IfOk, IfErr}
-use Rattle.merkle_core.specs.Plans.{Asked, IsWithinTree, Lookup}
+use Rattle.merkle_proofs.specs.Plans.{Asked, IsWithinTree, Lookup}
 use Rattle.state_proofs.specs.Built.{IsRefusalOfPlanned, IsRefusalOfSource}
 use Rattle.state_proofs_parts.specs.Sources.{IsSourceOf}
 use Rattle.state_proofs.specs.BuiltCode.{measures_with, source_of, span_of}

@@ -4,10 +4,10 @@ use Rattle.std.proofs.lemmas.List.{length-map}
 use Rattle.merkle_forest.specs.Forest.{Rule, forest_of}
 use Rattle.merkle_forest.specs.Hashing.{Hash, leaf_string}
 use Rattle.merkle_forest.specs.Nodes.{nodes_of_height}
-use Rattle.merkle_core.specs.Extracted.{AreMadeOf, AreGiven, AreExtracted, extracted_nodes}
-use Rattle.merkle_core.specs.MadeRoots.{peaks_of}
-use Rattle.merkle_core.specs.MadeTrees.{from}
-use Rattle.merkle_core.specs.Ranges.{Digests}
+use Rattle.merkle_proofs.specs.Extracted.{AreMadeOf, AreGiven, AreExtracted, extracted_nodes}
+use Rattle.merkle_proofs.specs.MadeRoots.{peaks_of}
+use Rattle.merkle_proofs.specs.MadeTrees.{from}
+use Rattle.merkle_proofs.specs.Ranges.{Digests}
 use Rattle.state_proofs.specs.ProofsCode.{range_parts_of}
 use Rattle.state_proofs.specs.RangeExtracted.{told_by}
 use Rattle.state_proofs.specs.Verified.{Shown, given_by, graftable_shown, RangeParts}

@@ -1,7 +1,7 @@
 use Rattle.std.proofs.Common.{◌≡◌, ℕ, ◌*◌, List, map, IfOk, sym, ◌∙◌, ap, subst}
 use Rattle.merkle_forest.specs.Forest.{Rule}
 use Rattle.merkle_forest.specs.Hashing.{Hash}
-use Rattle.merkle_core.specs.Extracted.{AreExtracted}
+use Rattle.merkle_proofs.specs.Extracted.{AreExtracted}
 use Rattle.state_proofs.specs.ProofsCode.{range_parts_of}
 use Rattle.state_proofs.specs.RangeExtracted.{ShowsDigests, shown_with, told_by}
 use Rattle.state_proofs.specs.Verified.{Shown, RangeParts}

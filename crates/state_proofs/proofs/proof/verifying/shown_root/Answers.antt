@@ -3,8 +3,8 @@ use Rattle.std.specs.Prelude.{option_map}
 use Rattle.merkle_forest.specs.declared.bagging.Bagging.TheVariants.{BackwardFold}
 use Rattle.merkle_forest.specs.Hashing.{Hash, leaf_string}
 use Rattle.merkle_forest.specs.Made.{value}
-use Rattle.merkle_core.specs.MadeTrees.{Over}
-use Rattle.merkle_core.specs.Reads.{HashesAs, range_root}
+use Rattle.merkle_proofs.specs.MadeTrees.{Over}
+use Rattle.merkle_proofs.specs.Reads.{HashesAs, range_root}
 use Rattle.state_proofs_parts.specs.MadeGrafted.{grafted_names}
 use Rattle.state_proofs.specs.ProofsCode.{range_parts_of}
 use Rattle.state_proofs.specs.Verified.{Shown, given_by, shown_over, graftable_shown, RangeParts}

@@ -1,5 +1,0 @@
-use Rattle.std.proofs.Common.{length}
-use Rattle.merkle_core.proofs.building.plain.+append_inner.Given as goal
-
-abbrev pub decreases-append_inner : goal.decreases-append_inner
-decreases-append_inner g l = length l.peaks.now

@@ -1,5 +1,0 @@
-use Rattle.merkle_core.proofs.HonestReads.{range_read}
-use Rattle.merkle_core.proofs.laws.proofs_that_agree_with_a_root_are_honest.Goals as goal
-
-pub returns : goal.returns
-returns g c = range_read g.F.Family.merge_rule

@@ -1,4 +1,0 @@
-use Rattle.merkle_core.proofs.multi.tree.+shown_digest.Given as goal
-
-abbrev pub decreases-shown_digest : goal.decreases-shown_digest
-decreases-shown_digest g l = l.subtree.height

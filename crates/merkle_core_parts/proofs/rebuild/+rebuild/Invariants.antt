@@ -1,4 +1,0 @@
-use Rattle.merkle_core_parts.proofs.rebuild.+rebuild.Given as goal
-
-abbrev pub decreases-rebuild : goal.decreases-rebuild
-decreases-rebuild g l = l.place.height
