@@ -4,9 +4,9 @@ use Rattle.std.specs.Prelude.{IfSome}
 use Rattle.merkle_forest.specs.Codec.{Outcome}
 use Rattle.state_ops.specs.Operation.{Operation, update, ordered, commit_floor, fixed_encoding}
 use Rattle.state_ops.specs.Reading.{HasEncoding, IsField, operation_at}
-use Rattle.state_proofs.specs.Encoded.{Fits}
+use Rattle.state_theory.specs.Encoded.{Fits}
 use Rattle.state_proofs.specs.Exclusion.{ExclusionParts, by_update, by_commit, proof_of, operation_of, LeavesOut}
-use Rattle.state_proofs.specs.MadeRanges.{HasActive}
+use Rattle.state_theory.specs.MadeRanges.{HasActive}
 use Rattle.auth_store_parts.specs.History.{History, AreStates, latest_map, log_of}
 use Rattle.auth_store_parts.specs.Map.{value_at}
 use Rattle.auth_store_client.specs.Claims.{Terms, FitsExclusion}

@@ -4,9 +4,9 @@ use Rattle.std.proofs.Common.{length, Option, Some, None, refl, sym, ◌∙◌, 
 use Rattle.std.specs.Prelude.{slice_get, slice_index_or}
 use Rattle.std.proofs.Math.Nat.{div-mul-le_self}
 use Rattle.std.proofs.lemmas.Nat.{le-div}
-use Rattle.state_proofs_parts.specs.SetBits.{is_set}
-use Rattle.state_proofs_parts.specs.Canonical.{Setting, State, chunk_bits, chunk}
-use Rattle.state_proofs_parts.specs.Laws.Chunks.{active_bit, bit_of_chunk}
+use Rattle.state_theory.specs.SetBits.{is_set}
+use Rattle.state_theory.specs.Canonical.{Setting, State, chunk_bits, chunk}
+use Rattle.state_theory.specs.Laws.Chunks.{active_bit, bit_of_chunk}
 use Rattle.auth_store_client.specs.Claims.{bit_over}
 
 pub div_le : (m n k : ℕ) → 0 < k → m ≤ n → m / k ≤ n / k

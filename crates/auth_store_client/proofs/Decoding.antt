@@ -7,11 +7,11 @@ use Rattle.merkle_forest.specs.Laws.Matching.{append_parts}
 use Rattle.state_ops_parts.specs.Laws.Updates.{three_again}
 use Rattle.state_ops_parts.specs.Grammar.{after_ordered}
 use Rattle.merkle_forest.specs.Codec.{◌>>=◌}
-use Rattle.state_proofs.specs.Encoded.{operation_proof_encoding, after_operation_proof, Fits}
+use Rattle.state_theory.specs.Encoded.{operation_proof_encoding, after_operation_proof, Fits}
 use Rattle.state_proofs.specs.Exclusion.{ExclusionParts, by_update, by_commit, exclusion_encoding, after_exclusion}
-use Rattle.state_proofs.specs.Laws.Encoded.{Grammar, operation_again}
-use Rattle.state_proofs.specs.Laws.Once.{key_value_once}
-use Rattle.state_proofs.specs.Verified.{Parts}
+use Rattle.state_theory.specs.Laws.Encoded.{Grammar, operation_again}
+use Rattle.state_theory.specs.Laws.Once.{key_value_once}
+use Rattle.state_theory.specs.Verified.{Parts}
 use Rattle.auth_store_client.specs.Claims.{Terms, FitsExclusion}
 
 options_same : (p q : Option (List ℕ)) → option_encoding (λ d. d) p ≡ option_encoding (λ d. d) q → p ≡ q

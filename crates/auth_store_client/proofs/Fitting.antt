@@ -5,10 +5,10 @@ use Rattle.merkle_forest.specs.Codec.{◌>>=◌, Outcome, option_encoding, after
 use Rattle.state_ops_parts.specs.Grammar.{after_ordered}
 use Rattle.state_proofs.specs.declared.exclusion.ExclusionProof.{ExclusionProof}
 use Rattle.state_proofs.specs.declared.exclusion.ExclusionProof.TheVariants.{KeyValue, Commit}
-use Rattle.state_proofs.specs.Encoded.{operation_proof_encoding, after_operation_proof}
+use Rattle.state_theory.specs.Encoded.{operation_proof_encoding, after_operation_proof}
 use Rattle.state_proofs.specs.Exclusion.{exclusion_encoding, after_exclusion}
 use Rattle.state_proofs.specs.ExclusionCode.{form_exclusion_of, IsExclusionValue, IsExclusionWithin}
-use Rattle.state_proofs.specs.Laws.Encoded.{Grammar}
+use Rattle.state_theory.specs.Laws.Encoded.{Grammar}
 use Rattle.state_proofs.specs.Laws.Reading.{IsRangeValue, read_operation_fits}
 use Rattle.state_proofs.specs.ProofsCode.{form_parts_of}
 use Rattle.auth_store_client.specs.Claims.{Terms, FitsExclusion}

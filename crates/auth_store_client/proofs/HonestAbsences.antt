@@ -4,12 +4,12 @@ use Rattle.std.proofs.Common.{◌≡◌, ◌-◌, ℕ, true, List, [], ◌∷◌
 use Rattle.std.specs.Prelude.{slice_get, unwrap_or}
 use Rattle.state_ops.specs.Operation.{Operation, update, ordered, commit_floor, fixed_encoding}
 use Rattle.state_ops.specs.Reading.{IsOfFields}
-use Rattle.state_proofs_parts.specs.Canonical.{Setting, State}
-use Rattle.state_proofs.specs.Encoded.{Fits}
+use Rattle.state_theory.specs.Canonical.{Setting, State}
+use Rattle.state_theory.specs.Encoded.{Fits}
 use Rattle.state_ops.specs.Spans.{is_in_span}
 use Rattle.state_proofs.specs.Exclusion.{ExclusionParts, by_update, by_commit, proof_of, operation_of, LeavesOut}
-use Rattle.state_proofs.specs.Honest.{honest_parts}
-use Rattle.state_proofs.specs.MadeRanges.{HasActive}
+use Rattle.state_theory.specs.Honest.{honest_parts}
+use Rattle.state_theory.specs.MadeRanges.{HasActive}
 use Rattle.auth_store_client.specs.Claims.{Terms, FitsExclusion}
 use Rattle.auth_store_client.specs.Laws.Standing.{stands, no_room, no_room_at_all, last_commit}
 use Rattle.auth_store_client.specs.Soundness.{IsAlone}

@@ -3,11 +3,11 @@ use Rattle.std.proofs.Common.{◌≡◌, ℕ, ◌+◌, List, length, map, Option
 use Rattle.std.specs.Prelude.{IfSome}
 use Rattle.std.proofs.lemmas.List.{length-map}
 use Rattle.state_ops.specs.Operation.{Operation, fixed_encoding}
-use Rattle.state_proofs_parts.specs.Canonical.{Setting, State}
-use Rattle.state_proofs.specs.Encoded.{FitsRange, operation_proof_encoding}
-use Rattle.state_proofs.specs.Honest.{honest_range, honest_parts, operation_proof}
-use Rattle.state_proofs.specs.MadeRanges.{HasDigestsOf}
-use Rattle.state_proofs.specs.Verified.{Parts, RangeParts}
+use Rattle.state_theory.specs.Canonical.{Setting, State}
+use Rattle.state_theory.specs.Encoded.{FitsRange, operation_proof_encoding}
+use Rattle.state_theory.specs.Honest.{honest_range, honest_parts, operation_proof}
+use Rattle.state_theory.specs.MadeRanges.{HasDigestsOf}
+use Rattle.state_theory.specs.Verified.{Parts, RangeParts}
 use Rattle.auth_store_client.specs.Claims.{range_encoding}
 use Rattle.auth_store_client.specs.Proving.{chunks_over, range_bytes}
 

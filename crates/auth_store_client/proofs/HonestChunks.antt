@@ -1,9 +1,9 @@
 -- The chunks that are shown over operations of a state are those over them, each in its place.
 use Rattle.std.proofs.Common.{◌≡◌, ℕ, ◌-◌, ◌*◌, ◌/◌, ◌<◌, ◌≤◌, List, length, map, sym, ◌∙◌, ap, arith}
 use Rattle.std.specs.List.{range_with_len}
-use Rattle.state_proofs_parts.specs.Canonical.{Setting, State, chunk}
-use Rattle.state_proofs.specs.MadeRanges.{HasRange}
-use Rattle.state_proofs.specs.Verified.{Shown, stop_of, first_index, last_index, IsShaped}
+use Rattle.state_theory.specs.Canonical.{Setting, State, chunk}
+use Rattle.state_theory.specs.MadeRanges.{HasRange}
+use Rattle.state_theory.specs.Verified.{Shown, stop_of, first_index, last_index, IsShaped}
 use Rattle.auth_store_client.specs.Proving.{chunks_over}
 use Rattle.auth_store_client.proofs.HonestRanges.{shown, count, shaped, has}
 use Rattle.auth_store_client.proofs.Lists.{by_values}

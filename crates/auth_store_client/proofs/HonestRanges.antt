@@ -4,13 +4,13 @@ use Rattle.std.proofs.Common.{Bool, List, [], ◌∷◌, length, map, take, drop
 use Rattle.std.specs.Prelude.{slice_get, if◌then◌else◌, ◌==◌}
 use Rattle.std.proofs.lemmas.List.{length-take-le, length-drop}
 use Rattle.std.proofs.lemmas.Option.{slice_get-get_or}
-use Rattle.merkle_proofs.specs.Laws.Sound.{all_take, all_drop}
-use Rattle.state_proofs_parts.specs.Bits.{chunks_of}
-use Rattle.state_proofs_parts.specs.Laws.Bits.{length-chunk_of}
-use Rattle.state_proofs_parts.specs.Canonical.{Setting, State, chunk_bits, full_chunks, next_bit, chunks, chunk}
-use Rattle.state_proofs_parts.specs.Laws.Chunks.{location_chunks}
-use Rattle.state_proofs.specs.MadeRanges.{HasRange}
-use Rattle.state_proofs.specs.Verified.{Shown, IsShaped}
+use Rattle.merkle_theory.specs.Laws.Sound.{all_take, all_drop}
+use Rattle.state_theory.specs.Bits.{chunks_of}
+use Rattle.state_theory.specs.Laws.Bits.{length-chunk_of}
+use Rattle.state_theory.specs.Canonical.{Setting, State, chunk_bits, full_chunks, next_bit, chunks, chunk}
+use Rattle.state_theory.specs.Laws.Chunks.{location_chunks}
+use Rattle.state_theory.specs.MadeRanges.{HasRange}
+use Rattle.state_theory.specs.Verified.{Shown, IsShaped}
 use Rattle.auth_store_client.specs.Claims.{bits_over, bit_over}
 use Rattle.auth_store_client.specs.Proving.{chunks_over}
 use Rattle.auth_store_client.proofs.Bits.{div_le, over_is}

@@ -11,14 +11,14 @@ use Rattle.merkle_forest.specs.Perfect.{IsPairing}
 use Rattle.merkle_forest.specs.Trees.{plain_digest, tree_root}
 use Rattle.merkle_core_parts.specs.Laws.Plain.{digest-plain}
 use Rattle.merkle_core_parts.specs.Mem.{plain_leaf_digests, plain_node, tree_digest}
-use Rattle.merkle_proofs.specs.Laws.MadeRoots.{peak_count}
-use Rattle.merkle_proofs.specs.Laws.Sized.{AreSized, IsSized, Gives, range_sized}
-use Rattle.merkle_proofs.specs.MadeRoots.{peaks_of}
-use Rattle.merkle_proofs.specs.Plans.{honest_digests}
-use Rattle.merkle_proofs.specs.Ranges.{Digests}
-use Rattle.state_proofs_parts.specs.Canonical.{Setting, State, next_bit, chunk_bits, grafted_root, operations_root, partial_digest}
-use Rattle.state_proofs.specs.Laws.FewDigests.{AreFew, ranges_are_few}
-use Rattle.state_proofs.specs.Laws.HonestSizes.{MayHold, may_hold, partial_of_size}
+use Rattle.merkle_theory.specs.Laws.MadeRoots.{peak_count}
+use Rattle.merkle_theory.specs.Laws.Sized.{AreSized, IsSized, Gives, range_sized}
+use Rattle.merkle_theory.specs.MadeRoots.{peaks_of}
+use Rattle.merkle_theory.specs.Plans.{honest_digests}
+use Rattle.merkle_theory.specs.Ranges.{Digests}
+use Rattle.state_theory.specs.Canonical.{Setting, State, next_bit, chunk_bits, grafted_root, operations_root, partial_digest}
+use Rattle.state_theory.specs.Laws.FewDigests.{AreFew, ranges_are_few}
+use Rattle.state_theory.specs.Laws.HonestSizes.{MayHold, may_hold, partial_of_size}
 use Rattle.state_proofs.specs.Witness.{honest_witness}
 use Rattle.auth_store_client.specs.Proving.{log_inactive, log_digests}
 use Rattle.auth_store_client.specs.Slices.{SliceParts, FitsSlice}

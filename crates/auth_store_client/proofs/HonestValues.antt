@@ -7,11 +7,11 @@ use Rattle.merkle_forest.specs.Codec.{Outcome}
 use Rattle.merkle_forest.specs.Laws.Matching.{append_parts}
 use Rattle.state_ops.specs.Operation.{Operation, delete, update, ordered, commit_floor, fixed_size, unpadded, fixed_encoding}
 use Rattle.state_ops.specs.Reading.{IsField}
-use Rattle.state_proofs_parts.specs.Canonical.{Setting}
-use Rattle.state_proofs.specs.Encoded.{key_value_proof_encoding}
-use Rattle.state_proofs.specs.Honest.{honest_parts, key_value_proof}
-use Rattle.state_proofs.specs.MadeRanges.{HasActive}
-use Rattle.state_proofs.specs.Verified.{Parts}
+use Rattle.state_theory.specs.Canonical.{Setting}
+use Rattle.state_theory.specs.Encoded.{key_value_proof_encoding}
+use Rattle.state_theory.specs.Honest.{honest_parts, key_value_proof}
+use Rattle.state_theory.specs.MadeRanges.{HasActive}
+use Rattle.state_theory.specs.Verified.{Parts}
 use Rattle.auth_store_parts.specs.History.{History, active_location, log_of}
 use Rattle.auth_store_parts.specs.Laws.Actives.{location-active, next-active}
 use Rattle.auth_store_client.specs.Fields.{IsSound}

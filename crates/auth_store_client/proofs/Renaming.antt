@@ -7,13 +7,13 @@ use Rattle.merkle_forest.specs.Forest.{Rule}
 use Rattle.merkle_forest.specs.Hashing.{Hash, number, domain_of, inactive_count}
 use Rattle.merkle_forest.specs.Made.{Made, value}
 use Rattle.merkle_forest.specs.Trees.{Located}
-use Rattle.merkle_proofs.specs.MadeRoots.{Naming, folded, root_made, from_left, peaks_of, Streams, Bagged, given_outer}
-use Rattle.merkle_proofs.specs.MadeRoots.{read_peak, read_back, read_onto, read_group, read_bag, used, read_root}
-use Rattle.merkle_proofs.specs.MadeTrees.{Over, Elements}
-use Rattle.merkle_proofs.specs.Ranges.{is_before, is_after}
-use Rattle.merkle_proofs.specs.RangeCounts.{range_outer}
-use Rattle.merkle_proofs.specs.Reads.{range_root}
-use Rattle.merkle_proofs.specs.MadeTrees.{from}
+use Rattle.merkle_theory.specs.MadeRoots.{Naming, folded, root_made, from_left, peaks_of, Streams, Bagged, given_outer}
+use Rattle.merkle_theory.specs.MadeRoots.{read_peak, read_back, read_onto, read_group, read_bag, used, read_root}
+use Rattle.merkle_theory.specs.MadeTrees.{Over, Elements}
+use Rattle.merkle_theory.specs.Ranges.{is_before, is_after}
+use Rattle.merkle_theory.specs.RangeCounts.{range_outer}
+use Rattle.merkle_theory.specs.Reads.{range_root}
+use Rattle.merkle_theory.specs.MadeTrees.{from}
 
 module _ (hash : Hash) where
   -- two that are made have one digest

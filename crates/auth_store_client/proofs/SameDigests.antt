@@ -10,7 +10,7 @@ use Rattle.merkle_forest.specs.Laws.Nodes.{peak-node}
 use Rattle.merkle_forest.specs.Laws.Places.{node-left, node-right}
 use Rattle.merkle_forest.specs.Nodes.{IsNodeAt, IsPeakAt}
 use Rattle.merkle_forest.specs.Trees.{Located, located}
-use Rattle.merkle_proofs.specs.Ranges.{Digests, as_one, is_before, is_after, meets, singly, siblings, inner_digests, range_digests}
+use Rattle.merkle_theory.specs.Ranges.{Digests, as_one, is_before, is_after, meets, singly, siblings, inner_digests, range_digests}
 
 all_append : (P : Located → Type 0) (xs ys : List Located) → AllByRecursion P xs → AllByRecursion P ys → AllByRecursion P (xs ++ ys)
 all_append P [] ys one two = two

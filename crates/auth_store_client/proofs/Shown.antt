@@ -3,10 +3,10 @@ use Rattle.std.proofs.Common.{◌≡◌, ℕ, Bool, ◌^◌, ◌<◌, List, [], 
 use Rattle.std.specs.Prelude.{◌↔◌, IfOk, IsTrue}
 use Rattle.merkle_forest.specs.Codec.{Outcome}
 use Rattle.state_ops.specs.Operation.{Operation}
-use Rattle.state_proofs.specs.Encoded.{operation_proof_encoding, Fits}
+use Rattle.state_theory.specs.Encoded.{operation_proof_encoding, Fits}
 use Rattle.state_proofs.specs.Exclusion.{ExclusionParts, exclusion_encoding, Excludes}
-use Rattle.state_proofs.specs.Laws.Encoded.{Grammar}
-use Rattle.state_proofs.specs.Verified.{Parts, Verifies}
+use Rattle.state_theory.specs.Laws.Encoded.{Grammar}
+use Rattle.state_theory.specs.Verified.{Parts, Verifies}
 use Rattle.auth_store_client.specs.Claims.{Terms, encoded, FitsExclusion, ShowsAbsence, ShowsActive}
 use Rattle.auth_store_client.proofs.Decoding.{Fields, operation_once, exclusion_once}
 

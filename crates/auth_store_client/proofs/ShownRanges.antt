@@ -4,10 +4,10 @@ use Rattle.std.proofs.Common.{take, drop, Option, refl, sym, ◌∙◌, ap, subs
 use Rattle.std.proofs.lemmas.List.{drop_at, take_rest}
 use Rattle.merkle_forest.specs.Codec.{Outcome}
 use Rattle.state_ops.specs.Operation.{Operation}
-use Rattle.state_proofs.specs.Encoded.{FitsRange}
-use Rattle.state_proofs.specs.Laws.Encoded.{Grammar}
-use Rattle.state_proofs.specs.Laws.Once.{range_once}
-use Rattle.state_proofs.specs.Verified.{RangeParts, VerifiesRange}
+use Rattle.state_theory.specs.Encoded.{FitsRange}
+use Rattle.state_theory.specs.Laws.Encoded.{Grammar}
+use Rattle.state_theory.specs.Laws.Once.{range_once}
+use Rattle.state_theory.specs.Verified.{RangeParts, VerifiesRange}
 use Rattle.auth_store_client.specs.Claims.{Terms, range_most, range_encoding, shown_of, bits_over, ShowsRange}
 use Rattle.auth_store_client.proofs.Chunks.{AreWide, joined, joined_once}
 

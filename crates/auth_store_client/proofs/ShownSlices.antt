@@ -2,7 +2,7 @@
 use Rattle.std.proofs.Common.{◌≡◌, ℕ, ◌^◌, ◌<◌, List, sym, ◌∙◌, subst}
 use Rattle.merkle_forest.specs.Codec.{Outcome}
 use Rattle.state_ops.specs.Operation.{Operation}
-use Rattle.state_proofs.specs.Laws.Encoded.{Grammar}
+use Rattle.state_theory.specs.Laws.Encoded.{Grammar}
 use Rattle.std.specs.Prelude.{map}
 use Rattle.auth_store_client.specs.Claims.{Terms, range_most, encoded, ShowsSlice}
 use Rattle.auth_store_client.specs.Slices.{SliceParts, slice_encoding, FitsSlice, VerifiesSlice}

@@ -5,13 +5,13 @@ use Rattle.std.proofs.lemmas.List.{length-map}
 use Rattle.merkle_forest.specs.declared.bagging.Bagging.TheVariants.{BackwardFold}
 use Rattle.merkle_forest.specs.Perfect.{IsPairing}
 use Rattle.merkle_forest.specs.Trees.{plain_digest}
-use Rattle.merkle_proofs.specs.HonestReads.{ReadsHonestly}
-use Rattle.merkle_proofs.specs.Laws.HonestReads.{read_at, plain_made, plain_children}
-use Rattle.merkle_proofs.specs.Laws.MadeTrees.{AllSized}
-use Rattle.merkle_proofs.specs.MadeTrees.{whole, plain_over}
+use Rattle.merkle_theory.specs.HonestReads.{ReadsHonestly}
+use Rattle.merkle_theory.specs.Laws.HonestReads.{read_at, plain_made, plain_children}
+use Rattle.merkle_theory.specs.Laws.MadeTrees.{AllSized}
+use Rattle.merkle_theory.specs.MadeTrees.{whole, plain_over}
 use Rattle.state_ops.specs.Operation.{Operation, fixed_encoding}
-use Rattle.state_proofs_parts.specs.Canonical.{Setting, State}
-use Rattle.state_proofs_parts.specs.MadeStates.{operations_names}
+use Rattle.state_theory.specs.Canonical.{Setting, State}
+use Rattle.state_theory.specs.MadeStates.{operations_names}
 use Rattle.state_proofs.specs.Witness.{WitnessParts, honest_witness}
 use Rattle.auth_store_client.specs.Proving.{log_inactive, log_digests, slice_bytes}
 use Rattle.auth_store_client.specs.Slices.{SliceParts, slice_encoding}

@@ -10,13 +10,13 @@ use Rattle.merkle_forest.specs.Forest.{Rule}
 use Rattle.merkle_forest.specs.Hashing.{Hash}
 use Rattle.merkle_forest.specs.Lists.{list_encoding, AreItems}
 use Rattle.merkle_forest.specs.Varint.{varint, after_varint}
-use Rattle.merkle_proofs.specs.Laws.Proofs.{all_sized, proof_again, proof_within}
-use Rattle.merkle_proofs.specs.MadeTrees.{plain_over}
-use Rattle.merkle_proofs.specs.Proofs.{proof_encoding, after_proof}
-use Rattle.merkle_proofs.specs.Reads.{HashesAs}
-use Rattle.state_proofs.specs.Laws.Encoded.{Grammar}
-use Rattle.state_proofs.specs.Laws.Once.{numbers_once, fixed_once, lists_once}
-use Rattle.state_proofs.specs.LogProofs.{leaf_hash, branch_hash}
+use Rattle.merkle_theory.specs.Laws.Proofs.{all_sized, proof_again, proof_within}
+use Rattle.merkle_theory.specs.MadeTrees.{plain_over}
+use Rattle.merkle_theory.specs.Proofs.{proof_encoding, after_proof}
+use Rattle.merkle_theory.specs.Reads.{HashesAs}
+use Rattle.state_theory.specs.Laws.Encoded.{Grammar}
+use Rattle.state_theory.specs.Laws.Once.{numbers_once, fixed_once, lists_once}
+use Rattle.state_theory.specs.LogProofs.{leaf_hash, branch_hash}
 use Rattle.state_proofs.specs.Witness.{WitnessParts, witness_encoding, next_encoding, after_next, after_witness, HasNext}
 use Rattle.auth_store_client.specs.declared.slice.Slice.{Slice}
 use Rattle.auth_store_client.specs.Slices.{SliceParts, slice_encoding, after_slice, FitsSlice}

@@ -5,9 +5,9 @@ use Rattle.std.specs.Prelude.{slice_get}
 use Rattle.std.proofs.lemmas.List.{length-map}
 use Rattle.std.proofs.lemmas.Option.{slice_get_within}
 use Rattle.state_ops.specs.Operation.{Operation, fixed_encoding}
-use Rattle.state_proofs_parts.specs.Canonical.{Setting, State}
-use Rattle.state_proofs.specs.MadeRanges.{HasRange}
-use Rattle.state_proofs.specs.Verified.{Shown, IsShaped}
+use Rattle.state_theory.specs.Canonical.{Setting, State}
+use Rattle.state_theory.specs.MadeRanges.{HasRange}
+use Rattle.state_theory.specs.Verified.{Shown, IsShaped}
 use Rattle.auth_store_parts.specs.History.{History, activity_bits, log_of}
 use Rattle.auth_store_parts.specs.Laws.Places.{length-activity_bits}
 use Rattle.auth_store_client.specs.Claims.{IsTrueOf, has_range, has_slice, bits_over}

@@ -14,18 +14,18 @@ use Rattle.merkle_forest.specs.Laws.Matching.{In, Agrees, agrees_or_collides}
 use Rattle.merkle_forest.specs.Made.{Site, at_canonical, Made, bytes, value, Strings, strings, Collision}
 use Rattle.merkle_forest.specs.Perfect.{IsPairing}
 use Rattle.merkle_forest.specs.Trees.{Located, inactive_peaks, plain_digest, tree_root, end_of}
-use Rattle.merkle_proofs.specs.Laws.MadeRoots.{IsRoot, Tells, peak_count, root_good}
-use Rattle.merkle_proofs.specs.Laws.MadeTrees.{AllSized, plain_fits, value_plain}
-use Rattle.merkle_proofs.specs.Laws.Sound.{agree_in, all_take, all_drop}
-use Rattle.merkle_proofs.specs.Laws.Values.{value_root}
-use Rattle.merkle_proofs.specs.MadeRoots.{peaks_of, read_root}
-use Rattle.merkle_proofs.specs.MadeTrees.{from, whole, plain_over}
-use Rattle.merkle_proofs.specs.RangeCounts.{range_outer}
-use Rattle.merkle_proofs.specs.Reads.{range_root}
-use Rattle.merkle_proofs.specs.Soundness.{plain_names}
-use Rattle.state_proofs_parts.specs.Canonical.{Setting, State, peaks, operations_root, canonical_root}
-use Rattle.state_proofs_parts.specs.MadeCanonical.{if_made, next_made}
-use Rattle.state_proofs_parts.specs.MadeStates.{operations_names, made_operations, hashed_strings}
+use Rattle.merkle_theory.specs.Laws.MadeRoots.{IsRoot, Tells, peak_count, root_good}
+use Rattle.merkle_theory.specs.Laws.MadeTrees.{AllSized, plain_fits, value_plain}
+use Rattle.merkle_theory.specs.Laws.Sound.{agree_in, all_take, all_drop}
+use Rattle.merkle_theory.specs.Laws.Values.{value_root}
+use Rattle.merkle_theory.specs.MadeRoots.{peaks_of, read_root}
+use Rattle.merkle_theory.specs.MadeTrees.{from, whole, plain_over}
+use Rattle.merkle_theory.specs.RangeCounts.{range_outer}
+use Rattle.merkle_theory.specs.Reads.{range_root}
+use Rattle.merkle_theory.specs.Soundness.{plain_names}
+use Rattle.state_theory.specs.Canonical.{Setting, State, peaks, operations_root, canonical_root}
+use Rattle.state_theory.specs.MadeCanonical.{if_made, next_made}
+use Rattle.state_theory.specs.MadeStates.{operations_names, made_operations, hashed_strings}
 use Rattle.state_proofs.specs.Witness.{witnessed_string, witnessed_made}
 use Rattle.auth_store_client.specs.Slices.{SliceParts, VerifiesSlice}
 use Rattle.auth_store_client.specs.MadeSlices.{slice_over, slice_strings}

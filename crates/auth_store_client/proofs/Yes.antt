@@ -1,7 +1,7 @@
 -- What a yes says.
 use Rattle.std.proofs.Common.{◌≡◌, Bool, List, ℕ, Result, Ok, Err}
 use Rattle.std.specs.Prelude.{◌↔◌, ⊤, IfOk, IsTrue}
-use Rattle.state_proofs_parts.specs.Canonical.{Setting}
+use Rattle.state_theory.specs.Canonical.{Setting}
 use Rattle.auth_store_parts.specs.History.{History}
 use Rattle.auth_store_client.specs.Claims.{Claim, ClaimsFields, Shows, Terms}
 use Rattle.auth_store_client.specs.Fields.{IsSound}

@@ -1,8 +1,8 @@
 -- The honest bytes that prove that a key is absent.
 use Rattle.std.specs.Prelude.{ℕ, ◌-◌, List, [], ◌∷◌, length, Option, None, Some, unwrap_or, IfSome}
-use Rattle.state_proofs_parts.specs.Canonical.{Setting}
+use Rattle.state_theory.specs.Canonical.{Setting}
 use Rattle.state_proofs.specs.Exclusion.{ExclusionParts, by_update, by_commit, exclusion_encoding}
-use Rattle.state_proofs.specs.Honest.{honest_parts}
+use Rattle.state_theory.specs.Honest.{honest_parts}
 use Rattle.state_ops.specs.Operation.{Operation, commit_floor}
 use Rattle.auth_store_parts.specs.Map.{Map, next_key, value_at}
 use Rattle.auth_store_parts.specs.History.{History, latest_map, log_of, active_location}

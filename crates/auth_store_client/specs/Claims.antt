@@ -7,11 +7,11 @@ use Rattle.merkle_forest.specs.Forest.{Rule}
 use Rattle.merkle_forest.specs.Hashing.{Hash}
 use Rattle.state_ops.specs.Operation.{Operation, fixed_encoding, update, ordered}
 use Rattle.state_ops.specs.Reading.{IsField, IsOfFields}
-use Rattle.state_proofs_parts.specs.SetBits.{is_set}
-use Rattle.state_proofs.specs.Encoded.{Format, format_of, range_proof_encoding, FitsRange, Fits, ShowsOperation}
-use Rattle.state_proofs.specs.Encoded.{ShowsUpdate}
+use Rattle.state_theory.specs.SetBits.{is_set}
+use Rattle.state_theory.specs.Encoded.{Format, format_of, range_proof_encoding, FitsRange, Fits, ShowsOperation}
+use Rattle.state_theory.specs.Encoded.{ShowsUpdate}
 use Rattle.state_proofs.specs.Exclusion.{ExclusionParts, by_update, by_commit, exclusion_encoding, Excludes}
-use Rattle.state_proofs.specs.Verified.{RangeParts, Shown, VerifiesRange}
+use Rattle.state_theory.specs.Verified.{RangeParts, Shown, VerifiesRange}
 use Rattle.auth_store_parts.specs.History.{History, activity_bits, latest_map, log_of}
 use Rattle.auth_store_parts.specs.Map.{value_at}
 use Rattle.auth_store_client.specs.Slices.{SliceParts, slice_encoding, FitsSlice, VerifiesSlice}

@@ -1,6 +1,6 @@
 -- The honest bytes of each claim that is true of a history.
 use Rattle.std.specs.Prelude.{ℕ, ◌+◌, List, length, Option}
-use Rattle.state_proofs_parts.specs.Canonical.{Setting}
+use Rattle.state_theory.specs.Canonical.{Setting}
 use Rattle.auth_store_parts.specs.History.{History}
 use Rattle.auth_store_client.specs.Claims.{Claim, has_value, is_absent, is_active, has_range, has_slice}
 use Rattle.auth_store_client.specs.Proving.{honest_proof, honest_operation, honest_range_bytes, honest_slice_bytes}

@@ -3,11 +3,11 @@
 use Rattle.std.specs.Prelude.{ℕ, List, option_map}
 use Rattle.merkle_forest.specs.declared.bagging.Bagging.TheVariants.{BackwardFold}
 use Rattle.merkle_forest.specs.Made.{Made, bytes, Strings, strings}
-use Rattle.merkle_proofs.specs.MadeTrees.{plain_over}
-use Rattle.merkle_proofs.specs.Reads.{range_root}
-use Rattle.state_proofs_parts.specs.Canonical.{Setting}
-use Rattle.state_proofs_parts.specs.MadeCanonical.{if_made, canonical_made}
-use Rattle.state_proofs_parts.specs.MadeStates.{operations_names}
+use Rattle.merkle_theory.specs.MadeTrees.{plain_over}
+use Rattle.merkle_theory.specs.Reads.{range_root}
+use Rattle.state_theory.specs.Canonical.{Setting}
+use Rattle.state_theory.specs.MadeCanonical.{if_made, canonical_made}
+use Rattle.state_theory.specs.MadeStates.{operations_names}
 use Rattle.auth_store_client.specs.Slices.{SliceParts}
 
 -- the canonical root over the root of the operations' tree, as a witness leads to it

@@ -5,7 +5,7 @@ use Rattle.std.specs.Prelude.{None, Some}
 use Rattle.std.specs.List.{AllByRecursion}
 use Rattle.merkle_forest.specs.Codec.{Outcome}
 use Rattle.state_ops.specs.Operation.{Operation}
-use Rattle.state_proofs_parts.specs.Canonical.{Setting}
+use Rattle.state_theory.specs.Canonical.{Setting}
 use Rattle.auth_store_parts.specs.History.{History, AreStates, activity_bits, latest_map, log_of}
 use Rattle.auth_store_parts.specs.Map.{next_key, value_at}
 use Rattle.auth_store_client.specs.Absence.{NamesFields, honest_absence, honest_absence_parts}

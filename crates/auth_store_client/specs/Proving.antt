@@ -5,12 +5,12 @@ use Rattle.std.specs.List.{flat_map}
 use Rattle.merkle_forest.specs.declared.bagging.Bagging.TheVariants.{BackwardFold}
 use Rattle.merkle_forest.specs.Trees.{inactive_peaks}
 use Rattle.merkle_core_parts.specs.Mem.{plain_leaf_digests, plain_node, tree_digest}
-use Rattle.merkle_proofs.specs.MadeRoots.{peaks_of}
-use Rattle.merkle_proofs.specs.Plans.{honest_digests}
-use Rattle.merkle_proofs.specs.Proofs.{proof_encoding}
-use Rattle.state_proofs_parts.specs.Canonical.{Setting, State, chunk_bits, chunks}
-use Rattle.state_proofs.specs.Encoded.{range_proof_encoding}
-use Rattle.state_proofs.specs.Honest.{honest_range, key_value_proof, operation_proof}
+use Rattle.merkle_theory.specs.MadeRoots.{peaks_of}
+use Rattle.merkle_theory.specs.Plans.{honest_digests}
+use Rattle.merkle_theory.specs.Proofs.{proof_encoding}
+use Rattle.state_theory.specs.Canonical.{Setting, State, chunk_bits, chunks}
+use Rattle.state_theory.specs.Encoded.{range_proof_encoding}
+use Rattle.state_theory.specs.Honest.{honest_range, key_value_proof, operation_proof}
 use Rattle.state_proofs.specs.Witness.{honest_witness, witness_encoding}
 use Rattle.auth_store_parts.specs.Map.{next_key}
 use Rattle.auth_store_parts.specs.History.{History, latest_map, log_of, active_location}

@@ -5,8 +5,8 @@ use Rattle.std.specs.List.{All}
 use Rattle.merkle_forest.specs.Codec.{◌>>=◌, Outcome}
 use Rattle.merkle_forest.specs.Forest.{Rule}
 use Rattle.merkle_forest.specs.Hashing.{Hash}
-use Rattle.merkle_proofs.specs.Proofs.{proof_encoding, after_proof}
-use Rattle.state_proofs.specs.LogProofs.{log_root}
+use Rattle.merkle_theory.specs.Proofs.{proof_encoding, after_proof}
+use Rattle.state_theory.specs.LogProofs.{log_root}
 use Rattle.state_proofs.specs.Witness.{WitnessParts, witness_encoding, witnessed_string, after_witness}
 
 -- the witness, and the parts of the Merkle proof

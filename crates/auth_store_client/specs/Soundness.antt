@@ -6,10 +6,10 @@ use Rattle.merkle_forest.specs.Codec.{Outcome}
 use Rattle.merkle_forest.specs.Made.{Collision, Strings}
 use Rattle.state_ops.specs.Operation.{Operation, fixed_encoding, update, ordered}
 use Rattle.state_ops.specs.Reading.{operation_at}
-use Rattle.state_proofs_parts.specs.Canonical.{Setting}
+use Rattle.state_theory.specs.Canonical.{Setting}
 use Rattle.state_proofs.specs.Exclusion.{proof_of, operation_of}
-use Rattle.state_proofs.specs.MadeRanges as ranges
-use Rattle.state_proofs_parts.specs.MadeStates as states
+use Rattle.state_theory.specs.MadeRanges as ranges
+use Rattle.state_theory.specs.MadeStates as states
 use Rattle.auth_store_parts.specs.History.{History, Commit}
 use Rattle.auth_store_client.specs.Claims.{Claim, has_value, is_absent, is_active, has_range, has_slice, IsTrueOf}
 use Rattle.auth_store_client.specs.Claims.{Terms, encoded, shown_of, Shows}

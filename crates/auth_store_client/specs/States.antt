@@ -5,7 +5,7 @@ use Rattle.std.specs.List.{list_any}
 use Rattle.merkle_forest.specs.Forest.{Rule}
 use Rattle.merkle_forest.specs.Hashing.{Hash}
 use Rattle.state_ops.specs.Operation.{Operation, fixed_encoding}
-use Rattle.state_proofs_parts.specs.Canonical.{Setting, State, canonical_root}
+use Rattle.state_theory.specs.Canonical.{Setting, State, canonical_root}
 use Rattle.auth_store_parts.specs.Batch.{Word, map_after}
 use Rattle.auth_store_parts.specs.History.{History, latest_map, last_floor, activity_bits, log_of}
 

@@ -5,9 +5,9 @@ ghost use Rattle.std.specs.Prelude.{MatchOption};
 ghost use Rattle.std.specs.List.{AllByRecursion, flat_map};
 ghost use Rattle.state_ops.specs.Operation.{meaning_of};
 ghost use Rattle.state_ops.specs.Reading.{IsField, IsOfFields};
-ghost use Rattle.state_proofs.specs.Encoded.{FitsRange, range_proof_encoding};
+ghost use Rattle.state_theory.specs.Encoded.{FitsRange, range_proof_encoding};
 ghost use Rattle.state_proofs.specs.ProofsCode.{range_parts_of};
-ghost use Rattle.state_proofs.specs.Verified.{RangeParts, VerifiesRange};
+ghost use Rattle.state_theory.specs.Verified.{RangeParts, VerifiesRange};
 ghost use Rattle.auth_store_client.specs.Claims.{bit_over, bits_over, range_encoding, terms, ShowsRange};
 
 use crate::encoded::{encodings, lent};

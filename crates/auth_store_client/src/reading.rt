@@ -1,11 +1,11 @@
 //! Proofs that the bytes of a claim encode, all of them.
 
 ghost use Rattle.std.specs.Prelude.{◌≡◌, ◌↔◌, [], ℕ, List, Ok, Some, None, IfOk, IsErr, OnOk, MatchOption, option_map};
-ghost use Rattle.state_proofs.specs.Encoded.{Fits, operation_proof_encoding};
+ghost use Rattle.state_theory.specs.Encoded.{Fits, operation_proof_encoding};
 ghost use Rattle.state_proofs.specs.Exclusion.{ExclusionParts, exclusion_encoding};
 ghost use Rattle.state_proofs.specs.ExclusionCode.{form_exclusion_of};
 ghost use Rattle.state_proofs.specs.ProofsCode.{parts_of};
-ghost use Rattle.state_proofs.specs.Verified.{Parts};
+ghost use Rattle.state_theory.specs.Verified.{Parts};
 ghost use Rattle.auth_store_client.specs.Claims.{FitsExclusion, terms};
 
 use merkle_core::MAX_PROOF_DIGESTS_PER_ELEMENT;

@@ -3,10 +3,10 @@
 ghost use Rattle.std.specs.Prelude.{◌≡◌, ◌↔◌, ◌<◌, ◌^◌, ℕ, List, map, option_map, IsTrue, IfOk, MatchOption};
 ghost use Rattle.std.specs.List.{AllByRecursion};
 ghost use Rattle.merkle_forest.specs.Codec.{LacksAfter, Reads};
-ghost use Rattle.merkle_proofs.specs.Proofs.{ProofLacks};
+ghost use Rattle.merkle_theory.specs.Proofs.{ProofLacks};
 ghost use Rattle.state_ops.specs.Operation.{meaning_of};
 ghost use Rattle.state_ops.specs.Reading.{IsField, IsOfFields};
-ghost use Rattle.state_proofs.specs.LogProofs.{log_root};
+ghost use Rattle.state_theory.specs.LogProofs.{log_root};
 ghost use Rattle.state_proofs.specs.Witness.{after_witness};
 ghost use Rattle.auth_store_client.specs.Claims.{terms, ShowsSlice};
 ghost use Rattle.auth_store_client.specs.Slices.{SliceParts, slice_encoding, after_slice, FitsSlice, VerifiesSlice};

@@ -5,13 +5,13 @@ use Rattle.std.proofs.lemmas.Option.{slice_get_past}
 use Rattle.std.proofs.lemmas.Bool.{cases_lt}
 use Rattle.std.specs.Prelude.{IsSome, slice_get, unwrap_or}
 use Rattle.state_ops.specs.Operation.{Operation}
-use Rattle.state_proofs_parts.specs.Canonical.{Setting}
+use Rattle.state_theory.specs.Canonical.{Setting}
 use Rattle.state_proofs.specs.declared.exclusion.ExclusionProof.{ExclusionProof}
 use Rattle.state_proofs.specs.declared.exclusion.ExclusionProof.TheVariants.{KeyValue, Commit}
 use Rattle.state_proofs.specs.declared.operation.Proof.{Proof}
 use Rattle.state_proofs.specs.Exclusion.{by_commit, by_update}
 use Rattle.state_proofs.specs.ExclusionCode.{IsExclusionValue, form_exclusion_of}
-use Rattle.state_proofs.specs.Honest.{honest_parts}
+use Rattle.state_theory.specs.Honest.{honest_parts}
 use Rattle.auth_store_parts.specs.Map.{Map, next_key, state_of, value_at}
 use Rattle.auth_store_parts.specs.History.{AreStates, active_location, history_of, last_floor, latest_map, log_of, update_fields}
 use Rattle.auth_store_parts.specs.Places.{places_of}

@@ -6,9 +6,9 @@ use Rattle.std.proofs.lemmas.List.{length-map, map-append}
 use Rattle.std.proofs.lemmas.Nat.{mul-le, pow_pos}
 use Rattle.std.specs.List.{AllByRecursion, flat_map}
 use Rattle.state_ops.specs.Operation.{Operation, fixed_encoding}
-use Rattle.state_proofs_parts.specs.Bits.{Bits, bit_count}
-use Rattle.state_proofs_parts.specs.Laws.Bits.{length-all}
-use Rattle.state_proofs_parts.specs.Canonical.{Setting, State}
+use Rattle.state_theory.specs.Bits.{Bits, bit_count}
+use Rattle.state_theory.specs.Laws.Bits.{length-all}
+use Rattle.state_theory.specs.Canonical.{Setting, State}
 use Rattle.state_current.specs.Growth as kept
 use Rattle.state_current.specs.Growth.{grown}
 use Rattle.state_current.specs.Kept.{Kept, StandsFor}

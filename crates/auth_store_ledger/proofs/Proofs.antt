@@ -1,8 +1,8 @@
 -- What a store's proof of a key holds.
 use Rattle.std.proofs.Common.{◌≡◌, ℕ, subst, Bool, List, Option, None, Some, option_map, refl, ap, sym, ◌∙◌}
 use Rattle.state_ops.specs.Operation.{Operation}
-use Rattle.state_proofs_parts.specs.Canonical.{Setting, State}
-use Rattle.state_proofs.specs.Honest.{key_value_proof}
+use Rattle.state_theory.specs.Canonical.{Setting, State}
+use Rattle.state_theory.specs.Honest.{key_value_proof}
 use Rattle.state_current.specs.Kept.{Kept}
 use Rattle.auth_store_ledger.specs.Map.{Map, value_at, next_key, entry_of}
 use Rattle.auth_store_ledger.specs.History.{History, AreStates, latest_map, log_of, history_of, active_location, active_update}

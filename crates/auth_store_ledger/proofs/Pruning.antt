@@ -3,8 +3,8 @@ use Rattle.std.proofs.Common.{◌≡◌, ◌⊎◌, ℕ, zero, suc, ◌*◌, ◌
 use Rattle.std.proofs.Common.{Bool, true, false, inl, inr, List, [], ◌∷◌, Some, ap, sym, subst, arith, refl}
 use Rattle.std.specs.Prelude.{slice_get, slice_index_or}
 use Rattle.merkle_forest.specs.Forest.{Rule}
-use Rattle.state_proofs_parts.specs.Bits.{Bits, all_bits}
-use Rattle.state_proofs_parts.specs.Canonical.{Setting}
+use Rattle.state_theory.specs.Bits.{Bits, all_bits}
+use Rattle.state_theory.specs.Canonical.{Setting}
 use Rattle.state_current.specs.Kept.{AreClearBefore, Kept, StandsFor}
 use Rattle.state_current.specs.Settled.{IsGreatestSettled}
 use Rattle.state_ops.specs.Operation.{Operation}

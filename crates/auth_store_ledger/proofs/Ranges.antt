@@ -9,10 +9,10 @@ use Rattle.std.proofs.lemmas.List.{get_or-drop, take_more}
 use Rattle.std.proofs.lemmas.Nat.{div-add-mod', le-div, mul-le}
 use Rattle.std.proofs.lemmas.Option.{get_or_from_slice_get, slice_get_past}
 use Rattle.std.proofs.Math.Nat.{mul_comm}
-use Rattle.merkle_proofs.specs.Proofs.{proof_encoding}
+use Rattle.merkle_theory.specs.Proofs.{proof_encoding}
 use Rattle.state_ops.specs.Operation.{Operation}
-use Rattle.state_proofs_parts.specs.Canonical.{Setting, State, chunk_bits, chunks}
-use Rattle.state_proofs_parts.specs.Laws.Chunks.{location_chunks}
+use Rattle.state_theory.specs.Canonical.{Setting, State, chunk_bits, chunks}
+use Rattle.state_theory.specs.Laws.Chunks.{location_chunks}
 use Rattle.auth_store_client.specs.Proving.{honest_operation}
 use Rattle.auth_store_ledger.specs.declared.error.Unprovable.{Unprovable}
 use Rattle.auth_store_ledger.specs.declared.error.Unprovable.TheVariants.{EmptyRange, OutOfRange, Pruned, Inactive}

@@ -3,7 +3,7 @@ use Rattle.std.proofs.Common.{◌≡◌, ℕ, ◌+◌, ◌<◌, ◌≤◌, ◌^�
 use Rattle.std.proofs.Common.{◌++◌, length, Option, ap, sym, ◌∙◌, subst, arith, length-append}
 use Rattle.std.proofs.lemmas.Grind.{flat_map-append}
 use Rattle.state_ops.specs.Operation.{Operation, commit_floor, fixed_encoding}
-use Rattle.state_proofs_parts.specs.Canonical.{Setting}
+use Rattle.state_theory.specs.Canonical.{Setting}
 use Rattle.state_current.specs.Kept.{Kept}
 use Rattle.auth_store_ledger.specs.Batch.{Word, map_after}
 use Rattle.auth_store_ledger.specs.History.{History, AreStates, latest_map, batch_operations, replayed, inactivity_floor, with_commit, log_of, history_of}

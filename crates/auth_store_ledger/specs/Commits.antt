@@ -11,7 +11,7 @@ use Rattle.auth_store_ledger.specs.Batch.{Word, map_after}
 use Rattle.auth_store_ledger.specs.History.{batch_operations, replayed}
 use Rattle.auth_store_ledger.specs.Store.{IsLedgerOf, LedgerState}
 use Rattle.state_current.specs.Kept.{Kept}
-use Rattle.state_proofs_parts.specs.Canonical.{Setting}
+use Rattle.state_theory.specs.Canonical.{Setting}
 
 -- A bit for each of the changes and for the commit; the locations whose operations they take out of a log with these
 -- places and its last commit here; the floor, which is the first location from `start` on whose bit is set then, where

@@ -1,14 +1,14 @@
 -- What a store answers where it is asked for a proof, and when the client accepts what it answers of a key.
 use Rattle.std.specs.Prelude.{◌≡◌, ℕ, ◌-◌, ◌*◌, nat_le, nat_lt, Bool, false, if◌then◌else◌, List, length, take, drop}
 use Rattle.std.specs.Prelude.{slice_get, slice_index_or, Option, None, Some, IfSome, option_map, Result, Ok, Err}
-use Rattle.state_proofs_parts.specs.Canonical.{Setting}
+use Rattle.state_theory.specs.Canonical.{Setting}
 use Rattle.auth_store_parts.specs.Map.{next_key, value_at}
 use Rattle.auth_store_parts.specs.History.{History, active_location, active_update, activity_bits, latest_map, log_of}
 use Rattle.state_ops.specs.Operation.{Operation}
 use Rattle.auth_store_client.specs.Claims.{Terms, Shows, has_value, is_absent, is_active, has_range, has_slice}
 use Rattle.auth_store_client.specs.Proving.{honest_proof, honest_operation, honest_range_bytes, honest_slice_bytes}
 use Rattle.auth_store_client.specs.States.{state_of_log}
-use Rattle.state_proofs.specs.Honest.{key_value_proof}
+use Rattle.state_theory.specs.Honest.{key_value_proof}
 use Rattle.auth_store_client.specs.Absence.{NamesFields, honest_absence, honest_absence_parts}
 use Rattle.auth_store_ledger.specs.declared.error.ProofError.{ProofError}
 use Rattle.auth_store_ledger.specs.declared.error.ProofError.TheVariants.{Unprovable as NoProof, Memory, Log}

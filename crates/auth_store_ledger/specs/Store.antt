@@ -2,7 +2,7 @@
 use Rattle.std.specs.Prelude.{◌≡◌, ℕ, ◌*◌, ◌/◌, ◌^◌, ◌≤◌, ◌+◌}
 use Rattle.std.specs.Prelude.{⊤, if◌then◌else◌, List, [], ◌∷◌, length, slice_get, Some}
 use Rattle.state_ops.specs.Operation.{Operation, update, ordered}
-use Rattle.state_proofs_parts.specs.Canonical.{Setting}
+use Rattle.state_theory.specs.Canonical.{Setting}
 use Rattle.state_current.specs.Kept.{Kept, StandsFor}
 use Rattle.state_current.specs.Settled.{IsGreatestSettled}
 use Rattle.auth_store_log.specs.Records.{Format, FloorFits, IsRecorded}

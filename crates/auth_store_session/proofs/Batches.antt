@@ -5,7 +5,7 @@ use Rattle.std.specs.Prelude.{IfSome, IsSomeAnd}
 use Rattle.fault_storage_parts.specs.Crc32.{crc32}
 use Rattle.paged_blob_parts.specs.Calls.{Call}
 use Rattle.paged_blob_parts.specs.Writers.{Keeps, WriterState, written}
-use Rattle.state_proofs_parts.specs.Canonical.{Setting}
+use Rattle.state_theory.specs.Canonical.{Setting}
 use Rattle.auth_store_parts.specs.Batch.{Word}
 use Rattle.auth_store_parts.specs.History.{AreStates, Commit, History, latest_map, log_of}
 use Rattle.auth_store_parts.specs.Laws.Logs.{IsState-latest_map, IsState-map_after}

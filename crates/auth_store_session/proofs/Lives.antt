@@ -8,7 +8,7 @@ use Rattle.paged_blob_parts.specs.CachedContent.{HoldsPagesOf}
 use Rattle.paged_blob_parts.specs.Calls.{Call}
 use Rattle.paged_blob_parts.specs.Writers.{IsWriter, WriterState, written}
 use Rattle.state_ops.specs.Operation.{Operation}
-use Rattle.state_proofs_parts.specs.Canonical.{Setting}
+use Rattle.state_theory.specs.Canonical.{Setting}
 use Rattle.auth_store_device.specs.Devices.{DeviceState, failures_of}
 use Rattle.auth_store_parts.specs.History.{AreStates, History, history_of, log_of}
 use Rattle.auth_store_parts.specs.Laws.Logs.{history_of-log_of}

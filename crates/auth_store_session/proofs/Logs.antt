@@ -11,7 +11,7 @@ use Rattle.paged_blob_parts.specs.CachedContent.{HoldsPagesOf}
 use Rattle.paged_blob_parts.specs.Calls.{Call}
 use Rattle.paged_blob_parts.specs.Writers.{written}
 use Rattle.state_ops.specs.Operation.{Operation}
-use Rattle.state_proofs_parts.specs.Canonical.{Setting}
+use Rattle.state_theory.specs.Canonical.{Setting}
 use Rattle.auth_store_parts.specs.History.{history_of, log_of}
 use Rattle.auth_store_ledger.specs.Store.{IsLedgerOf}
 use Rattle.auth_store_log.specs.Records.{Format, AreRecorded, log_bytes, operation_in, pieces, record_of, record_size, whole_records}

@@ -1,7 +1,7 @@
 -- How many chunks are pruned of a store: a batch changes it not, and a prune says it.
 use Rattle.std.proofs.Common.{◌≡◌, ℕ, ◌≤◌, Option, None, Some, refl, sym, ◌∙◌, subst}
 use Rattle.std.specs.Prelude.{IfSome, Result, Ok, Err, OnErr}
-use Rattle.state_proofs_parts.specs.Canonical.{Setting}
+use Rattle.state_theory.specs.Canonical.{Setting}
 use Rattle.auth_store_parts.specs.History.{History}
 use Rattle.auth_store_ledger.specs.Store.{IsPrunedUpTo, floor_of}
 use Rattle.auth_store_session.specs.Stores.{LiveState, IsPruned}

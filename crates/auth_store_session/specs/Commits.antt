@@ -2,7 +2,7 @@
 use Rattle.std.specs.Prelude.{◌≡◌, ◌⊎◌, ◌≤◌, ◌^◌, ℕ, List, length, Option, Some, None, Result, MatchResult, IsSomeAnd}
 use Rattle.paged_blob_parts.specs.Answers.{Failures, IsPowerOff}
 use Rattle.paged_blob_parts.specs.Calls.{Call}
-use Rattle.state_proofs_parts.specs.Canonical.{Setting}
+use Rattle.state_theory.specs.Canonical.{Setting}
 use Rattle.auth_store_parts.specs.Batch.{Word}
 use Rattle.auth_store_parts.specs.History.{History, log_of}
 use Rattle.auth_store_log.specs.Records.{Format, history_bytes}

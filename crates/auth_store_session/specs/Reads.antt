@@ -10,7 +10,7 @@ use Rattle.paged_blob_parts.specs.Calls.{Call}
 use Rattle.paged_blob_parts.specs.Writers.{WriterState, IsWriter, written}
 use Rattle.state_ops.specs.Operation.{Operation}
 use Rattle.state_ops_parts.specs.Grammar.{Found}
-use Rattle.state_proofs_parts.specs.Canonical.{Setting}
+use Rattle.state_theory.specs.Canonical.{Setting}
 use Rattle.auth_store_parts.specs.History.{History, history_of}
 use Rattle.auth_store_log.specs.Records.{Format, AreRecorded, log_bytes, operation_in, whole_records}
 use Rattle.auth_store_log.specs.declared.error.LogError.{LogError}

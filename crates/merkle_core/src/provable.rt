@@ -2,8 +2,8 @@
 
 ghost use Rattle.std.specs.Prelude.{◌≡◌, ◌+◌, ℕ, List, map, length, IfOk, IfErr, OnOk};
 ghost use Rattle.merkle_core_parts.specs.Mem.{NodeHash, tree_digest};
-ghost use Rattle.merkle_proofs.specs.Plans.{looked_up, honest_digests, IsLookupOf, IsProvable};
-ghost use Rattle.merkle_proofs.specs.Plans.{IsRefusalToProveNow, IsRefusalToProveElement};
+ghost use Rattle.merkle_theory.specs.Plans.{looked_up, honest_digests, IsLookupOf, IsProvable};
+ghost use Rattle.merkle_theory.specs.Plans.{IsRefusalToProveNow, IsRefusalToProveElement};
 
 use merkle_core_parts::{Error, Readable};
 use merkle_forest::family::Family;

@@ -7,7 +7,7 @@ use Rattle.merkle_forest.specs.Forest.{Tree, leaf, branch, position, height, lea
 use Rattle.merkle_forest.specs.Trees.{Located}
 use Rattle.merkle_core_parts.specs.Mem.{encoded}
 use Rattle.merkle_proofs.specs.Extracted.{told_nodes, inner_told, node_digests}
-use Rattle.merkle_proofs.specs.Ranges.{Digests, meets, siblings, inner_digests}
+use Rattle.merkle_theory.specs.Ranges.{Digests, meets, siblings, inner_digests}
 
 -- one more node
 pub pushed : {D : Type 0} (encoding : D → List ℕ) (old new : List (ℕ × D)) (p q : ℕ) (d : D) (e : List ℕ)

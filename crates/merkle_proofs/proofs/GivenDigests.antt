@@ -15,24 +15,24 @@ use Rattle.merkle_forest.specs.Made.{Made}
 use Rattle.merkle_forest.specs.Perfect.{IsPairing}
 use Rattle.merkle_forest.specs.Trees.{Located, end_of}
 use Rattle.merkle_proofs.specs.Extracted.{AreMadeOf, AreGiven}
-use Rattle.merkle_proofs.specs.Laws.MadeTrees.{choose}
-use Rattle.merkle_proofs.specs.MadeRoots.{Naming, Bagged, from_left, peaks_of, root_made, used, read_bag}
-use Rattle.merkle_proofs.specs.MadeTrees.{Over, Elements, from}
-use Rattle.merkle_proofs.specs.Pinned.{at_peak}
-use Rattle.merkle_proofs.specs.Plans.{Lookup, sibling_nodes, inner_nodes}
-use Rattle.merkle_proofs.specs.RangeCounts.{passing, range_outer}
-use Rattle.merkle_proofs.specs.Ranges.{Digests, is_before, is_after, meets, as_one, singly, inner_digests}
-use Rattle.merkle_proofs.specs.Reads.{range_root}
-use Rattle.merkle_proofs.proofs.DigestCounts.{used_all}
-use Rattle.merkle_proofs.proofs.HonestRanges.{Ascend}
-use Rattle.merkle_proofs.proofs.HonestRoots.{ascend_located, length-as_one, outer_same, outer_length}
-use Rattle.merkle_proofs.proofs.Lookups.{IsNode, all_append, all_front, all_back, range_all}
-use Rattle.merkle_proofs.proofs.PartFolds.{none_there, all_there, ascend_from}
+use Rattle.merkle_theory.specs.Laws.MadeTrees.{choose}
+use Rattle.merkle_theory.specs.MadeRoots.{Naming, Bagged, from_left, peaks_of, root_made, used, read_bag}
+use Rattle.merkle_theory.specs.MadeTrees.{Over, Elements, from}
+use Rattle.merkle_theory.specs.Pinned.{at_peak}
+use Rattle.merkle_theory.specs.Plans.{Lookup, sibling_nodes, inner_nodes}
+use Rattle.merkle_theory.specs.RangeCounts.{passing, range_outer}
+use Rattle.merkle_theory.specs.Ranges.{Digests, is_before, is_after, meets, as_one, singly, inner_digests}
+use Rattle.merkle_theory.specs.Reads.{range_root}
+use Rattle.merkle_theory.proofs.DigestCounts.{used_all}
+use Rattle.merkle_theory.proofs.HonestRanges.{Ascend}
+use Rattle.merkle_theory.proofs.HonestRoots.{ascend_located, length-as_one, outer_same, outer_length}
+use Rattle.merkle_theory.proofs.Lookups.{IsNode, all_append, all_front, all_back, range_all}
+use Rattle.merkle_theory.proofs.PartFolds.{none_there, all_there, ascend_from}
 use Rattle.merkle_proofs.proofs.PinnedCover.{siblings_up}
 use Rattle.merkle_proofs.proofs.PinnedMade.{Distinct, distinct, each_pinned}
 use Rattle.merkle_proofs.proofs.PinnedSound.{same_parts}
-use Rattle.merkle_proofs.proofs.PlanFolds.{inner_of}
-use Rattle.merkle_proofs.proofs.PlanNodes.{siblings_out, siblings_leaf, siblings_branch, inner_met, inner_out, passed, failed}
+use Rattle.merkle_theory.proofs.PlanFolds.{inner_of}
+use Rattle.merkle_theory.proofs.PlanNodes.{siblings_out, siblings_leaf, siblings_branch, inner_met, inner_out, passed, failed}
 
 -- a list in two parts
 cut_at : {A : Type 0} (n m : ℕ) (xs : List A) → length xs ≡ n + m

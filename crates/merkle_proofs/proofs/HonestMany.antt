@@ -14,20 +14,20 @@ use Rattle.merkle_forest.specs.Perfect.{IsPairing}
 use Rattle.merkle_forest.specs.Trees.{Located, plain_digest}
 use Rattle.merkle_core_parts.specs.Laws.Plain.{digest-plain, length-plain}
 use Rattle.merkle_core_parts.specs.Mem.{plain_node, plain_leaf_digests}
-use Rattle.merkle_proofs.specs.Laws.HonestReads.{plain_children}
-use Rattle.merkle_proofs.specs.Laws.MadeTrees.{AllSized, value_plain}
-use Rattle.merkle_proofs.specs.MadeRoots.{peaks_of}
-use Rattle.merkle_proofs.specs.MadeTrees.{whole, plain_over}
-use Rattle.merkle_proofs.specs.Multi.{multi_nodes, AreDigestsAt, AreMultiPositions}
-use Rattle.merkle_proofs.specs.MultiReads.{Shown, locations_of, shown_at, ranked, needed_positions, multi_root}
-use Rattle.merkle_proofs.specs.MultiSoundness.{AreHonestFor, AreHonestOrCollide}
-use Rattle.merkle_proofs.specs.Plans.{positions_of}
-use Rattle.merkle_proofs.specs.Soundness.{plain_names}
-use Rattle.merkle_proofs.proofs.HonestRoots.{ascend_located}
-use Rattle.merkle_proofs.proofs.Lookups.{IsNode}
-use Rattle.merkle_proofs.proofs.MultiHonest.{multi_all}
-use Rattle.merkle_proofs.proofs.MultiSound.{multi_told}
-use Rattle.merkle_proofs.proofs.MultiTold.{IsOwn, PeaksTold, peaks_told, multi_up}
+use Rattle.merkle_theory.specs.Laws.HonestReads.{plain_children}
+use Rattle.merkle_theory.specs.Laws.MadeTrees.{AllSized, value_plain}
+use Rattle.merkle_theory.specs.MadeRoots.{peaks_of}
+use Rattle.merkle_theory.specs.MadeTrees.{whole, plain_over}
+use Rattle.merkle_theory.specs.Multi.{multi_nodes, AreDigestsAt, AreMultiPositions}
+use Rattle.merkle_theory.specs.MultiReads.{Shown, locations_of, shown_at, ranked, needed_positions, multi_root}
+use Rattle.merkle_theory.specs.MultiSoundness.{AreHonestFor, AreHonestOrCollide}
+use Rattle.merkle_theory.specs.Plans.{positions_of}
+use Rattle.merkle_theory.specs.Soundness.{plain_names}
+use Rattle.merkle_theory.proofs.HonestRoots.{ascend_located}
+use Rattle.merkle_theory.proofs.Lookups.{IsNode}
+use Rattle.merkle_theory.proofs.MultiHonest.{multi_all}
+use Rattle.merkle_theory.proofs.MultiSound.{multi_told}
+use Rattle.merkle_theory.proofs.MultiTold.{IsOwn, PeaksTold, peaks_told, multi_up}
 use Rattle.merkle_proofs.proofs.OneRank.{at_most_once, rank_is}
 use Rattle.merkle_proofs.proofs.PinnedMade.{distinct}
 

@@ -9,12 +9,12 @@ use Rattle.merkle_forest.specs.Forest.{leaf}
 use Rattle.merkle_forest.specs.Hashing.{Hash, folded_forward, folded_backward, leaf_string, node_string}
 use Rattle.merkle_forest.specs.Trees.{Located, plain_digest}
 use Rattle.merkle_proofs.specs.Extracted.{AreMadeOf, AreGiven}
-use Rattle.merkle_proofs.specs.MadeRoots.{from_left}
-use Rattle.merkle_proofs.specs.MadeTrees.{from}
-use Rattle.merkle_proofs.specs.RangeCounts.{passing}
-use Rattle.merkle_proofs.specs.Ranges.{Digests, is_before, is_after, meets, as_one, singly, inner_digests, range_digests}
-use Rattle.merkle_proofs.proofs.HonestRanges.{Ascend}
-use Rattle.merkle_proofs.proofs.HonestRoots.{sides, outer_same, proof_parts, length-as_one, part_element}
+use Rattle.merkle_theory.specs.MadeRoots.{from_left}
+use Rattle.merkle_theory.specs.MadeTrees.{from}
+use Rattle.merkle_theory.specs.RangeCounts.{passing}
+use Rattle.merkle_theory.specs.Ranges.{Digests, is_before, is_after, meets, as_one, singly, inner_digests, range_digests}
+use Rattle.merkle_theory.proofs.HonestRanges.{Ascend}
+use Rattle.merkle_theory.proofs.HonestRoots.{sides, outer_same, proof_parts, length-as_one, part_element}
 
 -- either of two stands first where one is empty
 turned : {A : Type 0} (xs ys zs : List A) → (ys ≡ []) ⊎ (xs ≡ []) → ys ++ (xs ++ zs) ≡ xs ++ (ys ++ zs)

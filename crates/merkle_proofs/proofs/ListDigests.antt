@@ -9,17 +9,17 @@ use Rattle.merkle_forest.specs.Hashing.{Hash, leaf_string}
 use Rattle.merkle_forest.specs.Made.{Made, value, strings, Collision}
 use Rattle.merkle_forest.specs.Trees.{plain_digest}
 use Rattle.merkle_forest.specs.Laws.Matching.{Agrees, agrees_or_collides}
-use Rattle.merkle_proofs.specs.MadeRoots.{peaks_of, made_root, read_root}
-use Rattle.merkle_proofs.specs.MadeTrees.{Elements, from, whole, plain_over}
+use Rattle.merkle_theory.specs.MadeRoots.{peaks_of, made_root, read_root}
+use Rattle.merkle_theory.specs.MadeTrees.{Elements, from, whole, plain_over}
 use Rattle.merkle_proofs.specs.ListDigests.{stop_of, GivesDigestsOf, GivesDigestsOrCollides}
-use Rattle.merkle_proofs.specs.Plans.{honest_digests}
-use Rattle.merkle_proofs.specs.Soundness.{plain_names, list_root, RangeClaim, claimed_root, IsTrueOf, hashed_strings, IsSound}
-use Rattle.merkle_proofs.specs.Laws.HonestReads.{plain_made, plain_children}
-use Rattle.merkle_proofs.specs.Laws.MadeRoots.{IsRoot, root_good}
-use Rattle.merkle_proofs.specs.Laws.MadeTrees.{AllSized, plain_fits, value_plain}
-use Rattle.merkle_proofs.specs.Laws.Sound.{all_take, all_drop, if_some, plain_sound}
-use Rattle.merkle_proofs.proofs.HonestRoots.{ascend_located}
-use Rattle.merkle_proofs.proofs.HonestReads.{AreOfTree, root_told, spelled_out}
+use Rattle.merkle_theory.specs.Plans.{honest_digests}
+use Rattle.merkle_theory.specs.Soundness.{plain_names, list_root, RangeClaim, claimed_root, IsTrueOf, hashed_strings, IsSound}
+use Rattle.merkle_theory.specs.Laws.HonestReads.{plain_made, plain_children}
+use Rattle.merkle_theory.specs.Laws.MadeRoots.{IsRoot, root_good}
+use Rattle.merkle_theory.specs.Laws.MadeTrees.{AllSized, plain_fits, value_plain}
+use Rattle.merkle_theory.specs.Laws.Sound.{all_take, all_drop, if_some, plain_sound}
+use Rattle.merkle_theory.proofs.HonestRoots.{ascend_located}
+use Rattle.merkle_theory.proofs.HonestReads.{AreOfTree, root_told, spelled_out}
 use Rattle.merkle_proofs.proofs.HonestTold.{honest_given, in_range}
 
 -- of the term of the root of a list, of which so many leaves and inactive peaks are claimed

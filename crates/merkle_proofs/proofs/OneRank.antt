@@ -10,11 +10,11 @@ use Rattle.std.proofs.lemmas.List.Sums.{length-filter}
 use Rattle.std.proofs.lemmas.Option.{slice_get_within, get_or_from_slice_get}
 use Rattle.merkle_forest.specs.Forest.{position}
 use Rattle.merkle_forest.specs.Trees.{Located}
-use Rattle.merkle_proofs.specs.MultiReads.{rank_among}
-use Rattle.merkle_proofs.specs.Plans.{positions_of}
-use Rattle.merkle_proofs.proofs.MultiHonest.{rank_finds}
+use Rattle.merkle_theory.specs.MultiReads.{rank_among}
+use Rattle.merkle_theory.specs.Plans.{positions_of}
+use Rattle.merkle_theory.proofs.MultiHonest.{rank_finds}
 use Rattle.merkle_proofs.proofs.PinnedMade.{Distinct}
-use Rattle.merkle_proofs.proofs.ShownRanks.{rank_permuted}
+use Rattle.merkle_theory.proofs.ShownRanks.{rank_permuted}
 
 -- how often a position is among these
 abbrev often : ℕ → List ℕ → ℕ

@@ -4,11 +4,11 @@ use Rattle.std.proofs.lemmas.List.{append_assoc, length-append, length-map, take
 use Rattle.merkle_forest.specs.declared.bagging.Bagging.{Bagging}
 use Rattle.merkle_forest.specs.Hashing.{Hash, folded_forward, folded_backward}
 use Rattle.merkle_forest.specs.Trees.{Located}
-use Rattle.merkle_proofs.specs.MadeRoots.{from_left}
-use Rattle.merkle_proofs.specs.RangeCounts.{passing}
-use Rattle.merkle_proofs.specs.Ranges.{Digests, is_before, is_after, as_one, singly, inner_digests, range_digests}
-use Rattle.merkle_proofs.proofs.HonestRanges.{Ascend}
-use Rattle.merkle_proofs.proofs.HonestRoots.{length-as_one}
+use Rattle.merkle_theory.specs.MadeRoots.{from_left}
+use Rattle.merkle_theory.specs.RangeCounts.{passing}
+use Rattle.merkle_theory.specs.Ranges.{Digests, is_before, is_after, as_one, singly, inner_digests, range_digests}
+use Rattle.merkle_theory.proofs.HonestRanges.{Ascend}
+use Rattle.merkle_theory.proofs.HonestRoots.{length-as_one}
 use Rattle.merkle_proofs.proofs.HonestTold.{honest_is}
 
 pub record AreFoldsIn (hash : Hash) (digest : Digests) (k start stop : ℕ) (peaks : List Located) (digests : List (List ℕ)) : Type 0 where

@@ -5,10 +5,10 @@ use Rattle.merkle_core_parts.specs.declared.error.Error.{Error}
 use Rattle.merkle_core_parts.specs.declared.error.Error.TheVariants.{ElementPruned, Memory}
 use Rattle.merkle_forest.specs.Forest.{Tree, position, Rule, forest_of}
 use Rattle.merkle_forest.specs.Trees.{Located, located}
-use Rattle.merkle_proofs.specs.Plans.{Lookup, inner_nodes, positions_of, IsRefusalToLookUp, first_missing}
+use Rattle.merkle_theory.specs.Plans.{Lookup, inner_nodes, positions_of, IsRefusalToLookUp, first_missing}
 use Rattle.merkle_proofs.specs.ProofStores.{Kept, IsKnownOf, IsPart, IsRefusalToBuildPart, digest_among, part_nodes}
-use Rattle.merkle_proofs.specs.Ranges.{Digests, is_before, is_after, singly}
-use Rattle.merkle_proofs.proofs.Lookups.{IsNode, range_all}
+use Rattle.merkle_theory.specs.Ranges.{Digests, is_before, is_after, singly}
+use Rattle.merkle_theory.proofs.Lookups.{IsNode, range_all}
 
 module _ {A : Type 0} (P : A → Type 0) where
   first_all : (xs ys : List A) → AllByRecursion P (xs ++ ys) → AllByRecursion P xs

@@ -18,16 +18,16 @@ use Rattle.merkle_forest.specs.Hashing.{Hash, folded_forward, folded_backward}
 use Rattle.merkle_forest.specs.Laws.Peaks.{leaf_count-pos}
 use Rattle.merkle_forest.specs.Trees.{Located, end_of}
 use Rattle.merkle_proofs.specs.Extracted.{told_nodes, inner_told, extracted_nodes, node_digests, AreExtracted}
-use Rattle.merkle_proofs.specs.Laws.MadeTrees.{choose}
-use Rattle.merkle_proofs.specs.MadeRoots.{peaks_of}
-use Rattle.merkle_proofs.specs.Plans.{sibling_nodes, inner_nodes, range_nodes, positions_of, first_missing}
+use Rattle.merkle_theory.specs.Laws.MadeTrees.{choose}
+use Rattle.merkle_theory.specs.MadeRoots.{peaks_of}
+use Rattle.merkle_theory.specs.Plans.{sibling_nodes, inner_nodes, range_nodes, positions_of, first_missing}
 use Rattle.merkle_proofs.specs.ProofStores.{Kept, AreFoldsOf, IsPart, IsRefusalToBuildPart, digest_among, front_peaks}
 use Rattle.merkle_proofs.specs.ProofStores.{back_peaks, more_before, more_after, part_nodes, kept_nodes}
-use Rattle.merkle_proofs.specs.RangeCounts.{passing}
-use Rattle.merkle_proofs.specs.Ranges.{Digests, is_before, is_after, meets, singly}
-use Rattle.merkle_proofs.proofs.HonestRanges.{Ascend}
-use Rattle.merkle_proofs.proofs.HonestRoots.{ascend_located, length-as_one}
-use Rattle.merkle_proofs.proofs.PartFolds.{none_there, all_there, fewer_after, ascend_first, ascend_rest, before_parts, after_parts, all_before, all_after}
+use Rattle.merkle_theory.specs.RangeCounts.{passing}
+use Rattle.merkle_theory.specs.Ranges.{Digests, is_before, is_after, meets, singly}
+use Rattle.merkle_theory.proofs.HonestRanges.{Ascend}
+use Rattle.merkle_theory.proofs.HonestRoots.{ascend_located, length-as_one}
+use Rattle.merkle_theory.proofs.PartFolds.{none_there, all_there, fewer_after, ascend_first, ascend_rest, before_parts, after_parts, all_before, all_after}
 use Rattle.merkle_proofs.proofs.StoreNodes.{all_flat}
 
 all_both : {A : Type 0} (P Q R : A → Type 0) (xs : List A) → ((x : A) → P x → Q x → R x) → All P xs → All Q xs → All R xs

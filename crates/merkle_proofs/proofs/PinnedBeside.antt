@@ -18,25 +18,25 @@ use Rattle.merkle_forest.specs.Made.{Site, at_plain, at_fold, at_tree_root, Made
 use Rattle.merkle_forest.specs.Nodes.{IsNodeAt}
 use Rattle.merkle_forest.specs.Perfect.{IsPairing}
 use Rattle.merkle_forest.specs.Trees.{Located, end_of}
-use Rattle.merkle_proofs.specs.Laws.MadeBags.{bind_good, map_good}
-use Rattle.merkle_proofs.specs.Laws.MadeTrees.{choose}
+use Rattle.merkle_theory.specs.Laws.MadeBags.{bind_good, map_good}
+use Rattle.merkle_theory.specs.Laws.MadeTrees.{choose}
 use Rattle.merkle_proofs.specs.ListDigests.{stop_of}
-use Rattle.merkle_proofs.specs.MadeRoots.{folded, from_left, peaks_of, root_made, Streams, Bagged, given_outer}
-use Rattle.merkle_proofs.specs.MadeRoots.{read_peak, read_back, read_onto, read_group, read_bag, used}
-use Rattle.merkle_proofs.specs.MadeTrees.{Elements, from, plain_over, leaf_made, branch_made, given, read_tree}
-use Rattle.merkle_proofs.specs.OneEach.{OneEach}
+use Rattle.merkle_theory.specs.MadeRoots.{folded, from_left, peaks_of, root_made, Streams, Bagged, given_outer}
+use Rattle.merkle_theory.specs.MadeRoots.{read_peak, read_back, read_onto, read_group, read_bag, used}
+use Rattle.merkle_theory.specs.MadeTrees.{Elements, from, plain_over, leaf_made, branch_made, given, read_tree}
+use Rattle.merkle_theory.specs.OneEach.{OneEach}
 use Rattle.merkle_proofs.specs.PinnedSoundness.{singles_of, pinned_strings}
-use Rattle.merkle_proofs.specs.Ranges.{is_before, is_after, meets}
-use Rattle.merkle_proofs.specs.Soundness.{plain_names, RangeClaim, claimed_root}
-use Rattle.merkle_proofs.proofs.HonestRanges.{Ascend}
-use Rattle.merkle_proofs.proofs.HonestRoots.{ascend_located}
-use Rattle.merkle_proofs.proofs.Lookups.{IsNode, located_all}
-use Rattle.merkle_proofs.proofs.OneEach.{nothing, only}
-use Rattle.merkle_proofs.proofs.OneEachBag.{fold_plain, parts_of}
-use Rattle.merkle_proofs.proofs.OneEachRoot.{same_position, rebuilt_one}
-use Rattle.merkle_proofs.proofs.PartFolds.{none_there, ascend_first}
+use Rattle.merkle_theory.specs.Ranges.{is_before, is_after, meets}
+use Rattle.merkle_theory.specs.Soundness.{plain_names, RangeClaim, claimed_root}
+use Rattle.merkle_theory.proofs.HonestRanges.{Ascend}
+use Rattle.merkle_theory.proofs.HonestRoots.{ascend_located}
+use Rattle.merkle_theory.proofs.Lookups.{IsNode, located_all}
+use Rattle.merkle_theory.proofs.OneEach.{nothing, only}
+use Rattle.merkle_theory.proofs.OneEachBag.{fold_plain, parts_of}
+use Rattle.merkle_theory.proofs.OneEachRoot.{same_position, rebuilt_one}
+use Rattle.merkle_theory.proofs.PartFolds.{none_there, ascend_first}
 use Rattle.merkle_proofs.proofs.PinnedOneEach.{append_one, IsSiteBefore, fronts, pinned_one, pinned_sites}
-use Rattle.merkle_proofs.proofs.PlanNodes.{passed, failed}
+use Rattle.merkle_theory.proofs.PlanNodes.{passed, failed}
 
 module _ (hash : Hash) (trees : List Tree) (claimed : Elements) (start stop : ℕ) where
   -- the site of a node that ends behind the beginning of the range

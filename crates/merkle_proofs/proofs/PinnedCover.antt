@@ -8,14 +8,14 @@ use Rattle.merkle_forest.specs.Laws.Nodes.{within-fits}
 use Rattle.merkle_forest.specs.Laws.Peaks.{leaf_count-pos}
 use Rattle.merkle_forest.specs.Nodes.{IsWithin, IsNodeAt}
 use Rattle.merkle_forest.specs.Trees.{Located, end_of, located}
-use Rattle.merkle_proofs.specs.Plans.{sibling_nodes, inner_nodes}
-use Rattle.merkle_proofs.specs.RangeCounts.{passing}
-use Rattle.merkle_proofs.specs.Ranges.{is_before, is_after, meets}
-use Rattle.merkle_proofs.proofs.HonestRanges.{Ascend}
-use Rattle.merkle_proofs.proofs.Lookups.{all_front, all_back}
-use Rattle.merkle_proofs.proofs.PartFolds.{none_there, ascend_from}
+use Rattle.merkle_theory.specs.Plans.{sibling_nodes, inner_nodes}
+use Rattle.merkle_theory.specs.RangeCounts.{passing}
+use Rattle.merkle_theory.specs.Ranges.{is_before, is_after, meets}
+use Rattle.merkle_theory.proofs.HonestRanges.{Ascend}
+use Rattle.merkle_theory.proofs.Lookups.{all_front, all_back}
+use Rattle.merkle_theory.proofs.PartFolds.{none_there, ascend_from}
 use Rattle.merkle_proofs.proofs.PartNodes.{meets_from}
-use Rattle.merkle_proofs.proofs.PlanNodes.{siblings_out, siblings_leaf, siblings_branch, inner_met, inner_out}
+use Rattle.merkle_theory.proofs.PlanNodes.{siblings_out, siblings_leaf, siblings_branch, inner_met, inner_out}
 
 -- what stands in one of these trees stands in one of which something holds
 pub in_forest : (X : Type 0) (first : ℕ) (node : Tree) (trees : List Tree)

@@ -19,20 +19,20 @@ use Rattle.merkle_forest.specs.Laws.Places.{node-left, node-right}
 use Rattle.merkle_forest.specs.Nodes.{IsWithin, IsNodeAt, IsPeakAt}
 use Rattle.merkle_forest.specs.Perfect.{IsPairing}
 use Rattle.merkle_forest.specs.Trees.{Located, located, peak_digests}
-use Rattle.merkle_proofs.specs.MadeRoots.{from_left, peaks_of}
-use Rattle.merkle_proofs.specs.Pinned.{at_peak, pinned_digest, AreMadeBefore, ArePinned}
-use Rattle.merkle_proofs.specs.Plans.{Lookup, sibling_nodes, inner_nodes}
-use Rattle.merkle_proofs.specs.RangeCounts.{passing, range_outer}
-use Rattle.merkle_proofs.specs.Ranges.{Digests, is_before, is_after, meets, as_one, singly, inner_digests, range_digests}
-use Rattle.merkle_proofs.proofs.HonestRanges.{Ascend}
-use Rattle.merkle_proofs.proofs.HonestRoots.{ascend_located, spelled, outer_length, proof_parts}
+use Rattle.merkle_theory.specs.MadeRoots.{from_left, peaks_of}
+use Rattle.merkle_theory.specs.Pinned.{at_peak, pinned_digest, AreMadeBefore, ArePinned}
+use Rattle.merkle_theory.specs.Plans.{Lookup, sibling_nodes, inner_nodes}
+use Rattle.merkle_theory.specs.RangeCounts.{passing, range_outer}
+use Rattle.merkle_theory.specs.Ranges.{Digests, is_before, is_after, meets, as_one, singly, inner_digests, range_digests}
+use Rattle.merkle_theory.proofs.HonestRanges.{Ascend}
+use Rattle.merkle_theory.proofs.HonestRoots.{ascend_located, spelled, outer_length, proof_parts}
 use Rattle.merkle_proofs.proofs.HonestTold.{honest_is}
-use Rattle.merkle_proofs.proofs.Lookups.{IsNode, AreSame, all_append, all_front, all_back, all_filter, all_flat, located_all, same_all}
+use Rattle.merkle_theory.proofs.Lookups.{IsNode, AreSame, all_append, all_front, all_back, all_filter, all_flat, located_all, same_all}
 use Rattle.merkle_proofs.proofs.PinnedCover.{before_first, inner_up}
 use Rattle.merkle_proofs.proofs.PinnedMade.{either_digest, apart, Distinct, distinct, pinned_peak}
-use Rattle.merkle_proofs.proofs.Pins.{at_here, at_later, pinned_here, made_of_two}
-use Rattle.merkle_proofs.proofs.PlanFolds.{inner_of}
-use Rattle.merkle_proofs.proofs.PlanNodes.{passed, failed, siblings_out, siblings_leaf, siblings_branch}
+use Rattle.merkle_theory.proofs.Pins.{at_here, at_later, pinned_here, made_of_two}
+use Rattle.merkle_theory.proofs.PlanFolds.{inner_of}
+use Rattle.merkle_theory.proofs.PlanNodes.{passed, failed, siblings_out, siblings_leaf, siblings_branch}
 
 -- what stands in a tree stands in that tree by its other name
 renamed : (f at g : ℕ) (a t b : Tree) → f ≡ at → a ≡ t → IsWithin g b at t → IsWithin g b f a

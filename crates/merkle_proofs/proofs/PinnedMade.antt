@@ -16,20 +16,20 @@ use Rattle.merkle_forest.specs.Made.{Made, bytes, value}
 use Rattle.merkle_forest.specs.Nodes.{IsWithin, IsNodeAt, IsPeakAt}
 use Rattle.merkle_forest.specs.Perfect.{IsPairing}
 use Rattle.merkle_forest.specs.Trees.{Located, end_of, located}
-use Rattle.merkle_proofs.specs.Laws.HonestReads.{plain_children}
-use Rattle.merkle_proofs.specs.Laws.MadeTrees.{Sized, AllSized, choose, plain_fits, made_sized}
-use Rattle.merkle_proofs.specs.MadeRoots.{folded, peaks_of}
-use Rattle.merkle_proofs.specs.MadeTrees.{whole, plain_over, branch_made, made_tree}
-use Rattle.merkle_proofs.specs.MultiReads.{onto_of, as_bag}
-use Rattle.merkle_proofs.specs.Pinned.{at_peak, pinned_digest}
+use Rattle.merkle_theory.specs.Laws.HonestReads.{plain_children}
+use Rattle.merkle_theory.specs.Laws.MadeTrees.{Sized, AllSized, choose, plain_fits, made_sized}
+use Rattle.merkle_theory.specs.MadeRoots.{folded, peaks_of}
+use Rattle.merkle_theory.specs.MadeTrees.{whole, plain_over, branch_made, made_tree}
+use Rattle.merkle_theory.specs.MultiReads.{onto_of, as_bag}
+use Rattle.merkle_theory.specs.Pinned.{at_peak, pinned_digest}
 use Rattle.merkle_proofs.specs.PinnedSoundness.{pinned_made}
-use Rattle.merkle_proofs.specs.Plans.{Lookup}
-use Rattle.merkle_proofs.specs.Ranges.{Digests, singly}
-use Rattle.merkle_proofs.specs.Soundness.{plain_names}
-use Rattle.merkle_proofs.proofs.HonestRanges.{Ascend}
-use Rattle.merkle_proofs.proofs.Lookups.{IsNode, located_all}
-use Rattle.merkle_proofs.proofs.PeakMatches.{IsAlike, AreAlike}
-use Rattle.merkle_proofs.proofs.Pins.{at_here, at_later}
+use Rattle.merkle_theory.specs.Plans.{Lookup}
+use Rattle.merkle_theory.specs.Ranges.{Digests, singly}
+use Rattle.merkle_theory.specs.Soundness.{plain_names}
+use Rattle.merkle_theory.proofs.HonestRanges.{Ascend}
+use Rattle.merkle_theory.proofs.Lookups.{IsNode, located_all}
+use Rattle.merkle_theory.proofs.PeakMatches.{IsAlike, AreAlike}
+use Rattle.merkle_theory.proofs.Pins.{at_here, at_later}
 
 -- a digest that is there, or none is
 pub either_digest : (o : Option (List ℕ)) → (o ≡ None) ⊎ ((d : List ℕ) × (o ≡ Some d))

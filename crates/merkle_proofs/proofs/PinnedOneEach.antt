@@ -20,27 +20,27 @@ use Rattle.merkle_forest.specs.Nodes.{IsWithin, IsNodeAt}
 use Rattle.merkle_forest.specs.Perfect.{IsPairing}
 use Rattle.merkle_forest.specs.Trees.{Located, end_of}
 use Rattle.merkle_proofs.specs.ListDigests.{stop_of}
-use Rattle.merkle_proofs.specs.MadeRoots.{peaks_of}
-use Rattle.merkle_proofs.specs.MadeTrees.{plain_over, branch_made}
-use Rattle.merkle_proofs.specs.MultiReads.{as_bag, onto_of}
-use Rattle.merkle_proofs.specs.OneEach.{OneEach}
-use Rattle.merkle_proofs.specs.Pinned.{at_peak}
+use Rattle.merkle_theory.specs.MadeRoots.{peaks_of}
+use Rattle.merkle_theory.specs.MadeTrees.{plain_over, branch_made}
+use Rattle.merkle_theory.specs.MultiReads.{as_bag, onto_of}
+use Rattle.merkle_theory.specs.OneEach.{OneEach}
+use Rattle.merkle_theory.specs.Pinned.{at_peak}
 use Rattle.merkle_proofs.specs.PinnedSoundness.{pinned_made, singles_of, pinned_strings}
-use Rattle.merkle_proofs.specs.Plans.{Lookup, inner_nodes}
-use Rattle.merkle_proofs.specs.RangeCounts.{passing}
-use Rattle.merkle_proofs.specs.Ranges.{is_before, is_after, meets}
-use Rattle.merkle_proofs.specs.Soundness.{plain_names, RangeClaim}
-use Rattle.merkle_proofs.proofs.HonestRanges.{Ascend}
-use Rattle.merkle_proofs.proofs.HonestRoots.{ascend_located}
-use Rattle.merkle_proofs.proofs.Lookups.{IsNode, all_append, all_back, all_filter, located_all, range_all}
-use Rattle.merkle_proofs.proofs.MultiOneEach.{ArePartial, bag_list}
-use Rattle.merkle_proofs.proofs.OneEach.{Partial, IsSiteIn, nothing, site_in, one_each}
-use Rattle.merkle_proofs.proofs.OneEachBag.{IsSiteOf, Apart, is_plain, fold_plain, parts_of}
-use Rattle.merkle_proofs.proofs.OneEachRoot.{same_position}
-use Rattle.merkle_proofs.proofs.PartFolds.{none_there}
+use Rattle.merkle_theory.specs.Plans.{Lookup, inner_nodes}
+use Rattle.merkle_theory.specs.RangeCounts.{passing}
+use Rattle.merkle_theory.specs.Ranges.{is_before, is_after, meets}
+use Rattle.merkle_theory.specs.Soundness.{plain_names, RangeClaim}
+use Rattle.merkle_theory.proofs.HonestRanges.{Ascend}
+use Rattle.merkle_theory.proofs.HonestRoots.{ascend_located}
+use Rattle.merkle_theory.proofs.Lookups.{IsNode, all_append, all_back, all_filter, located_all, range_all}
+use Rattle.merkle_theory.proofs.MultiOneEach.{ArePartial, bag_list}
+use Rattle.merkle_theory.proofs.OneEach.{Partial, IsSiteIn, nothing, site_in, one_each}
+use Rattle.merkle_theory.proofs.OneEachBag.{IsSiteOf, Apart, is_plain, fold_plain, parts_of}
+use Rattle.merkle_theory.proofs.OneEachRoot.{same_position}
+use Rattle.merkle_theory.proofs.PartFolds.{none_there}
 use Rattle.merkle_proofs.proofs.PinnedCover.{before_first, inner_up}
 use Rattle.merkle_proofs.proofs.PinnedMade.{later_all}
-use Rattle.merkle_proofs.proofs.PlanNodes.{passed, failed, inner_out}
+use Rattle.merkle_theory.proofs.PlanNodes.{passed, failed, inner_out}
 
 -- a tree that is rebuilt is made of its parts, or its digest is pinned
 or_partial : (at p : ℕ) (left right : Tree) (x y : Made) → Partial at left x → Partial (at + leaf_count left) right y → (o : Option (List ℕ))

@@ -15,27 +15,27 @@ use Rattle.merkle_forest.specs.Made.{Made, value, Strings, strings, Collision}
 use Rattle.merkle_forest.specs.Nodes.{IsWithin}
 use Rattle.merkle_forest.specs.Perfect.{IsPairing}
 use Rattle.merkle_forest.specs.Trees.{Located, plain_digest, peak_digests}
-use Rattle.merkle_proofs.specs.Laws.MadeTrees.{AllSized, value_plain}
+use Rattle.merkle_theory.specs.Laws.MadeTrees.{AllSized, value_plain}
 use Rattle.merkle_proofs.specs.ListDigests.{stop_of}
-use Rattle.merkle_proofs.specs.MadeRoots.{bag_of, made_bag, peaks_of}
-use Rattle.merkle_proofs.specs.MadeTrees.{from, whole, plain_over, made_tree}
-use Rattle.merkle_proofs.specs.MultiReads.{as_bag}
-use Rattle.merkle_proofs.specs.Pinned.{at_peak, pinned_digest}
+use Rattle.merkle_theory.specs.MadeRoots.{bag_of, made_bag, peaks_of}
+use Rattle.merkle_theory.specs.MadeTrees.{from, whole, plain_over, made_tree}
+use Rattle.merkle_theory.specs.MultiReads.{as_bag}
+use Rattle.merkle_theory.specs.Pinned.{at_peak, pinned_digest}
 use Rattle.merkle_proofs.specs.PinnedSoundness.{pinned_made, singles_of, before_as_one, before_singly, pinned_strings, ArePinnedBeside}
-use Rattle.merkle_proofs.specs.Plans.{Lookup, inner_nodes}
-use Rattle.merkle_proofs.specs.RangeCounts.{passing}
-use Rattle.merkle_proofs.specs.Ranges.{Digests, is_before, is_after, as_one, singly}
-use Rattle.merkle_proofs.specs.Soundness.{plain_names, RangeClaim, hashed_strings}
-use Rattle.merkle_proofs.proofs.HonestRanges.{Ascend}
-use Rattle.merkle_proofs.proofs.HonestRoots.{ascend_located, length-as_one}
+use Rattle.merkle_theory.specs.Plans.{Lookup, inner_nodes}
+use Rattle.merkle_theory.specs.RangeCounts.{passing}
+use Rattle.merkle_theory.specs.Ranges.{Digests, is_before, is_after, as_one, singly}
+use Rattle.merkle_theory.specs.Soundness.{plain_names, RangeClaim, hashed_strings}
+use Rattle.merkle_theory.proofs.HonestRanges.{Ascend}
+use Rattle.merkle_theory.proofs.HonestRoots.{ascend_located, length-as_one}
 use Rattle.merkle_proofs.proofs.HonestTold.{honest_is}
 use Rattle.merkle_proofs.proofs.ListDigests.{AreTheList, list_honest}
-use Rattle.merkle_proofs.proofs.Lookups.{IsNode, all_append, all_back, located_all, range_all}
-use Rattle.merkle_proofs.proofs.PeakMatches.{AllAgree, bag_same, bag_matches, bag_agrees}
+use Rattle.merkle_theory.proofs.Lookups.{IsNode, all_append, all_back, located_all, range_all}
+use Rattle.merkle_theory.proofs.PeakMatches.{AllAgree, bag_same, bag_matches, bag_agrees}
 use Rattle.merkle_proofs.proofs.PinnedCover.{in_forest, unfiltered, covered, before_first, inner_up}
 use Rattle.merkle_proofs.proofs.PinnedMade.{value_pinned, front_value, pinned_alike, all_alike, descend, distinct, each_pinned}
-use Rattle.merkle_proofs.proofs.PinnedStrings.{all_more, PeakIn, tree_in, bag_in, fronts_in}
-use Rattle.merkle_proofs.proofs.PlanFolds.{inner_of}
+use Rattle.merkle_theory.proofs.PinnedStrings.{all_more, PeakIn, tree_in, bag_in, fronts_in}
+use Rattle.merkle_theory.proofs.PlanFolds.{inner_of}
 
 -- lists that begin with parts of one length
 pub same_parts : {A : Type 0} (a b c d : List A) → length a ≡ length c → a ++ b ≡ c ++ d → (a ≡ c) × (b ≡ d)

@@ -15,10 +15,10 @@ use Rattle.merkle_forest.specs.Perfect.{IsPairing}
 use Rattle.merkle_forest.specs.Trees.{Located, located}
 use Rattle.merkle_core_parts.specs.Mem.{encoded}
 use Rattle.merkle_proofs.specs.Extracted.{told_nodes, inner_told, extracted_nodes, node_digests, AreExtracted}
-use Rattle.merkle_proofs.specs.Laws.MadeTrees.{choose}
-use Rattle.merkle_proofs.specs.MadeRoots.{peaks_of}
+use Rattle.merkle_theory.specs.Laws.MadeTrees.{choose}
+use Rattle.merkle_theory.specs.MadeRoots.{peaks_of}
 use Rattle.merkle_proofs.specs.ProofStores.{digest_among, known_with, IsKnownOf}
-use Rattle.merkle_proofs.specs.Ranges.{Digests, is_before, is_after, meets}
+use Rattle.merkle_theory.specs.Ranges.{Digests, is_before, is_after, meets}
 
 all_imply : {A : Type 0} (P Q : A → Type 0) (xs : List A) → ((x : A) → P x → Q x) → All P xs → All Q xs
 all_imply P Q [] each all = All-nil Q

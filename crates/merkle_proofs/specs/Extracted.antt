@@ -10,9 +10,9 @@ use Rattle.std.specs.List.Sorted.{IsNonDecreasingBy, IsPermutation}
 use Rattle.merkle_forest.specs.Forest.{Tree, leaf, branch, position, leaf_count}
 use Rattle.merkle_forest.specs.Trees.{Located}
 use Rattle.merkle_core_parts.specs.Mem.{encoded}
-use Rattle.merkle_proofs.specs.MadeTrees.{Elements}
-use Rattle.merkle_proofs.specs.RangeCounts.{passing}
-use Rattle.merkle_proofs.specs.Ranges.{Digests, is_before, is_after, meets, singly, inner_digests}
+use Rattle.merkle_theory.specs.MadeTrees.{Elements}
+use Rattle.merkle_theory.specs.RangeCounts.{passing}
+use Rattle.merkle_theory.specs.Ranges.{Digests, is_before, is_after, meets, singly, inner_digests}
 use Rattle.merkle_proofs.specs.declared.extraction.ExtractionError.{ExtractionError}
 use Rattle.merkle_proofs.specs.declared.extraction.ExtractionError.TheVariants.{InvalidProof, RootMismatch, Memory}
 

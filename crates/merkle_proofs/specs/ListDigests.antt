@@ -6,10 +6,10 @@ use Rattle.merkle_forest.specs.Hashing.{Hash, leaf_string, node_string}
 use Rattle.merkle_forest.specs.Made.{Made, value, strings, Collision}
 use Rattle.merkle_forest.specs.Trees.{plain_digest}
 use Rattle.merkle_proofs.specs.Extracted.{AreMadeOf, AreGiven}
-use Rattle.merkle_proofs.specs.MadeRoots.{from_left, peaks_of}
-use Rattle.merkle_proofs.specs.MadeTrees.{from}
-use Rattle.merkle_proofs.specs.Plans.{honest_digests}
-use Rattle.merkle_proofs.specs.Soundness.{RangeClaim, list_root, hashed_strings}
+use Rattle.merkle_theory.specs.MadeRoots.{from_left, peaks_of}
+use Rattle.merkle_theory.specs.MadeTrees.{from}
+use Rattle.merkle_theory.specs.Plans.{honest_digests}
+use Rattle.merkle_theory.specs.Soundness.{RangeClaim, list_root, hashed_strings}
 
 -- the location where the range of the claim ends
 abbrev pub stop_of : RangeClaim → ℕ

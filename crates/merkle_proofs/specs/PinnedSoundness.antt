@@ -9,13 +9,13 @@ use Rattle.merkle_forest.specs.Hashing.{Hash, node_string}
 use Rattle.merkle_forest.specs.Made.{Made, bytes, value, Strings, strings, Collision}
 use Rattle.merkle_forest.specs.Trees.{Located, plain_digest, peak_digests}
 use Rattle.merkle_proofs.specs.ListDigests.{stop_of}
-use Rattle.merkle_proofs.specs.MadeRoots.{from_left, peaks_of}
-use Rattle.merkle_proofs.specs.MadeTrees.{plain_over, branch_made}
-use Rattle.merkle_proofs.specs.MultiReads.{as_bag}
-use Rattle.merkle_proofs.specs.Pinned.{at_peak, ArePinned}
-use Rattle.merkle_proofs.specs.Plans.{Lookup, inner_nodes}
-use Rattle.merkle_proofs.specs.Ranges.{is_before}
-use Rattle.merkle_proofs.specs.Soundness.{plain_names, RangeClaim, list_root, hashed_strings}
+use Rattle.merkle_theory.specs.MadeRoots.{from_left, peaks_of}
+use Rattle.merkle_theory.specs.MadeTrees.{plain_over, branch_made}
+use Rattle.merkle_theory.specs.MultiReads.{as_bag}
+use Rattle.merkle_theory.specs.Pinned.{at_peak, ArePinned}
+use Rattle.merkle_theory.specs.Plans.{Lookup, inner_nodes}
+use Rattle.merkle_theory.specs.Ranges.{is_before}
+use Rattle.merkle_theory.specs.Soundness.{plain_names, RangeClaim, list_root, hashed_strings}
 
 -- a tree as it is rebuilt: its digest is pinned, or it is made of its children. A leaf that is not pinned has none.
 abbrev pub pinned_made : List ℕ → Lookup → ℕ → Tree → Made

@@ -15,10 +15,10 @@ use Rattle.merkle_core_parts.specs.declared.error.Error.{Error}
 use Rattle.merkle_core_parts.specs.declared.error.Error.TheVariants.{Empty, RangeOutOfBounds, ElementPruned, Memory}
 use Rattle.merkle_forest.specs.Hashing.{Hash, folded_forward, folded_backward}
 use Rattle.merkle_proofs.specs.Extracted.{extracted_nodes}
-use Rattle.merkle_proofs.specs.MadeRoots.{peaks_of}
-use Rattle.merkle_proofs.specs.Multi.{IsRefusalToProveMany}
-use Rattle.merkle_proofs.specs.Plans.{Lookup, positions_of, inner_nodes, first_missing}
-use Rattle.merkle_proofs.specs.Ranges.{Digests, is_before, is_after, as_one, singly}
+use Rattle.merkle_theory.specs.MadeRoots.{peaks_of}
+use Rattle.merkle_theory.specs.Multi.{IsRefusalToProveMany}
+use Rattle.merkle_theory.specs.Plans.{Lookup, positions_of, inner_nodes, first_missing}
+use Rattle.merkle_theory.specs.Ranges.{Digests, is_before, is_after, as_one, singly}
 use Rattle.merkle_proofs.specs.declared.proof_store.StoreError.{StoreError}
 use Rattle.merkle_proofs.specs.declared.proof_store.StoreError.TheVariants.{Refused, CompressedDigest}
 

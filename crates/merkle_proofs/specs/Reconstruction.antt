@@ -8,9 +8,9 @@ use Rattle.merkle_proofs.specs.declared.verifying.error.ReconstructionError.TheV
 use Rattle.merkle_proofs.specs.declared.verifying.error.ReconstructionError.TheVariants.{InvalidStartLoc, InvalidEndLoc}
 use Rattle.merkle_proofs.specs.declared.verifying.error.ReconstructionError.TheVariants.{MissingElements, InvalidSize}
 use Rattle.merkle_proofs.specs.declared.verifying.error.ReconstructionError.TheVariants.{Memory}
-use Rattle.merkle_proofs.specs.MadeRoots.{peaks_of}
-use Rattle.merkle_proofs.specs.Plans.{IsWithinTree, inner_nodes}
-use Rattle.merkle_proofs.specs.RangeCounts.{range_outer}
+use Rattle.merkle_theory.specs.MadeRoots.{peaks_of}
+use Rattle.merkle_theory.specs.Plans.{IsWithinTree, inner_nodes}
+use Rattle.merkle_theory.specs.RangeCounts.{range_outer}
 
 abbrev pub reconstruction_text : ReconstructionError → List ℕ
 reconstruction_text InvalidProof = codes "fewer peaks than inactive ones"

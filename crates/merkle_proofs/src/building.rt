@@ -2,12 +2,12 @@
 
 ghost use Rattle.std.specs.Prelude.{◌≡◌, ◌<◌, ◌≤◌, ◌+◌, ◌^◌, ℕ, List, None, map, take, length, IfOk, IfErr, OnOk};
 ghost use Rattle.merkle_core_parts.specs.Mem.{NodeHash, tree_digest};
-ghost use Rattle.merkle_proofs.specs.MadeRoots.{peaks_of};
-ghost use Rattle.merkle_proofs.specs.Plans.{Asked, looked_up, first_missing, range_positions, honest_digests};
-ghost use Rattle.merkle_proofs.specs.Plans.{IsLookupOf, IsProvable};
-ghost use Rattle.merkle_proofs.specs.Multi.{AreMultiDigests, first_bad, IsRefusalToProveMany};
-ghost use Rattle.merkle_proofs.specs.Plans.{IsRefusalToBuild, IsRefusalToProve, IsRefusalToProveNow};
-ghost use Rattle.merkle_proofs.specs.Plans.{IsRefusalToProveElement};
+ghost use Rattle.merkle_theory.specs.MadeRoots.{peaks_of};
+ghost use Rattle.merkle_theory.specs.Plans.{Asked, looked_up, first_missing, range_positions, honest_digests};
+ghost use Rattle.merkle_theory.specs.Plans.{IsLookupOf, IsProvable};
+ghost use Rattle.merkle_theory.specs.Multi.{AreMultiDigests, first_bad, IsRefusalToProveMany};
+ghost use Rattle.merkle_theory.specs.Plans.{IsRefusalToBuild, IsRefusalToProve, IsRefusalToProveNow};
+ghost use Rattle.merkle_theory.specs.Plans.{IsRefusalToProveElement};
 
 pub mod plain;
 

@@ -8,11 +8,11 @@ ghost use Rattle.merkle_forest.specs.Peaks.{located_from};
 ghost use Rattle.merkle_core_parts.specs.Mem.{encoded};
 ghost use Rattle.merkle_proofs.specs.Extracted.{AreMadeOf, AreGiven, AreExtracted, IsTold, told_nodes, inner_told};
 ghost use Rattle.merkle_proofs.specs.Extracted.{extracted_nodes, node_digests};
-ghost use Rattle.merkle_proofs.specs.MadeRoots.{from_left, peaks_of};
-ghost use Rattle.merkle_proofs.specs.MadeTrees.{from};
-ghost use Rattle.merkle_proofs.specs.Ranges.{Digests, siblings, singly, inner_digests};
+ghost use Rattle.merkle_theory.specs.MadeRoots.{from_left, peaks_of};
+ghost use Rattle.merkle_theory.specs.MadeTrees.{from};
+ghost use Rattle.merkle_theory.specs.Ranges.{Digests, siblings, singly, inner_digests};
 ghost use Rattle.merkle_proofs.specs.RangesCode.{stands};
-ghost use Rattle.merkle_proofs.specs.Subtrees.{IsTreeAt, HasTree};
+ghost use Rattle.merkle_theory.specs.Subtrees.{IsTreeAt, HasTree};
 
 use crate::building::plain::Side;
 use crate::plan::positions::is_on_side;

@@ -4,10 +4,10 @@ ghost use Rattle.std.specs.Prelude.{◌≡◌, ◌<◌, ◌≤◌, ◌+◌, ◌^
 ghost use Rattle.merkle_forest.specs.Forest.{Tree, leaf_count, forest_of};
 ghost use Rattle.merkle_forest.specs.Nodes.{HasPeak};
 ghost use Rattle.merkle_forest.specs.Peaks.{located_from};
-ghost use Rattle.merkle_proofs.specs.Multi.{multi_nodes, AreMultiPositions, AscendFrom, is_next, AreFound};
-ghost use Rattle.merkle_proofs.specs.Multi.{first_bad, IsRefusalOfLocations};
-ghost use Rattle.merkle_proofs.specs.Plans.{positions_of};
-ghost use Rattle.merkle_proofs.specs.Subtrees.{IsTreeAt, HasTree};
+ghost use Rattle.merkle_theory.specs.Multi.{multi_nodes, AreMultiPositions, AscendFrom, is_next, AreFound};
+ghost use Rattle.merkle_theory.specs.Multi.{first_bad, IsRefusalOfLocations};
+ghost use Rattle.merkle_theory.specs.Plans.{positions_of};
+ghost use Rattle.merkle_theory.specs.Subtrees.{IsTreeAt, HasTree};
 
 pub mod root;
 pub(crate) mod tree;

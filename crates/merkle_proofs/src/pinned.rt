@@ -5,12 +5,12 @@ ghost use Rattle.std.specs.Prelude.{replicate, IfOk, OnOk, IsTrue, option_map};
 ghost use Rattle.merkle_forest.specs.Forest.{Tree, forest_of};
 ghost use Rattle.merkle_forest.specs.Nodes.{HasPeak};
 ghost use Rattle.merkle_forest.specs.Peaks.{located_from};
-ghost use Rattle.merkle_proofs.specs.MadeRoots.{from_left, peaks_of};
-ghost use Rattle.merkle_proofs.specs.Pinned.{at_peak, pinned_digest, inner_before, Begins, ArePinned};
-ghost use Rattle.merkle_proofs.specs.Plans.{sibling_nodes};
-ghost use Rattle.merkle_proofs.specs.RangeCounts.{range_outer};
-ghost use Rattle.merkle_proofs.specs.Ranges.{is_before, singly};
-ghost use Rattle.merkle_proofs.specs.Subtrees.{IsTreeAt, HasTree};
+ghost use Rattle.merkle_theory.specs.MadeRoots.{from_left, peaks_of};
+ghost use Rattle.merkle_theory.specs.Pinned.{at_peak, pinned_digest, inner_before, Begins, ArePinned};
+ghost use Rattle.merkle_theory.specs.Plans.{sibling_nodes};
+ghost use Rattle.merkle_theory.specs.RangeCounts.{range_outer};
+ghost use Rattle.merkle_theory.specs.Ranges.{is_before, singly};
+ghost use Rattle.merkle_theory.specs.Subtrees.{IsTreeAt, HasTree};
 
 use crate::building::plain::append_folded_forward;
 use crate::subtree::{Subtree, peak_at, peaks_from};

@@ -1,9 +1,9 @@
 //! Plans of proofs: which nodes the proof of a range is made of, before their digests are looked up.
 
 ghost use Rattle.std.specs.Prelude.{◌≡◌, ◌<◌, ◌≤◌, ◌+◌, ◌^◌, List, ℕ, Some, None, map, length, IfOk, IfErr, OnOk};
-ghost use Rattle.merkle_proofs.specs.MadeRoots.{peaks_of};
-ghost use Rattle.merkle_proofs.specs.Plans.{Asked, IsWithinTree, IsRefusalOfRange, IsRefusalOfElement, IsRefusalToBuild};
-ghost use Rattle.merkle_proofs.specs.Plans.{Lookup, AnswersAs, looked_up, first_missing, range_positions, honest_digests};
+ghost use Rattle.merkle_theory.specs.MadeRoots.{peaks_of};
+ghost use Rattle.merkle_theory.specs.Plans.{Asked, IsWithinTree, IsRefusalOfRange, IsRefusalOfElement, IsRefusalToBuild};
+ghost use Rattle.merkle_theory.specs.Plans.{Lookup, AnswersAs, looked_up, first_missing, range_positions, honest_digests};
 
 pub(crate) mod digests;
 pub(crate) mod positions;
@@ -37,10 +37,10 @@ pub struct RangePlan<F: Family> {
 
 impl<F: Family> Model for RangePlan<F> {
     ghost use Rattle.std.specs.Prelude.{◌≡◌};
-    ghost use Rattle.merkle_proofs.specs.MadeRoots.{peaks_of};
-    ghost use Rattle.merkle_proofs.specs.Plans.{Asked, IsWithinTree, range_positions};
-    ghost use Rattle.merkle_proofs.specs.RangeCounts.{passing};
-    ghost use Rattle.merkle_proofs.specs.Ranges.{is_before, is_after};
+    ghost use Rattle.merkle_theory.specs.MadeRoots.{peaks_of};
+    ghost use Rattle.merkle_theory.specs.Plans.{Asked, IsWithinTree, range_positions};
+    ghost use Rattle.merkle_theory.specs.RangeCounts.{passing};
+    ghost use Rattle.merkle_theory.specs.Ranges.{is_before, is_after};
 
     ghost Value = { Asked };
 
@@ -202,7 +202,7 @@ pub struct ElementPlan<F: Family> {
 
 impl<F: Family> Model for ElementPlan<F> {
     ghost use Rattle.std.specs.Prelude.{◌≡◌, ◌+◌};
-    ghost use Rattle.merkle_proofs.specs.Plans.{Asked};
+    ghost use Rattle.merkle_theory.specs.Plans.{Asked};
 
     ghost Value = { Asked };
 

@@ -10,15 +10,15 @@ ghost use Rattle.merkle_forest.specs.Codec.{Extends};
 ghost use Rattle.merkle_forest.specs.Lists.{AreItems};
 ghost use Rattle.merkle_forest.specs.Made.{value};
 ghost use Rattle.merkle_proofs.specs.Extracted.{AreMadeOf, AreGiven, AreExtracted, extracted_nodes, IsRefusalToExtract};
-ghost use Rattle.merkle_proofs.specs.MadeRoots.{Naming, from_left, peaks_of};
-ghost use Rattle.merkle_proofs.specs.MadeTrees.{Over, from};
-ghost use Rattle.merkle_proofs.specs.MultiReads.{multi_root};
-ghost use Rattle.merkle_proofs.specs.Pinned.{ArePinned};
-ghost use Rattle.merkle_proofs.specs.RangeCounts.{range_outer};
-ghost use Rattle.merkle_proofs.specs.Ranges.{Digests};
-ghost use Rattle.merkle_proofs.specs.Reads.{HashesAs, range_root};
+ghost use Rattle.merkle_theory.specs.MadeRoots.{Naming, from_left, peaks_of};
+ghost use Rattle.merkle_theory.specs.MadeTrees.{Over, from};
+ghost use Rattle.merkle_theory.specs.MultiReads.{multi_root};
+ghost use Rattle.merkle_theory.specs.Pinned.{ArePinned};
+ghost use Rattle.merkle_theory.specs.RangeCounts.{range_outer};
+ghost use Rattle.merkle_theory.specs.Ranges.{Digests};
+ghost use Rattle.merkle_theory.specs.Reads.{HashesAs, range_root};
 ghost use Rattle.merkle_proofs.specs.Reconstruction.{HasRange, IsRefusalToReconstruct};
-ghost use Rattle.merkle_proofs.specs.Proofs.{proof_encoding, greatest_length, after_proof, ProofLacks};
+ghost use Rattle.merkle_theory.specs.Proofs.{proof_encoding, greatest_length, after_proof, ProofLacks};
 
 use crate::extraction::{ExtractionError, extract};
 use crate::multi::root::reconstruct_shown;
@@ -363,7 +363,7 @@ impl<F: Family, D: Digest> EncodeSize for Proof<F, D> {
 }
 
 impl<F: Family, D: Digest> Read for Proof<F, D> {
-    ghost use Rattle.merkle_proofs.specs.Laws.Proofs.{read_parts_again};
+    ghost use Rattle.merkle_theory.specs.Laws.Proofs.{read_parts_again};
 
     type Cfg = usize;
 

@@ -4,15 +4,15 @@ ghost use Rattle.std.specs.Prelude.{◌≡◌, ◌<◌, ◌≤◌, ◌+◌, ◌^
 ghost use Rattle.std.specs.Prelude.{min, option_map, Contains, IfOk, IfErr, OnOk};
 ghost use Rattle.merkle_forest.specs.Made.{value};
 ghost use Rattle.merkle_proofs.specs.Extracted.{AreMadeOf, AreGiven, AreExtracted, extracted_nodes, IsRefusalToExtract};
-ghost use Rattle.merkle_proofs.specs.MadeRoots.{Naming, from_left, peaks_of};
-ghost use Rattle.merkle_proofs.specs.MadeTrees.{Over, from};
-ghost use Rattle.merkle_proofs.specs.Multi.{AreMultiDigests, first_bad, IsRefusalToProveMany};
-ghost use Rattle.merkle_proofs.specs.Plans.{Lookup, honest_digests};
+ghost use Rattle.merkle_theory.specs.MadeRoots.{Naming, from_left, peaks_of};
+ghost use Rattle.merkle_theory.specs.MadeTrees.{Over, from};
+ghost use Rattle.merkle_theory.specs.Multi.{AreMultiDigests, first_bad, IsRefusalToProveMany};
+ghost use Rattle.merkle_theory.specs.Plans.{Lookup, honest_digests};
 ghost use Rattle.merkle_proofs.specs.ProofStores.{Kept, AreFoldsOf, digest_among, known_with, IsKnownOf};
 ghost use Rattle.merkle_proofs.specs.ProofStores.{suffix_positions, IsMissedApart, IsRefusalToBuildOf};
-ghost use Rattle.merkle_proofs.specs.RangeCounts.{passing};
-ghost use Rattle.merkle_proofs.specs.Ranges.{Digests, is_before, is_after};
-ghost use Rattle.merkle_proofs.specs.Reads.{HashesAs, range_root};
+ghost use Rattle.merkle_theory.specs.RangeCounts.{passing};
+ghost use Rattle.merkle_theory.specs.Ranges.{Digests, is_before, is_after};
+ghost use Rattle.merkle_theory.specs.Reads.{HashesAs, range_root};
 
 mod part;
 

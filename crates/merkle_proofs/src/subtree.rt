@@ -4,7 +4,7 @@ ghost use Rattle.std.specs.Prelude.{◌≡◌, ◌<◌, ◌≤◌, ◌-◌, leng
 ghost use Rattle.merkle_forest.specs.Forest.{forest_of};
 ghost use Rattle.merkle_forest.specs.Nodes.{HasPeak};
 ghost use Rattle.merkle_forest.specs.Peaks.{located_from};
-ghost use Rattle.merkle_proofs.specs.Subtrees.{IsPeakFrom};
+ghost use Rattle.merkle_theory.specs.Subtrees.{IsPeakFrom};
 
 use merkle_forest::family::{Family, MAX_LEAVES};
 

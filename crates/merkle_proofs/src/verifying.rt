@@ -5,11 +5,11 @@ ghost use Rattle.std.specs.Prelude.{IfErr, OnOk};
 ghost use Rattle.std.specs.Result.{result_ok};
 ghost use Rattle.merkle_forest.specs.declared.bagging.Bagging.{Bagging};
 ghost use Rattle.merkle_forest.specs.Made.{value};
-ghost use Rattle.merkle_proofs.specs.RangeCounts.{range_outer};
-ghost use Rattle.merkle_proofs.specs.MadeRoots.{Naming, from_left, peaks_of, read_root};
-ghost use Rattle.merkle_proofs.specs.MadeTrees.{Over, from};
+ghost use Rattle.merkle_theory.specs.RangeCounts.{range_outer};
+ghost use Rattle.merkle_theory.specs.MadeRoots.{Naming, from_left, peaks_of, read_root};
+ghost use Rattle.merkle_theory.specs.MadeTrees.{Over, from};
 ghost use Rattle.merkle_proofs.specs.Reconstruction.{HasRange, IsRefusalToReconstruct};
-ghost use Rattle.merkle_proofs.specs.Reads.{HashesAs, range_root};
+ghost use Rattle.merkle_theory.specs.Reads.{HashesAs, range_root};
 
 pub mod counts;
 pub mod error;

@@ -1,7 +1,7 @@
 //! Lists of bits in chunks, of which chunks are pruned from the front: `bits NEW | CHANGE | QUESTION`, and changes that
 //! are laid over one (`overlays`).
 
-ghost use Rattle.state_proofs_parts.specs.Bits.{IsChunkWidth};
+ghost use Rattle.state_theory.specs.Bits.{IsChunkWidth};
 
 use crate::arguments::{
     Answer, Line, array_digits, bit, bit_told, bits, chunk_told, done, done_if, number, truth,

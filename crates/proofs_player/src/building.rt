@@ -1,6 +1,6 @@
 //! Proofs that are built out of trees and bits.
 
-ghost use Rattle.state_proofs_parts.specs.Bits.{IsChunkWidth};
+ghost use Rattle.state_theory.specs.Bits.{IsChunkWidth};
 
 use crate::arguments::{Answer, Hash, Line, array_digits, encoded, numbers, numbers_told, refused};
 use crate::grafted::both;

@@ -1,6 +1,6 @@
 //! Proofs of bits: made by a map, shown as they are, and shown with other leaves.
 
-ghost use Rattle.state_proofs_parts.specs.Bits.{IsChunkWidth};
+ghost use Rattle.state_theory.specs.Bits.{IsChunkWidth};
 
 use crate::arguments::{
     Answer, Hash, Line, all_numbers, array, array_digits, digest, digest_list, digest_or_none,

@@ -1,6 +1,6 @@
 //! What a map answers whether it knows its root or not.
 
-ghost use Rattle.state_proofs_parts.specs.Bits.{IsChunkWidth};
+ghost use Rattle.state_theory.specs.Bits.{IsChunkWidth};
 
 use crate::arguments::{Answer, Hash, Line, array_digits, bit_told, chunk_told, number, truth};
 use case_lines::Unanswered;

@@ -1,6 +1,6 @@
 //! Bits with a root over them: `map NEW | CHANGE | QUESTION`.
 
-ghost use Rattle.state_proofs_parts.specs.Bits.{IsChunkWidth};
+ghost use Rattle.state_theory.specs.Bits.{IsChunkWidth};
 
 use crate::arguments::{
     Answer, Hash, Line, bagging, bit, bits, digest_list, digest_or_none, digest_told, digests,

@@ -3,7 +3,7 @@
 
 ghost use Rattle.std.specs.Prelude.{◌≡◌, ◌≤◌, ◌<◌, ◌+◌, ◌-◌, ◌*◌, ◌&&◌, nat_le, nat_lt, IfSome};
 ghost use Rattle.std.specs.List.{list_all};
-ghost use Rattle.state_proofs_parts.specs.Bits.{IsChunkWidth};
+ghost use Rattle.state_theory.specs.Bits.{IsChunkWidth};
 
 use crate::arguments::{Answer, Line, array_digits, bit, bits, number, numbers, truth};
 use crate::bits::MOST;

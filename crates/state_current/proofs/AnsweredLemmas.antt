@@ -13,17 +13,17 @@ use Rattle.merkle_core_parts.specs.declared.error.Error.{Error as MerkleError}
 use Rattle.merkle_core_parts.specs.declared.error.Error.TheVariants.{Memory as NoMemory, LocationOverflow, Empty}
 use Rattle.merkle_core_parts.specs.declared.error.Error.TheVariants.{RangeOutOfBounds, LeafOutOfBounds, ElementPruned}
 use Rattle.merkle_core_parts.specs.declared.error.Error.TheVariants.{InvalidInactivePeaks}
-use Rattle.merkle_proofs.specs.MadeRoots.{peaks_of}
-use Rattle.merkle_proofs.specs.Plans.{Asked as Span, IsRefusalOfElement, IsRefusalOfRange, IsRefusalToProveNow}
-use Rattle.merkle_proofs.specs.Plans.{IsWithinTree, Lookup, first_missing, range_positions}
-use Rattle.state_proofs_parts.specs.Bits.{all_bits, bit_count}
-use Rattle.state_proofs_parts.specs.Laws.Bits.{length-all}
+use Rattle.merkle_theory.specs.MadeRoots.{peaks_of}
+use Rattle.merkle_theory.specs.Plans.{Asked as Span, IsRefusalOfElement, IsRefusalOfRange, IsRefusalToProveNow}
+use Rattle.merkle_theory.specs.Plans.{IsWithinTree, Lookup, first_missing, range_positions}
+use Rattle.state_theory.specs.Bits.{all_bits, bit_count}
+use Rattle.state_theory.specs.Laws.Bits.{length-all}
 use Rattle.state_proofs.specs.declared.error.Error.{Error}
 use Rattle.state_proofs.specs.declared.error.Error.TheVariants.{DataCorrupted, OperationPruned, Merkle, Memory}
 use Rattle.state_proofs.specs.Built.{AreApart, IsRefusalOfLocated, IsRefusalOfPlanned, IsUnknown, chunks_asked, unknown_node}
-use Rattle.state_proofs_parts.specs.Sources.{Source}
+use Rattle.state_theory.specs.Sources.{Source}
 use Rattle.state_proofs.specs.BuiltCode.{measures_with, source_of, span_of}
-use Rattle.state_proofs_parts.specs.Laws.Heights.{same_power, some_height}
+use Rattle.state_theory.specs.Laws.Heights.{same_power, some_height}
 use Rattle.state_proofs.specs.Required.{Measures}
 use Rattle.state_current.specs.Kept.{AreTogether, Kept, read_of}
 use Rattle.state_current.specs.Settled.{IsSettled}

@@ -3,8 +3,8 @@ use Rattle.std.proofs.Common.{◌≡◌, ℕ, ◌+◌, ◌-◌, ◌*◌, ◌<◌
 use Rattle.std.proofs.Common.{replicate, slice_get, slice_index_or, sym, ◌∙◌, ap, arith}
 use Rattle.std.proofs.lemmas.List.{get_or-append-add, length-replicate}
 use Rattle.std.proofs.lemmas.Option.{slice_get-get_or}
-use Rattle.state_proofs_parts.specs.Bits.{Bits, all_bits, bit_count}
-use Rattle.state_proofs_parts.specs.Laws.Bits.{length-all}
+use Rattle.state_theory.specs.Bits.{Bits, all_bits, bit_count}
+use Rattle.state_theory.specs.Laws.Bits.{length-all}
 
 -- a bit that is there and not pruned is that of all bits
 pub kept_bit : (width at : ℕ) (bits : Bits) (bit : Bool) → 8 * width * bits.pruned ≤ at → at < bit_count width bits

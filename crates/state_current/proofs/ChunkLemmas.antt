@@ -8,9 +8,9 @@ use Rattle.std.proofs.lemmas.Bool.{cases_lt}
 use Rattle.std.proofs.Math.Nat.{mul_comm}
 use Rattle.std.proofs.lemmas.List.{take-append-le, drop-append-le, take-set-le, drop-set-add, drop-set-lt}
 use Rattle.std.proofs.lemmas.Nat.{div-add-mod', mod_below, mul-le}
-use Rattle.state_proofs_parts.specs.Bits.{byte_of, chunk_at, chunk_of}
-use Rattle.state_proofs_parts.specs.Canonical.{Setting, State, chunk, chunks, full_chunks}
-use Rattle.state_proofs_parts.specs.Laws.Chunks.{chunk_at as chunk_listed}
+use Rattle.state_theory.specs.Bits.{byte_of, chunk_at, chunk_of}
+use Rattle.state_theory.specs.Canonical.{Setting, State, chunk, chunks, full_chunks}
+use Rattle.state_theory.specs.Laws.Chunks.{chunk_at as chunk_listed}
 use Rattle.state_current.specs.Growth.{cleared}
 
 -- a chunk is that of the first bits

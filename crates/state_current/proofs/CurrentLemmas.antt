@@ -19,18 +19,18 @@ use Rattle.merkle_forest.specs.Trees.{Located, located, end_of, inactive_peaks, 
 use Rattle.merkle_core_parts.specs.Laws.Mem.{at-peaks, nodes-empty}
 use Rattle.merkle_core_parts.specs.Laws.Plain.{length-plain, plain_roots}
 use Rattle.merkle_core_parts.specs.Mem.{AreKeptNodes, Nodes, IsPeakPosition, digests_from, list_root, node_at, plain_leaf_digests, plain_node}
-use Rattle.state_proofs_parts.specs.Bits.{Bits, IsChunkWidth, bit_count, chunk_at as kept_chunk, chunk_of}
-use Rattle.state_proofs_parts.specs.Laws.Bits.{kept_chunk as kept_is}
-use Rattle.state_proofs_parts.specs.Canonical.{Setting, State, chunk, chunks, chunk_bits, full_chunks, next_bit}
-use Rattle.state_proofs_parts.specs.Canonical.{forest, peaks, grafted_digests, grafted_root, operations_root}
-use Rattle.state_proofs_parts.specs.Canonical.{pending_digest, partial_digest, canonical_string, canonical_root}
-use Rattle.state_proofs_parts.specs.GraftedNodes.{AreGraftedLeaves, TwoTrees, chunks_node, grafted_lookup}
-use Rattle.state_proofs_parts.specs.Grafting.{aligned_count_with, chunk_aligned_inactive_peaks}
-use Rattle.state_proofs_parts.specs.Laws.Chunks.{chunk_at as chunk_listed}
-use Rattle.state_proofs_parts.specs.Laws.GraftedNodes.{Aligned, Roots}
-use Rattle.state_proofs_parts.specs.Laws.Heights.{same_power, some_height}
-use Rattle.state_proofs_parts.specs.Laws.Roots.{is_grafted_root}
-use Rattle.state_proofs_parts.specs.Laws.SameNodes.{AreBorn}
+use Rattle.state_theory.specs.Bits.{Bits, IsChunkWidth, bit_count, chunk_at as kept_chunk, chunk_of}
+use Rattle.state_theory.specs.Laws.Bits.{kept_chunk as kept_is}
+use Rattle.state_theory.specs.Canonical.{Setting, State, chunk, chunks, chunk_bits, full_chunks, next_bit}
+use Rattle.state_theory.specs.Canonical.{forest, peaks, grafted_digests, grafted_root, operations_root}
+use Rattle.state_theory.specs.Canonical.{pending_digest, partial_digest, canonical_string, canonical_root}
+use Rattle.state_theory.specs.GraftedNodes.{AreGraftedLeaves, TwoTrees, chunks_node, grafted_lookup}
+use Rattle.state_theory.specs.Grafting.{aligned_count_with, chunk_aligned_inactive_peaks}
+use Rattle.state_theory.specs.Laws.Chunks.{chunk_at as chunk_listed}
+use Rattle.state_theory.specs.Laws.GraftedNodes.{Aligned, Roots}
+use Rattle.state_theory.specs.Laws.Heights.{same_power, some_height}
+use Rattle.state_theory.specs.Laws.Roots.{is_grafted_root}
+use Rattle.state_theory.specs.Laws.SameNodes.{AreBorn}
 use Rattle.state_current.specs.Settled.{IsSettled}
 use Rattle.state_current.specs.Kept.{Kept, AreTogether, StandsFor, IsPendingAmong}
 use Rattle.state_current.proofs.PrunedLemmas.{peaks_above}

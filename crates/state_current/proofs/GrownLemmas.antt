@@ -16,17 +16,17 @@ use Rattle.merkle_forest.specs.Nodes.{HasNode, IsNodeAt, IsPeakAt, nodes_of_heig
 use Rattle.merkle_forest.specs.Perfect.{IsPairing}
 use Rattle.merkle_core_parts.specs.Laws.Plain.{digest-plain, length-plain}
 use Rattle.merkle_core_parts.specs.Mem.{AreNodesOf, NodeHash, Nodes, Replacement, node_at, plain_leaf_digests, plain_node, replaced, tree_digest}
-use Rattle.state_proofs_parts.specs.Bits.{Bits, bit_count, chunk_at as kept_chunk}
-use Rattle.state_proofs_parts.specs.Laws.Bits.{kept_chunk as kept_is, length-all}
-use Rattle.state_proofs_parts.specs.Bits.{chunk_of}
-use Rattle.state_proofs_parts.specs.Canonical.{Setting, State, chunk, forest}
-use Rattle.state_proofs_parts.specs.GraftedNodes.{chunks_node}
-use Rattle.state_proofs_parts.specs.Grafting.{grafted}
-use Rattle.state_proofs_parts.specs.Laws.Heights.{same_power, some_height}
+use Rattle.state_theory.specs.Bits.{Bits, bit_count, chunk_at as kept_chunk}
+use Rattle.state_theory.specs.Laws.Bits.{kept_chunk as kept_is, length-all}
+use Rattle.state_theory.specs.Bits.{chunk_of}
+use Rattle.state_theory.specs.Canonical.{Setting, State, chunk, forest}
+use Rattle.state_theory.specs.GraftedNodes.{chunks_node}
+use Rattle.state_theory.specs.Grafting.{grafted}
+use Rattle.state_theory.specs.Laws.Heights.{same_power, some_height}
 use Rattle.state_current.specs.ChunkLeaves.{IsReady, chunk_leaf, leaves_from, leaves_over}
 use Rattle.state_current.specs.Growth.{AreBrought, Change, IsGraftedLeaf, cleared, grown, is_updated}
 use Rattle.state_current.specs.Settled.{IsSettled}
-use Rattle.state_proofs_parts.specs.Bits.{all_bits}
+use Rattle.state_theory.specs.Bits.{all_bits}
 use Rattle.state_current.specs.Kept.{Kept, AreTogether, StandsFor}
 use Rattle.state_current.proofs.CurrentLemmas.{IsGraftable, state_chunk_at, may_get}
 use Rattle.state_current.proofs.LeafLemmas.{leaves_grow}

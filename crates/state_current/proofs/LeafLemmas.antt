@@ -19,10 +19,10 @@ use Rattle.merkle_forest.specs.Perfect.{IsPairing}
 use Rattle.merkle_forest.specs.Trees.{plain_digest}
 use Rattle.merkle_core_parts.specs.Laws.Replaced.{get-replaced, length-replaced}
 use Rattle.merkle_core_parts.specs.Mem.{Replacement, replaced, value_after}
-use Rattle.state_proofs_parts.specs.Canonical.{Setting, State, chunk, forest, full_chunks}
-use Rattle.state_proofs_parts.specs.GraftedNodes.{AreGraftedLeaves}
-use Rattle.state_proofs_parts.specs.Grafting.{grafted}
-use Rattle.state_proofs_parts.specs.Laws.GraftedNodes.{Roots}
+use Rattle.state_theory.specs.Canonical.{Setting, State, chunk, forest, full_chunks}
+use Rattle.state_theory.specs.GraftedNodes.{AreGraftedLeaves}
+use Rattle.state_theory.specs.Grafting.{grafted}
+use Rattle.state_theory.specs.Laws.GraftedNodes.{Roots}
 use Rattle.state_current.specs.Growth.{Change, grown, IsGraftedLeaf, is_updated, AreBrought}
 use Rattle.state_current.proofs.ChunkLemmas.{chunk_at-more, chunk_at-cleared, state_chunk}
 

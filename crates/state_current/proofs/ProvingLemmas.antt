@@ -3,11 +3,11 @@ use Rattle.std.proofs.Common.{◌≡◌, ℕ, ◌≤◌, ◌^◌, List, length, 
 use Rattle.std.specs.Prelude.{IfSome}
 use Rattle.merkle_core_parts.specs.Laws.Held.{right-there}
 use Rattle.merkle_core_parts.specs.Mem.{node_at, plain_leaf_digests, plain_node, tree_digest}
-use Rattle.state_proofs_parts.specs.Sources.{IsSourceOf, Source}
-use Rattle.state_proofs_parts.specs.Canonical.{Setting, State}
-use Rattle.state_proofs_parts.specs.GraftedNodes.{IsLookupOfOperations, grafted_lookup}
-use Rattle.state_proofs_parts.specs.Laws.GraftedTrees.{chunks_are, source_is}
-use Rattle.state_proofs_parts.specs.Bits.{all_bits}
+use Rattle.state_theory.specs.Sources.{IsSourceOf, Source}
+use Rattle.state_theory.specs.Canonical.{Setting, State}
+use Rattle.state_theory.specs.GraftedNodes.{IsLookupOfOperations, grafted_lookup}
+use Rattle.state_theory.specs.Laws.GraftedTrees.{chunks_are, source_is}
+use Rattle.state_theory.specs.Bits.{all_bits}
 use Rattle.state_current.specs.Kept.{Kept, StandsFor}
 use Rattle.state_current.proofs.CurrentLemmas.{IsGraftable, all_are}
 

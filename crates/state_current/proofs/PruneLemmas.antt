@@ -12,11 +12,11 @@ use Rattle.merkle_forest.specs.Nodes.{HasNode, nodes_of_height}
 use Rattle.merkle_forest.specs.Perfect.{IsPairing}
 use Rattle.merkle_core_parts.specs.Laws.Pruned.{pruned-already, pruned-further}
 use Rattle.merkle_core_parts.specs.Mem.{AreNodesOf, Nodes, plain_leaf_digests, plain_node, pruned_before}
-use Rattle.state_proofs_parts.specs.Bits.{Bits, bit_count, pruned_to}
-use Rattle.state_proofs_parts.specs.Canonical.{Setting, State}
-use Rattle.state_proofs_parts.specs.GraftedNodes.{chunks_node}
+use Rattle.state_theory.specs.Bits.{Bits, bit_count, pruned_to}
+use Rattle.state_theory.specs.Canonical.{Setting, State}
+use Rattle.state_theory.specs.GraftedNodes.{chunks_node}
 use Rattle.state_current.specs.Settled.{IsGreatestSettled, IsSettled}
-use Rattle.state_proofs_parts.specs.Bits.{all_bits}
+use Rattle.state_theory.specs.Bits.{all_bits}
 use Rattle.state_current.proofs.SettledNodes.{settled_grafted, settled_within}
 use Rattle.state_current.specs.Kept.{AreClearBefore, AreTogether, Kept, StandsFor}
 

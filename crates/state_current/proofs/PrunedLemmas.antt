@@ -15,15 +15,15 @@ use Rattle.merkle_forest.specs.Nodes.{HasNode, IsNodeAt, IsPeakAt}
 use Rattle.merkle_forest.specs.Perfect.{IsPairing}
 use Rattle.merkle_core_parts.specs.Laws.Plain.{leaf-place}
 use Rattle.merkle_core_parts.specs.Mem.{node_count}
-use Rattle.merkle_proofs.specs.Plans.{Lookup}
-use Rattle.merkle_proofs.specs.MultiReads.{both_there}
-use Rattle.state_proofs_parts.specs.GraftedNodes.{TwoTrees, chunks_node, grafted_lookup, known_or_made, node_over}
-use Rattle.state_proofs_parts.specs.Verifier.{node_at}
-use Rattle.state_proofs_parts.specs.Laws.GraftedNodes.{Aligned, Roots, node_over-is, node_over-some}
-use Rattle.state_proofs_parts.specs.Laws.GraftedReads.{read-low, read-high}
-use Rattle.state_proofs_parts.specs.Laws.GraftedTrees.{AreOver, left_over, right_over}
-use Rattle.state_proofs_parts.specs.Laws.SameNodes.{AreBorn, in_chunks}
-use Rattle.state_proofs_parts.specs.Laws.Verifier.{node_at-is}
+use Rattle.merkle_theory.specs.Plans.{Lookup}
+use Rattle.merkle_theory.specs.MultiReads.{both_there}
+use Rattle.state_theory.specs.GraftedNodes.{TwoTrees, chunks_node, grafted_lookup, known_or_made, node_over}
+use Rattle.state_theory.specs.Verifier.{node_at}
+use Rattle.state_theory.specs.Laws.GraftedNodes.{Aligned, Roots, node_over-is, node_over-some}
+use Rattle.state_theory.specs.Laws.GraftedReads.{read-low, read-high}
+use Rattle.state_theory.specs.Laws.GraftedTrees.{AreOver, left_over, right_over}
+use Rattle.state_theory.specs.Laws.SameNodes.{AreBorn, in_chunks}
+use Rattle.state_theory.specs.Laws.Verifier.{node_at-is}
 use Rattle.state_current.specs.Settled.{IsSettled, IsAbove}
 
 -- ---- what is there

@@ -13,11 +13,11 @@ use Rattle.merkle_forest.specs.Laws.Places.{node-left, node-right}
 use Rattle.merkle_forest.specs.Nodes.{IsNodeAt, IsPeakAt}
 use Rattle.merkle_forest.specs.Perfect.{IsPairing}
 use Rattle.merkle_forest.specs.Trees.{Located, located}
-use Rattle.merkle_proofs.specs.MadeRoots.{peaks_of}
-use Rattle.merkle_proofs.specs.Plans.{Lookup, first_missing, sibling_nodes, inner_nodes, range_nodes, range_positions}
-use Rattle.merkle_proofs.specs.Ranges.{is_before, is_after, meets}
-use Rattle.state_proofs_parts.specs.Laws.Known.{all_if, all_append, all_filter, all_flat, all_located, meets_after, none_missing}
-use Rattle.state_proofs_parts.specs.Laws.GraftedNodes.{Aligned}
+use Rattle.merkle_theory.specs.MadeRoots.{peaks_of}
+use Rattle.merkle_theory.specs.Plans.{Lookup, first_missing, sibling_nodes, inner_nodes, range_nodes, range_positions}
+use Rattle.merkle_theory.specs.Ranges.{is_before, is_after, meets}
+use Rattle.state_theory.specs.Laws.Known.{all_if, all_append, all_filter, all_flat, all_located, meets_after, none_missing}
+use Rattle.state_theory.specs.Laws.GraftedNodes.{Aligned}
 use Rattle.state_current.specs.Settled.{IsAbove}
 use Rattle.state_current.proofs.PrunedLemmas.{low_block}
 

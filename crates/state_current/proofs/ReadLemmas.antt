@@ -14,11 +14,11 @@ use Rattle.merkle_core_parts.specs.Laws.Held.{kept-there, peak-there, right-ther
 use Rattle.merkle_core_parts.specs.Laws.Kept.{later}
 use Rattle.merkle_core_parts.specs.Laws.Plain.{length-plain}
 use Rattle.merkle_core_parts.specs.Mem.{AreKeptNodes, AreNodesOf, Nodes, node_at, node_count, plain_leaf_digests, plain_node, tree_digest}
-use Rattle.state_proofs_parts.specs.Canonical.{Setting, State, forest, grafted_digests}
-use Rattle.state_proofs_parts.specs.GraftedNodes.{AreGraftedLeaves, IsLookupOfOperations, TwoTrees, chunks_node, grafted_lookup}
-use Rattle.state_proofs_parts.specs.Laws.GraftedNodes.{Aligned, Roots}
-use Rattle.state_proofs_parts.specs.Laws.GraftedTrees.{chunks_are, nodes_are}
-use Rattle.state_proofs_parts.specs.Laws.SameNodes.{AreBorn}
+use Rattle.state_theory.specs.Canonical.{Setting, State, forest, grafted_digests}
+use Rattle.state_theory.specs.GraftedNodes.{AreGraftedLeaves, IsLookupOfOperations, TwoTrees, chunks_node, grafted_lookup}
+use Rattle.state_theory.specs.Laws.GraftedNodes.{Aligned, Roots}
+use Rattle.state_theory.specs.Laws.GraftedTrees.{chunks_are, nodes_are}
+use Rattle.state_theory.specs.Laws.SameNodes.{AreBorn}
 use Rattle.state_current.specs.Settled.{IsAbove}
 use Rattle.state_current.proofs.LeafLemmas.{Counted}
 use Rattle.state_current.proofs.PrunedLemmas.{node_there}

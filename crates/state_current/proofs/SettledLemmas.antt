@@ -11,8 +11,8 @@ use Rattle.merkle_forest.specs.Laws.Nodes.{node-fits, peak-node}
 use Rattle.merkle_forest.specs.Laws.Peaks.{leaf_count-pos}
 use Rattle.merkle_forest.specs.Nodes.{HasNode, IsPeakAt}
 use Rattle.merkle_forest.specs.Perfect.{IsPairing}
-use Rattle.state_proofs_parts.specs.Laws.GraftedNodes.{Aligned}
-use Rattle.state_proofs_parts.specs.Laws.SameNodes.{AreBorn}
+use Rattle.state_theory.specs.Laws.GraftedNodes.{Aligned}
+use Rattle.state_theory.specs.Laws.SameNodes.{AreBorn}
 use Rattle.state_current.specs.Settled.{IsSettled}
 
 -- one peak begins at a location

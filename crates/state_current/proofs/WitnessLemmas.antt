@@ -4,7 +4,7 @@ use Rattle.std.proofs.Common.{List, Option, None, Some, length, option_map, refl
 use Rattle.std.specs.Prelude.{IfSome}
 use Rattle.merkle_forest.specs.Forest.{Rule, forest_of}
 use Rattle.merkle_forest.specs.Nodes.{nodes_of_height}
-use Rattle.state_proofs_parts.specs.Laws.Heights.{some_height}
+use Rattle.state_theory.specs.Laws.Heights.{some_height}
 use Rattle.state_proofs.specs.Witness.{WitnessParts}
 use Rattle.state_current.specs.Kept.{IsPendingAmong}
 

@@ -5,8 +5,8 @@ use Rattle.merkle_forest.specs.Forest.{Rule, forest_of}
 use Rattle.merkle_forest.specs.Hashing.{Hash}
 use Rattle.merkle_forest.specs.Nodes.{HasNode}
 use Rattle.merkle_core_parts.specs.Mem.{Nodes, Replacement, node_at}
-use Rattle.state_proofs_parts.specs.Bits.{Bits, chunk_at}
-use Rattle.state_proofs_parts.specs.Grafting.{grafted}
+use Rattle.state_theory.specs.Bits.{Bits, chunk_at}
+use Rattle.state_theory.specs.Grafting.{grafted}
 
 -- the digest of the leaf of a chunk, from the tree of the operations and the bits, where `root` tells a node's position
 abbrev pub chunk_leaf : Rule → (ℕ → ℕ → ℕ) → Hash → ℕ → ℕ → Nodes → Bits → ℕ → List ℕ

@@ -6,9 +6,9 @@ use Rattle.merkle_forest.specs.Forest.{Tree, height}
 use Rattle.merkle_forest.specs.Nodes.{IsNodeAt, nodes_of_height}
 use Rattle.merkle_forest.specs.Trees.{plain_digest}
 use Rattle.merkle_core_parts.specs.Mem.{Replacement}
-pub use Rattle.state_proofs_parts.specs.Bits.{cleared}
-use Rattle.state_proofs_parts.specs.Canonical.{Setting, State, chunk, forest}
-use Rattle.state_proofs_parts.specs.Grafting.{grafted}
+pub use Rattle.state_theory.specs.Bits.{cleared}
+use Rattle.state_theory.specs.Canonical.{Setting, State, chunk, forest}
+use Rattle.state_theory.specs.Grafting.{grafted}
 
 -- what is added to a state: operations, and a bit for each; the places whose bits are cleared then; and the new floor
 pub record Change : Type 0 where

@@ -4,10 +4,10 @@ use Rattle.merkle_forest.specs.Forest.{Rule, forest_of}
 use Rattle.merkle_forest.specs.Hashing.{Hash}
 use Rattle.merkle_forest.specs.Nodes.{nodes_of_height}
 use Rattle.merkle_core_parts.specs.Mem.{AreNodesOf, Nodes, node_at, plain_leaf_digests, plain_node}
-use Rattle.merkle_proofs.specs.Plans.{Lookup}
-use Rattle.state_proofs_parts.specs.Bits.{Bits, all_bits, bit_count}
-use Rattle.state_proofs_parts.specs.Canonical.{Setting, State}
-use Rattle.state_proofs_parts.specs.GraftedNodes.{AreGraftedLeaves, chunks_node, grafted_lookup}
+use Rattle.merkle_theory.specs.Plans.{Lookup}
+use Rattle.state_theory.specs.Bits.{Bits, all_bits, bit_count}
+use Rattle.state_theory.specs.Canonical.{Setting, State}
+use Rattle.state_theory.specs.GraftedNodes.{AreGraftedLeaves, chunks_node, grafted_lookup}
 use Rattle.state_current.specs.Settled.{IsSettled}
 
 -- the tree of the operations, that of the chunks, the bits and the floor

@@ -1,8 +1,8 @@
 //! The state that is kept.
 
 ghost use Rattle.std.specs.Prelude.{◌≡◌, ◌<◌, ◌≤◌, ◌*◌, ◌^◌, [], ℕ, Some, slice_get};
-ghost use Rattle.state_proofs_parts.specs.Bits.{IsChunkWidth, all_bits, bit_count};
-ghost use Rattle.state_proofs_parts.specs.Canonical.{State, chunk, setting_with};
+ghost use Rattle.state_theory.specs.Bits.{IsChunkWidth, all_bits, bit_count};
+ghost use Rattle.state_theory.specs.Canonical.{State, chunk, setting_with};
 ghost use Rattle.state_current.specs.Kept.{StandsFor};
 
 use merkle_core::Mem;

@@ -2,7 +2,7 @@
 
 ghost use Rattle.std.specs.Prelude.{◌≡◌, ◌<◌, ◌≤◌, ◌+◌, ◌*◌, ◌^◌, ℕ, map, length, IfOk, IfErr, OnOk, OnErr};
 ghost use Rattle.std.specs.List.{AllByRecursion};
-ghost use Rattle.state_proofs_parts.specs.Canonical.{State, setting_with};
+ghost use Rattle.state_theory.specs.Canonical.{State, setting_with};
 ghost use Rattle.state_current.specs.Growth.{grown};
 ghost use Rattle.state_current.specs.Kept.{StandsFor};
 

@@ -6,8 +6,8 @@ ghost use Rattle.merkle_forest.specs.Hashing.{Hash};
 ghost use Rattle.merkle_forest.specs.Nodes.{IsNodeAt, IsPeakAt};
 ghost use Rattle.merkle_core_parts.specs.Mem.{AreNodesOf, Nodes, Replacement, node_at, plain_leaf_digests, plain_node};
 ghost use Rattle.merkle_core_parts.specs.Mem.{replaced};
-ghost use Rattle.state_proofs_parts.specs.Canonical.{State, forest, grafted_digests, setting_with};
-ghost use Rattle.state_proofs_parts.specs.GraftedNodes.{AreGraftedLeaves, TwoTrees, chunks_node, grafted_lookup};
+ghost use Rattle.state_theory.specs.Canonical.{State, forest, grafted_digests, setting_with};
+ghost use Rattle.state_theory.specs.GraftedNodes.{AreGraftedLeaves, TwoTrees, chunks_node, grafted_lookup};
 ghost use Rattle.state_current.specs.Growth.{Change, grown, AreBrought};
 ghost use Rattle.state_current.specs.Settled.{IsAbove, IsSettled};
 

@@ -3,15 +3,15 @@
 ghost use Rattle.std.specs.Prelude.{◌≡◌, ◌<◌, ◌≤◌, ◌+◌, ◌*◌, ◌/◌, ◌^◌, ℕ, map, length, IfOk, IfErr};
 ghost use Rattle.merkle_forest.specs.declared.bagging.Bagging.TheVariants.{BackwardFold};
 ghost use Rattle.merkle_forest.specs.Trees.{inactive_peaks};
-ghost use Rattle.merkle_proofs.specs.MadeRoots.{peaks_of};
-ghost use Rattle.merkle_proofs.specs.Plans.{IsRefusalToProveNow, honest_digests};
+ghost use Rattle.merkle_theory.specs.MadeRoots.{peaks_of};
+ghost use Rattle.merkle_theory.specs.Plans.{IsRefusalToProveNow, honest_digests};
 ghost use Rattle.merkle_core_parts.specs.Mem.{node_at, plain_leaf_digests, plain_node, tree_digest};
 ghost use Rattle.merkle_core_parts.specs.declared.error.Error.TheVariants.{Memory as NoMemory};
-ghost use Rattle.state_proofs_parts.specs.Bits.{all_bits};
+ghost use Rattle.state_theory.specs.Bits.{all_bits};
 ghost use Rattle.state_proofs.specs.Built.{IsRefusalOfLocated, IsRefusalOfPlanned};
 ghost use Rattle.state_proofs.specs.BuiltCode.{measures_with, source_of, span_of};
-ghost use Rattle.state_proofs_parts.specs.Canonical.{State, setting_with};
-ghost use Rattle.state_proofs.specs.Honest.{honest_parts, honest_range};
+ghost use Rattle.state_theory.specs.Canonical.{State, setting_with};
+ghost use Rattle.state_theory.specs.Honest.{honest_parts, honest_range};
 ghost use Rattle.state_proofs.specs.ProofsCode.{parts_of, range_parts_of};
 ghost use Rattle.state_current.specs.Kept.{StandsFor, read_of};
 

@@ -1,7 +1,7 @@
 //! What is kept, with less before a location.
 
 ghost use Rattle.std.specs.Prelude.{◌≡◌, ◌≤◌, ◌-◌, ◌*◌, ◌/◌, ◌^◌, ℕ, false, take, replicate, IfErr, OnOk, OnErr};
-ghost use Rattle.state_proofs_parts.specs.Canonical.{State, setting_with};
+ghost use Rattle.state_theory.specs.Canonical.{State, setting_with};
 ghost use Rattle.state_current.specs.Kept.{StandsFor, AreClearBefore};
 ghost use Rattle.state_current.specs.Settled.{IsSettled, IsGreatestSettled};
 

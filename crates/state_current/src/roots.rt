@@ -2,9 +2,9 @@
 
 ghost use Rattle.std.specs.Prelude.{◌≡◌, ℕ, option_map, IfSome};
 ghost use Rattle.merkle_forest.specs.declared.bagging.Bagging.TheVariants.{BackwardFold};
-ghost use Rattle.state_proofs_parts.specs.Canonical.{State, canonical_root, operations_root, grafted_root};
-ghost use Rattle.state_proofs_parts.specs.Canonical.{pending_digest};
-ghost use Rattle.state_proofs_parts.specs.Canonical.{partial_digest, setting_with};
+ghost use Rattle.state_theory.specs.Canonical.{State, canonical_root, operations_root, grafted_root};
+ghost use Rattle.state_theory.specs.Canonical.{pending_digest};
+ghost use Rattle.state_theory.specs.Canonical.{partial_digest, setting_with};
 ghost use Rattle.state_current.specs.Kept.{StandsFor, IsPendingAmong};
 
 use crate::current::Current;

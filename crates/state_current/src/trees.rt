@@ -4,11 +4,11 @@ ghost use Rattle.std.specs.Prelude.{◌≡◌, ◌<◌, ◌≤◌, ◌+◌, ◌-
 ghost use Rattle.std.specs.Prelude.{IfErr};
 ghost use Rattle.merkle_forest.specs.Forest.{forest_of};
 ghost use Rattle.merkle_forest.specs.Nodes.{nodes_of_height};
-ghost use Rattle.state_proofs_parts.specs.GraftedNodes.{chunks_node};
+ghost use Rattle.state_theory.specs.GraftedNodes.{chunks_node};
 ghost use Rattle.std.specs.List.{AllByRecursion};
 ghost use Rattle.merkle_core_parts.specs.Mem.{AreNodesOf, base_of, plain_leaf_digests, plain_node, replaced};
 ghost use Rattle.merkle_core_parts.specs.Mem.{with_batch, with_leaves};
-ghost use Rattle.state_proofs_parts.specs.Bits.{IsChunkWidth};
+ghost use Rattle.state_theory.specs.Bits.{IsChunkWidth};
 ghost use Rattle.state_current.specs.ChunkLeaves.{IsReady, chunk_leaf, leaves_from, leaves_over};
 
 use merkle_core::batch::{MerkleizedBatch, UnmerkleizedBatch};

@@ -1,7 +1,7 @@
 //! The witness of what is kept: what leads from the root of the operations' tree to the canonical one.
 
 ghost use Rattle.std.specs.Prelude.{◌≡◌, ℕ, List, option_map};
-ghost use Rattle.state_proofs_parts.specs.Canonical.{State, next_bit, partial_digest, pending_digest, setting_with};
+ghost use Rattle.state_theory.specs.Canonical.{State, next_bit, partial_digest, pending_digest, setting_with};
 ghost use Rattle.state_proofs.specs.Witness.{honest_witness, witness_of};
 ghost use Rattle.state_current.specs.Kept.{StandsFor};
 

@@ -9,32 +9,32 @@ use Rattle.merkle_core_parts.specs.declared.error.Error.{Error as MerkleError}
 use Rattle.merkle_core_parts.specs.declared.error.Error.TheVariants.{LocationOverflow, Empty, RangeOutOfBounds, InvalidSize, LeafOutOfBounds}
 use Rattle.merkle_core_parts.specs.declared.error.Error.TheVariants.{DuplicateLocation, UnsortedLocation, ElementPruned, InvalidPinnedNodes}
 use Rattle.merkle_core_parts.specs.declared.error.Error.TheVariants.{StaleBatch, AncestorDropped, InvalidInactivePeaks, MissingNode, Memory as NoMemory}
-use Rattle.merkle_proofs.specs.MadeRoots.{peaks_of}
-use Rattle.merkle_proofs.specs.Plans.{Asked as Span, IsRefusalToBuild, IsWithinTree, Lookup, honest_digests, looked_up}
-use Rattle.merkle_proofs.specs.Ranges.{Digests, range_digests}
+use Rattle.merkle_theory.specs.MadeRoots.{peaks_of}
+use Rattle.merkle_theory.specs.Plans.{Asked as Span, IsRefusalToBuild, IsWithinTree, Lookup, honest_digests, looked_up}
+use Rattle.merkle_theory.specs.Ranges.{Digests, range_digests}
 use Rattle.merkle_forest.specs.declared.bagging.Bagging.TheVariants.{BackwardFold}
 use Rattle.merkle_forest.specs.Hashing.{Hash}
 use Rattle.merkle_forest.specs.Forest.{Rule, Tree, forest_of, position}
 use Rattle.merkle_forest.specs.Nodes.{IsNodeAt, nodes_of_height}
-use Rattle.state_proofs_parts.specs.Bits.{chunk_of}
+use Rattle.state_theory.specs.Bits.{chunk_of}
 use Rattle.state_proofs.specs.Built.{chunks_asked, IsRefusalOfLocated, IsRefusalOfNodes, IsRefusalOfOperation}
 use Rattle.state_proofs.specs.Built.{IsRefusalOfPlanned, IsRefusalOfSource, lifted, unknown_node}
-use Rattle.state_proofs_parts.specs.Sources.{IsSourceOf, Source}
+use Rattle.state_theory.specs.Sources.{IsSourceOf, Source}
 use Rattle.state_proofs.specs.Required.{IsPruned, Measures}
 use Rattle.state_proofs.specs.declared.error.Error.{Error}
 use Rattle.state_proofs.specs.declared.error.Error.TheVariants.{DataCorrupted, OperationPruned, Merkle, Memory}
 use Rattle.state_proofs.specs.BuiltCode.{measures_with}
-use Rattle.state_proofs_parts.specs.Canonical.{setting_with}
-use Rattle.state_proofs_parts.specs.Grafting.{chunk_aligned_inactive_peaks}
-use Rattle.state_proofs_parts.specs.Canonical.{Setting, State, chunk_bits, full_chunks, next_bit, chunks, chunk}
-use Rattle.state_proofs_parts.specs.Canonical.{forest, peaks, grafted_digests, grafted_inactive, pending_digest}
-use Rattle.state_proofs_parts.specs.Canonical.{partial_digest}
-use Rattle.state_proofs.specs.Honest.{grafted_range}
-use Rattle.state_proofs.specs.Verified.{Parts, RangeParts}
-use Rattle.state_proofs_parts.specs.Laws.ChunkCounts.{aligned-few}
-use Rattle.state_proofs_parts.specs.Laws.Chunks.{chunk_at}
-use Rattle.state_proofs_parts.specs.Laws.Heights.{same_power}
-use Rattle.state_proofs.proofs.KnownNodes.{known_digests}
+use Rattle.state_theory.specs.Canonical.{setting_with}
+use Rattle.state_theory.specs.Grafting.{chunk_aligned_inactive_peaks}
+use Rattle.state_theory.specs.Canonical.{Setting, State, chunk_bits, full_chunks, next_bit, chunks, chunk}
+use Rattle.state_theory.specs.Canonical.{forest, peaks, grafted_digests, grafted_inactive, pending_digest}
+use Rattle.state_theory.specs.Canonical.{partial_digest}
+use Rattle.state_theory.specs.Honest.{grafted_range}
+use Rattle.state_theory.specs.Verified.{Parts, RangeParts}
+use Rattle.state_theory.specs.Laws.ChunkCounts.{aligned-few}
+use Rattle.state_theory.specs.Laws.Chunks.{chunk_at}
+use Rattle.state_theory.specs.Laws.Heights.{same_power}
+use Rattle.state_theory.proofs.KnownNodes.{known_digests}
 
 -- a chunk, from its bits
 pub chunk_there : (setting : Setting) (state : State) (index : ℕ) → index < full_chunks setting state + cond (eqb (next_bit setting state) 0) 0 1

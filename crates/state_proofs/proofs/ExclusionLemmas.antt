@@ -3,7 +3,7 @@ use Rattle.std.proofs.Common.{◌≡◌, ℕ, List, sym, subst}
 use Rattle.merkle_forest.specs.Forest.{Rule}
 use Rattle.merkle_forest.specs.Hashing.{Hash}
 use Rattle.state_proofs.specs.Exclusion.{ExclusionParts, LeavesOut, Excludes, proof_of, operation_of}
-use Rattle.state_proofs.specs.Verified.{Verifies}
+use Rattle.state_theory.specs.Verified.{Verifies}
 
 -- the check of the operation says whether the proof shows the absence of a key that its operation leaves out
 pub excludes_exactly : (Yes : Type 0) (rule : Rule) (hash : Hash) (key_size value_size : ℕ) (root : List ℕ) (said proof : ExclusionParts)

@@ -1,14 +1,4 @@
-pub mod HonestLemmas
-pub mod Extending
-pub mod StateParts
-pub mod RangeIsTrue
-pub mod RangeIsHonest
-pub mod Alone
-pub mod LogLemmas
 pub mod RequestLemmas
-pub mod SameReading
-pub mod RangeAccepted
-pub mod KnownNodes
 pub mod BuiltLemmas
 pub mod WitnessLemmas
 pub mod RequiredLemmas

@@ -6,23 +6,23 @@ use Rattle.merkle_forest.specs.Hashing.{Hash}
 use Rattle.merkle_forest.specs.Made.{Site, at_pending, at_partial, Made, bytes, strings}
 use Rattle.merkle_forest.specs.Perfect.{IsPairing}
 use Rattle.merkle_forest.specs.declared.bagging.Bagging.TheVariants.{BackwardFold}
-use Rattle.merkle_proofs.specs.Laws.MadeTrees.{choose}
-use Rattle.merkle_proofs.specs.MadeRoots.{peaks_of, read_root}
-use Rattle.merkle_proofs.specs.MadeTrees.{Elements, from}
-use Rattle.merkle_proofs.specs.OneEach.{OneEach}
-use Rattle.merkle_proofs.specs.RangeCounts.{range_outer}
-use Rattle.state_proofs_parts.specs.Canonical.{Setting}
-use Rattle.state_proofs_parts.specs.MadeCanonical.{if_made, next_made, canonical_made, chunk_made}
-use Rattle.state_proofs_parts.specs.MadeGrafted.{grafted_over, grafted_names}
-use Rattle.state_proofs.specs.MadeRanges.{held_or_made, is_covered, range_pending, range_partial, range_over, range_strings}
-use Rattle.state_proofs.specs.Verified.{Shown, shown_bits, stop_of, covering, full_shown, graftable_shown, given_by, shown_grafted, RangeParts}
-use Rattle.state_proofs_parts.specs.Verifier.{claimed_chunk}
+use Rattle.merkle_theory.specs.Laws.MadeTrees.{choose}
+use Rattle.merkle_theory.specs.MadeRoots.{peaks_of, read_root}
+use Rattle.merkle_theory.specs.MadeTrees.{Elements, from}
+use Rattle.merkle_theory.specs.OneEach.{OneEach}
+use Rattle.merkle_theory.specs.RangeCounts.{range_outer}
+use Rattle.state_theory.specs.Canonical.{Setting}
+use Rattle.state_theory.specs.MadeCanonical.{if_made, next_made, canonical_made, chunk_made}
+use Rattle.state_theory.specs.MadeGrafted.{grafted_over, grafted_names}
+use Rattle.state_theory.specs.MadeRanges.{held_or_made, is_covered, range_pending, range_partial, range_over, range_strings}
+use Rattle.state_theory.specs.Verified.{Shown, shown_bits, stop_of, covering, full_shown, graftable_shown, given_by, shown_grafted, RangeParts}
+use Rattle.state_theory.specs.Verifier.{claimed_chunk}
 use Rattle.state_proofs.specs.Witness.{WitnessParts, witnessed_made}
-use Rattle.state_proofs_parts.specs.Laws.OneEachLists.{IsOne, none_one}
-use Rattle.state_proofs_parts.specs.Laws.OneEachTrees.{part_of, of_part, grafted_is_over}
-use Rattle.state_proofs_parts.specs.Laws.OneEachBags.{IsOfPart}
-use Rattle.state_proofs_parts.specs.Laws.OneEachRoots.{root_read, grafted_naming}
-use Rattle.state_proofs_parts.specs.Laws.OneEachCanonical.{OfPart, HasOne, canonical_one, chunk_one, if_one, next_one}
+use Rattle.state_theory.specs.Laws.OneEachLists.{IsOne, none_one}
+use Rattle.state_theory.specs.Laws.OneEachTrees.{part_of, of_part, grafted_is_over}
+use Rattle.state_theory.specs.Laws.OneEachBags.{IsOfPart}
+use Rattle.state_theory.specs.Laws.OneEachRoots.{root_read, grafted_naming}
+use Rattle.state_theory.specs.Laws.OneEachCanonical.{OfPart, HasOne, canonical_one, chunk_one, if_one, next_one}
 
 -- nothing is asked of a node's plain string
 abbrev Any : ℕ → Tree → List ℕ → Type 0

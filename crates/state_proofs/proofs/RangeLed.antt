@@ -3,10 +3,10 @@ use Rattle.std.proofs.Common.{◌≡◌, ℕ, ◌%◌, List, Option, None, Some,
 use Rattle.merkle_forest.specs.Forest.{Rule}
 use Rattle.merkle_forest.specs.Hashing.{Hash}
 use Rattle.merkle_forest.specs.Made.{value}
-use Rattle.state_proofs_parts.specs.Canonical.{canonical_string}
+use Rattle.state_theory.specs.Canonical.{canonical_string}
 use Rattle.state_proofs.specs.RangeExtracted.{LeadsNowhere, by_size, by_leaves, by_shape, by_chunks, by_digests}
-use Rattle.state_proofs.specs.Verified.{Shown, shown_bits, VerifiesRange, RangeParts}
-use Rattle.state_proofs.proofs.RangeIsTrue.{at_level}
+use Rattle.state_theory.specs.Verified.{Shown, shown_bits, VerifiesRange, RangeParts}
+use Rattle.state_theory.proofs.RangeIsTrue.{at_level}
 
 same_some : (one other : List ℕ) → ◌≡◌ {A = Option (List ℕ)} (Some one) (Some other) → one ≡ other
 same_some one other same = cc

@@ -9,26 +9,26 @@ use Rattle.merkle_forest.specs.Hashing.{Hash, leaf_string, node_string}
 use Rattle.merkle_forest.specs.Made.{Made, value}
 use Rattle.merkle_forest.specs.Perfect.{IsPairing}
 use Rattle.merkle_proofs.specs.Extracted.{AreMadeOf, AreGiven}
-use Rattle.merkle_proofs.specs.MadeRoots.{Naming, from_left, peaks_of}
-use Rattle.merkle_proofs.specs.MadeTrees.{Over, from}
-use Rattle.merkle_proofs.specs.Plans.{honest_digests}
-use Rattle.merkle_proofs.specs.Ranges.{Digests}
-use Rattle.merkle_proofs.specs.Reads.{range_root}
-use Rattle.state_proofs_parts.specs.Canonical.{Setting, State, chunk_bits, chunks, grafted_digests, grafted_inactive}
-use Rattle.state_proofs_parts.specs.Grafting.{grafted, grafted_digest}
-use Rattle.state_proofs.specs.Honest.{grafted_range, honest_range}
-use Rattle.state_proofs_parts.specs.Laws.MadeStates.{no_chunk}
-use Rattle.state_proofs_parts.specs.MadeGrafted.{grafted_names}
-use Rattle.state_proofs.specs.MadeRanges.{HasRange}
-use Rattle.state_proofs_parts.specs.MadeStates.{made_chunk}
+use Rattle.merkle_theory.specs.MadeRoots.{Naming, from_left, peaks_of}
+use Rattle.merkle_theory.specs.MadeTrees.{Over, from}
+use Rattle.merkle_theory.specs.Plans.{honest_digests}
+use Rattle.merkle_theory.specs.Ranges.{Digests}
+use Rattle.merkle_theory.specs.Reads.{range_root}
+use Rattle.state_theory.specs.Canonical.{Setting, State, chunk_bits, chunks, grafted_digests, grafted_inactive}
+use Rattle.state_theory.specs.Grafting.{grafted, grafted_digest}
+use Rattle.state_theory.specs.Honest.{grafted_range, honest_range}
+use Rattle.state_theory.specs.Laws.MadeStates.{no_chunk}
+use Rattle.state_theory.specs.MadeGrafted.{grafted_names}
+use Rattle.state_theory.specs.MadeRanges.{HasRange}
+use Rattle.state_theory.specs.MadeStates.{made_chunk}
 use Rattle.state_proofs.specs.RangeExtracted.{AreMadeOfShown, ShowsDigests}
-use Rattle.state_proofs.specs.Verified.{Shown, shown_bits, stop_of, given_by, graftable_shown, shown_over, shown_grafted, IsShaped, VerifiesRange, RangeParts}
-use Rattle.state_proofs_parts.specs.Verifier.{Given, claimed_chunk, grafted_node, joined_chunk}
-use Rattle.state_proofs_parts.specs.Laws.ChunkCounts.{Aligned}
-use Rattle.state_proofs.proofs.RangeAccepted.{met_in, same_at, agrees}
-use Rattle.state_proofs.proofs.RangeIsTrue.{at_level}
-use Rattle.state_proofs_parts.specs.Laws.Verifier.{joined_is, node_at-is}
-use Rattle.state_proofs.proofs.StateParts.{Counted}
+use Rattle.state_theory.specs.Verified.{Shown, shown_bits, stop_of, given_by, graftable_shown, shown_over, shown_grafted, IsShaped, VerifiesRange, RangeParts}
+use Rattle.state_theory.specs.Verifier.{Given, claimed_chunk, grafted_node, joined_chunk}
+use Rattle.state_theory.specs.Laws.ChunkCounts.{Aligned}
+use Rattle.state_theory.proofs.RangeAccepted.{met_in, same_at, agrees}
+use Rattle.state_theory.proofs.RangeIsTrue.{at_level}
+use Rattle.state_theory.specs.Laws.Verifier.{joined_is, node_at-is}
+use Rattle.state_theory.proofs.StateParts.{Counted}
 
 -- the law that an honest proof gives the digests of the nodes that it tells
 abbrev pub GivesHonest : Rule → Type 0

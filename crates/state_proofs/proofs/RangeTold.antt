@@ -8,14 +8,14 @@ use Rattle.merkle_forest.specs.Nodes.{IsWithin, IsNodeAt}
 use Rattle.merkle_forest.specs.Perfect.{IsPairing}
 use Rattle.merkle_forest.specs.Trees.{Located, located}
 use Rattle.merkle_proofs.specs.Extracted.{AreMadeOf, AreGiven, told_nodes, inner_told, node_digests}
-use Rattle.merkle_proofs.specs.MadeRoots.{peaks_of}
-use Rattle.merkle_proofs.specs.MadeTrees.{from}
-use Rattle.merkle_proofs.specs.Ranges.{Digests, is_before, is_after, meets, singly, siblings, inner_digests}
-use Rattle.state_proofs_parts.specs.Grafting.{grafted}
+use Rattle.merkle_theory.specs.MadeRoots.{peaks_of}
+use Rattle.merkle_theory.specs.MadeTrees.{from}
+use Rattle.merkle_theory.specs.Ranges.{Digests, is_before, is_after, meets, singly, siblings, inner_digests}
+use Rattle.state_theory.specs.Grafting.{grafted}
 use Rattle.state_proofs.specs.RangeExtracted.{AreMadeOfShown, told_by}
-use Rattle.state_proofs.specs.Verified.{Shown, stop_of, given_by, graftable_shown, RangeParts}
-use Rattle.state_proofs_parts.specs.Verifier.{Given, grafted_node, joined_chunk}
-use Rattle.state_proofs_parts.specs.Laws.Verifier.{node_at-is}
+use Rattle.state_theory.specs.Verified.{Shown, stop_of, given_by, graftable_shown, RangeParts}
+use Rattle.state_theory.specs.Verifier.{Given, grafted_node, joined_chunk}
+use Rattle.state_theory.specs.Laws.Verifier.{node_at-is}
 
 case_of : (P : Bool → Type 0) (test : Bool) → P true → P false → P test
 case_of P true one other = one

@@ -7,8 +7,8 @@ use Rattle.std.specs.List.Sorted.{IsStrictlyIncreasing}
 use Rattle.std.proofs.lemmas.Bool.{cases_lt, ltb-true, lt-ltb}
 use Rattle.std.proofs.lemmas.List.Elements.{Contains-append_left, Contains-append_right, Contains-append_cases}
 use Rattle.state_proofs.specs.RequiredCode.{as_list, option_below}
-use Rattle.state_proofs_parts.specs.Laws.ChunkCounts.{index-few}
-use Rattle.state_proofs.proofs.StateParts.{left_over}
+use Rattle.state_theory.specs.Laws.ChunkCounts.{index-few}
+use Rattle.state_theory.proofs.StateParts.{left_over}
 
 -- each of three that may be there is below the next ones
 abbrev pub Ordered : Option ℕ → Option ℕ → Option ℕ → Type 0

@@ -6,15 +6,15 @@ use Rattle.merkle_forest.specs.Hashing.{Hash, number}
 use Rattle.merkle_forest.specs.Laws.Matching.{Agrees, agrees_or_collides}
 use Rattle.merkle_forest.specs.Made.{at_pending, at_partial, Made, bytes, value, strings, Collision}
 use Rattle.merkle_forest.specs.Nodes.{nodes_of_height}
-use Rattle.merkle_proofs.specs.Laws.MadeRoots.{number_same}
-use Rattle.state_proofs_parts.specs.Canonical.{Setting, State, chunk_bits, full_chunks, next_bit, chunk, forest}
-use Rattle.state_proofs_parts.specs.Canonical.{operations_root, grafted_root, pending_digest, partial_digest}
-use Rattle.state_proofs_parts.specs.Canonical.{canonical_string, canonical_root}
-use Rattle.state_proofs_parts.specs.Laws.MadeCanonical.{SizedIf, SizedNext, MatchIf, MatchNext, canonical_matches}
-use Rattle.state_proofs_parts.specs.MadeCanonical.{CanonicalParts, if_made, next_made}
-use Rattle.state_proofs_parts.specs.MadeStates.{made_operations, made_grafted, made_pending, made_partial, made_state, hashed_strings}
+use Rattle.merkle_theory.specs.Laws.MadeRoots.{number_same}
+use Rattle.state_theory.specs.Canonical.{Setting, State, chunk_bits, full_chunks, next_bit, chunk, forest}
+use Rattle.state_theory.specs.Canonical.{operations_root, grafted_root, pending_digest, partial_digest}
+use Rattle.state_theory.specs.Canonical.{canonical_string, canonical_root}
+use Rattle.state_theory.specs.Laws.MadeCanonical.{SizedIf, SizedNext, MatchIf, MatchNext, canonical_matches}
+use Rattle.state_theory.specs.MadeCanonical.{CanonicalParts, if_made, next_made}
+use Rattle.state_theory.specs.MadeStates.{made_operations, made_grafted, made_pending, made_partial, made_state, hashed_strings}
 use Rattle.state_proofs.specs.Witness.{WitnessParts, HasWitnessOf, next_of, witnessed_string, witnessed_made, honest_witness}
-use Rattle.state_proofs.proofs.StateParts.{value_state, value_operations, value_grafted_root, next_sized, some_sized, none_sized, some_value, none_value}
+use Rattle.state_theory.proofs.StateParts.{value_state, value_operations, value_grafted_root, next_sized, some_sized, none_sized, some_value, none_value}
 
 honest_string : (operations grafted : List ℕ) (pending : Option (List ℕ)) (next : ℕ) (partial : Option (List ℕ))
     → witnessed_string (record { grafted_root = grafted; pending = pending; partial = option_map (λ digest. (next, digest)) partial }) operations

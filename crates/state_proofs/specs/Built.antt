@@ -3,13 +3,13 @@ use Rattle.std.specs.Prelude.{◌≡◌, ◌≢◌, ◌<◌, ◌^◌, ◌⊎◌,
 use Rattle.merkle_core_parts.specs.declared.error.Error.{Error as MerkleError}
 use Rattle.merkle_core_parts.specs.declared.error.Error.TheVariants.{ElementPruned, LocationOverflow}
 use Rattle.merkle_core_parts.specs.declared.error.Error.TheVariants.{Memory as NoMemory}
-use Rattle.merkle_proofs.specs.Plans.{Asked as Span, IsRefusalOfElement, IsRefusalOfRange, IsWithinTree, Lookup}
-use Rattle.merkle_proofs.specs.Plans.{first_missing, range_positions}
+use Rattle.merkle_theory.specs.Plans.{Asked as Span, IsRefusalOfElement, IsRefusalOfRange, IsWithinTree, Lookup}
+use Rattle.merkle_theory.specs.Plans.{first_missing, range_positions}
 use Rattle.merkle_forest.specs.Forest.{Rule}
 use Rattle.state_proofs.specs.declared.error.Error.{Error}
 use Rattle.state_proofs.specs.declared.error.Error.TheVariants.{DataCorrupted, OperationPruned, Merkle, Memory}
 use Rattle.state_proofs.specs.Required.{Measures, Asked, IsCorrupted, IsPruned}
-use Rattle.state_proofs_parts.specs.Sources.{Source}
+use Rattle.state_theory.specs.Sources.{Source}
 
 -- what the chunks are asked for
 abbrev pub chunks_asked : Source → Asked

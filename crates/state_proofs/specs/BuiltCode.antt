@@ -1,9 +1,9 @@
 -- What proofs are built from, as the code holds it.
 use Rattle.std.specs.Prelude.{ℕ, Bool, List, ◌*◌}
-use Rattle.merkle_proofs.specs.Plans.{Asked, Lookup}
+use Rattle.merkle_theory.specs.Plans.{Asked, Lookup}
 use Rattle.merkle_forest.specs.Forest.{Rule}
 use Rattle.state_proofs.specs.Required.{Measures}
-use Rattle.state_proofs_parts.specs.Sources.{Source}
+use Rattle.state_theory.specs.Sources.{Source}
 
 -- the operations from one location up to another, in a tree of so many
 abbrev pub span_of : ℕ → ℕ → ℕ → Asked

@@ -8,8 +8,8 @@ use Rattle.merkle_forest.specs.Hashing.{Hash}
 use Rattle.state_ops_parts.specs.Grammar.{Lacks, after_ordered, OrderedLacks}
 use Rattle.state_ops.specs.Operation.{ordered, update, commit_floor, fixed_encoding}
 use Rattle.state_ops.specs.Spans.{IsLeftOut}
-use Rattle.state_proofs.specs.Encoded.{operation_proof_encoding}
-use Rattle.state_proofs.specs.Verified.{Parts, Verifies}
+use Rattle.state_theory.specs.Encoded.{operation_proof_encoding}
+use Rattle.state_theory.specs.Verified.{Parts, Verifies}
 
 -- a proof of an update of a key with a value and a next key; or of a commit with metadata
 pub data ExclusionParts : Type 0 where

@@ -4,7 +4,7 @@ use Rattle.std.specs.declared.alloc.Global.{Global}
 use Rattle.std.specs.declared.vec.Vec.{Vec}
 use Rattle.state_proofs.specs.declared.operation.Proof.{Proof}
 use Rattle.state_proofs.specs.declared.proof.RangeProof.{RangeProof}
-use Rattle.state_proofs.specs.Verified.{RangeParts, Parts}
+use Rattle.state_theory.specs.Verified.{RangeParts, Parts}
 
 -- what a proof over a range holds, from the bytes of a digest and the digest that is held as the pending one
 abbrev pub range_parts_of : {F D P : Type 0} → (D → List ℕ) → (P → Option (List ℕ)) → RangeProof F D P → RangeParts

@@ -16,15 +16,15 @@ use Rattle.merkle_forest.specs.Hashing.{Hash, leaf_string, node_string}
 use Rattle.merkle_forest.specs.Nodes.{IsNodeAt}
 use Rattle.merkle_forest.specs.Trees.{Located}
 use Rattle.merkle_proofs.specs.Extracted.{AreGiven, extracted_nodes}
-use Rattle.merkle_proofs.specs.MadeRoots.{peaks_of}
-use Rattle.merkle_proofs.specs.MadeTrees.{from}
-use Rattle.merkle_proofs.specs.Ranges.{Digests, meets}
+use Rattle.merkle_theory.specs.MadeRoots.{peaks_of}
+use Rattle.merkle_theory.specs.MadeTrees.{from}
+use Rattle.merkle_theory.specs.Ranges.{Digests, meets}
 use Rattle.merkle_proofs.specs.declared.extraction.ExtractionError.{ExtractionError}
 use Rattle.merkle_proofs.specs.declared.extraction.ExtractionError.TheVariants.{InvalidProof, RootMismatch, Memory}
-use Rattle.state_proofs_parts.specs.Grafting.{grafted}
-use Rattle.state_proofs.specs.Verified.{Shown, shown_bits, stop_of, IsShaped, FitsShown, VerifiesRange, given_by}
-use Rattle.state_proofs.specs.Verified.{graftable_shown, shown_grafted, RangeParts}
-use Rattle.state_proofs_parts.specs.Verifier.{joined_chunk}
+use Rattle.state_theory.specs.Grafting.{grafted}
+use Rattle.state_theory.specs.Verified.{Shown, shown_bits, stop_of, IsShaped, FitsShown, VerifiesRange, given_by}
+use Rattle.state_theory.specs.Verified.{graftable_shown, shown_grafted, RangeParts}
+use Rattle.state_theory.specs.Verifier.{joined_chunk}
 
 -- operations from a location on, and chunks over them, of so many bytes each
 abbrev pub shown_with : ℕ → List (List ℕ) → List (List ℕ) → ℕ → Shown

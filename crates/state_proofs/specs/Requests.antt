@@ -5,9 +5,9 @@ use Rattle.std.specs.Prelude.{slice_index_or}
 use Rattle.merkle_core_parts.specs.declared.error.Error.TheVariants.{RangeOutOfBounds}
 use Rattle.state_proofs.specs.declared.error.Error.{Error}
 use Rattle.state_proofs.specs.declared.error.Error.TheVariants.{OperationPruned, Merkle}
-use Rattle.state_proofs_parts.specs.Bits.{chunks_of}
+use Rattle.state_theory.specs.Bits.{chunks_of}
 use Rattle.state_proofs.specs.Built.{chunks_asked, IsRefusalOfPlanned}
-use Rattle.state_proofs_parts.specs.Sources.{Source}
+use Rattle.state_theory.specs.Sources.{Source}
 use Rattle.state_proofs.specs.Required.{Measures, IsPruned}
 
 -- places that ascend, from one on

@@ -2,7 +2,7 @@
 use Rattle.std.specs.Prelude.{ℕ, List, map}
 use denote.Ref.{Bor}
 use Rattle.state_proofs.specs.declared.proof.verifying.Shown.{Shown as CodeShown}
-use Rattle.state_proofs.specs.Verified.{Shown}
+use Rattle.state_theory.specs.Verified.{Shown}
 
 -- from the bytes of each chunk
 abbrev pub form_shown_of : {C : Type 0} → (C → List ℕ) → CodeShown C → Shown

@@ -4,9 +4,9 @@ use Rattle.merkle_forest.specs.Codec.{◌>>=◌, Outcome, option_encoding, after
 use Rattle.merkle_forest.specs.Made.{Made, bytes}
 use Rattle.merkle_forest.specs.Varint.{varint, after_varint}
 use Rattle.state_proofs.specs.declared.witness.OpsRootWitness.{OpsRootWitness}
-use Rattle.state_proofs_parts.specs.Canonical.{Setting, State, next_bit, grafted_root, pending_digest, partial_digest}
-use Rattle.state_proofs_parts.specs.Canonical.{canonical_string}
-use Rattle.state_proofs_parts.specs.MadeCanonical.{canonical_made}
+use Rattle.state_theory.specs.Canonical.{Setting, State, next_bit, grafted_root, pending_digest, partial_digest}
+use Rattle.state_theory.specs.Canonical.{canonical_string}
+use Rattle.state_theory.specs.MadeCanonical.{canonical_made}
 
 -- the grafted root, the digest of the pending chunk if any, and the next bit and the digest of the partial chunk if any
 pub record WitnessParts : Type 0 where

@@ -2,8 +2,8 @@
 
 ghost use Rattle.std.specs.Prelude.{◌≡◌, ◌<◌, ◌≤◌, ◌^◌, ◌++◌, ◌↔◌, IsTrue, IfOk, length, Ok, OnOk, OnErr};
 ghost use Rattle.merkle_forest.specs.Codec.{Extends, Reads};
-ghost use Rattle.state_proofs.specs.Encoded.{operation_proof_encoding};
-ghost use Rattle.state_proofs.specs.Forms.{after_form, FormLacks};
+ghost use Rattle.state_theory.specs.Encoded.{operation_proof_encoding};
+ghost use Rattle.state_theory.specs.Forms.{after_form, FormLacks};
 ghost use Rattle.state_proofs.specs.ProofsCode.{form_parts_of};
 
 pub mod building;

@@ -5,10 +5,10 @@ ghost use Rattle.std.specs.Prelude.{OnErr};
 ghost use Rattle.merkle_forest.specs.Codec.{Extends, LacksAfter, Reads};
 ghost use Rattle.state_ops.specs.Operation.{fixed_encoding, ordered, update};
 ghost use Rattle.state_ops.specs.Reading.{IsField, IsOfFields};
-ghost use Rattle.state_proofs.specs.Encoded.{key_value_proof_encoding, format_of, ShowsUpdate};
-ghost use Rattle.state_proofs.specs.Forms.{after_form, after_key_value_form, FormLacks};
+ghost use Rattle.state_theory.specs.Encoded.{key_value_proof_encoding, format_of, ShowsUpdate};
+ghost use Rattle.state_theory.specs.Forms.{after_form, after_key_value_form, FormLacks};
 ghost use Rattle.state_proofs.specs.ProofsCode.{form_parts_of};
-ghost use Rattle.state_proofs.specs.Verified.{Verifies};
+ghost use Rattle.state_theory.specs.Verified.{Verifies};
 
 use crate::operation;
 use merkle_core::MAX_PROOF_DIGESTS_PER_ELEMENT;

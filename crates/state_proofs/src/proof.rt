@@ -2,8 +2,8 @@
 
 ghost use Rattle.std.specs.Prelude.{◌≡◌, ◌<◌, ◌≤◌, ◌^◌, ◌++◌, length, Ok, OnOk, OnErr, IfOk, IfSome};
 ghost use Rattle.merkle_forest.specs.Codec.{Extends, option_encoding};
-ghost use Rattle.merkle_proofs.specs.Proofs.{ProofLacks};
-ghost use Rattle.state_proofs.specs.Encoded.{range_proof_encoding, after_range_proof};
+ghost use Rattle.merkle_theory.specs.Proofs.{ProofLacks};
+ghost use Rattle.state_theory.specs.Encoded.{range_proof_encoding, after_range_proof};
 ghost use Rattle.state_proofs.specs.ProofsCode.{range_parts_of};
 
 pub mod building;

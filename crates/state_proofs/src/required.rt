@@ -7,7 +7,7 @@ ghost use Rattle.std.specs.Iterator.{YieldsFirst, item_count};
 ghost use Rattle.merkle_forest.specs.Forest.{forest_of};
 ghost use Rattle.merkle_forest.specs.Nodes.{nodes_of_height};
 ghost use Rattle.merkle_core_parts.specs.declared.error.Error.TheVariants.{RangeOutOfBounds};
-ghost use Rattle.state_proofs_parts.specs.Bits.{IsChunkWidth};
+ghost use Rattle.state_theory.specs.Bits.{IsChunkWidth};
 ghost use Rattle.state_proofs.specs.declared.error.Error.TheVariants.{Merkle, OperationPruned};
 ghost use Rattle.state_proofs.specs.BuiltCode.{measures_with};
 ghost use Rattle.state_proofs.specs.Required.{IsGranted, IsRefusal, IsNeeded};

@@ -5,15 +5,15 @@ ghost use Rattle.std.specs.Prelude.{◌≡◌, ◌+◌, ◌≤◌, ◌↔◌, �
 ghost use Rattle.std.specs.Prelude.{IfErr, OnOk};
 ghost use Rattle.merkle_forest.specs.declared.bagging.Bagging.TheVariants.{BackwardFold};
 ghost use Rattle.merkle_proofs.specs.Extracted.{AreMadeOf, AreGiven, AreExtracted, extracted_nodes, IsRefusalToExtract};
-ghost use Rattle.merkle_proofs.specs.MadeRoots.{from_left, peaks_of};
-ghost use Rattle.merkle_proofs.specs.MadeTrees.{from};
-ghost use Rattle.merkle_proofs.specs.Multi.{AreMultiDigests, first_bad};
-ghost use Rattle.merkle_proofs.specs.Pinned.{ArePinned};
-ghost use Rattle.merkle_proofs.specs.Plans.{honest_digests};
+ghost use Rattle.merkle_theory.specs.MadeRoots.{from_left, peaks_of};
+ghost use Rattle.merkle_theory.specs.MadeTrees.{from};
+ghost use Rattle.merkle_theory.specs.Multi.{AreMultiDigests, first_bad};
+ghost use Rattle.merkle_theory.specs.Pinned.{ArePinned};
+ghost use Rattle.merkle_theory.specs.Plans.{honest_digests};
 ghost use Rattle.merkle_proofs.specs.ProofStores.{AreFoldsOf, known_with, suffix_positions, IsRefusalToBuildOf};
-ghost use Rattle.merkle_proofs.specs.RangeCounts.{range_outer};
-ghost use Rattle.merkle_proofs.specs.Ranges.{Digests};
-ghost use Rattle.state_proofs.specs.LogProofs.{log_root, many_root, placed, leaf_hash, branch_hash};
+ghost use Rattle.merkle_theory.specs.RangeCounts.{range_outer};
+ghost use Rattle.merkle_theory.specs.Ranges.{Digests};
+ghost use Rattle.state_theory.specs.LogProofs.{log_root, many_root, placed, leaf_hash, branch_hash};
 
 use merkle_core::{ExtractionError, Proof, ProofStore, StoreError};
 use merkle_forest::codec::Encode;

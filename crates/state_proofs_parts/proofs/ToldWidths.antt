@@ -4,7 +4,7 @@ use Rattle.std.proofs.Common.{Some, refl, sym, ◌∙◌, ap, eqb, eq-eqb, arith
 use Rattle.std.specs.Prelude.{IfSome, IfNone, is_some}
 use Rattle.std.proofs.lemmas.Bool.{cases_lt, ne_eqb}
 use Rattle.state_proofs_parts.specs.declared.chunk_size.ChunkSize.{ChunkSize}
-use Rattle.state_proofs_parts.specs.Told.{is_early_power, is_chunk_width}
+use Rattle.state_theory.specs.Told.{is_early_power, is_chunk_width}
 
 or_second : (first : Bool) → (first || true) ≡ true
 or_second true = refl

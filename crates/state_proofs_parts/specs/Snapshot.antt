@@ -3,7 +3,7 @@ use Rattle.std.specs.Prelude.{map}
 use Rattle.merkle_forest.specs.Forest.{Rule}
 use Rattle.merkle_forest.specs.Hashing.{Hash}
 use Rattle.state_proofs_parts.specs.declared.snapshot.Snapshot.{Snapshot}
-use Rattle.state_proofs_parts.specs.Canonical.{Setting, State}
+use Rattle.state_theory.specs.Canonical.{Setting, State}
 
 abbrev pub state_of : Snapshot → State
 state_of snapshot = record {

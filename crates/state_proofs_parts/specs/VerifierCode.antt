@@ -2,7 +2,7 @@
 use Rattle.std.specs.Prelude.{ℕ, List, map}
 use denote.Ref.{Bor}
 use Rattle.state_proofs_parts.specs.declared.grafting.verifier.Verifier.{Verifier}
-use Rattle.state_proofs_parts.specs.Verifier.{Given}
+use Rattle.state_theory.specs.Verifier.{Given}
 
 -- the chunks that it is given, from the bytes of each
 abbrev pub form_given_of : {F H C : Type 0} → (C → List ℕ) → Verifier F H C → Given

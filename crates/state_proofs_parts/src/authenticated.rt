@@ -21,15 +21,15 @@ ghost use Rattle.std.specs.Prelude.{OnErr, IfOk, IfErr};
 ghost use Rattle.merkle_forest.specs.Forest.{mmr_rule};
 ghost use Rattle.merkle_forest.specs.Made.{value};
 ghost use Rattle.merkle_core_parts.specs.Mem.{NodeHash, node_at, node_count, pinned_positions, pruned_before};
-ghost use Rattle.merkle_proofs.specs.MadeTrees.{Over};
-ghost use Rattle.merkle_proofs.specs.Reads.{HashesAs};
-ghost use Rattle.state_proofs_parts.specs.Bits.{IsChunkWidth, bits_in, chunk_at, bit_count, last_chunk};
-ghost use Rattle.state_proofs_parts.specs.Maps.{LeafHash, IsMapOf, merkleized, changed, map_root, bitmap_root};
-ghost use Rattle.state_proofs_parts.specs.Maps.{bits_before};
-ghost use Rattle.state_proofs_parts.specs.MapsCode.{remembered};
-ghost use Rattle.state_proofs_parts.specs.Inclusion.{bit_root, honest_bit_digests};
+ghost use Rattle.merkle_theory.specs.MadeTrees.{Over};
+ghost use Rattle.merkle_theory.specs.Reads.{HashesAs};
+ghost use Rattle.state_theory.specs.Bits.{IsChunkWidth, bits_in, chunk_at, bit_count, last_chunk};
+ghost use Rattle.state_theory.specs.Maps.{LeafHash, IsMapOf, merkleized, changed, map_root, bitmap_root};
+ghost use Rattle.state_theory.specs.Maps.{bits_before};
+ghost use Rattle.state_theory.specs.MapsCode.{remembered};
+ghost use Rattle.state_theory.specs.Inclusion.{bit_root, honest_bit_digests};
 ghost use Rattle.state_proofs_parts.specs.Errors.{CanBePruned, IsRefusalOfBit, IsRefusalOfPruned};
-ghost use Rattle.state_proofs_parts.specs.Parts.{ArePinned, chunk_peaks, pruned_bits, pruned_tree};
+ghost use Rattle.state_theory.specs.Parts.{ArePinned, chunk_peaks, pruned_bits, pruned_tree};
 
 use crate::bitmap::BitmapReadable;
 use crate::bitmap_error::{Error, out_of_memory};
@@ -48,7 +48,7 @@ use std::marker::Model;
 /// Whether a map knows its root. In the Rust: `bitmap::authenticated::State`, which is sealed.
 pub trait State<D: Digest>: Drop {
     /// What contracts see of it.
-    ghost stage_of: { Self → Rattle.state_proofs_parts.specs.Maps.Stage };
+    ghost stage_of: { Self → Rattle.state_theory.specs.Maps.Stage };
 }
 
 /// The state of a map that knows its root. In the Rust: `bitmap::authenticated::Merkleized`.
@@ -85,7 +85,7 @@ pub struct BitMap<D: Digest, const N: usize, M: State<D>> {
 }
 
 impl<D: Digest, const N: usize, M: State<D>> Model for BitMap<D, N, M> {
-    ghost use Rattle.state_proofs_parts.specs.Maps.{Map, IsMap};
+    ghost use Rattle.state_theory.specs.Maps.{Map, IsMap};
 
     ghost Value = { Map };
 
@@ -217,8 +217,8 @@ impl<D: Digest, const N: usize, M: State<D>> BitMap<D, N, M> {
 
 /// The bits of a map (own). Those that are pruned are said to be clear: which they were is not kept.
 impl<D: Digest, const N: usize, M: State<D>> BitmapReadable<N> for BitMap<D, N, M> {
-    ghost use Rattle.state_proofs_parts.specs.Bits.{all_bits};
-    ghost use Rattle.state_proofs_parts.specs.Laws.Bits.{pruned_in_all};
+    ghost use Rattle.state_theory.specs.Bits.{all_bits};
+    ghost use Rattle.state_theory.specs.Laws.Bits.{pruned_in_all};
 
     ghost bits = { λ map. all_bits N map.bits };
 

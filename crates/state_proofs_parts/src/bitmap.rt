@@ -1,7 +1,7 @@
 //! Bits of a state that may be read by chunks.
 
 ghost use Rattle.std.specs.Prelude.{◌≡◌, ◌<◌, ◌≤◌, ◌+◌, ◌*◌, ◌^◌, List, Bool, ℕ, length, drop};
-ghost use Rattle.state_proofs_parts.specs.Bits.{chunk_of};
+ghost use Rattle.state_theory.specs.Bits.{chunk_of};
 
 use crate::bits::chunk_array;
 use crate::prunable::Prunable;
@@ -42,7 +42,7 @@ pub struct BitList<'a> {
 }
 
 impl<'a, const N: usize> BitmapReadable<N> for BitList<'a> {
-    ghost use Rattle.state_proofs_parts.specs.Laws.Bits.{none_pruned};
+    ghost use Rattle.state_theory.specs.Laws.Bits.{none_pruned};
 
     ghost bits = { λ list. list.bits.now };
 
@@ -66,8 +66,8 @@ impl<'a, const N: usize> BitmapReadable<N> for BitList<'a> {
 
 /// Bits of which those that are pruned are said to be clear: which they were is not kept.
 impl<const N: usize> BitmapReadable<N> for Prunable<N> {
-    ghost use Rattle.state_proofs_parts.specs.Bits.{all_bits};
-    ghost use Rattle.state_proofs_parts.specs.Laws.Bits.{pruned_in_all};
+    ghost use Rattle.state_theory.specs.Bits.{all_bits};
+    ghost use Rattle.state_theory.specs.Laws.Bits.{pruned_in_all};
 
     ghost bits = { λ bits. all_bits N bits };
 

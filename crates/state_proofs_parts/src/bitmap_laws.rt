@@ -8,13 +8,13 @@ ghost use Rattle.merkle_forest.specs.declared.bagging.Bagging.{Bagging};
 ghost use Rattle.merkle_forest.specs.Hashing.{Hash};
 ghost use Rattle.merkle_forest.specs.Made.{value, strings};
 ghost use Rattle.merkle_core_parts.specs.Mem.{plain_node};
-ghost use Rattle.merkle_proofs.specs.MadeTrees.{plain_over};
-ghost use Rattle.merkle_proofs.specs.OneEach.{OneEach};
-ghost use Rattle.state_proofs_parts.specs.Bits.{Bits, IsChunkWidth, AreBitsOf, bits_in, bit_count, chunk_at};
-ghost use Rattle.state_proofs_parts.specs.Bits.{last_chunk, last_chunk_of, pruned_to};
-ghost use Rattle.state_proofs_parts.specs.Inclusion.{made_bitmap, BitClaim, bit_root, IsSound, plain_leaf, plain_root};
-ghost use Rattle.state_proofs_parts.specs.Inclusion.{honest_claim, IsTrueOf};
-ghost use Rattle.state_proofs_parts.specs.Maps.{bitmap_string};
+ghost use Rattle.merkle_theory.specs.MadeTrees.{plain_over};
+ghost use Rattle.merkle_theory.specs.OneEach.{OneEach};
+ghost use Rattle.state_theory.specs.Bits.{Bits, IsChunkWidth, AreBitsOf, bits_in, bit_count, chunk_at};
+ghost use Rattle.state_theory.specs.Bits.{last_chunk, last_chunk_of, pruned_to};
+ghost use Rattle.state_theory.specs.Inclusion.{made_bitmap, BitClaim, bit_root, IsSound, plain_leaf, plain_root};
+ghost use Rattle.state_theory.specs.Inclusion.{honest_claim, IsTrueOf};
+ghost use Rattle.state_theory.specs.Maps.{bitmap_string};
 
 use merkle_core::laws::{
     built_proofs_lead_to_the_root, each_site_has_one_string as tree_sites_have_one_string,

@@ -6,8 +6,8 @@
 
 ghost use Rattle.std.specs.Prelude.{◌≡◌, ◌<◌, ◌≤◌, ◌+◌, ◌*◌, ◌^◌, ◌++◌, [], ◌∷◌, ℕ, List, map, take, drop, length};
 ghost use Rattle.std.specs.Prelude.{IfOk, OnOk};
-ghost use Rattle.state_proofs_parts.specs.Bits.{byte_of, chunk_of, chunks_of};
-ghost use Rattle.state_proofs_parts.specs.SetBits.{is_zero};
+ghost use Rattle.state_theory.specs.Bits.{byte_of, chunk_of, chunks_of};
+ghost use Rattle.state_theory.specs.SetBits.{is_zero};
 
 use crate::chunk_size::ChunkSize;
 use std::alloc::{AllocError, Global};

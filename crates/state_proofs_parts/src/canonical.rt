@@ -4,9 +4,9 @@ ghost use Rattle.std.specs.Prelude.{◌≡◌, ◌<◌, ◌≤◌, ◌+◌, ◌*
 ghost use Rattle.std.specs.Prelude.{IfSome, IsSome, option_map, slice_index_or};
 ghost use Rattle.merkle_forest.specs.Forest.{leaves, forest_of};
 ghost use Rattle.merkle_forest.specs.Shape.{shape};
-ghost use Rattle.state_proofs_parts.specs.Canonical.{chunks as all_chunks, operations_root, grafted_root};
-ghost use Rattle.state_proofs_parts.specs.Canonical.{pending_digest};
-ghost use Rattle.state_proofs_parts.specs.Canonical.{partial_digest, canonical_root as root_of_state};
+ghost use Rattle.state_theory.specs.Canonical.{chunks as all_chunks, operations_root, grafted_root};
+ghost use Rattle.state_theory.specs.Canonical.{pending_digest};
+ghost use Rattle.state_theory.specs.Canonical.{partial_digest, canonical_root as root_of_state};
 ghost use Rattle.state_proofs_parts.specs.Snapshot.{state_of, setting_of};
 
 use crate::bits::chunks_from;

@@ -2,7 +2,7 @@
 
 ghost use Rattle.std.specs.Prelude.{◌≡◌, ◌<◌, ◌≤◌, ⊤, ℕ, List, length, true, IfOk};
 ghost use Rattle.merkle_forest.specs.Codec.{Reads, after_fixed};
-ghost use Rattle.state_proofs_parts.specs.Told.{Told, is_chunk_width};
+ghost use Rattle.state_theory.specs.Told.{Told, is_chunk_width};
 
 use crate::chunk_size::ChunkSize;
 use bytes::Bytes;

@@ -1,7 +1,7 @@
 //! How many bits a chunk has.
 
 ghost use Rattle.std.specs.Prelude.{◌≡◌, ◌<◌, ◌≤◌, ◌*◌, ◌/◌, ◌%◌, ◌^◌, ℕ, length, IfSome, IfNone};
-ghost use Rattle.state_proofs_parts.specs.Bits.{IsChunkWidth};
+ghost use Rattle.state_theory.specs.Bits.{IsChunkWidth};
 
 /// How many bytes a chunk has, and the height of a tree over as many operations as it has bits (own). So the bits are a
 /// power of two, 2^62 at most: over each chunk of such a tree one node stands.

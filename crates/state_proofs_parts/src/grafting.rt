@@ -32,8 +32,8 @@ ghost use Rattle.merkle_forest.specs.Nodes.{nodes_at, nodes_of_height};
 ghost use Rattle.merkle_forest.specs.Shape.{shape};
 ghost use Rattle.merkle_forest.specs.Trees.{Within};
 ghost use Rattle.merkle_forest.specs.TreesCode.{shapes};
-ghost use Rattle.state_proofs_parts.specs.Grafting.{grafted, grafted_digest};
-ghost use Rattle.state_proofs_parts.specs.Grafting.{chunk_aligned_inactive_peaks as aligned_peaks};
+ghost use Rattle.state_theory.specs.Grafting.{grafted, grafted_digest};
+ghost use Rattle.state_theory.specs.Grafting.{chunk_aligned_inactive_peaks as aligned_peaks};
 
 pub mod counts;
 pub mod hasher;

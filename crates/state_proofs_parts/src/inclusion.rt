@@ -7,13 +7,13 @@ ghost use Rattle.std.specs.Prelude.{IfOk, IfErr, length, map, option_map, if◌t
 ghost use Rattle.merkle_forest.specs.Forest.{mmr_rule};
 ghost use Rattle.merkle_forest.specs.Made.{value};
 ghost use Rattle.merkle_core_parts.specs.Mem.{AreNodesOf, tree_digest, list_root};
-ghost use Rattle.merkle_proofs.specs.MadeTrees.{Over};
-ghost use Rattle.merkle_proofs.specs.Plans.{honest_digests};
-ghost use Rattle.merkle_proofs.specs.Reads.{HashesAs, range_root};
-ghost use Rattle.merkle_proofs.specs.Soundness.{plain_names};
-ghost use Rattle.state_proofs_parts.specs.Bits.{IsChunkWidth, bit_count, last_chunk};
-ghost use Rattle.state_proofs_parts.specs.Inclusion.{bit_root, partial_read};
-ghost use Rattle.state_proofs_parts.specs.InclusionCode.{proof_digests};
+ghost use Rattle.merkle_theory.specs.MadeTrees.{Over};
+ghost use Rattle.merkle_theory.specs.Plans.{honest_digests};
+ghost use Rattle.merkle_theory.specs.Reads.{HashesAs, range_root};
+ghost use Rattle.merkle_theory.specs.Soundness.{plain_names};
+ghost use Rattle.state_theory.specs.Bits.{IsChunkWidth, bit_count, last_chunk};
+ghost use Rattle.state_theory.specs.Inclusion.{bit_root, partial_read};
+ghost use Rattle.state_theory.specs.InclusionCode.{proof_digests};
 
 use crate::bitmap_error::{Error, out_of_memory};
 use crate::prunable::Prunable;

@@ -17,8 +17,8 @@
 ghost use Rattle.std.specs.Prelude.{◌≡◌, ◌<◌, ◌≤◌, ◌+◌, ◌-◌, ◌*◌, ◌^◌, ◌++◌, [], ◌∷◌, false, length};
 ghost use Rattle.std.specs.Prelude.{slice_set, slice_index_or, take, if◌then◌else◌, IfOk, IfErr, OnOk, OnErr};
 ghost use Rattle.std.specs.List.{AllByRecursion};
-ghost use Rattle.state_proofs_parts.specs.Bits.{all_bits, bit_count, chunk_at, cleared};
-ghost use Rattle.state_proofs_parts.specs.Overlay.{remembered, set_again, unchanged};
+ghost use Rattle.state_theory.specs.Bits.{all_bits, bit_count, chunk_at, cleared};
+ghost use Rattle.state_theory.specs.Overlay.{remembered, set_again, unchanged};
 
 use crate::bitmap::BitmapReadable;
 use crate::prunable::Prunable;
@@ -68,7 +68,7 @@ pub struct BitOverlay<const N: usize> {
 }
 
 impl<const N: usize> Model for BitOverlay<N> {
-    ghost use Rattle.state_proofs_parts.specs.Overlay.{Overlay, IsLaid, base_of};
+    ghost use Rattle.state_theory.specs.Overlay.{Overlay, IsLaid, base_of};
 
     ghost Value = { Overlay };
 
@@ -205,8 +205,8 @@ impl<const N: usize> BitOverlay<N> {
 
 /// The bits after the changes, of which those that are pruned are said to be clear.
 impl<const N: usize> BitmapReadable<N> for BitOverlay<N> {
-    ghost use Rattle.state_proofs_parts.specs.Bits.{all_bits};
-    ghost use Rattle.state_proofs_parts.specs.Laws.Bits.{pruned_in_all};
+    ghost use Rattle.state_theory.specs.Bits.{all_bits};
+    ghost use Rattle.state_theory.specs.Laws.Bits.{pruned_in_all};
 
     ghost bits = { λ overlay. all_bits N overlay.after };
 

@@ -4,9 +4,9 @@
 ghost use Rattle.std.specs.Prelude.{◌≡◌, ◌<◌, ◌≤◌, ◌*◌, ◌^◌, ◌↔◌, ℕ, map, length, IsTrue, IfOk, IfErr, OnOk};
 ghost use Rattle.merkle_forest.specs.Forest.{mmr_rule};
 ghost use Rattle.merkle_core_parts.specs.Mem.{pinned_positions};
-ghost use Rattle.state_proofs_parts.specs.Bits.{IsChunkWidth};
+ghost use Rattle.state_theory.specs.Bits.{IsChunkWidth};
 ghost use Rattle.state_proofs_parts.specs.Errors.{CanBePruned, IsRefusalOfPinned};
-ghost use Rattle.state_proofs_parts.specs.Parts.{ArePinned, pruned_tree};
+ghost use Rattle.state_theory.specs.Parts.{ArePinned, pruned_tree};
 
 use crate::bitmap_error::Error;
 use crate::prunable::Prunable;

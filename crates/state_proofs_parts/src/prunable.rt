@@ -13,8 +13,8 @@ ghost use Rattle.std.specs.Prelude.{◌≡◌, ◌<◌, ◌≤◌, ◌+◌, ◌-
 ghost use Rattle.std.specs.Prelude.{◌%◌, ◌^◌, ◌++◌, [], ◌∷◌, ◌↔◌, false, ℕ, List};
 ghost use Rattle.std.specs.Prelude.{length, replicate, slice_set, slice_index_or, take, drop, IsTrue};
 ghost use Rattle.std.specs.Prelude.{IfOk, OnOk, OnErr};
-ghost use Rattle.state_proofs_parts.specs.Bits.{Bits, IsChunkWidth, bits_of, bits_in, chunk_at, bit_count, last_chunk};
-ghost use Rattle.state_proofs_parts.specs.Bits.{pruned_to};
+ghost use Rattle.state_theory.specs.Bits.{Bits, IsChunkWidth, bits_of, bits_in, chunk_at, bit_count, last_chunk};
+ghost use Rattle.state_theory.specs.Bits.{pruned_to};
 
 use std::alloc::{AllocError, Global};
 use std::marker::Model;
@@ -102,7 +102,7 @@ pub struct Prunable<const N: usize> {
 
 impl<const N: usize> Model for Prunable<N> {
     ghost use Rattle.std.specs.Prelude.{take};
-    ghost use Rattle.state_proofs_parts.specs.Bits.{Bits, bits_in, IsHeld};
+    ghost use Rattle.state_theory.specs.Bits.{Bits, bits_in, IsHeld};
 
     ghost Value = { Bits };
 

@@ -1,7 +1,7 @@
 //! The canonical string.
 
 ghost use Rattle.std.specs.Prelude.{◌≡◌, ◌++◌, option_map};
-ghost use Rattle.state_proofs_parts.specs.Canonical.{canonical_string};
+ghost use Rattle.state_theory.specs.Canonical.{canonical_string};
 
 use merkle_forest::digest::Digest;
 use merkle_forest::hasher::HashFunction;

@@ -1,8 +1,8 @@
 //! What is asked of a chunk that is shown beside a proof.
 
 ghost use Rattle.std.specs.Prelude.{◌≡◌, ◌↔◌, ◌/◌, IsTrue, option_map, slice_get};
-ghost use Rattle.state_proofs_parts.specs.SetBits.{is_set};
-ghost use Rattle.state_proofs_parts.specs.ShownChunks.{FitsChunk};
+ghost use Rattle.state_theory.specs.SetBits.{is_set};
+ghost use Rattle.state_theory.specs.ShownChunks.{FitsChunk};
 
 use merkle_forest::hasher::HashFunction;
 

@@ -5,10 +5,10 @@ ghost use Rattle.std.specs.List.{AllByRecursion};
 ghost use Rattle.merkle_forest.specs.Forest.{mmr_rule};
 ghost use Rattle.merkle_forest.specs.Hashing.{root_of};
 ghost use Rattle.merkle_core_parts.specs.Mem.{peak_digests, AreNodesOf, list_root};
-ghost use Rattle.state_proofs_parts.specs.Bits.{IsChunkWidth, AreBitsOf, bit_count, last_chunk};
-ghost use Rattle.state_proofs_parts.specs.Maps.{Stage, changed, HasLeaves, AreLeavesOf, full_count, bitmap_string};
-ghost use Rattle.state_proofs_parts.specs.Maps.{sealed_root, map_root};
-ghost use Rattle.state_proofs_parts.specs.MapsCode.{leaves_from, leaves_at};
+ghost use Rattle.state_theory.specs.Bits.{IsChunkWidth, AreBitsOf, bit_count, last_chunk};
+ghost use Rattle.state_theory.specs.Maps.{Stage, changed, HasLeaves, AreLeavesOf, full_count, bitmap_string};
+ghost use Rattle.state_theory.specs.Maps.{sealed_root, map_root};
+ghost use Rattle.state_theory.specs.MapsCode.{leaves_from, leaves_at};
 
 use crate::bitmap_error::{Error, out_of_memory};
 use crate::prunable::Prunable;

@@ -9,11 +9,11 @@ use Rattle.merkle_forest.specs.declared.codec.error.Error.{Error}
 use Rattle.merkle_forest.specs.Varint.{varint_at}
 use Rattle.merkle_forest.specs.Laws.Varint.{varint_again}
 use Rattle.state_ops.specs.Operation.{Operation, update, ordered, commit_floor, fixed_encoding}
-use Rattle.state_proofs_parts.specs.Canonical.{Setting, State}
-use Rattle.state_proofs.specs.Encoded.{ShowsOperation, operation_proof_encoding, range_proof_encoding}
+use Rattle.state_theory.specs.Canonical.{Setting, State}
+use Rattle.state_theory.specs.Encoded.{ShowsOperation, operation_proof_encoding, range_proof_encoding}
 use Rattle.state_proofs.specs.Exclusion.{by_update, by_commit, exclusion_encoding}
-use Rattle.state_proofs.specs.Honest.{honest_parts, operation_proof}
-use Rattle.state_proofs.specs.Verified.{Parts, Verifies}
+use Rattle.state_theory.specs.Honest.{honest_parts, operation_proof}
+use Rattle.state_theory.specs.Verified.{Parts, Verifies}
 use Rattle.auth_store_client.specs.Claims.{Terms, ShowsAbsence}
 use Rattle.auth_store_client.specs.Laws.Encodings.{encoding_at}
 use Rattle.auth_store_client.specs.States.{state_of_history, state_of_log}

@@ -6,7 +6,7 @@ use Rattle.std.specs.List.{AllByRecursion}
 use Rattle.merkle_forest.specs.Laws.Matching.{append_parts}
 use Rattle.state_ops.specs.Operation.{Operation, delete, update, ordered, commit_floor, fixed_size, unpadded}
 use Rattle.state_ops.specs.Operation.{fixed_encoding}
-use Rattle.state_proofs.specs.MadeRanges.{HasActive}
+use Rattle.state_theory.specs.MadeRanges.{HasActive}
 use Rattle.auth_store_parts.specs.Map.{Map, value_at, next_key}
 use Rattle.auth_store_parts.specs.History.{History, AreStates, latest_map, is_kept, deletes, updates, batch_operations}
 use Rattle.auth_store_parts.specs.History.{inactivity_floor, log_of}

@@ -10,7 +10,7 @@ ghost use Rattle.auth_store_ledger.specs.History.{activity_bits, history_of};
 ghost use Rattle.auth_store_ledger.specs.Proving.{between};
 ghost use Rattle.auth_store_ledger.specs.Store.{IsLedgerOf, setting_of_width, state_of_history};
 ghost use Rattle.auth_store_log.specs.Records.{format_of};
-ghost use Rattle.state_proofs.specs.Honest.{honest_range};
+ghost use Rattle.state_theory.specs.Honest.{honest_range};
 ghost use Rattle.state_proofs.specs.ProofsCode.{range_parts_of};
 
 use super::Ledger;

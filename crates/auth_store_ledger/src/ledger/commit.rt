@@ -10,8 +10,8 @@ ghost use Rattle.auth_store_ledger.specs.Store.{setting_of_width};
 ghost use Rattle.auth_store_parts.specs.Staged.{told, taken_back, CanTakeBack};
 ghost use Rattle.state_current.specs.Growth.{grown};
 ghost use Rattle.state_current.specs.Kept.{StandsFor};
-ghost use Rattle.state_proofs_parts.specs.Bits.{all_bits};
-ghost use Rattle.state_proofs_parts.specs.Canonical.{State};
+ghost use Rattle.state_theory.specs.Bits.{all_bits};
+ghost use Rattle.state_theory.specs.Canonical.{State};
 ghost use Rattle.state_ops.specs.Operation.{meaning_of};
 
 use super::kept::grow_by;

@@ -10,7 +10,7 @@ ghost use Rattle.auth_store_parts.specs.Places.{places_of};
 ghost use Rattle.auth_store_log.specs.Records.{format_of};
 ghost use Rattle.state_current.specs.Growth.{grown};
 ghost use Rattle.state_current.specs.Kept.{StandsFor};
-ghost use Rattle.state_proofs_parts.specs.Canonical.{State};
+ghost use Rattle.state_theory.specs.Canonical.{State};
 
 use crate::history::{Places, activity_bits};
 use auth_store_log::encoding::record_bytes;

@@ -11,7 +11,7 @@ ghost use Rattle.auth_store_ledger.specs.Store.{root_of_history};
 ghost use Rattle.auth_store_log.specs.Records.{format_of};
 ghost use Rattle.state_ops.specs.Operation as meaning;
 ghost use Rattle.state_ops.specs.Reading.{IsField};
-ghost use Rattle.state_proofs.specs.Honest.{honest_parts, key_value_proof};
+ghost use Rattle.state_theory.specs.Honest.{honest_parts, key_value_proof};
 ghost use Rattle.state_proofs.specs.ProofsCode.{parts_of};
 
 use super::Ledger;

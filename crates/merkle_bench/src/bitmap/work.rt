@@ -1,7 +1,7 @@
 //! What is measured, once. Each answers a number that depends on all that was computed.
 
 ghost use Rattle.std.specs.Prelude.{◌≤◌};
-ghost use Rattle.state_proofs_parts.specs.Bits.{IsChunkWidth};
+ghost use Rattle.state_theory.specs.Bits.{IsChunkWidth};
 
 use merkle_forest::bagging::Bagging;
 use merkle_forest::codec::FixedBytes;

@@ -22,8 +22,8 @@ ghost use Rattle.merkle_forest.specs.Forest.{Tree, leaf_count};
 ghost use Rattle.merkle_forest.specs.Shape.{shape};
 ghost use Rattle.merkle_forest.specs.Trees.{Within};
 ghost use Rattle.merkle_forest.specs.TreesCode.{shapes};
-ghost use Rattle.merkle_proofs.specs.Ranges.{siblings, is_before, is_after, meets, singly, inner_digests, as_one};
-ghost use Rattle.merkle_proofs.specs.Ranges.{before_digests, after_digests, range_digests};
+ghost use Rattle.merkle_theory.specs.Ranges.{siblings, is_before, is_after, meets, singly, inner_digests, as_one};
+ghost use Rattle.merkle_theory.specs.Ranges.{before_digests, after_digests, range_digests};
 ghost use Rattle.merkle_proofs.specs.RangesCode.{stands};
 ghost use Rattle.merkle_forest.specs.Hashing.{folded_forward, folded_backward};
 

@@ -4,10 +4,10 @@ ghost use Rattle.std.specs.Prelude.{◌≡◌, ◌<◌, ℕ, List, map, filter, 
 ghost use Rattle.std.specs.List.Sorted.{IsNonDecreasingBy, IsPermutation};
 ghost use Rattle.merkle_forest.specs.Forest.{Tree};
 ghost use Rattle.merkle_forest.specs.Made.{value};
-ghost use Rattle.merkle_proofs.specs.MadeTrees.{Over};
-ghost use Rattle.merkle_proofs.specs.MultiReads.{Shown, shown_at, locations_of, shown_in, ranked, read_shown};
-ghost use Rattle.merkle_proofs.specs.Reads.{HashesAs};
-ghost use Rattle.merkle_proofs.specs.Subtrees.{IsTreeAt, HasTree};
+ghost use Rattle.merkle_theory.specs.MadeTrees.{Over};
+ghost use Rattle.merkle_theory.specs.MultiReads.{Shown, shown_at, locations_of, shown_in, ranked, read_shown};
+ghost use Rattle.merkle_theory.specs.Reads.{HashesAs};
+ghost use Rattle.merkle_theory.specs.Subtrees.{IsTreeAt, HasTree};
 
 use crate::subtree::Subtree;
 use crate::verifying::tree::children_of;

@@ -1,8 +1,8 @@
 //! The digests of the nodes that a proof is made of: looked up one after the other, and folded into those of the proof.
 
 ghost use Rattle.std.specs.Prelude.{◌≡◌, ◌<◌, ◌≤◌, ◌^◌, ◌++◌, ℕ, Some, map, take, drop, length, IfOk, IfErr, OnOk};
-ghost use Rattle.merkle_proofs.specs.Plans.{Lookup, AnswersAs, IsRefusalToLookUp};
-ghost use Rattle.merkle_proofs.specs.Assembled.{assembled};
+ghost use Rattle.merkle_theory.specs.Plans.{Lookup, AnswersAs, IsRefusalToLookUp};
+ghost use Rattle.merkle_theory.specs.Assembled.{assembled};
 
 use crate::building::plain::{append_folded_backward, append_folded_forward};
 use merkle_core_parts::Error;

@@ -4,9 +4,9 @@ ghost use Rattle.std.specs.Prelude.{◌≡◌, ◌<◌, ◌≤◌, ◌+◌, ◌^
 ghost use Rattle.merkle_forest.specs.Forest.{Tree, leaf_count, forest_of};
 ghost use Rattle.merkle_forest.specs.Nodes.{HasPeak};
 ghost use Rattle.merkle_forest.specs.Peaks.{located_from};
-ghost use Rattle.merkle_proofs.specs.Plans.{sibling_nodes, inner_nodes, positions_of};
+ghost use Rattle.merkle_theory.specs.Plans.{sibling_nodes, inner_nodes, positions_of};
 ghost use Rattle.merkle_proofs.specs.RangesCode.{stands};
-ghost use Rattle.merkle_proofs.specs.Subtrees.{IsTreeAt, HasTree};
+ghost use Rattle.merkle_theory.specs.Subtrees.{IsTreeAt, HasTree};
 
 use crate::building::plain::Side;
 use crate::subtree::{Subtree, peak_at};

@@ -1,13 +1,13 @@
 //! Proofs of parts of a range, out of what is kept of its proof.
 
 ghost use Rattle.std.specs.Prelude.{◌≡◌, ◌≤◌, ◌+◌, ◌-◌, ◌^◌, ◌++◌, map, take, drop, length, None, IfOk, IfErr, OnOk};
-ghost use Rattle.merkle_proofs.specs.Assembled.{assembled};
-ghost use Rattle.merkle_proofs.specs.MadeRoots.{from_left, peaks_of};
-ghost use Rattle.merkle_proofs.specs.Plans.{positions_of, honest_digests, first_missing};
+ghost use Rattle.merkle_theory.specs.Assembled.{assembled};
+ghost use Rattle.merkle_theory.specs.MadeRoots.{from_left, peaks_of};
+ghost use Rattle.merkle_theory.specs.Plans.{positions_of, honest_digests, first_missing};
 ghost use Rattle.merkle_proofs.specs.ProofStores.{AreFoldsOf, IsKnownOf, IsPart, IsRefusalToBuildPart, digest_among};
 ghost use Rattle.merkle_proofs.specs.ProofStores.{more_before, more_after, part_nodes, front_peaks};
-ghost use Rattle.merkle_proofs.specs.RangeCounts.{passing};
-ghost use Rattle.merkle_proofs.specs.Ranges.{Digests, is_before, is_after};
+ghost use Rattle.merkle_theory.specs.RangeCounts.{passing};
+ghost use Rattle.merkle_theory.specs.Ranges.{Digests, is_before, is_after};
 
 use super::{ProofStore, digest_at};
 use crate::building::plain::Side;

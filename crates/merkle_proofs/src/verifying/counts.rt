@@ -4,9 +4,9 @@ ghost use Rattle.std.specs.Prelude.{◌≡◌, ◌<◌, ◌≤◌, ◌+◌, ◌-
 ghost use Rattle.merkle_forest.specs.Forest.{forest_of};
 ghost use Rattle.merkle_forest.specs.Nodes.{HasPeak};
 ghost use Rattle.merkle_forest.specs.Peaks.{located_from};
-ghost use Rattle.merkle_proofs.specs.RangeCounts.{passing, digests_for_before, digests_for_after, range_outer};
-ghost use Rattle.merkle_proofs.specs.MadeRoots.{peaks_of};
-ghost use Rattle.merkle_proofs.specs.Ranges.{is_before, is_after};
+ghost use Rattle.merkle_theory.specs.RangeCounts.{passing, digests_for_before, digests_for_after, range_outer};
+ghost use Rattle.merkle_theory.specs.MadeRoots.{peaks_of};
+ghost use Rattle.merkle_theory.specs.Ranges.{is_before, is_after};
 
 use crate::subtree::peak_at;
 use merkle_forest::bagging::Bagging;

@@ -6,10 +6,10 @@ ghost use Rattle.merkle_forest.specs.Made.{Made, value};
 ghost use Rattle.merkle_forest.specs.Nodes.{HasPeak};
 ghost use Rattle.merkle_forest.specs.Peaks.{located_from};
 ghost use Rattle.merkle_forest.specs.Trees.{Located};
-ghost use Rattle.merkle_proofs.specs.MadeRoots.{Naming, read_peak, read_back, read_onto, read_group, read_bag, peaks_of};
-ghost use Rattle.merkle_proofs.specs.MadeTrees.{Over, from};
-ghost use Rattle.merkle_proofs.specs.Reads.{HashesAs, valued};
-ghost use Rattle.merkle_proofs.specs.Subtrees.{IsTreeAt, HasTree};
+ghost use Rattle.merkle_theory.specs.MadeRoots.{Naming, read_peak, read_back, read_onto, read_group, read_bag, peaks_of};
+ghost use Rattle.merkle_theory.specs.MadeTrees.{Over, from};
+ghost use Rattle.merkle_theory.specs.Reads.{HashesAs, valued};
+ghost use Rattle.merkle_theory.specs.Subtrees.{IsTreeAt, HasTree};
 
 use crate::subtree::{Subtree, peak_at};
 use crate::verifying::tree::{meets_range, subtree_digest};

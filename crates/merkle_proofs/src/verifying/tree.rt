@@ -2,10 +2,10 @@
 
 ghost use Rattle.std.specs.Prelude.{◌≡◌, ◌<◌, ◌≤◌, ◌+◌, ◌^◌, ◌||◌, ℕ, List, map, length, not, nat_le, option_map};
 ghost use Rattle.merkle_forest.specs.Forest.{Tree, branch};
-ghost use Rattle.merkle_proofs.specs.MadeTrees.{Over, from, read_tree};
-ghost use Rattle.merkle_proofs.specs.Ranges.{meets};
-ghost use Rattle.merkle_proofs.specs.Reads.{HashesAs, AreChildTrees, valued};
-ghost use Rattle.merkle_proofs.specs.Subtrees.{IsTreeAt, HasTree};
+ghost use Rattle.merkle_theory.specs.MadeTrees.{Over, from, read_tree};
+ghost use Rattle.merkle_theory.specs.Ranges.{meets};
+ghost use Rattle.merkle_theory.specs.Reads.{HashesAs, AreChildTrees, valued};
+ghost use Rattle.merkle_theory.specs.Subtrees.{IsTreeAt, HasTree};
 
 use crate::subtree::Subtree;
 use merkle_forest::family::Family;

@@ -6,12 +6,12 @@ use Rattle.state_ops_parts.specs.Grammar.{after_ordered}
 use Rattle.state_ops_parts.specs.Laws.Updates.{three_again}
 use Rattle.state_proofs.specs.declared.exclusion.ExclusionProof.{ExclusionProof}
 use Rattle.state_proofs.specs.declared.exclusion.ExclusionProof.TheVariants.{KeyValue, Commit}
-use Rattle.state_proofs.specs.Encoded.{operation_proof_encoding}
+use Rattle.state_theory.specs.Encoded.{operation_proof_encoding}
 use Rattle.state_proofs.specs.Exclusion.{exclusion_encoding, after_exclusion}
 use Rattle.state_proofs.specs.ExclusionCode.{form_exclusion_of, IsExclusionValue, IsExclusionWithin}
-use Rattle.state_proofs.specs.Forms.{after_form}
-use Rattle.state_proofs_parts.specs.Told.{Told}
-use Rattle.state_proofs.specs.Laws.Encoded.{Grammar}
+use Rattle.state_theory.specs.Forms.{after_form}
+use Rattle.state_theory.specs.Told.{Told}
+use Rattle.state_theory.specs.Laws.Encoded.{Grammar}
 use Rattle.state_proofs.specs.Laws.Reading.{IsFormWithin, IsRangeValue, read_form_again}
 use Rattle.state_proofs.specs.ProofsCode.{form_parts_of}
 

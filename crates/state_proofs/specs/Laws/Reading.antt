@@ -5,14 +5,14 @@ use Rattle.std.specs.Prelude.{IfSome, IsTrue, option_map}
 use Rattle.std.proofs.lemmas.List.{length-map}
 use Rattle.merkle_forest.specs.Codec.{◌>>=◌, Outcome}
 use Rattle.merkle_forest.specs.Lists.{AreItems}
-use Rattle.merkle_proofs.specs.Laws.Proofs.{all_sized}
+use Rattle.merkle_theory.specs.Laws.Proofs.{all_sized}
 use Rattle.state_proofs.specs.declared.operation.Proof.{Proof}
 use Rattle.state_proofs.specs.declared.proof.RangeProof.{RangeProof}
-use Rattle.state_proofs.specs.Encoded.{range_proof_encoding, operation_proof_encoding, key_value_proof_encoding}
-use Rattle.state_proofs.specs.Encoded.{after_range_proof, after_operation_proof, FitsRange, Fits}
-use Rattle.state_proofs.specs.Forms.{after_told, after_form}
-use Rattle.state_proofs_parts.specs.Told.{Told}
-use Rattle.state_proofs.specs.Laws.Encoded.{Grammar, range_again, operation_again, operation_within}
+use Rattle.state_theory.specs.Encoded.{range_proof_encoding, operation_proof_encoding, key_value_proof_encoding}
+use Rattle.state_theory.specs.Encoded.{after_range_proof, after_operation_proof, FitsRange, Fits}
+use Rattle.state_theory.specs.Forms.{after_told, after_form}
+use Rattle.state_theory.specs.Told.{Told}
+use Rattle.state_theory.specs.Laws.Encoded.{Grammar, range_again, operation_again, operation_within}
 use Rattle.state_proofs.specs.ProofsCode.{range_parts_of, form_parts_of}
 
 some_sized : {D : Type 0} (encoding : D → List ℕ) (is_value : D → Type 0) (size : ℕ) (digest : Option D)

@@ -6,7 +6,7 @@ use Rattle.merkle_forest.specs.Laws.Codec.{fixed_again}
 use Rattle.merkle_forest.specs.Laws.Varint.{after_varint_again}
 use Rattle.merkle_forest.specs.Varint.{varint, after_varint}
 use Rattle.state_proofs.specs.declared.witness.OpsRootWitness.{OpsRootWitness}
-use Rattle.state_proofs.specs.Laws.Encoded.{Grammar}
+use Rattle.state_theory.specs.Laws.Encoded.{Grammar}
 use Rattle.state_proofs.specs.Witness.{witness_of, witness_encoding, next_encoding, after_next, after_witness, HasNext}
 
 module _ {D P : Type 0} (encoding : D → List ℕ) (is_value : D → Type 0) (size : ℕ)

@@ -3,11 +3,11 @@
 ghost use Rattle.std.specs.Prelude.{◌≡◌, ◌⊎◌, ◌++◌, ◌∷◌, [], length, option_map, IfSome, IfOk, IfErr, OnOk, OnErr};
 ghost use Rattle.merkle_forest.specs.Codec.{Extends, Reads, LacksAfter, OptionLacks, option_encoding};
 ghost use Rattle.state_ops_parts.specs.Grammar.{OrderedLacks};
-ghost use Rattle.state_proofs.specs.Encoded.{operation_proof_encoding};
+ghost use Rattle.state_theory.specs.Encoded.{operation_proof_encoding};
 ghost use Rattle.state_proofs.specs.Exclusion.{exclusion_encoding, after_by_update, after_by_commit, after_exclusion};
 ghost use Rattle.state_proofs.specs.Exclusion.{ExclusionLacks};
 ghost use Rattle.state_proofs.specs.ExclusionCode.{form_exclusion_of, IsExclusionValue, IsExclusionWithin};
-ghost use Rattle.state_proofs.specs.Forms.{after_form, FormLacks};
+ghost use Rattle.state_theory.specs.Forms.{after_form, FormLacks};
 ghost use Rattle.state_proofs.specs.ProofsCode.{form_parts_of};
 
 use super::ExclusionProof;

@@ -1,13 +1,13 @@
 //! Proofs of one operation that are built out of known nodes and the bits of a bitmap.
 
 ghost use Rattle.std.specs.Prelude.{◌≡◌, ◌<◌, ◌+◌, ◌*◌, ◌^◌, ℕ, IfOk, IfErr, OnOk};
-ghost use Rattle.merkle_proofs.specs.Plans.{Lookup, AnswersAs};
-ghost use Rattle.state_proofs_parts.specs.Bits.{IsChunkWidth};
+ghost use Rattle.merkle_theory.specs.Plans.{Lookup, AnswersAs};
+ghost use Rattle.state_theory.specs.Bits.{IsChunkWidth};
 ghost use Rattle.state_proofs.specs.Built.{IsBuildable, IsRefusalOfLocated, IsRefusalOfOperation};
-ghost use Rattle.state_proofs_parts.specs.Sources.{IsSourceOf};
+ghost use Rattle.state_theory.specs.Sources.{IsSourceOf};
 ghost use Rattle.state_proofs.specs.BuiltCode.{measures_with, source_of, span_of};
-ghost use Rattle.state_proofs_parts.specs.Canonical.{State, operations_root, setting_with};
-ghost use Rattle.state_proofs.specs.Honest.{honest_parts};
+ghost use Rattle.state_theory.specs.Canonical.{State, operations_root, setting_with};
+ghost use Rattle.state_theory.specs.Honest.{honest_parts};
 ghost use Rattle.state_proofs.specs.ProofsCode.{form_parts_of};
 
 use crate::error::Error;

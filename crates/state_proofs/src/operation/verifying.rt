@@ -2,7 +2,7 @@
 
 ghost use Rattle.std.specs.Prelude.{◌↔◌, IsTrue};
 ghost use Rattle.state_proofs.specs.ProofsCode.{form_parts_of};
-ghost use Rattle.state_proofs.specs.Verified.{Verifies};
+ghost use Rattle.state_theory.specs.Verified.{Verifies};
 
 use crate::operation::Proof;
 use merkle_forest::{Digest, Graftable, HashFunction, PendingOf};

@@ -2,10 +2,10 @@
 
 ghost use Rattle.std.specs.Prelude.{◌≡◌, ◌≤◌, ◌^◌, ◌*◌, ℕ, map, IfOk, IfErr, OnOk};
 ghost use Rattle.merkle_proofs.specs.Extracted.{AreExtracted};
-ghost use Rattle.merkle_proofs.specs.Ranges.{Digests};
+ghost use Rattle.merkle_theory.specs.Ranges.{Digests};
 ghost use Rattle.state_proofs.specs.ProofsCode.{range_parts_of};
 ghost use Rattle.state_proofs.specs.RangeExtracted.{IsRefusalToTell, ShowsDigests, shown_with, told_by};
-ghost use Rattle.state_proofs.specs.Verified.{IsShaped, VerifiesRange};
+ghost use Rattle.state_theory.specs.Verified.{IsShaped, VerifiesRange};
 ghost use Rattle.state_proofs.specs.ShownCode.{shown_of};
 
 use crate::proof::RangeProof;

@@ -5,12 +5,12 @@ ghost use Rattle.std.specs.Prelude.{IfErr, OnOk};
 ghost use Rattle.std.specs.List.{range_with_len};
 ghost use Rattle.std.specs.NonZero.{non_zero_u64_get};
 ghost use Rattle.state_proofs.specs.declared.error.Error.TheVariants.{Memory};
-ghost use Rattle.state_proofs_parts.specs.Bits.{IsChunkWidth, chunks_of};
+ghost use Rattle.state_theory.specs.Bits.{IsChunkWidth, chunks_of};
 ghost use Rattle.state_proofs.specs.Built.{IsBuildable};
-ghost use Rattle.state_proofs_parts.specs.Sources.{IsSourceOf};
+ghost use Rattle.state_theory.specs.Sources.{IsSourceOf};
 ghost use Rattle.state_proofs.specs.BuiltCode.{measures_with, source_of, span_of};
-ghost use Rattle.state_proofs_parts.specs.Canonical.{State, operations_root, setting_with};
-ghost use Rattle.state_proofs.specs.Honest.{honest_range};
+ghost use Rattle.state_theory.specs.Canonical.{State, operations_root, setting_with};
+ghost use Rattle.state_theory.specs.Honest.{honest_range};
 ghost use Rattle.state_proofs.specs.ProofsCode.{range_parts_of};
 ghost use Rattle.state_proofs.specs.Requests.{HasStart, IsRefusalOfRequest, chunks_between, end_of};
 

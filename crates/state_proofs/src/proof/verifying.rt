@@ -5,13 +5,13 @@ ghost use Rattle.std.specs.Prelude.{◌*◌, ◌/◌, ◌^◌, ℕ, List, [], Is
 ghost use Rattle.std.specs.Prelude.{length, option_map, slice_index_or};
 ghost use Rattle.std.specs.List.{AllByRecursion};
 ghost use Rattle.merkle_forest.specs.Made.{value};
-ghost use Rattle.state_proofs_parts.specs.Canonical.{canonical_string};
+ghost use Rattle.state_theory.specs.Canonical.{canonical_string};
 ghost use Rattle.state_proofs.specs.ProofsCode.{range_parts_of};
 ghost use Rattle.state_proofs.specs.RangeExtracted.{LeadsNowhere};
-ghost use Rattle.state_proofs.specs.Verified.{Covers, covering, FitsShown, IsShaped, VerifiesRange, given_by};
-ghost use Rattle.state_proofs.specs.Verified.{graftable_shown, shown_grafted};
+ghost use Rattle.state_theory.specs.Verified.{Covers, covering, FitsShown, IsShaped, VerifiesRange, given_by};
+ghost use Rattle.state_theory.specs.Verified.{graftable_shown, shown_grafted};
 ghost use Rattle.state_proofs.specs.ShownCode.{form_shown_of};
-ghost use Rattle.state_proofs_parts.specs.ShownChunks.{FitsChunk};
+ghost use Rattle.state_theory.specs.ShownChunks.{FitsChunk};
 ghost use Rattle.state_proofs_parts.specs.VerifierCode.{form_given_of};
 
 use crate::proof::RangeProof;

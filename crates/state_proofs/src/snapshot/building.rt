@@ -6,8 +6,8 @@ ghost use Rattle.merkle_forest.specs.Forest.{leaves, forest_of};
 ghost use Rattle.merkle_forest.specs.Shape.{shape};
 ghost use Rattle.merkle_forest.specs.Trees.{Within};
 ghost use Rattle.merkle_forest.specs.TreesCode.{shapes};
-ghost use Rattle.state_proofs_parts.specs.Canonical.{chunks as all_chunks, grafted_inactive, pending_digest};
-ghost use Rattle.state_proofs.specs.Honest.{grafted_range, honest_range as range_of, honest_parts};
+ghost use Rattle.state_theory.specs.Canonical.{chunks as all_chunks, grafted_inactive, pending_digest};
+ghost use Rattle.state_theory.specs.Honest.{grafted_range, honest_range as range_of, honest_parts};
 ghost use Rattle.state_proofs.specs.ProofsCode.{range_parts_of, parts_of};
 ghost use Rattle.state_proofs_parts.specs.Snapshot.{state_of, setting_of};
 

@@ -6,9 +6,9 @@ ghost use Rattle.merkle_forest.specs.Nodes.{nodes_of_height, HasPeak};
 ghost use Rattle.merkle_forest.specs.Peaks.{located_from};
 ghost use Rattle.merkle_forest.specs.Trees.{located};
 ghost use Rattle.merkle_core_parts.specs.declared.error.Error.TheVariants.{LocationOverflow};
-ghost use Rattle.state_proofs_parts.specs.Bits.{IsChunkWidth};
-ghost use Rattle.state_proofs_parts.specs.Grafting.{chunk_aligned_inactive_peaks as aligned_peaks};
-ghost use Rattle.state_proofs_parts.specs.PeakEnds.{IsPeakEnd};
+ghost use Rattle.state_theory.specs.Bits.{IsChunkWidth};
+ghost use Rattle.state_theory.specs.Grafting.{chunk_aligned_inactive_peaks as aligned_peaks};
+ghost use Rattle.state_theory.specs.PeakEnds.{IsPeakEnd};
 
 use crate::chunk_size::ChunkSize;
 use merkle_core::error::Error;

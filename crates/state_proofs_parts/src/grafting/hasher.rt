@@ -3,7 +3,7 @@
 ghost use Rattle.std.specs.Prelude.{◌≡◌, ◌+◌, ◌*◌, ◌^◌, option_map};
 ghost use Rattle.merkle_forest.specs.Forest.{position};
 ghost use Rattle.merkle_forest.specs.Nodes.{IsSubtree};
-ghost use Rattle.state_proofs_parts.specs.GraftedNodes.{node_over, operations_position};
+ghost use Rattle.state_theory.specs.GraftedNodes.{node_over, operations_position};
 
 use merkle_forest::hasher::Hasher;
 use merkle_forest::{Bagging, Digest, Graftable, MAX_LEAVES, Position};

@@ -5,12 +5,12 @@ ghost use Rattle.merkle_forest.specs.Forest.{Tree, height, position};
 ghost use Rattle.merkle_forest.specs.Hashing.{Hash};
 ghost use Rattle.merkle_forest.specs.Nodes.{IsNodeAt, nodes_of_height};
 ghost use Rattle.merkle_core_parts.specs.Mem.{AreNodesOf, Nodes, node_at, node_count};
-ghost use Rattle.merkle_proofs.specs.Plans.{Lookup};
-ghost use Rattle.state_proofs_parts.specs.Sources.{IsSourceOf, Source};
-ghost use Rattle.state_proofs_parts.specs.Canonical.{State, forest, grafted_digests, setting_with};
-ghost use Rattle.state_proofs_parts.specs.GraftedNodes.{AreGraftedLeaves, IsLookupOfChunks, IsLookupOfOperations};
-ghost use Rattle.state_proofs_parts.specs.GraftedNodes.{TwoTrees, chunks_node, grafted_lookup, operations_position};
-ghost use Rattle.state_proofs_parts.specs.SameNodes.{IsSameNode};
+ghost use Rattle.merkle_theory.specs.Plans.{Lookup};
+ghost use Rattle.state_theory.specs.Sources.{IsSourceOf, Source};
+ghost use Rattle.state_theory.specs.Canonical.{State, forest, grafted_digests, setting_with};
+ghost use Rattle.state_theory.specs.GraftedNodes.{AreGraftedLeaves, IsLookupOfChunks, IsLookupOfOperations};
+ghost use Rattle.state_theory.specs.GraftedNodes.{TwoTrees, chunks_node, grafted_lookup, operations_position};
+ghost use Rattle.state_theory.specs.SameNodes.{IsSameNode};
 
 use crate::grafting::hasher::GraftedHasher;
 use merkle_forest::Graftable;

@@ -15,7 +15,7 @@
 ghost use Rattle.std.specs.Prelude.{◌≡◌, ◌≤◌, ◌<◌, ℕ};
 ghost use Rattle.merkle_forest.specs.Forest.{size, forest_of};
 ghost use Rattle.merkle_forest.specs.Nodes.{StandsAt};
-ghost use Rattle.state_proofs_parts.specs.SameNodes.{IsSameNode};
+ghost use Rattle.state_theory.specs.SameNodes.{IsSameNode};
 
 use merkle_forest::{Graftable, Location, MAX_LEAVES, Position};
 

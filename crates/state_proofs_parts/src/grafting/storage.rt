@@ -3,8 +3,8 @@
 ghost use Rattle.std.specs.Prelude.{◌≡◌, ℕ, option_map};
 ghost use Rattle.merkle_forest.specs.Forest.{Tree};
 ghost use Rattle.merkle_forest.specs.Nodes.{StandsAt};
-ghost use Rattle.merkle_proofs.specs.Subtrees.{IsTreeAt};
-ghost use Rattle.state_proofs_parts.specs.GraftedNodes.{chunks_node, grafted_lookup, known_or_made};
+ghost use Rattle.merkle_theory.specs.Subtrees.{IsTreeAt};
+ghost use Rattle.state_theory.specs.GraftedNodes.{chunks_node, grafted_lookup, known_or_made};
 
 use crate::grafting::hasher::GraftedHasher;
 use crate::grafting::ops_to_grafted_pos;

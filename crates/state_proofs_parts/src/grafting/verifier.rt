@@ -3,7 +3,7 @@
 ghost use Rattle.std.specs.Prelude.{◌≡◌, ◌-◌, [], map, slice_index_or};
 ghost use Rattle.merkle_forest.specs.declared.bagging.Bagging.TheVariants.{BackwardFold};
 ghost use Rattle.merkle_forest.specs.Hashing.{leaf_string};
-ghost use Rattle.state_proofs_parts.specs.Verifier.{node_at, joined_chunk, grafted_node};
+ghost use Rattle.state_theory.specs.Verifier.{node_at, joined_chunk, grafted_node};
 ghost use Rattle.state_proofs_parts.specs.VerifierCode.{form_given_of};
 
 use crate::grafting::graft;

@@ -1,5 +1,5 @@
 use Rattle.std.proofs.Common.{List, ℕ}
-use Rattle.state_proofs_parts.specs.Canonical.{Setting}
+use Rattle.state_theory.specs.Canonical.{Setting}
 use Rattle.auth_store_client.specs.Claims.{Claim, Terms, terms}
 use Rattle.auth_store_client.specs.ClaimsCode.{claim_of}
 use Rattle.auth_store_client.specs.States.{setting_of_width}

@@ -5,7 +5,7 @@ use Rattle.std.specs.declared.vec.Vec.{Vec}
 use Rattle.merkle_forest.specs.Codec.{Outcome}
 use Rattle.state_proofs.specs.Exclusion.{ExclusionParts, exclusion_encoding}
 use Rattle.state_proofs.specs.ExclusionCode.{form_exclusion_of}
-use Rattle.state_proofs.specs.Laws.Encoded.{Grammar, grammar_of}
+use Rattle.state_theory.specs.Laws.Encoded.{Grammar, grammar_of}
 use Rattle.auth_store_client.specs.Claims.{Terms, terms, FitsExclusion}
 use Rattle.auth_store_client.proofs.Decoding.{Fields}
 use Rattle.auth_store_client.proofs.Shown.{absent_exactly, told_on}

@@ -2,10 +2,10 @@ use Rattle.std.proofs.Common.{◌≡◌, List, ℕ, sym, ◌∙◌, subst, arith
 use Rattle.std.specs.Prelude.{MatchOption}
 use Rattle.merkle_forest.specs.Codec.{Outcome}
 use Rattle.state_ops.specs.Operation.{Operation, meaning_of}
-use Rattle.state_proofs.specs.Encoded.{operation_proof_encoding, Fits}
-use Rattle.state_proofs.specs.Laws.Encoded.{Grammar, grammar_of}
+use Rattle.state_theory.specs.Encoded.{operation_proof_encoding, Fits}
+use Rattle.state_theory.specs.Laws.Encoded.{Grammar, grammar_of}
 use Rattle.state_proofs.specs.ProofsCode.{parts_of}
-use Rattle.state_proofs.specs.Verified.{Parts, Verifies}
+use Rattle.state_theory.specs.Verified.{Parts, Verifies}
 use Rattle.auth_store_client.specs.Claims.{Terms, terms}
 use Rattle.auth_store_client.proofs.Shown.{active_exactly, active_elsewhere}
 use Rattle.auth_store_client.proofs.checking.shows_active.Goals as goal

@@ -2,9 +2,9 @@ use Rattle.std.proofs.Common.{◌≡◌, ◌<◌, ℕ, List, length, sym, subst,
 use Rattle.std.proofs.lemmas.List.{length-map}
 use Rattle.std.proofs.lemmas.Option.{slice_get_within}
 use Rattle.state_ops.specs.Operation.{Operation, fixed_encoding}
-use Rattle.state_proofs_parts.specs.Canonical.{State}
-use Rattle.state_proofs.specs.Encoded.{ShowsOperation}
-use Rattle.state_proofs.specs.Laws.Once.{numbers_once}
+use Rattle.state_theory.specs.Canonical.{State}
+use Rattle.state_theory.specs.Encoded.{ShowsOperation}
+use Rattle.state_theory.specs.Laws.Once.{numbers_once}
 use Rattle.auth_store_parts.specs.History.{log_of}
 use Rattle.auth_store_client.specs.Claims.{Terms, terms}
 use Rattle.auth_store_client.specs.Laws.Encodings.{encoding_at}

@@ -1,7 +1,7 @@
 use Rattle.std.proofs.Common.{◌≡◌, ℕ, List, length, arith}
 use Rattle.std.proofs.lemmas.List.{length-map}
 use Rattle.state_ops.specs.Operation.{Operation, fixed_encoding}
-use Rattle.state_proofs_parts.specs.Canonical.{Setting}
+use Rattle.state_theory.specs.Canonical.{Setting}
 use Rattle.auth_store_client.specs.Laws.Widths.{width_is_whole}
 use Rattle.auth_store_client.specs.Claims.{Terms, terms}
 use Rattle.auth_store_parts.specs.History.{log_of}

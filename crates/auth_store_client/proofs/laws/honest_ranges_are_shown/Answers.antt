@@ -3,10 +3,10 @@ use Rattle.std.proofs.Common.{List, length, map, take, drop, refl, sym, ◌∙�
 use Rattle.std.proofs.lemmas.List.{length-map}
 use Rattle.std.proofs.lemmas.Nat.{pow_pos}
 use Rattle.state_ops.specs.Operation.{Operation, fixed_encoding}
-use Rattle.state_proofs_parts.specs.Canonical.{Setting, State}
-use Rattle.state_proofs.specs.Honest.{honest_range}
-use Rattle.state_proofs.specs.Laws.HonestSizes.{honest_range_fits}
-use Rattle.state_proofs.specs.Verified.{Shown, VerifiesRange}
+use Rattle.state_theory.specs.Canonical.{Setting, State}
+use Rattle.state_theory.specs.Honest.{honest_range}
+use Rattle.state_theory.specs.Laws.HonestSizes.{honest_range_fits}
+use Rattle.state_theory.specs.Verified.{Shown, VerifiesRange}
 use Rattle.auth_store_parts.specs.History.{log_of}
 use Rattle.auth_store_parts.specs.Laws.Places.{length-activity_bits}
 use Rattle.auth_store_client.specs.Claims.{bits_over}

@@ -3,8 +3,8 @@ use Rattle.std.proofs.lemmas.List.{length-map}
 use Rattle.std.proofs.lemmas.Nat.{pow_pos}
 use Rattle.merkle_forest.specs.declared.bagging.Bagging.TheVariants.{BackwardFold}
 use Rattle.state_ops.specs.Operation.{Operation, fixed_encoding}
-use Rattle.state_proofs_parts.specs.Canonical.{Setting, State, operations_root}
-use Rattle.state_proofs.specs.LogProofs.{log_root}
+use Rattle.state_theory.specs.Canonical.{Setting, State, operations_root}
+use Rattle.state_theory.specs.LogProofs.{log_root}
 use Rattle.auth_store_parts.specs.History.{log_of}
 use Rattle.auth_store_client.specs.Laws.Widths.{width_is_whole}
 use Rattle.auth_store_client.specs.Proving.{log_digests, log_inactive}

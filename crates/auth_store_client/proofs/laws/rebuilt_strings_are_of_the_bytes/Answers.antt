@@ -1,12 +1,12 @@
 use Rattle.std.proofs.Common.{◌≡◌, ℕ, List, [], ◌++◌, map, sym, ◌∙◌, ap, arith}
 use Rattle.merkle_forest.specs.Codec.{Outcome}
 use Rattle.state_ops.specs.Operation.{fixed_encoding, update, ordered}
-use Rattle.state_proofs_parts.specs.Canonical.{Setting}
+use Rattle.state_theory.specs.Canonical.{Setting}
 use Rattle.state_proofs.specs.Exclusion.{ExclusionParts, proof_of, operation_of}
-use Rattle.state_proofs.specs.Laws.Encoded.{Grammar, grammar_of}
-use Rattle.state_proofs.specs.Laws.Once.{key_value_once}
-use Rattle.state_proofs.specs.MadeRanges as ranges
-use Rattle.state_proofs.specs.Verified.{Parts, RangeParts}
+use Rattle.state_theory.specs.Laws.Encoded.{Grammar, grammar_of}
+use Rattle.state_theory.specs.Laws.Once.{key_value_once}
+use Rattle.state_theory.specs.MadeRanges as ranges
+use Rattle.state_theory.specs.Verified.{Parts, RangeParts}
 use Rattle.auth_store_client.specs.Claims.{Claim, has_value, is_absent, is_active, has_range, has_slice, Terms, terms, encoded, shown_of, Shows}
 use Rattle.auth_store_client.specs.MadeSlices.{slice_strings}
 use Rattle.auth_store_client.specs.Slices.{SliceParts}

@@ -1,9 +1,9 @@
 use Rattle.std.proofs.Common.{◌≡◌, ◌≤◌, ◌^◌, ℕ, List, length, inl, ⊎_elim, inr, ◌∙◌, ap, subst, arith}
 use Rattle.std.proofs.lemmas.List.{length-map}
 use Rattle.state_ops.specs.Operation.{fixed_encoding}
-use Rattle.state_proofs_parts.specs.Canonical.{Setting, State}
+use Rattle.state_theory.specs.Canonical.{Setting, State}
 use Rattle.state_proofs.specs.Exclusion.{proof_of, operation_of, exclusion_encoding}
-use Rattle.state_proofs.specs.MadeRanges.{HasActive, HasDigestsOf}
+use Rattle.state_theory.specs.MadeRanges.{HasActive, HasDigestsOf}
 use Rattle.auth_store_client.specs.Claims.{Terms, terms}
 use Rattle.auth_store_client.specs.Laws.Widths.{width_is_whole}
 use Rattle.auth_store_client.specs.States.{grafting_height, setting_of_width, state_of_history}

@@ -1,5 +1,5 @@
 use Rattle.std.proofs.Common.{ℕ, List, sym, subst}
-use Rattle.state_proofs_parts.specs.Canonical.{Setting}
+use Rattle.state_theory.specs.Canonical.{Setting}
 use Rattle.auth_store_client.specs.Claims.{Claim, ClaimsFields, has_value, is_absent, is_active, has_range, has_slice, Shows, Terms, terms}
 use Rattle.auth_store_client.specs.Soundness.{AreOrCollide}
 use Rattle.auth_store_client.specs.States.{root_of_history, setting_of_width}

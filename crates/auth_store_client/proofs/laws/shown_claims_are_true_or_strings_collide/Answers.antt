@@ -2,7 +2,7 @@ use Rattle.std.proofs.Common.{ℕ, List, sym, subst}
 use Rattle.std.specs.List.{AllByRecursion}
 use Rattle.state_ops.specs.Operation.{Operation}
 use Rattle.state_ops.specs.Reading.{IsOfFields}
-use Rattle.state_proofs_parts.specs.Canonical.{Setting}
+use Rattle.state_theory.specs.Canonical.{Setting}
 use Rattle.auth_store_parts.specs.History.{log_of}
 use Rattle.auth_store_client.specs.Claims.{Claim, ClaimsFields, has_value, is_absent, is_active, has_range, has_slice, Shows, Terms, terms}
 use Rattle.auth_store_client.specs.Soundness.{IsAlone, IsTrueOrCollides}

@@ -2,7 +2,7 @@ use Rattle.std.proofs.Common.{◌≡◌, ℕ, List, true, Some, inl, ⊎_elim, i
 use Rattle.std.specs.Prelude.{slice_get}
 use Rattle.std.proofs.lemmas.List.{length-map}
 use Rattle.state_ops.specs.Operation.{fixed_encoding}
-use Rattle.state_proofs.specs.MadeRanges.{HasDigestsOf}
+use Rattle.state_theory.specs.MadeRanges.{HasDigestsOf}
 use Rattle.auth_store_parts.specs.History.{activity_bits, log_of}
 use Rattle.auth_store_client.specs.States.{grafting_height, state_of_history}
 use Rattle.auth_store_client.specs.Laws.Standing.{stands}

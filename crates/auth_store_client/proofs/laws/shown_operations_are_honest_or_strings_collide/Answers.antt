@@ -1,7 +1,7 @@
 use Rattle.std.proofs.Common.{ℕ, inl, ⊎_elim, inr, ◌∙◌, arith}
 use Rattle.std.proofs.lemmas.List.{length-map}
 use Rattle.state_ops.specs.Operation.{fixed_encoding}
-use Rattle.state_proofs_parts.specs.Canonical.{Setting, State}
+use Rattle.state_theory.specs.Canonical.{Setting, State}
 use Rattle.auth_store_parts.specs.History.{log_of}
 use Rattle.auth_store_client.specs.States.{grafting_height, setting_of_width, state_of_history}
 use Rattle.auth_store_client.specs.Laws.Widths.{width_is_whole}

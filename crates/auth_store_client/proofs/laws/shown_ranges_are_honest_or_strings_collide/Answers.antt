@@ -2,10 +2,10 @@ use Rattle.std.proofs.Common.{◌≡◌, ◌<◌, ◌≤◌, ◌+◌, ◌^◌, �
 use Rattle.std.proofs.lemmas.List.{length-map}
 use Rattle.std.proofs.lemmas.Nat.{pow_pos}
 use Rattle.state_ops.specs.Operation.{fixed_encoding}
-use Rattle.state_proofs_parts.specs.Canonical.{Setting, State}
-use Rattle.state_proofs.specs.Honest.{honest_range}
-use Rattle.state_proofs.specs.MadeRanges.{HasDigestsOf}
-use Rattle.state_proofs.specs.Verified.{RangeParts, Shown, IsShaped}
+use Rattle.state_theory.specs.Canonical.{Setting, State}
+use Rattle.state_theory.specs.Honest.{honest_range}
+use Rattle.state_theory.specs.MadeRanges.{HasDigestsOf}
+use Rattle.state_theory.specs.Verified.{RangeParts, Shown, IsShaped}
 use Rattle.auth_store_parts.specs.History.{log_of}
 use Rattle.auth_store_client.specs.States.{grafting_height, setting_of_width, state_of_history}
 use Rattle.auth_store_client.specs.Laws.Widths.{width_is_whole}

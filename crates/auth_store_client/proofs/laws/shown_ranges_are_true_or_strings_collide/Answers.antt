@@ -3,7 +3,7 @@ use Rattle.std.proofs.lemmas.List.{length-map}
 use Rattle.std.proofs.lemmas.Nat.{pow_pos}
 use Rattle.merkle_forest.specs.Codec.{Outcome}
 use Rattle.state_ops.specs.Operation.{fixed_encoding}
-use Rattle.state_proofs.specs.MadeRanges.{HasDigestsOf}
+use Rattle.state_theory.specs.MadeRanges.{HasDigestsOf}
 use Rattle.auth_store_parts.specs.History.{log_of}
 use Rattle.auth_store_client.specs.Claims.{Terms, terms, shown_of}
 use Rattle.auth_store_client.specs.States.{grafting_height, setting_of_width, state_of_history}

@@ -1,9 +1,9 @@
 use Rattle.std.proofs.Common.{◌≡◌, ℕ, List, length, map, inl, ⊎_elim, inr, ◌∙◌, subst, arith}
 use Rattle.std.specs.List.{All}
 use Rattle.std.proofs.lemmas.List.{length-map}
-use Rattle.merkle_proofs.specs.Laws.MadeTrees.{all_sized}
+use Rattle.merkle_theory.specs.Laws.MadeTrees.{all_sized}
 use Rattle.state_ops.specs.Operation.{fixed_encoding}
-use Rattle.state_proofs_parts.specs.Canonical.{Setting, State}
+use Rattle.state_theory.specs.Canonical.{Setting, State}
 use Rattle.state_proofs.specs.Witness.{HasWitnessOf}
 use Rattle.auth_store_parts.specs.History.{log_of}
 use Rattle.auth_store_client.specs.States.{setting_of_width, state_of_history}

@@ -2,8 +2,8 @@ use Rattle.std.proofs.Common.{◌≡◌, ◌≤◌, ◌^◌, ℕ, List, length, 
 use Rattle.std.proofs.lemmas.List.{length-map}
 use Rattle.merkle_forest.specs.Codec.{Outcome}
 use Rattle.state_ops.specs.Operation.{fixed_encoding, update, ordered}
-use Rattle.state_proofs_parts.specs.Canonical.{Setting, State}
-use Rattle.state_proofs.specs.MadeRanges.{HasDigestsOf}
+use Rattle.state_theory.specs.Canonical.{Setting, State}
+use Rattle.state_theory.specs.MadeRanges.{HasDigestsOf}
 use Rattle.auth_store_parts.specs.History.{log_of}
 use Rattle.auth_store_client.specs.States.{grafting_height, setting_of_width, state_of_history}
 use Rattle.auth_store_client.specs.Laws.Widths.{width_is_whole}

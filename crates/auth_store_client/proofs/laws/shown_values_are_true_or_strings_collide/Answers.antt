@@ -1,7 +1,7 @@
 use Rattle.std.proofs.Common.{ℕ, List, inl, ⊎_elim, inr, ◌∙◌, subst, arith}
 use Rattle.std.proofs.lemmas.List.{length-map}
 use Rattle.state_ops.specs.Operation.{fixed_encoding, update, ordered}
-use Rattle.state_proofs.specs.MadeRanges.{HasDigestsOf}
+use Rattle.state_theory.specs.MadeRanges.{HasDigestsOf}
 use Rattle.auth_store_parts.specs.History.{log_of}
 use Rattle.auth_store_client.specs.States.{grafting_height, state_of_history}
 use Rattle.auth_store_client.specs.Laws.Sound.{has_value_there}

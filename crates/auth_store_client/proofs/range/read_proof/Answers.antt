@@ -1,12 +1,12 @@
 use Rattle.std.proofs.Common.{◌≡◌, ◌++◌, List, ℕ, Ok, sym, ap, ◌∙◌, arith}
 use Rattle.std.proofs.lemmas.List.{length-map}
 use Rattle.merkle_forest.specs.Codec.{Outcome}
-use Rattle.state_proofs.specs.Encoded.{range_proof_encoding, after_range_proof}
-use Rattle.state_proofs.specs.Laws.Encoded.{Grammar, grammar_of, range_again, range_within}
+use Rattle.state_theory.specs.Encoded.{range_proof_encoding, after_range_proof}
+use Rattle.state_theory.specs.Laws.Encoded.{Grammar, grammar_of, range_again, range_within}
 use Rattle.state_proofs.specs.Laws.Reading.{range_fits}
-use Rattle.state_proofs.specs.Laws.Showing.{refuses_none}
+use Rattle.state_theory.specs.Laws.Showing.{refuses_none}
 use Rattle.state_proofs.specs.ProofsCode.{range_parts_of}
-use Rattle.state_proofs.specs.Verified.{RangeParts}
+use Rattle.state_theory.specs.Verified.{RangeParts}
 use Rattle.auth_store_client.proofs.ShownRanges.{rest_is}
 use Rattle.auth_store_client.proofs.range.read_proof.Goals as goal
 

@@ -1,10 +1,10 @@
 use Rattle.std.proofs.Common.{◌≡◌, ◌++◌, List, ℕ, length, map, sym, ◌∙◌, subst, arith}
 use Rattle.std.specs.Prelude.{MatchOption}
 use Rattle.std.specs.List.{AllByRecursion, flat_map}
-use Rattle.state_proofs.specs.Encoded.{range_proof_encoding, FitsRange}
-use Rattle.state_proofs.specs.Laws.Once.{range_once}
+use Rattle.state_theory.specs.Encoded.{range_proof_encoding, FitsRange}
+use Rattle.state_theory.specs.Laws.Once.{range_once}
 use Rattle.state_proofs.specs.ProofsCode.{range_parts_of}
-use Rattle.state_proofs.specs.Verified.{RangeParts}
+use Rattle.state_theory.specs.Verified.{RangeParts}
 use Rattle.auth_store_client.proofs.Chunks.{joined}
 use Rattle.auth_store_client.proofs.range.read_range.Goals as goal
 

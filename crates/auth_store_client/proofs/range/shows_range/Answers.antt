@@ -5,10 +5,10 @@ use Rattle.std.proofs.lemmas.List.{length-map}
 use Rattle.std.proofs.lemmas.Nat.{pow_pos}
 use Rattle.merkle_forest.specs.Codec.{Outcome}
 use Rattle.state_ops.specs.Operation.{Operation, meaning_of}
-use Rattle.state_proofs.specs.Encoded.{FitsRange}
-use Rattle.state_proofs.specs.Laws.Encoded.{Grammar, grammar_of}
+use Rattle.state_theory.specs.Encoded.{FitsRange}
+use Rattle.state_theory.specs.Laws.Encoded.{Grammar, grammar_of}
 use Rattle.state_proofs.specs.ProofsCode.{range_parts_of}
-use Rattle.state_proofs.specs.Verified.{RangeParts, VerifiesRange}
+use Rattle.state_theory.specs.Verified.{RangeParts, VerifiesRange}
 use Rattle.auth_store_client.specs.Claims.{Terms, terms, encoded, range_encoding, bits_over}
 use Rattle.auth_store_client.proofs.ShownRanges.{as_claimed, range_exactly}
 use Rattle.auth_store_client.proofs.range.shows_range.Goals as goal

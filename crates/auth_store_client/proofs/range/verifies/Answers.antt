@@ -1,6 +1,6 @@
 use Rattle.std.proofs.Common.{◌≡◌, ℕ, List, Bool, true, false, length, map, sym, ap, ◌∙◌, subst, arith}
 use Rattle.state_proofs.specs.ProofsCode.{range_parts_of}
-use Rattle.state_proofs.specs.Verified.{VerifiesRange}
+use Rattle.state_theory.specs.Verified.{VerifiesRange}
 use Rattle.auth_store_client.proofs.Lists.{length-range}
 use Rattle.auth_store_client.proofs.range.verifies.Goals as goal
 

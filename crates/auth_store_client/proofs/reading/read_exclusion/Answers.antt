@@ -2,11 +2,11 @@ use Rattle.std.proofs.Common.{◌≡◌, ◌++◌, List, ℕ, [], Ok, refl, ap, 
 use Rattle.std.specs.declared.alloc.Global.{Global}
 use Rattle.std.specs.declared.vec.Vec.{Vec}
 use Rattle.merkle_forest.specs.Codec.{Outcome}
-use Rattle.state_proofs.specs.Encoded.{after_operation_proof}
+use Rattle.state_theory.specs.Encoded.{after_operation_proof}
 use Rattle.state_proofs.specs.Exclusion.{ExclusionParts, exclusion_encoding, after_exclusion}
 use Rattle.state_proofs.specs.ExclusionCode.{form_exclusion_of}
-use Rattle.state_proofs.specs.Laws.Encoded.{Grammar, grammar_of}
-use Rattle.state_proofs.specs.Laws.Showing.{refuses_none}
+use Rattle.state_theory.specs.Laws.Encoded.{Grammar, grammar_of}
+use Rattle.state_theory.specs.Laws.Showing.{refuses_none}
 use Rattle.auth_store_client.specs.Claims.{Terms, terms}
 use Rattle.auth_store_client.proofs.Decoding.{Fields, ends, exclusion_reads}
 use Rattle.auth_store_client.proofs.Fitting.{exclusion_fits}

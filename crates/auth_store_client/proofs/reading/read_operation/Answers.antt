@@ -1,12 +1,12 @@
 use Rattle.std.proofs.Common.{◌≡◌, ◌++◌, List, ℕ, [], Ok, refl, ap, sym, ◌∙◌, append-nil, arith}
 use Rattle.std.specs.declared.alloc.Global.{Global}
 use Rattle.std.specs.declared.vec.Vec.{Vec}
-use Rattle.state_proofs.specs.Encoded.{operation_proof_encoding, after_operation_proof}
-use Rattle.state_proofs.specs.Laws.Encoded.{Grammar, grammar_of}
+use Rattle.state_theory.specs.Encoded.{operation_proof_encoding, after_operation_proof}
+use Rattle.state_theory.specs.Laws.Encoded.{Grammar, grammar_of}
 use Rattle.state_proofs.specs.Laws.Reading.{read_operation_fits}
-use Rattle.state_proofs.specs.Laws.Showing.{refuses_none}
+use Rattle.state_theory.specs.Laws.Showing.{refuses_none}
 use Rattle.state_proofs.specs.ProofsCode.{parts_of}
-use Rattle.state_proofs.specs.Verified.{Parts}
+use Rattle.state_theory.specs.Verified.{Parts}
 use Rattle.auth_store_client.proofs.Decoding.{ends, operation_reads}
 use Rattle.auth_store_client.proofs.reading.read_operation.Goals as goal
 

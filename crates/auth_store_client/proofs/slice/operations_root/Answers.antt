@@ -5,9 +5,9 @@ use Rattle.merkle_forest.specs.declared.bagging.Bagging.TheVariants.{BackwardFol
 use Rattle.merkle_forest.specs.Forest.{Rule}
 use Rattle.merkle_forest.specs.Hashing.{Hash}
 use Rattle.merkle_forest.specs.Made.{value}
-use Rattle.merkle_proofs.specs.MadeTrees.{plain_over}
-use Rattle.merkle_proofs.specs.Reads.{range_root}
-use Rattle.merkle_proofs.specs.Soundness.{plain_names}
+use Rattle.merkle_theory.specs.MadeTrees.{plain_over}
+use Rattle.merkle_theory.specs.Reads.{range_root}
+use Rattle.merkle_theory.specs.Soundness.{plain_names}
 use Rattle.auth_store_client.proofs.Slices.{plainly}
 use Rattle.auth_store_client.proofs.slice.operations_root.Goals as goal
 

@@ -1,7 +1,7 @@
 use Rattle.std.proofs.Common.{◌≡◌, ◌++◌, List, ℕ, [], Ok, refl, sym, ap, ◌∙◌, append-nil, arith}
 use Rattle.merkle_forest.specs.Codec.{Outcome}
-use Rattle.state_proofs.specs.Laws.Encoded.{Grammar, grammar_of}
-use Rattle.state_proofs.specs.Laws.Showing.{refuses_none}
+use Rattle.state_theory.specs.Laws.Encoded.{Grammar, grammar_of}
+use Rattle.state_theory.specs.Laws.Showing.{refuses_none}
 use Rattle.auth_store_client.specs.Slices.{SliceParts, slice_encoding, after_slice}
 use Rattle.auth_store_client.specs.SlicesCode.{slice_of}
 use Rattle.auth_store_client.proofs.Decoding.{ends}

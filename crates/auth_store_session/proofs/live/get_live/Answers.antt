@@ -3,7 +3,7 @@ use Rattle.std.specs.Prelude.{IfErr}
 use Rattle.std.proofs.lemmas.Result.{err_from_is_err_and}
 use Rattle.paged_blob_parts.specs.Caches.{Cache}
 use Rattle.paged_blob_parts.specs.Calls.{Call}
-use Rattle.state_proofs_parts.specs.Canonical.{Setting}
+use Rattle.state_theory.specs.Canonical.{Setting}
 use Rattle.auth_store_ledger.specs.Store.{HasValueAt, setting_of_width}
 use Rattle.auth_store_log.specs.Records.{Format, format_of}
 use Rattle.auth_store_session.specs.declared.error.StoreError.{StoreError}

@@ -6,7 +6,7 @@ use Rattle.paged_blob_parts.specs.Calls.{Call}
 use Rattle.paged_blob_parts.specs.Moments.{Grows, here}
 use Rattle.paged_blob_parts.specs.Laws.Moments.{at_end, weaker}
 use Rattle.paged_blob_parts.specs.Writers.{Keeps, written}
-use Rattle.state_proofs_parts.specs.Canonical.{Setting}
+use Rattle.state_theory.specs.Canonical.{Setting}
 use Rattle.auth_store_parts.specs.Batch as words
 use Rattle.auth_store_parts.specs.Batch.{Word}
 use Rattle.auth_store_parts.specs.History.{History, history_of, log_of}

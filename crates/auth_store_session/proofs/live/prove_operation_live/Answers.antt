@@ -2,7 +2,7 @@ use Rattle.std.proofs.Common.{◌≡◌, Ok, subst, sym}
 use Rattle.std.specs.Prelude.{IfErr, IfOk}
 use Rattle.paged_blob_parts.specs.Answers.{Failures}
 use Rattle.paged_blob_parts.specs.Caches.{Cache}
-use Rattle.state_proofs_parts.specs.Canonical.{Setting}
+use Rattle.state_theory.specs.Canonical.{Setting}
 use Rattle.auth_store_client.specs.Claims.{Terms, terms}
 use Rattle.auth_store_ledger.specs.Proving.{IsAcceptedOperation, answer_of_operation}
 use Rattle.auth_store_ledger.specs.ProvingCode.{operation_answer_of}

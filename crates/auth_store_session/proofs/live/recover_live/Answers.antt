@@ -10,7 +10,7 @@ use Rattle.paged_blob_parts.specs.CachedContent.{HoldsPagesOf}
 use Rattle.paged_blob_parts.specs.Calls.{content}
 use Rattle.state_ops.specs.Operation.{Operation, meaning_of}
 use Rattle.paged_blob_parts.specs.Writers.{written}
-use Rattle.state_proofs_parts.specs.Canonical.{Setting}
+use Rattle.state_theory.specs.Canonical.{Setting}
 use Rattle.auth_store_parts.specs.History.{history_of, meanings, log_of}
 use Rattle.auth_store_parts.specs.Laws.Logs.{history_of-log_of}
 use Rattle.auth_store_ledger.specs.Store.{IsLedgerOf, setting_of_width}

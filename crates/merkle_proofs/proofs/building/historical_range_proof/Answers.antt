@@ -1,6 +1,6 @@
 use Rattle.std.proofs.Common.{◌≤◌, map, take, length, arith}
 use Rattle.std.proofs.lemmas.List.{length-take-le}
-use Rattle.merkle_proofs.proofs.Lookups.{built_of_list, lookup_taken}
+use Rattle.merkle_theory.proofs.Lookups.{built_of_list, lookup_taken}
 use Rattle.merkle_proofs.proofs.building.historical_range_proof.Goals as goal
 
 pub returns-clause-of_list : goal.returns-clause-of_list

@@ -3,10 +3,10 @@ use Rattle.std.specs.Prelude.{IfErr}
 use Rattle.std.proofs.lemmas.Result.{err_from_is_err_and}
 use Rattle.merkle_forest.specs.Forest.{forest_of}
 use Rattle.merkle_forest.specs.Laws.Peaks.{located_from-zero}
-use Rattle.merkle_proofs.specs.MadeRoots.{peaks_of}
-use Rattle.merkle_proofs.specs.Multi.{AreMultiPositions, first_bad, IsRefusalToProveMany}
-use Rattle.merkle_proofs.proofs.ManyDigests.{refused_many}
-use Rattle.merkle_proofs.proofs.Places.{first_of}
+use Rattle.merkle_theory.specs.MadeRoots.{peaks_of}
+use Rattle.merkle_theory.specs.Multi.{AreMultiPositions, first_bad, IsRefusalToProveMany}
+use Rattle.merkle_theory.proofs.ManyDigests.{refused_many}
+use Rattle.merkle_theory.proofs.Places.{first_of}
 use Rattle.merkle_proofs.proofs.building.multi_proof.Goals as goal
 
 pub peaks_from-requires-clause-begins : goal.peaks_from-requires-clause-begins

@@ -1,6 +1,6 @@
 use Rattle.std.proofs.Common.{ℕ, map, length, refl, ◌∙◌, ap}
-use Rattle.merkle_proofs.specs.Plans.{Asked}
-use Rattle.merkle_proofs.proofs.Lookups.{built_of_list}
+use Rattle.merkle_theory.specs.Plans.{Asked}
+use Rattle.merkle_theory.proofs.Lookups.{built_of_list}
 use Rattle.merkle_proofs.proofs.building.range_proof.Goals as goal
 
 pub returns-clause-of_list : goal.returns-clause-of_list

@@ -4,13 +4,13 @@ use Rattle.merkle_forest.specs.Peaks.{located_from}
 use Rattle.merkle_forest.specs.Trees.{Located}
 use Rattle.merkle_core_parts.specs.Mem.{encoded}
 use Rattle.merkle_proofs.specs.Extracted.{node_digests}
-use Rattle.merkle_proofs.specs.Ranges.{singly}
+use Rattle.merkle_theory.specs.Ranges.{singly}
 use Rattle.merkle_proofs.specs.RangesCode.{stands}
 use Rattle.merkle_proofs.proofs.Extractions.{none_more, pushed, grown_both, skipped}
-use Rattle.merkle_proofs.proofs.PlanFolds.{if_ok}
-use Rattle.merkle_proofs.proofs.PlanNodes.{passed}
-use Rattle.merkle_proofs.proofs.RangePeaks.{none_from, take_none}
-use Rattle.merkle_proofs.proofs.Walks.{walk_from}
+use Rattle.merkle_theory.proofs.PlanFolds.{if_ok}
+use Rattle.merkle_theory.proofs.PlanNodes.{passed}
+use Rattle.merkle_theory.proofs.RangePeaks.{none_from, take_none}
+use Rattle.merkle_theory.proofs.Walks.{walk_from}
 use Rattle.merkle_proofs.proofs.extraction.+append_singles.Goals as goal
 
 pub returns-then-first-leaves : goal.returns-then-first-leaves

@@ -2,10 +2,10 @@ use Rattle.std.proofs.Common.{◌≡◌, ℕ, ◌+◌, true, false, List, ◌++�
 use Rattle.merkle_forest.specs.Forest.{leaf, branch, leaf_count}
 use Rattle.merkle_core_parts.specs.Mem.{encoded}
 use Rattle.merkle_proofs.specs.Extracted.{told_nodes, node_digests}
-use Rattle.merkle_proofs.specs.MadeTrees.{Elements, from}
-use Rattle.merkle_proofs.specs.Ranges.{meets, siblings}
+use Rattle.merkle_theory.specs.MadeTrees.{Elements, from}
+use Rattle.merkle_theory.specs.Ranges.{meets, siblings}
 use Rattle.merkle_proofs.proofs.Extractions.{pushed, told_out, given_out, given_low, given_branch, grown_branch}
-use Rattle.merkle_proofs.proofs.RangeTrees.{met_leaf, element_at}
+use Rattle.merkle_theory.proofs.RangeTrees.{met_leaf, element_at}
 use Rattle.merkle_proofs.proofs.extraction.+append_told.Goals as goal
 
 pub returns-then-not-meets_range : goal.returns-then-not-meets_range

@@ -4,11 +4,11 @@ use Rattle.merkle_forest.specs.Peaks.{located_from}
 use Rattle.merkle_forest.specs.Trees.{Located}
 use Rattle.merkle_core_parts.specs.Mem.{encoded}
 use Rattle.merkle_proofs.specs.Extracted.{inner_told, told_nodes, node_digests}
-use Rattle.merkle_proofs.specs.Ranges.{meets, inner_digests}
+use Rattle.merkle_theory.specs.Ranges.{meets, inner_digests}
 use Rattle.merkle_proofs.proofs.Extractions.{none_more, peaks_out, peaks_met, digests_out, digests_met, grown_both}
-use Rattle.merkle_proofs.proofs.PlanNodes.{on_ok}
-use Rattle.merkle_proofs.proofs.RangePeaks.{none_from}
-use Rattle.merkle_proofs.proofs.Walks.{walk_from}
+use Rattle.merkle_theory.proofs.PlanNodes.{on_ok}
+use Rattle.merkle_theory.proofs.RangePeaks.{none_from}
+use Rattle.merkle_theory.proofs.Walks.{walk_from}
 use Rattle.merkle_proofs.proofs.extraction.+append_told_peaks.Goals as goal
 
 pub returns-then-first-reader : goal.returns-then-first-reader

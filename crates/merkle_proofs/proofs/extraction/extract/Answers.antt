@@ -6,13 +6,13 @@ use Rattle.merkle_forest.specs.Laws.Peaks.{located_from-zero}
 use Rattle.merkle_forest.specs.Peaks.{located_from}
 use Rattle.merkle_core_parts.specs.Mem.{encoded}
 use Rattle.merkle_proofs.specs.Extracted.{inner_told, node_digests, extracted_nodes}
-use Rattle.merkle_proofs.specs.MadeRoots.{from_left, peaks_of}
-use Rattle.merkle_proofs.specs.RangeCounts.{passing}
-use Rattle.merkle_proofs.specs.Ranges.{is_before, is_after, singly, inner_digests}
+use Rattle.merkle_theory.specs.MadeRoots.{from_left, peaks_of}
+use Rattle.merkle_theory.specs.RangeCounts.{passing}
+use Rattle.merkle_theory.specs.Ranges.{is_before, is_after, singly, inner_digests}
 use Rattle.merkle_proofs.proofs.Extractions.{after_front, grown_both}
-use Rattle.merkle_proofs.proofs.Places.{first_of}
-use Rattle.merkle_proofs.proofs.RangePeaks.{all_taken}
-use Rattle.merkle_proofs.proofs.RangeRoots.{drop-map}
+use Rattle.merkle_theory.proofs.Places.{first_of}
+use Rattle.merkle_theory.proofs.RangePeaks.{all_taken}
+use Rattle.merkle_theory.proofs.RangeRoots.{drop-map}
 use Rattle.merkle_proofs.proofs.extraction.extract.Goals as goal
 
 pub peaks_from-peaks-requires-clause-begins : goal.peaks_from-peaks-requires-clause-begins

@@ -1,4 +1,4 @@
-use Rattle.merkle_proofs.proofs.MultiHonest.{many_root}
+use Rattle.merkle_theory.proofs.MultiHonest.{many_root}
 use Rattle.merkle_proofs.proofs.laws.built_proofs_of_elements_lead_to_the_root.Goals as goal
 
 pub returns : goal.returns

@@ -1,5 +1,5 @@
-use Rattle.merkle_proofs.specs.Laws.MadeTrees.{all_sized}
-use Rattle.merkle_proofs.specs.Laws.Sound.{plain_sound}
+use Rattle.merkle_theory.specs.Laws.MadeTrees.{all_sized}
+use Rattle.merkle_theory.specs.Laws.Sound.{plain_sound}
 use Rattle.merkle_proofs.proofs.laws.claims_are_true_or_strings_collide.Goals as goal
 
 pub returns : goal.returns

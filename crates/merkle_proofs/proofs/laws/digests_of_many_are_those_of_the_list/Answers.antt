@@ -1,4 +1,4 @@
-use Rattle.merkle_proofs.proofs.ManyDigests.{many_of_list}
+use Rattle.merkle_theory.proofs.ManyDigests.{many_of_list}
 use Rattle.merkle_proofs.proofs.laws.digests_of_many_are_those_of_the_list.Goals as goal
 
 pub returns : goal.returns

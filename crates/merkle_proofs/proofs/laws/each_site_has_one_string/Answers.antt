@@ -1,5 +1,5 @@
-use Rattle.merkle_proofs.proofs.MultiOneEach.{many_one}
-use Rattle.merkle_proofs.proofs.OneEachRoot.{hashed_one, rebuilt_one}
+use Rattle.merkle_theory.proofs.MultiOneEach.{many_one}
+use Rattle.merkle_theory.proofs.OneEachRoot.{hashed_one, rebuilt_one}
 use Rattle.merkle_proofs.proofs.PinnedBeside.{beside_one}
 use Rattle.merkle_proofs.proofs.PinnedOneEach.{pinned_one}
 use Rattle.merkle_proofs.proofs.laws.each_site_has_one_string.Goals as goal

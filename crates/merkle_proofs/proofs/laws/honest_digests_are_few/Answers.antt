@@ -1,4 +1,4 @@
-use Rattle.merkle_proofs.proofs.Short.{range_few}
+use Rattle.merkle_theory.proofs.Short.{range_few}
 use Rattle.merkle_proofs.proofs.laws.honest_digests_are_few.Goals as goal
 
 pub returns : goal.returns

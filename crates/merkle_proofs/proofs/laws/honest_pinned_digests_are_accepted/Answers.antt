@@ -1,7 +1,7 @@
 use Rattle.std.proofs.Common.{refl, length, arith}
 use Rattle.merkle_forest.specs.Hashing.{node_string}
 use Rattle.merkle_forest.specs.Trees.{plain_digest}
-use Rattle.merkle_proofs.proofs.BuiltRoots.{plain_root}
+use Rattle.merkle_theory.proofs.BuiltRoots.{plain_root}
 use Rattle.merkle_proofs.proofs.PinnedHonest.{honest_pinned}
 use Rattle.merkle_proofs.proofs.laws.honest_pinned_digests_are_accepted.Goals as goal
 

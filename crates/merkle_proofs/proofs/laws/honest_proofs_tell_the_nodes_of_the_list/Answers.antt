@@ -1,6 +1,6 @@
 use Rattle.merkle_forest.specs.Forest.{forest_of}
-use Rattle.merkle_proofs.specs.MadeRoots.{peaks_of}
-use Rattle.merkle_proofs.proofs.HonestRoots.{ascend_located}
+use Rattle.merkle_theory.specs.MadeRoots.{peaks_of}
+use Rattle.merkle_theory.proofs.HonestRoots.{ascend_located}
 use Rattle.merkle_proofs.proofs.HonestTold.{honest_given, part_made}
 use Rattle.merkle_proofs.proofs.laws.honest_proofs_tell_the_nodes_of_the_list.Goals as goal
 

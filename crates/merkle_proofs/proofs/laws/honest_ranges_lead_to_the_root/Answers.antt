@@ -2,7 +2,7 @@ use Rattle.std.proofs.Common.{arith}
 use Rattle.merkle_forest.specs.Forest.{forest_of}
 use Rattle.merkle_forest.specs.Laws.ForestGrowth.{leaves-forest_of}
 use Rattle.merkle_forest.specs.Laws.Trees.{length-located}
-use Rattle.merkle_proofs.proofs.HonestRoots.{honest_root, peak_there}
+use Rattle.merkle_theory.proofs.HonestRoots.{honest_root, peak_there}
 use Rattle.merkle_proofs.proofs.laws.honest_ranges_lead_to_the_root.Goals as goal
 
 pub returns : goal.returns

@@ -1,4 +1,4 @@
-use Rattle.merkle_proofs.proofs.HonestRoots.{part_agrees}
+use Rattle.merkle_theory.proofs.HonestRoots.{part_agrees}
 use Rattle.merkle_proofs.proofs.laws.parts_of_a_list_agree_with_it.Goals as goal
 
 pub returns : goal.returns

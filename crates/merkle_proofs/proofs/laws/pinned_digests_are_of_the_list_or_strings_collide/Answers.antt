@@ -3,12 +3,12 @@ use Rattle.std.proofs.lemmas.Bool.{ltb-true}
 use Rattle.std.proofs.lemmas.List.{length-replicate}
 use Rattle.std.specs.Prelude.{nat_lt}
 use Rattle.merkle_forest.specs.Made.{Made, strings}
-use Rattle.merkle_proofs.specs.Laws.MadeTrees.{all_sized, choose}
-use Rattle.merkle_proofs.specs.Laws.Sound.{if_some}
+use Rattle.merkle_theory.specs.Laws.MadeTrees.{all_sized, choose}
+use Rattle.merkle_theory.specs.Laws.Sound.{if_some}
 use Rattle.merkle_proofs.specs.ListDigests.{stop_of}
 use Rattle.merkle_proofs.specs.PinnedSoundness.{PinsListOrCollides, pinned_strings}
-use Rattle.merkle_proofs.specs.Reads.{claim_of}
-use Rattle.merkle_proofs.specs.Soundness.{claimed_root, hashed_strings}
+use Rattle.merkle_theory.specs.Reads.{claim_of}
+use Rattle.merkle_theory.specs.Soundness.{claimed_root, hashed_strings}
 use Rattle.merkle_proofs.proofs.ListDigests.{IsTheListOrCollides, list_or_collides}
 use Rattle.merkle_proofs.proofs.PinnedSound.{more_collide, are_listed, bag_all, pins_or_collide}
 use Rattle.merkle_proofs.proofs.laws.pinned_digests_are_of_the_list_or_strings_collide.Goals as goal

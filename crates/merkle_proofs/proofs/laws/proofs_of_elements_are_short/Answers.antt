@@ -5,12 +5,12 @@ use Rattle.merkle_forest.specs.Laws.ForestGrowth.{leaves-forest_of, forest_of-pe
 use Rattle.merkle_forest.specs.Laws.Nodes.{peak-node, node-perfect}
 use Rattle.merkle_forest.specs.Laws.Trees.{length-located}
 use Rattle.merkle_forest.specs.Trees.{located}
-use Rattle.merkle_proofs.specs.MadeRoots.{peaks_of}
-use Rattle.merkle_proofs.specs.Multi.{multi_nodes}
-use Rattle.merkle_proofs.proofs.HonestRoots.{peak_there}
-use Rattle.merkle_proofs.proofs.Lookups.{located_all}
-use Rattle.merkle_proofs.proofs.MultiShort.{IsLow, count, short, some_counted, some_place}
-use Rattle.merkle_proofs.proofs.MultiSound.{none_good}
+use Rattle.merkle_theory.specs.MadeRoots.{peaks_of}
+use Rattle.merkle_theory.specs.Multi.{multi_nodes}
+use Rattle.merkle_theory.proofs.HonestRoots.{peak_there}
+use Rattle.merkle_theory.proofs.Lookups.{located_all}
+use Rattle.merkle_theory.proofs.MultiShort.{IsLow, count, short, some_counted, some_place}
+use Rattle.merkle_theory.proofs.MultiSound.{none_good}
 use Rattle.merkle_proofs.proofs.laws.proofs_of_elements_are_short.Goals as goal
 
 pub returns : goal.returns

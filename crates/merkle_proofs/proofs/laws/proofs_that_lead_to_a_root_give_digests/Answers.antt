@@ -1,11 +1,11 @@
 use Rattle.std.proofs.Common.{ℕ, ◌+◌, length}
 use Rattle.merkle_forest.specs.Made.{Made}
 use Rattle.merkle_proofs.specs.Extracted.{AreMadeOf, AreGiven}
-use Rattle.merkle_proofs.specs.Laws.Sound.{if_some}
-use Rattle.merkle_proofs.specs.MadeRoots.{from_left, peaks_of}
-use Rattle.merkle_proofs.specs.MadeTrees.{from}
-use Rattle.merkle_proofs.specs.Ranges.{Digests}
-use Rattle.merkle_proofs.specs.Reads.{range_root}
+use Rattle.merkle_theory.specs.Laws.Sound.{if_some}
+use Rattle.merkle_theory.specs.MadeRoots.{from_left, peaks_of}
+use Rattle.merkle_theory.specs.MadeTrees.{from}
+use Rattle.merkle_theory.specs.Ranges.{Digests}
+use Rattle.merkle_theory.specs.Reads.{range_root}
 use Rattle.merkle_proofs.proofs.GivenDigests.{HasGiven, root_gives}
 use Rattle.merkle_proofs.proofs.laws.proofs_that_lead_to_a_root_give_digests.Goals as goal
 

@@ -1,4 +1,4 @@
-use Rattle.merkle_proofs.specs.Laws.Values.{value_list}
+use Rattle.merkle_theory.specs.Laws.Values.{value_list}
 use Rattle.merkle_proofs.proofs.laws.roots_are_values_of_what_is_made.Goals as goal
 
 pub returns : goal.returns

@@ -1,10 +1,10 @@
 use Rattle.std.proofs.Common.{length, None, IfSome}
 use Rattle.std.proofs.lemmas.Bool.{ltb-true}
 use Rattle.std.specs.Prelude.{nat_lt}
-use Rattle.merkle_proofs.specs.Laws.MadeTrees.{all_sized, choose}
+use Rattle.merkle_theory.specs.Laws.MadeTrees.{all_sized, choose}
 use Rattle.merkle_proofs.specs.ListDigests.{GivesDigestsOrCollides}
-use Rattle.merkle_proofs.specs.Reads.{claim_of}
-use Rattle.merkle_proofs.specs.Soundness.{claimed_root}
+use Rattle.merkle_theory.specs.Reads.{claim_of}
+use Rattle.merkle_theory.specs.Soundness.{claimed_root}
 use Rattle.merkle_proofs.proofs.ListDigests.{gives_or_collides}
 use Rattle.merkle_proofs.proofs.laws.shown_digests_are_of_the_list_or_strings_collide.Goals as goal
 

@@ -1,4 +1,4 @@
-use Rattle.merkle_proofs.specs.Laws.MadeTrees.{all_sized}
+use Rattle.merkle_theory.specs.Laws.MadeTrees.{all_sized}
 use Rattle.merkle_proofs.proofs.HonestMany.{multi_honest}
 use Rattle.merkle_proofs.proofs.laws.shown_elements_are_honest_or_strings_collide.Goals as goal
 

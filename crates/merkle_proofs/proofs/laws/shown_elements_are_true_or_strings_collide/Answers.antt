@@ -1,5 +1,5 @@
-use Rattle.merkle_proofs.specs.Laws.MadeTrees.{all_sized}
-use Rattle.merkle_proofs.proofs.MultiSound.{multi_sound}
+use Rattle.merkle_theory.specs.Laws.MadeTrees.{all_sized}
+use Rattle.merkle_theory.proofs.MultiSound.{multi_sound}
 use Rattle.merkle_proofs.proofs.laws.shown_elements_are_true_or_strings_collide.Goals as goal
 
 pub returns : goal.returns

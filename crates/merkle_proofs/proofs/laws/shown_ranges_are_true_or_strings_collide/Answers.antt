@@ -1,10 +1,10 @@
 use Rattle.std.proofs.Common.{length}
 use Rattle.std.specs.Prelude.{nat_lt}
-use Rattle.merkle_proofs.specs.Laws.MadeTrees.{all_sized}
-use Rattle.merkle_proofs.specs.Laws.Sound.{plain_sound}
-use Rattle.merkle_proofs.specs.Reads.{claim_of}
-use Rattle.merkle_proofs.specs.Soundness.{IsSound, claimed_root}
-use Rattle.merkle_proofs.proofs.RangeRoots.{where_given}
+use Rattle.merkle_theory.specs.Laws.MadeTrees.{all_sized}
+use Rattle.merkle_theory.specs.Laws.Sound.{plain_sound}
+use Rattle.merkle_theory.specs.Reads.{claim_of}
+use Rattle.merkle_theory.specs.Soundness.{IsSound, claimed_root}
+use Rattle.merkle_theory.proofs.RangeRoots.{where_given}
 use Rattle.merkle_proofs.proofs.laws.shown_ranges_are_true_or_strings_collide.Goals as goal
 
 pub returns : goal.returns

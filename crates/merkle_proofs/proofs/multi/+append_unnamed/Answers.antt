@@ -1,8 +1,8 @@
 use Rattle.std.proofs.Common.{rules, ◌<◌, [], ◌∷◌, ◌++◌, sym, ◌∙◌, ap, subst, arith}
 use Rattle.merkle_forest.specs.Forest.{leaf, branch}
-use Rattle.merkle_proofs.specs.Multi.{AreFound}
-use Rattle.merkle_proofs.proofs.PlanFolds.{if_ok}
-use Rattle.merkle_proofs.proofs.Unnamed.{found_none, found_low, found_both, ascend_left, ascend_right}
+use Rattle.merkle_theory.specs.Multi.{AreFound}
+use Rattle.merkle_theory.proofs.PlanFolds.{if_ok}
+use Rattle.merkle_theory.proofs.Unnamed.{found_none, found_low, found_both, ascend_left, ascend_right}
 use Rattle.merkle_proofs.proofs.multi.+append_unnamed.Goals as goal
 
 pub returns-then-not-is_next_before : goal.returns-then-not-is_next_before

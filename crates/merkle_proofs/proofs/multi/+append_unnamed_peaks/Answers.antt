@@ -2,12 +2,12 @@ use Rattle.std.proofs.Common.{◌≡◌, ◌+◌, List, ◌++◌, refl, sym, ◌
 use Rattle.merkle_forest.specs.Forest.{leaf_count, forest_of}
 use Rattle.merkle_forest.specs.Peaks.{located_from}
 use Rattle.merkle_forest.specs.Trees.{Located}
-use Rattle.merkle_proofs.specs.Multi.{multi_nodes}
-use Rattle.merkle_proofs.specs.Plans.{positions_of}
-use Rattle.merkle_proofs.proofs.PlanNodes.{after_none, on_ok}
-use Rattle.merkle_proofs.proofs.RangePeaks.{none_from}
-use Rattle.merkle_proofs.proofs.Unnamed.{found_peak}
-use Rattle.merkle_proofs.proofs.Walks.{walk_from, located_from-all}
+use Rattle.merkle_theory.specs.Multi.{multi_nodes}
+use Rattle.merkle_theory.specs.Plans.{positions_of}
+use Rattle.merkle_theory.proofs.PlanNodes.{after_none, on_ok}
+use Rattle.merkle_theory.proofs.RangePeaks.{none_from}
+use Rattle.merkle_theory.proofs.Unnamed.{found_peak}
+use Rattle.merkle_theory.proofs.Walks.{walk_from, located_from-all}
 use Rattle.merkle_proofs.proofs.multi.+append_unnamed_peaks.Goals as goal
 
 pub returns-then-first-leaves : goal.returns-then-first-leaves

@@ -1,5 +1,5 @@
 use Rattle.std.proofs.Common.{◌≡◌, length}
-use Rattle.merkle_proofs.specs.Multi.{first_bad}
+use Rattle.merkle_theory.specs.Multi.{first_bad}
 use Rattle.merkle_proofs.proofs.multi.check_ascending.Given as goal
 
 abbrev pub invariant-loop-location : goal.invariant-loop-location

@@ -1,5 +1,5 @@
 use Rattle.std.proofs.Common.{◌+◌, ap, arith}
-use Rattle.merkle_proofs.proofs.RangeTrees.{reach}
+use Rattle.merkle_theory.proofs.RangeTrees.{reach}
 use Rattle.merkle_proofs.proofs.multi.end_of.Goals as goal
 
 pub overflow_shl-result : goal.overflow_shl-result

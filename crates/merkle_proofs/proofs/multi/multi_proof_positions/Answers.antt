@@ -4,11 +4,11 @@ use Rattle.std.specs.List.Sorted.{IsPermutation}
 use Rattle.merkle_forest.specs.Forest.{forest_of}
 use Rattle.merkle_forest.specs.Peaks.{located_from}
 use Rattle.merkle_forest.specs.Laws.Peaks.{located_from-zero}
-use Rattle.merkle_proofs.specs.MadeRoots.{peaks_of}
-use Rattle.merkle_proofs.specs.Multi.{multi_nodes}
-use Rattle.merkle_proofs.specs.Plans.{positions_of}
-use Rattle.merkle_proofs.proofs.Places.{first_of}
-use Rattle.merkle_proofs.proofs.Unnamed.{good_ascend}
+use Rattle.merkle_theory.specs.MadeRoots.{peaks_of}
+use Rattle.merkle_theory.specs.Multi.{multi_nodes}
+use Rattle.merkle_theory.specs.Plans.{positions_of}
+use Rattle.merkle_theory.proofs.Places.{first_of}
+use Rattle.merkle_theory.proofs.Unnamed.{good_ascend}
 use Rattle.merkle_proofs.proofs.multi.multi_proof_positions.Goals as goal
 
 pub append_unnamed_peaks-requires-clause-begins : goal.append_unnamed_peaks-requires-clause-begins

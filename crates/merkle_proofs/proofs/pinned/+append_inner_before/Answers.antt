@@ -2,15 +2,15 @@ use Rattle.std.proofs.Common.{◌≡◌, ◌+◌, true, false, List, ◌++◌, m
 use Rattle.merkle_forest.specs.Forest.{leaf_count, forest_of}
 use Rattle.merkle_forest.specs.Peaks.{located_from}
 use Rattle.merkle_forest.specs.Trees.{Located}
-use Rattle.merkle_proofs.specs.MadeRoots.{peaks_of}
-use Rattle.merkle_proofs.specs.Pinned.{at_peak, pinned_digest, inner_before}
-use Rattle.merkle_proofs.specs.Plans.{Lookup, sibling_nodes}
-use Rattle.merkle_proofs.specs.Ranges.{Digests, is_before, meets, singly}
+use Rattle.merkle_theory.specs.MadeRoots.{peaks_of}
+use Rattle.merkle_theory.specs.Pinned.{at_peak, pinned_digest, inner_before}
+use Rattle.merkle_theory.specs.Plans.{Lookup, sibling_nodes}
+use Rattle.merkle_theory.specs.Ranges.{Digests, is_before, meets, singly}
 use Rattle.merkle_proofs.proofs.Extractions.{none_more}
-use Rattle.merkle_proofs.proofs.Pins.{peak_before, peak_apart}
-use Rattle.merkle_proofs.proofs.PlanNodes.{on_ok}
-use Rattle.merkle_proofs.proofs.RangePeaks.{none_from}
-use Rattle.merkle_proofs.proofs.Walks.{walk_from}
+use Rattle.merkle_theory.proofs.Pins.{peak_before, peak_apart}
+use Rattle.merkle_theory.proofs.PlanNodes.{on_ok}
+use Rattle.merkle_theory.proofs.RangePeaks.{none_from}
+use Rattle.merkle_theory.proofs.Walks.{walk_from}
 use Rattle.merkle_proofs.proofs.pinned.+append_inner_before.Goals as goal
 
 pub returns-then-first-leaves : goal.returns-then-first-leaves

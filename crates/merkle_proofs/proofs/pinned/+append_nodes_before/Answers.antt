@@ -1,12 +1,12 @@
 use Rattle.std.proofs.Common.{◌≡◌, ◌+◌, true, false, ◌++◌, map, filter, replicate, sym, ◌∙◌, ap, subst, arith}
 use Rattle.merkle_forest.specs.Forest.{leaf, branch, leaf_count}
-use Rattle.merkle_proofs.specs.MadeRoots.{peaks_of}
-use Rattle.merkle_proofs.specs.Pinned.{at_peak, pinned_digest}
-use Rattle.merkle_proofs.specs.Plans.{Lookup, sibling_nodes}
-use Rattle.merkle_proofs.specs.Ranges.{Digests, is_before, meets, singly}
+use Rattle.merkle_theory.specs.MadeRoots.{peaks_of}
+use Rattle.merkle_theory.specs.Pinned.{at_peak, pinned_digest}
+use Rattle.merkle_theory.specs.Plans.{Lookup, sibling_nodes}
+use Rattle.merkle_theory.specs.Ranges.{Digests, is_before, meets, singly}
 use Rattle.merkle_proofs.proofs.Extractions.{none_more}
-use Rattle.merkle_proofs.proofs.Pins.{none_before, one_before, low_before, two_before, more_singly, pushed_digest}
-use Rattle.merkle_proofs.proofs.PlanNodes.{on_ok}
+use Rattle.merkle_theory.proofs.Pins.{none_before, one_before, low_before, two_before, more_singly, pushed_digest}
+use Rattle.merkle_theory.proofs.PlanNodes.{on_ok}
 use Rattle.merkle_proofs.proofs.pinned.+append_nodes_before.Goals as goal
 
 pub returns-then-pins-subtree : goal.returns-then-pins-subtree

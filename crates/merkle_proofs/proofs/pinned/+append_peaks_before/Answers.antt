@@ -4,15 +4,15 @@ use Rattle.std.proofs.lemmas.Bool.{le-leb, lt-leb}
 use Rattle.merkle_forest.specs.Forest.{leaf_count, forest_of}
 use Rattle.merkle_forest.specs.Peaks.{located_from}
 use Rattle.merkle_forest.specs.Trees.{Located}
-use Rattle.merkle_proofs.specs.MadeRoots.{peaks_of}
-use Rattle.merkle_proofs.specs.Pinned.{at_peak, pinned_digest}
-use Rattle.merkle_proofs.specs.Plans.{Lookup}
-use Rattle.merkle_proofs.specs.Ranges.{Digests, is_before, singly}
+use Rattle.merkle_theory.specs.MadeRoots.{peaks_of}
+use Rattle.merkle_theory.specs.Pinned.{at_peak, pinned_digest}
+use Rattle.merkle_theory.specs.Plans.{Lookup}
+use Rattle.merkle_theory.specs.Ranges.{Digests, is_before, singly}
 use Rattle.merkle_proofs.proofs.Extractions.{none_more, skipped}
-use Rattle.merkle_proofs.proofs.Pins.{more_singly, pushed_digest}
-use Rattle.merkle_proofs.proofs.PlanNodes.{on_ok, passed}
-use Rattle.merkle_proofs.proofs.RangePeaks.{none_from, take_none}
-use Rattle.merkle_proofs.proofs.Walks.{walk_from}
+use Rattle.merkle_theory.proofs.Pins.{more_singly, pushed_digest}
+use Rattle.merkle_theory.proofs.PlanNodes.{on_ok, passed}
+use Rattle.merkle_theory.proofs.RangePeaks.{none_from, take_none}
+use Rattle.merkle_theory.proofs.Walks.{walk_from}
 use Rattle.merkle_proofs.proofs.pinned.+append_peaks_before.Goals as goal
 
 pub returns-then-first-leaves : goal.returns-then-first-leaves

@@ -1,5 +1,5 @@
 use Rattle.std.proofs.Common.{map, refl}
-use Rattle.merkle_proofs.proofs.Pins.{begins_none}
+use Rattle.merkle_theory.proofs.Pins.{begins_none}
 use Rattle.merkle_proofs.proofs.pinned.+begins_with.Goals as goal
 
 pub returns-in_default : goal.returns-in_default

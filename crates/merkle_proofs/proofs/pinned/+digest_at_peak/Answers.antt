@@ -2,11 +2,11 @@ use Rattle.std.proofs.Common.{List, ◌∷◌, map, option_map, sym, ◌∙◌, 
 use Rattle.merkle_forest.specs.Forest.{forest_of}
 use Rattle.merkle_forest.specs.Peaks.{located_from}
 use Rattle.merkle_forest.specs.Trees.{Located}
-use Rattle.merkle_proofs.specs.Pinned.{at_peak}
-use Rattle.merkle_proofs.proofs.Pins.{no_digest_there, at_here, at_later}
-use Rattle.merkle_proofs.proofs.RangePeaks.{none_from}
-use Rattle.merkle_proofs.proofs.RangeTrees.{no_digest}
-use Rattle.merkle_proofs.proofs.Walks.{walk_from}
+use Rattle.merkle_theory.specs.Pinned.{at_peak}
+use Rattle.merkle_theory.proofs.Pins.{no_digest_there, at_here, at_later}
+use Rattle.merkle_theory.proofs.RangePeaks.{none_from}
+use Rattle.merkle_theory.proofs.RangeTrees.{no_digest}
+use Rattle.merkle_theory.proofs.Walks.{walk_from}
 use Rattle.merkle_proofs.proofs.pinned.+digest_at_peak.Goals as goal
 
 pub returns-then-first-leaves : goal.returns-then-first-leaves

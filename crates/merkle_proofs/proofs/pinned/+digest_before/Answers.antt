@@ -1,12 +1,12 @@
 use Rattle.std.proofs.Common.{◌≡◌, ℕ, ◌+◌, List, map, None, Some, sym, ◌∙◌, ap, ap₂, subst, arith, replicate}
 use Rattle.merkle_forest.specs.Forest.{leaf, branch, leaf_count, forest_of}
 use Rattle.merkle_forest.specs.Laws.Peaks.{located_from-zero}
-use Rattle.merkle_proofs.specs.MadeRoots.{peaks_of}
-use Rattle.merkle_proofs.specs.Pinned.{at_peak, pinned_digest}
-use Rattle.merkle_proofs.specs.Plans.{Lookup}
-use Rattle.merkle_proofs.specs.Ranges.{Digests}
-use Rattle.merkle_proofs.proofs.Pins.{pinned_here, not_pinned, made_of_two}
-use Rattle.merkle_proofs.proofs.Places.{first_of}
+use Rattle.merkle_theory.specs.MadeRoots.{peaks_of}
+use Rattle.merkle_theory.specs.Pinned.{at_peak, pinned_digest}
+use Rattle.merkle_theory.specs.Plans.{Lookup}
+use Rattle.merkle_theory.specs.Ranges.{Digests}
+use Rattle.merkle_theory.proofs.Pins.{pinned_here, not_pinned, made_of_two}
+use Rattle.merkle_theory.proofs.Places.{first_of}
 use Rattle.merkle_proofs.proofs.pinned.+digest_before.Goals as goal
 
 pub digest_at_peak-requires-clause-begins : goal.digest_at_peak-requires-clause-begins

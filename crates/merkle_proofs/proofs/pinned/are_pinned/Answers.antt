@@ -5,13 +5,13 @@ use Rattle.merkle_forest.specs.Forest.{forest_of}
 use Rattle.merkle_forest.specs.Hashing.{folded_forward}
 use Rattle.merkle_forest.specs.Laws.Peaks.{located_from-zero}
 use Rattle.merkle_forest.specs.Peaks.{located_from}
-use Rattle.merkle_proofs.specs.MadeRoots.{from_left, peaks_of}
-use Rattle.merkle_proofs.specs.Pinned.{at_peak, pinned_digest, outer_before, inner_before, Begins}
-use Rattle.merkle_proofs.specs.RangeCounts.{range_outer}
-use Rattle.merkle_proofs.specs.Ranges.{Digests, is_before, as_one, singly}
-use Rattle.merkle_proofs.proofs.Places.{first_of}
-use Rattle.merkle_proofs.proofs.RangePeaks.{all_taken}
-use Rattle.merkle_proofs.proofs.RangeRoots.{drop-map}
+use Rattle.merkle_theory.specs.MadeRoots.{from_left, peaks_of}
+use Rattle.merkle_theory.specs.Pinned.{at_peak, pinned_digest, outer_before, inner_before, Begins}
+use Rattle.merkle_theory.specs.RangeCounts.{range_outer}
+use Rattle.merkle_theory.specs.Ranges.{Digests, is_before, as_one, singly}
+use Rattle.merkle_theory.proofs.Places.{first_of}
+use Rattle.merkle_theory.proofs.RangePeaks.{all_taken}
+use Rattle.merkle_theory.proofs.RangeRoots.{drop-map}
 use Rattle.merkle_proofs.proofs.pinned.are_pinned.Goals as goal
 
 pub peaks_from-requires-clause-begins : goal.peaks_from-requires-clause-begins

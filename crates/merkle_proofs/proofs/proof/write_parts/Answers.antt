@@ -1,4 +1,4 @@
-use Rattle.merkle_proofs.specs.Laws.Proofs.{parts_written}
+use Rattle.merkle_theory.specs.Laws.Proofs.{parts_written}
 use Rattle.merkle_proofs.proofs.proof.write_parts.Goals as goal
 
 pub returns-clause-ok : goal.returns-clause-ok

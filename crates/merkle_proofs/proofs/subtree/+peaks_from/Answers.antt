@@ -2,7 +2,7 @@ use Rattle.std.proofs.Common.{◌≡◌, length, ap, sym, arith}
 use Rattle.merkle_forest.specs.Forest.{leaves, forest_of}
 use Rattle.merkle_forest.specs.Laws.ForestGrowth.{leaves-forest_of}
 use Rattle.merkle_forest.specs.Laws.Peaks.{located_from-end}
-use Rattle.merkle_proofs.proofs.Walks.{walk_from}
+use Rattle.merkle_theory.proofs.Walks.{walk_from}
 use Rattle.merkle_proofs.proofs.subtree.+peaks_from.Goals as goal
 
 pub returns-then-first-leaves-clause-count : goal.returns-then-first-leaves-clause-count

@@ -2,7 +2,7 @@ use Rattle.std.proofs.Common.{◌<◌, ◌+◌, ℕ, refl, sym, subst, arith}
 use Rattle.merkle_forest.specs.Forest.{forest_of}
 use Rattle.merkle_forest.specs.Nodes.{HasPeak}
 use Rattle.merkle_forest.specs.Laws.Nodes.{peak-node, node-leaves}
-use Rattle.merkle_proofs.proofs.Places.{after, shift, peak_position}
+use Rattle.merkle_theory.proofs.Places.{after, shift, peak_position}
 use Rattle.merkle_proofs.proofs.subtree.peak_at.Goals as goal
 
 pub overflow_shl-result : goal.overflow_shl-result

@@ -1,10 +1,10 @@
 use Rattle.std.proofs.Common.{◌≡◌, ℕ, ◌+◌, List, length, map, Option, option_map, sym, ◌∙◌, ap, arith}
 use Rattle.std.proofs.lemmas.List.{length-map}
 use Rattle.merkle_forest.specs.Made.{Made, value}
-use Rattle.merkle_proofs.specs.MadeTrees.{from}
-use Rattle.merkle_proofs.specs.MadeRoots.{peaks_of, read_root}
-use Rattle.merkle_proofs.specs.RangeCounts.{range_outer}
-use Rattle.merkle_proofs.proofs.RangeRoots.{range_there}
+use Rattle.merkle_theory.specs.MadeTrees.{from}
+use Rattle.merkle_theory.specs.MadeRoots.{peaks_of, read_root}
+use Rattle.merkle_theory.specs.RangeCounts.{range_outer}
+use Rattle.merkle_theory.proofs.RangeRoots.{range_there}
 use Rattle.merkle_proofs.proofs.verifying.reconstruct_range.Goals as goal
 
 pub returns-clause-root : goal.returns-clause-root

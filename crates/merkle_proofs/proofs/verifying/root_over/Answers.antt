@@ -11,17 +11,17 @@ use Rattle.merkle_forest.specs.Laws.Trees.{length-located}
 use Rattle.merkle_forest.specs.Made.{Made, value}
 use Rattle.merkle_forest.specs.Trees.{Located}
 use Rattle.merkle_proofs.specs.declared.verifying.error.ReconstructionError.TheVariants.{MissingDigests, ExtraDigests}
-use Rattle.merkle_proofs.specs.MadeTrees.{Over, Elements, from}
-use Rattle.merkle_proofs.specs.MadeRoots.{Naming, Streams, Bagged, from_left, peaks_of, read_bag, read_root}
-use Rattle.merkle_proofs.specs.RangeCounts.{range_outer}
-use Rattle.merkle_proofs.specs.Reads.{valued}
+use Rattle.merkle_theory.specs.MadeTrees.{Over, Elements, from}
+use Rattle.merkle_theory.specs.MadeRoots.{Naming, Streams, Bagged, from_left, peaks_of, read_bag, read_root}
+use Rattle.merkle_theory.specs.RangeCounts.{range_outer}
+use Rattle.merkle_theory.specs.Reads.{valued}
 use Rattle.merkle_proofs.specs.Reconstruction.{RangeProofOf, HasRange, IsRefusalToReconstruct}
-use Rattle.merkle_proofs.specs.Soundness.{plain_names}
-use Rattle.merkle_proofs.proofs.DigestCounts.{missing_few, left_many}
-use Rattle.merkle_proofs.proofs.HonestRoots.{ascend_located, peak_there}
-use Rattle.merkle_proofs.proofs.RangeTrees.{read_none, read_some}
-use Rattle.merkle_proofs.proofs.RangeRoots.{few_peaks, bag_missing, digests_left, root_there, drop-map, no_encoding}
-use Rattle.merkle_proofs.proofs.Places.{first_of}
+use Rattle.merkle_theory.specs.Soundness.{plain_names}
+use Rattle.merkle_theory.proofs.DigestCounts.{missing_few, left_many}
+use Rattle.merkle_theory.proofs.HonestRoots.{ascend_located, peak_there}
+use Rattle.merkle_theory.proofs.RangeTrees.{read_none, read_some}
+use Rattle.merkle_theory.proofs.RangeRoots.{few_peaks, bag_missing, digests_left, root_there, drop-map, no_encoding}
+use Rattle.merkle_theory.proofs.Places.{first_of}
 use Rattle.merkle_proofs.proofs.verifying.root_over.Goals.{After-folded_singly-singly, Then-not-is_used_up}
 use Rattle.merkle_proofs.proofs.verifying.root_over.Goals as goal
 

@@ -1,5 +1,5 @@
 use Rattle.std.proofs.Common.{◌≡◌, ◌≤◌, ◌+◌, ◌*◌, ◌^◌, length, true, sym, ◌∙◌, arith, rules}
-use Rattle.state_proofs_parts.specs.Bits.{bit_count}
+use Rattle.state_theory.specs.Bits.{bit_count}
 use Rattle.proofs_player.proofs.Between.{all_between, moved}
 use Rattle.proofs_player.proofs.overlays.stage.Goals as goal
 

@@ -1,7 +1,7 @@
 use Rattle.std.proofs.Common.{arith}
 use Rattle.std.proofs.lemmas.Nat.{pow_pos}
-use Rattle.state_proofs_parts.specs.Canonical.{Setting, setting_with}
-use Rattle.state_proofs_parts.specs.Laws.Heights.{some_height}
+use Rattle.state_theory.specs.Canonical.{Setting, setting_with}
+use Rattle.state_theory.specs.Laws.Heights.{some_height}
 use Rattle.state_current.proofs.LeafLemmas.{leaves_grow}
 use Rattle.state_current.proofs.laws.leaves_grow_with_the_state.Goals as goal
 

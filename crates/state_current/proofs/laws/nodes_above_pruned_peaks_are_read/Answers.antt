@@ -1,6 +1,6 @@
-use Rattle.state_proofs_parts.specs.Canonical.{Setting, setting_with}
-use Rattle.state_proofs_parts.specs.Laws.Heights.{some_height}
-use Rattle.state_proofs_parts.specs.Laws.SameNodes.{born}
+use Rattle.state_theory.specs.Canonical.{Setting, setting_with}
+use Rattle.state_theory.specs.Laws.Heights.{some_height}
+use Rattle.state_theory.specs.Laws.SameNodes.{born}
 use Rattle.state_current.proofs.ReadLemmas.{node_read}
 use Rattle.state_current.proofs.laws.nodes_above_pruned_peaks_are_read.Goals as goal
 

@@ -6,7 +6,7 @@ use Rattle.merkle_forest.specs.Laws.Nodes.{node-leaves, peak-node}
 use Rattle.merkle_forest.specs.Laws.Peaks.{IsStep, step, cut-zero}
 use Rattle.merkle_forest.specs.Nodes.{HasPeak}
 use Rattle.merkle_core_parts.specs.Laws.Peaks.{begins}
-use Rattle.state_proofs_parts.specs.Laws.SameNodes.{born}
+use Rattle.state_theory.specs.Laws.SameNodes.{born}
 use Rattle.state_current.proofs.SettledLemmas.{raised, settled_next, settled_all, within_of}
 use Rattle.state_current.proofs.SettledNodes.{settled_within}
 use Rattle.state_current.proofs.settled.is_settled.Goals.{After-peak_from-high}

@@ -3,7 +3,7 @@ use Rattle.std.specs.Prelude.{IfErr}
 use Rattle.std.proofs.lemmas.Result.{err_from_is_err_and}
 use Rattle.merkle_core_parts.specs.Mem.{Additions}
 use Rattle.merkle_core_parts.specs.declared.error.Error.TheVariants.{Memory}
-use Rattle.state_proofs_parts.specs.Laws.Refusals.{past_memory}
+use Rattle.state_theory.specs.Laws.Refusals.{past_memory}
 use Rattle.state_current.specs.ChunkLeaves.{chunk_leaf, leaves_from}
 use Rattle.state_current.proofs.TreeLemmas.{leaf_next, length-leaves_from}
 use Rattle.state_current.proofs.trees.add_leaves.Goals as goal

@@ -4,7 +4,7 @@ use Rattle.std.proofs.lemmas.Result.{err_from_is_err_and}
 use Rattle.std.proofs.lemmas.List.{take_all, take_more, map-append, length-map, length-take}
 use Rattle.merkle_core_parts.specs.declared.error.Error.TheVariants.{Memory}
 use Rattle.merkle_core_parts.specs.Laws.Plain.{length-plain}
-use Rattle.state_proofs_parts.specs.Laws.Refusals.{past_memory}
+use Rattle.state_theory.specs.Laws.Refusals.{past_memory}
 use Rattle.merkle_forest.specs.Hashing.{leaf_string}
 use Rattle.merkle_core_parts.specs.Mem.{Additions, node_count, plain_leaf_digests}
 use Rattle.state_current.proofs.TreeLemmas.{operation_next}

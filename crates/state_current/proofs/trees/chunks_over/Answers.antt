@@ -5,7 +5,7 @@ use Rattle.std.specs.List.{AllByRecursion}
 use Rattle.merkle_forest.specs.Forest.{forest_of}
 use Rattle.merkle_forest.specs.Nodes.{nodes_of_height}
 use Rattle.merkle_core_parts.specs.Mem.{Additions, AreNodesOf, Growth, Replacement, base_of, replaced, with_batch, with_leaves}
-use Rattle.state_proofs_parts.specs.GraftedNodes.{chunks_node}
+use Rattle.state_theory.specs.GraftedNodes.{chunks_node}
 use Rattle.state_current.specs.ChunkLeaves.{IsReady, chunk_leaf, leaves_from, leaves_over}
 use Rattle.state_current.proofs.GrownLemmas.{all_mapped, all_right, nodes_few}
 use Rattle.state_current.proofs.TreeLemmas.{length-leaves_from, ok_count, ok_nodes}

@@ -1,6 +1,6 @@
 use Rattle.std.proofs.lemmas.Result.{IfErr-weaker, IfOk-weaker}
 use Rattle.merkle_core_parts.specs.Mem.{base_of}
-use Rattle.state_proofs_parts.specs.Laws.Refusals.{onto_memory}
+use Rattle.state_theory.specs.Laws.Refusals.{onto_memory}
 use Rattle.state_current.proofs.TreeLemmas.{applied_alone}
 use Rattle.state_current.proofs.trees.reserved.Goals as goal
 

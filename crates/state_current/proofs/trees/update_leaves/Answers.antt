@@ -5,7 +5,7 @@ use Rattle.std.proofs.lemmas.List.{take_all, take_more}
 use Rattle.std.proofs.lemmas.Result.{err_from_is_err_and}
 use Rattle.merkle_core_parts.specs.Mem.{Additions}
 use Rattle.merkle_core_parts.specs.declared.error.Error.TheVariants.{Memory}
-use Rattle.state_proofs_parts.specs.Laws.Refusals.{at_memory}
+use Rattle.state_theory.specs.Laws.Refusals.{at_memory}
 use Rattle.state_current.specs.ChunkLeaves.{IsReady, chunk_leaf, leaves_over}
 use Rattle.state_current.proofs.TreeLemmas.{all_at, place_updated, place_passed}
 use Rattle.state_current.proofs.trees.update_leaves.Goals as goal

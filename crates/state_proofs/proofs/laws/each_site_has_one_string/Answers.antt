@@ -1,10 +1,10 @@
 use Rattle.std.proofs.Common.{ℕ}
 use Rattle.merkle_forest.specs.Forest.{Rule}
 use Rattle.merkle_forest.specs.Hashing.{Hash}
-use Rattle.state_proofs_parts.specs.Canonical.{Setting}
-use Rattle.state_proofs.specs.Verified.{shown_alone}
+use Rattle.state_theory.specs.Canonical.{Setting}
+use Rattle.state_theory.specs.Verified.{shown_alone}
 use Rattle.state_proofs.proofs.OneEachProofs.{shown_one, witnessed_one}
-use Rattle.state_proofs_parts.specs.Laws.OneEachStates.{hashed_one}
+use Rattle.state_theory.specs.Laws.OneEachStates.{hashed_one}
 use Rattle.state_proofs.proofs.laws.each_site_has_one_string.Goals as goal
 
 -- the setting of the law

@@ -1,9 +1,9 @@
 use Rattle.std.proofs.Common.{List, ℕ, sym, subst}
-use Rattle.state_proofs_parts.specs.Canonical.{Setting, canonical_root}
+use Rattle.state_theory.specs.Canonical.{Setting, canonical_root}
 use Rattle.state_proofs.specs.Exclusion.{proof_of, operation_of}
-use Rattle.state_proofs.specs.Honest.{honest_parts}
-use Rattle.state_proofs.specs.Verified.{Parts, Verifies}
-use Rattle.state_proofs.proofs.Alone.{at_place, within_list}
+use Rattle.state_theory.specs.Honest.{honest_parts}
+use Rattle.state_theory.specs.Verified.{Parts, Verifies}
+use Rattle.state_theory.proofs.Alone.{at_place, within_list}
 use Rattle.state_proofs.proofs.laws.honest_absences_verify.Goals as goal
 
 pub returns : goal.returns

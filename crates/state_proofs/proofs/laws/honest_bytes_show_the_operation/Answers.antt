@@ -1,7 +1,7 @@
 use Rattle.std.proofs.Common.{refl}
-use Rattle.state_proofs_parts.specs.Canonical.{Setting}
-use Rattle.state_proofs.specs.Honest.{honest_parts}
-use Rattle.state_proofs.specs.Laws.HonestSizes.{honest_fits}
+use Rattle.state_theory.specs.Canonical.{Setting}
+use Rattle.state_theory.specs.Honest.{honest_parts}
+use Rattle.state_theory.specs.Laws.HonestSizes.{honest_fits}
 use Rattle.state_proofs.proofs.laws.honest_bytes_show_the_operation.Goals as goal
 
 pub returns : goal.returns

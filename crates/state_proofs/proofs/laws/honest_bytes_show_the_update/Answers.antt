@@ -1,6 +1,6 @@
 use Rattle.std.proofs.Common.{List, ℕ, ◌++◌, ap, subst}
-use Rattle.state_proofs_parts.specs.Canonical.{Setting, canonical_root}
-use Rattle.state_proofs.specs.Verified.{Verifies}
+use Rattle.state_theory.specs.Canonical.{Setting, canonical_root}
+use Rattle.state_theory.specs.Verified.{Verifies}
 use Rattle.state_proofs.proofs.laws.honest_bytes_show_the_update.Goals as goal
 
 pub returns : goal.returns

@@ -1,10 +1,10 @@
 use Rattle.std.proofs.Common.{◌<◌, List, [], arith}
 use Rattle.std.proofs.lemmas.Nat.{pow_pos}
 use Rattle.std.specs.Prelude.{slice_index_or}
-use Rattle.state_proofs_parts.specs.Canonical.{Setting}
-use Rattle.state_proofs.specs.Honest.{honest_parts}
-use Rattle.state_proofs.specs.Verified.{shown_alone}
-use Rattle.state_proofs.proofs.Alone.{honest_wide, honest_shaped, honest_range_there, honest_active}
+use Rattle.state_theory.specs.Canonical.{Setting}
+use Rattle.state_theory.specs.Honest.{honest_parts}
+use Rattle.state_theory.specs.Verified.{shown_alone}
+use Rattle.state_theory.proofs.Alone.{honest_wide, honest_shaped, honest_range_there, honest_active}
 use Rattle.state_proofs.proofs.laws.honest_proofs_verify.Goals as goal
 
 pub returns : goal.returns

@@ -1,4 +1,4 @@
-use Rattle.state_proofs.specs.Laws.FewDigests.{ranges_are_few}
+use Rattle.state_theory.specs.Laws.FewDigests.{ranges_are_few}
 use Rattle.state_proofs.proofs.laws.honest_range_digests_are_few.Goals as goal
 
 pub returns : goal.returns

@@ -3,9 +3,9 @@ use Rattle.merkle_forest.specs.Hashing.{Hash}
 use Rattle.merkle_forest.specs.Forest.{Rule}
 use Rattle.merkle_proofs.specs.declared.extraction.ExtractionError.{ExtractionError}
 use Rattle.merkle_proofs.specs.declared.extraction.ExtractionError.TheVariants.{InvalidProof, RootMismatch, Memory}
-use Rattle.state_proofs_parts.specs.Canonical.{Setting}
+use Rattle.state_theory.specs.Canonical.{Setting}
 use Rattle.state_proofs.specs.RangeExtracted.{IsRefusalToTell}
-use Rattle.state_proofs.specs.Verified.{Shown, VerifiesRange, RangeParts}
+use Rattle.state_theory.specs.Verified.{Shown, VerifiesRange, RangeParts}
 use Rattle.state_proofs.proofs.RangeLed.{one_led, none_led}
 use Rattle.state_proofs.proofs.RangeNodes.{honest_shows}
 use Rattle.state_proofs.proofs.laws.honest_ranges_tell_the_nodes_of_the_state.Goals as goal

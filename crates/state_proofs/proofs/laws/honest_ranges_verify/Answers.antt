@@ -1,8 +1,8 @@
 use Rattle.std.proofs.Common.{length}
-use Rattle.state_proofs_parts.specs.Canonical.{Setting}
-use Rattle.state_proofs_parts.specs.Laws.ChunkCounts.{one_pending}
-use Rattle.state_proofs_parts.specs.Laws.Heights.{some_height}
-use Rattle.state_proofs.proofs.RangeAccepted.{range_verifies}
+use Rattle.state_theory.specs.Canonical.{Setting}
+use Rattle.state_theory.specs.Laws.ChunkCounts.{one_pending}
+use Rattle.state_theory.specs.Laws.Heights.{some_height}
+use Rattle.state_theory.proofs.RangeAccepted.{range_verifies}
 use Rattle.state_proofs.proofs.laws.honest_ranges_verify.Goals as goal
 
 pub returns : goal.returns

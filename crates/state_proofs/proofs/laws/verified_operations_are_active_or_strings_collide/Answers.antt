@@ -1,8 +1,8 @@
 use Rattle.std.proofs.Common.{◌<◌, inl, inr, ⊎_elim, arith}
 use Rattle.std.proofs.lemmas.Nat.{pow_pos}
-use Rattle.state_proofs_parts.specs.Canonical.{Setting}
-use Rattle.state_proofs.specs.Verified.{shown_alone}
-use Rattle.state_proofs.proofs.Alone.{active_alone}
+use Rattle.state_theory.specs.Canonical.{Setting}
+use Rattle.state_theory.specs.Verified.{shown_alone}
+use Rattle.state_theory.proofs.Alone.{active_alone}
 use Rattle.state_proofs.proofs.laws.verified_operations_are_active_or_strings_collide.Goals as goal
 
 pub returns : goal.returns

@@ -1,7 +1,7 @@
 use Rattle.std.proofs.Common.{inl, inr, ⊎_elim}
-use Rattle.state_proofs_parts.specs.Canonical.{Setting}
-use Rattle.state_proofs.specs.Verified.{shown_alone}
-use Rattle.state_proofs.proofs.Alone.{parts_alone}
+use Rattle.state_theory.specs.Canonical.{Setting}
+use Rattle.state_theory.specs.Verified.{shown_alone}
+use Rattle.state_theory.proofs.Alone.{parts_alone}
 use Rattle.state_proofs.proofs.laws.verified_operations_are_honest_or_strings_collide.Goals as goal
 
 pub returns : goal.returns

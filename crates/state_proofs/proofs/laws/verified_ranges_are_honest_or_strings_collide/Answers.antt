@@ -1,5 +1,5 @@
-use Rattle.state_proofs_parts.specs.Canonical.{Setting}
-use Rattle.state_proofs.proofs.RangeIsHonest.{range_is_honest}
+use Rattle.state_theory.specs.Canonical.{Setting}
+use Rattle.state_theory.proofs.RangeIsHonest.{range_is_honest}
 use Rattle.state_proofs.proofs.laws.verified_ranges_are_honest_or_strings_collide.Goals as goal
 
 pub returns : goal.returns

@@ -1,4 +1,4 @@
-use Rattle.state_proofs.proofs.Extending.{extends_first, extends_two}
+use Rattle.state_theory.proofs.Extending.{extends_first, extends_two}
 use Rattle.state_proofs.proofs.operation.write_parts.Goals as goal
 
 pub returns-in_err-write-clause-err : goal.returns-in_err-write-clause-err

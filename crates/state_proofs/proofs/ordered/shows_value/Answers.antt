@@ -4,13 +4,13 @@ use Rattle.std.specs.declared.vec.Vec.{Vec}
 use Rattle.merkle_forest.specs.Codec.{Outcome, ◌>>=◌}
 use Rattle.merkle_forest.specs.Laws.Lists.{bind_ok}
 use Rattle.state_ops.specs.Operation.{ordered, update, fixed_encoding}
-use Rattle.state_proofs.specs.Encoded.{Format, format_of, ShowsUpdate, operation_proof_encoding, after_operation_proof, after_key_value_proof}
-use Rattle.state_proofs.specs.Laws.Encoded.{Grammar, grammar_of}
+use Rattle.state_theory.specs.Encoded.{Format, format_of, ShowsUpdate, operation_proof_encoding, after_operation_proof, after_key_value_proof}
+use Rattle.state_theory.specs.Laws.Encoded.{Grammar, grammar_of}
 use Rattle.state_proofs.specs.Laws.Reading.{read_operation_fits}
 use Rattle.state_ops.specs.Reading.{IsField}
-use Rattle.state_proofs.specs.Laws.Showing.{shows_read, shows_exactly, refuses_none, refused_shows, refused_says_no, said_on_yes, answered_alike}
+use Rattle.state_theory.specs.Laws.Showing.{shows_read, shows_exactly, refuses_none, refused_shows, refused_says_no, said_on_yes, answered_alike}
 use Rattle.state_proofs.specs.ProofsCode.{parts_of}
-use Rattle.state_proofs.specs.Verified.{Parts, Verifies}
+use Rattle.state_theory.specs.Verified.{Parts, Verifies}
 use Rattle.state_proofs.proofs.ordered.shows_value.Goals as goal
 
 pub returns-in-Err-clause-exact : goal.returns-in-Err-clause-exact

@@ -1,4 +1,4 @@
-use Rattle.state_proofs.proofs.Extending.{extends_first}
+use Rattle.state_theory.proofs.Extending.{extends_first}
 use Rattle.state_proofs.proofs.ordered.write_parts.Goals as goal
 
 pub returns-in_err-write-clause-err : goal.returns-in_err-write-clause-err

@@ -1,7 +1,7 @@
 use Rattle.std.proofs.Common.{rules, tests}
 use Rattle.std.proofs.lemmas.Iterator.{YieldsList-from_map_by, YieldsList-from_slice}
 use Rattle.std.proofs.lemmas.Iterator.Consumers.{map_from_collect}
-use Rattle.state_proofs.specs.LogProofs.{placed}
+use Rattle.state_theory.specs.LogProofs.{placed}
 use Rattle.state_proofs.proofs.verify.lent_with_locations.Goals as goal
 
 pub returns : goal.returns

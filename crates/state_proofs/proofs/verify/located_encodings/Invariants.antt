@@ -1,5 +1,5 @@
 use Rattle.std.proofs.Common.{◌≡◌, ◌++◌, map, length}
-use Rattle.state_proofs.specs.LogProofs.{placed}
+use Rattle.state_theory.specs.LogProofs.{placed}
 use Rattle.state_proofs.proofs.verify.located_encodings.Given as goal
 
 abbrev pub invariant-loop-rest : goal.invariant-loop-rest

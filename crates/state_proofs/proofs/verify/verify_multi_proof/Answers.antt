@@ -4,11 +4,11 @@ use Rattle.merkle_forest.specs.declared.bagging.Bagging.{Bagging}
 use Rattle.merkle_forest.specs.Forest.{Rule}
 use Rattle.merkle_forest.specs.Hashing.{Hash}
 use Rattle.merkle_forest.specs.Made.{value}
-use Rattle.merkle_proofs.specs.MadeTrees.{plain_over}
-use Rattle.merkle_proofs.specs.MultiReads.{multi_root}
-use Rattle.merkle_proofs.specs.Soundness.{plain_names}
-use Rattle.state_proofs.specs.LogProofs.{placed}
-use Rattle.state_proofs.proofs.LogLemmas.{plainly}
+use Rattle.merkle_theory.specs.MadeTrees.{plain_over}
+use Rattle.merkle_theory.specs.MultiReads.{multi_root}
+use Rattle.merkle_theory.specs.Soundness.{plain_names}
+use Rattle.state_theory.specs.LogProofs.{placed}
+use Rattle.state_theory.proofs.LogLemmas.{plainly}
 use Rattle.state_proofs.proofs.verify.verify_multi_proof.Goals as goal
 
 pub returns : goal.returns

@@ -3,10 +3,10 @@ use Rattle.merkle_forest.specs.Hashing.{Hash}
 use Rattle.merkle_forest.specs.Forest.{Rule}
 use Rattle.std.specs.Prelude.{option_map}
 use Rattle.merkle_forest.specs.Made.{value}
-use Rattle.merkle_proofs.specs.MadeTrees.{plain_over}
-use Rattle.merkle_proofs.specs.Reads.{range_root}
-use Rattle.merkle_proofs.specs.Soundness.{plain_names}
-use Rattle.state_proofs.proofs.LogLemmas.{plainly, carried}
+use Rattle.merkle_theory.specs.MadeTrees.{plain_over}
+use Rattle.merkle_theory.specs.Reads.{range_root}
+use Rattle.merkle_theory.specs.Soundness.{plain_names}
+use Rattle.state_theory.proofs.LogLemmas.{plainly, carried}
 use Rattle.state_proofs.proofs.verify.verify_proof.Goals as goal
 
 same : (g : _) (c : goal.After-drop-encoded-2 g) → map (λ e. e.now) c.deref-2.result.now ≡ map g.O.Write.encoding c.args.operations.now

@@ -4,12 +4,12 @@ use Rattle.merkle_forest.specs.Forest.{Rule}
 use Rattle.std.specs.Prelude.{option_map}
 use Rattle.merkle_forest.specs.Made.{value}
 use Rattle.merkle_proofs.specs.Extracted.{AreMadeOf, AreGiven, AreExtracted, extracted_nodes, IsRefusalToExtract}
-use Rattle.merkle_proofs.specs.MadeRoots.{from_left, peaks_of}
-use Rattle.merkle_proofs.specs.MadeTrees.{from, plain_over}
-use Rattle.merkle_proofs.specs.Reads.{range_root}
-use Rattle.merkle_proofs.specs.Soundness.{plain_names}
-use Rattle.state_proofs.specs.LogProofs.{leaf_hash, branch_hash}
-use Rattle.state_proofs.proofs.LogLemmas.{plainly, carried}
+use Rattle.merkle_theory.specs.MadeRoots.{from_left, peaks_of}
+use Rattle.merkle_theory.specs.MadeTrees.{from, plain_over}
+use Rattle.merkle_theory.specs.Reads.{range_root}
+use Rattle.merkle_theory.specs.Soundness.{plain_names}
+use Rattle.state_theory.specs.LogProofs.{leaf_hash, branch_hash}
+use Rattle.state_theory.proofs.LogLemmas.{plainly, carried}
 use Rattle.state_proofs.proofs.verify.verify_proof_and_extract_digests.Goals as goal
 
 same : (g : _) (c : goal.After-drop-encoded-2 g) → map (λ e. e.now) c.deref-2.result.now ≡ map g.O.Write.encoding c.args.operations.now

@@ -1,7 +1,7 @@
 use Rattle.std.proofs.Common.{◌*◌, ◌%◌, false, get_or, ◌∙◌, ap}
-use Rattle.state_proofs_parts.specs.Bits.{bits_in}
-use Rattle.state_proofs_parts.proofs.LastLemmas.{bit-read}
-use Rattle.state_proofs_parts.proofs.WidthLemmas.{wide-some}
+use Rattle.state_theory.specs.Bits.{bits_in}
+use Rattle.state_theory.proofs.LastLemmas.{bit-read}
+use Rattle.state_theory.proofs.WidthLemmas.{wide-some}
 use Rattle.state_proofs_parts.proofs.bitmap_laws.a_bit_of_a_true_claim_is_that_of_the_list.Goals as goal
 
 pub returns : goal.returns

@@ -1,5 +1,5 @@
-use Rattle.state_proofs_parts.proofs.LastLemmas.{bit-read}
-use Rattle.state_proofs_parts.proofs.WidthLemmas.{wide-some}
+use Rattle.state_theory.proofs.LastLemmas.{bit-read}
+use Rattle.state_theory.proofs.WidthLemmas.{wide-some}
 use Rattle.state_proofs_parts.proofs.bitmap_laws.a_bit_of_its_chunk_is_that_of_the_list.Goals as goal
 
 pub returns : goal.returns

@@ -1,8 +1,8 @@
 use Rattle.std.proofs.Common.{◌*◌, ◌/◌, ◌∷◌, []}
 use Rattle.merkle_forest.specs.Forest.{mmr_rule}
-use Rattle.merkle_proofs.specs.Reads.{claim_of}
-use Rattle.state_proofs_parts.specs.Bits.{full_chunks}
-use Rattle.state_proofs_parts.proofs.OneEachLemmas.{made_one, rebuilt_one}
+use Rattle.merkle_theory.specs.Reads.{claim_of}
+use Rattle.state_theory.specs.Bits.{full_chunks}
+use Rattle.state_theory.proofs.OneEachLemmas.{made_one, rebuilt_one}
 use Rattle.state_proofs_parts.proofs.bitmap_laws.each_site_has_one_string.Goals as goal
 
 pub returns : goal.returns

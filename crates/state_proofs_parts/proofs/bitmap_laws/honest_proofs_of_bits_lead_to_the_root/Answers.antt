@@ -1,5 +1,5 @@
 use Rattle.std.proofs.Common.{ℕ, List, sym, ◌∙◌, ap, arith, Some}
-use Rattle.state_proofs_parts.proofs.HonestLemmas.{honest_root}
+use Rattle.state_theory.proofs.HonestLemmas.{honest_root}
 use Rattle.state_proofs_parts.proofs.bitmap_laws.honest_proofs_of_bits_lead_to_the_root.Goals as goal
 
 pub returns : goal.returns

@@ -1,4 +1,4 @@
-use Rattle.state_proofs_parts.proofs.KeptLemmas.{kept-all}
+use Rattle.state_theory.proofs.KeptLemmas.{kept-all}
 use Rattle.state_proofs_parts.proofs.bitmap_laws.nothing_pruned_is_the_list.Goals as goal
 
 pub returns : goal.returns

@@ -1,4 +1,4 @@
-use Rattle.state_proofs_parts.proofs.KeptLemmas.{kept-prune}
+use Rattle.state_theory.proofs.KeptLemmas.{kept-prune}
 use Rattle.state_proofs_parts.proofs.bitmap_laws.pruning_keeps_the_list.Goals as goal
 
 pub returns : goal.returns

@@ -1,5 +1,5 @@
-use Rattle.merkle_proofs.specs.Laws.MadeTrees.{all_sized}
-use Rattle.state_proofs_parts.proofs.SoundLemmas.{bit_sound}
+use Rattle.merkle_theory.specs.Laws.MadeTrees.{all_sized}
+use Rattle.state_theory.proofs.SoundLemmas.{bit_sound}
 use Rattle.state_proofs_parts.proofs.bitmap_laws.shown_bits_are_true_or_strings_collide.Goals as goal
 
 pub returns : goal.returns

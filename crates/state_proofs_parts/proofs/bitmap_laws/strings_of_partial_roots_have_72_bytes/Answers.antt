@@ -1,4 +1,4 @@
-use Rattle.state_proofs_parts.proofs.MadeLemmas.{partial_long}
+use Rattle.state_theory.proofs.MadeLemmas.{partial_long}
 use Rattle.state_proofs_parts.proofs.bitmap_laws.strings_of_partial_roots_have_72_bytes.Goals as goal
 
 pub returns : goal.returns

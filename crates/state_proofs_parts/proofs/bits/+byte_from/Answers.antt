@@ -1,5 +1,5 @@
 use Rattle.std.proofs.Common.{arith}
-use Rattle.state_proofs_parts.specs.Laws.ChunkSteps.{rest-seven}
+use Rattle.state_theory.specs.Laws.ChunkSteps.{rest-seven}
 use Rattle.state_proofs_parts.proofs.bits.+byte_from.Goals as goal
 use Rattle.state_proofs_parts.proofs.bits.+byte_from.Goals.{then-bit, else-bit}
 

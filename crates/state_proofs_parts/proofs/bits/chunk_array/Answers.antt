@@ -1,8 +1,8 @@
 use Rattle.std.proofs.Common.{◌≡◌, ◌<◌, ◌+◌, ◌-◌, ◌++◌, ◌∷◌, []}
 use Rattle.std.proofs.Common.{ℕ, List, Bool, take, length, slice_set, sym, ◌∙◌, ap, arith}
 use Rattle.std.proofs.lemmas.List.{length-set, take_all, take_more_set}
-use Rattle.state_proofs_parts.specs.Bits.{byte_of, chunk_of}
-use Rattle.state_proofs_parts.specs.Laws.ChunkSteps.{chunk_goes_on, chunk_ends}
+use Rattle.state_theory.specs.Bits.{byte_of, chunk_of}
+use Rattle.state_theory.specs.Laws.ChunkSteps.{chunk_goes_on, chunk_ends}
 use Rattle.state_proofs_parts.proofs.bits.chunk_array.Goals as goal
 
 pub loop-index-preserved : goal.loop-index-preserved

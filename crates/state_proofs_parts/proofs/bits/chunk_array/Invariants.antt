@@ -1,5 +1,5 @@
 use Rattle.std.proofs.Common.{◌≡◌, ◌-◌, ◌++◌, take, length}
-use Rattle.state_proofs_parts.specs.Bits.{chunk_of}
+use Rattle.state_theory.specs.Bits.{chunk_of}
 use Rattle.state_proofs_parts.proofs.bits.chunk_array.Given as goal
 
 abbrev pub invariant-loop-index : goal.invariant-loop-index

@@ -1,4 +1,4 @@
-use Rattle.state_proofs_parts.specs.Laws.ChunkSteps.{chunk_goes_on, chunk_ends}
+use Rattle.state_theory.specs.Laws.ChunkSteps.{chunk_goes_on, chunk_ends}
 use Rattle.state_proofs_parts.proofs.bits.chunk_from.Goals as goal
 
 pub loop-preserved : goal.loop-preserved

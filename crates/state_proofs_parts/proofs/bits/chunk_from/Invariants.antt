@@ -1,5 +1,5 @@
 use Rattle.std.proofs.Common.{◌≡◌, ◌-◌, ◌++◌}
-use Rattle.state_proofs_parts.specs.Bits.{chunk_of}
+use Rattle.state_theory.specs.Bits.{chunk_of}
 use Rattle.state_proofs_parts.proofs.bits.chunk_from.Given as goal
 
 abbrev pub invariant-loop : goal.invariant-loop

@@ -1,7 +1,7 @@
 use Rattle.std.proofs.Common.{◌≡◌, ◌∷◌, [], ◌++◌, map, ap, ◌∙◌}
 use Rattle.std.proofs.lemmas.List.{map_push}
-use Rattle.state_proofs_parts.specs.Bits.{chunk_of}
-use Rattle.state_proofs_parts.specs.Laws.ChunkSteps.{chunks_go_on, chunks_end}
+use Rattle.state_theory.specs.Bits.{chunk_of}
+use Rattle.state_theory.specs.Laws.ChunkSteps.{chunks_go_on, chunks_end}
 use Rattle.state_proofs_parts.proofs.bits.chunks_from.Goals as goal
 
 pub loop-preserved : goal.loop-preserved

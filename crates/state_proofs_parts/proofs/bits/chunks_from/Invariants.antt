@@ -1,5 +1,5 @@
 use Rattle.std.proofs.Common.{◌≡◌, ◌-◌, ◌++◌, map}
-use Rattle.state_proofs_parts.specs.Bits.{chunks_of}
+use Rattle.state_theory.specs.Bits.{chunks_of}
 use Rattle.state_proofs_parts.proofs.bits.chunks_from.Given as goal
 
 abbrev pub invariant-loop : goal.invariant-loop

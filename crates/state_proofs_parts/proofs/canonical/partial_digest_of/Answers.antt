@@ -2,9 +2,9 @@ use Rattle.std.proofs.Common.{◌≡◌, ◌∙◌, ap, length, map, Some, [], a
 use Rattle.std.specs.Prelude.{slice_index_or}
 use Rattle.std.proofs.lemmas.Bool.{ne_eqb}
 use Rattle.std.proofs.lemmas.List.{length-map}
-use Rattle.state_proofs_parts.specs.Canonical.{full_chunks, next_bit}
+use Rattle.state_theory.specs.Canonical.{full_chunks, next_bit}
 use Rattle.state_proofs_parts.specs.Snapshot.{state_of, setting_of}
-use Rattle.state_proofs_parts.specs.Laws.Roots.{is_partial_digest, chunk_is, partial_stands}
+use Rattle.state_theory.specs.Laws.Roots.{is_partial_digest, chunk_is, partial_stands}
 use Rattle.state_proofs_parts.proofs.canonical.partial_digest_of.Goals as goal
 
 pub returns : goal.returns

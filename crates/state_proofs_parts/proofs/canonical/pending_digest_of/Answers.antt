@@ -2,10 +2,10 @@ use Rattle.std.proofs.Common.{◌≡◌, ◌<◌, sym, ◌∙◌, ap, length, ma
 use Rattle.std.specs.Prelude.{slice_index_or}
 use Rattle.std.proofs.lemmas.List.{length-map}
 use Rattle.merkle_forest.specs.Forest.{forest_of}
-use Rattle.state_proofs_parts.specs.Canonical.{full_chunks}
+use Rattle.state_theory.specs.Canonical.{full_chunks}
 use Rattle.merkle_forest.specs.Nodes.{nodes_of_height}
 use Rattle.state_proofs_parts.specs.Snapshot.{state_of, setting_of}
-use Rattle.state_proofs_parts.specs.Laws.Roots.{is_pending_digest, chunk_is, length-chunks}
+use Rattle.state_theory.specs.Laws.Roots.{is_pending_digest, chunk_is, length-chunks}
 use Rattle.state_proofs_parts.proofs.canonical.pending_digest_of.Goals as goal
 
 pub returns-then-graftable-full : goal.returns-then-graftable-full

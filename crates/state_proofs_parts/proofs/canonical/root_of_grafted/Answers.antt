@@ -3,10 +3,10 @@ use Rattle.std.proofs.lemmas.List.{length-map}
 use Rattle.merkle_forest.specs.Forest.{forest_of}
 use Rattle.merkle_forest.specs.Shape.{shape}
 use Rattle.merkle_forest.specs.TreesCode.{shapes}
-use Rattle.state_proofs_parts.specs.Canonical.{chunk_bits}
-use Rattle.state_proofs_parts.specs.Grafting.{grafted_digest, chunk_aligned_inactive_peaks}
+use Rattle.state_theory.specs.Canonical.{chunk_bits}
+use Rattle.state_theory.specs.Grafting.{grafted_digest, chunk_aligned_inactive_peaks}
 use Rattle.state_proofs_parts.specs.Snapshot.{state_of, setting_of}
-use Rattle.state_proofs_parts.specs.Laws.Roots.{is_grafted_root, is_grafted_digests}
+use Rattle.state_theory.specs.Laws.Roots.{is_grafted_root, is_grafted_digests}
 use Rattle.state_proofs_parts.proofs.canonical.root_of_grafted.Goals as goal
 
 pub returns : goal.returns

@@ -5,7 +5,7 @@ use Rattle.merkle_forest.specs.Shape.{shape}
 use Rattle.merkle_forest.specs.Trees.{inactive_peaks, peak_digests, plain_digest}
 use Rattle.merkle_forest.specs.TreesCode.{shapes}
 use Rattle.state_proofs_parts.specs.Snapshot.{state_of, setting_of}
-use Rattle.state_proofs_parts.specs.Laws.Roots.{is_operations_root}
+use Rattle.state_theory.specs.Laws.Roots.{is_operations_root}
 use Rattle.state_proofs_parts.proofs.canonical.root_of_operations.Goals as goal
 
 pub returns : goal.returns

@@ -1,6 +1,6 @@
 use Rattle.std.proofs.Common.{◌++◌, ◌∷◌, [], List, ℕ, map, sym, ◌∙◌, ap, ap₂}
 use Rattle.std.proofs.lemmas.List.{map-append}
-use Rattle.state_proofs_parts.proofs.ReadLemmas.{put_last, put_full, put_partial}
+use Rattle.state_theory.proofs.ReadLemmas.{put_last, put_full, put_partial}
 use Rattle.state_proofs_parts.proofs.inclusion.bit_digests.Goals as goal
 
 pub returns-then-chunk-as_u64-clause-of_list : goal.returns-then-chunk-as_u64-clause-of_list

@@ -2,11 +2,11 @@ use Rattle.std.proofs.Common.{◌≡◌, ◌+◌, None, ℕ, sym, ◌∙◌, ap,
 use Rattle.merkle_forest.specs.Forest.{mmr_rule}
 use Rattle.merkle_forest.specs.Laws.Rules.{mmr_merges_equals}
 use Rattle.merkle_core_parts.specs.Mem.{node_at, tree_digest}
-use Rattle.merkle_proofs.specs.Plans.{first_missing, range_positions, honest_digests}
+use Rattle.merkle_theory.specs.Plans.{first_missing, range_positions, honest_digests}
 use Rattle.std.proofs.Common.{length}
-use Rattle.state_proofs_parts.specs.Laws.Known.{all_known}
-use Rattle.state_proofs_parts.proofs.ReadLemmas.{lookup_of}
-use Rattle.state_proofs_parts.specs.Laws.Refusals.{element_memory}
+use Rattle.state_theory.specs.Laws.Known.{all_known}
+use Rattle.state_theory.proofs.ReadLemmas.{lookup_of}
+use Rattle.state_theory.specs.Laws.Refusals.{element_memory}
 use Rattle.state_proofs_parts.proofs.inclusion.chunk_digests.Goals as goal
 
 pub out_of_memory-requires : goal.out_of_memory-requires

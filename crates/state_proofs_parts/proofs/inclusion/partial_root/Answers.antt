@@ -4,11 +4,11 @@ use Rattle.std.proofs.lemmas.Grind.{common_steps}
 use Rattle.std.proofs.lemmas.List.{length-map}
 use Rattle.merkle_forest.specs.Forest.{mmr_rule}
 use Rattle.merkle_forest.specs.Made.{value}
-use Rattle.merkle_proofs.specs.Reads.{range_root}
-use Rattle.merkle_proofs.specs.Soundness.{plain_names}
-use Rattle.state_proofs_parts.specs.Inclusion.{BitClaim}
-use Rattle.state_proofs_parts.specs.Maps.{bitmap_string}
-use Rattle.state_proofs_parts.proofs.ReadLemmas.{read_last, read_before, last-mapped, front-mapped}
+use Rattle.merkle_theory.specs.Reads.{range_root}
+use Rattle.merkle_theory.specs.Soundness.{plain_names}
+use Rattle.state_theory.specs.Inclusion.{BitClaim}
+use Rattle.state_theory.specs.Maps.{bitmap_string}
+use Rattle.state_theory.proofs.ReadLemmas.{read_last, read_before, last-mapped, front-mapped}
 use Rattle.state_proofs_parts.proofs.inclusion.partial_root.Goals as goal
 
 pub returns-then-bits-size : goal.returns-then-bits-size

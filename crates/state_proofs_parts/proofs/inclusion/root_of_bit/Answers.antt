@@ -2,10 +2,10 @@ use Rattle.std.proofs.Common.{◌≡◌, ◌*◌, ◌/◌, ◌%◌, ◌∷◌, [
 use Rattle.std.specs.Prelude.{IfOk}
 use Rattle.merkle_forest.specs.Forest.{mmr_rule}
 use Rattle.merkle_forest.specs.Made.{value}
-use Rattle.merkle_proofs.specs.Reads.{range_root}
-use Rattle.merkle_proofs.specs.Soundness.{plain_names}
-use Rattle.state_proofs_parts.specs.Inclusion.{BitClaim, partial_read}
-use Rattle.state_proofs_parts.proofs.ReadLemmas.{bit_past, bit_inactive, bit_full, bit_partial}
+use Rattle.merkle_theory.specs.Reads.{range_root}
+use Rattle.merkle_theory.specs.Soundness.{plain_names}
+use Rattle.state_theory.specs.Inclusion.{BitClaim, partial_read}
+use Rattle.state_theory.proofs.ReadLemmas.{bit_past, bit_inactive, bit_full, bit_partial}
 use Rattle.state_proofs_parts.proofs.inclusion.root_of_bit.Goals as goal
 
 pub returns-then-bit-bits : goal.returns-then-bit-bits

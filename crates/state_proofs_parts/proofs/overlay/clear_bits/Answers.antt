@@ -1,9 +1,9 @@
 use Rattle.std.proofs.Common.{◌*◌, ◌≤◌, ◌<◌, ◌-◌, ℕ, false, length, get_or, take, sym, ◌∙◌, ap, arith}
 use Rattle.std.specs.Prelude.{slice_set}
 use Rattle.std.proofs.lemmas.List.{length-set, take_more}
-use Rattle.state_proofs_parts.specs.Bits.{Bits, all_bits, bit_count, cleared}
-use Rattle.state_proofs_parts.proofs.CallLemmas.{all_at}
-use Rattle.state_proofs_parts.proofs.OverlayLemmas.{all_set, cleared_more, length-remembered}
+use Rattle.state_theory.specs.Bits.{Bits, all_bits, bit_count, cleared}
+use Rattle.state_theory.proofs.CallLemmas.{all_at}
+use Rattle.state_theory.proofs.OverlayLemmas.{all_set, cleared_more, length-remembered}
 use Rattle.state_proofs_parts.proofs.overlay.clear_bits.Goals as goal
 
 pub clear-requires : goal.clear-requires

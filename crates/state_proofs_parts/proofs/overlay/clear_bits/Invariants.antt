@@ -1,5 +1,5 @@
 use Rattle.std.proofs.Common.{◌≡◌, ◌≤◌, ◌+◌, length, take}
-use Rattle.state_proofs_parts.specs.Bits.{all_bits, cleared}
+use Rattle.state_theory.specs.Bits.{all_bits, cleared}
 use Rattle.state_proofs_parts.proofs.overlay.clear_bits.Given as goal
 
 abbrev pub invariant-loop-place : goal.invariant-loop-place

@@ -1,7 +1,7 @@
 use Rattle.std.proofs.Common.{◌*◌, ◌^◌, ◌<◌, length, take, length-append, ap, arith}
 use Rattle.std.proofs.lemmas.List.{length-take}
-use Rattle.state_proofs_parts.specs.Bits.{bit_count}
-use Rattle.state_proofs_parts.specs.Overlay.{Overlay}
+use Rattle.state_theory.specs.Bits.{bit_count}
+use Rattle.state_theory.specs.Overlay.{Overlay}
 use Rattle.state_proofs_parts.proofs.overlay.push_bits.Goals as goal
 
 pub push-requires : goal.push-requires

@@ -1,10 +1,10 @@
 use Rattle.std.proofs.Common.{◌*◌, ◌≤◌, ◌<◌, ◌-◌, ℕ, true, length, get_or, take, sym, ◌∙◌, ap, arith}
 use Rattle.std.specs.Prelude.{slice_set}
 use Rattle.std.proofs.lemmas.List.{take_more}
-use Rattle.state_proofs_parts.specs.Bits.{Bits, bit_count}
-use Rattle.state_proofs_parts.specs.Overlay.{set_again}
-use Rattle.state_proofs_parts.proofs.CallLemmas.{all_at}
-use Rattle.state_proofs_parts.proofs.OverlayLemmas.{again_more, length-again}
+use Rattle.state_theory.specs.Bits.{Bits, bit_count}
+use Rattle.state_theory.specs.Overlay.{set_again}
+use Rattle.state_theory.proofs.CallLemmas.{all_at}
+use Rattle.state_theory.proofs.OverlayLemmas.{again_more, length-again}
 use Rattle.state_proofs_parts.proofs.overlay.set_bits.Goals as goal
 
 pub set_bit-requires : goal.set_bit-requires

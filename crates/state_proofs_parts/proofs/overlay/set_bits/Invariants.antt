@@ -1,5 +1,5 @@
 use Rattle.std.proofs.Common.{◌≡◌, ◌*◌, take}
-use Rattle.state_proofs_parts.specs.Overlay.{set_again}
+use Rattle.state_theory.specs.Overlay.{set_again}
 use Rattle.state_proofs_parts.proofs.overlay.set_bits.Given as goal
 
 abbrev pub invariant-loop-place : goal.invariant-loop-place

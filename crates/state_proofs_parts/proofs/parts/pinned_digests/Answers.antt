@@ -4,7 +4,7 @@ use Rattle.std.specs.Prelude.{IsSome}
 use Rattle.merkle_forest.specs.Forest.{mmr_rule, forest_of}
 use Rattle.merkle_forest.specs.Peaks.{peak_positions}
 use Rattle.merkle_core_parts.specs.Mem.{node_at}
-use Rattle.state_proofs_parts.proofs.PartsLemmas.{pinned_there}
+use Rattle.state_theory.proofs.PartsLemmas.{pinned_there}
 use Rattle.state_proofs_parts.proofs.parts.pinned_digests.Goals as goal
 
 pub loop-position-init : goal.loop-position-init

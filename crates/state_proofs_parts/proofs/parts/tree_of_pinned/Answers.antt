@@ -1,7 +1,7 @@
 use Rattle.std.proofs.Common.{map, ◌∙◌, ap}
 use Rattle.merkle_core_parts.specs.Mem.{pinned_positions, placed}
 use Rattle.merkle_forest.specs.Forest.{mmr_rule}
-use Rattle.state_proofs_parts.proofs.PartsLemmas.{tree_made}
+use Rattle.state_theory.proofs.PartsLemmas.{tree_made}
 use Rattle.state_proofs_parts.proofs.parts.tree_of_pinned.Goals as goal
 
 pub returns-in-Ok-clause-tree : goal.returns-in-Ok-clause-tree

@@ -1,8 +1,8 @@
 use Rattle.std.proofs.Common.{◌≡◌, ◌-◌, ◌*◌, ◌++◌, false, length, replicate, ◌∙◌, ap, arith}
 use Rattle.std.specs.Prelude.{slice_set}
 use Rattle.std.proofs.lemmas.List.{set-append_right}
-use Rattle.state_proofs_parts.specs.Bits.{bits_in}
-use Rattle.state_proofs_parts.proofs.BitLemmas.{bits_in-append, bits_in-zeros, length-bits_in, first_of_zeros}
+use Rattle.state_theory.specs.Bits.{bits_in}
+use Rattle.state_theory.proofs.BitLemmas.{bits_in-append, bits_in-zeros, length-bits_in, first_of_zeros}
 use Rattle.state_proofs_parts.proofs.prunable.append_chunk.Goals as goal
 
 pub returns-clause-bits : goal.returns-clause-bits

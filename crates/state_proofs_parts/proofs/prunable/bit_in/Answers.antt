@@ -1,6 +1,6 @@
 use Rattle.std.proofs.Common.{◌≡◌, ◌+◌, ◌*◌, ◌/◌, ◌%◌, false, get_or, sym, ◌∙◌, ap, arith}
-use Rattle.state_proofs_parts.specs.Bits.{bits_in}
-use Rattle.state_proofs_parts.proofs.BitLemmas.{at-bits_in}
+use Rattle.state_theory.specs.Bits.{bits_in}
+use Rattle.state_theory.proofs.BitLemmas.{at-bits_in}
 use Rattle.state_proofs_parts.proofs.prunable.bit_in.Goals as goal
 
 pub returns : goal.returns

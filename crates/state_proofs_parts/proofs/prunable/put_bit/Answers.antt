@@ -1,8 +1,8 @@
 use Rattle.std.proofs.Common.{◌≡◌, ◌+◌, ◌*◌, ◌/◌, ◌%◌, get_or, length, ◌<◌, ◌∙◌, ap, arith}
 use Rattle.std.specs.Prelude.{slice_set}
 use Rattle.std.proofs.lemmas.List.{get_or_read}
-use Rattle.state_proofs_parts.specs.Bits.{bits_in, bits_of}
-use Rattle.state_proofs_parts.proofs.BitLemmas.{set-bits_in}
+use Rattle.state_theory.specs.Bits.{bits_in, bits_of}
+use Rattle.state_theory.proofs.BitLemmas.{set-bits_in}
 use Rattle.state_proofs_parts.proofs.prunable.put_bit.Goals as goal
 
 pub returns-clause-bits : goal.returns-clause-bits

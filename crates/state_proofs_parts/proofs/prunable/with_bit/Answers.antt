@@ -1,7 +1,7 @@
 use Rattle.std.proofs.Common.{◌≡◌, ◌<◌, true, false, sym, ap, ap₂, ◌∙◌, subst, arith}
 use Rattle.std.specs.Int.{w8}
 use Rattle.std.proofs.lemmas.Nat.Bits.{bit_at_set_same, bit_at_set_other, bit_at_clear_same, bit_at_clear_other}
-use Rattle.state_proofs_parts.proofs.BitLemmas.{bits_of-set}
+use Rattle.state_theory.proofs.BitLemmas.{bits_of-set}
 use Rattle.state_proofs_parts.proofs.prunable.with_bit.Goals as goal
 
 pub returns-then-bit : goal.returns-then-bit

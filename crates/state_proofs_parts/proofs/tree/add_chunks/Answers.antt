@@ -1,7 +1,7 @@
 use Rattle.std.proofs.Common.{◌≡◌, ◌-◌, ◌∙◌, ap, arith}
-use Rattle.state_proofs_parts.specs.MapsCode.{leaves_from}
-use Rattle.state_proofs_parts.proofs.CallLemmas.{at_chunk, added_next}
-use Rattle.state_proofs_parts.specs.Laws.Refusals.{past_memory}
+use Rattle.state_theory.specs.MapsCode.{leaves_from}
+use Rattle.state_theory.proofs.CallLemmas.{at_chunk, added_next}
+use Rattle.state_theory.specs.Laws.Refusals.{past_memory}
 use Rattle.state_proofs_parts.proofs.tree.add_chunks.Goals as goal
 
 pub loop-chunk-init : goal.loop-chunk-init

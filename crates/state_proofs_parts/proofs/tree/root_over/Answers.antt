@@ -1,6 +1,6 @@
 use Rattle.std.proofs.Common.{◌∙◌, ap}
-use Rattle.state_proofs_parts.specs.Bits.{bit_count, last_chunk}
-use Rattle.state_proofs_parts.specs.Maps.{sealed_root, map_root}
+use Rattle.state_theory.specs.Bits.{bit_count, last_chunk}
+use Rattle.state_theory.specs.Maps.{sealed_root, map_root}
 use Rattle.state_proofs_parts.proofs.tree.root_over.Goals as goal
 
 pub returns-clause-root : goal.returns-clause-root

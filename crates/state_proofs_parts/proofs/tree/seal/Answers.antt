@@ -1,8 +1,8 @@
 use Rattle.std.proofs.Common.{sym, ◌∙◌, ap, List, ℕ}
-use Rattle.state_proofs_parts.specs.Bits.{bit_count, last_chunk}
-use Rattle.state_proofs_parts.specs.Maps.{bitmap_string}
-use Rattle.state_proofs_parts.proofs.MapLemmas.{rest_count, sealed-full, sealed-partial}
-use Rattle.state_proofs_parts.proofs.WidthLemmas.{wide-some}
+use Rattle.state_theory.specs.Bits.{bit_count, last_chunk}
+use Rattle.state_theory.specs.Maps.{bitmap_string}
+use Rattle.state_theory.proofs.MapLemmas.{rest_count, sealed-full, sealed-partial}
+use Rattle.state_theory.proofs.WidthLemmas.{wide-some}
 use Rattle.state_proofs_parts.proofs.tree.seal.Goals as goal
 
 pub returns-then-is_chunk_aligned : goal.returns-then-is_chunk_aligned

@@ -5,10 +5,10 @@ use Rattle.merkle_forest.specs.Laws.Rules.{mmr_merges_equals}
 use Rattle.merkle_core_parts.specs.Laws.Batches.{led-nodes}
 use Rattle.merkle_core_parts.specs.Layers.{AreLed, oldest_leaves}
 use Rattle.merkle_core_parts.specs.Mem.{Nodes, Additions, Layer, Replacement, AreNodesOf, base_of, own_layer, with_leaves, with_batch}
-use Rattle.state_proofs_parts.proofs.CallLemmas.{applied_alone, batch_is, brought_leaves, updates_from}
-use Rattle.state_proofs_parts.proofs.MapLemmas.{leaves-brought}
-use Rattle.state_proofs_parts.specs.Laws.Refusals.{onto_memory}
-use Rattle.state_proofs_parts.proofs.WidthLemmas.{wide-some}
+use Rattle.state_theory.proofs.CallLemmas.{applied_alone, batch_is, brought_leaves, updates_from}
+use Rattle.state_theory.proofs.MapLemmas.{leaves-brought}
+use Rattle.state_theory.specs.Laws.Refusals.{onto_memory}
+use Rattle.state_theory.proofs.WidthLemmas.{wide-some}
 use Rattle.state_proofs_parts.proofs.tree.tree_over.Goals as goal
 
 pub out_of_memory-requires-in-Err-merkleize : goal.out_of_memory-requires-in-Err-merkleize

@@ -2,9 +2,9 @@ use Rattle.std.proofs.Common.{◌≡◌, ◌<◌, ◌≤◌, ◌++◌, ◌∷◌
 use Rattle.std.proofs.lemmas.List.{take_all}
 use Rattle.merkle_forest.specs.Forest.{mmr_rule}
 use Rattle.merkle_core_parts.specs.Mem.{Additions, node_count}
-use Rattle.state_proofs_parts.specs.MapsCode.{leaves_at}
-use Rattle.state_proofs_parts.proofs.CallLemmas.{all_at, updated_next}
-use Rattle.state_proofs_parts.specs.Laws.Refusals.{at_memory}
+use Rattle.state_theory.specs.MapsCode.{leaves_at}
+use Rattle.state_theory.proofs.CallLemmas.{all_at, updated_next}
+use Rattle.state_theory.specs.Laws.Refusals.{at_memory}
 use Rattle.state_proofs_parts.proofs.tree.update_chunks.Goals as goal
 
 pub loop-chunk-init : goal.loop-chunk-init

@@ -1,5 +1,5 @@
 use Rattle.std.proofs.Common.{◌≡◌, take}
-use Rattle.state_proofs_parts.specs.MapsCode.{leaves_at}
+use Rattle.state_theory.specs.MapsCode.{leaves_at}
 use Rattle.state_proofs_parts.proofs.tree.update_chunks.Given as goal
 
 abbrev pub invariant-loop-chunk : goal.invariant-loop-chunk

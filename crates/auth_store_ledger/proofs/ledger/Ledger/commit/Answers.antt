@@ -1,6 +1,6 @@
 use Rattle.std.proofs.Common.{ℕ, List, Option, map, option_map, arith}
 use Rattle.std.proofs.lemmas.List.{length-map}
-use Rattle.state_proofs_parts.specs.Canonical.{Setting}
+use Rattle.state_theory.specs.Canonical.{Setting}
 use Rattle.state_ops.specs.Operation.{Operation, meaning_of}
 use Rattle.auth_store_ledger.specs.Batch as words
 use Rattle.auth_store_ledger.specs.Store.{setting_of_width}

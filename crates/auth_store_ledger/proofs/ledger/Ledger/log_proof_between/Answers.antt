@@ -1,9 +1,9 @@
 use Rattle.std.proofs.Common.{◌≡◌, ℕ, ◌∙◌, ◌*◌, List, length, sym, ap, ap₂, arith}
 use Rattle.std.proofs.lemmas.List.{length-map}
-use Rattle.merkle_proofs.specs.MadeRoots.{peaks_of}
+use Rattle.merkle_theory.specs.MadeRoots.{peaks_of}
 use Rattle.merkle_forest.specs.Trees.{inactive_peaks}
 use Rattle.state_ops.specs.Operation.{Operation, fixed_encoding}
-use Rattle.state_proofs_parts.specs.Canonical.{Setting}
+use Rattle.state_theory.specs.Canonical.{Setting}
 use Rattle.auth_store_client.specs.Proving.{log_digests, log_inactive}
 use Rattle.auth_store_ledger.specs.Store.{LedgerState, encodings, grafting_height, setting_of_width, state_of_log}
 use Rattle.auth_store_ledger.proofs.Proofs.{inside}

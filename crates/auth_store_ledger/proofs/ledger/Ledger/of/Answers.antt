@@ -1,7 +1,7 @@
 use Rattle.std.proofs.Common.{List, length, ap, sym, subst, ◌∙◌, arith}
 use Rattle.std.proofs.lemmas.List.{length-map}
 use Rattle.state_ops.specs.Operation.{Operation, meaning_of}
-use Rattle.state_proofs_parts.specs.Canonical.{Setting}
+use Rattle.state_theory.specs.Canonical.{Setting}
 use Rattle.auth_store_log.specs.Records.{Format, format_of}
 use Rattle.auth_store_ledger.specs.History.{meanings, history_of}
 use Rattle.auth_store_ledger.specs.Store.{AreWritten, IsKept, setting_of_width}

@@ -1,8 +1,8 @@
 use Rattle.std.proofs.Common.{◌∙◌, ◌++◌, ◌*◌, ℕ, List, ap, arith}
 use Rattle.state_ops.specs.Operation.{Operation}
-use Rattle.state_proofs_parts.specs.Canonical.{Setting}
-use Rattle.state_proofs.specs.Encoded.{operation_proof_encoding}
-use Rattle.state_proofs.specs.Honest.{honest_parts}
+use Rattle.state_theory.specs.Canonical.{Setting}
+use Rattle.state_theory.specs.Encoded.{operation_proof_encoding}
+use Rattle.state_theory.specs.Honest.{honest_parts}
 use Rattle.state_proofs.specs.ProofsCode.{parts_of}
 use Rattle.auth_store_ledger.specs.Store.{LedgerState, setting_of_width, state_of_log}
 use Rattle.auth_store_ledger.proofs.Proofs.{inside}

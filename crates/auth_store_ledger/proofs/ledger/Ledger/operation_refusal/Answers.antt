@@ -1,7 +1,7 @@
 use Rattle.std.proofs.Common.{rules, ◌≡◌, ◌∙◌, ◌<◌, ◌*◌, ℕ, Bool, List, None, Some, ap, sym, slice_get, length, arith}
 use Rattle.std.proofs.lemmas.Bool.{le-ltb}
 use Rattle.state_ops.specs.Operation.{Operation}
-use Rattle.state_proofs_parts.specs.Canonical.{Setting}
+use Rattle.state_theory.specs.Canonical.{Setting}
 use Rattle.auth_store_ledger.specs.History.{History, activity_bits, history_of, log_of}
 use Rattle.auth_store_ledger.specs.Store.{setting_of_width}
 use Rattle.auth_store_ledger.proofs.Ranges.{operation_inactive, some_there}

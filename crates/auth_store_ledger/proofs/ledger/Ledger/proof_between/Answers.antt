@@ -1,7 +1,7 @@
 use Rattle.std.proofs.Common.{ℕ, ◌∙◌, ◌*◌, List, ap, ap₂, arith}
 use Rattle.state_ops.specs.Operation.{Operation}
-use Rattle.state_proofs_parts.specs.Canonical.{Setting}
-use Rattle.state_proofs.specs.Honest.{honest_range}
+use Rattle.state_theory.specs.Canonical.{Setting}
+use Rattle.state_theory.specs.Honest.{honest_range}
 use Rattle.auth_store_ledger.specs.Store.{LedgerState, grafting_height, setting_of_width, state_of_log}
 use Rattle.auth_store_ledger.proofs.Proofs.{inside}
 use Rattle.auth_store_log.specs.Records.{Format, format_of}

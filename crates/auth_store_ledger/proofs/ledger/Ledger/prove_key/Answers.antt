@@ -2,7 +2,7 @@ use Rattle.std.proofs.Common.{◌≡◌, ◌≤◌, ◌^◌, ap, sym, subst, Lis
 use Rattle.std.proofs.lemmas.Result.{IfOk-weaker}
 use Rattle.state_ops.specs.Operation.{Operation}
 use Rattle.state_ops.specs.Reading.{IsField}
-use Rattle.state_proofs_parts.specs.Canonical.{Setting}
+use Rattle.state_theory.specs.Canonical.{Setting}
 use Rattle.auth_store_client.specs.Claims.{Terms, terms}
 use Rattle.auth_store_ledger.specs.Map.{value_at}
 use Rattle.auth_store_ledger.specs.History.{History, history_of, latest_map, log_of}

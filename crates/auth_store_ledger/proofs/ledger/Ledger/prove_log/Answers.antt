@@ -1,6 +1,6 @@
 use Rattle.std.proofs.Common.{rules, ◌≡◌, ◌≤◌, ◌^◌, ◌∙◌, ℕ, List, None, Ok, length, ap, sym, subst, arith}
 use Rattle.state_ops.specs.Operation.{Operation}
-use Rattle.state_proofs_parts.specs.Canonical.{Setting}
+use Rattle.state_theory.specs.Canonical.{Setting}
 use Rattle.auth_store_client.specs.Claims.{Terms, terms}
 use Rattle.auth_store_ledger.specs.History.{History, history_of, log_of}
 use Rattle.auth_store_ledger.specs.Proving.{IsAcceptedSlice, SliceAnswer, slice_answer, range_refusal, unless_refused}

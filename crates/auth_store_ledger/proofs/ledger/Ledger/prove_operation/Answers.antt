@@ -3,7 +3,7 @@ use Rattle.std.proofs.Common.{List, Option, None, Some, Err, length, slice_get, 
 use Rattle.std.specs.Prelude.{IfSome}
 use Rattle.std.proofs.lemmas.Bool.{le-ltb}
 use Rattle.state_ops.specs.Operation.{Operation, meaning_of}
-use Rattle.state_proofs_parts.specs.Canonical.{Setting}
+use Rattle.state_theory.specs.Canonical.{Setting}
 use Rattle.auth_store_client.specs.Claims.{Shows, Terms, is_active, terms}
 use Rattle.auth_store_ledger.specs.declared.error.Unprovable.{Unprovable}
 use Rattle.auth_store_ledger.specs.History.{History, activity_bits, history_of, log_of}

@@ -1,6 +1,6 @@
 use Rattle.std.proofs.Common.{◌∙◌, ◌++◌, ℕ, List, flat_map, ap}
-use Rattle.state_proofs_parts.specs.Canonical.{Setting, State}
-use Rattle.state_proofs.specs.Encoded.{range_proof_encoding}
+use Rattle.state_theory.specs.Canonical.{Setting, State}
+use Rattle.state_theory.specs.Encoded.{range_proof_encoding}
 use Rattle.state_proofs.specs.ProofsCode.{range_parts_of}
 use Rattle.auth_store_client.specs.Proving.{chunks_over}
 use Rattle.auth_store_ledger.specs.History.{history_of}

@@ -1,7 +1,7 @@
 use Rattle.std.proofs.Common.{ap, length, arith, ◌*◌}
 use Rattle.auth_store_ledger.specs.History.{history_of}
 use Rattle.std.proofs.lemmas.Bool.{le-ltb, lt-ltb}
-use Rattle.state_proofs_parts.specs.Canonical.{Setting}
+use Rattle.state_theory.specs.Canonical.{Setting}
 use Rattle.auth_store_ledger.specs.Store.{setting_of_width}
 use Rattle.auth_store_ledger.proofs.Ranges.{not_refused, refused_empty, refused_past, refused_pruned}
 use Rattle.auth_store_ledger.proofs.ledger.Ledger.range_refusal.Goals as goal

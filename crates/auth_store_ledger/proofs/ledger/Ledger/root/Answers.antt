@@ -1,6 +1,6 @@
 use Rattle.std.proofs.Common.{ℕ, ◌∙◌, ap, List}
 use Rattle.state_ops.specs.Operation.{Operation}
-use Rattle.state_proofs_parts.specs.Canonical.{Setting, canonical_root}
+use Rattle.state_theory.specs.Canonical.{Setting, canonical_root}
 use Rattle.auth_store_log.specs.Records.{Format, format_of}
 use Rattle.auth_store_ledger.specs.Store.{grafting_height, setting_of_width, state_of_log}
 use Rattle.auth_store_ledger.proofs.Proofs.{inside}

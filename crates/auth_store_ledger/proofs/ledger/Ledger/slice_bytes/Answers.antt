@@ -1,6 +1,6 @@
 use Rattle.std.proofs.Common.{ℕ, ◌∙◌, ◌++◌, List, ap, ap₂}
 use Rattle.state_ops.specs.Operation.{Operation}
-use Rattle.state_proofs_parts.specs.Canonical.{Setting, State}
+use Rattle.state_theory.specs.Canonical.{Setting, State}
 use Rattle.state_proofs.specs.Witness.{WitnessParts, honest_witness, witness_encoding}
 use Rattle.auth_store_ledger.specs.History.{history_of}
 use Rattle.auth_store_ledger.specs.Store.{grafting_height, setting_of_width, state_of_history, state_of_log}

@@ -6,8 +6,8 @@ use Rattle.std.specs.Prelude.{OnErr}
 use Rattle.std.specs.declared.alloc.Global.{Global}
 use Rattle.std.specs.declared.vec.Vec.{Vec}
 use Rattle.state_current.specs.Kept.{Kept}
-use Rattle.state_proofs_parts.specs.Bits.{all_bits}
-use Rattle.state_proofs_parts.specs.Canonical.{Setting}
+use Rattle.state_theory.specs.Bits.{all_bits}
+use Rattle.state_theory.specs.Canonical.{Setting}
 use Rattle.state_ops.specs.Operation.{Operation, commit_floor, fixed_encoding, meaning_of}
 use Rattle.auth_store_log.specs.Records.{Format, format_of, log_bytes}
 use Rattle.auth_store_client.specs.Laws.Absent.{has_some}

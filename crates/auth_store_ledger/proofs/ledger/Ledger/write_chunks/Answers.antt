@@ -3,7 +3,7 @@ use Rattle.std.proofs.Common.{flat_map, length, take, drop, sym, ◌∙◌, ap, 
 use Rattle.std.proofs.lemmas.List.{length-map}
 use Rattle.std.proofs.lemmas.Nat.{pow_pos}
 use Rattle.state_ops.specs.Operation.{Operation, fixed_encoding}
-use Rattle.state_proofs_parts.specs.Canonical.{Setting, State, chunk, chunks}
+use Rattle.state_theory.specs.Canonical.{Setting, State, chunk, chunks}
 use Rattle.auth_store_client.specs.Laws.Widths.{width_is_whole}
 use Rattle.auth_store_ledger.specs.History.{history_of, log_of}
 use Rattle.auth_store_ledger.specs.Store.{LedgerState, grafting_height, setting_of_width, state_of_history, state_of_log}

@@ -1,6 +1,6 @@
 use Rattle.std.proofs.Common.{◌≡◌, ◌-◌, ◌++◌, List, flat_map, take, drop}
 use Rattle.state_ops.specs.Operation.{Operation}
-use Rattle.state_proofs_parts.specs.Canonical.{chunks}
+use Rattle.state_theory.specs.Canonical.{chunks}
 use Rattle.auth_store_log.specs.Records.{format_of}
 use Rattle.auth_store_ledger.specs.History.{history_of}
 use Rattle.auth_store_ledger.specs.Store.{IsLedgerOf, setting_of_width, state_of_history}

@@ -4,12 +4,12 @@ use Rattle.std.specs.declared.vec.Vec.{Vec}
 use Rattle.std.specs.Prelude.{slice_get, unwrap_or}
 use Rattle.std.proofs.lemmas.Result.{IfOk-weaker}
 use Rattle.state_ops.specs.Operation.{Operation}
-use Rattle.state_proofs_parts.specs.Canonical.{Setting}
+use Rattle.state_theory.specs.Canonical.{Setting}
 use Rattle.state_proofs.specs.Exclusion.{ExclusionParts, by_commit, by_update}
 use Rattle.state_proofs.specs.ExclusionCode.{form_exclusion_of}
-use Rattle.state_proofs.specs.Honest.{honest_parts}
+use Rattle.state_theory.specs.Honest.{honest_parts}
 use Rattle.state_proofs.specs.ProofsCode.{parts_of}
-use Rattle.state_proofs.specs.Verified.{Parts}
+use Rattle.state_theory.specs.Verified.{Parts}
 use Rattle.auth_store_client.specs.Absence.{honest_absence_parts, metadata_in}
 use Rattle.auth_store_client.specs.Laws.Absent.{has_some}
 use Rattle.auth_store_ledger.specs.History.{history_of}

@@ -1,7 +1,7 @@
 use Rattle.std.proofs.Common.{◌∙◌, List, ℕ, ap, sym}
 use Rattle.state_proofs.specs.Exclusion.{by_update}
 use Rattle.state_proofs.specs.ProofsCode.{parts_of}
-use Rattle.state_proofs.specs.Verified.{Parts}
+use Rattle.state_theory.specs.Verified.{Parts}
 use Rattle.auth_store_ledger.proofs.Absences.{fields_found}
 use Rattle.auth_store_ledger.proofs.ledger.absence.proof_by_update.Goals as goal
 

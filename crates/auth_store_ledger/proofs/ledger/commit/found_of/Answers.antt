@@ -2,7 +2,7 @@ use Rattle.std.proofs.Common.{◌≡◌, ℕ, ◌+◌, ◌-◌, ◌++◌, ◌∷
 use Rattle.std.proofs.lemmas.List.{map-append}
 use Rattle.auth_store_index.specs.Growth.{cleared, first_set, taken}
 use Rattle.auth_store_index.specs.Touched.{is_no_delete}
-use Rattle.state_proofs_parts.specs.Bits.{all_bits}
+use Rattle.state_theory.specs.Bits.{all_bits}
 use Rattle.state_ops.specs.Operation.{Operation, commit_floor, meaning_of}
 use Rattle.auth_store_ledger.proofs.ledger.commit.found_of.Goals as goal
 

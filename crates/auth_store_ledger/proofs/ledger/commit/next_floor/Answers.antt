@@ -1,5 +1,5 @@
 use Rattle.std.proofs.Common.{arith}
-use Rattle.state_proofs_parts.specs.Laws.Bits.{length-all}
+use Rattle.state_theory.specs.Laws.Bits.{length-all}
 use Rattle.auth_store_ledger.proofs.ledger.commit.next_floor.Goals as goal
 
 pub first_set_from-requires : goal.first_set_from-requires

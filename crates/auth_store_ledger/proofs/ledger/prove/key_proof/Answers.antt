@@ -1,7 +1,7 @@
 use Rattle.std.proofs.Common.{subst, List, ℕ}
 use Rattle.state_ops.specs.Operation.{Operation}
 use Rattle.state_ops.specs.Reading.{IsField}
-use Rattle.state_proofs_parts.specs.Canonical.{Setting}
+use Rattle.state_theory.specs.Canonical.{Setting}
 use Rattle.auth_store_ledger.specs.History.{history_of}
 use Rattle.auth_store_ledger.specs.Proving.{IsHonestAbsence, IsHonestUpdate}
 use Rattle.auth_store_ledger.specs.ProvingCode.{found_of}

@@ -1,6 +1,6 @@
 use Rattle.std.proofs.Common.{◌∙◌, ap, arith}
-use Rattle.state_proofs_parts.specs.Canonical.{Setting}
-use Rattle.state_proofs.specs.Honest.{honest_parts}
+use Rattle.state_theory.specs.Canonical.{Setting}
+use Rattle.state_theory.specs.Honest.{honest_parts}
 use Rattle.auth_store_ledger.specs.Store.{grafting_height, setting_of_width, state_of_log}
 use Rattle.auth_store_ledger.proofs.ledger.prove.operation_proof.Goals as goal
 

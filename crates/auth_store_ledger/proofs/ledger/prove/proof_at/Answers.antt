@@ -1,8 +1,8 @@
 use Rattle.std.proofs.Common.{◌∙◌, ◌++◌, List, ℕ, ap, subst}
 use Rattle.state_ops.specs.Reading.{IsField}
-use Rattle.state_proofs_parts.specs.Canonical.{Setting, State}
-use Rattle.state_proofs.specs.Encoded.{key_value_proof_encoding}
-use Rattle.state_proofs.specs.Honest.{honest_parts}
+use Rattle.state_theory.specs.Canonical.{Setting, State}
+use Rattle.state_theory.specs.Encoded.{key_value_proof_encoding}
+use Rattle.state_theory.specs.Honest.{honest_parts}
 use Rattle.state_proofs.specs.ProofsCode.{parts_of}
 use Rattle.auth_store_ledger.specs.Store.{setting_of_width, state_of_log}
 use Rattle.auth_store_ledger.proofs.ledger.prove.proof_at.Goals as goal

@@ -2,8 +2,8 @@ use Rattle.std.proofs.Common.{rules, ◌≡◌, ◌∙◌, ℕ, List, [], ◌∷
 use Rattle.std.specs.Prelude.{IfSome, slice_get}
 use Rattle.state_ops.specs.Operation.{Operation}
 use Rattle.state_ops.specs.Reading.{IsField}
-use Rattle.state_proofs_parts.specs.Canonical.{Setting}
-use Rattle.state_proofs.specs.Honest.{key_value_proof}
+use Rattle.state_theory.specs.Canonical.{Setting}
+use Rattle.state_theory.specs.Honest.{key_value_proof}
 use Rattle.auth_store_parts.specs.Places.{places_of}
 use Rattle.auth_store_parts.specs.Laws.Places.{place_found}
 use Rattle.auth_store_ledger.specs.Map.{Map, value_at}

@@ -2,7 +2,7 @@ use Rattle.std.proofs.Common.{◌∙◌, ◌+◌, None, ap, sym, subst, List}
 use Rattle.std.specs.Prelude.{IfSome}
 use Rattle.paged_blob_parts.specs.Caches.{Cache}
 use Rattle.paged_blob_parts.specs.Calls.{Call}
-use Rattle.state_proofs_parts.specs.Canonical.{Setting}
+use Rattle.state_theory.specs.Canonical.{Setting}
 use Rattle.auth_store_device.specs.Devices.{DeviceState}
 use Rattle.auth_store_device.specs.Logs.{HasOwnHeader}
 use Rattle.auth_store_ledger.specs.Store.{setting_of_width}

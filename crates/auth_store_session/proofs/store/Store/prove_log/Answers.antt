@@ -1,6 +1,6 @@
 use Rattle.std.proofs.Common.{◌∙◌, ℕ, ap, refl, subst, sym}
 use Rattle.std.specs.Prelude.{IfOk, IfSome}
-use Rattle.state_proofs_parts.specs.Canonical.{Setting}
+use Rattle.state_theory.specs.Canonical.{Setting}
 use Rattle.paged_blob_parts.specs.Caches.{Cache}
 use Rattle.auth_store_parts.specs.History.{History}
 use Rattle.auth_store_ledger.specs.Store.{setting_of_width}

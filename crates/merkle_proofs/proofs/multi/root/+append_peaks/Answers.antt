@@ -4,12 +4,12 @@ use Rattle.merkle_forest.specs.Forest.{leaf_count, forest_of}
 use Rattle.merkle_forest.specs.Made.{value}
 use Rattle.merkle_forest.specs.Peaks.{located_from}
 use Rattle.merkle_forest.specs.Trees.{Located}
-use Rattle.merkle_proofs.specs.MultiReads.{shown_from, shown_at, locations_of, ranked, read_shown, read_peaks, ArePeaksRead}
-use Rattle.merkle_proofs.proofs.PeakReads.{peaks_end, peak_absent, peak_read}
-use Rattle.merkle_proofs.proofs.PlanFolds.{if_ok}
-use Rattle.merkle_proofs.proofs.RangePeaks.{none_from}
-use Rattle.merkle_proofs.proofs.ShownWalks.{own_of, others_of}
-use Rattle.merkle_proofs.proofs.Walks.{walk_from}
+use Rattle.merkle_theory.specs.MultiReads.{shown_from, shown_at, locations_of, ranked, read_shown, read_peaks, ArePeaksRead}
+use Rattle.merkle_theory.proofs.PeakReads.{peaks_end, peak_absent, peak_read}
+use Rattle.merkle_theory.proofs.PlanFolds.{if_ok}
+use Rattle.merkle_theory.proofs.RangePeaks.{none_from}
+use Rattle.merkle_theory.proofs.ShownWalks.{own_of, others_of}
+use Rattle.merkle_theory.proofs.Walks.{walk_from}
 use Rattle.merkle_proofs.proofs.multi.root.+append_peaks.Goals as goal
 
 pub returns-then-first-leaves : goal.returns-then-first-leaves

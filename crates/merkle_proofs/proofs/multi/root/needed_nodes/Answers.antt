@@ -1,8 +1,8 @@
 use Rattle.std.proofs.Common.{◌≡◌, ◌<◌, false, length, map, sym, ◌∙◌, ap, subst, arith}
 use Rattle.std.proofs.lemmas.List.{length-map, take_all}
-use Rattle.merkle_proofs.specs.MultiReads.{can_be_shown, AreNeeded}
-use Rattle.merkle_proofs.proofs.PlanFolds.{if_ok}
-use Rattle.merkle_proofs.proofs.ShownRefusals.{needed_of, not_empty, where_none}
+use Rattle.merkle_theory.specs.MultiReads.{can_be_shown, AreNeeded}
+use Rattle.merkle_theory.proofs.PlanFolds.{if_ok}
+use Rattle.merkle_theory.proofs.ShownRefusals.{needed_of, not_empty, where_none}
 use Rattle.merkle_proofs.proofs.multi.root.needed_nodes.Goals as goal
 
 pub returns-in-Ok : goal.returns-in-Ok

@@ -1,5 +1,5 @@
 use Rattle.std.proofs.Common.{arith}
-use Rattle.merkle_proofs.proofs.ShownRefusals.{needed_none}
+use Rattle.merkle_theory.proofs.ShownRefusals.{needed_none}
 use Rattle.merkle_proofs.proofs.multi.root.no_nodes.Goals as goal
 
 pub returns : goal.returns

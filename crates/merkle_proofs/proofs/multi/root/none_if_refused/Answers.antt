@@ -1,5 +1,5 @@
 use Rattle.std.proofs.Common.{refl}
-use Rattle.merkle_proofs.proofs.ShownRefusals.{refused_cannot}
+use Rattle.merkle_theory.proofs.ShownRefusals.{refused_cannot}
 use Rattle.merkle_proofs.proofs.multi.root.none_if_refused.Goals as goal
 
 pub returns-in_default : goal.returns-in_default

@@ -4,10 +4,10 @@ use Rattle.std.proofs.lemmas.List.Sorted.{length_permutation}
 use Rattle.std.specs.List.Sorted.{IsPermutation}
 use Rattle.std.specs.Prelude.{MatchOption}
 use Rattle.merkle_forest.specs.Made.{value}
-use Rattle.merkle_proofs.specs.MultiReads.{locations_of, can_be_shown, needed_positions, ranked, shown_root, AreNeeded}
-use Rattle.merkle_proofs.proofs.MultiRoots.{locations_same, root_cannot, root_uncounted, root_counted}
-use Rattle.merkle_proofs.proofs.PlanFolds.{if_ok}
-use Rattle.merkle_proofs.proofs.ShownRefusals.{ascending}
+use Rattle.merkle_theory.specs.MultiReads.{locations_of, can_be_shown, needed_positions, ranked, shown_root, AreNeeded}
+use Rattle.merkle_theory.proofs.MultiRoots.{locations_same, root_cannot, root_uncounted, root_counted}
+use Rattle.merkle_theory.proofs.PlanFolds.{if_ok}
+use Rattle.merkle_theory.proofs.ShownRefusals.{ascending}
 use Rattle.merkle_proofs.proofs.multi.root.reconstruct_shown.Goals as goal
 
 pub returns-in_default : goal.returns-in_default

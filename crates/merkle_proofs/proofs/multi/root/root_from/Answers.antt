@@ -2,11 +2,11 @@ use Rattle.std.proofs.Common.{◌≡◌, ◌≤◌, ⊎_elim, [], true, false, m
 use Rattle.std.proofs.lemmas.Bool.{cases_lt}
 use Rattle.std.proofs.lemmas.List.{length-map}
 use Rattle.merkle_forest.specs.Hashing.{root_of}
-use Rattle.merkle_proofs.specs.MadeRoots.{peaks_of}
-use Rattle.merkle_proofs.specs.MultiReads.{ranked}
-use Rattle.merkle_proofs.proofs.PeakReads.{peaks_from_start, root_absent, root_refused, root_there, so_many}
-use Rattle.merkle_proofs.proofs.Places.{first_of}
-use Rattle.merkle_proofs.proofs.ShownLists.{shown_all}
+use Rattle.merkle_theory.specs.MadeRoots.{peaks_of}
+use Rattle.merkle_theory.specs.MultiReads.{ranked}
+use Rattle.merkle_theory.proofs.PeakReads.{peaks_from_start, root_absent, root_refused, root_there, so_many}
+use Rattle.merkle_theory.proofs.Places.{first_of}
+use Rattle.merkle_theory.proofs.ShownLists.{shown_all}
 use Rattle.merkle_proofs.proofs.multi.root.root_from.Goals as goal
 
 pub append_peaks-requires-clause-begins : goal.append_peaks-requires-clause-begins

@@ -1,9 +1,9 @@
 use Rattle.std.proofs.Common.{◌≡◌, ℕ, [], map, drop, get_or, None, Some, option_map, sym, ◌∙◌, ap, subst, arith}
 use Rattle.merkle_forest.specs.Forest.{leaf, branch}
 use Rattle.merkle_forest.specs.Made.{value}
-use Rattle.merkle_proofs.specs.MultiReads.{shown_in, shown_at, locations_of, ranked, read_shown}
-use Rattle.merkle_proofs.proofs.RangeTrees.{no_digest}
-use Rattle.merkle_proofs.proofs.ShownWalks.{nothing_shown, leaf_shown, left_absent, right_absent, both_shown, some_shown, first_of, left_of, right_of}
+use Rattle.merkle_theory.specs.MultiReads.{shown_in, shown_at, locations_of, ranked, read_shown}
+use Rattle.merkle_theory.proofs.RangeTrees.{no_digest}
+use Rattle.merkle_theory.proofs.ShownWalks.{nothing_shown, leaf_shown, left_absent, right_absent, both_shown, some_shown, first_of, left_of, right_of}
 use Rattle.merkle_proofs.proofs.multi.tree.+shown_digest.Goals as goal
 
 pub returns-in_default : goal.returns-in_default

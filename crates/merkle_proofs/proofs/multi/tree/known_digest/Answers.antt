@@ -1,7 +1,7 @@
 use Rattle.std.proofs.Common.{rules, ltb, sym, arith}
 use Rattle.std.proofs.lemmas.List.Sorted.{IsPartitionPoint-from_clause, IsPartitionedBy-ltb}
-use Rattle.merkle_proofs.proofs.ShownLists.{parted_count}
-use Rattle.merkle_proofs.proofs.ShownRanks.{ranked_past, ranked_there}
+use Rattle.merkle_theory.proofs.ShownLists.{parted_count}
+use Rattle.merkle_theory.proofs.ShownRanks.{ranked_past, ranked_there}
 use Rattle.merkle_proofs.proofs.multi.tree.known_digest.Goals as goal
 
 pub returns-then-rank-known : goal.returns-then-rank-known

@@ -1,7 +1,7 @@
 use Rattle.std.proofs.Common.{rules, ltb, sym, ◌∙◌, subst}
 use Rattle.std.specs.List.Sorted.{IsNonDecreasingBy}
 use Rattle.std.proofs.lemmas.List.Sorted.{IsPartitionPoint-from_clause, IsPartitionedBy-ltb, IsNonDecreasingBy-take, IsNonDecreasingBy-drop}
-use Rattle.merkle_proofs.proofs.ShownLists.{parted}
+use Rattle.merkle_theory.proofs.ShownLists.{parted}
 use Rattle.merkle_proofs.proofs.multi.tree.split_before.Goals as goal
 
 pub returns-clause-before : goal.returns-clause-before

@@ -1,13 +1,13 @@
 use Rattle.std.proofs.Common.{◌≡◌, map, take, drop, Some, sym, ◌∙◌, ap, subst, arith}
 use Rattle.merkle_forest.specs.Forest.{forest_of}
 use Rattle.merkle_forest.specs.Laws.Peaks.{located_from-zero}
-use Rattle.merkle_proofs.specs.Assembled.{assembled}
-use Rattle.merkle_proofs.specs.MadeRoots.{peaks_of}
-use Rattle.merkle_proofs.specs.Plans.{Asked, range_positions, looked_up, honest_digests}
-use Rattle.merkle_proofs.specs.Ranges.{is_before, is_after}
-use Rattle.merkle_proofs.specs.RangeCounts.{passing}
-use Rattle.merkle_proofs.proofs.Places.{first_of}
-use Rattle.merkle_proofs.proofs.PlanFolds.{folded_is, side_fits, parts_mapped, if_ok}
+use Rattle.merkle_theory.specs.Assembled.{assembled}
+use Rattle.merkle_theory.specs.MadeRoots.{peaks_of}
+use Rattle.merkle_theory.specs.Plans.{Asked, range_positions, looked_up, honest_digests}
+use Rattle.merkle_theory.specs.Ranges.{is_before, is_after}
+use Rattle.merkle_theory.specs.RangeCounts.{passing}
+use Rattle.merkle_theory.proofs.Places.{first_of}
+use Rattle.merkle_theory.proofs.PlanFolds.{folded_is, side_fits, parts_mapped, if_ok}
 use Rattle.merkle_proofs.proofs.plan.RangePlan.fold.Goals as goal
 
 pub sides_of-sides-requires-clause-begins : goal.sides_of-sides-requires-clause-begins

@@ -2,11 +2,11 @@ use Rattle.std.specs.Vec.{vec_len}
 use Rattle.std.proofs.Common.{rules, length, ◌≡◌, ◌++◌, filter, ◌∙◌, ap, arith}
 use Rattle.merkle_forest.specs.Forest.{forest_of}
 use Rattle.merkle_forest.specs.Laws.Peaks.{located_from-zero}
-use Rattle.merkle_proofs.specs.MadeRoots.{peaks_of}
-use Rattle.merkle_proofs.specs.Plans.{IsWithinTree, positions_of, inner_nodes}
-use Rattle.merkle_proofs.specs.Ranges.{is_before, is_after}
-use Rattle.merkle_proofs.proofs.Places.{first_of}
-use Rattle.merkle_proofs.proofs.PlanNodes.{planned}
+use Rattle.merkle_theory.specs.MadeRoots.{peaks_of}
+use Rattle.merkle_theory.specs.Plans.{IsWithinTree, positions_of, inner_nodes}
+use Rattle.merkle_theory.specs.Ranges.{is_before, is_after}
+use Rattle.merkle_theory.proofs.Places.{first_of}
+use Rattle.merkle_theory.proofs.PlanNodes.{planned}
 use Rattle.merkle_proofs.proofs.plan.RangePlan.new.Goals as goal
 
 pub append_side-requires-clause-begins : goal.append_side-requires-clause-begins

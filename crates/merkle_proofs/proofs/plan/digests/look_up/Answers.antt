@@ -1,6 +1,6 @@
 use Rattle.std.proofs.Common.{◌≡◌, map, None, sym, ◌∙◌, ap}
 use Rattle.std.proofs.lemmas.List.{take_all}
-use Rattle.merkle_proofs.proofs.PlanDigests.{missing_after}
+use Rattle.merkle_theory.proofs.PlanDigests.{missing_after}
 use Rattle.merkle_proofs.proofs.plan.digests.look_up.Goals as goal
 
 pub returns-in-None-clause-refused : goal.returns-in-None-clause-refused

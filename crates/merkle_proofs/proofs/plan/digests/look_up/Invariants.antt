@@ -1,5 +1,5 @@
 use Rattle.std.proofs.Common.{◌≡◌, length, map, take, Some}
-use Rattle.merkle_proofs.specs.Plans.{Lookup, AnswersAs}
+use Rattle.merkle_theory.specs.Plans.{Lookup, AnswersAs}
 use Rattle.merkle_proofs.proofs.plan.digests.look_up.Given as goal
 
 abbrev pub invariant-loop-position : goal.invariant-loop-position

@@ -2,10 +2,10 @@ use Rattle.std.proofs.Common.{◌≡◌, true, false, List, ◌++◌, refl, sym,
 use Rattle.merkle_forest.specs.Forest.{forest_of}
 use Rattle.merkle_forest.specs.Peaks.{located_from}
 use Rattle.merkle_forest.specs.Trees.{Located}
-use Rattle.merkle_proofs.specs.Plans.{inner_nodes, positions_of}
-use Rattle.merkle_proofs.proofs.PlanNodes.{after_none, inner_step, on_ok}
-use Rattle.merkle_proofs.proofs.RangePeaks.{none_from}
-use Rattle.merkle_proofs.proofs.Walks.{walk_from}
+use Rattle.merkle_theory.specs.Plans.{inner_nodes, positions_of}
+use Rattle.merkle_theory.proofs.PlanNodes.{after_none, inner_step, on_ok}
+use Rattle.merkle_theory.proofs.RangePeaks.{none_from}
+use Rattle.merkle_theory.proofs.Walks.{walk_from}
 use Rattle.merkle_proofs.proofs.plan.positions.+append_inner.Goals.{then-meets_range+in_ok-append_siblings, else-meets_range}
 use Rattle.merkle_proofs.proofs.plan.positions.+append_inner.Goals as goal
 

@@ -1,9 +1,9 @@
 use Rattle.std.proofs.Common.{◌≡◌, ℕ, ◌+◌, true, false, List, [], ◌∷◌, ◌++◌, refl, sym, ◌∙◌, ap, subst, arith}
 use Rattle.std.proofs.lemmas.Bool.{and_parts, leb-true}
 use Rattle.merkle_forest.specs.Forest.{Tree, leaf, branch, leaf_count}
-use Rattle.merkle_proofs.specs.Plans.{sibling_nodes, positions_of}
-use Rattle.merkle_proofs.specs.Ranges.{meets}
-use Rattle.merkle_proofs.proofs.PlanNodes.{after_none, after_both, siblings_out, siblings_inside, siblings_low, siblings_branch, on_ok}
+use Rattle.merkle_theory.specs.Plans.{sibling_nodes, positions_of}
+use Rattle.merkle_theory.specs.Ranges.{meets}
+use Rattle.merkle_theory.proofs.PlanNodes.{after_none, after_both, siblings_out, siblings_inside, siblings_low, siblings_branch, on_ok}
 use Rattle.merkle_proofs.proofs.plan.positions.+append_siblings.Goals as goal
 
 pub returns-then-not-meets_range : goal.returns-then-not-meets_range

@@ -2,11 +2,11 @@ use Rattle.std.proofs.Common.{◌≡◌, ◌+◌, true, false, List, [], ◌∷�
 use Rattle.merkle_forest.specs.Forest.{leaf_count, forest_of}
 use Rattle.merkle_forest.specs.Peaks.{located_from}
 use Rattle.merkle_forest.specs.Trees.{Located}
-use Rattle.merkle_proofs.specs.Plans.{positions_of}
+use Rattle.merkle_theory.specs.Plans.{positions_of}
 use Rattle.merkle_proofs.specs.RangesCode.{stands}
-use Rattle.merkle_proofs.proofs.PlanNodes.{after_none, side_step, on_ok}
-use Rattle.merkle_proofs.proofs.RangePeaks.{none_from}
-use Rattle.merkle_proofs.proofs.Walks.{walk_from}
+use Rattle.merkle_theory.proofs.PlanNodes.{after_none, side_step, on_ok}
+use Rattle.merkle_theory.proofs.RangePeaks.{none_from}
+use Rattle.merkle_theory.proofs.Walks.{walk_from}
 use Rattle.merkle_proofs.proofs.plan.positions.+append_side.Goals.{then-is_on_side+in_ok-push, else-is_on_side}
 use Rattle.merkle_proofs.proofs.plan.positions.+append_side.Goals as goal
 

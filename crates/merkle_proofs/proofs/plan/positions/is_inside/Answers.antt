@@ -2,7 +2,7 @@ use Rattle.std.proofs.Common.{◌+◌, ◌&&◌, sym, ◌∙◌, ap, arith}
 use Rattle.std.specs.Prelude.{nat_le}
 use Rattle.std.proofs.lemmas.Bool.{le-leb}
 use Rattle.merkle_forest.specs.Forest.{leaf_count}
-use Rattle.merkle_proofs.proofs.RangeTrees.{reach}
+use Rattle.merkle_theory.proofs.RangeTrees.{reach}
 use Rattle.merkle_proofs.proofs.plan.positions.is_inside.Goals as goal
 
 pub overflow_shl-end : goal.overflow_shl-end

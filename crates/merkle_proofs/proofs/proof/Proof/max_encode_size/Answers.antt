@@ -1,8 +1,8 @@
 use Rattle.std.proofs.Common.{◌≡◌, ◌+◌, ◌*◌, ◌^◌, ◌<◌, SomeIff, sym, ◌∙◌, ap, subst, arith}
 use Rattle.std.proofs.lemmas.Option.{IfSome_then}
 use Rattle.merkle_forest.specs.Laws.Varint.{varint_at_most}
-use Rattle.merkle_proofs.specs.Proofs.{greatest_length}
-use Rattle.merkle_proofs.proofs.Lengths.{at_most, greatest_leaves, greatest_peaks, reached, told_fits, told_value}
+use Rattle.merkle_theory.specs.Proofs.{greatest_length}
+use Rattle.merkle_theory.proofs.Lengths.{at_most, greatest_leaves, greatest_peaks, reached, told_fits, told_value}
 use Rattle.merkle_proofs.proofs.proof.Proof.max_encode_size.Given.{Over}
 use Rattle.merkle_proofs.proofs.proof.Proof.max_encode_size.Goals as goal
 use Rattle.merkle_proofs.proofs.proof.Proof.max_encode_size.Goals.{After-checked_add}

@@ -1,5 +1,5 @@
 use Rattle.std.proofs.Common.{rules, ◌≡◌, Some, sym, ◌∙◌, ap}
-use Rattle.merkle_proofs.proofs.PlanFolds.{if_ok}
+use Rattle.merkle_theory.proofs.PlanFolds.{if_ok}
 use Rattle.merkle_proofs.proofs.proof.Proof.verify_proof_and_pinned_nodes.Goals as goal
 
 pub returns : goal.returns

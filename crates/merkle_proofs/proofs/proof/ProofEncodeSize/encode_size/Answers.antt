@@ -1,5 +1,5 @@
 use Rattle.std.proofs.Common.{arith}
-use Rattle.merkle_proofs.specs.Laws.Proofs.{length-proof}
+use Rattle.merkle_theory.specs.Laws.Proofs.{length-proof}
 use Rattle.merkle_proofs.proofs.proof.ProofEncodeSize.encode_size.Goals as goal
 
 pub encode_size-requires-2 : goal.encode_size-requires-2

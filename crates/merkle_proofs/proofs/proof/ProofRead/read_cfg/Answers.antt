@@ -1,5 +1,5 @@
 use Rattle.std.proofs.Common.{refl}
-use Rattle.merkle_proofs.specs.Laws.Proofs.{parts_joined}
+use Rattle.merkle_theory.specs.Laws.Proofs.{parts_joined}
 use Rattle.merkle_proofs.proofs.proof.ProofRead.read_cfg.Goals as goal
 
 pub returns-clause-read : goal.returns-clause-read

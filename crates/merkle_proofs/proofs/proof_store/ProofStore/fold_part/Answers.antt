@@ -4,14 +4,14 @@ use Rattle.std.specs.Vec.{vec_len}
 use Rattle.std.proofs.lemmas.List.{length-append, map-append}
 use Rattle.merkle_forest.specs.Forest.{forest_of}
 use Rattle.merkle_forest.specs.Laws.Peaks.{located_from-zero}
-use Rattle.merkle_proofs.specs.Assembled.{assembled}
-use Rattle.merkle_proofs.specs.MadeRoots.{peaks_of}
+use Rattle.merkle_theory.specs.Assembled.{assembled}
+use Rattle.merkle_theory.specs.MadeRoots.{peaks_of}
 use Rattle.merkle_proofs.specs.ProofStores.{Kept, front_peaks, more_before, more_after}
-use Rattle.merkle_proofs.specs.RangeCounts.{passing}
-use Rattle.merkle_proofs.specs.Ranges.{is_before, is_after}
-use Rattle.merkle_proofs.proofs.PartPlans.{part_counts}
-use Rattle.merkle_proofs.proofs.PlanFolds.{if_ok}
-use Rattle.merkle_proofs.proofs.Places.{first_of}
+use Rattle.merkle_theory.specs.RangeCounts.{passing}
+use Rattle.merkle_theory.specs.Ranges.{is_before, is_after}
+use Rattle.merkle_theory.proofs.PartPlans.{part_counts}
+use Rattle.merkle_theory.proofs.PlanFolds.{if_ok}
+use Rattle.merkle_theory.proofs.Places.{first_of}
 use Rattle.merkle_proofs.proofs.proof_store.ProofStore.fold_part.Goals as goal
 
 pub sides_of-folded-requires-clause-begins : goal.sides_of-folded-requires-clause-begins

@@ -1,5 +1,5 @@
 use Rattle.std.proofs.Common.{ℕ, ap, subst}
-use Rattle.merkle_proofs.specs.Multi.{IsRefusalToProveMany}
+use Rattle.merkle_theory.specs.Multi.{IsRefusalToProveMany}
 use Rattle.merkle_proofs.specs.ProofStores.{Kept, known_with}
 use Rattle.merkle_proofs.proofs.proof_store.ProofStore.multi_proof.Goals as goal
 

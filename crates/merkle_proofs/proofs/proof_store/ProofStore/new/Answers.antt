@@ -2,14 +2,14 @@ use Rattle.std.proofs.Common.{◌≡◌, ℕ, ◌+◌, min, List, length, map, f
 use Rattle.std.specs.List.{take-map, drop-map}
 use Rattle.merkle_forest.specs.Hashing.{folded_forward, folded_backward}
 use Rattle.merkle_forest.specs.Trees.{Located}
-use Rattle.merkle_proofs.specs.RangeCounts.{passing}
-use Rattle.merkle_proofs.specs.Ranges.{is_before, is_after, as_one, singly}
+use Rattle.merkle_theory.specs.RangeCounts.{passing}
+use Rattle.merkle_theory.specs.Ranges.{is_before, is_after, as_one, singly}
 use Rattle.merkle_forest.specs.Forest.{forest_of}
 use Rattle.merkle_forest.specs.Laws.Peaks.{located_from-zero}
-use Rattle.merkle_proofs.specs.MadeRoots.{from_left, peaks_of}
-use Rattle.merkle_proofs.proofs.HonestRoots.{ascend_located}
+use Rattle.merkle_theory.specs.MadeRoots.{from_left, peaks_of}
+use Rattle.merkle_theory.proofs.HonestRoots.{ascend_located}
 use Rattle.merkle_proofs.proofs.PartGiven.{folds_given}
-use Rattle.merkle_proofs.proofs.Places.{first_of}
+use Rattle.merkle_theory.proofs.Places.{first_of}
 use Rattle.merkle_proofs.proofs.proof_store.ProofStore.new.Goals as goal
 
 pub peaks_from-peaks-requires-clause-begins : goal.peaks_from-peaks-requires-clause-begins

@@ -4,18 +4,18 @@ use Rattle.std.proofs.lemmas.List.{length-map, map-append, take_at, drop_at}
 use Rattle.merkle_forest.specs.Forest.{forest_of}
 use Rattle.merkle_forest.specs.Hashing.{folded_forward, folded_backward}
 use Rattle.merkle_forest.specs.Trees.{Located}
-use Rattle.merkle_proofs.specs.Assembled.{assembled}
-use Rattle.merkle_proofs.specs.MadeRoots.{peaks_of}
+use Rattle.merkle_theory.specs.Assembled.{assembled}
+use Rattle.merkle_theory.specs.MadeRoots.{peaks_of}
 use Rattle.std.specs.Prelude.{IfErr}
 use Rattle.std.proofs.lemmas.Result.{err_from_is_err_and}
-use Rattle.merkle_proofs.specs.Plans.{Lookup, first_missing, positions_of, inner_nodes}
+use Rattle.merkle_theory.specs.Plans.{Lookup, first_missing, positions_of, inner_nodes}
 use Rattle.merkle_proofs.specs.ProofStores.{IsRefusalToBuildPart, digest_among, part_nodes, more_before, more_after, front_peaks, back_peaks}
-use Rattle.merkle_proofs.specs.RangeCounts.{passing}
-use Rattle.merkle_proofs.specs.Ranges.{is_before, is_after, as_one, singly}
-use Rattle.merkle_proofs.proofs.HonestRoots.{ascend_located}
-use Rattle.merkle_proofs.proofs.PartFolds.{part_is}
+use Rattle.merkle_theory.specs.RangeCounts.{passing}
+use Rattle.merkle_theory.specs.Ranges.{is_before, is_after, as_one, singly}
+use Rattle.merkle_theory.proofs.HonestRoots.{ascend_located}
+use Rattle.merkle_theory.proofs.PartFolds.{part_is}
 use Rattle.merkle_proofs.proofs.PartKnown.{part_known, part_refused}
-use Rattle.merkle_proofs.proofs.PlanDigests.{all_known}
+use Rattle.merkle_theory.proofs.PlanDigests.{all_known}
 use Rattle.merkle_proofs.proofs.proof_store.ProofStore.part_digests.Goals as goal
 
 pub returns-in_err-nodes-clause-refused : goal.returns-in_err-nodes-clause-refused

@@ -4,14 +4,14 @@ use Rattle.std.proofs.lemmas.List.{length-drop}
 use Rattle.merkle_forest.specs.Forest.{forest_of}
 use Rattle.merkle_forest.specs.Laws.Peaks.{located_from-zero}
 use Rattle.merkle_forest.specs.Peaks.{located_from}
-use Rattle.merkle_proofs.specs.MadeRoots.{peaks_of}
-use Rattle.merkle_proofs.specs.Plans.{inner_nodes, positions_of}
+use Rattle.merkle_theory.specs.MadeRoots.{peaks_of}
+use Rattle.merkle_theory.specs.Plans.{inner_nodes, positions_of}
 use Rattle.merkle_proofs.specs.ProofStores.{Kept, part_nodes, more_before, more_after}
-use Rattle.merkle_proofs.specs.RangeCounts.{passing}
-use Rattle.merkle_proofs.specs.Ranges.{is_before, is_after}
-use Rattle.merkle_proofs.proofs.PartPlans.{IsPartPlan, part_planned}
-use Rattle.merkle_proofs.proofs.Places.{first_of}
-use Rattle.merkle_proofs.proofs.RangePeaks.{all_taken}
+use Rattle.merkle_theory.specs.RangeCounts.{passing}
+use Rattle.merkle_theory.specs.Ranges.{is_before, is_after}
+use Rattle.merkle_theory.proofs.PartPlans.{IsPartPlan, part_planned}
+use Rattle.merkle_theory.proofs.Places.{first_of}
+use Rattle.merkle_theory.proofs.RangePeaks.{all_taken}
 use Rattle.merkle_proofs.proofs.proof_store.ProofStore.plan_part.Goals as goal
 
 pub peaks_from-peaks-requires-clause-begins : goal.peaks_from-peaks-requires-clause-begins

@@ -1,6 +1,6 @@
 use Rattle.std.proofs.Common.{Contains, sym, ◌∙◌, subst}
 use Rattle.merkle_core_parts.specs.declared.error.Error.{Error}
-use Rattle.merkle_proofs.specs.Multi.{IsRefusalToProveMany}
+use Rattle.merkle_theory.specs.Multi.{IsRefusalToProveMany}
 use Rattle.merkle_proofs.specs.ProofStores.{suffix_positions}
 use Rattle.merkle_proofs.proofs.Stores.{missed_apart}
 use Rattle.merkle_proofs.proofs.proof_store.ProofStore.refusal.Goals as goal

@@ -1,11 +1,11 @@
 use Rattle.std.proofs.Common.{◌≡◌, ◌++◌, filter, drop, ◌∙◌, ap, subst}
 use Rattle.merkle_forest.specs.Forest.{forest_of}
 use Rattle.merkle_forest.specs.Laws.Peaks.{located_from-zero}
-use Rattle.merkle_proofs.specs.MadeRoots.{peaks_of}
-use Rattle.merkle_proofs.specs.Plans.{positions_of}
+use Rattle.merkle_theory.specs.MadeRoots.{peaks_of}
+use Rattle.merkle_theory.specs.Plans.{positions_of}
 use Rattle.merkle_proofs.specs.ProofStores.{Kept, suffix_positions}
-use Rattle.merkle_proofs.specs.Ranges.{is_after}
-use Rattle.merkle_proofs.proofs.Places.{first_of}
+use Rattle.merkle_theory.specs.Ranges.{is_after}
+use Rattle.merkle_theory.proofs.Places.{first_of}
 use Rattle.merkle_proofs.proofs.proof_store.ProofStore.suffix_peak_positions.Goals as goal
 
 pub sides_of-first-requires-clause-begins : goal.sides_of-first-requires-clause-begins

@@ -2,10 +2,10 @@ use Rattle.std.proofs.Common.{◌≡◌, suc, ◌+◌, ◌-◌, ◌∷◌, take,
 use Rattle.std.specs.Prelude.{if◌then◌else◌, nat_le}
 use Rattle.merkle_forest.specs.Forest.{leaf_count, forest_of}
 use Rattle.merkle_forest.specs.Peaks.{located_from}
-use Rattle.merkle_proofs.specs.Ranges.{is_before, is_after}
-use Rattle.merkle_proofs.specs.RangeCounts.{passing}
-use Rattle.merkle_proofs.proofs.RangePeaks.{none_from, passing_first, take_none, drop_none}
-use Rattle.merkle_proofs.proofs.Walks.{walk_from}
+use Rattle.merkle_theory.specs.Ranges.{is_before, is_after}
+use Rattle.merkle_theory.specs.RangeCounts.{passing}
+use Rattle.merkle_theory.proofs.RangePeaks.{none_from, passing_first, take_none, drop_none}
+use Rattle.merkle_theory.proofs.Walks.{walk_from}
 use Rattle.merkle_proofs.proofs.verifying.counts.+sides_of.Goals as goal
 
 pub returns-then-first-leaves-clause-before : goal.returns-then-first-leaves-clause-before

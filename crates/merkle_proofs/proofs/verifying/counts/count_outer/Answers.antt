@@ -2,11 +2,11 @@ use Rattle.std.proofs.Common.{◌≡◌, take, drop, ◌∙◌, ap, arith}
 use Rattle.merkle_forest.specs.Forest.{forest_of}
 use Rattle.merkle_forest.specs.Peaks.{located_from}
 use Rattle.merkle_forest.specs.Laws.Peaks.{located_from-zero}
-use Rattle.merkle_proofs.specs.MadeRoots.{peaks_of}
-use Rattle.merkle_proofs.specs.Ranges.{is_before, is_after}
-use Rattle.merkle_proofs.specs.RangeCounts.{passing, digests_for_before, digests_for_after}
-use Rattle.merkle_proofs.proofs.RangePeaks.{all_taken, rest_fits}
-use Rattle.merkle_proofs.proofs.Places.{first_of}
+use Rattle.merkle_theory.specs.MadeRoots.{peaks_of}
+use Rattle.merkle_theory.specs.Ranges.{is_before, is_after}
+use Rattle.merkle_theory.specs.RangeCounts.{passing, digests_for_before, digests_for_after}
+use Rattle.merkle_theory.proofs.RangePeaks.{all_taken, rest_fits}
+use Rattle.merkle_theory.proofs.Places.{first_of}
 use Rattle.merkle_proofs.proofs.verifying.counts.count_outer.Goals as goal
 
 pub sides_of-one-requires-clause-begins : goal.sides_of-one-requires-clause-begins

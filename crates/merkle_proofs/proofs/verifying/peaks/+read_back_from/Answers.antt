@@ -6,13 +6,13 @@ use Rattle.merkle_forest.specs.Hashing.{fold_string}
 use Rattle.merkle_forest.specs.Peaks.{located_from}
 use Rattle.merkle_forest.specs.Laws.Peaks.{located_from-peak}
 use Rattle.merkle_forest.specs.Trees.{Located}
-use Rattle.merkle_proofs.specs.Ranges.{is_after}
-use Rattle.merkle_proofs.specs.MadeTrees.{Elements, from}
-use Rattle.merkle_proofs.specs.MadeRoots.{Streams, given_outer, read_peak, read_back}
-use Rattle.merkle_proofs.specs.Reads.{valued}
-use Rattle.merkle_proofs.proofs.RangePeaks.{none_from, all_after, not_all_after, back_given, back_own_missing, back_others_missing, back_both, by_parts}
-use Rattle.merkle_proofs.proofs.RangeTrees.{no_digest}
-use Rattle.merkle_proofs.proofs.Walks.{walk_from, located_from-all}
+use Rattle.merkle_theory.specs.Ranges.{is_after}
+use Rattle.merkle_theory.specs.MadeTrees.{Elements, from}
+use Rattle.merkle_theory.specs.MadeRoots.{Streams, given_outer, read_peak, read_back}
+use Rattle.merkle_theory.specs.Reads.{valued}
+use Rattle.merkle_theory.proofs.RangePeaks.{none_from, all_after, not_all_after, back_given, back_own_missing, back_others_missing, back_both, by_parts}
+use Rattle.merkle_theory.proofs.RangeTrees.{no_digest}
+use Rattle.merkle_theory.proofs.Walks.{walk_from, located_from-all}
 use Rattle.merkle_proofs.proofs.verifying.peaks.+read_back_from.Goals as goal
 
 pub returns-then-next-reader : goal.returns-then-next-reader

@@ -3,12 +3,12 @@ use Rattle.std.proofs.lemmas.Bool.{le-leb, lt-leb}
 use Rattle.merkle_forest.specs.Forest.{leaf_count, forest_of}
 use Rattle.merkle_forest.specs.Peaks.{located_from}
 use Rattle.merkle_forest.specs.Trees.{Located}
-use Rattle.merkle_proofs.specs.Ranges.{is_before}
-use Rattle.merkle_proofs.specs.MadeTrees.{Elements, from}
-use Rattle.merkle_proofs.specs.MadeRoots.{Streams, read_onto, read_group}
-use Rattle.merkle_proofs.specs.Reads.{valued}
-use Rattle.merkle_proofs.proofs.RangePeaks.{none_from, onto_none, group_none, group_zero, group_met, group_before}
-use Rattle.merkle_proofs.proofs.Walks.{walk_from}
+use Rattle.merkle_theory.specs.Ranges.{is_before}
+use Rattle.merkle_theory.specs.MadeTrees.{Elements, from}
+use Rattle.merkle_theory.specs.MadeRoots.{Streams, read_onto, read_group}
+use Rattle.merkle_theory.specs.Reads.{valued}
+use Rattle.merkle_theory.proofs.RangePeaks.{none_from, onto_none, group_none, group_zero, group_met, group_before}
+use Rattle.merkle_theory.proofs.Walks.{walk_from}
 use Rattle.merkle_proofs.proofs.verifying.peaks.+read_group_from.Goals as goal
 
 pub returns-then-first-reader : goal.returns-then-first-reader

@@ -3,12 +3,12 @@ use Rattle.merkle_forest.specs.Forest.{leaf_count, forest_of}
 use Rattle.merkle_forest.specs.Made.{Made, value}
 use Rattle.merkle_forest.specs.Peaks.{located_from}
 use Rattle.merkle_forest.specs.Laws.Peaks.{located_from-peak}
-use Rattle.merkle_proofs.specs.MadeTrees.{Elements, from}
-use Rattle.merkle_proofs.specs.MadeRoots.{Streams, folded, read_peak, read_onto}
-use Rattle.merkle_proofs.specs.Reads.{valued}
-use Rattle.merkle_proofs.proofs.RangePeaks.{none_from, onto_none, onto_back_missing, onto_back, onto_own_missing, onto_step, fold_value}
-use Rattle.merkle_proofs.proofs.RangeTrees.{read_some}
-use Rattle.merkle_proofs.proofs.Walks.{walk_from}
+use Rattle.merkle_theory.specs.MadeTrees.{Elements, from}
+use Rattle.merkle_theory.specs.MadeRoots.{Streams, folded, read_peak, read_onto}
+use Rattle.merkle_theory.specs.Reads.{valued}
+use Rattle.merkle_theory.proofs.RangePeaks.{none_from, onto_none, onto_back_missing, onto_back, onto_own_missing, onto_step, fold_value}
+use Rattle.merkle_theory.proofs.RangeTrees.{read_some}
+use Rattle.merkle_theory.proofs.Walks.{walk_from}
 use Rattle.merkle_proofs.proofs.verifying.peaks.+read_onto_from.Goals as goal
 
 pub returns-then-first-reader : goal.returns-then-first-reader

@@ -4,14 +4,14 @@ use Rattle.merkle_forest.specs.Forest.{leaf_count, forest_of}
 use Rattle.merkle_forest.specs.Made.{bytes}
 use Rattle.merkle_forest.specs.Peaks.{located_from}
 use Rattle.merkle_forest.specs.Laws.Peaks.{located_from-peak, located_from-zero}
-use Rattle.merkle_proofs.specs.Ranges.{is_before}
-use Rattle.merkle_proofs.specs.MadeTrees.{Elements, from}
-use Rattle.merkle_proofs.specs.MadeRoots.{Streams, peaks_of, read_peak, read_bag}
-use Rattle.merkle_proofs.specs.Reads.{valued}
-use Rattle.merkle_proofs.proofs.RangePeaks.{none_from, bag_none, bag_not_given, bag_given, bag_own_missing, bag_own}
-use Rattle.merkle_proofs.proofs.RangeTrees.{read_some, read_none, no_digest}
-use Rattle.merkle_proofs.proofs.Walks.{walk_from}
-use Rattle.merkle_proofs.proofs.Places.{first_of}
+use Rattle.merkle_theory.specs.Ranges.{is_before}
+use Rattle.merkle_theory.specs.MadeTrees.{Elements, from}
+use Rattle.merkle_theory.specs.MadeRoots.{Streams, peaks_of, read_peak, read_bag}
+use Rattle.merkle_theory.specs.Reads.{valued}
+use Rattle.merkle_theory.proofs.RangePeaks.{none_from, bag_none, bag_not_given, bag_given, bag_own_missing, bag_own}
+use Rattle.merkle_theory.proofs.RangeTrees.{read_some, read_none, no_digest}
+use Rattle.merkle_theory.proofs.Walks.{walk_from}
+use Rattle.merkle_theory.proofs.Places.{first_of}
 use Rattle.merkle_proofs.proofs.verifying.peaks.read_peaks.Goals as goal
 
 pub returns-then-reader-eq0 : goal.returns-then-reader-eq0

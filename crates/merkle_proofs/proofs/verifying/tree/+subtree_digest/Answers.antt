@@ -1,9 +1,9 @@
 use Rattle.std.proofs.Common.{◌≡◌, ℕ, ◌+◌, true, false, length, map, None, Some, option_map, sym, ◌∙◌, ap, subst, arith}
 use Rattle.merkle_forest.specs.Forest.{leaf, branch}
-use Rattle.merkle_proofs.specs.Ranges.{meets}
-use Rattle.merkle_proofs.specs.MadeTrees.{Elements, from, given, read_tree}
-use Rattle.merkle_proofs.specs.Reads.{valued}
-use Rattle.merkle_proofs.proofs.RangeTrees.{read_given, leaf_value, left_missing, right_missing, both_there, met_leaf, no_digest, element_at}
+use Rattle.merkle_theory.specs.Ranges.{meets}
+use Rattle.merkle_theory.specs.MadeTrees.{Elements, from, given, read_tree}
+use Rattle.merkle_theory.specs.Reads.{valued}
+use Rattle.merkle_theory.proofs.RangeTrees.{read_given, leaf_value, left_missing, right_missing, both_there, met_leaf, no_digest, element_at}
 use Rattle.merkle_proofs.proofs.verifying.tree.+subtree_digest.Goals as goal
 
 pub returns-in_err-given : goal.returns-in_err-given

@@ -1,7 +1,7 @@
 use Rattle.std.proofs.Common.{◌≡◌, ◌≤◌, ◌^◌, ◌+◌, ◌-◌, ℕ, ap, refl, sym, ◌∙◌, subst, arith}
 use Rattle.merkle_forest.specs.Forest.{branch, height, forest_of}
 use Rattle.merkle_forest.specs.Nodes.{IsNodeAt}
-use Rattle.merkle_proofs.proofs.Places.{Parts, parts, branch_of, parts-fit, left_position, right_position, pow_le}
+use Rattle.merkle_theory.proofs.Places.{Parts, parts, branch_of, parts-fit, left_position, right_position, pow_le}
 use Rattle.std.proofs.lemmas.Nat.{one_shl}
 use Rattle.merkle_proofs.proofs.verifying.tree.children_of.Goals as goal
 

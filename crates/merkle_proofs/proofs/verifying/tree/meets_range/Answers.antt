@@ -1,6 +1,6 @@
 use Rattle.std.proofs.Common.{◌≡◌, ℕ, ◌+◌, subst, arith}
 use Rattle.std.specs.Prelude.{not, nat_le, ◌||◌}
-use Rattle.merkle_proofs.proofs.RangeTrees.{reach}
+use Rattle.merkle_theory.proofs.RangeTrees.{reach}
 use Rattle.merkle_proofs.proofs.verifying.tree.meets_range.Goals as goal
 
 pub overflow_shl-end : goal.overflow_shl-end

@@ -1,5 +1,5 @@
 use Rattle.std.proofs.Common.{◌*◌, ◌<◌, ◌≤◌, slice_get, sym, ◌∙◌, ap, subst, arith}
-use Rattle.state_proofs_parts.specs.Bits.{all_bits, bit_count}
+use Rattle.state_theory.specs.Bits.{all_bits, bit_count}
 use Rattle.state_current.specs.Kept.{Kept}
 use Rattle.state_current.proofs.BitLemmas.{kept_bit}
 use Rattle.state_current.proofs.current.Current.bit.Goals as goal

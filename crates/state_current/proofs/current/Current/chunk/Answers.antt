@@ -1,6 +1,6 @@
 use Rattle.std.proofs.Common.{◌≡◌, ◌*◌, ◌<◌, ◌≤◌, length, sym, ◌∙◌, subst, arith}
-use Rattle.state_proofs_parts.specs.Canonical.{Setting, setting_with}
-use Rattle.state_proofs_parts.specs.Laws.SameNodes.{born}
+use Rattle.state_theory.specs.Canonical.{Setting, setting_with}
+use Rattle.state_theory.specs.Laws.SameNodes.{born}
 use Rattle.state_current.specs.Kept.{Kept, StandsFor}
 use Rattle.state_current.proofs.CurrentLemmas.{IsGraftable, all_are, chunk_is, may_get}
 use Rattle.state_current.proofs.current.Current.chunk.Goals as goal

@@ -1,5 +1,5 @@
 use Rattle.std.proofs.Common.{sym, ◌∙◌, ap}
-use Rattle.state_proofs_parts.specs.Bits.{bit_count}
+use Rattle.state_theory.specs.Bits.{bit_count}
 use Rattle.state_current.specs.Kept.{Kept}
 use Rattle.state_current.proofs.current.Current.leaves.Goals as goal
 

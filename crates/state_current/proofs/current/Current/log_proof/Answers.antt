@@ -9,11 +9,11 @@ use Rattle.merkle_core_parts.specs.Laws.Held.{right-there}
 use Rattle.merkle_core_parts.specs.Laws.Plain.{length-plain}
 use Rattle.merkle_core_parts.specs.Mem.{node_at, plain_leaf_digests, plain_node, tree_digest}
 use Rattle.merkle_core_parts.specs.declared.error.Error.TheVariants.{Memory as NoMemory}
-use Rattle.merkle_proofs.specs.MadeRoots.{peaks_of}
-use Rattle.merkle_proofs.specs.Plans.{IsLookupOf, IsRefusalToProveNow, honest_digests}
-use Rattle.state_proofs_parts.specs.Laws.Known.{all_known}
+use Rattle.merkle_theory.specs.MadeRoots.{peaks_of}
+use Rattle.merkle_theory.specs.Plans.{IsLookupOf, IsRefusalToProveNow, honest_digests}
+use Rattle.state_theory.specs.Laws.Known.{all_known}
 use Rattle.state_proofs.specs.BuiltCode.{span_of}
-use Rattle.state_proofs_parts.specs.Canonical.{Setting, setting_with}
+use Rattle.state_theory.specs.Canonical.{Setting, setting_with}
 use Rattle.state_current.specs.Kept.{Kept, StandsFor}
 use Rattle.state_current.proofs.AnsweredLemmas.{if_err, now_memory}
 use Rattle.state_current.proofs.CurrentLemmas.{inactive_low}

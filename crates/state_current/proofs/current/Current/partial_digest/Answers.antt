@@ -1,9 +1,9 @@
 use Rattle.std.proofs.Common.{◌≡◌, ◌*◌, ◌/◌, ◌<◌, sym, ◌∙◌, ◌%◌, ap, ap₂, subst, arith}
 use Rattle.std.proofs.lemmas.Nat.{pow_pos}
-use Rattle.state_proofs_parts.specs.Canonical.{Setting, setting_with}
-use Rattle.state_proofs_parts.specs.Laws.SameNodes.{born}
+use Rattle.state_theory.specs.Canonical.{Setting, setting_with}
+use Rattle.state_theory.specs.Laws.SameNodes.{born}
 use Rattle.state_current.specs.Kept.{Kept, StandsFor}
-use Rattle.state_proofs_parts.specs.Bits.{bit_count}
+use Rattle.state_theory.specs.Bits.{bit_count}
 use Rattle.state_current.proofs.CurrentLemmas.{IsGraftable, pruned_of_bits, rest_of_bits, may_get, partial_none, partial_some}
 use Rattle.state_current.proofs.current.Current.partial_digest.Goals as goal
 

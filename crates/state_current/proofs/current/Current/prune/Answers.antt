@@ -1,5 +1,5 @@
 use Rattle.std.proofs.Common.{◌≡◌, ℕ, ◌*◌, ◌/◌, ◌^◌, ◌≤◌, inl, inr, sym, ◌∙◌, ap, ap₂, subst, arith}
-use Rattle.state_proofs_parts.specs.Laws.Heights.{same_power}
+use Rattle.state_theory.specs.Laws.Heights.{same_power}
 use Rattle.state_current.specs.Kept.{Kept}
 use Rattle.state_current.specs.Settled.{IsGreatestSettled, IsSettled}
 use Rattle.state_current.proofs.PruneLemmas.{chunk_within, greatest_of, on_ok, settled_as_read}

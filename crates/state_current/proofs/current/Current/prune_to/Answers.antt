@@ -5,10 +5,10 @@ use Rattle.std.proofs.Math.Nat.{mul_comm}
 use Rattle.std.proofs.lemmas.Result.{err_from_is_err_and}
 use Rattle.merkle_core_parts.specs.declared.error.Error.TheVariants.{Memory}
 use Rattle.merkle_core_parts.specs.Mem.{AreNodesOf, Nodes, plain_node, pruned_before}
-use Rattle.state_proofs_parts.specs.Laws.Refusals.{prune_memory}
-use Rattle.state_proofs_parts.specs.Laws.Heights.{some_height}
-use Rattle.state_proofs_parts.specs.Canonical.{setting_with}
-use Rattle.state_proofs_parts.specs.GraftedNodes.{chunks_node}
+use Rattle.state_theory.specs.Laws.Refusals.{prune_memory}
+use Rattle.state_theory.specs.Laws.Heights.{some_height}
+use Rattle.state_theory.specs.Canonical.{setting_with}
+use Rattle.state_theory.specs.GraftedNodes.{chunks_node}
 use Rattle.state_current.specs.Settled.{IsSettled}
 use Rattle.state_current.specs.Kept.{AreClearBefore, AreTogether, Kept, StandsFor}
 use Rattle.state_current.proofs.PruneLemmas.{ArePruned, clear_kept, gone_in, settled_ends, settled_leaves, stands_pruned, together_pruned}

@@ -3,14 +3,14 @@ use Rattle.std.specs.Prelude.{IfErr}
 use Rattle.merkle_forest.specs.Forest.{forest_of}
 use Rattle.merkle_forest.specs.Nodes.{nodes_of_height}
 use Rattle.merkle_core_parts.specs.Mem.{node_at}
-use Rattle.state_proofs_parts.specs.Bits.{all_bits}
+use Rattle.state_theory.specs.Bits.{all_bits}
 use Rattle.state_proofs.specs.Built.{IsRefusalOfPlanned}
 use Rattle.state_proofs.specs.BuiltCode.{measures_with, source_of, span_of}
-use Rattle.state_proofs_parts.specs.Canonical.{Setting, setting_with}
-use Rattle.state_proofs_parts.specs.GraftedNodes.{grafted_lookup}
-use Rattle.state_proofs_parts.specs.Laws.ChunkCounts.{one_pending}
-use Rattle.state_proofs_parts.specs.Laws.Heights.{same_power}
-use Rattle.state_proofs_parts.specs.Laws.SameNodes.{born}
+use Rattle.state_theory.specs.Canonical.{Setting, setting_with}
+use Rattle.state_theory.specs.GraftedNodes.{grafted_lookup}
+use Rattle.state_theory.specs.Laws.ChunkCounts.{one_pending}
+use Rattle.state_theory.specs.Laws.Heights.{same_power}
+use Rattle.state_theory.specs.Laws.SameNodes.{born}
 use Rattle.state_proofs.specs.declared.error.Error.TheVariants.{Memory}
 use Rattle.state_current.specs.Kept.{Kept, StandsFor, read_of}
 use Rattle.state_current.proofs.AnsweredLemmas.{if_err, retold, range_memory}

@@ -1,16 +1,16 @@
 use Rattle.std.proofs.Common.{◌≡◌, ◌*◌, ◌^◌, ◌≤◌, length, sym, ◌∙◌, ap, ap₂, refl, subst, arith}
 use Rattle.std.specs.Prelude.{IsSome}
 use Rattle.merkle_core_parts.specs.Mem.{IsPeakPosition, digests_from, node_at}
-use Rattle.state_proofs_parts.specs.Canonical.{Setting, setting_with}
-use Rattle.state_proofs_parts.specs.Laws.SameNodes.{born}
+use Rattle.state_theory.specs.Canonical.{Setting, setting_with}
+use Rattle.state_theory.specs.Laws.SameNodes.{born}
 use Rattle.state_current.specs.Kept.{Kept, StandsFor}
 use Rattle.merkle_forest.specs.Forest.{forest_of}
 use Rattle.merkle_forest.specs.Hashing.{root_of}
 use Rattle.merkle_forest.specs.Trees.{located}
-use Rattle.state_proofs_parts.specs.Grafting.{chunk_aligned_inactive_peaks}
-use Rattle.state_proofs_parts.specs.GraftedNodes.{grafted_lookup}
-use Rattle.merkle_proofs.specs.Plans.{Lookup}
-use Rattle.state_proofs_parts.specs.Laws.Heights.{same_power}
+use Rattle.state_theory.specs.Grafting.{chunk_aligned_inactive_peaks}
+use Rattle.state_theory.specs.GraftedNodes.{grafted_lookup}
+use Rattle.merkle_theory.specs.Plans.{Lookup}
+use Rattle.state_theory.specs.Laws.Heights.{same_power}
 use Rattle.state_current.proofs.CurrentLemmas.{IsGraftable, all_are, aligned_within, peaks_known, grafted_root_is}
 use Rattle.state_current.proofs.current.Current.root_of_grafted.Goals as goal
 

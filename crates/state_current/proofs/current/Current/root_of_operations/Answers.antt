@@ -2,8 +2,8 @@ use Rattle.std.proofs.Common.{◌≡◌, ◌≤◌, true, false, length, sym, �
 use Rattle.merkle_forest.specs.Forest.{forest_of}
 use Rattle.merkle_forest.specs.Trees.{located, inactive_peaks}
 use Rattle.merkle_core_parts.specs.Mem.{digests_from, list_root, node_at, plain_leaf_digests, plain_node}
-use Rattle.state_proofs_parts.specs.Canonical.{Setting, setting_with}
-use Rattle.state_proofs_parts.specs.Laws.SameNodes.{born}
+use Rattle.state_theory.specs.Canonical.{Setting, setting_with}
+use Rattle.state_theory.specs.Laws.SameNodes.{born}
 use Rattle.state_current.specs.Kept.{Kept, StandsFor}
 use Rattle.state_current.proofs.CurrentLemmas.{IsGraftable, inactive_within, operations_root_is}
 use Rattle.state_current.proofs.current.Current.root_of_operations.Goals as goal

@@ -1,8 +1,8 @@
 use Rattle.std.proofs.Common.{◌≡◌, ℕ, ◌+◌, ◌*◌, ◌^◌, ◌<◌, ◌≤◌, length, map, refl, sym, ◌∙◌, ap, subst, arith}
 use Rattle.std.specs.List.{AllByRecursion}
-use Rattle.state_proofs_parts.specs.Canonical.{setting_with}
-use Rattle.state_proofs_parts.specs.Laws.Heights.{same_power}
-use Rattle.state_proofs_parts.specs.Laws.SameNodes.{born}
+use Rattle.state_theory.specs.Canonical.{setting_with}
+use Rattle.state_theory.specs.Laws.Heights.{same_power}
+use Rattle.state_theory.specs.Laws.SameNodes.{born}
 use Rattle.state_current.specs.Growth.{Change, grown}
 use Rattle.state_current.specs.Kept.{AreTogether, Kept, StandsFor}
 use Rattle.state_current.proofs.CurrentLemmas.{IsGraftable}

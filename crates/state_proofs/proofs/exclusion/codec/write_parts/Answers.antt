@@ -1,4 +1,4 @@
-use Rattle.state_proofs.proofs.Extending.{extends_two}
+use Rattle.state_theory.proofs.Extending.{extends_two}
 use Rattle.state_proofs.proofs.exclusion.codec.write_parts.Goals as goal
 
 pub returns-in_ok-write-in-KeyValue-clause-err : goal.returns-in_ok-write-in-KeyValue-clause-err

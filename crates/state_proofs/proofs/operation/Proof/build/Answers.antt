@@ -1,17 +1,17 @@
 use Rattle.std.proofs.Common.{◌≡◌, ◌<◌, ◌+◌, ◌*◌, ◌/◌, ℕ, List, Bool, length, drop, sym, ◌∙◌, ap, subst, arith}
 use Rattle.std.proofs.lemmas.Nat.{pow_pos}
-use Rattle.merkle_proofs.specs.Plans.{Asked, IsWithinTree}
-use Rattle.state_proofs_parts.specs.Bits.{chunk_of}
+use Rattle.merkle_theory.specs.Plans.{Asked, IsWithinTree}
+use Rattle.state_theory.specs.Bits.{chunk_of}
 use Rattle.state_proofs.specs.Built.{IsBuildable, IsRefusalOfSource}
-use Rattle.state_proofs_parts.specs.Sources.{IsSourceOf}
+use Rattle.state_theory.specs.Sources.{IsSourceOf}
 use Rattle.state_proofs.specs.BuiltCode.{measures_with, source_of}
-use Rattle.state_proofs_parts.specs.Canonical.{Setting, setting_with}
-use Rattle.state_proofs.specs.Honest.{honest_range}
+use Rattle.state_theory.specs.Canonical.{Setting, setting_with}
+use Rattle.state_theory.specs.Honest.{honest_range}
 use Rattle.state_proofs.specs.ProofsCode.{range_parts_of}
 use Rattle.state_proofs.specs.Required.{Measures}
-use Rattle.state_proofs_parts.specs.Laws.Chunks.{chunk_is}
+use Rattle.state_theory.specs.Laws.Chunks.{chunk_is}
 use Rattle.state_proofs.proofs.BuiltLemmas.{operation_refusal, same_parts}
-use Rattle.state_proofs_parts.specs.Laws.Bits.{length-chunk_of}
+use Rattle.state_theory.specs.Laws.Bits.{length-chunk_of}
 use Rattle.state_proofs.proofs.operation.Proof.build.Goals as goal
 
 pub from_bytes-requires : goal.from_bytes-requires

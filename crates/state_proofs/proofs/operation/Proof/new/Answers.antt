@@ -1,11 +1,11 @@
 use Rattle.std.proofs.Common.{rules, ◌≡◌, ◌<◌, ◌+◌, ℕ, List, Bool, ◌∙◌, ap, subst}
 use Rattle.std.specs.Prelude.{IfOk, IfErr}
-use Rattle.merkle_proofs.specs.Plans.{Asked, Lookup}
+use Rattle.merkle_theory.specs.Plans.{Asked, Lookup}
 use Rattle.state_proofs.specs.Built.{IsRefusalOfLocated, IsRefusalOfOperation}
-use Rattle.state_proofs_parts.specs.Sources.{IsSourceOf}
+use Rattle.state_theory.specs.Sources.{IsSourceOf}
 use Rattle.state_proofs.specs.BuiltCode.{measures_with, source_of, span_of}
-use Rattle.state_proofs_parts.specs.Canonical.{Setting, setting_with}
-use Rattle.state_proofs.specs.Honest.{honest_parts}
+use Rattle.state_theory.specs.Canonical.{Setting, setting_with}
+use Rattle.state_theory.specs.Honest.{honest_parts}
 use Rattle.state_proofs.specs.ProofsCode.{form_parts_of}
 use Rattle.state_proofs.specs.Required.{Measures}
 use Rattle.state_proofs.proofs.BuiltLemmas.{err_as, located}

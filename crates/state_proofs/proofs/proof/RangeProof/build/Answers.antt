@@ -1,8 +1,8 @@
 use Rattle.std.proofs.Common.{◌≡◌, ◌^◌, ◌*◌, ℕ, List, Bool, length, sym, ◌∙◌, ap, subst, None}
 use Rattle.state_proofs.specs.Built.{AreApart}
-use Rattle.state_proofs_parts.specs.Sources.{Source}
+use Rattle.state_theory.specs.Sources.{Source}
 use Rattle.state_proofs.specs.BuiltCode.{measures_with, source_of}
-use Rattle.state_proofs_parts.specs.Canonical.{Setting, pending_digest, partial_digest, setting_with}
+use Rattle.state_theory.specs.Canonical.{Setting, pending_digest, partial_digest, setting_with}
 use Rattle.state_proofs.specs.Required.{Measures}
 use Rattle.state_proofs.specs.RequiredCode.{asked_of}
 use Rattle.state_proofs.proofs.BuiltLemmas.{one_height, same_setting, same_measures, built_inactive, built_digests, same_range}

@@ -1,11 +1,11 @@
 use Rattle.std.proofs.Common.{rules, ◌≡◌, ℕ, List, Bool, sym, ◌∙◌, ap, subst}
 use Rattle.std.specs.Prelude.{IfOk, IfErr}
-use Rattle.merkle_proofs.specs.Plans.{Asked, IsWithinTree, Lookup}
+use Rattle.merkle_theory.specs.Plans.{Asked, IsWithinTree, Lookup}
 use Rattle.state_proofs.specs.Built.{IsRefusalOfPlanned, IsRefusalOfSource}
-use Rattle.state_proofs_parts.specs.Sources.{IsSourceOf}
+use Rattle.state_theory.specs.Sources.{IsSourceOf}
 use Rattle.state_proofs.specs.BuiltCode.{measures_with, source_of, span_of}
-use Rattle.state_proofs_parts.specs.Canonical.{Setting, setting_with}
-use Rattle.state_proofs.specs.Honest.{honest_range}
+use Rattle.state_theory.specs.Canonical.{Setting, setting_with}
+use Rattle.state_theory.specs.Honest.{honest_range}
 use Rattle.state_proofs.specs.ProofsCode.{range_parts_of}
 use Rattle.state_proofs.specs.Required.{Measures}
 use Rattle.state_proofs.proofs.BuiltLemmas.{planned, err_as}

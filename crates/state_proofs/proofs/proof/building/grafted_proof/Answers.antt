@@ -1,6 +1,6 @@
 use Rattle.std.proofs.Common.{◌≡◌, ◌≤◌, ◌<◌, ◌^◌, ℕ, ⊎_elim, sym, ◌∙◌, ap, subst, length, true, false, arith}
 use Rattle.std.proofs.lemmas.Bool.{cases_lt}
-use Rattle.merkle_proofs.specs.MadeRoots.{peaks_of}
+use Rattle.merkle_theory.specs.MadeRoots.{peaks_of}
 use Rattle.state_proofs.specs.Built.{IsRefusalOfNodes, lifted}
 use Rattle.state_proofs.proofs.BuiltLemmas.{lifted_refusal, aligned_within}
 use Rattle.state_proofs.proofs.proof.building.grafted_proof.Goals as goal

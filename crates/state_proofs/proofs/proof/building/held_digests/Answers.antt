@@ -1,6 +1,6 @@
 use Rattle.std.proofs.Common.{◌≡◌, List, Bool, Option, length, sym, ◌∙◌, subst, arith}
 use Rattle.std.specs.Prelude.{IfSome, option_map}
-use Rattle.state_proofs_parts.specs.Canonical.{setting_with}
+use Rattle.state_theory.specs.Canonical.{setting_with}
 use Rattle.state_proofs.proofs.BuiltLemmas.{pending_from, partial_from}
 use Rattle.state_proofs.proofs.proof.building.held_digests.Goals as goal
 

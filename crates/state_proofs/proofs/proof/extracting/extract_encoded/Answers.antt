@@ -2,7 +2,7 @@ use Rattle.std.proofs.Common.{◌≡◌, Bool, true, false, not, List, ℕ, refl
 use Rattle.std.specs.Prelude.{map}
 use Rattle.state_proofs.specs.ProofsCode.{range_parts_of}
 use Rattle.state_proofs.specs.RangeExtracted.{shown_with}
-use Rattle.state_proofs.specs.Verified.{Shown, VerifiesRange, RangeParts}
+use Rattle.state_theory.specs.Verified.{Shown, VerifiesRange, RangeParts}
 use Rattle.state_proofs.proofs.proof.extracting.extract_encoded.Goals as goal
 
 same_after_all : (b : Bool) → not b ≡ false → b ≡ true

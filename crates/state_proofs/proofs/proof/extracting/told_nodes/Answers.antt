@@ -5,14 +5,14 @@ use Rattle.merkle_forest.specs.Forest.{Rule, forest_of}
 use Rattle.merkle_forest.specs.Hashing.{Hash, leaf_string}
 use Rattle.merkle_forest.specs.Nodes.{nodes_of_height}
 use Rattle.merkle_proofs.specs.Extracted.{AreMadeOf, AreGiven, AreExtracted, extracted_nodes}
-use Rattle.merkle_proofs.specs.MadeRoots.{peaks_of}
-use Rattle.merkle_proofs.specs.MadeTrees.{from}
-use Rattle.merkle_proofs.specs.Ranges.{Digests}
+use Rattle.merkle_theory.specs.MadeRoots.{peaks_of}
+use Rattle.merkle_theory.specs.MadeTrees.{from}
+use Rattle.merkle_theory.specs.Ranges.{Digests}
 use Rattle.state_proofs.specs.ProofsCode.{range_parts_of}
 use Rattle.state_proofs.specs.RangeExtracted.{told_by}
-use Rattle.state_proofs.specs.Verified.{Shown, given_by, graftable_shown, RangeParts}
+use Rattle.state_theory.specs.Verified.{Shown, given_by, graftable_shown, RangeParts}
 use Rattle.state_proofs.specs.ShownCode.{shown_of}
-use Rattle.state_proofs_parts.specs.Verifier.{Given, grafted_node}
+use Rattle.state_theory.specs.Verifier.{Given, grafted_node}
 use Rattle.state_proofs_parts.specs.VerifierCode.{given_of}
 use Rattle.state_proofs.proofs.RangeTold.{remade, remade_made, remade_given, told_as_shown}
 use Rattle.state_proofs.proofs.proof.extracting.told_nodes.Goals as goal

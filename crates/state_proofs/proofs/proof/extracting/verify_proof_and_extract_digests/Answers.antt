@@ -4,8 +4,8 @@ use Rattle.merkle_forest.specs.Hashing.{Hash}
 use Rattle.merkle_proofs.specs.Extracted.{AreExtracted}
 use Rattle.state_proofs.specs.ProofsCode.{range_parts_of}
 use Rattle.state_proofs.specs.RangeExtracted.{ShowsDigests, shown_with, told_by}
-use Rattle.state_proofs.specs.Verified.{Shown, RangeParts}
-use Rattle.state_proofs_parts.specs.Laws.Heights.{same_power}
+use Rattle.state_theory.specs.Verified.{Shown, RangeParts}
+use Rattle.state_theory.specs.Laws.Heights.{same_power}
 use Rattle.state_proofs.proofs.proof.extracting.verify_proof_and_extract_digests.Goals as goal
 
 pub returns-clause-told : goal.returns-clause-told

@@ -1,7 +1,7 @@
 use Rattle.std.proofs.Common.{◌≡◌, ◌+◌, ◌-◌, ◌*◌, ◌++◌, ◌∷◌, [], ℕ, Bool, List, drop, ap, sym, ◌∙◌, arith}
 use Rattle.std.proofs.lemmas.List.{drop-drop}
-use Rattle.state_proofs_parts.specs.Bits.{chunk_of, chunks_of}
-use Rattle.state_proofs_parts.specs.Laws.ChunkSteps.{chunks_go_on, chunks_end}
+use Rattle.state_theory.specs.Bits.{chunk_of, chunks_of}
+use Rattle.state_theory.specs.Laws.ChunkSteps.{chunks_go_on, chunks_end}
 use Rattle.state_proofs.proofs.proof.request.chunks_from.Goals as goal
 
 pub loop-index-preserved : goal.loop-index-preserved

@@ -5,7 +5,7 @@ use Rattle.merkle_forest.specs.Forest.{forest_of}
 use Rattle.merkle_forest.specs.Nodes.{nodes_of_height}
 use Rattle.state_proofs.specs.ProofsCode.{range_parts_of}
 use Rattle.state_proofs.specs.RangeExtracted.{by_chunks, by_digests}
-use Rattle.state_proofs.specs.Verified.{FitsShown, graftable_shown, RangeParts}
+use Rattle.state_theory.specs.Verified.{FitsShown, graftable_shown, RangeParts}
 use Rattle.state_proofs.specs.ShownCode.{form_shown_of}
 use Rattle.state_proofs.proofs.proof.verifying.led_root.Goals as goal
 

@@ -3,15 +3,15 @@ use Rattle.std.specs.Prelude.{option_map}
 use Rattle.merkle_forest.specs.declared.bagging.Bagging.TheVariants.{BackwardFold}
 use Rattle.merkle_forest.specs.Hashing.{Hash, leaf_string}
 use Rattle.merkle_forest.specs.Made.{value}
-use Rattle.merkle_proofs.specs.MadeTrees.{Over}
-use Rattle.merkle_proofs.specs.Reads.{HashesAs, range_root}
-use Rattle.state_proofs_parts.specs.MadeGrafted.{grafted_names}
+use Rattle.merkle_theory.specs.MadeTrees.{Over}
+use Rattle.merkle_theory.specs.Reads.{HashesAs, range_root}
+use Rattle.state_theory.specs.MadeGrafted.{grafted_names}
 use Rattle.state_proofs.specs.ProofsCode.{range_parts_of}
-use Rattle.state_proofs.specs.Verified.{Shown, given_by, shown_over, graftable_shown, RangeParts}
+use Rattle.state_theory.specs.Verified.{Shown, given_by, shown_over, graftable_shown, RangeParts}
 use Rattle.state_proofs.specs.ShownCode.{form_shown_of}
-use Rattle.state_proofs_parts.specs.Verifier.{Given, grafted_node}
+use Rattle.state_theory.specs.Verifier.{Given, grafted_node}
 use Rattle.state_proofs_parts.specs.VerifierCode.{form_given_of}
-use Rattle.state_proofs_parts.specs.Laws.Verifier.{hashes_grafted}
+use Rattle.state_theory.specs.Laws.Verifier.{hashes_grafted}
 use Rattle.state_proofs.proofs.proof.verifying.shown_root.Goals as goal
 
 pub returns : goal.returns

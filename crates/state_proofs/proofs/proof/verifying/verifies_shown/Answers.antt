@@ -1,6 +1,6 @@
 use Rattle.std.proofs.Common.{sym, ◌∙◌, ap, subst}
 use Rattle.state_proofs.specs.ProofsCode.{range_parts_of}
-use Rattle.state_proofs.specs.Verified.{Shown, VerifiesRange, RangeParts}
+use Rattle.state_theory.specs.Verified.{Shown, VerifiesRange, RangeParts}
 use Rattle.state_proofs.specs.ShownCode.{form_shown_of}
 use Rattle.state_proofs.proofs.RangeLed.{one_led, none_led}
 use Rattle.state_proofs.proofs.proof.verifying.verifies_shown.Goals as goal

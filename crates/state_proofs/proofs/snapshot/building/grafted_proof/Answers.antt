@@ -4,11 +4,11 @@ use Rattle.merkle_forest.specs.Forest.{forest_of}
 use Rattle.merkle_forest.specs.Shape.{shape}
 use Rattle.merkle_forest.specs.Trees.{located}
 use Rattle.merkle_forest.specs.TreesCode.{shapes}
-use Rattle.state_proofs_parts.specs.Canonical.{chunk_bits}
-use Rattle.state_proofs_parts.specs.Grafting.{grafted_digest, chunk_aligned_inactive_peaks}
+use Rattle.state_theory.specs.Canonical.{chunk_bits}
+use Rattle.state_theory.specs.Grafting.{grafted_digest, chunk_aligned_inactive_peaks}
 use Rattle.state_proofs_parts.specs.Snapshot.{state_of, setting_of}
-use Rattle.state_proofs_parts.specs.Laws.Roots.{is_grafted_digests}
-use Rattle.state_proofs.proofs.HonestLemmas.{is_grafted_inactive, is_grafted_range}
+use Rattle.state_theory.specs.Laws.Roots.{is_grafted_digests}
+use Rattle.state_theory.proofs.HonestPartLemmas.{is_grafted_inactive, is_grafted_range}
 use Rattle.state_proofs.proofs.snapshot.building.grafted_proof.Goals as goal
 
 pub returns-clause-inactive : goal.returns-clause-inactive

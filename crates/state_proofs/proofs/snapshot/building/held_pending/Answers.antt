@@ -1,7 +1,7 @@
 use Rattle.std.proofs.Common.{◌≤◌, ◌^◌, length, sym, subst, arith}
 use Rattle.std.proofs.lemmas.List.{length-map}
 use Rattle.state_proofs_parts.specs.Snapshot.{state_of, setting_of}
-use Rattle.state_proofs.specs.Laws.HonestSizes.{may_hold}
+use Rattle.state_theory.specs.Laws.HonestSizes.{may_hold}
 use Rattle.state_proofs.proofs.snapshot.building.held_pending.Goals as goal
 
 pub unwrap-requires : goal.unwrap-requires

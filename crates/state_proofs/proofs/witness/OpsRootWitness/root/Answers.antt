@@ -1,6 +1,6 @@
 use Rattle.std.proofs.Common.{ℕ, List, ◌∙◌, ap}
 use Rattle.std.specs.Prelude.{option_map}
-use Rattle.state_proofs_parts.specs.Canonical.{canonical_string}
+use Rattle.state_theory.specs.Canonical.{canonical_string}
 use Rattle.state_proofs.proofs.WitnessLemmas.{next_same}
 use Rattle.state_proofs.proofs.witness.OpsRootWitness.root.Goals as goal
 

@@ -1,9 +1,9 @@
 use Rattle.std.proofs.Common.{map, ◌∙◌, ap}
 use Rattle.std.proofs.lemmas.List.{length-map}
-use Rattle.state_proofs_parts.specs.Maps.{merkleized}
-use Rattle.state_proofs_parts.proofs.MapLemmas.{root_is}
-use Rattle.state_proofs_parts.proofs.PartsLemmas.{parts_bits, parts_leaves, parts_full, parts_map}
-use Rattle.state_proofs_parts.proofs.WidthLemmas.{wide-some}
+use Rattle.state_theory.specs.Maps.{merkleized}
+use Rattle.state_theory.proofs.MapLemmas.{root_is}
+use Rattle.state_theory.proofs.PartsLemmas.{parts_bits, parts_leaves, parts_full, parts_map}
+use Rattle.state_theory.proofs.WidthLemmas.{wide-some}
 use Rattle.state_proofs_parts.proofs.authenticated.BitMap+D+N+Merkleized+D.from_pruned.Goals as goal
 
 pub returns-clause-of_list : goal.returns-clause-of_list

@@ -1,10 +1,10 @@
 use Rattle.std.proofs.Common.{[], sym, ◌∙◌, ap, subst}
 use Rattle.merkle_core_parts.specs.Mem.{Nodes}
-use Rattle.state_proofs_parts.specs.Bits.{AreBitsOf}
-use Rattle.state_proofs_parts.specs.Maps.{AreLeavesOf, full_count}
-use Rattle.state_proofs_parts.proofs.CallLemmas.{bits_none, leaves_none, full_none, map_none}
-use Rattle.state_proofs_parts.proofs.MapLemmas.{root_is}
-use Rattle.state_proofs_parts.proofs.WidthLemmas.{wide-some}
+use Rattle.state_theory.specs.Bits.{AreBitsOf}
+use Rattle.state_theory.specs.Maps.{AreLeavesOf, full_count}
+use Rattle.state_theory.proofs.CallLemmas.{bits_none, leaves_none, full_none, map_none}
+use Rattle.state_theory.proofs.MapLemmas.{root_is}
+use Rattle.state_theory.proofs.WidthLemmas.{wide-some}
 use Rattle.state_proofs_parts.proofs.authenticated.BitMap+D+N+Merkleized+D.new.Goals as goal
 
 pub returns-clause-map : goal.returns-clause-map

@@ -1,13 +1,13 @@
 use Rattle.std.proofs.Common.{◌*◌, ◌/◌, ◌<◌, ◌≤◌, length, sym, ◌∙◌, ap, subst, arith}
 use Rattle.std.proofs.lemmas.Nat.{le-div}
 use Rattle.std.proofs.Math.Nat.{mul_comm}
-use Rattle.state_proofs_parts.specs.Bits.{bit_count, full_chunks}
-use Rattle.state_proofs_parts.specs.InclusionCode.{proof_digests}
-use Rattle.state_proofs_parts.specs.Maps.{Map, IsMapOf, leaf_digests}
-use Rattle.state_proofs_parts.proofs.KeptLemmas.{count-kept}
-use Rattle.state_proofs_parts.proofs.MapLemmas.{chunk_within, clean_digests}
-use Rattle.state_proofs_parts.proofs.ProveLemmas.{proved}
-use Rattle.state_proofs_parts.proofs.WidthLemmas.{wide-some}
+use Rattle.state_theory.specs.Bits.{bit_count, full_chunks}
+use Rattle.state_theory.specs.InclusionCode.{proof_digests}
+use Rattle.state_theory.specs.Maps.{Map, IsMapOf, leaf_digests}
+use Rattle.state_theory.proofs.KeptLemmas.{count-kept}
+use Rattle.state_theory.proofs.MapLemmas.{chunk_within, clean_digests}
+use Rattle.state_theory.proofs.ProveLemmas.{proved}
+use Rattle.state_theory.proofs.WidthLemmas.{wide-some}
 use Rattle.state_proofs_parts.proofs.authenticated.BitMap+D+N+Merkleized+D.proof.Goals as goal
 
 pub bit_digests-requires : goal.bit_digests-requires

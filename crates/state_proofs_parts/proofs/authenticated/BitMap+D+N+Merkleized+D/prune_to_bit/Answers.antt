@@ -1,13 +1,13 @@
 use Rattle.std.proofs.Common.{◌-◌, ◌*◌, ◌/◌, ◌≤◌, length, sym, ◌∙◌, ap, subst, arith}
 use Rattle.merkle_forest.specs.Forest.{mmr_rule}
 use Rattle.merkle_core_parts.specs.Mem.{pruned_before}
-use Rattle.state_proofs_parts.specs.Bits.{bit_count}
-use Rattle.state_proofs_parts.specs.Maps.{Map, IsMapOf}
-use Rattle.state_proofs_parts.proofs.CallLemmas.{prune_fits, prune_of}
-use Rattle.state_proofs_parts.proofs.ChunkLemmas.{chunks_le, chunks_of_bits}
-use Rattle.state_proofs_parts.proofs.MapLemmas.{chunk_within}
-use Rattle.state_proofs_parts.specs.Laws.Refusals.{prune_memory}
-use Rattle.state_proofs_parts.proofs.WidthLemmas.{wide-some}
+use Rattle.state_theory.specs.Bits.{bit_count}
+use Rattle.state_theory.specs.Maps.{Map, IsMapOf}
+use Rattle.state_theory.proofs.CallLemmas.{prune_fits, prune_of}
+use Rattle.state_theory.proofs.ChunkLemmas.{chunks_le, chunks_of_bits}
+use Rattle.state_theory.proofs.MapLemmas.{chunk_within}
+use Rattle.state_theory.specs.Laws.Refusals.{prune_memory}
+use Rattle.state_theory.proofs.WidthLemmas.{wide-some}
 use Rattle.state_proofs_parts.proofs.authenticated.BitMap+D+N+Merkleized+D.prune_to_bit.Goals as goal
 
 pub out_of_memory-requires : goal.out_of_memory-requires

@@ -1,8 +1,8 @@
 use Rattle.std.proofs.Common.{sym, ◌∙◌, ap, subst, take, map, ◌*◌}
-use Rattle.state_proofs_parts.specs.Maps.{Map, IsMapOf}
-use Rattle.state_proofs_parts.specs.Parts.{ArePinned, chunk_peaks}
-use Rattle.state_proofs_parts.proofs.PartsLemmas.{parts_of_list}
-use Rattle.state_proofs_parts.proofs.WidthLemmas.{wide-some}
+use Rattle.state_theory.specs.Maps.{Map, IsMapOf}
+use Rattle.state_theory.specs.Parts.{ArePinned, chunk_peaks}
+use Rattle.state_theory.proofs.PartsLemmas.{parts_of_list}
+use Rattle.state_theory.proofs.WidthLemmas.{wide-some}
 use Rattle.state_proofs_parts.proofs.authenticated.BitMap+D+N+Merkleized+D.pruned_parts.Goals as goal
 
 pub returns-clause-of_list : goal.returns-clause-of_list

@@ -1,7 +1,7 @@
 use Rattle.std.proofs.Common.{sym, ◌∙◌, ap, subst}
-use Rattle.state_proofs_parts.specs.Maps.{IsMapOf, AreLeavesOf, merkleized}
-use Rattle.state_proofs_parts.proofs.MapLemmas.{root_is}
-use Rattle.state_proofs_parts.proofs.WidthLemmas.{wide-some}
+use Rattle.state_theory.specs.Maps.{IsMapOf, AreLeavesOf, merkleized}
+use Rattle.state_theory.proofs.MapLemmas.{root_is}
+use Rattle.state_theory.proofs.WidthLemmas.{wide-some}
 use Rattle.state_proofs_parts.proofs.authenticated.BitMap+D+N+Unmerkleized.merkleize.Goals as goal
 
 pub returns-clause-root_of_list : goal.returns-clause-root_of_list

@@ -1,7 +1,7 @@
 use Rattle.std.proofs.Common.{sym, subst}
-use Rattle.state_proofs_parts.specs.Bits.{bits_in}
-use Rattle.state_proofs_parts.specs.Maps.{IsMapOf}
-use Rattle.state_proofs_parts.proofs.CallLemmas.{push_fits, push_of}
+use Rattle.state_theory.specs.Bits.{bits_in}
+use Rattle.state_theory.specs.Maps.{IsMapOf}
+use Rattle.state_theory.proofs.CallLemmas.{push_fits, push_of}
 use Rattle.state_proofs_parts.proofs.authenticated.BitMap+D+N+Unmerkleized.push_bytes.Goals as goal
 
 pub invariant_of-self : goal.invariant_of-self

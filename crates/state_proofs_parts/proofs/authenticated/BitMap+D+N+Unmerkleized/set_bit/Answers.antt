@@ -1,7 +1,7 @@
 use Rattle.std.proofs.Common.{◌*◌, ◌/◌, ◌≤◌, sym, ◌∙◌, ap, subst}
-use Rattle.state_proofs_parts.specs.Maps.{Map, IsMapOf}
-use Rattle.state_proofs_parts.proofs.CallLemmas.{set_fits, set_of}
-use Rattle.state_proofs_parts.proofs.WidthLemmas.{wide-some}
+use Rattle.state_theory.specs.Maps.{Map, IsMapOf}
+use Rattle.state_theory.proofs.CallLemmas.{set_fits, set_of}
+use Rattle.state_theory.proofs.WidthLemmas.{wide-some}
 use Rattle.state_proofs_parts.proofs.authenticated.BitMap+D+N+Unmerkleized.set_bit.Goals as goal
 
 pub invariant_of-self-2 : goal.invariant_of-self-2

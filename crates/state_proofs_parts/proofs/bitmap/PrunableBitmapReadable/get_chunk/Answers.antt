@@ -1,6 +1,6 @@
 use Rattle.std.proofs.Common.{◌*◌, ◌-◌, length, drop, sym, ◌∙◌, ap}
 use Rattle.std.proofs.lemmas.List.{length-replicate}
-use Rattle.state_proofs_parts.specs.Laws.Bits.{kept_chunk, length-chunk_of}
+use Rattle.state_theory.specs.Laws.Bits.{kept_chunk, length-chunk_of}
 use Rattle.state_proofs_parts.proofs.bitmap.PrunableBitmapReadable.get_chunk.Goals as goal
 
 pub copy_from_slice-requires : goal.copy_from_slice-requires

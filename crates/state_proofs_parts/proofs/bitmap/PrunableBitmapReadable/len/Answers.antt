@@ -1,5 +1,5 @@
 use Rattle.std.proofs.Common.{sym, ◌∙◌}
-use Rattle.state_proofs_parts.specs.Laws.Bits.{length-all}
+use Rattle.state_theory.specs.Laws.Bits.{length-all}
 use Rattle.state_proofs_parts.proofs.bitmap.PrunableBitmapReadable.len.Goals as goal
 
 pub returns : goal.returns

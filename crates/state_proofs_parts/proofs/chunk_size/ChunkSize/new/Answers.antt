@@ -1,6 +1,6 @@
 use Rattle.std.proofs.Common.{arith}
 use Rattle.std.proofs.lemmas.Nat.{one_shl}
-use Rattle.state_proofs_parts.specs.Laws.Heights.{height_of_log, eight_times}
+use Rattle.state_theory.specs.Laws.Heights.{height_of_log, eight_times}
 use Rattle.state_proofs_parts.proofs.chunk_size.ChunkSize.new.Goals as goal
 use Rattle.state_proofs_parts.proofs.chunk_size.ChunkSize.new.Goals.{then-height-gt59-via-then-height-gt59}
 use Rattle.state_proofs_parts.proofs.chunk_size.ChunkSize.new.Goals.{then-height-gt59-via-else-height-gt59+then-bytes-height}

@@ -2,8 +2,8 @@ use Rattle.std.proofs.Common.{◌≡◌, ◌+◌, ◌%◌, ap, sym, ◌∙◌, a
 use Rattle.merkle_forest.specs.Forest.{leaves, forest_of}
 use Rattle.merkle_forest.specs.Laws.ForestGrowth.{leaves-forest_of}
 use Rattle.merkle_forest.specs.Laws.Peaks.{located_from-end}
-use Rattle.state_proofs_parts.specs.Grafting.{chunk_aligned_inactive_peaks}
-use Rattle.state_proofs_parts.proofs.PeakSteps.{located_step, aligned_past, aligned_before, count_border, count_none, count_more}
+use Rattle.state_theory.specs.Grafting.{chunk_aligned_inactive_peaks}
+use Rattle.state_theory.proofs.PeakSteps.{located_step, aligned_past, aligned_before, count_border, count_none, count_more}
 use Rattle.state_proofs_parts.proofs.grafting.counts.+aligned_from.Goals as goal
 
 pub returns-then-first-leaves-clause-count : goal.returns-then-first-leaves-clause-count

@@ -5,7 +5,7 @@ use Rattle.merkle_forest.specs.Laws.ForestGrowth.{leaves-forest_of}
 use Rattle.merkle_forest.specs.Laws.Nodes.{first_peak}
 use Rattle.merkle_forest.specs.Laws.Peaks.{located_from-zero}
 use Rattle.merkle_forest.specs.Peaks.{located_from}
-use Rattle.state_proofs_parts.specs.Grafting.{chunk_aligned_inactive_peaks}
+use Rattle.state_theory.specs.Grafting.{chunk_aligned_inactive_peaks}
 use Rattle.state_proofs_parts.proofs.grafting.counts.chunk_aligned_inactive_peaks.Goals as goal
 
 pub aligned_from-requires-clause-begins : goal.aligned_from-requires-clause-begins

@@ -1,5 +1,5 @@
 use Rattle.std.proofs.Common.{arith}
-use Rattle.state_proofs_parts.proofs.PeakSteps.{peak_step}
+use Rattle.state_theory.proofs.PeakSteps.{peak_step}
 use Rattle.state_proofs_parts.proofs.grafting.counts.peak_end.Goals as goal
 
 pub overflow_shl-result : goal.overflow_shl-result

@@ -1,8 +1,8 @@
 use Rattle.std.proofs.Common.{◌≡◌, ℕ, ◌+◌, ◌*◌, ◌^◌, Some, option_map, refl, sym, ◌∙◌, ap, arith}
 use Rattle.merkle_forest.specs.Forest.{position}
 use Rattle.merkle_forest.specs.Laws.Nodes.{subtree-low}
-use Rattle.state_proofs_parts.specs.GraftedNodes.{node_over}
-use Rattle.state_proofs_parts.specs.Laws.GraftedNodes.{begins, spread, too_high, too_late, not_born, is_born, placed_over}
+use Rattle.state_theory.specs.GraftedNodes.{node_over}
+use Rattle.state_theory.specs.Laws.GraftedNodes.{begins, spread, too_high, too_late, not_born, is_born, placed_over}
 use Rattle.state_proofs_parts.proofs.grafting.hasher.position_over.Goals as goal
 
 pub overflow_sub-height : goal.overflow_sub-height

@@ -1,4 +1,4 @@
-use Rattle.state_proofs_parts.specs.Laws.SameNodes.{one_grafted, one_ops}
+use Rattle.state_theory.specs.Laws.SameNodes.{one_grafted, one_ops}
 use Rattle.state_proofs_parts.proofs.grafting.laws.a_node_has_one_position_in_each_tree.Goals as goal
 
 pub returns-clause-chunks : goal.returns-clause-chunks

@@ -1,5 +1,5 @@
-use Rattle.state_proofs_parts.specs.Canonical.{Setting, setting_with}
-use Rattle.state_proofs_parts.specs.Laws.GraftedTrees.{chunks_are}
+use Rattle.state_theory.specs.Canonical.{Setting, setting_with}
+use Rattle.state_theory.specs.Laws.GraftedTrees.{chunks_are}
 use Rattle.state_proofs_parts.proofs.grafting.laws.a_tree_of_grafted_leaves_is_of_the_chunks.Goals as goal
 
 pub returns : goal.returns

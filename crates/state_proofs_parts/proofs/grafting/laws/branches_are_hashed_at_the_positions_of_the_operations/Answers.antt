@@ -1,4 +1,4 @@
-use Rattle.state_proofs_parts.specs.Laws.GraftedTrees.{same_position, own_position}
+use Rattle.state_theory.specs.Laws.GraftedTrees.{same_position, own_position}
 use Rattle.state_proofs_parts.proofs.grafting.laws.branches_are_hashed_at_the_positions_of_the_operations.Goals as goal
 
 pub returns-clause-same : goal.returns-clause-same

@@ -1,8 +1,8 @@
 use Rattle.std.proofs.Common.{length}
-use Rattle.state_proofs_parts.specs.Canonical.{Setting, setting_with}
-use Rattle.state_proofs_parts.specs.Laws.GraftedTrees.{nodes_there}
-use Rattle.state_proofs_parts.specs.Laws.Heights.{some_height}
-use Rattle.state_proofs_parts.specs.Laws.SameNodes.{born}
+use Rattle.state_theory.specs.Canonical.{Setting, setting_with}
+use Rattle.state_theory.specs.Laws.GraftedTrees.{nodes_there}
+use Rattle.state_theory.specs.Laws.Heights.{some_height}
+use Rattle.state_theory.specs.Laws.SameNodes.{born}
 use Rattle.state_proofs_parts.proofs.grafting.laws.nodes_over_known_leaves_are_there.Goals as goal
 
 pub returns : goal.returns

@@ -1,5 +1,5 @@
-use Rattle.state_proofs_parts.specs.Canonical.{Setting, setting_with}
-use Rattle.state_proofs_parts.specs.Laws.GraftedTrees.{nodes_are, source_is}
+use Rattle.state_theory.specs.Canonical.{Setting, setting_with}
+use Rattle.state_theory.specs.Laws.GraftedTrees.{nodes_are, source_is}
 use Rattle.state_proofs_parts.proofs.grafting.laws.what_is_read_of_both_trees_is_of_the_state.Goals as goal
 
 pub returns-clause-nodes : goal.returns-clause-nodes

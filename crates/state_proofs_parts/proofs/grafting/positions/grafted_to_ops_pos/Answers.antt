@@ -1,7 +1,7 @@
 use Rattle.std.proofs.Common.{◌≡◌, ℕ, ◌+◌, ◌*◌, ◌%◌, ◌^◌, sym, ◌∙◌, ap, arith}
 use Rattle.std.proofs.lemmas.Nat.{one_shl}
 use Rattle.merkle_forest.specs.Laws.Nodes.{subtree-low}
-use Rattle.state_proofs_parts.specs.Laws.SameNodes.{is_below, tree_at, at_node, sub_node, sub_of}
+use Rattle.state_theory.specs.Laws.SameNodes.{is_below, tree_at, at_node, sub_node, sub_of}
 use Rattle.state_proofs_parts.proofs.grafting.positions.grafted_to_ops_pos.Goals as goal
 
 pub pos_to_height-height-requires : goal.pos_to_height-height-requires

@@ -1,6 +1,6 @@
 use Rattle.std.proofs.Common.{◌≡◌, ◌-◌, ◌/◌, ◌^◌, refl, sym, ◌∙◌, ap, arith}
 use Rattle.merkle_forest.specs.Laws.Nodes.{node-low}
-use Rattle.state_proofs_parts.specs.Laws.SameNodes.{born, over_at, tree_at, at_node, sub_node}
+use Rattle.state_theory.specs.Laws.SameNodes.{born, over_at, tree_at, at_node, sub_node}
 use Rattle.state_proofs_parts.proofs.grafting.positions.ops_to_grafted_pos.Goals as goal
 
 pub overflow_shr-chunk : goal.overflow_shr-chunk

@@ -1,7 +1,7 @@
 use Rattle.std.proofs.Common.{length, ap, arith}
-use Rattle.state_proofs_parts.specs.Bits.{bit_count}
-use Rattle.state_proofs_parts.specs.Overlay.{Overlay}
-use Rattle.state_proofs_parts.proofs.OverlayLemmas.{length-base}
+use Rattle.state_theory.specs.Bits.{bit_count}
+use Rattle.state_theory.specs.Overlay.{Overlay}
+use Rattle.state_theory.proofs.OverlayLemmas.{length-base}
 use Rattle.state_proofs_parts.proofs.overlay.BitOverlay.added.Goals as goal
 
 pub returns-clause-added : goal.returns-clause-added

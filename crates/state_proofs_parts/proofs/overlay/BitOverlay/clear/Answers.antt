@@ -1,6 +1,6 @@
 use Rattle.std.proofs.Common.{◌*◌, ◌≤◌, sym, ◌∙◌, ap, subst}
-use Rattle.state_proofs_parts.specs.Overlay.{Overlay, remembered}
-use Rattle.state_proofs_parts.proofs.OverlayLemmas.{IsCleared, clear_done}
+use Rattle.state_theory.specs.Overlay.{Overlay, remembered}
+use Rattle.state_theory.proofs.OverlayLemmas.{IsCleared, clear_done}
 use Rattle.state_proofs_parts.proofs.overlay.BitOverlay.clear.Goals as goal
 
 after : (g : _) (c : goal.After-set_bit g) → IsCleared g.row.N c.self.inside.bits c.self.inside.listed c.self.inside.cleared.items c.args.bit

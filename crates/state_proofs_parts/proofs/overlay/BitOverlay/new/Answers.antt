@@ -1,4 +1,4 @@
-use Rattle.state_proofs_parts.proofs.OverlayLemmas.{laid_new, seen_new}
+use Rattle.state_theory.proofs.OverlayLemmas.{laid_new, seen_new}
 use Rattle.state_proofs_parts.proofs.overlay.BitOverlay.new.Goals as goal
 
 pub invariant_of-result : goal.invariant_of-result

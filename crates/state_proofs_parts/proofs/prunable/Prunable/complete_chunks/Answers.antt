@@ -1,6 +1,6 @@
 use Rattle.std.proofs.Common.{◌+◌, ◌*◌, ◌/◌, length, sym, ◌∙◌, ap}
-use Rattle.state_proofs_parts.specs.Bits.{Bits}
-use Rattle.state_proofs_parts.proofs.HeldLemmas.{held-length, few_full}
+use Rattle.state_theory.specs.Bits.{Bits}
+use Rattle.state_theory.proofs.HeldLemmas.{held-length, few_full}
 use Rattle.state_proofs_parts.proofs.prunable.Prunable.complete_chunks.Goals as goal
 
 pub returns-clause-chunks : goal.returns-clause-chunks

@@ -1,6 +1,6 @@
 use Rattle.std.proofs.Common.{◌≡◌, ◌+◌, ◌*◌, ◌-◌, ◌<◌, ◌≤◌, length, get_or, take, drop, sym, ◌∙◌, ap, subst, arith}
-use Rattle.state_proofs_parts.specs.Bits.{Bits, chunk_at}
-use Rattle.state_proofs_parts.proofs.HeldLemmas.{held-length, chunk_ends, chunk_held}
+use Rattle.state_theory.specs.Bits.{Bits, chunk_at}
+use Rattle.state_theory.proofs.HeldLemmas.{held-length, chunk_ends, chunk_held}
 use Rattle.state_proofs_parts.proofs.prunable.Prunable.get_chunk.Goals as goal
 
 pub part-requires : goal.part-requires

@@ -1,6 +1,6 @@
 use Rattle.std.proofs.Common.{length, sym, ◌∙◌, ap}
 use Rattle.std.proofs.lemmas.List.{length-replicate}
-use Rattle.state_proofs_parts.specs.Laws.Bits.{length-chunk_of}
+use Rattle.state_theory.specs.Laws.Bits.{length-chunk_of}
 use Rattle.state_proofs_parts.proofs.prunable.Prunable.get_chunk_containing.Goals as goal
 
 pub copy_from_slice-requires : goal.copy_from_slice-requires

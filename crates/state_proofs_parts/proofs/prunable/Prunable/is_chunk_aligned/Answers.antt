@@ -1,7 +1,7 @@
 use Rattle.std.proofs.Common.{◌≡◌, ◌*◌, ◌%◌, length, sym, ◌∙◌, ap, eq-eqb}
 use Rattle.std.proofs.lemmas.Bool.{eqb-true}
-use Rattle.state_proofs_parts.specs.Bits.{Bits}
-use Rattle.state_proofs_parts.proofs.HeldLemmas.{held-length}
+use Rattle.state_theory.specs.Bits.{Bits}
+use Rattle.state_theory.proofs.HeldLemmas.{held-length}
 use Rattle.state_proofs_parts.proofs.prunable.Prunable.is_chunk_aligned.Goals as goal
 
 pub returns : goal.returns

@@ -1,6 +1,6 @@
 use Rattle.std.proofs.Common.{length, sym, ◌∙◌, ap}
-use Rattle.state_proofs_parts.specs.Bits.{Bits}
-use Rattle.state_proofs_parts.proofs.HeldLemmas.{held-length}
+use Rattle.state_theory.specs.Bits.{Bits}
+use Rattle.state_theory.proofs.HeldLemmas.{held-length}
 use Rattle.state_proofs_parts.proofs.prunable.Prunable.kept_bits.Goals as goal
 
 pub returns : goal.returns

@@ -1,7 +1,7 @@
 use Rattle.std.proofs.Common.{◌≡◌, ◌-◌, ◌*◌, ◌<◌, length, take, drop, get_or, subst, sym, ◌∙◌, ap, ap₂, arith}
 use Rattle.std.proofs.lemmas.List.{take_all, length-drop}
-use Rattle.state_proofs_parts.specs.Bits.{Bits, last_chunk}
-use Rattle.state_proofs_parts.proofs.HeldLemmas.{last_held}
+use Rattle.state_theory.specs.Bits.{Bits, last_chunk}
+use Rattle.state_theory.proofs.HeldLemmas.{last_held}
 use Rattle.state_proofs_parts.proofs.prunable.Prunable.last_chunk.Goals as goal
 
 pub returns : goal.returns

@@ -1,6 +1,6 @@
 use Rattle.std.proofs.Common.{◌∙◌, ap}
-use Rattle.state_proofs_parts.specs.Bits.{bit_count}
-use Rattle.state_proofs_parts.proofs.HeldLemmas.{counted}
+use Rattle.state_theory.specs.Bits.{bit_count}
+use Rattle.state_theory.proofs.HeldLemmas.{counted}
 use Rattle.state_proofs_parts.proofs.prunable.Prunable.len.Goals as goal
 
 pub returns : goal.returns

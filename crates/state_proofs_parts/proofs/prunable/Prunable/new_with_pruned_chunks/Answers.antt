@@ -1,6 +1,6 @@
 use Rattle.std.proofs.Common.{refl, arith}
-use Rattle.state_proofs_parts.specs.Bits.{bits_in}
-use Rattle.state_proofs_parts.proofs.WidthLemmas.{wide-some}
+use Rattle.state_theory.specs.Bits.{bits_in}
+use Rattle.state_theory.proofs.WidthLemmas.{wide-some}
 use Rattle.state_proofs_parts.proofs.prunable.Prunable.new_with_pruned_chunks.Goals as goal
 
 pub invariant_of-result : goal.invariant_of-result

@@ -1,6 +1,6 @@
 use Rattle.std.proofs.Common.{◌≡◌, ◌-◌, ◌<◌, List, Bool, ℕ, take, length, sym, ◌∙◌, ap, subst, arith}
-use Rattle.state_proofs_parts.specs.Bits.{Bits, bits_in}
-use Rattle.state_proofs_parts.proofs.HeldLemmas.{Holds, held-length, pop_bit, pop_chunk, some_chunk}
+use Rattle.state_theory.specs.Bits.{Bits, bits_in}
+use Rattle.state_theory.proofs.HeldLemmas.{Holds, held-length, pop_bit, pop_chunk, some_chunk}
 use Rattle.state_proofs_parts.proofs.prunable.Prunable.pop.Goals as goal
 
 -- there is a bit, where all are counted

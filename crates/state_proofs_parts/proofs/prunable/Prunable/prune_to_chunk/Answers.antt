@@ -1,7 +1,7 @@
 use Rattle.std.proofs.Common.{◌≡◌, ◌-◌, ◌+◌, ◌*◌, ◌≤◌, take, drop, length, sym, ◌∙◌, ap, subst, arith, length-drop}
 use Rattle.std.proofs.lemmas.List.{take_at}
-use Rattle.state_proofs_parts.specs.Bits.{Bits, IsHeld, bits_in}
-use Rattle.state_proofs_parts.proofs.HeldLemmas.{Holds, held-length, prune_front, prune_low}
+use Rattle.state_theory.specs.Bits.{Bits, IsHeld, bits_in}
+use Rattle.state_theory.proofs.HeldLemmas.{Holds, held-length, prune_front, prune_low}
 use Rattle.state_proofs_parts.proofs.prunable.Prunable.prune_to_chunk.Goals as goal
 
 fits : (g : _) (c : goal.After-self-2-1 g) → 8 * g.row.N * (c.args.chunk - c.self.inside.pruned) ≤ c.self.inside.kept

@@ -1,7 +1,7 @@
 use Rattle.std.proofs.Common.{◌++◌, [], ◌∷◌, take, ◌∙◌, ap, arith}
-use Rattle.state_proofs_parts.specs.Bits.{Bits, bits_in}
-use Rattle.state_proofs_parts.proofs.HeldLemmas.{Holds, few_held, push_full, push_within, zero_after}
-use Rattle.state_proofs_parts.proofs.WidthLemmas.{wide-few}
+use Rattle.state_theory.specs.Bits.{Bits, bits_in}
+use Rattle.state_theory.proofs.HeldLemmas.{Holds, few_held, push_full, push_within, zero_after}
+use Rattle.state_theory.proofs.WidthLemmas.{wide-few}
 use Rattle.state_proofs_parts.proofs.prunable.Prunable.push.Goals as goal
 
 pub overflow_mul-len : goal.overflow_mul-len

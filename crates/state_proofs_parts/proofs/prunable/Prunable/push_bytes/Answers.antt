@@ -1,9 +1,9 @@
 use Rattle.std.proofs.Common.{rules, ◌≡◌, ◌≤◌, ◌+◌, ◌*◌, ◌/◌, ◌%◌}
 use Rattle.std.proofs.Common.{◌^◌, ◌++◌, List, ℕ, length, take, drop, subst, sym, ◌∙◌, ap, arith}
 use Rattle.std.proofs.lemmas.List.{take_at}
-use Rattle.state_proofs_parts.specs.Bits.{Bits, bits_in, bit_count}
-use Rattle.state_proofs_parts.proofs.ByteLemmas.{laid_behind}
-use Rattle.state_proofs_parts.proofs.HeldLemmas.{Holds, eights, held-length}
+use Rattle.state_theory.specs.Bits.{Bits, bits_in, bit_count}
+use Rattle.state_theory.proofs.ByteLemmas.{laid_behind}
+use Rattle.state_theory.proofs.HeldLemmas.{Holds, eights, held-length}
 use Rattle.state_proofs_parts.proofs.prunable.Prunable.push_bytes.Goals as goal
 
 -- the bits fill their bytes, and with the new ones they are few

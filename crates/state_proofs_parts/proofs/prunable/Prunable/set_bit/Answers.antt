@@ -1,7 +1,7 @@
 use Rattle.std.proofs.Common.{◌-◌, ◌*◌, ◌<◌, ◌≤◌, take, sym, ◌∙◌, ap, subst, arith}
 use Rattle.std.specs.Prelude.{slice_set}
-use Rattle.state_proofs_parts.specs.Bits.{Bits, bits_in, bit_count}
-use Rattle.state_proofs_parts.proofs.HeldLemmas.{Holds, held-length, set_within}
+use Rattle.state_theory.specs.Bits.{Bits, bits_in, bit_count}
+use Rattle.state_theory.proofs.HeldLemmas.{Holds, held-length, set_within}
 use Rattle.state_proofs_parts.proofs.prunable.Prunable.set_bit.Goals as goal
 
 after : (g : _) (c : goal.After-put_bit g) → Holds g.row.N c.self.inside.pruned c.self.inside.kept c.put_bit.new.bytes.items

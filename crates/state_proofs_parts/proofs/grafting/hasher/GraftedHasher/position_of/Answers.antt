@@ -1,10 +1,10 @@
 use Rattle.std.proofs.Common.{◌≡◌, ℕ, Some, sym, ◌∙◌, ap, subst, arith}
 use Rattle.merkle_forest.specs.Laws.Nodes.{subtree-at}
 use Rattle.merkle_forest.specs.Nodes.{IsSubtree}
-use Rattle.state_proofs_parts.specs.Verifier.{node_at}
-use Rattle.state_proofs_parts.specs.Laws.GraftedNodes.{position-none, position-some, position-missing}
-use Rattle.state_proofs_parts.specs.Laws.SameNodes.{tree_of}
-use Rattle.state_proofs_parts.specs.Laws.Verifier.{node_at-is, node_at-none}
+use Rattle.state_theory.specs.Verifier.{node_at}
+use Rattle.state_theory.specs.Laws.GraftedNodes.{position-none, position-some, position-missing}
+use Rattle.state_theory.specs.Laws.SameNodes.{tree_of}
+use Rattle.state_theory.specs.Laws.Verifier.{node_at-is, node_at-none}
 use Rattle.state_proofs_parts.proofs.grafting.hasher.GraftedHasher.position_of.Goals as goal
 
 pub returns-then-position-leaf_position : goal.returns-then-position-leaf_position

@@ -2,10 +2,10 @@ use Rattle.std.proofs.Common.{rules, ◌≡◌, ℕ, List, Option, None, option_
 use Rattle.merkle_forest.specs.Forest.{leaf, branch, leaf_count}
 use Rattle.merkle_forest.specs.Nodes.{StandsAt}
 use Rattle.merkle_core_parts.specs.Mem.{NodeHash}
-use Rattle.merkle_proofs.specs.Plans.{Lookup}
-use Rattle.state_proofs_parts.specs.GraftedNodes.{chunks_node}
-use Rattle.state_proofs_parts.specs.Laws.GraftedReads.{halves, has_branch, left_stands, right_stands, branch_at}
-use Rattle.state_proofs_parts.specs.Laws.GraftedReads.{left_tree, right_tree, both_made, left_missing, right_missing}
+use Rattle.merkle_theory.specs.Plans.{Lookup}
+use Rattle.state_theory.specs.GraftedNodes.{chunks_node}
+use Rattle.state_theory.specs.Laws.GraftedReads.{halves, has_branch, left_stands, right_stands, branch_at}
+use Rattle.state_theory.specs.Laws.GraftedReads.{left_tree, right_tree, both_made, left_missing, right_missing}
 use Rattle.state_proofs_parts.proofs.grafting.storage.Storage.+reconstruct_grafted_node.Goals as goal
 
 pub children-left-requires : goal.children-left-requires

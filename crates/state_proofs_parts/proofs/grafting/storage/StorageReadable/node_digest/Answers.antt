@@ -1,10 +1,10 @@
 use Rattle.std.proofs.Common.{◌≡◌, ℕ, Some, sym, ◌∙◌, ap, arith}
-use Rattle.state_proofs_parts.specs.GraftedNodes.{TwoTrees}
-use Rattle.state_proofs_parts.specs.SameNodes.{IsSameNode}
-use Rattle.state_proofs_parts.specs.Verifier.{node_at}
-use Rattle.state_proofs_parts.specs.Laws.GraftedReads.{read-none, read-low, read-same, high_is, stands_there, tree_there}
-use Rattle.state_proofs_parts.specs.Laws.SameNodes.{tree_of}
-use Rattle.state_proofs_parts.specs.Laws.Verifier.{node_at-is, node_at-none}
+use Rattle.state_theory.specs.GraftedNodes.{TwoTrees}
+use Rattle.state_theory.specs.SameNodes.{IsSameNode}
+use Rattle.state_theory.specs.Verifier.{node_at}
+use Rattle.state_theory.specs.Laws.GraftedReads.{read-none, read-low, read-same, high_is, stands_there, tree_there}
+use Rattle.state_theory.specs.Laws.SameNodes.{tree_of}
+use Rattle.state_theory.specs.Laws.Verifier.{node_at-is, node_at-none}
 use Rattle.state_proofs_parts.proofs.grafting.storage.StorageReadable.node_digest.Goals as goal
 
 pub returns-then-position-leaf_position : goal.returns-then-position-leaf_position

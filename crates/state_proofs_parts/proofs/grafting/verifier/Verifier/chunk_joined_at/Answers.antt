@@ -1,9 +1,9 @@
 use Rattle.std.proofs.Common.{◌≡◌, ℕ, ◌/◌, ◌^◌, inl, inr, sym, ◌∙◌, ap, arith}
 use Rattle.merkle_forest.specs.Laws.Nodes.{node-low}
-use Rattle.state_proofs_parts.specs.Verifier.{node_at, joined_chunk, given_chunk}
+use Rattle.state_theory.specs.Verifier.{node_at, joined_chunk, given_chunk}
 use Rattle.state_proofs_parts.specs.VerifierCode.{form_given_of}
-use Rattle.state_proofs_parts.specs.Laws.SameNodes.{tree_of}
-use Rattle.state_proofs_parts.specs.Laws.Verifier.{node_at-is, node_at-none, not_at_height, at_height_is, not_given, is_given}
+use Rattle.state_theory.specs.Laws.SameNodes.{tree_of}
+use Rattle.state_theory.specs.Laws.Verifier.{node_at-is, node_at-none, not_at_height, at_height_is, not_given, is_given}
 use Rattle.state_proofs_parts.proofs.grafting.verifier.Verifier.chunk_joined_at.Goals as goal
 use Rattle.state_proofs_parts.proofs.grafting.verifier.Verifier.chunk_joined_at.Goals.{then-index-self-via-then-index-self}
 use Rattle.state_proofs_parts.proofs.grafting.verifier.Verifier.chunk_joined_at.Goals.{then-index-self-via-else-index-self+then-index-self-2}

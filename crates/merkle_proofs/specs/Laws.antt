@@ -1,9 +1,0 @@
--- Lemmas that crates above cite.
-pub mod HonestReads
-pub mod MadeBags
-pub mod MadeRoots
-pub mod MadeTrees
-pub mod Proofs
-pub mod Sized
-pub mod Sound
-pub mod Values

@@ -1,0 +1,17 @@
+pub mod Assembled
+pub mod HonestReads
+pub mod Laws
+pub mod MadeRoots
+pub mod MadeTrees
+pub mod Multi
+pub mod MultiReads
+pub mod MultiSoundness
+pub mod OneEach
+pub mod Pinned
+pub mod Plans
+pub mod Proofs
+pub mod RangeCounts
+pub mod Ranges
+pub mod Reads
+pub mod Soundness
+pub mod Subtrees
