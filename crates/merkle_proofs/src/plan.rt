@@ -2,8 +2,9 @@
 
 ghost use Rattle.std.specs.Prelude.{◌≡◌, ◌<◌, ◌≤◌, ◌+◌, ◌^◌, List, ℕ, Some, None, map, length, IfOk, IfErr, OnOk};
 ghost use Rattle.merkle_theory.specs.MadeRoots.{peaks_of};
-ghost use Rattle.merkle_theory.specs.Plans.{Asked, IsWithinTree, IsRefusalOfRange, IsRefusalOfElement, IsRefusalToBuild};
-ghost use Rattle.merkle_theory.specs.Plans.{Lookup, AnswersAs, looked_up, first_missing, range_positions, honest_digests};
+ghost use Rattle.merkle_theory.specs.Plans.{Asked, IsWithinTree, IsRefusalOfRange, IsRefusalOfElement};
+ghost use Rattle.merkle_theory.specs.Plans.{IsRefusalToBuild, Lookup, AnswersAs, looked_up, first_missing};
+ghost use Rattle.merkle_theory.specs.Plans.{range_positions, honest_digests};
 
 pub(crate) mod digests;
 pub(crate) mod positions;

@@ -14,7 +14,8 @@ use Rattle.merkle_forest.specs.Nodes.{IsWithin}
 use Rattle.merkle_forest.specs.Perfect.{IsPerfect}
 use Rattle.merkle_theory.specs.Laws.MadeBags.{bind_good, map_good}
 use Rattle.merkle_theory.specs.Laws.MadeTrees.{choose}
-use Rattle.merkle_theory.specs.MadeTrees.{Over, plain_over, Elements, leaf_made, branch_made, made_tree, given, read_tree}
+use Rattle.merkle_theory.specs.MadeTrees.{Over, plain_over, Elements, leaf_made, branch_made, made_tree}
+use Rattle.merkle_theory.specs.MadeTrees.{given, read_tree}
 use Rattle.merkle_theory.specs.Ranges.{meets}
 use Rattle.state_theory.specs.SetBits.{is_zero}
 use Rattle.state_theory.specs.MadeGrafted.{grafted_case, grafted_over}
