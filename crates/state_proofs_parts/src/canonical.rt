@@ -24,7 +24,7 @@ use std::alloc::{AllocError, Global};
 use std::marker::PhantomData;
 
 /// All chunks of the state, the partial one too. It fails only when out of memory.
-#[tactic(auto, unfolding(crate::specs::Canonical::chunks))]
+#[tactic(auto, unfolding(state_theory::specs::Canonical::chunks))]
 pub fn chunks_of_state(alloc: Global, snapshot: &Snapshot<'_>) -> Result<Vec<Vec<u8>>, AllocError>
     ensures { (rule : _) (hash : _)
         → IfOk result (λ found. map (λ chunk. chunk.items) found.items
@@ -108,7 +108,7 @@ fn chunk_digest<H: HashFunction>(chunks: &[Vec<u8>], index: usize) -> Option<H::
 }
 
 /// The digest of the full chunk that isn't graftable yet. None where there is no such chunk.
-#[tactic(auto, unfolding(crate::specs::Canonical::pending_digest))]
+#[tactic(auto, unfolding(state_theory::specs::Canonical::pending_digest))]
 pub fn pending_digest_of<F: Family, H: HashFunction>(
     snapshot: &Snapshot<'_>,
     chunks: &[Vec<u8>],
@@ -133,7 +133,7 @@ pub fn pending_digest_of<F: Family, H: HashFunction>(
 }
 
 /// The digest of the partial chunk, whose bits don't fill it. None where there is no such chunk.
-#[tactic(auto, unfolding(crate::specs::Canonical::partial_digest))]
+#[tactic(auto, unfolding(state_theory::specs::Canonical::partial_digest))]
 pub fn partial_digest_of<F: Family, H: HashFunction>(
     snapshot: &Snapshot<'_>,
     chunks: &[Vec<u8>],
@@ -152,7 +152,7 @@ pub fn partial_digest_of<F: Family, H: HashFunction>(
 }
 
 /// The canonical root of the state. It fails only when out of memory.
-#[tactic(auto, unfolding(crate::specs::Canonical::canonical_root))]
+#[tactic(auto, unfolding(state_theory::specs::Canonical::canonical_root))]
 pub fn canonical_root<F: Family, H: HashFunction>(
     alloc: Global,
     snapshot: &Snapshot<'_>,

@@ -30,7 +30,7 @@ fn seal_over<H: HashFunction>(
 /// The digest of the canonical string: the root of the operations, the grafted root, the pending chunk's digest if any,
 /// and the next bit and the partial chunk's digest if any.
 /// In the Rust: `qmdb::current::db::combine_roots`, where the next bit and the partial chunk's digest are one pair.
-#[tactic(auto, unfolding(crate::specs::Canonical::canonical_string))]
+#[tactic(auto, unfolding(state_theory::specs::Canonical::canonical_string))]
 pub fn seal<H: HashFunction>(
     operations: &H::Digest,
     grafted: &H::Digest,
