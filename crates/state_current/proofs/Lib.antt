@@ -1,15 +1,11 @@
-pub mod AnsweredLemmas
 pub mod BitLemmas
 pub mod ChunkLemmas
 pub mod CurrentLemmas
 pub mod GrownLemmas
 pub mod LeafLemmas
-pub mod ProvingLemmas
 pub mod PruneLemmas
 pub mod PrunedLemmas
-pub mod RangeLemmas
 pub mod ReadLemmas
 pub mod SettledLemmas
 pub mod SettledNodes
 pub mod TreeLemmas
-pub mod WitnessLemmas

@@ -3,12 +3,12 @@
 ghost use Rattle.std.specs.Prelude.{◌≡◌, ◌<◌, ◌≤◌, ◌*◌, ◌^◌, [], ℕ, Some, slice_get};
 ghost use Rattle.state_theory.specs.Bits.{IsChunkWidth, all_bits, bit_count};
 ghost use Rattle.state_theory.specs.Canonical.{State, chunk, setting_with};
-ghost use Rattle.state_current.specs.Kept.{StandsFor};
+ghost use Rattle.state_current.specs.Kept.{AreTogether, StandsFor};
 
 use merkle_core::Mem;
 use merkle_forest::hasher::HashFunction;
 use merkle_forest::{Graftable, Location};
-use state_proofs::{ChunkSize, Prunable};
+use state_proofs_parts::{ChunkSize, Prunable};
 use std::alloc::Global;
 use std::marker::Model;
 
@@ -110,11 +110,33 @@ impl<F: Graftable, H: HashFunction, const N: usize> Current<F, H, N> {
         self.bits.get_chunk(index)
     }
 
-    // How many bits a chunk has.
-    pub(crate) fn chunk_size(&self) -> ChunkSize
+    /// How many bits a chunk has (own).
+    pub fn chunk_size(&self) -> ChunkSize
         ensures { result.width ≡ N }
     {
         let _floor = self.floor;
         ChunkSize::of_bytes::<N>()
+    }
+
+    /// The tree of the operations, which proofs are read from. All that is kept fits together (own).
+    pub fn operations(&self) -> &Mem<F, H::Digest>
+        ensures same { result.now ≡ self.now.operations }
+        ensures together { AreTogether F.merge_rule N self.now }
+    {
+        &self.operations
+    }
+
+    /// The tree of the chunks that have a node in that of the operations, which proofs are read from (own).
+    pub fn chunks(&self) -> &Mem<F, H::Digest>
+        ensures { result.now ≡ self.now.chunks }
+    {
+        &self.chunks
+    }
+
+    /// The bits, which proofs are read from: one for each operation (own).
+    pub fn bits(&self) -> &Prunable<N>
+        ensures { result.now ≡ self.now.bits }
+    {
+        &self.bits
     }
 }

@@ -11,7 +11,7 @@ use crate::trees::{grow_chunks, grow_operations};
 use merkle_core::error::Error;
 use merkle_forest::Graftable;
 use merkle_forest::hasher::HashFunction;
-use state_proofs::stage_bits;
+use state_proofs_parts::stage_bits;
 use std::mem;
 
 // What is kept, as it was, and why no more came to it.

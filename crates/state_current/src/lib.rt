@@ -15,12 +15,10 @@ pub mod current;
 mod growth;
 pub mod laws;
 mod peaks;
-mod proving;
 mod pruning;
 mod roots;
 pub mod settled;
 mod trees;
-mod witness;
 
 pub use current::Current;
 pub use settled::{greatest_settled, is_settled};

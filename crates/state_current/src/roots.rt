@@ -13,9 +13,9 @@ use merkle_core::Mem;
 use merkle_forest::hasher::{HashFunction, Hasher, Standard};
 use merkle_forest::peaks::inactive_count;
 use merkle_forest::{Bagging, Graftable, Location};
-use state_proofs::grafting::chunk_aligned_inactive_peaks;
-use state_proofs::grafting::storage::Storage;
-use state_proofs::seal::seal;
+use state_proofs_parts::grafting::chunk_aligned_inactive_peaks;
+use state_proofs_parts::grafting::storage::Storage;
+use state_proofs_parts::seal::seal;
 
 impl<F: Graftable, H: HashFunction, const N: usize> Current<F, H, N> {
     /// The root of the operations' tree. It takes no memory (own).

@@ -16,9 +16,9 @@ use merkle_core::error::Error;
 use merkle_core::{Mem, Reserved, Unreserved};
 use merkle_forest::hasher::{HashFunction, Hasher, Standard};
 use merkle_forest::{Bagging, Digest, Family, Graftable, Location, Position};
-use state_proofs::grafting::hasher::GraftedHasher;
-use state_proofs::grafting::{graft, graftable_chunks};
-use state_proofs::{BitOverlay, ChunkSize, Prunable};
+use state_proofs_parts::grafting::hasher::GraftedHasher;
+use state_proofs_parts::grafting::{graft, graftable_chunks};
+use state_proofs_parts::{BitOverlay, ChunkSize, Prunable};
 
 // The batch, made over the tree that is its base.
 fn made_over<F: Family, H: Hasher<F>>(

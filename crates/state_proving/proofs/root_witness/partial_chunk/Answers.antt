@@ -1,7 +1,7 @@
 use Rattle.std.proofs.Common.{◌≡◌, ℕ, ◌*◌, ◌%◌, List, Option, Some, length, option_map, sym, ◌∙◌, ap, ap₂}
 use Rattle.merkle_core_parts.specs.Laws.Plain.{length-plain}
 use Rattle.state_theory.specs.Canonical.{Setting, next_bit, partial_digest, setting_with}
-use Rattle.state_current.proofs.current.Current.partial_chunk.Goals as goal
+use Rattle.state_proving.proofs.root_witness.partial_chunk.Goals as goal
 
 pub returns-in-Some : goal.returns-in-Some
 returns-in-Some g c height state stands =

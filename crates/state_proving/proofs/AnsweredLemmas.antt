@@ -30,7 +30,7 @@ use Rattle.state_current.specs.Settled.{IsSettled}
 use Rattle.state_current.proofs.CurrentLemmas.{IsGraftable, pruned_of_bits}
 use Rattle.state_current.proofs.PruneLemmas.{settled_leaves}
 use Rattle.state_current.proofs.PrunedLemmas.{peaks_above}
-use Rattle.state_current.proofs.RangeLemmas.{none_is_missing}
+use Rattle.state_proving.proofs.RangeLemmas.{none_is_missing}
 use Rattle.state_current.proofs.ReadLemmas.{node_kept}
 
 -- each node is there

@@ -12,11 +12,11 @@ use Rattle.state_theory.specs.Laws.ChunkCounts.{one_pending}
 use Rattle.state_theory.specs.Laws.Heights.{same_power}
 use Rattle.state_theory.specs.Laws.SameNodes.{born}
 use Rattle.state_proofs.specs.declared.error.Error.TheVariants.{Memory}
-use Rattle.state_current.specs.Kept.{Kept, StandsFor, read_of}
-use Rattle.state_current.proofs.AnsweredLemmas.{if_err, retold, operation_memory}
+use Rattle.state_current.specs.Kept.{AreTogether, Kept, StandsFor, read_of}
+use Rattle.state_proving.proofs.AnsweredLemmas.{if_err, retold, operation_memory}
 use Rattle.state_current.proofs.CurrentLemmas.{IsGraftable, all_are}
-use Rattle.state_current.proofs.ProvingLemmas.{source_stands}
-use Rattle.state_current.proofs.current.Current.operation_proof.Goals as goal
+use Rattle.state_proving.proofs.ProvingLemmas.{source_stands}
+use Rattle.state_proving.proofs.proving.operation_proof.Goals as goal
 
 pub returns-clause-honest : goal.returns-clause-honest
 returns-clause-honest g c height state stands =
@@ -33,12 +33,18 @@ returns-clause-honest g c height state stands =
       counted = λ n chunk level few some low. g.met.F.Graftable.chunks_counted n chunk level few some low;
     } in
     let kept : Kept = record {
-      operations = c.self.inside.operations;
-      chunks = c.self.inside.chunks;
-      bits = c.self.inside.bits;
-      floor = c.self.inside.floor;
+      operations = c.operations-operations.result.now;
+      chunks = c.chunks-chunks.result.now;
+      bits = c.bits.result.now;
+      floor = c.args.current.now.floor;
     } in
-    let here : StandsFor setting state kept = subst (StandsFor setting state) (sym c.self.view_is) stands in
+    let same : kept ≡ c.args.current.now = λ i. record {
+      operations = c.operations-operations.ensures.same i;
+      chunks = c.chunks-chunks.ensures i;
+      bits = c.bits.ensures i;
+      floor = c.args.current.now.floor;
+    } in
+    let here : StandsFor setting state kept = subst (StandsFor setting state) (sym same) stands in
     let whole : 8 * g.row.N ≡ 2 ^ c.chunk_size-height.result.grafting_height =
     ap (λ w. 8 * w) (sym c.chunk_size-height.ensures) ∙ c.chunk_size-height.result.whole in
     let level : c.chunk_size-height.result.grafting_height ≡ height =
@@ -49,20 +55,26 @@ returns-clause-honest g c height state stands =
     (source_stands setting state kept facts here few _ c.new-tree.ensures.leaves refl
     (c.new-tree.ensures.nodes ∙ ap (λ l. grafted_lookup rule hash (record {
       grafting_height = l;
-      operations = node_at rule c.self.inside.operations;
-      chunks = node_at rule c.self.inside.chunks;
+      operations = node_at rule c.operations-operations.result.now;
+      chunks = node_at rule c.chunks-chunks.result.now;
     })) level))
-    (sym here.floor ∙ sym c.new.ensures) (sym (c.root_of_operations.ensures height state stands))
+    (sym here.floor ∙ sym c.floor.ensures) (sym (c.root_of_operations.ensures height state stands))
 
 pub returns-clause-refused : goal.returns-clause-refused
 returns-clause-refused g c height whole =
     let rule = g.F.Family.merge_rule in
     let hash = g.H.HashFunction.hash_of in
     let kept : Kept = record {
-      operations = c.self.inside.operations;
-      chunks = c.self.inside.chunks;
-      bits = c.self.inside.bits;
-      floor = c.self.inside.floor;
+      operations = c.operations-operations.result.now;
+      chunks = c.chunks-chunks.result.now;
+      bits = c.bits.result.now;
+      floor = c.args.current.now.floor;
+    } in
+    let same : kept ≡ c.args.current.now = λ i. record {
+      operations = c.operations-operations.ensures.same i;
+      chunks = c.chunks-chunks.ensures i;
+      bits = c.bits.ensures i;
+      floor = c.args.current.now.floor;
     } in
     let level : ℕ = c.chunk_size-height.result.grafting_height in
     let whole_here : 8 * g.row.N ≡ 2 ^ level = ap (λ w. 8 * w) (sym c.chunk_size-height.ensures) ∙ c.chunk_size-height.result.whole in
@@ -75,7 +87,7 @@ returns-clause-refused g c height whole =
     let at : level ≡ height = same_power level height (sym whole_here ∙ whole) in
     subst (λ (k : Kept). IfErr c.new-2.result (IsRefusalOfLocated (measures_with rule g.row.N height)
     (source_of (span_of k.operations.leaves c.args.location (c.args.location + 1)) (all_bits g.row.N k.bits) k.bits.pruned
-    (read_of rule hash height k)) c.args.location)) c.self.view_is
+    (read_of rule hash height k)) c.args.location)) same
     (subst (λ l. IfErr c.new-2.result (IsRefusalOfLocated (measures_with rule g.row.N l)
     (source_of (span_of kept.operations.leaves c.args.location (c.args.location + 1)) (all_bits g.row.N kept.bits) kept.bits.pruned
     (read_of rule hash l kept)) c.args.location)) at said)
@@ -85,10 +97,16 @@ returns-clause-there g c late within =
     let rule = g.F.Family.merge_rule in
     let hash = g.H.HashFunction.hash_of in
     let kept : Kept = record {
-      operations = c.self.inside.operations;
-      chunks = c.self.inside.chunks;
-      bits = c.self.inside.bits;
-      floor = c.self.inside.floor;
+      operations = c.operations-operations.result.now;
+      chunks = c.chunks-chunks.result.now;
+      bits = c.bits.result.now;
+      floor = c.args.current.now.floor;
+    } in
+    let same : kept ≡ c.args.current.now = λ i. record {
+      operations = c.operations-operations.ensures.same i;
+      chunks = c.chunks-chunks.ensures i;
+      bits = c.bits.ensures i;
+      floor = c.args.current.now.floor;
     } in
     let level : ℕ = c.chunk_size-height.result.grafting_height in
     let whole_here : 8 * g.row.N ≡ 2 ^ level = ap (λ w. 8 * w) (sym c.chunk_size-height.ensures) ∙ c.chunk_size-height.result.whole in
@@ -107,16 +125,17 @@ returns-clause-there g c late within =
     retold (λ n known e. IsRefusalOfLocated (measures_with rule g.row.N level)
     (source_of (span_of n c.args.location (c.args.location + 1)) (all_bits g.row.N kept.bits) kept.bits.pruned known) c.args.location e) c.new-2.result
     c.new-tree.ensures.leaves c.new-tree.ensures.nodes (c.new-2.ensures.refused level whole_here) in
-    let n : ℕ = c.self.inside.operations.leaves in
+    let together : AreTogether rule g.row.N kept = subst (AreTogether rule g.row.N) (sym same) c.operations-operations.ensures.together in
+    let n : ℕ = kept.operations.leaves in
     let few : n ≤ 2 ^ 62 = omega (arith, c.leaves-leaves.ensures.few, c.leaves-leaves.ensures.leaves) in
     let pending : n / 2 ^ level ≤ nodes_of_height level (forest_of rule n) + 1 =
     one_pending rule g.F.Graftable.birth_of n level
     (g.met.F.Graftable.births_counted n level few c.chunk_size-height.result.some c.chunk_size-height.result.low) (g.met.F.Graftable.births_soon level) in
-    let from = subst (λ (k : Kept). 8 * g.row.N * k.bits.pruned ≤ c.args.location) (sym c.self.view_is) late in
-    let to = subst (λ (k : Kept). c.args.location < k.operations.leaves) (sym c.self.view_is) within in
+    let from = subst (λ (k : Kept). 8 * g.row.N * k.bits.pruned ≤ c.args.location) (sym same) late in
+    let to = subst (λ (k : Kept). c.args.location < k.operations.leaves) (sym same) within in
     if_err (IsRefusalOfLocated (measures_with rule g.row.N level)
     (source_of (span_of kept.operations.leaves c.args.location (c.args.location + 1)) (all_bits g.row.N kept.bits) kept.bits.pruned
     (read_of rule hash level kept)) c.args.location)
     (λ e. e ≡ Memory)
-    (λ e why. operation_memory rule hash g.row.N kept facts c.self.invariant c.pruning_boundary-boundary.ensures.shape c.pruning_boundary-chunks.ensures.shape
+    (λ e why. operation_memory rule hash g.row.N kept facts together c.pruning_boundary-boundary.ensures.shape c.pruning_boundary-chunks.ensures.shape
     few level whole_here pending c.args.location e from to why) c.new-2.result said

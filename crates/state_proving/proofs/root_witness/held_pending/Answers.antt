@@ -1,11 +1,11 @@
 use Rattle.std.proofs.Common.{◌≡◌, ◌*◌, ◌^◌, ◌≤◌, Option, option_map, sym, ◌∙◌, ap, subst, arith}
 use Rattle.std.specs.Prelude.{IfSome}
-use Rattle.state_current.proofs.WitnessLemmas.{may_hold}
-use Rattle.state_current.proofs.current.Current.held_pending.Goals as goal
+use Rattle.state_proving.proofs.WitnessLemmas.{may_hold}
+use Rattle.state_proving.proofs.root_witness.held_pending.Goals as goal
 
 pub unwrap-requires : goal.unwrap-requires
 unwrap-requires g c =
-    let leaves = c.args.self.now.operations.leaves in
+    let leaves = c.args.current.now.operations.leaves in
     let few : leaves ≤ 2 ^ 62 = omega (arith, c.leaves-few.ensures.few, c.leaves-few.ensures.leaves) in
     let whole : 8 * g.row.N ≡ 2 ^ c.chunk_size-size.result.grafting_height =
     ap (λ w. 8 * w) (sym c.chunk_size-size.ensures) ∙ c.chunk_size-size.result.whole in

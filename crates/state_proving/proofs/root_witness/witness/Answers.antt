@@ -1,5 +1,5 @@
-use Rattle.state_current.proofs.WitnessLemmas.{same_parts}
-use Rattle.state_current.proofs.current.Current.witness.Goals as goal
+use Rattle.state_proving.proofs.WitnessLemmas.{same_parts}
+use Rattle.state_proving.proofs.root_witness.witness.Goals as goal
 
 pub returns : goal.returns
 returns g c height state stands =

@@ -1,0 +1,4 @@
+pub mod AnsweredLemmas
+pub mod ProvingLemmas
+pub mod RangeLemmas
+pub mod WitnessLemmas
