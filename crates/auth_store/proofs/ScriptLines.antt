@@ -11,7 +11,7 @@ use Rattle.rand_pcg.specs.Lcg.{Lcg}
 use Rattle.fault_storage_parts.specs.declared.config.Config as settings
 use Rattle.paged_blob_parts.specs.Moments.{Grows}
 use Rattle.auth_store_parts.specs.Report.{reported}
-use Rattle.auth_store_ledger.specs.Proving.{KeyAnswer}
+use Rattle.auth_store_proving.specs.Proving.{KeyAnswer}
 use Rattle.auth_store_session.specs.declared.session.Answer as code
 use Rattle.auth_store_session.specs.declared.session.Answer.TheVariants as answers
 use Rattle.auth_store_session.specs.declared.session.Step.{Step}

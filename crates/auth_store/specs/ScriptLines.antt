@@ -28,7 +28,7 @@ use Rattle.auth_store_parts.specs.declared.script.words.TreeFamily.{TreeFamily}
 use Rattle.auth_store_parts.specs.declared.script.words.TreeFamily.TheVariants.{Mmr, Mmb}
 use Rattle.auth_store_log.specs.Records.{Format, format_of}
 use Rattle.auth_store_client.specs.Claims.{Claim, Terms, Shows, terms, has_value, is_absent}
-use Rattle.auth_store_ledger.specs.Proving.{KeyAnswer, proved_value, proved_absent}
+use Rattle.auth_store_proving.specs.Proving.{KeyAnswer, proved_value, proved_absent}
 use Rattle.auth_store_session.specs.Machine.{Machine, Request, Answer, machine, is_opened, is_root_of_commit}
 use Rattle.auth_store_session.specs.Machine.{ask_open, ask_commit, ask_get, ask_root, ask_commits, ask_floor, ask_len}
 use Rattle.auth_store_session.specs.Machine.{ask_prune, ask_proof, of_key, key_is}

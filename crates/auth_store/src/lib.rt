@@ -7,9 +7,8 @@ pub mod script;
 pub use auth_store_client as client;
 pub use auth_store_client::{Claim, check, is_chunk_width};
 pub use auth_store_device::{Device, Image, Mutation, Mutations, OpenError, Opening, Openings};
-pub use auth_store_ledger::{
-    Batch, KeyProof, ProvedOperation, ProvedRange, ProvedSlice, Word, batch, history, state,
-};
+pub use auth_store_ledger::{Batch, Word, batch, history, state};
+pub use auth_store_proving::{KeyProof, ProvedOperation, ProvedRange, ProvedSlice};
 pub use auth_store_run::{Ran, run, run_session};
 pub use auth_store_session::{Answer, NotOpened, Session, Sizes, Step, Store, StoreError};
 pub use fault_storage::{

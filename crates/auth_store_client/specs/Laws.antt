@@ -5,4 +5,4 @@ pub mod Fields
 pub mod Sound
 pub mod Spans
 pub mod Standing
-pub mod Widths
+pub use Rattle.auth_store_states.specs.Laws.Widths

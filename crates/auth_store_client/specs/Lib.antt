@@ -1,4 +1,4 @@
-pub mod States
+pub use Rattle.auth_store_states.specs.States
 pub mod Claims
 pub mod Slices
 pub mod ClaimsCode

@@ -6,8 +6,8 @@ use Rattle.paged_blob_parts.specs.Calls.{Call}
 use Rattle.paged_blob_parts.specs.Moments.{Grows}
 use Rattle.auth_store_parts.specs.History.{History}
 use Rattle.auth_store_ledger.specs.Store.{commit_after}
-use Rattle.auth_store_ledger.specs.declared.error.Unprovable.{Unprovable as NoProof}
-use Rattle.auth_store_ledger.specs.declared.error.Unprovable.TheVariants as reasons
+use Rattle.auth_store_proving.specs.declared.error.Unprovable.{Unprovable as NoProof}
+use Rattle.auth_store_proving.specs.declared.error.Unprovable.TheVariants as reasons
 use Rattle.auth_store_session.specs.declared.error.StoreError.{StoreError}
 use Rattle.auth_store_session.specs.declared.error.StoreError.TheVariants.{Fault, PowerCut, NumberEnded, Memory}
 use Rattle.auth_store_session.specs.declared.error.StoreError.TheVariants.{Corrupt, Failed, PastFloor, Inactive}

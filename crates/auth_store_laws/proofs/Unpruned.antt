@@ -4,8 +4,8 @@ use Rattle.std.specs.Prelude.{if◌then◌else◌, nat_le, nat_lt, false, Option
 use Rattle.state_ops.specs.Operation.{Operation}
 use Rattle.auth_store_parts.specs.History.{History, activity_bits, log_of}
 use Rattle.auth_store_client.specs.Proving.{honest_operation, honest_range_bytes, honest_slice_bytes}
-use Rattle.auth_store_ledger.specs.Proving.{answer_of_found, between, is_before_chunks, range_refusal, unless_refused}
-use Rattle.auth_store_ledger.specs.declared.error.Unprovable.TheVariants.{EmptyRange, OutOfRange, Pruned, Inactive}
+use Rattle.auth_store_proving.specs.Proving.{answer_of_found, between, is_before_chunks, range_refusal, unless_refused}
+use Rattle.auth_store_proving.specs.declared.error.Unprovable.TheVariants.{EmptyRange, OutOfRange, Pruned, Inactive}
 use Rattle.auth_store_session.specs.Machine.{Machine, Power, State, closed, live, failed, doubtful, Request, ask_open}
 use Rattle.auth_store_session.specs.Machine.{ask_commit, ask_get, ask_root, ask_commits, ask_floor, ask_len}
 use Rattle.auth_store_session.specs.Machine.{ask_prune, ask_proof, ask_close, ask_crash, ask_config, ask_cut, Answer}

@@ -21,7 +21,7 @@ use Rattle.auth_store_ledger.specs.Commits.{AreFound}
 use Rattle.auth_store_ledger.specs.Store.{AreWritten, IsBatch, IsKept, IsLedgerOf, commit_after, encodings, state_of_log}
 use Rattle.auth_store_ledger.proofs.Commits.{bits_kept, first_is, first_with, floor_kept, left_with, said_is, within}
 use Rattle.auth_store_ledger.proofs.Kept.{counted, joined_is, kept_after, places_within}
-use Rattle.auth_store_ledger.proofs.Proofs.{seen_as}
+use Rattle.auth_store_ledger.proofs.Seen.{seen_as}
 use Rattle.auth_store_ledger.proofs.Stores.{grown_keeps, is_batch, next_bytes, next_length, next_log}
 use Rattle.auth_store_ledger.proofs.Written.{written_together}
 

@@ -1,11 +1,8 @@
-pub mod Proofs
+pub mod Seen
 pub mod Stores
-pub mod Places
 pub mod Written
-pub mod Absences
 pub mod Pruning
 pub mod Kept
 pub mod Commits
 pub mod Appends
-pub mod Ranges
 pub mod Refused

@@ -9,9 +9,9 @@ use Rattle.state_current.specs.Kept.{AreClearBefore, Kept, StandsFor}
 use Rattle.state_current.specs.Settled.{IsGreatestSettled}
 use Rattle.state_ops.specs.Operation.{Operation}
 use Rattle.auth_store_index.specs.Laws.Floors.{active_in_log_of}
+use Rattle.auth_store_states.specs.Laws.Widths.{chunk_below}
 use Rattle.auth_store_ledger.specs.History.{activity_bits, history_of, last_floor, log_of}
 use Rattle.auth_store_ledger.specs.Store.{IsKept, state_of_log}
-use Rattle.auth_store_ledger.proofs.Ranges.{chunk_below}
 
 bit_there : (bits : List Bool) (at : ℕ) → slice_index_or bits at false ≡ true → slice_get bits at ≡ Some true
 bit_there [] at is = absurd (cc)

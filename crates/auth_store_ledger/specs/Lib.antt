@@ -4,5 +4,4 @@ pub use Rattle.auth_store_parts.specs.History
 pub mod Store
 pub mod Commits
 pub mod Refusals
-pub mod Proving
-pub mod ProvingCode
+pub mod Laws

@@ -1,4 +1,4 @@
--- Why a batch is not committed, and why the log is not read for a commit or for a proof.
+-- Why a batch is not committed, and why the log is not read for it.
 use Rattle.std.specs.Prelude.{ℕ, ◌^◌, ◌<◌}
 use Rattle.auth_store_index.specs.declared.values.ReadError.{ReadError}
 use Rattle.auth_store_index.specs.declared.values.ReadError.TheVariants as reads
@@ -6,8 +6,6 @@ use Rattle.auth_store_ledger.specs.declared.error.CommitError.{CommitError}
 use Rattle.auth_store_ledger.specs.declared.error.CommitError.TheVariants as commits
 use Rattle.auth_store_ledger.specs.declared.error.LedgerError.{LedgerError}
 use Rattle.auth_store_ledger.specs.declared.error.LedgerError.TheVariants as ledgers
-use Rattle.auth_store_ledger.specs.declared.error.ProofError.{ProofError}
-use Rattle.auth_store_ledger.specs.declared.error.ProofError.TheVariants as proofs
 
 -- why there is no commit where the log is not read for it
 abbrev pub commit_unread : {E : Type 0} → ReadError E → CommitError E
@@ -18,11 +16,6 @@ commit_unread (reads.Log why) = commits.Log why
 abbrev pub commit_refused : {E : Type 0} → LedgerError → CommitError E
 commit_refused ledgers.NumberEnded = commits.NumberEnded
 commit_refused ledgers.Memory = commits.Memory
-
--- why there is no proof where the log is not read for it
-abbrev pub proof_unread : {E : Type 0} → ReadError E → ProofError E
-proof_unread (reads.Memory e) = proofs.Memory
-proof_unread (reads.Log why) = proofs.Log why
 
 -- why there is no commit with which the log would have so many operations: they are too many, or memory was lacking,
 -- where no read was refused; or the log refused a read, of which this holds then

@@ -10,9 +10,9 @@ use Rattle.auth_store_parts.specs.Places.{places_of}
 use Rattle.auth_store_ledger.specs.Map.{Map, value_at}
 use Rattle.auth_store_ledger.specs.History.{History, AreStates, IsState, batch_operations, history_of, is_commit}
 use Rattle.auth_store_ledger.specs.History.{last_floor, latest_map, log_of, replayed}
-pub use Rattle.auth_store_client.specs.States.{is_chunk_width, IsChunkWidth, grafting_height, setting_of_width}
-pub use Rattle.auth_store_client.specs.States.{encodings, state_of_log, floor_of, state_of_history, root_of_history}
-pub use Rattle.auth_store_client.specs.States.{commit_after}
+pub use Rattle.auth_store_states.specs.States.{is_chunk_width, IsChunkWidth, grafting_height, setting_of_width}
+pub use Rattle.auth_store_states.specs.States.{encodings, state_of_log, floor_of, state_of_history, root_of_history}
+pub use Rattle.auth_store_states.specs.States.{commit_after}
 
 -- what a ledger is seen as: where the updates stand that give keys their values, how many commits there are, and what
 -- is kept of the log beside its operations

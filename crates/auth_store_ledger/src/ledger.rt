@@ -13,18 +13,13 @@ ghost use Rattle.auth_store_ledger.specs.Map.{value_at};
 ghost use Rattle.auth_store_ledger.specs.Refusals.{IsUncommitted};
 ghost use Rattle.auth_store_parts.specs.Places.{places_of};
 ghost use Rattle.auth_store_log.specs.Records.{format_of, log_bytes, AreRecorded};
-ghost use Rattle.auth_store_ledger.specs.Store.{AreWritten, IsChunkWidth, IsKept, IsLedgerOf, HasValueAt, LedgerState};
-ghost use Rattle.auth_store_ledger.specs.Store.{commit_after, commit_count, floor_of, root_of_history};
+ghost use Rattle.auth_store_ledger.specs.Store.{AreWritten, IsChunkWidth, IsKept, IsLedgerOf, HasValueAt, IsPlaced};
+ghost use Rattle.auth_store_ledger.specs.Store.{LedgerState, commit_after, commit_count, floor_of, root_of_history};
 ghost use Rattle.auth_store_ledger.specs.Store.{setting_of_width};
 
-mod absence;
-mod between;
 pub mod commit;
 pub mod kept;
-pub mod laws;
-pub mod prove;
 mod pruning;
-pub mod ranges;
 
 use crate::batch::Batch;
 use crate::error::{CommitError, LedgerError};
@@ -343,6 +338,22 @@ impl<F: Graftable, H: HashFunction, K: FixedKey, V: FixedValue, const N: usize> 
             IsLedgerOf (setting_of_width F.merge_rule H.hash_of N) format log self.now → AreRecorded format log }
     {
         a_log_has_floors_within();
+    }
+
+    /// Where the updates stand that give keys their values, and what is kept of the log: of these proofs are made.
+    pub fn parts(&self) -> (&Places<K>, &Current<F, H, N>)
+        ensures placed { (log : List meaning.Operation) → let setting = setting_of_width F.merge_rule H.hash_of N in
+            IsLedgerOf setting (format_of (K.after tt) (V.after tt) K.SIZE V.SIZE) log self.now
+            → IsPlaced setting K.SIZE V.SIZE log result.0.now result.1.now }
+        ensures places { result.0.now ≡ self.now.places }
+        ensures kept { result.1.now ≡ self.now.kept }
+    {
+        (&self.places, &self.current)
+    }
+
+    /// What proofs are allocated by.
+    pub fn allocator(&self) -> Global {
+        self.alloc
     }
 
     /// What holds of every ledger: its chunks have a width that may be.

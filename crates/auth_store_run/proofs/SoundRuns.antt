@@ -3,7 +3,7 @@ use Rattle.std.proofs.Common.{◌≡◌, ◌⊎◌, ℕ, List, [], ◌∷◌, re
 use Rattle.std.specs.Prelude.{Result, Ok, Err}
 use Rattle.auth_store_parts.specs.History.{History}
 use Rattle.auth_store_client.specs.States.{root_of_history}
-use Rattle.auth_store_ledger.specs.declared.error.Unprovable.{Unprovable as NoProof}
+use Rattle.auth_store_proving.specs.declared.error.Unprovable.{Unprovable as NoProof}
 use Rattle.auth_store_log.specs.Records.{Format}
 use Rattle.auth_store_session.specs.Machine.{Machine, Power, State, closed, live, failed, doubtful, Request, ask_open}
 use Rattle.auth_store_session.specs.Machine.{ask_commit, ask_get, ask_root, ask_commits, ask_floor, ask_len}

@@ -13,7 +13,7 @@ use Rattle.auth_store_device.specs.Devices.{DeviceState, failures_of}
 use Rattle.auth_store_parts.specs.History.{AreStates, History, history_of, log_of}
 use Rattle.auth_store_parts.specs.Laws.Logs.{history_of-log_of}
 use Rattle.auth_store_ledger.specs.Store.{IsLedgerOf, IsPrunedUpTo, floor_of}
-use Rattle.auth_store_ledger.specs.declared.error.Unprovable.{Unprovable as NoProof}
+use Rattle.auth_store_proving.specs.declared.error.Unprovable.{Unprovable as NoProof}
 use Rattle.auth_store_log.specs.Records.{AreRecorded, Format, history_bytes}
 use Rattle.auth_store_session.specs.declared.error.StoreError.{StoreError}
 use Rattle.auth_store_session.specs.declared.error.StoreError.TheVariants.{Fault, PowerCut, NumberEnded, Memory}

@@ -7,14 +7,14 @@ use Rattle.auth_store_parts.specs.History.{History, log_of}
 use Rattle.auth_store_index.specs.Refusals.{IfLog}
 use Rattle.auth_store_index.specs.declared.values.ReadError.{ReadError}
 use Rattle.auth_store_index.specs.declared.values.ReadError.TheVariants as reads
-use Rattle.auth_store_ledger.specs.Proving.{IsUnproved}
+use Rattle.auth_store_proving.specs.Proving.{IsUnproved}
 use Rattle.auth_store_ledger.specs.Refusals.{IsUncommitted}
 use Rattle.auth_store_ledger.specs.declared.error.CommitError.{CommitError}
 use Rattle.auth_store_ledger.specs.declared.error.CommitError.TheVariants as commits
-use Rattle.auth_store_ledger.specs.declared.error.ProofError.{ProofError}
-use Rattle.auth_store_ledger.specs.declared.error.ProofError.TheVariants as proofs
-use Rattle.auth_store_ledger.specs.declared.error.Unprovable.{Unprovable}
-use Rattle.auth_store_ledger.specs.declared.error.Unprovable.TheVariants as reasons
+use Rattle.auth_store_proving.specs.declared.error.ProofError.{ProofError}
+use Rattle.auth_store_proving.specs.declared.error.ProofError.TheVariants as proofs
+use Rattle.auth_store_proving.specs.declared.error.Unprovable.{Unprovable}
+use Rattle.auth_store_proving.specs.declared.error.Unprovable.TheVariants as reasons
 use Rattle.auth_store_log.specs.Records.{Format}
 use Rattle.auth_store_log.specs.declared.error.LogError.{LogError}
 use Rattle.auth_store_session.specs.declared.error.StoreError.{StoreError}

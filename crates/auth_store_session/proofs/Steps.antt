@@ -7,7 +7,7 @@ use Rattle.auth_store_parts.specs.History.{History, Commit, latest_map}
 use Rattle.auth_store_parts.specs.Map.{value_at}
 use Rattle.auth_store_log.specs.Records.{Format}
 use Rattle.auth_store_ledger.specs.Store.{commit_after, floor_of, IsPrunedUpTo}
-use Rattle.auth_store_ledger.specs.declared.error.Unprovable.{Unprovable as NoProof}
+use Rattle.auth_store_proving.specs.declared.error.Unprovable.{Unprovable as NoProof}
 use Rattle.auth_store_session.specs.declared.error.StoreError.{StoreError}
 use Rattle.auth_store_session.specs.declared.error.StoreError.TheVariants.{Fault, PowerCut, NumberEnded, Memory}
 use Rattle.auth_store_session.specs.declared.error.StoreError.TheVariants.{Corrupt, Failed, PastFloor, Inactive}

@@ -15,9 +15,9 @@ use Rattle.auth_store_device.specs.Devices.{after_asking, is_cut}
 use Rattle.auth_store_parts.specs.History.{History, Commit, latest_map, log_of}
 use Rattle.auth_store_ledger.specs.Store.{setting_of_width, floor_of, root_of_history, commit_after, IsPrunedUpTo}
 use Rattle.auth_store_log.specs.Records.{log_bytes}
-use Rattle.auth_store_ledger.specs.Proving.{KeyAnswer, OperationAnswer, RangeAnswer, SliceAnswer, honest_answer}
-use Rattle.auth_store_ledger.specs.Proving.{answer_of_operation, answer_of_range, answer_of_slice, is_before_chunks}
-use Rattle.auth_store_ledger.specs.declared.error.Unprovable.{Unprovable}
+use Rattle.auth_store_proving.specs.Proving.{KeyAnswer, OperationAnswer, RangeAnswer, SliceAnswer, honest_answer}
+use Rattle.auth_store_proving.specs.Proving.{answer_of_operation, answer_of_range, answer_of_slice, is_before_chunks}
+use Rattle.auth_store_proving.specs.declared.error.Unprovable.{Unprovable}
 use Rattle.auth_store_session.specs.declared.error.StoreError.{StoreError}
 use Rattle.auth_store_session.specs.declared.error.StoreError.TheVariants as refusals
 use Rattle.auth_store_session.specs.Refusals.{IsOfChange, IsOfRead, of_reason}

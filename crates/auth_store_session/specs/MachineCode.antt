@@ -3,7 +3,7 @@ use Rattle.std.specs.Prelude.{◌≡◌, ⊤, ℕ, List, [], ◌∷◌, map, Opt
 use Rattle.fault_storage_parts.specs.declared.config.Config as settings
 use Rattle.auth_store_device.specs.Devices.{after_asking}
 use Rattle.auth_store_parts.specs.Batch.{meanings}
-use Rattle.auth_store_ledger.specs.ProvingCode.{key_answer_of, operation_answer_of, range_answer_of, slice_answer_of}
+use Rattle.auth_store_proving.specs.ProvingCode.{key_answer_of, operation_answer_of, range_answer_of, slice_answer_of}
 use Rattle.auth_store_session.specs.declared.error.StoreError.{StoreError}
 use Rattle.auth_store_session.specs.declared.session.Step.{Step}
 use Rattle.auth_store_session.specs.declared.session.Step.TheVariants.{Open, Commit, Get, Root, Commits, Floor, Len}

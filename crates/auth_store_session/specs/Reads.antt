@@ -15,8 +15,8 @@ use Rattle.auth_store_parts.specs.History.{History, history_of}
 use Rattle.auth_store_log.specs.Records.{Format, AreRecorded, log_bytes, operation_in, whole_records}
 use Rattle.auth_store_log.specs.declared.error.LogError.{LogError}
 use Rattle.auth_store_ledger.specs.Store.{LedgerState, IsLedgerOf}
-use Rattle.auth_store_ledger.specs.declared.error.Unprovable.{Unprovable}
-use Rattle.auth_store_ledger.specs.declared.error.Unprovable.TheVariants as reasons
+use Rattle.auth_store_proving.specs.declared.error.Unprovable.{Unprovable}
+use Rattle.auth_store_proving.specs.declared.error.Unprovable.TheVariants as reasons
 use Rattle.auth_store_session.specs.declared.error.StoreError.{StoreError}
 use Rattle.auth_store_session.specs.declared.error.StoreError.TheVariants.{Inactive, OutOfRange, Pruned, EmptyRange}
 use Rattle.auth_store_session.specs.Refusals.{of_log}

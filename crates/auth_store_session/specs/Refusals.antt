@@ -14,10 +14,10 @@ use Rattle.auth_store_ledger.specs.declared.error.CommitError.{CommitError}
 use Rattle.auth_store_ledger.specs.declared.error.CommitError.TheVariants as commits
 use Rattle.auth_store_ledger.specs.declared.error.LedgerError.{LedgerError}
 use Rattle.auth_store_ledger.specs.declared.error.LedgerError.TheVariants as ledgers
-use Rattle.auth_store_ledger.specs.declared.error.ProofError.{ProofError}
-use Rattle.auth_store_ledger.specs.declared.error.ProofError.TheVariants as proofs
-use Rattle.auth_store_ledger.specs.declared.error.Unprovable.{Unprovable}
-use Rattle.auth_store_ledger.specs.declared.error.Unprovable.TheVariants as reasons
+use Rattle.auth_store_proving.specs.declared.error.ProofError.{ProofError}
+use Rattle.auth_store_proving.specs.declared.error.ProofError.TheVariants as proofs
+use Rattle.auth_store_proving.specs.declared.error.Unprovable.{Unprovable}
+use Rattle.auth_store_proving.specs.declared.error.Unprovable.TheVariants as reasons
 use Rattle.auth_store_session.specs.declared.error.StoreError.{StoreError}
 use Rattle.auth_store_session.specs.declared.error.StoreError.TheVariants.{Fault, PowerCut, NumberEnded, Memory}
 use Rattle.auth_store_session.specs.declared.error.StoreError.TheVariants.{Corrupt, Failed, PastFloor, Inactive}

@@ -15,8 +15,8 @@ use Rattle.auth_store_device.specs.Logs.{behind_header, durable_log, HasOwnHeade
 use Rattle.auth_store_log.specs.Records.{Format, begun, history_bytes, recovered_log}
 use Rattle.auth_store_log.specs.Shown.{IsKeptThrough}
 use Rattle.auth_store_ledger.specs.Store.{commit_after, root_of_history}
-use Rattle.auth_store_ledger.specs.declared.error.Unprovable.{Unprovable}
-use Rattle.auth_store_ledger.specs.declared.error.Unprovable.TheVariants.{EmptyRange, OutOfRange, Pruned, Inactive}
+use Rattle.auth_store_proving.specs.declared.error.Unprovable.{Unprovable}
+use Rattle.auth_store_proving.specs.declared.error.Unprovable.TheVariants.{EmptyRange, OutOfRange, Pruned, Inactive}
 use Rattle.auth_store_session.specs.declared.error.StoreError.{StoreError}
 use Rattle.auth_store_session.specs.declared.error.StoreError.TheVariants as refusals
 use Rattle.auth_store_session.specs.Machine.{Machine, Power, State, closed, live, failed, doubtful, Request, ask_open}

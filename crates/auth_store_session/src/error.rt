@@ -6,8 +6,9 @@ ghost use Rattle.auth_store_session.specs.Refusals.{number_of, of_blob, of_ledge
 ghost use Rattle.auth_store_session.specs.Refusals.{of_commit, of_proof, of_read, of_reason};
 
 use auth_store_device::OpenError;
-use auth_store_ledger::{CommitError, LedgerError, ProofError, ReadError, Unprovable};
+use auth_store_ledger::{CommitError, LedgerError, ReadError};
 use auth_store_log::LogError;
+use auth_store_proving::{ProofError, Unprovable};
 use fault_storage::HeaderError;
 use paged_blob::{CallKind, Error};
 use std::alloc::{AllocError, AllocFailed};

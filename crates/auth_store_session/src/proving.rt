@@ -4,10 +4,11 @@ ghost use Rattle.std.specs.Prelude.{◌≡◌, ◌++◌, Ok, option_map, IfOk, I
 ghost use Rattle.auth_store_client.specs.Claims.{terms};
 ghost use Rattle.auth_store_parts.specs.Batch as words;
 ghost use Rattle.auth_store_parts.specs.History.{history_of, log_of};
-ghost use Rattle.auth_store_ledger.specs.Proving.{IsAccepted, IsAcceptedOperation, IsAcceptedRange, IsAcceptedSlice};
-ghost use Rattle.auth_store_ledger.specs.Proving.{answer_of_operation, answer_of_range, answer_of_slice, honest_answer};
-ghost use Rattle.auth_store_ledger.specs.ProvingCode.{key_answer_of, operation_answer_of, range_answer_of};
-ghost use Rattle.auth_store_ledger.specs.ProvingCode.{slice_answer_of};
+ghost use Rattle.auth_store_proving.specs.Proving.{IsAccepted, IsAcceptedOperation, IsAcceptedRange, IsAcceptedSlice};
+ghost use Rattle.auth_store_proving.specs.Proving.{answer_of_operation, answer_of_range, answer_of_slice};
+ghost use Rattle.auth_store_proving.specs.Proving.{honest_answer};
+ghost use Rattle.auth_store_proving.specs.ProvingCode.{key_answer_of, operation_answer_of, range_answer_of};
+ghost use Rattle.auth_store_proving.specs.ProvingCode.{slice_answer_of};
 ghost use Rattle.auth_store_ledger.specs.Store.{IsLedgerOf, commit_after, root_of_history, setting_of_width};
 ghost use Rattle.auth_store_log.specs.Records.{format_of, log_bytes};
 ghost use Rattle.auth_store_session.specs.Machine.{PassesLimit, refusal_of};
@@ -16,7 +17,11 @@ ghost use Rattle.auth_store_session.specs.Stores.{IsBatchRefusal, IsReadRefusal}
 
 use crate::error::StoreError;
 use crate::reader::LogReader;
-use auth_store_ledger::{Batch, KeyProof, Ledger, ProvedOperation, ProvedRange, ProvedSlice};
+use auth_store_ledger::{Batch, Ledger};
+use auth_store_proving::{
+    KeyProof, ProvedOperation, ProvedRange, ProvedSlice, prove_key, prove_log, prove_operation,
+    prove_range,
+};
 use merkle_forest::{Graftable, HashFunction, PendingOf};
 use paged_blob::Blob;
 use state_ops::{FixedKey, FixedValue};
@@ -113,7 +118,7 @@ where
         (over (B.calls log.new.blob.now) (B.failures log.new.blob.now) (B.left log.new.blob.now) log.new.cache.now) }
     ensures refused { IfErr result (IsReadRefusal (B.failures log.old.blob.now) (B.failures log.new.blob.now)) }
 {
-    Ok(ledger.prove_key(log, key)?)
+    Ok(prove_key(ledger, log, key)?)
 }
 
 // The operation at a location, with the honest bytes that prove it active. It is refused where there is no proof, out
@@ -162,7 +167,7 @@ where
         (answer_of_operation F.pending_encoding setting K.SIZE V.SIZE history ledger.now.kept.bits.pruned
         location)) }
 {
-    Ok(ledger.prove_operation(log, location)?)
+    Ok(prove_operation(ledger, log, location)?)
 }
 
 // The operations from `start` up to `stop` and their activity bits, with the honest bytes that prove both. It is
@@ -212,7 +217,7 @@ where
         (answer_of_range F.pending_encoding setting K.SIZE V.SIZE history ledger.now.kept.bits.pruned
         start stop)) }
 {
-    Ok(ledger.prove_range(log, start, stop)?)
+    Ok(prove_range(ledger, log, start, stop)?)
 }
 
 // The operations from `start` up to `stop`, with the honest bytes that prove that the log has them. It is refused as an
@@ -262,5 +267,5 @@ where
         (answer_of_slice F.pending_encoding setting K.SIZE V.SIZE history ledger.now.kept.bits.pruned
         start stop)) }
 {
-    Ok(ledger.prove_log(log, start, stop)?)
+    Ok(prove_log(ledger, log, start, stop)?)
 }

@@ -3,7 +3,7 @@
 //! A text is one word. In it `~` stands for a space, `!` for a carriage return and `^` for a tab; `-` alone is the
 //! empty text.
 
-use auth_store_ledger::is_chunk_width;
+use auth_store_client::is_chunk_width;
 use auth_store_parts::script::{
     FaultKind, InputError, Line, TornMode, TreeFamily, parse_key, parse_line, parse_number,
 };

@@ -2,7 +2,7 @@
 
 use crate::refusals;
 use crate::words::{Name, Root};
-use auth_store_ledger::{KeyProof, ProvedOperation, ProvedRange, ProvedSlice};
+use auth_store_proving::{KeyProof, ProvedOperation, ProvedRange, ProvedSlice};
 use auth_store_session::Answer;
 use case_lines::Unanswered;
 use merkle_forest::Family;

@@ -5,7 +5,7 @@ ghost use Rattle.std.specs.Prelude.{◌≡◌, ◌<◌, ◌≤◌, ◌+◌, ◌*
 ghost use Rattle.std.specs.List.{AllByRecursion, flat_map};
 ghost use Rattle.auth_store_ledger.specs.History.{last_floor, meanings};
 ghost use Rattle.auth_store_ledger.specs.Store.{IsChunkWidth, IsKept, AreWritten};
-ghost use Rattle.auth_store_ledger.specs.Store.{encodings, grafting_height, setting_of_width};
+ghost use Rattle.auth_store_ledger.specs.Store.{encodings, setting_of_width};
 ghost use Rattle.auth_store_parts.specs.Places.{places_of};
 ghost use Rattle.auth_store_log.specs.Records.{format_of};
 ghost use Rattle.state_current.specs.Growth.{grown};
@@ -18,20 +18,10 @@ use merkle_core::error::Error;
 use merkle_forest::{Family, Graftable, HashFunction};
 use state_current::Current;
 use state_ops::{FixedKey, FixedValue, OrderedOperation};
-use state_proofs::chunk_size::ChunkSize;
 use std::alloc::{AllocError, Global};
 
-/// How many bits a chunk of `N` bytes has.
-pub fn chunk_size<const N: usize>() -> ChunkSize
-    requires { IsChunkWidth N }
-    ensures width { result.width ≡ N }
-    ensures height { result.grafting_height ≡ grafting_height N }
-{
-    ChunkSize::new(N).unwrap()
-}
-
-// Want of memory for a tree.
-pub(super) fn out_of_memory<F: Family>(error: Error<F>) -> AllocError
+/// Want of memory for a tree.
+pub fn out_of_memory<F: Family>(error: Error<F>) -> AllocError
     requires { error ≡ Error.Memory }
 {
     match error {

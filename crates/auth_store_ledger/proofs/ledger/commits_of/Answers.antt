@@ -1,6 +1,6 @@
 use Rattle.std.proofs.Common.{◌∙◌}
 use Rattle.state_ops.specs.Operation.{meaning_of}
-use Rattle.auth_store_ledger.proofs.Places.{counted}
+use Rattle.auth_store_ledger.specs.Laws.Places.{counted}
 use Rattle.auth_store_ledger.proofs.ledger.commits_of.Goals as goal
 
 pub returns-in-len1-up : goal.returns-in-len1-up

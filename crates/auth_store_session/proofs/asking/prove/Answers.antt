@@ -3,7 +3,7 @@ use Rattle.std.specs.Prelude.{Ok, Err}
 use Rattle.auth_store_log.specs.Records.{format_of}
 use Rattle.auth_store_session.specs.Machine.{Machine, Question, machine, key_is, of_key, proof_of}
 use Rattle.auth_store_session.specs.Standing.{power_of}
-use Rattle.auth_store_ledger.specs.ProvingCode.{key_answer_of}
+use Rattle.auth_store_proving.specs.ProvingCode.{key_answer_of}
 use Rattle.auth_store_session.proofs.Powers.{same_grows}
 use Rattle.auth_store_session.proofs.Steps.{proves_in, refused_read}
 use Rattle.auth_store_session.proofs.asking.prove.Goals as goal

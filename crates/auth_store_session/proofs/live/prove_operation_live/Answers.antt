@@ -4,8 +4,8 @@ use Rattle.paged_blob_parts.specs.Answers.{Failures}
 use Rattle.paged_blob_parts.specs.Caches.{Cache}
 use Rattle.state_theory.specs.Canonical.{Setting}
 use Rattle.auth_store_client.specs.Claims.{Terms, terms}
-use Rattle.auth_store_ledger.specs.Proving.{IsAcceptedOperation, answer_of_operation}
-use Rattle.auth_store_ledger.specs.ProvingCode.{operation_answer_of}
+use Rattle.auth_store_proving.specs.Proving.{IsAcceptedOperation, answer_of_operation}
+use Rattle.auth_store_proving.specs.ProvingCode.{operation_answer_of}
 use Rattle.auth_store_ledger.specs.Store.{root_of_history, setting_of_width}
 use Rattle.auth_store_log.specs.Records.{Format, format_of}
 use Rattle.auth_store_session.specs.Machine.{refusal_of}

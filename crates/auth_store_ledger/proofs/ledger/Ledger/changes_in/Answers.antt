@@ -5,7 +5,7 @@ use Rattle.state_ops.specs.Operation.{Operation}
 use Rattle.auth_store_log.specs.Records.{Format, format_of}
 use Rattle.auth_store_ledger.specs.Batch as words
 use Rattle.auth_store_ledger.specs.Store.{setting_of_width}
-use Rattle.auth_store_ledger.proofs.Proofs.{inside}
+use Rattle.auth_store_ledger.proofs.Seen.{inside}
 use Rattle.auth_store_ledger.proofs.ledger.Ledger.changes_in.Goals as goal
 
 pub changes_near-requires : goal.changes_near-requires

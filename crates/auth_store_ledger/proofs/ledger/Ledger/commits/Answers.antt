@@ -2,7 +2,7 @@ use Rattle.std.proofs.Common.{ℕ}
 use Rattle.state_theory.specs.Canonical.{Setting}
 use Rattle.auth_store_log.specs.Records.{Format, format_of}
 use Rattle.auth_store_ledger.specs.Store.{setting_of_width}
-use Rattle.auth_store_ledger.proofs.Proofs.{inside}
+use Rattle.auth_store_ledger.proofs.Seen.{inside}
 use Rattle.auth_store_ledger.proofs.ledger.Ledger.commits.Goals as goal
 
 pub returns : goal.returns

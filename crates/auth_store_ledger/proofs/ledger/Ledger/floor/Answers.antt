@@ -3,7 +3,7 @@ use Rattle.state_theory.specs.Canonical.{Setting}
 use Rattle.auth_store_log.specs.Records.{Format, format_of}
 use Rattle.auth_store_ledger.specs.History.{last_floor}
 use Rattle.auth_store_ledger.specs.Store.{LedgerState, setting_of_width}
-use Rattle.auth_store_ledger.proofs.Proofs.{inside}
+use Rattle.auth_store_ledger.proofs.Seen.{inside}
 use Rattle.auth_store_ledger.proofs.ledger.Ledger.floor.Goals as goal
 
 pub returns-clause-floor : goal.returns-clause-floor

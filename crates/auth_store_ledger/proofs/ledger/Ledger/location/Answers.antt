@@ -6,8 +6,8 @@ use Rattle.auth_store_ledger.specs.Map.{Map, value_at}
 use Rattle.auth_store_ledger.specs.Store.{HasValueAt, setting_of_width}
 use Rattle.auth_store_parts.specs.Places.{places_of}
 use Rattle.auth_store_parts.specs.Laws.Places.{place_found}
-use Rattle.auth_store_ledger.proofs.Places.{located, placed_entry, unlocated, unplaced}
-use Rattle.auth_store_ledger.proofs.Proofs.{inside}
+use Rattle.auth_store_ledger.specs.Laws.Places.{located, placed_entry, unlocated, unplaced}
+use Rattle.auth_store_ledger.proofs.Seen.{inside}
 use Rattle.auth_store_ledger.proofs.ledger.Ledger.location.Goals as goal
 
 pub returns-in-Some : goal.returns-in-Some

@@ -6,7 +6,7 @@ use Rattle.auth_store_log.specs.Records.{Format, format_of}
 use Rattle.auth_store_ledger.specs.History.{meanings, history_of}
 use Rattle.auth_store_ledger.specs.Store.{AreWritten, IsKept, setting_of_width}
 use Rattle.auth_store_parts.specs.Places.{places_of}
-use Rattle.auth_store_ledger.proofs.Places.{AreStates-history_of}
+use Rattle.auth_store_ledger.specs.Laws.Places.{AreStates-history_of}
 use Rattle.auth_store_ledger.proofs.ledger.Ledger.of.Goals as goal
 
 pub counted_and_kept-requires : goal.counted_and_kept-requires

@@ -2,12 +2,12 @@ use Rattle.std.proofs.Common.{◌≤◌, ◌/◌, ◌*◌, ◌∙◌, ℕ, List,
 use Rattle.state_current.specs.Settled.{IsGreatestSettled}
 use Rattle.state_ops.specs.Operation.{Operation}
 use Rattle.state_theory.specs.Canonical.{Setting}
-use Rattle.auth_store_client.specs.Laws.Widths.{width_is_whole}
+use Rattle.auth_store_states.specs.Laws.Widths.{width_is_whole}
 use Rattle.auth_store_log.specs.Records.{Format, format_of}
 use Rattle.auth_store_ledger.specs.History.{history_of, last_floor, log_of}
 use Rattle.auth_store_ledger.specs.Store.{LedgerState, grafting_height, setting_of_width, state_of_log}
-use Rattle.auth_store_ledger.proofs.Places.{end_behind}
-use Rattle.auth_store_ledger.proofs.Proofs.{inside}
+use Rattle.auth_store_ledger.specs.Laws.Places.{end_behind}
+use Rattle.auth_store_ledger.proofs.Seen.{inside}
 use Rattle.auth_store_ledger.proofs.Pruning.{clear_before, found_settled, kept_pruned}
 use Rattle.auth_store_ledger.proofs.ledger.Ledger.prune.Goals as goal
 

@@ -3,7 +3,7 @@ use Rattle.state_ops.specs.Operation.{Operation}
 use Rattle.state_theory.specs.Canonical.{Setting, canonical_root}
 use Rattle.auth_store_log.specs.Records.{Format, format_of}
 use Rattle.auth_store_ledger.specs.Store.{grafting_height, setting_of_width, state_of_log}
-use Rattle.auth_store_ledger.proofs.Proofs.{inside}
+use Rattle.auth_store_ledger.proofs.Seen.{inside}
 use Rattle.auth_store_ledger.proofs.ledger.Ledger.root.Goals as goal
 
 pub returns : goal.returns

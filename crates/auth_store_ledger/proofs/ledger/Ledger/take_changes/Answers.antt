@@ -10,7 +10,6 @@ use Rattle.state_theory.specs.Bits.{all_bits}
 use Rattle.state_theory.specs.Canonical.{Setting}
 use Rattle.state_ops.specs.Operation.{Operation, commit_floor, fixed_encoding, meaning_of}
 use Rattle.auth_store_log.specs.Records.{Format, format_of, log_bytes}
-use Rattle.auth_store_client.specs.Laws.Absent.{has_some}
 use Rattle.auth_store_ledger.specs.Store.{AreWritten, LedgerState, encodings, setting_of_width, state_of_log}
 use Rattle.auth_store_ledger.specs.Batch.{map_after}
 use Rattle.auth_store_ledger.specs.History.{replayed}
@@ -20,7 +19,8 @@ use Rattle.auth_store_parts.specs.Laws.Staged.{IsState-placed, batch_apart, in_t
 use Rattle.auth_store_parts.specs.Places.{placed}
 use Rattle.auth_store_parts.specs.Staged.{AreApart, updated, without_deleted}
 use Rattle.auth_store_ledger.proofs.Appends.{found_in, now_bytes, now_few, now_ledger, now_paired, now_there}
-use Rattle.auth_store_ledger.proofs.Proofs.{inside, seen_as}
+use Rattle.auth_store_ledger.specs.Laws.Places.{has_end}
+use Rattle.auth_store_ledger.proofs.Seen.{inside, seen_as}
 use Rattle.auth_store_ledger.proofs.Stores.{commits_few}
 use Rattle.auth_store_ledger.proofs.ledger.Ledger.take_changes.Goals as goal
 
@@ -34,7 +34,7 @@ found_of-requires g c =
     let here = inside setting format from.log c.self.inside.places c.self.inside.commits c.self.inside.current c.args.self.now c.self.view_is from.of in (
       omega arith,
       (
-        omega (arith, here.keeps.current.leaves, has_some setting key_size value_size from.log here.keeps.states here.keeps.whole),
+        omega (arith, here.keeps.current.leaves, has_end from.log here.keeps.whole),
         (
           omega (arith, c.leaves.ensures.leaves, c.as_u64-leaves.ensures),
           omega (arith, here.keeps.current.behind, here.keeps.current.stands.floor),

@@ -1,6 +1,6 @@
 use Rattle.std.proofs.Common.{◌≡◌, ◌∙◌, [], length, map, ap, arith}
 use Rattle.state_theory.specs.Canonical.{Setting, State}
-use Rattle.auth_store_client.specs.Laws.Widths.{width_is_whole}
+use Rattle.auth_store_states.specs.Laws.Widths.{width_is_whole}
 use Rattle.auth_store_parts.specs.Laws.Places.{length-activity_bits}
 use Rattle.state_ops.specs.Operation.{meaning_of}
 use Rattle.std.proofs.lemmas.List.{length-map}

@@ -15,8 +15,8 @@ use Rattle.auth_store_session.proofs.Lives.{is_pruned, not_failed, stays_at}
 use Rattle.auth_store_session.proofs.OnDevice.{carried, read_on_device}
 use Rattle.auth_store_session.proofs.Powers.{leaves_failed, leaves_named, same_grows}
 use Rattle.auth_store_client.specs.Claims.{Terms, terms}
-use Rattle.auth_store_ledger.specs.Proving.{IsAccepted, honest_answer}
-use Rattle.auth_store_ledger.specs.ProvingCode.{key_answer_of}
+use Rattle.auth_store_proving.specs.Proving.{IsAccepted, honest_answer}
+use Rattle.auth_store_proving.specs.ProvingCode.{key_answer_of}
 use Rattle.auth_store_ledger.specs.Store.{root_of_history}
 use Rattle.auth_store_session.proofs.store.Store.prove_key.Goals as goal
 

@@ -14,8 +14,8 @@ use Rattle.auth_store_session.proofs.Lives.{answers_on_device, is_pruned, not_fa
 use Rattle.auth_store_session.proofs.OnDevice.{carried}
 use Rattle.auth_store_session.proofs.Powers.{leaves_failed, leaves_named, same_grows}
 use Rattle.auth_store_client.specs.Claims.{Terms, terms}
-use Rattle.auth_store_ledger.specs.Proving.{IsAcceptedOperation, answer_of_operation}
-use Rattle.auth_store_ledger.specs.ProvingCode.{operation_answer_of}
+use Rattle.auth_store_proving.specs.Proving.{IsAcceptedOperation, answer_of_operation}
+use Rattle.auth_store_proving.specs.ProvingCode.{operation_answer_of}
 use Rattle.auth_store_ledger.specs.Store.{root_of_history}
 use Rattle.auth_store_session.specs.Machine.{as_proved, operation_is}
 use Rattle.auth_store_session.specs.Standing.{AnswersProof}

@@ -4,8 +4,8 @@ use Rattle.std.specs.Prelude.{codes}
 use Rattle.std.specs.Fmt.{decimal}
 use Rattle.auth_store_parts.specs.Report.{reported}
 use Rattle.auth_store_session.specs.MachineCode.{meaning_of}
-use Rattle.auth_store_ledger.specs.Proving.{KeyAnswer, proved_value, proved_absent}
-use Rattle.auth_store_ledger.specs.ProvingCode.{key_answer_of}
+use Rattle.auth_store_proving.specs.Proving.{KeyAnswer, proved_value, proved_absent}
+use Rattle.auth_store_proving.specs.ProvingCode.{key_answer_of}
 use Rattle.auth_store_session.specs.Machine.{Answer, ask_proof, ask_root, key_is, of_key, proof, root_is}
 use Rattle.auth_store.specs.ScriptLines.{Proves, answer_line, bytes_of, exchange, proof_bytes, value_of, with_kept}
 use Rattle.auth_store.proofs.ScriptLines.{goes_on, handled_line, not_root}

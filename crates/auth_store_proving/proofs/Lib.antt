@@ -1,0 +1,4 @@
+pub mod Proofs
+pub mod Absences
+pub mod Answered
+pub mod Refused

@@ -1,0 +1,3 @@
+pub mod Proving
+pub mod ProvingCode
+pub mod Refusals
