@@ -23,6 +23,7 @@ use merkle_forest::{Graftable, HashFunction, Location, PendingOf};
 use state_ops::{FixedKey, FixedValue};
 use state_proofs::RangeProof;
 use state_proofs::chunk_size::ChunkSize;
+use state_proving::{log_proof, range_proof, witness};
 use std::alloc::AllocError;
 
 // How many bits a chunk of `N` bytes has.
@@ -169,8 +170,9 @@ where
         ≡ honest_range setting (state_of_history K.SIZE V.SIZE (history_of log)) start stop) }
 {
     let (_, current) = ledger.parts();
-    match current.range_proof(
+    match range_proof(
         ledger.allocator(),
+        current,
         Location::new(start)..Location::new(stop),
     ) {
         Ok(proof) => Ok(proof),
@@ -227,8 +229,9 @@ where
         × (map H.Digest.encoding proof.digests.items ≡ log_digests setting state start stop)) }
 {
     let (_, current) = ledger.parts();
-    match current.log_proof(
+    match log_proof(
         ledger.allocator(),
+        current,
         Location::new(start)..Location::new(stop),
     ) {
         Ok(proof) => Ok(proof),
@@ -259,7 +262,7 @@ where
     let proof = log_proof_between(ledger, start, stop)?;
     let mut bytes = Vec::new(ledger.allocator());
     let (_, current) = ledger.parts();
-    current.witness().write(&mut bytes)?;
+    witness(current).write(&mut bytes)?;
     proof.write(&mut bytes)?;
     Ok(bytes)
 }

@@ -66,7 +66,7 @@ where
         IsKept setting key value log current.now → IfOk result (λ proof. parts_of H.Digest.encoding F.held proof
         ≡ honest_parts setting (state_of_log key value log) location) }
 {
-    match current.operation_proof(alloc, Location::new(location as u64)) {
+    match state_proving::operation_proof(alloc, current, Location::new(location as u64)) {
         Ok(proof) => Ok(proof),
         Err(error) => Err(out_of_memory(error)),
     }
