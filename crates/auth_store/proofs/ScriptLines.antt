@@ -16,10 +16,10 @@ use Rattle.auth_store_session.specs.declared.session.Answer as code
 use Rattle.auth_store_session.specs.declared.session.Answer.TheVariants as answers
 use Rattle.auth_store_session.specs.declared.session.Step.{Step}
 use Rattle.auth_store_session.specs.declared.session.Step.TheVariants as steps
-use Rattle.auth_store_session.specs.Machine.{Machine, Request, Answer, machine, is_opened, is_root_of_commit}
+use Rattle.auth_store_machine.specs.Machine.{Machine, Request, Answer, machine, is_opened, is_root_of_commit}
 use Rattle.auth_store_session.specs.MachineCode.{config_after, meaning_of, request_of}
-use Rattle.auth_store_session.specs.Standing.{SessionState, Steps, Runs, calls_in, config_in, page_size_in}
-use Rattle.auth_store_session.proofs.Runs.{AreSound, runs_go_on}
+use Rattle.auth_store_machine.specs.Standing.{SessionState, Steps, Runs, calls_in, config_in, page_size_in}
+use Rattle.auth_store_machine.proofs.Runs.{AreSound, runs_go_on}
 use Rattle.auth_store.specs.ScriptLines.{Exchange, Checks, Does, asked, answered, answer_line, bytes_of, value_of}
 use Rattle.auth_store.specs.ScriptLines.{checked_line, found_line, kept_after, settings_after, pending_of, rule_of}
 use Rattle.auth_store.specs.ScriptLines.{script_format, script_machine}

@@ -20,9 +20,9 @@ use Rattle.auth_store_parts.specs.declared.script.line.Line.TheVariants.{Root, F
 use Rattle.auth_store_parts.specs.declared.script.line.Line.TheVariants.{CheckValue, CheckAbsent, Cut, Mode, Fault}
 use Rattle.auth_store_parts.specs.declared.script.line.Line.TheVariants.{Close, Crash}
 use Rattle.auth_store_parts.specs.declared.script.words.TreeFamily.{TreeFamily}
-use Rattle.auth_store_session.specs.Standing.{SessionState}
-use Rattle.auth_store_session.proofs.Runs.{runs_none}
-use Rattle.auth_store_session.proofs.Sound.{closed_sound}
+use Rattle.auth_store_machine.specs.Standing.{SessionState}
+use Rattle.auth_store_machine.proofs.Runs.{runs_none}
+use Rattle.auth_store_machine.proofs.Sound.{closed_sound}
 use Rattle.auth_store.specs.ScriptLines.{Exchange, Progress, Does, new_progress, script_format, script_machine}
 use Rattle.auth_store.specs.ScriptRun.{LineDoes, HasTaken, Ends, IsRunOf, Prints, Stops, lines_of, script_cache, seeded_by}
 use Rattle.auth_store.specs.ScriptCode.{DoesLine, DoesText, Handled, HasRun, IsRunning, Now, kept_in}

@@ -11,9 +11,9 @@ use Rattle.auth_store_parts.specs.declared.script.line.Line.{Line}
 use Rattle.auth_store_parts.specs.declared.script.words.TreeFamily.{TreeFamily}
 use Rattle.auth_store_parts.specs.declared.script.words.TreeFamily.TheVariants as families
 use Rattle.auth_store_client.specs.Claims.{Claim}
-use Rattle.auth_store_session.specs.Machine.{Answer}
+use Rattle.auth_store_machine.specs.Machine.{Answer}
 use Rattle.auth_store_session.specs.MachineCode.{request_of}
-use Rattle.auth_store_session.specs.Standing.{SessionState, Runs, config_in, page_size_in}
+use Rattle.auth_store_machine.specs.Standing.{SessionState, Runs, config_in, page_size_in}
 use Rattle.auth_store_session.specs.declared.session.Step.{Step}
 use Rattle.auth_store_session.specs.declared.session.Step.TheVariants.{Config}
 use Rattle.auth_store.specs.ScriptLines.{Exchange, Progress, AsksStep, ChecksClaim, Sets, Does, IsQuiet, asked}

@@ -29,15 +29,15 @@ use Rattle.auth_store_parts.specs.declared.script.words.TreeFamily.TheVariants.{
 use Rattle.auth_store_log.specs.Records.{Format, format_of}
 use Rattle.auth_store_client.specs.Claims.{Claim, Terms, Shows, terms, has_value, is_absent}
 use Rattle.auth_store_proving.specs.Proving.{KeyAnswer, proved_value, proved_absent}
-use Rattle.auth_store_session.specs.Machine.{Machine, Request, Answer, machine, is_opened, is_root_of_commit}
-use Rattle.auth_store_session.specs.Machine.{ask_open, ask_commit, ask_get, ask_root, ask_commits, ask_floor, ask_len}
-use Rattle.auth_store_session.specs.Machine.{ask_prune, ask_proof, of_key, key_is}
-use Rattle.auth_store_session.specs.Machine.{ask_close, ask_crash, ask_config, ask_cut}
-use Rattle.auth_store_session.specs.Machine.{value, root_is, commits_are, floor_is, len_is, pruned_to, proof}
-use Rattle.auth_store_session.specs.Machine.{has_closed, has_crashed, is_set, refused}
-use Rattle.auth_store_session.specs.Refusals.{number_of}
-use Rattle.auth_store_session.specs.declared.error.StoreError.{StoreError}
-use Rattle.auth_store_session.specs.declared.error.StoreError.TheVariants.{Memory}
+use Rattle.auth_store_machine.specs.Machine.{Machine, Request, Answer, machine, is_opened, is_root_of_commit}
+use Rattle.auth_store_machine.specs.Machine.{ask_open, ask_commit, ask_get, ask_root, ask_commits, ask_floor, ask_len}
+use Rattle.auth_store_machine.specs.Machine.{ask_prune, ask_proof, of_key, key_is}
+use Rattle.auth_store_machine.specs.Machine.{ask_close, ask_crash, ask_config, ask_cut}
+use Rattle.auth_store_machine.specs.Machine.{value, root_is, commits_are, floor_is, len_is, pruned_to, proof}
+use Rattle.auth_store_machine.specs.Machine.{has_closed, has_crashed, is_set, refused}
+use Rattle.auth_store_machine.specs.Refusals.{number_of}
+use Rattle.auth_store_machine.specs.declared.error.StoreError.{StoreError}
+use Rattle.auth_store_machine.specs.declared.error.StoreError.TheVariants.{Memory}
 
 -- ---- what is asked
 

@@ -14,7 +14,7 @@ use Rattle.auth_store_parts.specs.Line.{line_of}
 use Rattle.auth_store_parts.specs.Report.{reported}
 use Rattle.auth_store_parts.specs.declared.script.line.Line.{Line}
 use Rattle.auth_store_parts.specs.declared.script.line.Line.TheVariants.{Empty, New}
-use Rattle.auth_store_session.specs.Standing.{RunsWhole}
+use Rattle.auth_store_machine.specs.Standing.{RunsWhole}
 use Rattle.auth_store.specs.ScriptLines.{Exchange, Progress, Does, IsQuiet, asked, answered, settings_after}
 use Rattle.auth_store.specs.ScriptLines.{new_progress, script_machine, script_format}
 

@@ -13,9 +13,9 @@ use Rattle.auth_store_device.specs.Logs.{has_log}
 use Rattle.auth_store_device.specs.Settings.{IsNew}
 use Rattle.auth_store_log.specs.Records.{Format, IsRecorded, committed, recovered_log}
 use Rattle.auth_store_log.proofs.Found.{committed_short}
-use Rattle.auth_store_session.specs.Machine.{closed}
-use Rattle.auth_store_session.specs.Stores.{IsWritten, OpeningsShow}
-use Rattle.auth_store_session.specs.Standing.{StandsFor}
+use Rattle.auth_store_machine.specs.Machine.{closed}
+use Rattle.auth_store_machine.specs.Stores.{IsWritten, OpeningsShow}
+use Rattle.auth_store_machine.specs.Standing.{StandsFor}
 
 -- an operation that has an encoding is recorded
 abbrev pub Recording : Type 0

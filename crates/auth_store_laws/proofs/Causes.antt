@@ -8,22 +8,22 @@ use Rattle.auth_store_parts.specs.History.{History}
 use Rattle.auth_store_ledger.specs.Store.{commit_after}
 use Rattle.auth_store_proving.specs.declared.error.Unprovable.{Unprovable as NoProof}
 use Rattle.auth_store_proving.specs.declared.error.Unprovable.TheVariants as reasons
-use Rattle.auth_store_session.specs.declared.error.StoreError.{StoreError}
-use Rattle.auth_store_session.specs.declared.error.StoreError.TheVariants.{Fault, PowerCut, NumberEnded, Memory}
-use Rattle.auth_store_session.specs.declared.error.StoreError.TheVariants.{Corrupt, Failed, PastFloor, Inactive}
-use Rattle.auth_store_session.specs.declared.error.StoreError.TheVariants.{OutOfRange, Pruned, EmptyRange, Header}
+use Rattle.auth_store_machine.specs.declared.error.StoreError.{StoreError}
+use Rattle.auth_store_machine.specs.declared.error.StoreError.TheVariants.{Fault, PowerCut, NumberEnded, Memory}
+use Rattle.auth_store_machine.specs.declared.error.StoreError.TheVariants.{Corrupt, Failed, PastFloor, Inactive}
+use Rattle.auth_store_machine.specs.declared.error.StoreError.TheVariants.{OutOfRange, Pruned, EmptyRange, Header}
 use Rattle.auth_store_device.specs.Devices.{is_cut}
-use Rattle.auth_store_session.specs.Machine.{Machine, Power, State, closed, live, failed, doubtful, Request, ask_open}
-use Rattle.auth_store_session.specs.Machine.{ask_commit, ask_get, ask_root, ask_commits, ask_floor, ask_len}
-use Rattle.auth_store_session.specs.Machine.{ask_prune, ask_proof, ask_close, ask_crash, ask_config, ask_cut, Answer}
-use Rattle.auth_store_session.specs.Machine.{Proved, proof_of, told_proof, opened, committed, value, root_is}
-use Rattle.auth_store_session.specs.Machine.{commits_are, floor_is, len_is, pruned_to, proof, has_closed, has_crashed}
-use Rattle.auth_store_session.specs.Machine.{is_set, refused, not_open, still_open, MayRefuseRead, MayRefuseOpening}
-use Rattle.auth_store_session.specs.Machine.{MayRefuseBatch, MayRefuseAppend, IsStep, IsRun, IsSpent, Passes, turned}
-use Rattle.auth_store_session.specs.Machine.{refusal_in, faults_in, faults_told, AskNoCut, TellNoCut, IsRunSeen}
-use Rattle.auth_store_session.specs.Machine.{GivesNumbers, openings_of}
-use Rattle.auth_store_session.proofs.Opens.{grows_on}
-use Rattle.auth_store_session.proofs.Powers.{same_grows}
+use Rattle.auth_store_machine.specs.Machine.{Machine, Power, State, closed, live, failed, doubtful, Request, ask_open}
+use Rattle.auth_store_machine.specs.Machine.{ask_commit, ask_get, ask_root, ask_commits, ask_floor, ask_len}
+use Rattle.auth_store_machine.specs.Machine.{ask_prune, ask_proof, ask_close, ask_crash, ask_config, ask_cut, Answer}
+use Rattle.auth_store_machine.specs.Machine.{Proved, proof_of, told_proof, opened, committed, value, root_is}
+use Rattle.auth_store_machine.specs.Machine.{commits_are, floor_is, len_is, pruned_to, proof, has_closed, has_crashed}
+use Rattle.auth_store_machine.specs.Machine.{is_set, refused, not_open, still_open, MayRefuseRead, MayRefuseOpening}
+use Rattle.auth_store_machine.specs.Machine.{MayRefuseBatch, MayRefuseAppend, IsStep, IsRun, IsSpent, Passes, turned}
+use Rattle.auth_store_machine.specs.Machine.{refusal_in, faults_in, faults_told, AskNoCut, TellNoCut, IsRunSeen}
+use Rattle.auth_store_machine.specs.Machine.{GivesNumbers, openings_of}
+use Rattle.auth_store_machine.proofs.Opens.{grows_on}
+use Rattle.auth_store_machine.proofs.Powers.{same_grows}
 
 -- what a refusal tells of the power
 abbrev Why : Power → Power → StoreError → Type 0

@@ -2,16 +2,16 @@
 use Rattle.std.proofs.Common.{◌≡◌, ◌≤◌, ℕ, Bool, true, false, List, [], ◌∷◌, Some, refl, sym, ◌∙◌, ap, subst, ⊎_elim, arith}
 use Rattle.std.specs.Prelude.{IsFalse, Result, Ok, Err}
 use Rattle.std.proofs.lemmas.Bool.{false_from_ne_true}
-use Rattle.auth_store_session.specs.declared.error.StoreError.TheVariants.{Failed, Memory, PastFloor}
+use Rattle.auth_store_machine.specs.declared.error.StoreError.TheVariants.{Failed, Memory, PastFloor}
 use Rattle.auth_store_proving.specs.declared.error.Unprovable.{Unprovable as NoProof}
 use Rattle.auth_store_device.specs.Devices.{after_asking, is_cut}
-use Rattle.auth_store_session.specs.Machine.{Machine, Power, State, closed, live, failed, doubtful, Request, ask_open}
-use Rattle.auth_store_session.specs.Machine.{ask_commit, ask_get, ask_root, ask_commits, ask_floor, ask_len}
-use Rattle.auth_store_session.specs.Machine.{ask_prune, ask_proof, ask_close, ask_crash, ask_config, ask_cut, Answer}
-use Rattle.auth_store_session.specs.Machine.{Proved, proof_of, told_proof, value, root_is, commits_are, floor_is}
-use Rattle.auth_store_session.specs.Machine.{len_is, pruned_to, has_closed, has_crashed, is_set, refused}
-use Rattle.auth_store_session.specs.Machine.{not_open, still_open, IsStep, IsRun, IsSpent, Passes, turned, AskNoCrash}
-use Rattle.auth_store_session.specs.Machine.{acknowledges, AcknowledgeNone}
+use Rattle.auth_store_machine.specs.Machine.{Machine, Power, State, closed, live, failed, doubtful, Request, ask_open}
+use Rattle.auth_store_machine.specs.Machine.{ask_commit, ask_get, ask_root, ask_commits, ask_floor, ask_len}
+use Rattle.auth_store_machine.specs.Machine.{ask_prune, ask_proof, ask_close, ask_crash, ask_config, ask_cut, Answer}
+use Rattle.auth_store_machine.specs.Machine.{Proved, proof_of, told_proof, value, root_is, commits_are, floor_is}
+use Rattle.auth_store_machine.specs.Machine.{len_is, pruned_to, has_closed, has_crashed, is_set, refused}
+use Rattle.auth_store_machine.specs.Machine.{not_open, still_open, IsStep, IsRun, IsSpent, Passes, turned, AskNoCrash}
+use Rattle.auth_store_machine.specs.Machine.{acknowledges, AcknowledgeNone}
 
 plain : {A : Type 0} (answer said : Answer) → acknowledges answer ≡ true → answer ≡ said → acknowledges said ≡ false → A
 plain answer said ack is none = let bad : true ≡ false = sym ack ∙ (ap acknowledges is ∙ none) in absurd (cc)

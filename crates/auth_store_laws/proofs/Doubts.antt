@@ -2,11 +2,11 @@
 use Rattle.std.proofs.Common.{◌≡◌, ℕ, List, [], ◌∷◌, ◌++◌, Some, None, refl, sym, subst, ◌∙◌, ap, ⊎_elim, append_assoc}
 use Rattle.std.proofs.lemmas.List.{append-nil}
 use Rattle.auth_store_parts.specs.History.{History, Commit, latest_map, log_of, appended}
-use Rattle.auth_store_session.specs.Machine.{Machine, Power, State, closed, live, failed, doubtful, Request, ask_open}
-use Rattle.auth_store_session.specs.Machine.{ask_commit, ask_get, ask_root, ask_commits, ask_floor, ask_len}
-use Rattle.auth_store_session.specs.Machine.{ask_prune, ask_proof, ask_close, ask_crash, ask_config, ask_cut, Answer}
-use Rattle.auth_store_session.specs.Machine.{IsStep, IsStepInDoubt, IsStepLive, IsStepFailed, IsRunInDoubt, in_doubt}
-use Rattle.auth_store_session.specs.Machine.{kept_history, Begins, commit_of}
+use Rattle.auth_store_machine.specs.Machine.{Machine, Power, State, closed, live, failed, doubtful, Request, ask_open}
+use Rattle.auth_store_machine.specs.Machine.{ask_commit, ask_get, ask_root, ask_commits, ask_floor, ask_len}
+use Rattle.auth_store_machine.specs.Machine.{ask_prune, ask_proof, ask_close, ask_crash, ask_config, ask_cut, Answer}
+use Rattle.auth_store_machine.specs.Machine.{IsStep, IsStepInDoubt, IsStepLive, IsStepFailed, IsRunInDoubt, in_doubt}
+use Rattle.auth_store_machine.specs.Machine.{kept_history, Begins, commit_of}
 
 -- a log begins itself
 begins_same : (history : History) → Begins history history

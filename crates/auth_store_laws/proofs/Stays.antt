@@ -1,11 +1,11 @@
 -- What has to stay of a history does, where no opening is by chance.
 use Rattle.std.proofs.Common.{◌≡◌, ℕ, List, [], ◌∷◌, ◌++◌, Option, Some, None, refl, sym, subst, ◌∙◌, ap, ⊎_elim, append_assoc}
 use Rattle.auth_store_parts.specs.History.{History, Commit}
-use Rattle.auth_store_session.specs.Machine.{Machine, Power, State, closed, live, failed, doubtful, Request, ask_open}
-use Rattle.auth_store_session.specs.Machine.{ask_commit, ask_get, ask_root, ask_commits, ask_floor, ask_len}
-use Rattle.auth_store_session.specs.Machine.{ask_prune, ask_proof, ask_close, ask_crash, ask_config, ask_cut, Answer}
-use Rattle.auth_store_session.specs.Machine.{IsStep, IsStepClosed, IsStepLive, IsStepFailed, IsShownOf, IsRun}
-use Rattle.auth_store_session.specs.Machine.{IsCertain, GoesOn, kept_history, commit_of}
+use Rattle.auth_store_machine.specs.Machine.{Machine, Power, State, closed, live, failed, doubtful, Request, ask_open}
+use Rattle.auth_store_machine.specs.Machine.{ask_commit, ask_get, ask_root, ask_commits, ask_floor, ask_len}
+use Rattle.auth_store_machine.specs.Machine.{ask_prune, ask_proof, ask_close, ask_crash, ask_config, ask_cut, Answer}
+use Rattle.auth_store_machine.specs.Machine.{IsStep, IsStepClosed, IsStepLive, IsStepFailed, IsShownOf, IsRun}
+use Rattle.auth_store_machine.specs.Machine.{IsCertain, GoesOn, kept_history, commit_of}
 
 goes_on_trans : (one other last : History) → GoesOn one other → GoesOn other last → GoesOn one last
 goes_on_trans one other last (more, is) (rest, ends) =

@@ -6,12 +6,12 @@ use Rattle.auth_store_parts.specs.History.{History, activity_bits, log_of}
 use Rattle.auth_store_client.specs.Proving.{honest_operation, honest_range_bytes, honest_slice_bytes}
 use Rattle.auth_store_proving.specs.Proving.{answer_of_found, between, is_before_chunks, range_refusal, unless_refused}
 use Rattle.auth_store_proving.specs.declared.error.Unprovable.TheVariants.{EmptyRange, OutOfRange, Pruned, Inactive}
-use Rattle.auth_store_session.specs.Machine.{Machine, Power, State, closed, live, failed, doubtful, Request, ask_open}
-use Rattle.auth_store_session.specs.Machine.{ask_commit, ask_get, ask_root, ask_commits, ask_floor, ask_len}
-use Rattle.auth_store_session.specs.Machine.{ask_prune, ask_proof, ask_close, ask_crash, ask_config, ask_cut, Answer}
-use Rattle.auth_store_session.specs.Machine.{Question, of_key, of_operation, of_range, of_slice, operation_is}
-use Rattle.auth_store_session.specs.Machine.{range_is, slice_is, as_proved, proof_of, told_proof, IsStepLive}
-use Rattle.auth_store_session.specs.Machine.{AsksNoPrune, IsBehind, kept_history}
+use Rattle.auth_store_machine.specs.Machine.{Machine, Power, State, closed, live, failed, doubtful, Request, ask_open}
+use Rattle.auth_store_machine.specs.Machine.{ask_commit, ask_get, ask_root, ask_commits, ask_floor, ask_len}
+use Rattle.auth_store_machine.specs.Machine.{ask_prune, ask_proof, ask_close, ask_crash, ask_config, ask_cut, Answer}
+use Rattle.auth_store_machine.specs.Machine.{Question, of_key, of_operation, of_range, of_slice, operation_is}
+use Rattle.auth_store_machine.specs.Machine.{range_is, slice_is, as_proved, proof_of, told_proof, IsStepLive}
+use Rattle.auth_store_machine.specs.Machine.{AsksNoPrune, IsBehind, kept_history}
 
 -- a state of which another number of chunks is pruned, where it is live
 abbrev pub with_pruned : ℕ → State → State

@@ -5,13 +5,13 @@ use Rattle.auth_store_parts.specs.History.{History}
 use Rattle.auth_store_client.specs.States.{root_of_history}
 use Rattle.auth_store_proving.specs.declared.error.Unprovable.{Unprovable as NoProof}
 use Rattle.auth_store_log.specs.Records.{Format}
-use Rattle.auth_store_session.specs.Machine.{Machine, Power, State, closed, live, failed, doubtful, Request, ask_open}
-use Rattle.auth_store_session.specs.Machine.{ask_commit, ask_get, ask_root, ask_commits, ask_floor, ask_len}
-use Rattle.auth_store_session.specs.Machine.{ask_prune, ask_proof, ask_close, ask_crash, ask_config, ask_cut, Answer}
-use Rattle.auth_store_session.specs.Machine.{Proved, proof_of, told_proof, opened, committed, value, root_is}
-use Rattle.auth_store_session.specs.Machine.{commits_are, floor_is, len_is, pruned_to, has_closed, has_crashed}
-use Rattle.auth_store_session.specs.Machine.{is_set, refused, not_open, still_open, IsStep, IsRunSeen, commit_of}
-use Rattle.auth_store_session.specs.Sound.{IsSoundIn, IsSoundState, HasSoundStates, TellsRootOf, TellsRoots}
+use Rattle.auth_store_machine.specs.Machine.{Machine, Power, State, closed, live, failed, doubtful, Request, ask_open}
+use Rattle.auth_store_machine.specs.Machine.{ask_commit, ask_get, ask_root, ask_commits, ask_floor, ask_len}
+use Rattle.auth_store_machine.specs.Machine.{ask_prune, ask_proof, ask_close, ask_crash, ask_config, ask_cut, Answer}
+use Rattle.auth_store_machine.specs.Machine.{Proved, proof_of, told_proof, opened, committed, value, root_is}
+use Rattle.auth_store_machine.specs.Machine.{commits_are, floor_is, len_is, pruned_to, has_closed, has_crashed}
+use Rattle.auth_store_machine.specs.Machine.{is_set, refused, not_open, still_open, IsStep, IsRunSeen, commit_of}
+use Rattle.auth_store_machine.specs.Sound.{IsSoundIn, IsSoundState, HasSoundStates, TellsRootOf, TellsRoots}
 
 module _ (m : Machine) (format : Format) where
   -- where the state after it is sound, an answer tells a root so

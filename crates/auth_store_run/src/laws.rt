@@ -5,9 +5,9 @@ ghost use Rattle.auth_store_parts.specs.History.{History};
 ghost use Rattle.auth_store_client.specs.Claims.{Claim, terms};
 ghost use Rattle.auth_store_client.specs.Soundness.{IsProved, IsTrueOrCollides};
 ghost use Rattle.auth_store_log.specs.Records.{Format, format_of};
-ghost use Rattle.auth_store_session.specs.Machine.{Machine, Power, State, live, Request, Answer, committed, root_is};
-ghost use Rattle.auth_store_session.specs.Machine.{machine, IsRunSeen};
-ghost use Rattle.auth_store_session.specs.Sound.{HasSoundStates, TellsRootOf, TellsRoots};
+ghost use Rattle.auth_store_machine.specs.Machine.{Machine, Power, State, live, Request, Answer, committed, root_is};
+ghost use Rattle.auth_store_machine.specs.Machine.{machine, IsRunSeen};
+ghost use Rattle.auth_store_machine.specs.Sound.{HasSoundStates, TellsRootOf, TellsRoots};
 
 use merkle_forest::{Graftable, HashFunction, PendingOf};
 use state_ops::{FixedKey, FixedValue};

@@ -11,12 +11,12 @@ ghost use Rattle.std.specs.Vec.{vec_len, vec_capacity};
 ghost use Rattle.auth_store_ledger.specs.Store.{IsChunkWidth};
 ghost use Rattle.auth_store_run.specs.Room.{HasRoom};
 ghost use Rattle.auth_store_log.specs.Records.{format_of};
-ghost use Rattle.auth_store_session.specs.Machine.{machine, AreAnswersTo};
+ghost use Rattle.auth_store_machine.specs.Machine.{machine, AreAnswersTo};
 ghost use Rattle.paged_blob_parts.specs.Moments.{Grows};
 ghost use Rattle.auth_store_session.specs.MachineCode.{requests_of, meanings_of, config_after_all};
-ghost use Rattle.auth_store_session.specs.Standing.{Runs, RunsInDoubt, HasRunToRest, closed_at};
-ghost use Rattle.auth_store_session.specs.Standing.{calls_in, config_in, page_size_in};
-ghost use Rattle.auth_store_session.specs.Stores.{IsCache};
+ghost use Rattle.auth_store_machine.specs.Standing.{Runs, RunsInDoubt, HasRunToRest, closed_at};
+ghost use Rattle.auth_store_machine.specs.Standing.{calls_in, config_in, page_size_in};
+ghost use Rattle.auth_store_machine.specs.Stores.{IsCache};
 
 pub mod laws;
 

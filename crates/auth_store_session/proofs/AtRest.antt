@@ -5,10 +5,10 @@ use Rattle.paged_blob_parts.specs.Caches.{Cache}
 use Rattle.auth_store_device.specs.Devices.{DeviceState, after_asking}
 use Rattle.auth_store_device.specs.Logs.{HasOwnHeader}
 use Rattle.auth_store_log.specs.Records.{Format}
-use Rattle.auth_store_session.specs.Machine.{Machine, Request, Answer, ask_crash, ask_config, ask_cut, has_crashed}
-use Rattle.auth_store_session.specs.Machine.{is_set, not_open, asked_to_cut, openings_in, Leaves}
-use Rattle.auth_store_session.specs.Standing.{Steps, closed_at, power_of}
-use Rattle.auth_store_session.proofs.Powers.{passes_crash, is_crash, leaves_same, passes_asking, stays}
+use Rattle.auth_store_machine.specs.Machine.{Machine, Request, Answer, ask_crash, ask_config, ask_cut, has_crashed}
+use Rattle.auth_store_machine.specs.Machine.{is_set, not_open, asked_to_cut, openings_in, Leaves}
+use Rattle.auth_store_machine.specs.Standing.{Steps, closed_at, power_of}
+use Rattle.auth_store_machine.proofs.Powers.{passes_crash, is_crash, leaves_same, passes_asking, stays}
 use Rattle.auth_store_session.proofs.Rests.{rests_in, header_same, IsRefusedClosed}
 
 -- it crashes

@@ -14,24 +14,24 @@ use Rattle.auth_store_device.specs.Devices.{DeviceState, is_cut}
 use Rattle.std.specs.Prelude.{IsFalse, IfSome}
 use Rattle.fault_storage.specs.Stores.{Store}
 use Rattle.auth_store_device.specs.Logs.{HasOwnHeader}
-use Rattle.auth_store_session.specs.declared.error.StoreError.{StoreError}
-use Rattle.auth_store_session.specs.declared.error.StoreError.TheVariants.{Fault, PowerCut, NumberEnded, Memory}
-use Rattle.auth_store_session.specs.declared.error.StoreError.TheVariants.{Corrupt, Failed, PastFloor, Inactive}
-use Rattle.auth_store_session.specs.declared.error.StoreError.TheVariants.{OutOfRange, Pruned, EmptyRange, Header}
-use Rattle.auth_store_session.specs.Machine as machine
-use Rattle.auth_store_session.specs.Machine.{Machine, Power, State, closed, live, failed, doubtful, Request, ask_open}
-use Rattle.auth_store_session.specs.Machine.{Answer, refused, at_rest, IsShownOf, IsStepClosed, IsStepInDoubt}
-use Rattle.auth_store_session.specs.Machine.{IsAnswerTo, IsSaid, is_open_after, MayRefuseOpening}
+use Rattle.auth_store_machine.specs.declared.error.StoreError.{StoreError}
+use Rattle.auth_store_machine.specs.declared.error.StoreError.TheVariants.{Fault, PowerCut, NumberEnded, Memory}
+use Rattle.auth_store_machine.specs.declared.error.StoreError.TheVariants.{Corrupt, Failed, PastFloor, Inactive}
+use Rattle.auth_store_machine.specs.declared.error.StoreError.TheVariants.{OutOfRange, Pruned, EmptyRange, Header}
+use Rattle.auth_store_machine.specs.Machine as machine
+use Rattle.auth_store_machine.specs.Machine.{Machine, Power, State, closed, live, failed, doubtful, Request, ask_open}
+use Rattle.auth_store_machine.specs.Machine.{Answer, refused, at_rest, IsShownOf, IsStepClosed, IsStepInDoubt}
+use Rattle.auth_store_machine.specs.Machine.{IsAnswerTo, IsSaid, is_open_after, MayRefuseOpening}
 use Rattle.auth_store_session.specs.MachineCode.{request_of, config_after, config_after_all, IsLeftBy}
 use Rattle.auth_store_session.specs.declared.session.Step.{Step}
 use Rattle.auth_store_session.specs.declared.session.Step.TheVariants as steps
 use Rattle.fault_storage_parts.specs.declared.config.Config.{Config}
-use Rattle.auth_store_session.specs.Standing.{StandsFor, Moves, Steps, StepsOpen, SessionState, IsSession, IsAtRest}
-use Rattle.auth_store_session.specs.Standing.{IsLeftOpen, calls_in, closed_at, page_size_in, IsOpenedThrough}
-use Rattle.auth_store_session.specs.Standing.{IsShownThrough, IsRecovered, IsOpenError, power_of, shown_of}
-use Rattle.auth_store_session.specs.Stores.{StoreState, IsCache, IsLiveAt, IsNoHistory, IsWritten, OpeningsKeep, OpeningsShow}
-use Rattle.auth_store_session.proofs.Kept.{begun_same, some_bytes, opened_keeps, opening_begins}
-use Rattle.auth_store_session.proofs.Opens.{fewer, opening_shows, still_shows, grown, behind}
+use Rattle.auth_store_machine.specs.Standing.{StandsFor, Moves, Steps, StepsOpen, SessionState, IsSession, IsAtRest}
+use Rattle.auth_store_machine.specs.Standing.{IsLeftOpen, calls_in, closed_at, page_size_in, IsOpenedThrough}
+use Rattle.auth_store_machine.specs.Standing.{IsShownThrough, IsRecovered, IsOpenError, power_of, shown_of}
+use Rattle.auth_store_machine.specs.Stores.{StoreState, IsCache, IsLiveAt, IsNoHistory, IsWritten, OpeningsKeep, OpeningsShow}
+use Rattle.auth_store_machine.proofs.Kept.{begun_same, some_bytes, opened_keeps, opening_begins}
+use Rattle.auth_store_machine.proofs.Opens.{fewer, opening_shows, still_shows, grown, behind}
 
 -- what a law says of an opening
 abbrev pub ShowsWhatStood : Type 0

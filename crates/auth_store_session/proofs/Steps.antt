@@ -8,22 +8,22 @@ use Rattle.auth_store_parts.specs.Map.{value_at}
 use Rattle.auth_store_log.specs.Records.{Format}
 use Rattle.auth_store_ledger.specs.Store.{commit_after, floor_of, IsPrunedUpTo}
 use Rattle.auth_store_proving.specs.declared.error.Unprovable.{Unprovable as NoProof}
-use Rattle.auth_store_session.specs.declared.error.StoreError.{StoreError}
-use Rattle.auth_store_session.specs.declared.error.StoreError.TheVariants.{Fault, PowerCut, NumberEnded, Memory}
-use Rattle.auth_store_session.specs.declared.error.StoreError.TheVariants.{Corrupt, Failed, PastFloor, Inactive}
-use Rattle.auth_store_session.specs.declared.error.StoreError.TheVariants.{OutOfRange, Pruned, EmptyRange, Header}
-use Rattle.auth_store_session.specs.Machine.{Machine, Power, State, closed, live, failed, doubtful, Request, ask_open}
-use Rattle.auth_store_session.specs.Machine.{ask_crash, ask_commit, ask_get, ask_prune, ask_proof, Answer, still_open}
-use Rattle.auth_store_session.specs.Machine.{committed, value, pruned_to, proof, refused, IsStep, IsStepLive}
-use Rattle.auth_store_session.specs.Machine.{IsStepFailed, MayRefuseRead, commit_of, Question, Proved, proof_of}
-use Rattle.auth_store_session.specs.Machine.{told_proof}
+use Rattle.auth_store_machine.specs.declared.error.StoreError.{StoreError}
+use Rattle.auth_store_machine.specs.declared.error.StoreError.TheVariants.{Fault, PowerCut, NumberEnded, Memory}
+use Rattle.auth_store_machine.specs.declared.error.StoreError.TheVariants.{Corrupt, Failed, PastFloor, Inactive}
+use Rattle.auth_store_machine.specs.declared.error.StoreError.TheVariants.{OutOfRange, Pruned, EmptyRange, Header}
+use Rattle.auth_store_machine.specs.Machine.{Machine, Power, State, closed, live, failed, doubtful, Request, ask_open}
+use Rattle.auth_store_machine.specs.Machine.{ask_crash, ask_commit, ask_get, ask_prune, ask_proof, Answer, still_open}
+use Rattle.auth_store_machine.specs.Machine.{committed, value, pruned_to, proof, refused, IsStep, IsStepLive}
+use Rattle.auth_store_machine.specs.Machine.{IsStepFailed, MayRefuseRead, commit_of, Question, Proved, proof_of}
+use Rattle.auth_store_machine.specs.Machine.{told_proof}
 use Rattle.auth_store_session.specs.MachineCode.{answer_of, request_of}
 use Rattle.auth_store_session.specs.declared.session.Step.{Step}
 use Rattle.auth_store_session.specs.declared.session.Step.TheVariants as steps
 use Rattle.auth_store_session.specs.declared.sizes.Sizes.{Sizes}
-use Rattle.auth_store_session.proofs.Powers.{leaves_none, stays}
-use Rattle.auth_store_session.specs.Standing.{AnswersProof, Commits, IsLeftOpen, StandsFor, MovesOpen, StepsOpen, power_of, result_of}
-use Rattle.auth_store_session.specs.Stores.{LiveState, StoreState, IsLiveAt, OpeningsShow, with_pruned}
+use Rattle.auth_store_machine.proofs.Powers.{leaves_none, stays}
+use Rattle.auth_store_machine.specs.Standing.{AnswersProof, Commits, IsLeftOpen, StandsFor, MovesOpen, StepsOpen, power_of, result_of}
+use Rattle.auth_store_machine.specs.Stores.{LiveState, StoreState, IsLiveAt, OpeningsShow, with_pruned}
 
 -- what a failed store answers to a request
 abbrev pub IsRefusedOnceFailed : Request → Type 0

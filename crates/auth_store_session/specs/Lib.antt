@@ -1,9 +1,1 @@
-pub mod Refusals
-pub mod Stores
-pub mod Reads
-pub mod ReadsOn
-pub mod Commits
-pub mod Machine
-pub mod Sound
-pub mod Standing
 pub mod MachineCode

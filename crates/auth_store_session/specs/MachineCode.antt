@@ -4,17 +4,17 @@ use Rattle.fault_storage_parts.specs.declared.config.Config as settings
 use Rattle.auth_store_device.specs.Devices.{after_asking}
 use Rattle.auth_store_parts.specs.Batch.{meanings}
 use Rattle.auth_store_proving.specs.ProvingCode.{key_answer_of, operation_answer_of, range_answer_of, slice_answer_of}
-use Rattle.auth_store_session.specs.declared.error.StoreError.{StoreError}
+use Rattle.auth_store_machine.specs.declared.error.StoreError.{StoreError}
 use Rattle.auth_store_session.specs.declared.session.Step.{Step}
 use Rattle.auth_store_session.specs.declared.session.Step.TheVariants.{Open, Commit, Get, Root, Commits, Floor, Len}
 use Rattle.auth_store_session.specs.declared.session.Step.TheVariants.{Prune, ProveKey, ProveOperation, ProveRange}
 use Rattle.auth_store_session.specs.declared.session.Step.TheVariants.{ProveLog, Close, Crash, Config, CutAfter}
 use Rattle.auth_store_session.specs.declared.session.Answer.{Answer}
 use Rattle.auth_store_session.specs.declared.session.Answer.TheVariants as answers
-use Rattle.auth_store_session.specs.Machine.{Request, ask_open, ask_commit, ask_get, ask_root, ask_commits, ask_floor}
-use Rattle.auth_store_session.specs.Machine.{ask_len, ask_prune, ask_proof, ask_close, ask_crash, ask_config, ask_cut}
-use Rattle.auth_store_session.specs.Machine.{of_key, of_operation, of_range, of_slice}
-use Rattle.auth_store_session.specs.Machine as machine
+use Rattle.auth_store_machine.specs.Machine.{Request, ask_open, ask_commit, ask_get, ask_root, ask_commits, ask_floor}
+use Rattle.auth_store_machine.specs.Machine.{ask_len, ask_prune, ask_proof, ask_close, ask_crash, ask_config, ask_cut}
+use Rattle.auth_store_machine.specs.Machine.{of_key, of_operation, of_range, of_slice}
+use Rattle.auth_store_machine.specs.Machine as machine
 
 -- what a step asks, given how keys and values are encoded
 abbrev pub request_of : {K V : Type 0} → (K → List ℕ) → (V → List ℕ) → Step K V → Request

@@ -3,17 +3,17 @@
 ghost use Rattle.std.specs.Prelude.{◌≡◌, ◌+◌, Option, Some, option_map, true};
 ghost use Rattle.paged_blob_parts.specs.Moments.{Grows};
 ghost use Rattle.auth_store_log.specs.Records.{format_of};
-ghost use Rattle.auth_store_session.specs.Machine.{machine, IsAnswerTo};
+ghost use Rattle.auth_store_machine.specs.Machine.{machine, IsAnswerTo};
 ghost use Rattle.auth_store_parts.specs.Batch as words;
-ghost use Rattle.auth_store_session.specs.Machine.{ask_config, ask_cut, ask_commit};
-ghost use Rattle.auth_store_session.specs.Machine.{ask_get, ask_root, ask_commits, ask_floor, ask_len, ask_prune};
-ghost use Rattle.auth_store_session.specs.Machine.{ask_proof};
-ghost use Rattle.auth_store_session.specs.Machine.{IsSaid, is_root_of_commit, is_value, is_root, is_commits, is_floor};
-ghost use Rattle.auth_store_session.specs.Machine.{is_len, is_pruned, is_proof, is_set, of_key, of_operation, of_range};
-ghost use Rattle.auth_store_session.specs.Machine.{of_slice};
+ghost use Rattle.auth_store_machine.specs.Machine.{ask_config, ask_cut, ask_commit};
+ghost use Rattle.auth_store_machine.specs.Machine.{ask_get, ask_root, ask_commits, ask_floor, ask_len, ask_prune};
+ghost use Rattle.auth_store_machine.specs.Machine.{ask_proof};
+ghost use Rattle.auth_store_machine.specs.Machine.{IsSaid, is_root_of_commit, is_value, is_root, is_commits, is_floor};
+ghost use Rattle.auth_store_machine.specs.Machine.{is_len, is_pruned, is_proof, is_set, of_key, of_operation, of_range};
+ghost use Rattle.auth_store_machine.specs.Machine.{of_slice};
 ghost use Rattle.auth_store_device.specs.Devices.{after_asking};
 ghost use Rattle.auth_store_session.specs.MachineCode.{meaning_of, request_of, config_after, IsLeftBy};
-ghost use Rattle.auth_store_session.specs.Standing.{IsLeftOpen, StepsOpen};
+ghost use Rattle.auth_store_machine.specs.Standing.{IsLeftOpen, StepsOpen};
 
 use crate::session::{Answer, Step};
 use crate::store::Store;

@@ -8,9 +8,9 @@ ghost use Rattle.paged_blob_parts.specs.Images.{IsImage};
 ghost use Rattle.paged_blob_parts.specs.Moments.{Grows};
 ghost use Rattle.auth_store_parts.specs.History.{History, Commit};
 ghost use Rattle.auth_store_log.specs.Records.{Format, begun, history_bytes, recovered_log};
-ghost use Rattle.auth_store_session.specs.Machine.{IsShownOf};
-ghost use Rattle.auth_store_session.specs.Standing.{IsOpenedThrough};
-ghost use Rattle.auth_store_session.specs.Stores.{IsWritten, OpeningsShow};
+ghost use Rattle.auth_store_machine.specs.Machine.{IsShownOf};
+ghost use Rattle.auth_store_machine.specs.Standing.{IsOpenedThrough};
+ghost use Rattle.auth_store_machine.specs.Stores.{IsWritten, OpeningsShow};
 
 use auth_store_log::laws::one_history_a_log;
 

@@ -3,17 +3,13 @@
 #![tactic(auto)]
 
 mod asking;
-pub mod error;
 pub mod laws;
-pub mod live;
-mod proving;
-mod reader;
 pub mod session;
 pub mod sizes;
 pub mod store;
 
-pub use error::StoreError;
-pub use live::{Live, commit_live, get_live, recover_live};
+pub use auth_store_live::{Live, commit_live, get_live, live, recover_live};
+pub use auth_store_machine::{StoreError, error};
 pub use session::{Answer, Session, Step};
 pub use sizes::Sizes;
 pub use store::{NotOpened, Store};

@@ -16,22 +16,22 @@ ghost use Rattle.paged_blob_parts.specs.Caches.{Cache};
 ghost use Rattle.paged_blob_parts.specs.Moments.{Grows};
 ghost use Rattle.auth_store_ledger.specs.Store.{IsChunkWidth};
 ghost use Rattle.auth_store_log.specs.Records.{Format, format_of};
-ghost use Rattle.auth_store_session.specs.Machine.{machine, Machine, State, at_rest, IsAnswerTo, is_open_after};
-ghost use Rattle.auth_store_session.specs.Machine.{ask_open, ask_close};
+ghost use Rattle.auth_store_machine.specs.Machine.{machine, Machine, State, at_rest, IsAnswerTo, is_open_after};
+ghost use Rattle.auth_store_machine.specs.Machine.{ask_open, ask_close};
 ghost use Rattle.auth_store_session.specs.MachineCode.{meaning_of, request_of, config_after, IsLeftBy};
-ghost use Rattle.auth_store_session.specs.Sound.{IsSoundState};
-ghost use Rattle.auth_store_session.specs.Standing.{IsAtRest, IsLeftOpen, StandsFor, Steps, closed_at};
+ghost use Rattle.auth_store_machine.specs.Sound.{IsSoundState};
+ghost use Rattle.auth_store_machine.specs.Standing.{IsAtRest, IsLeftOpen, StandsFor, Steps, closed_at};
 ghost use Rattle.auth_store_session.specs.declared.sizes.Sizes as buffers;
-ghost use Rattle.auth_store_session.specs.Standing.{calls_in, config_in, left_in, page_size_in, power_in, power_of};
-ghost use Rattle.auth_store_session.specs.Stores.{HasBuffer, IsCache};
+ghost use Rattle.auth_store_machine.specs.Standing.{calls_in, config_in, left_in, page_size_in, power_in, power_of};
+ghost use Rattle.auth_store_machine.specs.Stores.{HasBuffer, IsCache};
 
 use crate::asking::step_open;
-use crate::error::StoreError;
 use crate::laws::an_opening_shows_what_stood;
 use crate::sizes::Sizes;
 use crate::store::{NotOpened, Store};
 use auth_store_device::Device;
 use auth_store_ledger::Batch;
+use auth_store_machine::StoreError;
 use auth_store_proving::{KeyProof, ProvedOperation, ProvedRange, ProvedSlice};
 use fault_storage::Config;
 use merkle_forest::{Family, Graftable, HashFunction, PendingOf};
@@ -209,7 +209,7 @@ pub struct Session<
 impl<R: Rng, F: Graftable, H: HashFunction, K: FixedKey, V: FixedValue, const N: usize> Model
     for Session<R, F, H, K, V, N> {
     ghost use Rattle.auth_store_ledger.specs.Store.{IsChunkWidth};
-    ghost use Rattle.auth_store_session.specs.Standing.{SessionState, IsSession};
+    ghost use Rattle.auth_store_machine.specs.Standing.{SessionState, IsSession};
 
     ghost Value = { SessionState R };
 

@@ -16,23 +16,23 @@ ghost use Rattle.auth_store_proving.specs.ProvingCode.{slice_answer_of};
 ghost use Rattle.auth_store_ledger.specs.Store.{IsChunkWidth, IsPrunedUpTo, floor_of, root_of_history};
 ghost use Rattle.auth_store_ledger.specs.Store.{setting_of_width};
 ghost use Rattle.auth_store_log.specs.Records.{format_of};
-ghost use Rattle.auth_store_session.specs.Machine.{machine, proof_of, refusal_of, Leaves, MayRefuseRead, State};
-ghost use Rattle.auth_store_session.specs.Machine.{of_operation, of_range, of_slice, operation_is, range_is, slice_is};
-ghost use Rattle.auth_store_session.specs.Reads.{IsLiveOn, live_on};
-ghost use Rattle.auth_store_session.specs.Sound.{IsSoundState};
-ghost use Rattle.auth_store_session.specs.Standing.{AnswersProof, Commits, IsOpenError, IsOpenedThrough, IsRecovered};
-ghost use Rattle.auth_store_session.specs.Standing.{IsShownThrough, StandsFor};
-ghost use Rattle.auth_store_session.specs.Standing.{power_of, result_of, shown_of};
-ghost use Rattle.auth_store_session.specs.Stores.{HasBuffer, IsCache, IsLiveAt, OpeningsShow, with_pruned};
+ghost use Rattle.auth_store_machine.specs.Machine.{machine, proof_of, refusal_of, Leaves, MayRefuseRead, State};
+ghost use Rattle.auth_store_machine.specs.Machine.{of_operation, of_range, of_slice, operation_is, range_is, slice_is};
+ghost use Rattle.auth_store_machine.specs.Reads.{IsLiveOn, live_on};
+ghost use Rattle.auth_store_machine.specs.Sound.{IsSoundState};
+ghost use Rattle.auth_store_machine.specs.Standing.{AnswersProof, Commits, IsOpenError, IsOpenedThrough, IsRecovered};
+ghost use Rattle.auth_store_machine.specs.Standing.{IsShownThrough, StandsFor};
+ghost use Rattle.auth_store_machine.specs.Standing.{power_of, result_of, shown_of};
+ghost use Rattle.auth_store_machine.specs.Stores.{HasBuffer, IsCache, IsLiveAt, OpeningsShow, with_pruned};
 
-use crate::error::StoreError;
-use crate::live::{
-    Live, commit_live, get_live, prove_key_live, prove_log_live, prove_operation_live,
-    prove_range_live, prune_live, recover_live,
-};
 use crate::sizes::Sizes;
 use auth_store_device::Device;
 use auth_store_ledger::Batch;
+use auth_store_live::live::{
+    Live, commit_live, get_live, prove_key_live, prove_log_live, prove_operation_live,
+    prove_range_live, prune_live, recover_live,
+};
+use auth_store_machine::StoreError;
 use auth_store_proving::{KeyProof, ProvedOperation, ProvedRange, ProvedSlice};
 use fault_storage::Config;
 use merkle_forest::{Graftable, HashFunction, PendingOf};
@@ -67,8 +67,8 @@ impl<R: Rng, F: Graftable, H: HashFunction, K: FixedKey, V: FixedValue, const N:
     ghost use Rattle.std.specs.Prelude.{◌≡◌, IfSome, is_some, true};
     ghost use Rattle.auth_store_ledger.specs.Store.{IsChunkWidth, setting_of_width};
     ghost use Rattle.auth_store_log.specs.Records.{format_of};
-    ghost use Rattle.auth_store_session.specs.Reads.{IsLiveOn, seen_on};
-    ghost use Rattle.auth_store_session.specs.Stores.{IsCache, StoreState};
+    ghost use Rattle.auth_store_machine.specs.Reads.{IsLiveOn, seen_on};
+    ghost use Rattle.auth_store_machine.specs.Stores.{IsCache, StoreState};
 
     ghost Value = { StoreState R };
 

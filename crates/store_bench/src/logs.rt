@@ -1,7 +1,7 @@
 //! Bytes that are appended to a log as a commit appends them: what a commit costs beside them is its own work.
 
 ghost use Rattle.std.specs.Prelude.{◌≡◌, None};
-ghost use Rattle.auth_store_session.specs.Stores.{IsCache};
+ghost use Rattle.auth_store_machine.specs.Stores.{IsCache};
 ghost use Rattle.paged_blob_parts.specs.Writers.{IsWriter};
 ghost use Rattle.paged_format.specs.Footers.{content_size};
 

@@ -2,7 +2,7 @@
 //! refused.
 
 ghost use Rattle.std.specs.Prelude.{◌≡◌, None, IfOk};
-ghost use Rattle.auth_store_session.specs.Stores.{IsCache};
+ghost use Rattle.auth_store_machine.specs.Stores.{IsCache};
 
 use crate::plain_hash::PlainHash;
 use auth_store_device::Device;

@@ -2,7 +2,7 @@
 
 ghost use Rattle.std.specs.Prelude.{◌≡◌, None};
 ghost use Rattle.auth_store_ledger.specs.Store.{IsChunkWidth};
-ghost use Rattle.auth_store_session.specs.Stores.{IsCache};
+ghost use Rattle.auth_store_machine.specs.Stores.{IsCache};
 
 use auth_store_device::Device;
 use auth_store_run::{Ran, run, run_session};

@@ -13,7 +13,7 @@ ghost use Rattle.std.specs.Prelude.{◌≡◌, ◌∷◌, [], None, Some};
 ghost use Rattle.std.specs.Prelude.{IfOk, IfErr, Option, List, ℕ};
 ghost use Rattle.auth_store_client.specs.ClaimsCode.{claim_of};
 ghost use Rattle.auth_store_proving.specs.ProvingCode.{key_answer_of};
-ghost use Rattle.auth_store_session.specs.Machine.{proof, key_is};
+ghost use Rattle.auth_store_machine.specs.Machine.{proof, key_is};
 ghost use Rattle.auth_store_session.specs.MachineCode.{meaning_of};
 ghost use Rattle.auth_store.specs.ScriptLines.{proof_in, Exchange, bytes_of, value_of, new_progress};
 ghost use Rattle.auth_store.specs.ScriptRun.{IsRunOf};

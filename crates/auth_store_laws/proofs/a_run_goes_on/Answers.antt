@@ -1,4 +1,4 @@
-use Rattle.auth_store_session.proofs.Runs.{one_more}
+use Rattle.auth_store_machine.proofs.Runs.{one_more}
 use Rattle.auth_store_laws.proofs.a_run_goes_on.Goals as goal
 
 pub returns : goal.returns

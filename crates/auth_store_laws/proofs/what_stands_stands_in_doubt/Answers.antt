@@ -1,4 +1,4 @@
-use Rattle.auth_store_session.proofs.Runs.{stands_in_doubt}
+use Rattle.auth_store_machine.proofs.Runs.{stands_in_doubt}
 use Rattle.auth_store_laws.proofs.what_stands_stands_in_doubt.Goals as goal
 
 pub returns : goal.returns

@@ -1,9 +1,9 @@
 use Rattle.std.proofs.Common.{◌≡◌, Some, subst}
 use Rattle.std.specs.Prelude.{IfErr, IfOk}
 use Rattle.auth_store_log.specs.Records.{format_of}
-use Rattle.auth_store_session.specs.Machine.{machine}
+use Rattle.auth_store_machine.specs.Machine.{machine}
 use Rattle.auth_store_session.specs.MachineCode.{requests_of, meanings_of, config_after_all}
-use Rattle.auth_store_session.specs.Standing.{HasRunToRest, config_in, page_size_in}
+use Rattle.auth_store_machine.specs.Standing.{HasRunToRest, config_in, page_size_in}
 use Rattle.auth_store_run.proofs.run.Goals as goal
 
 pub run_session-requires : goal.run_session-requires

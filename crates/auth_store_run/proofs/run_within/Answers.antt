@@ -1,10 +1,10 @@
 use Rattle.std.proofs.Common.{◌∙◌, sym, subst}
 use Rattle.paged_blob_parts.specs.Moments.{Grows}
 use Rattle.auth_store_log.specs.Records.{Format, format_of}
-use Rattle.auth_store_session.specs.Machine.{Machine, machine}
+use Rattle.auth_store_machine.specs.Machine.{Machine, machine}
 use Rattle.auth_store_session.specs.MachineCode.{requests_of, meanings_of}
-use Rattle.auth_store_session.specs.Standing.{calls_in, page_size_in}
-use Rattle.auth_store_session.proofs.Runs.{runs_to_rest, runs_to_rest_in_doubt}
+use Rattle.auth_store_machine.specs.Standing.{calls_in, page_size_in}
+use Rattle.auth_store_machine.proofs.Runs.{runs_to_rest, runs_to_rest_in_doubt}
 use Rattle.auth_store_run.proofs.run_within.Goals as goal
 
 pub take_all-requires : goal.take_all-requires

@@ -2,11 +2,11 @@ use Rattle.std.proofs.Common.{ap, ◌∙◌, ◌<◌, sym, arith, ℕ}
 use Rattle.std.specs.Vec.{vec_len, vec_capacity}
 use Rattle.std.proofs.lemmas.List.{map-append, nil_from_length}
 use Rattle.auth_store_log.specs.Records.{format_of}
-use Rattle.auth_store_session.specs.Machine.{Machine, machine}
+use Rattle.auth_store_machine.specs.Machine.{Machine, machine}
 use Rattle.auth_store_session.specs.MachineCode.{requests_of, meaning_of, meanings_of, config_after_all}
 use Rattle.auth_store_session.proofs.Rests.{config_taken}
-use Rattle.auth_store_session.proofs.Runs.{taken_none, taken_next, taken_end, taken_end_in_doubt, taken_kinds}
-use Rattle.auth_store_session.specs.Standing.{config_in}
+use Rattle.auth_store_machine.proofs.Runs.{taken_none, taken_next, taken_end, taken_end_in_doubt, taken_kinds}
+use Rattle.auth_store_machine.specs.Standing.{config_in}
 use Rattle.auth_store_run.proofs.take_all.Goals as goal
 
 pub loop-step-init : goal.loop-step-init

@@ -2,10 +2,10 @@ use Rattle.std.proofs.Common.{◌≤◌, ◌+◌, ◌≡◌}
 use Rattle.std.specs.Vec.{vec_len, vec_capacity}
 use Rattle.std.specs.Vec.Iter.{into_iter_items, into_iter_len}
 use Rattle.auth_store_log.specs.Records.{format_of}
-use Rattle.auth_store_session.specs.Machine.{machine}
+use Rattle.auth_store_machine.specs.Machine.{machine}
 use Rattle.auth_store_session.specs.MachineCode.{requests_of, meanings_of, config_after_all}
-use Rattle.auth_store_session.specs.Standing.{page_size_in, config_in}
-use Rattle.auth_store_session.proofs.Runs.{Taken}
+use Rattle.auth_store_machine.specs.Standing.{page_size_in, config_in}
+use Rattle.auth_store_machine.proofs.Runs.{Taken}
 use Rattle.auth_store_run.specs.Room.{HasRoom}
 use Rattle.auth_store_run.proofs.take_all.Given as goal
 

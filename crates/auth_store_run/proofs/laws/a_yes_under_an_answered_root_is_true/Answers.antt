@@ -1,7 +1,7 @@
 use Rattle.std.proofs.Common.{subst, ⊎_elim}
 use Rattle.auth_store_log.specs.Records.{Format, format_of}
-use Rattle.auth_store_session.specs.Machine.{Machine, machine, live}
-use Rattle.auth_store_session.specs.Sound.{TellsRootOf}
+use Rattle.auth_store_machine.specs.Machine.{Machine, machine, live}
+use Rattle.auth_store_machine.specs.Sound.{TellsRootOf}
 use Rattle.auth_store_run.proofs.laws.a_yes_under_an_answered_root_is_true.Goals as goal
 
 pub returns : goal.returns

@@ -1,7 +1,7 @@
 use Rattle.std.proofs.Common.{◌+◌, sym, ap, option_map}
 use Rattle.std.specs.Prelude.{Ok, Err}
 use Rattle.auth_store_log.specs.Records.{format_of}
-use Rattle.auth_store_session.specs.Machine.{machine}
+use Rattle.auth_store_machine.specs.Machine.{machine}
 use Rattle.auth_store_parts.specs.Batch as words
 use Rattle.auth_store_session.proofs.Steps.{commits_in}
 use Rattle.auth_store_session.proofs.asking.commit.Goals as goal

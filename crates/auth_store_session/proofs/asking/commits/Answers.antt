@@ -1,8 +1,8 @@
 use Rattle.std.proofs.Common.{None, ◌+◌, refl, length}
 use Rattle.std.specs.Prelude.{Ok, Err}
 use Rattle.auth_store_log.specs.Records.{format_of}
-use Rattle.auth_store_session.specs.Machine.{machine, ask_commits, commits_are}
-use Rattle.auth_store_session.proofs.Powers.{leaves_none, leaves_failed}
+use Rattle.auth_store_machine.specs.Machine.{machine, ask_commits, commits_are}
+use Rattle.auth_store_machine.proofs.Powers.{leaves_none, leaves_failed}
 use Rattle.auth_store_session.proofs.Steps.{tells_in}
 use Rattle.auth_store_session.proofs.asking.commits.Goals as goal
 

@@ -1,11 +1,11 @@
 use Rattle.std.proofs.Common.{◌≡◌, ◌+◌, refl, ap, ◌∙◌}
 use Rattle.auth_store_log.specs.Records.{format_of}
-use Rattle.auth_store_session.specs.Machine.{machine}
+use Rattle.auth_store_machine.specs.Machine.{machine}
 use Rattle.auth_store_device.specs.Devices.{DeviceState}
-use Rattle.auth_store_session.specs.Machine.{ask_config, is_set}
+use Rattle.auth_store_machine.specs.Machine.{ask_config, is_set}
 use Rattle.auth_store_session.proofs.Steps.{stays_in}
-use Rattle.auth_store_session.specs.Standing.{power_of}
-use Rattle.auth_store_session.proofs.Powers.{leaves_same, same_grows}
+use Rattle.auth_store_machine.specs.Standing.{power_of}
+use Rattle.auth_store_machine.proofs.Powers.{leaves_same, same_grows}
 use Rattle.auth_store_session.proofs.asking.configure.Goals as goal
 
 pub returns-clause-steps : goal.returns-clause-steps

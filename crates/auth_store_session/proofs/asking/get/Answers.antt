@@ -1,8 +1,8 @@
 use Rattle.std.proofs.Common.{◌+◌}
 use Rattle.std.specs.Prelude.{Ok, Err}
 use Rattle.auth_store_log.specs.Records.{format_of}
-use Rattle.auth_store_session.specs.Machine.{machine}
-use Rattle.auth_store_session.proofs.Powers.{same_grows}
+use Rattle.auth_store_machine.specs.Machine.{machine}
+use Rattle.auth_store_machine.proofs.Powers.{same_grows}
 use Rattle.auth_store_session.proofs.Steps.{gets_in}
 use Rattle.auth_store_session.proofs.asking.get.Goals as goal
 

@@ -2,8 +2,8 @@ use Rattle.std.proofs.Common.{None, ◌+◌, refl, length}
 use Rattle.std.specs.Prelude.{Ok, Err}
 use Rattle.auth_store_parts.specs.History.{log_of}
 use Rattle.auth_store_log.specs.Records.{format_of}
-use Rattle.auth_store_session.specs.Machine.{machine, ask_len, len_is}
-use Rattle.auth_store_session.proofs.Powers.{leaves_none, leaves_failed}
+use Rattle.auth_store_machine.specs.Machine.{machine, ask_len, len_is}
+use Rattle.auth_store_machine.proofs.Powers.{leaves_none, leaves_failed}
 use Rattle.auth_store_session.proofs.Steps.{tells_in}
 use Rattle.auth_store_session.proofs.asking.len.Goals as goal
 

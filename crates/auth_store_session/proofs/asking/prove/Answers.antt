@@ -1,10 +1,10 @@
 use Rattle.std.proofs.Common.{ap, sym, ◌+◌}
 use Rattle.std.specs.Prelude.{Ok, Err}
 use Rattle.auth_store_log.specs.Records.{format_of}
-use Rattle.auth_store_session.specs.Machine.{Machine, Question, machine, key_is, of_key, proof_of}
-use Rattle.auth_store_session.specs.Standing.{power_of}
+use Rattle.auth_store_machine.specs.Machine.{Machine, Question, machine, key_is, of_key, proof_of}
+use Rattle.auth_store_machine.specs.Standing.{power_of}
 use Rattle.auth_store_proving.specs.ProvingCode.{key_answer_of}
-use Rattle.auth_store_session.proofs.Powers.{same_grows}
+use Rattle.auth_store_machine.proofs.Powers.{same_grows}
 use Rattle.auth_store_session.proofs.Steps.{proves_in, refused_read}
 use Rattle.auth_store_session.proofs.asking.prove.Goals as goal
 

@@ -1,9 +1,9 @@
 use Rattle.std.proofs.Common.{◌+◌}
 use Rattle.std.specs.Prelude.{Ok, Err}
 use Rattle.auth_store_log.specs.Records.{format_of}
-use Rattle.auth_store_session.specs.Machine.{machine, range_is, of_range}
+use Rattle.auth_store_machine.specs.Machine.{machine, range_is, of_range}
 use Rattle.auth_store_proving.specs.ProvingCode.{range_answer_of}
-use Rattle.auth_store_session.proofs.Powers.{same_grows}
+use Rattle.auth_store_machine.proofs.Powers.{same_grows}
 use Rattle.auth_store_session.proofs.Steps.{proves_in}
 use Rattle.auth_store_session.proofs.asking.prove_range.Goals as goal
 

@@ -1,11 +1,11 @@
 use Rattle.std.proofs.Common.{◌+◌, Some, ap, subst, sym}
 use Rattle.std.specs.Prelude.{Ok, Err}
 use Rattle.auth_store_log.specs.Records.{format_of}
-use Rattle.auth_store_session.specs.Machine.{machine, Leaves}
-use Rattle.auth_store_session.specs.Standing.{power_of}
-use Rattle.auth_store_session.specs.Stores.{StoreState}
+use Rattle.auth_store_machine.specs.Machine.{machine, Leaves}
+use Rattle.auth_store_machine.specs.Standing.{power_of}
+use Rattle.auth_store_machine.specs.Stores.{StoreState}
 use Rattle.auth_store_session.proofs.Steps.{prunes_in}
-use Rattle.auth_store_session.proofs.Powers.{leaves_same, leaves_unpruned, same_grows}
+use Rattle.auth_store_machine.proofs.Powers.{leaves_same, leaves_unpruned, same_grows}
 use Rattle.auth_store_session.proofs.asking.prune.Goals as goal
 
 pub returns-in-Ok-clause-steps : goal.returns-in-Ok-clause-steps

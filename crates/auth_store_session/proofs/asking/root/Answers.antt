@@ -2,9 +2,9 @@ use Rattle.std.proofs.Common.{None, ◌+◌, refl, ap}
 use Rattle.std.specs.Prelude.{Ok, Err}
 use Rattle.auth_store_ledger.specs.Store.{root_of_history, setting_of_width}
 use Rattle.auth_store_log.specs.Records.{format_of}
-use Rattle.auth_store_session.specs.Machine.{machine, ask_root, root_is}
-use Rattle.auth_store_session.specs.Standing.{result_of}
-use Rattle.auth_store_session.proofs.Powers.{leaves_none, leaves_failed}
+use Rattle.auth_store_machine.specs.Machine.{machine, ask_root, root_is}
+use Rattle.auth_store_machine.specs.Standing.{result_of}
+use Rattle.auth_store_machine.proofs.Powers.{leaves_none, leaves_failed}
 use Rattle.auth_store_session.proofs.Steps.{tells_in}
 use Rattle.auth_store_session.proofs.asking.root.Goals as goal
 

@@ -1,7 +1,7 @@
 use Rattle.std.proofs.Common.{◌+◌}
 use Rattle.paged_blob_parts.specs.Moments.{here}
 use Rattle.auth_store_log.specs.Records.{format_of}
-use Rattle.auth_store_session.specs.Machine.{machine}
+use Rattle.auth_store_machine.specs.Machine.{machine}
 use Rattle.auth_store_session.proofs.Steps.{still_open_in}
 use Rattle.auth_store_session.proofs.asking.step_open.Goals as goal
 

@@ -1,4 +1,4 @@
-use Rattle.auth_store_session.proofs.Opens.{shown_is}
+use Rattle.auth_store_machine.proofs.Opens.{shown_is}
 use Rattle.auth_store_log.specs.Records.{recovered_log}
 use Rattle.fault_storage_parts.specs.Crc32.{crc32}
 use Rattle.auth_store_session.proofs.laws.an_opening_shows_what_stood.Goals as goal

@@ -1,4 +1,4 @@
-use Rattle.auth_store_session.proofs.Opens.{fewer}
+use Rattle.auth_store_machine.proofs.Opens.{fewer}
 use Rattle.fault_storage_parts.specs.Crc32.{crc32}
 use Rattle.auth_store_session.proofs.laws.chance_is_asked_of_each_opening.Goals as goal
 

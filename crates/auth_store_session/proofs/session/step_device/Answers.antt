@@ -6,7 +6,7 @@ use Rattle.auth_store_device.specs.Devices.{DeviceState}
 use Rattle.auth_store_session.specs.MachineCode.{request_of, meaning_of}
 use Rattle.auth_store_session.proofs.AtRest.{crash_rests, config_rests, cut_rests, refused_rests, rests_as}
 use Rattle.auth_store_session.proofs.Rests.{is_refused_closed}
-use Rattle.auth_store_session.proofs.Powers.{same_grows}
+use Rattle.auth_store_machine.proofs.Powers.{same_grows}
 use Rattle.auth_store_session.proofs.session.step_device.Goals as goal
 use Rattle.auth_store_session.proofs.session.step_device.Goals.{in-Crash, in-Config, in-CutAfter, in_default}
 

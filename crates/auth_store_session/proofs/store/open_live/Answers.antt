@@ -3,14 +3,14 @@ use Rattle.std.specs.Prelude.{IfErr}
 use Rattle.std.proofs.lemmas.Result.{err_from_is_err_and}
 use Rattle.paged_blob_parts.specs.Calls.{content}
 use Rattle.auth_store_log.specs.Records.{Format, format_of}
-use Rattle.auth_store_session.specs.declared.error.StoreError.{StoreError}
-use Rattle.auth_store_session.specs.Machine.{Machine, machine, refusal_of, Leaves}
-use Rattle.auth_store_session.specs.Standing.{IsOpenError, power_of, shown_of}
+use Rattle.auth_store_machine.specs.declared.error.StoreError.{StoreError}
+use Rattle.auth_store_machine.specs.Machine.{Machine, machine, refusal_of, Leaves}
+use Rattle.auth_store_machine.specs.Standing.{IsOpenError, power_of, shown_of}
 use Rattle.auth_store_device.specs.Devices.{calls_left}
-use Rattle.auth_store_session.specs.Refusals.{of_opening}
-use Rattle.auth_store_session.proofs.OnDevice.{device_refused, recovery_on_device, opened_uncut, shown_through}
-use Rattle.auth_store_session.proofs.Opens.{opened_grows}
-use Rattle.auth_store_session.proofs.Powers.{leaves_behind, leaves_of, opening_left, opening_next, raises_opening, same_grows}
+use Rattle.auth_store_machine.specs.Refusals.{of_opening}
+use Rattle.auth_store_machine.proofs.OnDevice.{device_refused, recovery_on_device, opened_uncut, shown_through}
+use Rattle.auth_store_machine.proofs.Opens.{opened_grows}
+use Rattle.auth_store_machine.proofs.Powers.{leaves_behind, leaves_of, opening_left, opening_next, raises_opening, same_grows}
 use Rattle.auth_store_session.proofs.store.open_live.Goals as goal
 
 pub returns-in_err-count-clause-refused : goal.returns-in_err-count-clause-refused

@@ -1,5 +1,5 @@
 use Rattle.std.proofs.Common.{◌≡◌, None}
-use Rattle.auth_store_session.specs.Stores.{IsCache}
+use Rattle.auth_store_machine.specs.Stores.{IsCache}
 use Rattle.store_bench.proofs.stores.open_often.Given as goal
 
 abbrev pub invariant-loop : goal.invariant-loop

@@ -2,10 +2,10 @@ use Rattle.std.proofs.Common.{◌≡◌, ◌+◌, Some, sym, ap, ◌∙◌}
 use Rattle.auth_store_device.specs.Devices.{DeviceState}
 use Rattle.paged_blob_parts.specs.Caches.{Cache}
 use Rattle.auth_store_log.specs.Records.{format_of}
-use Rattle.auth_store_session.specs.Machine.{machine, ask_close, has_closed}
-use Rattle.auth_store_session.specs.Standing.{closed_at, page_size_in, power_of, SessionState, config_in, left_in}
+use Rattle.auth_store_machine.specs.Machine.{machine, ask_close, has_closed}
+use Rattle.auth_store_machine.specs.Standing.{closed_at, page_size_in, power_of, SessionState, config_in, left_in}
 use Rattle.auth_store_session.proofs.Rests.{open_at, was_open, steps_from, grows_from, closes_in, page_from}
-use Rattle.auth_store_session.proofs.Powers.{leaves_same}
+use Rattle.auth_store_machine.proofs.Powers.{leaves_same}
 use Rattle.auth_store_session.proofs.session.Session.close.Goals as goal
 
 pub returns-clause-steps : goal.returns-clause-steps

@@ -1,11 +1,11 @@
 use Rattle.std.specs.Prelude.{IfSome, Option}
 use Rattle.std.proofs.Common.{ℕ, max, is_some, ◌+◌, Some, sym, ap, subst, ◌∙◌}
 use Rattle.auth_store_log.specs.Records.{format_of}
-use Rattle.auth_store_session.specs.Machine.{machine, ask_open, opened, refused}
-use Rattle.auth_store_session.specs.Standing.{closed_at, SessionState, page_size_in, IsOpenError, config_in}
-use Rattle.auth_store_session.specs.Stores.{HasBuffer, StoreState}
+use Rattle.auth_store_machine.specs.Machine.{machine, ask_open, opened, refused}
+use Rattle.auth_store_machine.specs.Standing.{closed_at, SessionState, page_size_in, IsOpenError, config_in}
+use Rattle.auth_store_machine.specs.Stores.{HasBuffer, StoreState}
 use Rattle.auth_store_session.proofs.Rests.{still_none, open_at, was_closed, now_closed, steps_from, grows_through, grows_more, opens_in, refused_in, page_from}
-use Rattle.auth_store_session.proofs.Opens.{opened_grows}
+use Rattle.auth_store_machine.proofs.Opens.{opened_grows}
 use Rattle.auth_store_session.proofs.session.Session.open.Goals as goal
 
 pub returns-in-Ok-clause-steps : goal.returns-in-Ok-clause-steps

@@ -1,8 +1,8 @@
 use Rattle.std.proofs.Common.{◌∙◌, ap, sym, subst}
 use Rattle.auth_store_log.specs.Records.{Format, format_of}
-use Rattle.auth_store_session.specs.Standing.{SessionState, StandsFor}
+use Rattle.auth_store_machine.specs.Standing.{SessionState, StandsFor}
 use Rattle.auth_store_session.proofs.Rests.{was_open, stands_open}
-use Rattle.auth_store_session.proofs.Sound.{closed_sound}
+use Rattle.auth_store_machine.proofs.Sound.{closed_sound}
 use Rattle.auth_store_session.proofs.session.Session.stands_for_sound_histories.Goals as goal
 
 pub returns-in-Some : goal.returns-in-Some

@@ -1,8 +1,8 @@
 use Rattle.std.proofs.Common.{Some, refl, sym, ap, subst, ◌∙◌, is_some}
 use Rattle.auth_store_log.specs.Records.{format_of}
-use Rattle.auth_store_session.specs.Machine.{machine}
+use Rattle.auth_store_machine.specs.Machine.{machine}
 use Rattle.auth_store_session.specs.MachineCode.{request_of, meaning_of, config_after, IsLeftBy}
-use Rattle.auth_store_session.specs.Standing.{closed_at, page_size_in, SessionState, config_in, left_in}
+use Rattle.auth_store_machine.specs.Standing.{closed_at, page_size_in, SessionState, config_in, left_in}
 use Rattle.auth_store_session.proofs.Rests.{still_none, was_closed, now_closed, steps_from, grows_more, page_from, closed_parts, session_closed}
 use Rattle.auth_store_session.proofs.session.Session.step_at_rest.Goals as goal
 

@@ -1,8 +1,8 @@
 use Rattle.std.proofs.Common.{sym, ◌∙◌, max, subst}
 use Rattle.std.specs.Prelude.{IfSome}
 use Rattle.auth_store_session.specs.declared.sizes.Sizes.{Sizes}
-use Rattle.auth_store_session.specs.Standing.{page_size_in}
-use Rattle.auth_store_session.specs.Stores.{HasBuffer}
+use Rattle.auth_store_machine.specs.Standing.{page_size_in}
+use Rattle.auth_store_machine.specs.Stores.{HasBuffer}
 use Rattle.auth_store_session.proofs.session.Session.step_closed.Goals as goal
 
 pub returns-then-is_opening-clause-steps : goal.returns-then-is_opening-clause-steps

@@ -1,8 +1,8 @@
 use Rattle.std.proofs.Common.{◌+◌, Some, sym, ap, subst, ◌∙◌}
 use Rattle.auth_store_log.specs.Records.{format_of}
-use Rattle.auth_store_session.specs.Machine.{machine}
+use Rattle.auth_store_machine.specs.Machine.{machine}
 use Rattle.auth_store_session.specs.MachineCode.{request_of, meaning_of, config_after, IsLeftBy}
-use Rattle.auth_store_session.specs.Standing.{SessionState, StepsOpen, page_size_in, calls_in, config_in, left_in}
+use Rattle.auth_store_machine.specs.Standing.{SessionState, StepsOpen, page_size_in, calls_in, config_in, left_in}
 use Rattle.paged_blob_parts.specs.Moments.{Grows}
 use Rattle.auth_store_session.proofs.Rests.{stays_open, open_at, was_open, now_open, session_within, steps_from, steps_open, grows_more, page_from}
 use Rattle.auth_store_session.proofs.session.Session.step_within.Goals as goal

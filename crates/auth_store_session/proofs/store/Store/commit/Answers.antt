@@ -4,14 +4,14 @@ use Rattle.auth_store_parts.specs.Batch as words
 use Rattle.auth_store_parts.specs.Batch.{Word}
 use Rattle.auth_store_parts.specs.History.{History}
 use Rattle.auth_store_log.specs.Records.{Format, format_of}
-use Rattle.auth_store_session.specs.Machine.{Leaves, Machine, machine, refusal_of}
-use Rattle.auth_store_session.specs.Reads.{LiveParts, seen_on}
-use Rattle.auth_store_session.specs.Standing.{Commits, power_of, result_of}
-use Rattle.auth_store_session.specs.Stores.{StoreState, IsLiveAt}
-use Rattle.auth_store_session.proofs.Lives.{no_parts}
-use Rattle.auth_store_session.proofs.OnDevice.{commits_on_device, same_store, store_of}
-use Rattle.auth_store_session.proofs.Powers.{leaves_named}
-use Rattle.auth_store_session.proofs.Pruned.{grown_pruned}
+use Rattle.auth_store_machine.specs.Machine.{Leaves, Machine, machine, refusal_of}
+use Rattle.auth_store_machine.specs.Reads.{LiveParts, seen_on}
+use Rattle.auth_store_machine.specs.Standing.{Commits, power_of, result_of}
+use Rattle.auth_store_machine.specs.Stores.{StoreState, IsLiveAt}
+use Rattle.auth_store_machine.proofs.Lives.{no_parts}
+use Rattle.auth_store_machine.proofs.OnDevice.{commits_on_device, same_store, store_of}
+use Rattle.auth_store_machine.proofs.Powers.{leaves_named}
+use Rattle.auth_store_machine.proofs.Pruned.{grown_pruned}
 use Rattle.auth_store_session.proofs.store.Store.commit.Goals as goal
 
 pub invariant_of-self : goal.invariant_of-self

@@ -3,9 +3,9 @@ use Rattle.std.specs.Prelude.{is_some}
 use Rattle.auth_store_device.specs.Devices.{DeviceState}
 use Rattle.auth_store_ledger.specs.Store.{setting_of_width}
 use Rattle.auth_store_log.specs.Records.{Format, format_of}
-use Rattle.auth_store_session.specs.Reads.{seen_on}
-use Rattle.auth_store_session.specs.Stores.{StoreState}
-use Rattle.auth_store_session.proofs.Lives.{kept_through}
+use Rattle.auth_store_machine.specs.Reads.{seen_on}
+use Rattle.auth_store_machine.specs.Stores.{StoreState}
+use Rattle.auth_store_machine.proofs.Lives.{kept_through}
 use Rattle.auth_store_session.proofs.store.Store.cut_after.Goals as goal
 
 pub invariant_of-self : goal.invariant_of-self

@@ -5,8 +5,8 @@ use Rattle.state_theory.specs.Canonical.{Setting}
 use Rattle.auth_store_parts.specs.History.{History}
 use Rattle.auth_store_ledger.specs.Store.{floor_of, setting_of_width}
 use Rattle.auth_store_log.specs.Records.{Format, format_of}
-use Rattle.auth_store_session.specs.declared.error.StoreError.{StoreError}
-use Rattle.auth_store_session.proofs.Lives.{of_history}
+use Rattle.auth_store_machine.specs.declared.error.StoreError.{StoreError}
+use Rattle.auth_store_machine.proofs.Lives.{of_history}
 use Rattle.auth_store_session.proofs.store.Store.floor.Goals as goal
 
 pub returns-clause-floor : goal.returns-clause-floor

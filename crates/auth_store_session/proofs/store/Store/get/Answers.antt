@@ -5,14 +5,14 @@ use Rattle.paged_blob_parts.specs.Caches.{Cache}
 use Rattle.auth_store_parts.specs.History.{History}
 use Rattle.auth_store_ledger.specs.Store.{setting_of_width}
 use Rattle.auth_store_log.specs.Records.{Format, format_of}
-use Rattle.auth_store_session.specs.declared.error.StoreError.TheVariants.{Failed}
-use Rattle.auth_store_session.specs.Machine.{Leaves, MayRefuseRead, refusal_of}
-use Rattle.auth_store_session.specs.Reads.{IsLiveOn, live_on, seen_on}
-use Rattle.auth_store_session.specs.Standing.{power_of}
-use Rattle.auth_store_session.specs.Stores.{StoreState}
-use Rattle.auth_store_session.proofs.Lives.{is_pruned, not_failed, stays_at}
-use Rattle.auth_store_session.proofs.OnDevice.{carried, read_on_device}
-use Rattle.auth_store_session.proofs.Powers.{leaves_failed, leaves_named, same_grows}
+use Rattle.auth_store_machine.specs.declared.error.StoreError.TheVariants.{Failed}
+use Rattle.auth_store_machine.specs.Machine.{Leaves, MayRefuseRead, refusal_of}
+use Rattle.auth_store_machine.specs.Reads.{IsLiveOn, live_on, seen_on}
+use Rattle.auth_store_machine.specs.Standing.{power_of}
+use Rattle.auth_store_machine.specs.Stores.{StoreState}
+use Rattle.auth_store_machine.proofs.Lives.{is_pruned, not_failed, stays_at}
+use Rattle.auth_store_machine.proofs.OnDevice.{carried, read_on_device}
+use Rattle.auth_store_machine.proofs.Powers.{leaves_failed, leaves_named, same_grows}
 use Rattle.auth_store_parts.specs.History.{latest_map}
 use Rattle.auth_store_parts.specs.Map.{value_at}
 use Rattle.auth_store_session.proofs.store.Store.get.Goals as goal

@@ -7,9 +7,9 @@ use Rattle.auth_store_device.specs.Devices.{DeviceState}
 use Rattle.auth_store_device.specs.Logs.{HasOwnHeader}
 use Rattle.auth_store_ledger.specs.Store.{setting_of_width}
 use Rattle.auth_store_log.specs.Records.{Format, format_of}
-use Rattle.auth_store_session.specs.Reads.{LiveParts, live_on}
-use Rattle.auth_store_session.specs.Stores.{StoreState, IsLive, OpeningsShow}
-use Rattle.auth_store_session.proofs.Lives.{parts_shown}
+use Rattle.auth_store_machine.specs.Reads.{LiveParts, live_on}
+use Rattle.auth_store_machine.specs.Stores.{StoreState, IsLive, OpeningsShow}
+use Rattle.auth_store_machine.proofs.Lives.{parts_shown}
 use Rattle.auth_store_session.proofs.store.Store.into_parts.Goals.{in-Some, in_default}
 use Rattle.auth_store_session.proofs.store.Store.into_parts.Goals as goal
 

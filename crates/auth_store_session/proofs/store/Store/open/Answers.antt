@@ -2,13 +2,13 @@ use Rattle.std.proofs.Common.{◌+◌, Some, refl, sym, subst}
 use Rattle.auth_store_device.specs.Devices.{DeviceState}
 use Rattle.auth_store_device.specs.Logs.{HasOwnHeader}
 use Rattle.auth_store_log.specs.Records.{Format, format_of}
-use Rattle.auth_store_session.specs.Machine.{Machine, machine}
-use Rattle.auth_store_session.specs.Reads.{live_on}
-use Rattle.auth_store_session.specs.Stores.{LiveState}
-use Rattle.auth_store_session.specs.Standing.{IsOpenError, IsOpenedThrough, shown_of}
-use Rattle.auth_store_session.proofs.OnDevice.{refused_closed}
-use Rattle.auth_store_session.specs.Machine.{Leaves}
-use Rattle.auth_store_session.specs.Standing.{power_of}
+use Rattle.auth_store_machine.specs.Machine.{Machine, machine}
+use Rattle.auth_store_machine.specs.Reads.{live_on}
+use Rattle.auth_store_machine.specs.Stores.{LiveState}
+use Rattle.auth_store_machine.specs.Standing.{IsOpenError, IsOpenedThrough, shown_of}
+use Rattle.auth_store_machine.proofs.OnDevice.{refused_closed}
+use Rattle.auth_store_machine.specs.Machine.{Leaves}
+use Rattle.auth_store_machine.specs.Standing.{power_of}
 use Rattle.auth_store_session.proofs.store.Store.open.Goals as goal
 
 pub invariant_of-result : goal.invariant_of-result

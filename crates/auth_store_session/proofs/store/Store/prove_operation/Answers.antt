@@ -5,20 +5,20 @@ use Rattle.paged_blob_parts.specs.Caches.{Cache}
 use Rattle.auth_store_parts.specs.History.{History}
 use Rattle.auth_store_ledger.specs.Store.{setting_of_width}
 use Rattle.auth_store_log.specs.Records.{Format, format_of}
-use Rattle.auth_store_session.specs.declared.error.StoreError.TheVariants.{Failed}
-use Rattle.auth_store_session.specs.Machine.{Leaves, refusal_of}
-use Rattle.auth_store_session.specs.Reads.{IsLiveOn, live_on, seen_on}
-use Rattle.auth_store_session.specs.Standing.{power_of}
-use Rattle.auth_store_session.specs.Stores.{StoreState}
-use Rattle.auth_store_session.proofs.Lives.{answers_on_device, is_pruned, not_failed, stays_at}
-use Rattle.auth_store_session.proofs.OnDevice.{carried}
-use Rattle.auth_store_session.proofs.Powers.{leaves_failed, leaves_named, same_grows}
+use Rattle.auth_store_machine.specs.declared.error.StoreError.TheVariants.{Failed}
+use Rattle.auth_store_machine.specs.Machine.{Leaves, refusal_of}
+use Rattle.auth_store_machine.specs.Reads.{IsLiveOn, live_on, seen_on}
+use Rattle.auth_store_machine.specs.Standing.{power_of}
+use Rattle.auth_store_machine.specs.Stores.{StoreState}
+use Rattle.auth_store_machine.proofs.Lives.{answers_on_device, is_pruned, not_failed, stays_at}
+use Rattle.auth_store_machine.proofs.OnDevice.{carried}
+use Rattle.auth_store_machine.proofs.Powers.{leaves_failed, leaves_named, same_grows}
 use Rattle.auth_store_client.specs.Claims.{Terms, terms}
 use Rattle.auth_store_proving.specs.Proving.{IsAcceptedOperation, answer_of_operation}
 use Rattle.auth_store_proving.specs.ProvingCode.{operation_answer_of}
 use Rattle.auth_store_ledger.specs.Store.{root_of_history}
-use Rattle.auth_store_session.specs.Machine.{as_proved, operation_is}
-use Rattle.auth_store_session.specs.Standing.{AnswersProof}
+use Rattle.auth_store_machine.specs.Machine.{as_proved, operation_is}
+use Rattle.auth_store_machine.specs.Standing.{AnswersProof}
 use Rattle.auth_store_session.proofs.store.Store.prove_operation.Goals as goal
 
 pub invariant_of-self : goal.invariant_of-self

@@ -2,9 +2,9 @@ use Rattle.std.proofs.Common.{◌≡◌, ◌∙◌, refl, ap}
 use Rattle.auth_store_ledger.specs.Store.{setting_of_width}
 use Rattle.auth_store_log.specs.Records.{Format, format_of}
 use Rattle.state_theory.specs.Canonical.{Setting}
-use Rattle.auth_store_session.specs.declared.error.StoreError.TheVariants.{Memory, PastFloor}
-use Rattle.auth_store_session.specs.Stores.{StoreState, with_pruned}
-use Rattle.auth_store_session.proofs.Lives.{pruned_live, pruned_of, seen_pruned, unpruned_of}
+use Rattle.auth_store_machine.specs.declared.error.StoreError.TheVariants.{Memory, PastFloor}
+use Rattle.auth_store_machine.specs.Stores.{StoreState, with_pruned}
+use Rattle.auth_store_machine.proofs.Lives.{pruned_live, pruned_of, seen_pruned, unpruned_of}
 use Rattle.auth_store_session.proofs.store.Store.prune.Goals as goal
 
 pub invariant_of-self : goal.invariant_of-self

@@ -2,9 +2,9 @@ use Rattle.std.proofs.Common.{subst}
 use Rattle.state_theory.specs.Canonical.{Setting}
 use Rattle.auth_store_ledger.specs.Store.{setting_of_width}
 use Rattle.auth_store_log.specs.Records.{Format, format_of}
-use Rattle.auth_store_session.specs.Stores.{IsStore}
-use Rattle.auth_store_session.proofs.Lives.{is_store}
-use Rattle.auth_store_session.proofs.Sound.{open_sound}
+use Rattle.auth_store_machine.specs.Stores.{IsStore}
+use Rattle.auth_store_machine.proofs.Lives.{is_store}
+use Rattle.auth_store_machine.proofs.Sound.{open_sound}
 use Rattle.auth_store_session.proofs.store.Store.stands_for_sound_histories.Goals as goal
 
 pub returns : goal.returns

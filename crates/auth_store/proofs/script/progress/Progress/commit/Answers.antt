@@ -2,7 +2,7 @@ use Rattle.std.proofs.Common.{◌∷◌, ◌∙◌, [], ap, inl, inr, option_map
 use Rattle.std.specs.Prelude.{codes}
 use Rattle.auth_store_parts.specs.Batch.{meanings}
 use Rattle.auth_store_session.specs.MachineCode.{meaning_of}
-use Rattle.auth_store_session.specs.Machine.{Answer, ask_commit, ask_commits, is_root_of_commit}
+use Rattle.auth_store_machine.specs.Machine.{Answer, ask_commit, ask_commits, is_root_of_commit}
 use Rattle.auth_store.specs.ScriptLines.{answer_line, bytes_of, count_line, exchange, value_of, with_words}
 use Rattle.auth_store.proofs.ScriptLines.{goes_on, handled_line, not_committed}
 use Rattle.auth_store.specs.ScriptCode.{Now, now_of}

@@ -1,8 +1,8 @@
 use Rattle.std.proofs.Common.{◌≡◌, ◌∙◌, None, Some, ap, refl, sym, unwrap_or}
 use Rattle.rand_pcg.specs.Lcg.{Lcg}
 use Rattle.fault_storage_parts.specs.declared.config.Config.{Config}
-use Rattle.auth_store_session.specs.Standing.{SessionState}
-use Rattle.auth_store_session.proofs.Runs.{runs_whole}
+use Rattle.auth_store_machine.specs.Standing.{SessionState}
+use Rattle.auth_store_machine.proofs.Runs.{runs_whole}
 use Rattle.auth_store.specs.ScriptLines.{asked, answered, settings_after, script_format, script_machine}
 use Rattle.auth_store.specs.ScriptRun.{script_cache}
 use Rattle.auth_store.proofs.script.progress.Progress.into_device.Goals as goal

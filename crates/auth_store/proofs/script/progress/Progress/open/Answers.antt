@@ -1,6 +1,6 @@
 use Rattle.std.proofs.Common.{◌∷◌, [], ap, refl, inl, inr}
 use Rattle.auth_store_session.specs.MachineCode.{meaning_of}
-use Rattle.auth_store_session.specs.Machine.{Answer, ask_open, ask_commits, is_opened}
+use Rattle.auth_store_machine.specs.Machine.{Answer, ask_open, ask_commits, is_opened}
 use Rattle.auth_store.specs.ScriptLines.{answer_line, bytes_of, count_line, exchange, value_of}
 use Rattle.auth_store.specs.ScriptCode.{Now, now_of}
 use Rattle.auth_store.proofs.ScriptLines.{goes_on, handled_line, not_opened}

@@ -6,7 +6,7 @@ use Rattle.auth_store_parts.specs.Report.{reported}
 use Rattle.auth_store_session.specs.MachineCode.{meaning_of}
 use Rattle.auth_store_proving.specs.Proving.{KeyAnswer, proved_value, proved_absent}
 use Rattle.auth_store_proving.specs.ProvingCode.{key_answer_of}
-use Rattle.auth_store_session.specs.Machine.{Answer, ask_proof, ask_root, key_is, of_key, proof, root_is}
+use Rattle.auth_store_machine.specs.Machine.{Answer, ask_proof, ask_root, key_is, of_key, proof, root_is}
 use Rattle.auth_store.specs.ScriptLines.{Proves, answer_line, bytes_of, exchange, proof_bytes, value_of, with_kept}
 use Rattle.auth_store.proofs.ScriptLines.{goes_on, handled_line, not_root}
 use Rattle.auth_store.specs.ScriptCode.{Now, now_of}

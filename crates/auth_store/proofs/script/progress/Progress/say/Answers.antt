@@ -1,6 +1,6 @@
 use Rattle.std.proofs.Common.{◌≡◌, ◌∷◌, [], refl}
 use Rattle.auth_store_session.specs.MachineCode.{meaning_of}
-use Rattle.auth_store_session.specs.Machine.{Answer}
+use Rattle.auth_store_machine.specs.Machine.{Answer}
 use Rattle.auth_store.specs.ScriptLines.{AsksStep, answer_line, bytes_of, value_of}
 use Rattle.auth_store.specs.ScriptCode.{Goes, exchange_of, progress_of}
 use Rattle.auth_store.proofs.ScriptLines.{handled_by}

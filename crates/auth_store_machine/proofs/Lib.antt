@@ -1,0 +1,15 @@
+pub mod Batches
+pub mod Grown
+pub mod Kept
+pub mod Lives
+pub mod Logs
+pub mod Long
+pub mod OnDevice
+pub mod Opens
+pub mod Powers
+pub mod Pruned
+pub mod Reading
+pub mod Readings
+pub mod Refused
+pub mod Runs
+pub mod Sound
