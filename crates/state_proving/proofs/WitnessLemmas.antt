@@ -1,6 +1,6 @@
 -- The parts of the witness of what is kept.
 use Rattle.std.proofs.Common.{◌≡◌, ℕ, ◌*◌, ◌/◌, ◌^◌, ◌<◌, ◌≤◌}
-use Rattle.std.proofs.Common.{List, Option, None, Some, length, option_map, refl, sym, ◌∙◌, ap}
+use Rattle.std.proofs.Common.{List, Option, None, Some, length, option_map}
 use Rattle.std.specs.Prelude.{IfSome}
 use Rattle.merkle_forest.specs.Forest.{Rule, forest_of}
 use Rattle.merkle_forest.specs.Nodes.{nodes_of_height}

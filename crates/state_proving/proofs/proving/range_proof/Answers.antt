@@ -51,7 +51,7 @@ returns-clause-honest g c height state stands =
     same_power c.chunk_size-height.result.grafting_height height (sym whole ∙ here.whole) in
     let few : length state.operations ≤ 2 ^ 62 =
     omega (arith, c.leaves-leaves.ensures.few, c.leaves-leaves.ensures.leaves, all_are setting state kept facts here) in
-    c.new-2.ensures.honest height state here.whole
+    c.new.ensures.honest height state here.whole
     (source_stands setting state kept facts here few _ c.new-tree.ensures.leaves refl
     (c.new-tree.ensures.nodes ∙ ap (λ l. grafted_lookup rule hash (record {
       grafting_height = l;
@@ -78,17 +78,17 @@ returns-clause-refused g c height whole =
     } in
     let level : ℕ = c.chunk_size-height.result.grafting_height in
     let whole_here : 8 * g.row.N ≡ 2 ^ level = ap (λ w. 8 * w) (sym c.chunk_size-height.ensures) ∙ c.chunk_size-height.result.whole in
-    let said : IfErr c.new-2.result (IsRefusalOfPlanned (measures_with rule g.row.N level)
+    let said : IfErr c.new.result (IsRefusalOfPlanned (measures_with rule g.row.N level)
     (source_of (span_of kept.operations.leaves c.args.range.start c.args.range.end) (all_bits g.row.N kept.bits) kept.bits.pruned
     (read_of rule hash level kept))) =
     retold (λ n known e. IsRefusalOfPlanned (measures_with rule g.row.N level)
-    (source_of (span_of n c.args.range.start c.args.range.end) (all_bits g.row.N kept.bits) kept.bits.pruned known) e) c.new-2.result
-    c.new-tree.ensures.leaves c.new-tree.ensures.nodes (c.new-2.ensures.refused level whole_here) in
+    (source_of (span_of n c.args.range.start c.args.range.end) (all_bits g.row.N kept.bits) kept.bits.pruned known) e) c.new.result
+    c.new-tree.ensures.leaves c.new-tree.ensures.nodes (c.new.ensures.refused level whole_here) in
     let at : level ≡ height = same_power level height (sym whole_here ∙ whole) in
-    subst (λ (k : Kept). IfErr c.new-2.result (IsRefusalOfPlanned (measures_with rule g.row.N height)
+    subst (λ (k : Kept). IfErr c.new.result (IsRefusalOfPlanned (measures_with rule g.row.N height)
     (source_of (span_of k.operations.leaves c.args.range.start c.args.range.end) (all_bits g.row.N k.bits) k.bits.pruned
     (read_of rule hash height k)))) same
-    (subst (λ l. IfErr c.new-2.result (IsRefusalOfPlanned (measures_with rule g.row.N l)
+    (subst (λ l. IfErr c.new.result (IsRefusalOfPlanned (measures_with rule g.row.N l)
     (source_of (span_of kept.operations.leaves c.args.range.start c.args.range.end) (all_bits g.row.N kept.bits) kept.bits.pruned
     (read_of rule hash l kept)))) at said)
 
@@ -119,12 +119,12 @@ returns-clause-there g c late some within =
       born = born g.met.F.Graftable.births g.met.F.Graftable.births_apart g.met.F.Graftable.births_soon;
       counted = λ n chunk level few some low. g.met.F.Graftable.chunks_counted n chunk level few some low;
     } in
-    let said : IfErr c.new-2.result (IsRefusalOfPlanned (measures_with rule g.row.N level)
+    let said : IfErr c.new.result (IsRefusalOfPlanned (measures_with rule g.row.N level)
     (source_of (span_of kept.operations.leaves c.args.range.start c.args.range.end) (all_bits g.row.N kept.bits) kept.bits.pruned
     (read_of rule hash level kept))) =
     retold (λ n known e. IsRefusalOfPlanned (measures_with rule g.row.N level)
-    (source_of (span_of n c.args.range.start c.args.range.end) (all_bits g.row.N kept.bits) kept.bits.pruned known) e) c.new-2.result
-    c.new-tree.ensures.leaves c.new-tree.ensures.nodes (c.new-2.ensures.refused level whole_here) in
+    (source_of (span_of n c.args.range.start c.args.range.end) (all_bits g.row.N kept.bits) kept.bits.pruned known) e) c.new.result
+    c.new-tree.ensures.leaves c.new-tree.ensures.nodes (c.new.ensures.refused level whole_here) in
     let together : AreTogether rule g.row.N kept = subst (AreTogether rule g.row.N) (sym same) c.operations-operations.ensures.together in
     let n : ℕ = kept.operations.leaves in
     let few : n ≤ 2 ^ 62 = omega (arith, c.leaves-leaves.ensures.few, c.leaves-leaves.ensures.leaves) in
@@ -138,4 +138,4 @@ returns-clause-there g c late some within =
     (read_of rule hash level kept)))
     (λ e. e ≡ Memory)
     (λ e why. range_memory rule hash g.row.N kept facts together c.pruning_boundary-boundary.ensures.shape c.pruning_boundary-chunks.ensures.shape
-    few level whole_here pending c.args.range.start c.args.range.end e from some to why) c.new-2.result said
+    few level whole_here pending c.args.range.start c.args.range.end e from some to why) c.new.result said

@@ -1,4 +1,4 @@
-use Rattle.std.proofs.Common.{◌≡◌, ℕ, ◌*◌, ◌%◌, List, Option, Some, length, option_map, sym, ◌∙◌, ap, ap₂}
+use Rattle.std.proofs.Common.{◌≡◌, ℕ, ◌*◌, ◌%◌, List, Some, length, option_map, sym, ◌∙◌, ap, ap₂}
 use Rattle.merkle_core_parts.specs.Laws.Plain.{length-plain}
 use Rattle.state_theory.specs.Canonical.{Setting, next_bit, partial_digest, setting_with}
 use Rattle.state_proving.proofs.root_witness.partial_chunk.Goals as goal
