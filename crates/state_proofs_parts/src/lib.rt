@@ -3,8 +3,8 @@
 //! `bitmap::authenticated` of commonware-storage 2026.10.0, the parts of `qmdb::current` there that need no proof, and
 //! the part of `commonware_utils::bitmap::Prunable` on which both stand; `In the Rust` names what an item is there.
 //!
-//! A map is one of a list of bits where its tree has the leaves of the list's full chunks: `specs/Maps.antt` has this,
-//! and the root of a list. What each call does to the list stands in its clause `of_list`.
+//! A map is one of a list of bits where its tree has the leaves of the list's full chunks: `Maps` of `state_theory` has
+//! this, and the root of a list. What each call does to the list stands in its clause `of_list`.
 #![tactic(auto)]
 
 pub mod authenticated;
