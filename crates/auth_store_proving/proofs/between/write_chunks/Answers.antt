@@ -84,6 +84,8 @@ returns g c log of =
     let whole = width_is_whole g.row.N c.holds_a_history.ensures.width in
     let wide : 0 < size = omega (arith, whole.0, pow_pos (grafting_height g.row.N)) in
     let order = chunk_order size c.args.start (c.args.stop - 1) wide (omega (arith, c.requires.some)) in
-    let end : c.loop-chunk.chunk ≡ (c.args.stop - 1) / size + 1 = omega (arith, order, first, last) in
+    let ordered : c.index_of-first.result ≤ c.index_of-end.result + 1 = omega (arith, order, first, last) in
+    let end : c.loop-chunk.chunk ≡ (c.args.stop - 1) / size + 1 =
+    omega (arith, last, c.loop-chunk.auto.chunk-end ordered, c.loop-chunk-test.false) in
     c.loop-chunk.invariant log of
     ∙ ap₂ (λ (n m : ℕ). c.args.out.now.items ++ flat_map (λ chunk. chunk) (take (n - m) (drop m all))) end first
