@@ -16,7 +16,13 @@ use Rattle.auth_store_index.specs.Growth as logged
 use Rattle.auth_store_log.specs.Records.{log_bytes}
 use Rattle.auth_store_ledger.specs.History.{activity_bits, last_floor}
 use Rattle.auth_store_ledger.specs.Store.{IsKept, encodings, state_of_log}
-use Rattle.auth_store_ledger.proofs.Kept.{same_state}
+
+-- a state, part by part
+pub same_state : (operations encoded : List (List ℕ)) (bits signs : List Bool) (floor last : ℕ) → operations ≡ encoded
+    → bits ≡ signs → floor ≡ last
+    → (let state : State = record { operations = operations; bits = bits; floor = floor } in let other : State =
+    record { operations = encoded; bits = signs; floor = last } in state ≡ other)
+same_state operations encoded bits signs floor last p q r = λ i. record { operations = p i; bits = q i; floor = r i }
 
 -- bits are cleared alike in both words
 pub same_cleared : (bits : List Bool) (places : List ℕ) → kept.cleared bits places ≡ logged.cleared bits places
@@ -117,10 +123,3 @@ pub kept_of_all : {B : Type 0} (setting : Setting) (key value : ℕ) (log : List
 kept_of_all setting key value log empty after bytes encoded bits floor none are bits_are floor_is leaves pruned stands =
     kept_after setting key value [] log empty after bytes encoded bits [] floor (kept_of_nothing setting key value empty none)
     are bits_are floor_is (omega arith) leaves pruned stands
-
--- a state, part by part
-pub same_state : (operations encoded : List (List ℕ)) (bits signs : List Bool) (floor last : ℕ) → operations ≡ encoded
-    → bits ≡ signs → floor ≡ last
-    → (let state : State = record { operations = operations; bits = bits; floor = floor } in let other : State =
-    record { operations = encoded; bits = signs; floor = last } in state ≡ other)
-same_state operations encoded bits signs floor last p q r = λ i. record { operations = p i; bits = q i; floor = r i }
