@@ -1,7 +1,7 @@
 //! Refusals: their numbers.
 
 use auth_store_log::LogError;
-use auth_store_session::StoreError;
+use auth_store_machine::StoreError;
 use case_lines::Unanswered;
 use paged_blob::Error;
 use std::alloc::Global;

@@ -4,10 +4,10 @@
 //! empty text.
 
 use auth_store_client::is_chunk_width;
+use auth_store_machine::StoreError;
 use auth_store_parts::script::{
     FaultKind, InputError, Line, TornMode, TreeFamily, parse_key, parse_line, parse_number,
 };
-use auth_store_session::StoreError;
 use case_lines::Unanswered;
 use merkle_forest::codec::FixedBytes;
 use merkle_forest::digest::Digest;
