@@ -11,7 +11,6 @@ use merkle_forest::{mmb, mmr};
 use rand_pcg::Pcg32;
 use std::alloc::Global;
 use store_lines::asked::Asking;
-use store_lines::told::{all_told, told};
 use store_lines::words::Kind;
 
 /// A place for a session or a store of each family and width, of which one at most is taken.
@@ -73,15 +72,17 @@ impl Any {
     ) -> Result<(), (StoreError, Device<Pcg32>)>
         requires { device.log ≡ None }
     {
-        match kind {
-            Kind::Range => self.range.open_store(alloc, device, kept, sizes)?,
-            Kind::WideRange => self.wide_range.open_store(alloc, device, kept, sizes)?,
-            Kind::Belt => self.belt.open_store(alloc, device, kept, sizes)?,
-            Kind::WideBelt => self.wide_belt.open_store(alloc, device, kept, sizes)?,
+        let opened = match kind {
+            Kind::Range => self.range.open_store(alloc, device, kept, sizes),
+            Kind::WideRange => self.wide_range.open_store(alloc, device, kept, sizes),
+            Kind::Belt => self.belt.open_store(alloc, device, kept, sizes),
+            Kind::WideBelt => self.wide_belt.open_store(alloc, device, kept, sizes),
+        };
+        if opened.is_ok() {
+            self.taken = Some(kind);
+            self.is_session = false;
         }
-        self.taken = Some(kind);
-        self.is_session = false;
-        Ok(())
+        opened
     }
 
     /// Takes the device away, closed, if something has it.
@@ -119,10 +120,10 @@ impl Any {
     /// What is answered to a step.
     pub fn step(&mut self, alloc: Global, step: Asking) -> Result<String, Unanswered> {
         match self.taken {
-            Some(Kind::Range) => told(alloc, &self.range.step(step)?),
-            Some(Kind::WideRange) => told(alloc, &self.wide_range.step(step)?),
-            Some(Kind::Belt) => told(alloc, &self.belt.step(step)?),
-            Some(Kind::WideBelt) => told(alloc, &self.wide_belt.step(step)?),
+            Some(Kind::Range) => self.range.step(alloc, step),
+            Some(Kind::WideRange) => self.wide_range.step(alloc, step),
+            Some(Kind::Belt) => self.belt.step(alloc, step),
+            Some(Kind::WideBelt) => self.wide_belt.step(alloc, step),
             None => Err(Unanswered::BadLine),
         }
     }
@@ -130,10 +131,10 @@ impl Any {
     /// What is answered to steps that are taken as one run of a session, which is closed then.
     pub fn run(&mut self, alloc: Global, steps: Vec<Asking>) -> Result<String, Unanswered> {
         match self.taken {
-            Some(Kind::Range) => all_told(alloc, &self.range.run(alloc, steps)?),
-            Some(Kind::WideRange) => all_told(alloc, &self.wide_range.run(alloc, steps)?),
-            Some(Kind::Belt) => all_told(alloc, &self.belt.run(alloc, steps)?),
-            Some(Kind::WideBelt) => all_told(alloc, &self.wide_belt.run(alloc, steps)?),
+            Some(Kind::Range) => self.range.run(alloc, steps),
+            Some(Kind::WideRange) => self.wide_range.run(alloc, steps),
+            Some(Kind::Belt) => self.belt.run(alloc, steps),
+            Some(Kind::WideBelt) => self.wide_belt.run(alloc, steps),
             None => Err(Unanswered::BadLine),
         }
     }
@@ -141,10 +142,10 @@ impl Any {
     /// What is answered to steps that are taken as one run over the device of a session.
     pub fn run_whole(&mut self, alloc: Global, steps: Vec<Asking>) -> Result<String, Unanswered> {
         match self.taken {
-            Some(Kind::Range) => all_told(alloc, &self.range.run_whole(alloc, steps)?),
-            Some(Kind::WideRange) => all_told(alloc, &self.wide_range.run_whole(alloc, steps)?),
-            Some(Kind::Belt) => all_told(alloc, &self.belt.run_whole(alloc, steps)?),
-            Some(Kind::WideBelt) => all_told(alloc, &self.wide_belt.run_whole(alloc, steps)?),
+            Some(Kind::Range) => self.range.run_whole(alloc, steps),
+            Some(Kind::WideRange) => self.wide_range.run_whole(alloc, steps),
+            Some(Kind::Belt) => self.belt.run_whole(alloc, steps),
+            Some(Kind::WideBelt) => self.wide_belt.run_whole(alloc, steps),
             None => Err(Unanswered::BadLine),
         }
     }

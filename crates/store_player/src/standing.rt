@@ -15,7 +15,7 @@ use rand_pcg::Pcg32;
 use std::alloc::{AllocError, Global};
 use std::mem;
 use store_lines::asked::Asking;
-use store_lines::told::Told;
+use store_lines::told::{Told, all_told, told};
 use store_lines::words::{Name, Root};
 
 type Alone<F, const N: usize> = Store<Pcg32, F, ByteHash, Name, u64, N>;
@@ -88,6 +88,17 @@ fn asked_of<F: Graftable + PendingOf<Root>, const N: usize>(
             Ok(Answer::Set)
         }
         Step::Open(_) | Step::Close | Step::Crash => Ok(Answer::NotOpen),
+    }
+}
+
+// What a store by itself answers, its refusals too.
+fn answer_of<F: Graftable + PendingOf<Root>, const N: usize>(
+    store: &mut Alone<F, N>,
+    step: Asking,
+) -> Told<F> {
+    match asked_of(store, step) {
+        Ok(answer) => answer,
+        Err(error) => Answer::Refused(error),
     }
 }
 
@@ -190,19 +201,16 @@ impl<F: Graftable + PendingOf<Root>, const N: usize> Standing<F, N> {
     }
 
     /// What is answered to a step.
-    pub fn step(&mut self, step: Asking) -> Result<Told<F>, Unanswered> {
+    pub fn step(&mut self, alloc: Global, step: Asking) -> Result<String, Unanswered> {
         match self {
-            Standing::Session(session) => Ok(session.step(step)),
-            Standing::Store(store) if is_of_store(&step) => match asked_of(store, step) {
-                Ok(answer) => Ok(answer),
-                Err(error) => Ok(Answer::Refused(error)),
-            },
+            Standing::Session(session) => told(alloc, &session.step(step)),
+            Standing::Store(store) if is_of_store(&step) => told(alloc, &answer_of(store, step)),
             _ => Err(Unanswered::BadLine),
         }
     }
 
     /// What is answered to steps that are taken as one run of the session, which is closed then.
-    pub fn run(&mut self, alloc: Global, steps: Vec<Asking>) -> Result<Vec<Told<F>>, Unanswered>
+    pub fn run(&mut self, alloc: Global, steps: Vec<Asking>) -> Result<String, Unanswered>
         requires { IsChunkWidth N }
     {
         let Standing::Session(session) = mem::replace(self, Standing::Nothing) else {
@@ -210,15 +218,11 @@ impl<F: Graftable + PendingOf<Root>, const N: usize> Standing<F, N> {
         };
         let (answers, session) = run_on(alloc, session, steps)?;
         let _before = mem::replace(self, Standing::Session(session));
-        Ok(answers)
+        all_told(alloc, &answers)
     }
 
     /// What is answered to steps that are taken as one run over the device and the cache of the session.
-    pub fn run_whole(
-        &mut self,
-        alloc: Global,
-        steps: Vec<Asking>,
-    ) -> Result<Vec<Told<F>>, Unanswered>
+    pub fn run_whole(&mut self, alloc: Global, steps: Vec<Asking>) -> Result<String, Unanswered>
         requires { IsChunkWidth N }
     {
         let Standing::Session(session) = mem::replace(self, Standing::Nothing) else {
@@ -226,6 +230,6 @@ impl<F: Graftable + PendingOf<Root>, const N: usize> Standing<F, N> {
         };
         let (answers, session) = run_anew(alloc, session, steps)?;
         let _before = mem::replace(self, Standing::Session(session));
-        Ok(answers)
+        all_told(alloc, &answers)
     }
 }
