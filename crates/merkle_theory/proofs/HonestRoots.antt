@@ -17,7 +17,8 @@ use Rattle.merkle_forest.specs.Trees.{Located, end_of, located, peak_digests, pl
 use Rattle.merkle_theory.specs.MadeTrees.{Over, from, plain_over}
 use Rattle.merkle_theory.specs.MadeRoots.{Naming, from_left, peaks_of, read_bag}
 use Rattle.merkle_theory.specs.RangeCounts.{passing, range_outer}
-use Rattle.merkle_theory.specs.Ranges.{Digests, is_before, is_after, meets, as_one, singly, siblings, inner_digests, before_digests, after_digests, range_digests}
+use Rattle.merkle_theory.specs.Ranges.{Digests, is_before, is_after, meets, as_one, singly, siblings, inner_digests}
+use Rattle.merkle_theory.specs.Ranges.{before_digests, after_digests, range_digests}
 use Rattle.merkle_theory.specs.Reads.{Agrees, valued, range_root}
 use Rattle.merkle_theory.specs.Laws.Values.{forward-items}
 use Rattle.merkle_theory.specs.Laws.MadeRoots.{not_zero}
