@@ -20,6 +20,7 @@ ghost use Rattle.paged_blob_parts.specs.Caches.{Cache};
 ghost use Rattle.paged_blob_parts.specs.Calls.{Call, content, file_of};
 ghost use Rattle.paged_blob_parts.specs.Moments.{Grows, Through};
 ghost use Rattle.paged_blob_parts.specs.Writers.{IsWriter, Keeps, written};
+ghost use Rattle.paged_blob.specs.Completed.{completed_syncs};
 ghost use Rattle.auth_store_client.specs.Claims.{terms};
 ghost use Rattle.auth_store_parts.specs.Batch as words;
 ghost use Rattle.auth_store_parts.specs.History.{history_of, latest_map, log_of};
@@ -178,6 +179,7 @@ fn append_log<B: Blob>(
     ensures settings { (B.failures blob.new).settings ≡ (B.failures blob.old).settings }
     ensures raised { Raises (refusal_of result) (B.failures blob.old) (B.failures blob.new) }
     ensures left { B.left blob.new ≤ B.left blob.old }
+    ensures unsynced { OnErr result (completed_syncs (B.calls blob.new) ≡ completed_syncs (B.calls blob.old)) }
     ensures powered { OnOk result (0 < length bytes.now → IsPowerOff (B.failures blob.old) (B.left blob.old) → ⊥) }
     ensures names { cache.new.next_id ≡ cache.old.next_id }
     ensures refused { IfErr result (IsAppendRefusal (B.failures blob.old) (B.failures blob.new)
@@ -327,6 +329,8 @@ where
         × (length (log_of next) ≤ 2 ^ 62)) }
     ensures pruned { MatchResult result (λ now. now.ledger.kept.bits.pruned ≡ ledger.kept.bits.pruned)
         (λ refused. IfSome refused.0 (λ kept. kept.ledger.kept.bits.pruned ≡ ledger.kept.bits.pruned)) }
+    // Refused, no sync was completed: all that may refuse a batch comes before.
+    ensures unsynced { OnErr result (completed_syncs (B.calls blob.new) ≡ completed_syncs (B.calls blob.old)) }
     // Under a cut of the power nothing is made durable.
     ensures powered { OnOk result (IsPowerOff (B.failures blob.old) (B.left blob.old) → ⊥) }
     ensures kept { let format = format_of (K.after tt) (V.after tt) K.SIZE V.SIZE in
@@ -397,6 +401,8 @@ where
         (B.failures blob.new) (B.calls blob.new) (seen_on format (B.calls blob.new) store.new)) }
     ensures pruned { IfSome store.old (λ was. IfSome store.new (λ now.
         now.ledger.kept.bits.pruned ≡ was.ledger.kept.bits.pruned)) }
+    // Refused, no sync was completed: all that may refuse a batch, want of memory too, comes before.
+    ensures unsynced { OnErr result (completed_syncs (B.calls blob.new) ≡ completed_syncs (B.calls blob.old)) }
     ensures cache { IsCache cache.new }
     ensures page_size { cache.new.page_size ≡ cache.old.page_size }
     ensures open { (B.failures blob.new).is_open ≡ true }

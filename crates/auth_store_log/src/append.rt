@@ -1,6 +1,6 @@
 //! Bytes that are appended and made durable in one.
 
-ghost use Rattle.std.specs.Prelude.{◌≡◌, ◌≤◌, ◌⊎◌, ◌+◌, ◌<◌, ◌++◌, length, IfOk, IfErr, OnOk};
+ghost use Rattle.std.specs.Prelude.{◌≡◌, ◌≤◌, ◌⊎◌, ◌+◌, ◌<◌, ◌++◌, length, IfOk, IfErr, OnOk, OnErr};
 ghost use Rattle.paged_format.specs.Footers.{content_size};
 ghost use Rattle.paged_blob_parts.specs.Moments.{Through};
 ghost use Rattle.paged_blob_parts.specs.Answers.{failures_after, IsCause, IsPowerOff};
@@ -8,6 +8,7 @@ ghost use Rattle.paged_blob_parts.specs.Flushes.{physical_size};
 ghost use Rattle.paged_blob_parts.specs.Writers.{written, IsWriter, Keeps};
 ghost use Rattle.paged_blob_parts.specs.CachedContent.{HoldsPagesOf, KeepsOthers};
 ghost use Rattle.paged_blob_parts.specs.declared.error.CallKind.{CallKind};
+ghost use Rattle.paged_blob.specs.Completed.{completed_syncs};
 ghost use Rattle.auth_store_log.specs.Causes.{AreNamed};
 
 use fault_storage::Checksum;
@@ -40,6 +41,8 @@ pub fn append_batch<B: Blob, C: Checksum>(
         ⊎ IsCause (B.failures blob.old) CallKind.Sync 0 e) }
     ensures failures { B.failures blob.new ≡ failures_after result (B.failures blob.old) }
     ensures left { B.left blob.new ≤ B.left blob.old }
+    // Refused, no sync was completed.
+    ensures unsynced { OnErr result (completed_syncs (B.calls blob.new) ≡ completed_syncs (B.calls blob.old)) }
     // Under a cut of the power no bytes are appended.
     ensures powered { OnOk result (0 < length bytes.now → IsPowerOff (B.failures blob.old) (B.left blob.old) → ⊥) }
     ensures cache { cache.new ≡ record cache.old { pages = cache.new.pages } }

@@ -3,6 +3,7 @@
 ghost use Rattle.std.specs.Prelude.{◌≡◌, ◌⊎◌, ◌+◌, ◌≤◌, ◌<◌, max, length, option_map, Ok, Err, None, Some, true};
 ghost use Rattle.std.specs.Prelude.{is_some, IfOk, IfErr, OnOk, OnErr, IsFalse, MatchResult};
 ghost use Rattle.paged_blob_parts.specs.Moments.{Grows};
+ghost use Rattle.paged_blob.specs.Completed.{completed_syncs};
 ghost use Rattle.auth_store_parts.specs.Batch as words;
 ghost use Rattle.auth_store_parts.specs.History.{History, latest_map, log_of};
 ghost use Rattle.auth_store_parts.specs.Map.{value_at};
@@ -246,6 +247,9 @@ where
         ensures settings { self.new.device.storage.config ≡ self.old.device.storage.config }
         ensures leaves { Leaves 0 (refusal_of result) (power_of self.old.device self.old.cache)
             (power_of self.new.device self.new.cache) }
+        // Refused, no sync was completed: all that may refuse a batch, want of memory too, comes before.
+        ensures unsynced { OnErr result (completed_syncs self.new.device.calls
+            ≡ completed_syncs self.old.device.calls) }
         ensures grows { Grows self.old.device.calls self.new.device.calls }
     {
         let answer = commit_live(

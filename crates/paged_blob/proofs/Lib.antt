@@ -3,3 +3,4 @@ pub mod CutWriter
 pub mod CutWithin
 pub mod Syncing
 pub mod Recovered
+mod Completed

@@ -1,3 +1,4 @@
 pub mod WritersCode
 pub mod Syncs
 pub mod ShrinksCode
+pub mod Completed

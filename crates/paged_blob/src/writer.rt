@@ -13,6 +13,7 @@ ghost use Rattle.paged_blob.specs.WritersCode.{IsTakingCause};
 ghost use Rattle.paged_blob_parts.specs.Reads.{IsReadingCause};
 ghost use Rattle.paged_blob_parts.specs.Caches.{AreGiven, Cache};
 ghost use Rattle.paged_blob_parts.specs.CachedContent.{HoldsPagesOf, KeepsOthers};
+ghost use Rattle.paged_blob.specs.Completed.{completed_syncs};
 ghost use Rattle.paged_blob.specs.Syncs.{IsUnderWay};
 ghost use Rattle.paged_blob.specs.declared.writer.syncing.WriterSync.{WriterSync};
 ghost use Rattle.paged_blob_parts.specs.declared.error.CallKind.{CallKind};
@@ -114,6 +115,7 @@ impl<C: Checksum, Phase> Writer<C, Phase> {
         ensures cause { IfErr result (IsCause (B.failures blob.old) CallKind.Write 0) }
         ensures failures { B.failures blob.new ≡ failures_after result (B.failures blob.old) }
         ensures left { B.left blob.new ≤ B.left blob.old }
+        ensures syncs { completed_syncs (B.calls blob.new) ≡ completed_syncs (B.calls blob.old) }
         ensures cache { cache.new ≡ record cache.old { pages = cache.new.pages } }
         ensures cached { OnOk result
             (HoldsPagesOf (written C.checksum_of (B.calls blob.old) self.old) cache.old self.old.blob_id
@@ -166,6 +168,7 @@ impl<C: Checksum, Phase> Writer<C, Phase> {
         ensures cause { IfErr result (IsCause (B.failures blob.old) CallKind.Write 0) }
         ensures failures { B.failures blob.new ≡ failures_after result (B.failures blob.old) }
         ensures left { B.left blob.new ≤ B.left blob.old }
+        ensures syncs { completed_syncs (B.calls blob.new) ≡ completed_syncs (B.calls blob.old) }
         ensures cache { cache.new ≡ record cache.old { pages = cache.new.pages } }
         ensures cached { OnOk result
             (HoldsPagesOf (written C.checksum_of (B.calls blob.old) self.old) cache.old self.old.blob_id
@@ -202,6 +205,7 @@ impl<C: Checksum, Phase> Writer<C, Phase> {
         ensures cause { IfErr result (IsCause (B.failures blob.old) CallKind.Write 0) }
         ensures failures { B.failures blob.new ≡ failures_after result (B.failures blob.old) }
         ensures left { B.left blob.new ≤ B.left blob.old }
+        ensures syncs { completed_syncs (B.calls blob.new) ≡ completed_syncs (B.calls blob.old) }
         ensures cache { cache.new ≡ record cache.old { pages = cache.new.pages } }
         ensures cached { HoldsPagesOf (written C.checksum_of (B.calls blob.old) self.old) cache.old self.old.blob_id
             → HoldsPagesOf (written C.checksum_of (B.calls blob.old) self.old ++ bytes.now) cache.new self.old.blob_id }
@@ -247,6 +251,7 @@ impl<C: Checksum, Phase> Writer<C, Phase> {
             → (B.calls blob.new ≡ B.calls blob.old) ⊎ HaveEnded (B.failures blob.old)) }
         ensures failures { B.failures blob.new ≡ failures_after result (B.failures blob.old) }
         ensures left { B.left blob.new ≤ B.left blob.old }
+        ensures syncs { completed_syncs (B.calls blob.new) ≡ completed_syncs (B.calls blob.old) }
         ensures cache { cache.new ≡ record cache.old { pages = cache.new.pages } }
         // The pages that are kept under the writer's name stay those of its content.
         ensures cached { HoldsPagesOf (written C.checksum_of (B.calls blob.old) self) cache.old self.blob_id
@@ -287,6 +292,7 @@ impl<C: Checksum, Phase> Writer<C, Phase> {
             → (B.calls blob.new ≡ B.calls blob.old) ⊎ HaveEnded (B.failures blob.old)) }
         ensures failures { B.failures blob.new ≡ failures_after result (B.failures blob.old) }
         ensures left { B.left blob.new ≤ B.left blob.old }
+        ensures syncs { completed_syncs (B.calls blob.new) ≡ completed_syncs (B.calls blob.old) }
         ensures cache { cache.new ≡ record cache.old { pages = cache.new.pages } }
         // The pages that are kept under the writer's name stay those of its content.
         ensures cached { HoldsPagesOf (written C.checksum_of (B.calls blob.old) self) cache.old self.blob_id
@@ -379,6 +385,7 @@ impl<C: Checksum, Phase> Writer<C, Phase> {
         ensures cause { IfErr result (IsCause (B.failures blob.old) CallKind.Write 0) }
         ensures failures { B.failures blob.new ≡ failures_after result (B.failures blob.old) }
         ensures left { B.left blob.new ≤ B.left blob.old }
+        ensures syncs { completed_syncs (B.calls blob.new) ≡ completed_syncs (B.calls blob.old) }
     {
         if self.tip.is_empty() {
             return Ok(());
@@ -439,6 +446,8 @@ impl<C: Checksum, Phase> Writer<C, Phase> {
             → (result ≡ Ok self) × (blob.new ≡ blob.old) × (cache.new ≡ cache.old) }
         ensures powered { OnOk result (self.synced < self.tip.offset + length self.tip.bytes
             → IsPowerOff (B.failures blob.old) (B.left blob.old) → ⊥) }
+        // Refused, no sync was completed.
+        ensures unsynced { OnErr result (completed_syncs (B.calls blob.new) ≡ completed_syncs (B.calls blob.old)) }
         ensures cache { cache.new ≡ record cache.old { pages = cache.new.pages } }
         // The pages that are kept under the writer's name stay those of its content.
         ensures cached { HoldsPagesOf (written C.checksum_of (B.calls blob.old) self) cache.old self.blob_id

@@ -6,6 +6,7 @@ use Rattle.paged_blob_parts.specs.Calls.{Call}
 use Rattle.paged_blob_parts.specs.Moments.{Grows, here}
 use Rattle.paged_blob_parts.specs.Laws.Moments.{at_end, weaker}
 use Rattle.paged_blob_parts.specs.Writers.{Keeps, written}
+use Rattle.paged_blob.specs.Completed.{completed_syncs}
 use Rattle.state_theory.specs.Canonical.{Setting}
 use Rattle.auth_store_parts.specs.Batch as words
 use Rattle.auth_store_parts.specs.Batch.{Word}
@@ -182,3 +183,10 @@ pub returns-in-Err-append_log-clause-raised : goal.returns-in-Err-append_log-cla
 returns-in-Err-append_log-clause-raised g c =
     subst (λ (f : Failures). Raises (Some c.in-Err-append_log.error) f (g.B.Blob.failures c.append_log.new.blob))
     (quiet _ _ c.in-Ok.ensures.reads) c.in-Err-append_log.ensures.raised
+
+pub returns-in-Err-clause-unsynced : goal.returns-in-Err-clause-unsynced
+returns-in-Err-clause-unsynced g c = ap completed_syncs c.take_batch.ensures.reads.calls
+
+pub returns-in-Err-append_log-clause-unsynced : goal.returns-in-Err-append_log-clause-unsynced
+returns-in-Err-append_log-clause-unsynced g c =
+    c.in-Err-append_log.ensures.unsynced ∙ ap completed_syncs c.take_batch.ensures.reads.calls

@@ -1,6 +1,6 @@
 use Rattle.std.proofs.Common.{◌≡◌, ℕ, ◌+◌, ◌++◌, ◌∙◌, List, Option, length, length-append, ap, subst, arith}
 use Rattle.std.proofs.lemmas.List.{length-drop}
-use Rattle.std.proofs.lemmas.Result.{on_ok_weaker}
+use Rattle.std.proofs.lemmas.Result.{on_ok_weaker, on_err_weaker}
 use Rattle.paged_format.specs.Tips.{Tip}
 use Rattle.paged_blob_parts.specs.Answers.{Failures}
 use Rattle.paged_blob_parts.specs.CachedContent.{KeepsOthers}
@@ -75,3 +75,7 @@ pub returns-clause-others : goal.returns-clause-others
 returns-clause-others g c =
     others_joined c.args.cache.now c.append.new.cache c.sync.new.cache c.args.writer.blob_id c.append.ensures.others
     (subst (KeepsOthers c.append.new.cache c.sync.new.cache) c.in_ok-appended.ensures.same.1 c.sync.ensures.others)
+
+pub returns-clause-unsynced : goal.returns-clause-unsynced
+returns-clause-unsynced g c =
+    on_err_weaker c.sync.result (λ same. same ∙ c.append.ensures.syncs) c.sync.ensures.unsynced

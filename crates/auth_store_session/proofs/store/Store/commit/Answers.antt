@@ -1,5 +1,6 @@
-use Rattle.std.proofs.Common.{◌∙◌, ◌+◌, ap, refl, sym, subst, option_map, List}
+use Rattle.std.proofs.Common.{◌≡◌, ◌∙◌, ◌+◌, OnErr, ap, refl, sym, subst, option_map, List}
 use Rattle.paged_blob_parts.specs.Caches.{Cache}
+use Rattle.paged_blob.specs.Completed.{completed_syncs}
 use Rattle.auth_store_parts.specs.Batch as words
 use Rattle.auth_store_parts.specs.Batch.{Word}
 use Rattle.auth_store_parts.specs.History.{History}
@@ -69,3 +70,9 @@ returns-clause-leaves g c =
     c.self.view_is
     (leaves_named refusal c.self.inside.device new c.self.inside.cache now c.commit_live-answer.ensures.raised
     c.commit_live-answer.ensures.left c.commit_live-answer.ensures.names c.commit_live-answer.ensures.grows)
+
+pub returns-clause-unsynced : goal.returns-clause-unsynced
+returns-clause-unsynced g c =
+    subst (λ (s : StoreState g.row.R.Denot). OnErr c.commit_live-answer.result
+    (completed_syncs c.commit_live-answer.new.blob.calls ≡ completed_syncs s.device.calls)) c.self.view_is
+    c.commit_live-answer.ensures.unsynced

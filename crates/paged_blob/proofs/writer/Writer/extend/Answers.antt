@@ -34,6 +34,7 @@ loop-rest-init g c =
       capacity = refl;
       failures = refl;
       left = omega arith;
+      syncs = refl;
       cache = refl;
       cached = λ holds. holds;
       others = others_same c.args.cache.now w.blob_id;
@@ -175,6 +176,7 @@ loop-rest-preserved g c =
       capacity = s.2 ∙ i.capacity;
       failures = c.in_ok-count.ensures.failures ∙ i.failures;
       left = omega (arith, c.fill.ensures.left, i.left);
+      syncs = c.fill.ensures.syncs ∙ i.syncs;
       cache = c.fill.ensures.cache ∙ ap (λ (k : Cache). record k { pages = c.fill.new.cache.pages }) i.cache;
       cached = λ holds.
           let P : ℕ → Type 0 = λ id. HoldsPagesOf (written sum mid c.loop-rest.self) c.loop-rest.cache id

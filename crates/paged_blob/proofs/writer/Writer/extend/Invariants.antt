@@ -2,6 +2,7 @@ use Rattle.std.proofs.Common.{◌≡◌, ◌≤◌, ◌+◌, ◌++◌, ℕ, leng
 use Rattle.paged_blob_parts.specs.CachedContent.{HoldsPagesOf, KeepsOthers}
 use Rattle.paged_blob_parts.specs.Moments.{Through}
 use Rattle.paged_blob_parts.specs.Writers.{IsWriter, Keeps, written}
+use Rattle.paged_blob.specs.Completed.{completed_syncs}
 use Rattle.paged_blob.proofs.writer.Writer.extend.Given as goal
 
 abbrev pub invariant-loop-rest : goal.invariant-loop-rest
@@ -21,6 +22,7 @@ invariant-loop-rest g l = record {
   capacity : l.self.tip.capacity ≡ l.initial.self.tip.capacity;
   failures : g.B.Blob.failures l.blob ≡ g.B.Blob.failures l.initial.blob;
   left : g.B.Blob.left l.blob ≤ g.B.Blob.left l.initial.blob;
+  syncs : completed_syncs (g.B.Blob.calls l.blob) ≡ completed_syncs (g.B.Blob.calls l.initial.blob);
   cache : l.cache ≡ record l.initial.cache { pages = l.cache.pages };
   cached : HoldsPagesOf (written g.C.Checksum.checksum_of (g.B.Blob.calls l.initial.blob) l.initial.self) l.initial.cache l.initial.self.blob_id
       → HoldsPagesOf (written g.C.Checksum.checksum_of (g.B.Blob.calls l.blob) l.self) l.cache l.initial.self.blob_id;

@@ -5,6 +5,7 @@ use Rattle.paged_blob_parts.specs.CachedContent.{KeepsOthers}
 use Rattle.paged_blob_parts.specs.Writers.{WriterState}
 use Rattle.paged_blob_parts.proofs.CachedLaws.{others_given}
 use Rattle.paged_blob_parts.proofs.Taken.{flushed_moments, flushed_writer, flushed_content, flushed_cached}
+use Rattle.paged_blob.proofs.Completed.{write_completes_none}
 use Rattle.paged_blob.proofs.writer.Writer.flush_pages.Goals as goal
 
 pub returns-in_err-flush-clause-any_moment : goal.returns-in_err-flush-clause-any_moment
@@ -104,3 +105,9 @@ returns-clause-others g c =
     subst (λ id. KeepsOthers before c.cache.new.self id) (ap (λ (v : WriterState). v.blob_id) c.self.view_is)
     (others_given before c.cache.new.self i.blob_id (c.offset-offset.result / before.page_size) before.page_size part
     (length part / before.page_size) c.cache.ensures.pages)
+
+pub returns-in_err-flush-clause-syncs : goal.returns-in_err-flush-clause-syncs
+returns-in_err-flush-clause-syncs g c = write_completes_none c.flush.result _ _ _ _ _ c.flush.ensures.calls
+
+pub returns-clause-syncs : goal.returns-clause-syncs
+returns-clause-syncs g c = write_completes_none c.flush.result _ _ _ _ _ c.flush.ensures.calls

@@ -8,6 +8,7 @@ use Rattle.paged_blob_parts.specs.Moments.{Through}
 use Rattle.paged_blob_parts.specs.Flushes.{last_slot, flushed_bytes, page_count, SumsFit}
 use Rattle.paged_blob_parts.specs.Writers.{WriterState, IsWriter, IsFlushed, Keeps, written}
 use Rattle.paged_blob_parts.proofs.WriterLaws.{nothing_flushed, nothing_moments, all_flushed, all_moments, records_ok, on_both}
+use Rattle.paged_blob.proofs.Completed.{write_completes_none}
 use Rattle.paged_blob.proofs.writer.Writer.flush_tip.Goals as goal
 
 some_bytes : (bytes : List ℕ) (empty : Bool) → (bytes ≡ [] → empty ≡ true) → empty ≡ false → 0 < length bytes
@@ -75,3 +76,6 @@ returns-clause-flushed g c =
     (v.tip.offset / content_size v.page_size + length v.tip.bytes / content_size v.page_size) (last_slot sum v.page_size v.slot v.tip.bytes))
     (records_ok c.flush.result (wrote (first * v.page_size) (flushed_bytes sum v.page_size v.slot part) false) old new c.flush.ensures.calls)
     c.flush.ensures.fits (all_flushed sum old v some_room small is some part first c.as_bytes.ensures first_is new))
+
+pub returns-clause-syncs : goal.returns-clause-syncs
+returns-clause-syncs g c = write_completes_none c.flush.result _ _ _ _ _ c.flush.ensures.calls

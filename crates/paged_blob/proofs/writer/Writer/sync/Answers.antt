@@ -1,10 +1,11 @@
-use Rattle.std.proofs.Common.{rules, arith, ◌≡◌, ◌+◌, ◌/◌, ◌<◌, ◌≤◌, length, ap}
+use Rattle.std.proofs.Common.{rules, arith, ◌≡◌, ◌+◌, ◌/◌, ◌<◌, ◌≤◌, ◌∙◌, length, ap}
 use Rattle.paged_format.specs.Footers.{content_size}
 use Rattle.paged_blob_parts.specs.Flushes.{last_slot}
 use Rattle.paged_blob_parts.specs.Writers.{written}
 use Rattle.paged_blob_parts.proofs.WriterLaws.{nothing_moments, tip_cached, sync_moments, settled_after, written_is, is_writer}
 use Rattle.paged_blob_parts.specs.Caches.{Cache}
 use Rattle.paged_blob_parts.proofs.CachedLaws.{others_given}
+use Rattle.paged_blob.proofs.Completed.{refused_completes_none, refused_too}
 use Rattle.paged_blob.proofs.writer.Writer.sync.Goals as goal
 
 pub returns-then-not-needs_sync-clause-any_moment : goal.returns-then-not-needs_sync-clause-any_moment
@@ -93,3 +94,8 @@ returns-clause-others g c =
     let before = c.args.cache.now in
     others_given before c.settle.new.cache w.blob_id (w.tip.offset / before.page_size) before.page_size w.tip.bytes (length w.tip.bytes / before.page_size)
     c.settle.ensures.given
+
+pub returns-in_err-sync-clause-unsynced : goal.returns-in_err-sync-clause-unsynced
+returns-in_err-sync-clause-unsynced g c =
+    refused_too c.from_residual-in_err-sync.result
+    (refused_completes_none c.in_err-sync.field-0.0 _ _ c.in_err-sync.ensures.calls ∙ c.flush_tip.ensures.syncs)
