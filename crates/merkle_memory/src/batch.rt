@@ -15,7 +15,8 @@ ghost use Rattle.merkle_core_parts.specs.Layers.{AreStacked, IsWhole, AreLed, Is
 ghost use Rattle.merkle_core_parts.specs.Layers.{known_above, given_up};
 ghost use Rattle.merkle_core_parts.specs.Layers.{oldest_leaves};
 ghost use Rattle.merkle_core_parts.specs.Mem.{node_count, encoded, AreKeptNodes, base_of, peak_digests};
-ghost use Rattle.merkle_core_parts.specs.Mem.{with_leaves, own_layer, list_peaks, list_root};
+ghost use Rattle.merkle_core_parts.specs.Mem.{NodeHash, with_leaves, own_layer, list_peaks, list_root};
+ghost use Rattle.merkle_memory.specs.Begun.{AreAlikeFrom, ChangesFrom, LeadsOn, StandsOver};
 
 use crate::growth::{grown_peaks, push_leaves};
 use crate::layer::{Layer, node_of};
@@ -311,6 +312,11 @@ impl<F: Family, D: Digest> UnmerkleizedBatch<F, D> {
             → IfOk result (λ batch. IsLed (H.node_of hasher.now) F.merge_rule (own_layer batch) leaf_digests
             (with_leaves leaf_digests self) × (batch.peaks
             ≡ list_peaks (H.node_of hasher.now) F.merge_rule (with_leaves leaf_digests self))) }
+        // Over a tree that is begun from pinned digests the hash may be another one before the boundary.
+        ensures of_begun { (boundary : ℕ) (node : NodeHash) (list : List (List ℕ)) (earlier : List (List (List ℕ)))
+            → AreAlikeFrom F.merge_rule boundary node (H.node_of hasher.now) → ChangesFrom boundary self
+            → StandsOver node F.merge_rule self base.now list earlier
+            → IfOk result (LeadsOn node F.merge_rule self list) }
         ensures refused { IfErr result (λ e. IsRefusalOver F.merge_rule (node_count F.merge_rule self.base.leaves)
             (record { tree = base.now; layers = self.below; dropped = self.dropped }) e) }
         ensures enough { oldest_leaves self.base.leaves self.below ≤ base.now.leaves

@@ -5,6 +5,7 @@
 pub mod batch;
 pub mod components;
 pub mod growth;
+pub mod laws;
 mod layer;
 mod layered;
 pub mod mem;

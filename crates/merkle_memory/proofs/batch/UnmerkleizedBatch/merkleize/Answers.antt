@@ -4,8 +4,9 @@ use Rattle.std.proofs.lemmas.List.{length-map}
 use Rattle.std.proofs.lemmas.Result.{err_from_is_err_and}
 use Rattle.std.specs.Prelude.{slice_get, option_map, IfErr, IfSome}
 use Rattle.std.specs.List.{AllByRecursion}
-use Rattle.merkle_forest.specs.Forest.{Tree, leaf, position, forest_of}
+use Rattle.merkle_forest.specs.Forest.{Tree, leaf, leaf_count, position, forest_of}
 use Rattle.merkle_forest.specs.Nodes.{IsNodeAt}
+use Rattle.merkle_forest.specs.Laws.ForestGrowth.{size-mono}
 use Rattle.merkle_core_parts.specs.Errors.{IsRefusalOver}
 use Rattle.merkle_core_parts.specs.Layers.{Layered, AreStacked, IsLed, known_at, oldest_leaves}
 use Rattle.merkle_core_parts.specs.Mem.{Nodes, Additions, Layer, AreKeptNodes, encoded, node_count, tree_digest, with_leaves, digests_from}
@@ -13,19 +14,20 @@ use Rattle.merkle_core_parts.specs.Mem.{known_over, value_after, list_peaks, Rep
 use Rattle.merkle_core_parts.specs.declared.error.Error.TheVariants.{Memory}
 use Rattle.merkle_core_parts.specs.Laws.Enough.{IsRefusalOfKept, only-memory}
 use Rattle.merkle_core_parts.specs.Laws.Layers.{known-right}
-use Rattle.merkle_core_parts.specs.Laws.Made.{AreMade, HavePeaks}
+use Rattle.merkle_core_parts.specs.Laws.Made.{AreMade, HavePeaks, IsHashed}
 use Rattle.merkle_core_parts.specs.Laws.Replaced.{AreFrom, length-replaced}
-use Rattle.merkle_core_parts.specs.Laws.Rebuilt.{Digests, IsRight}
+use Rattle.merkle_core_parts.specs.Laws.Rebuilt.{ArePending, Digests, IsRight}
 use Rattle.merkle_core_parts.specs.Laws.Updated.{AreRebuilt}
-use Rattle.merkle_core_parts.specs.Laws.Merkleized.{setting-of, pending-of, right-none, new-leaf, base-made, rebuilt-same, led-of, made-peaks}
+use Rattle.merkle_core_parts.specs.Laws.Merkleized.{pending-of, right-none, new-leaf, base-made, rebuilt-same, led-of, made-peaks}
+use Rattle.merkle_memory.proofs.Begun.{from-zero, setting-from}
 use Rattle.merkle_memory.proofs.batch.UnmerkleizedBatch.merkleize.Goals as goal
 
-pub returns-clause-of_list : goal.returns-clause-of_list
-returns-clause-of_list g c list earlier same led over =
+pub returns-clause-of_begun : goal.returns-clause-of_begun
+returns-clause-of_begun g c boundary node list earlier alike changes over =
     let encoding = g.D.Write.encoding in
     let rule = g.F.Family.merge_rule in
     let pairs = g.met.F.Family.merges_equals in
-    let node = g.H.Hasher.node_of c.args.hasher.now in
+    let other = g.H.Hasher.node_of c.args.hasher.now in
     let n = c.self.inside.base_leaves in
     let batch : Additions = record {
       base = record { leaves = n; peaks = map encoding c.self.inside.base_peaks.items };
@@ -44,7 +46,7 @@ returns-clause-of_list g c list earlier same led over =
     } in
     let before : Digests = tree_digest node list in
     let after : Digests = tree_digest node (with_leaves list batch) in
-    let is : n ≡ length list = ap (λ (b : Additions). b.base.leaves) is_batch ∙ same in
+    let is : n ≡ length list = ap (λ (b : Additions). b.base.leaves) is_batch ∙ over.counted in
     let sized : c.as_u64-base_size.result ≡ node_count rule n =
     c.as_u64-base_size.ensures ∙ c.location_to_position.ensures ∙ ap (node_count rule) c.new.ensures in
     let sorted = encoded encoding c.deref-3.result.now in
@@ -63,11 +65,19 @@ returns-clause-of_list g c list earlier same led over =
       dropped = c.self.inside.dropped;
     }) c.deref-2.ensures.value
     ∙ ap (λ (b : Additions). record { tree = c.args.base.now; layers = b.below; dropped = b.dropped }) is_batch in
-    let setting = setting-of rule node list (with_leaves list batch) (known_at rule c.new-known.result) n is
+    let setting = setting-from rule node other list (with_leaves list batch) (known_at rule c.new-known.result) n boundary
+    is alike
     (subst (λ (k : Layered). (f : ℕ) (t : Tree) → IsNodeAt f t (forest_of rule (length list))
     → IfSome (known_at rule k (position t)) (λ d. d ≡ tree_digest node list f t)) (sym known_is)
-    (known-right rule pairs node c.args.self.below earlier list c.args.base.now led over)) in
-    let pending = pending-of rule pairs node list batch sorted n is order stable in
+    (known-right rule pairs node c.args.self.below earlier list c.args.base.now over.led over.tree)) in
+    let within : boundary ≤ n = omega (arith, changes.0, ap (λ (b : Additions). b.base.leaves) is_batch) in
+    let late : AllByRecursion (λ (one : Replacement). boundary ≤ one.0) batch.updates =
+    subst (λ (b : Additions). AllByRecursion (λ (one : Replacement). boundary ≤ one.0) b.updates) (sym is_batch) changes.1 in
+    let bound : AreFrom boundary sorted =
+    subst (λ us. AreFrom boundary (encoded encoding us)) (sym sorted_is) (c.in_ok-sort_updates.ensures.bound boundary late) in
+    let from_first = pending-of rule pairs node list batch sorted n is order stable in
+    let pending : ArePending rule n boundary before after 0 sorted =
+    record { order = from_first.order; bound = bound; each = from_first.each } in
     let peaks = encoded encoding c.in_ok-rebuilt.rebuilt.items in
     let no_changes : c.new-changed.result.items ≡ [] = c.new-changed.ensures.items in
     let right : IsRight rule n after (encoded encoding c.new-changed.result.items) =
@@ -77,7 +87,7 @@ returns-clause-of_list g c list earlier same led over =
     let rebuilt : AreRebuilt rule n before after [] layer.changed peaks =
     rebuilt-same rule n before after [] made_anew layer.changed peaks c.in_ok-sort_updates-2.ensures.same
     (subst (λ us. AreRebuilt rule n before after (encoded encoding us) made_anew peaks) no_changes
-    (c.in_ok-rebuilt.ensures.rebuilt 0 before after setting pending right)) in
+    (c.in_ok-rebuilt.ensures.rebuilt boundary before after setting pending right)) in
     let have : HavePeaks rule n peaks = c.in_ok-rebuilt.ensures.peaks in
     let peaks_is : c.deref-4.result.now ≡ c.in_ok-rebuilt.rebuilt.items = c.deref-4.ensures.value in
     let added_is : c.deref-5.result.now ≡ c.put_all.new.digests.items = c.deref-5.ensures.value in
@@ -101,7 +111,10 @@ returns-clause-of_list g c list earlier same led over =
     (subst (λ ps. AreMade rule after n n (node_count rule n) (known_over base_size (encoded encoding ps) []))
     (sym peaks_is)
     (base-made rule pairs node before after n base_size [] layer.changed peaks sized have rebuilt)) in
-    let pushed = c.in_ok-push_leaves.ensures.made after (λ f p l r past. refl) leaf_at start in
+    let hashed : IsHashed rule other n after =
+    λ f p l r past. alike p (after f l) (after (f + leaf_count l) r)
+    (omega (arith, past, size-mono rule pairs boundary n within)) in
+    let pushed = c.in_ok-push_leaves.ensures.made after hashed leaf_at start in
     let made : AreMade rule after n (n + length batch.added) (node_count rule (n + length batch.added))
     (known_over base_size peaks layer.digests) =
     subst (λ k. AreMade rule after n (n + k) (node_count rule (n + k)) (known_over base_size peaks layer.digests)) count
@@ -130,6 +143,11 @@ returns-clause-of_list g c list earlier same led over =
           (led-of rule pairs node list batch layer n base_size peaks is sized rebuilt made counted refl leaves)),
       top ∙ ap (λ (b : Additions). list_peaks node rule (with_leaves list b)) is_batch,
     )
+
+pub returns-clause-of_list : goal.returns-clause-of_list
+returns-clause-of_list g c list earlier same led over =
+    returns-clause-of_begun g c 0 (g.H.Hasher.node_of c.args.hasher.now) list earlier (λ p left right past. refl)
+    (omega arith, from-zero c.args.self.updates) (record { counted = same; led = led; tree = over })
 
 pub returns-in_err-rebuilt-clause-refused : goal.returns-in_err-rebuilt-clause-refused
 returns-in_err-rebuilt-clause-refused g c =
