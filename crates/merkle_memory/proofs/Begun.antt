@@ -1,5 +1,5 @@
 -- Trees that are begun from pinned digests.
-use Rattle.std.proofs.Common.{◌≡◌, ℕ, zero, suc, ◌+◌, ◌-◌, ◌<◌, ◌≤◌, inl, inr, ltb, List, [], ◌∷◌, length, map}
+use Rattle.std.proofs.Common.{◌≡◌, ℕ, zero, suc, ◌+◌, ◌-◌, ◌<◌, ◌≤◌, inl, inr, ltb, List, [], ◌∷◌, length}
 use Rattle.std.proofs.Common.{Option, Some, None, refl, sym, ◌∙◌, ap, ap₂, subst, arith}
 use Rattle.std.proofs.lemmas.Bool.{cond-true, lt-ltb}
 use Rattle.std.specs.Prelude.{slice_get, slice_index_or, unwrap_or, IsSome, IfSome}
@@ -7,7 +7,7 @@ use Rattle.std.specs.List.{AllByRecursion}
 use Rattle.merkle_forest.specs.Forest.{Tree, leaf, branch, position, leaf_count, Rule, forest_of}
 use Rattle.merkle_forest.specs.Nodes.{IsNodeAt}
 use Rattle.merkle_forest.specs.Perfect.{IsPairing}
-use Rattle.merkle_forest.specs.Laws.ForestGrowth.{leaves-forest_of, size-mono}
+use Rattle.merkle_forest.specs.Laws.ForestGrowth.{leaves-forest_of}
 use Rattle.merkle_forest.specs.Laws.NodeGrowth.{numbered}
 use Rattle.merkle_forest.specs.Laws.Nodes.{node-fits, peak-node}
 use Rattle.merkle_forest.specs.Laws.Places.{node-left, node-right}
@@ -16,7 +16,7 @@ use Rattle.merkle_core_parts.specs.Mem.{AreKeptNodes, AreNodesOf, IsKept, IsPeak
 use Rattle.merkle_core_parts.specs.Laws.Held.{digest-where, kept-there, pinned-peak, have-pinned, IsOneOf}
 use Rattle.merkle_core_parts.specs.Laws.Kept.{kept}
 use Rattle.merkle_core_parts.specs.Laws.Plain.{leaf-place}
-use Rattle.merkle_core_parts.specs.Laws.Rebuilt.{Digests, IsSetting, ArePending}
+use Rattle.merkle_core_parts.specs.Laws.Rebuilt.{IsSetting}
 use Rattle.merkle_memory.specs.Begun.{AreAlikeFrom, IsHashedFrom, leaves_left, pinned_hash}
 
 -- ---- a batch over it
