@@ -1,2 +1,1 @@
 -- Lemmas of the proofs.
-mod Begun

@@ -1,4 +1,4 @@
-use Rattle.merkle_memory.proofs.Begun.{hashes-alike, nodes-of-left}
+use Rattle.merkle_memory.specs.Laws.Begun.{hashes-alike, nodes-of-left}
 use Rattle.merkle_memory.proofs.laws.pinned_digests_stand_for_what_is_pruned.Goals as goal
 
 pub returns-clause-nodes : goal.returns-clause-nodes

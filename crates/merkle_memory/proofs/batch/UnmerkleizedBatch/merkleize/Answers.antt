@@ -19,7 +19,7 @@ use Rattle.merkle_core_parts.specs.Laws.Replaced.{AreFrom, length-replaced}
 use Rattle.merkle_core_parts.specs.Laws.Rebuilt.{ArePending, Digests, IsRight}
 use Rattle.merkle_core_parts.specs.Laws.Updated.{AreRebuilt}
 use Rattle.merkle_core_parts.specs.Laws.Merkleized.{pending-of, right-none, new-leaf, base-made, rebuilt-same, led-of, made-peaks}
-use Rattle.merkle_memory.proofs.Begun.{from-zero, setting-from}
+use Rattle.merkle_memory.specs.Laws.Begun.{from-zero, setting-from}
 use Rattle.merkle_memory.proofs.batch.UnmerkleizedBatch.merkleize.Goals as goal
 
 pub returns-clause-of_begun : goal.returns-clause-of_begun

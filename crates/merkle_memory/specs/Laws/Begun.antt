@@ -85,36 +85,40 @@ there_is : (o : Option (List ℕ)) (x : List ℕ) → IsSome o → o ≡ Some (u
 there_is None x some = absurd cc
 there_is (Some y) x some = refl
 
--- a kept node of the tree has the digest that its tree has over the list
-pub kept-digest : (rule : Rule) → IsPairing rule → (node : NodeHash) (nodes : Nodes) → AreKeptNodes rule nodes
-    → IsHashedFrom node rule nodes → (first : ℕ) (tree : Tree) → IsNodeAt first tree (forest_of rule nodes.leaves)
+-- a list of leaf digests has what a tree has of its leaves
+abbrev pub HasLeavesOf : Rule → Nodes → List (List ℕ) → Type 0
+HasLeavesOf rule nodes list = (k : ℕ) (d : List ℕ) → k < nodes.leaves → node_at rule nodes (node_count rule k) ≡ Some d
+    → slice_index_or list k [] ≡ d
+
+-- a kept node of the tree has the digest that its tree has over such a list
+pub kept-digest : (rule : Rule) → IsPairing rule → (node : NodeHash) (nodes : Nodes) (list : List (List ℕ))
+    → AreKeptNodes rule nodes → IsHashedFrom node rule nodes → HasLeavesOf rule nodes list
+    → (first : ℕ) (tree : Tree) → IsNodeAt first tree (forest_of rule nodes.leaves)
     → IsKept rule nodes.boundary (position tree)
-    → node_at rule nodes (position tree)
-    ≡ Some (tree_digest (pinned_hash nodes.pinned node) (leaves_left rule nodes 0 nodes.leaves) first tree)
-kept-digest rule pairs node nodes shape hashed first (leaf p) stands keeps =
+    → node_at rule nodes (position tree) ≡ Some (tree_digest (pinned_hash nodes.pinned node) list first tree)
+kept-digest rule pairs node nodes list shape hashed has first (leaf p) stands keeps =
     let below = (numbered rule pairs nodes.leaves).below first (leaf p) stands in
     let lt : first < nodes.leaves =
     omega (arith, node-fits first (leaf p) (forest_of rule nodes.leaves) stands, leaves-forest_of rule pairs nodes.leaves) in
-    let at_zero : first ≡ 0 + first = omega arith in
-    there_is (node_at rule nodes p) [] (kept-there rule nodes p shape keeps below)
-    ∙ ap (λ n. Some (unwrap_or (node_at rule nodes n) [])) (leaf-place rule pairs nodes.leaves first p stands)
-    ∙ ap (λ n. Some (unwrap_or (node_at rule nodes (node_count rule n)) [])) at_zero
-    ∙ ap (λ d. Some d) (sym (left-at rule nodes 0 nodes.leaves first lt))
-kept-digest rule pairs node nodes shape hashed first (branch p l r) stands (inl past) =
+    let digest = unwrap_or (node_at rule nodes p) [] in
+    let there : node_at rule nodes p ≡ Some digest =
+    there_is (node_at rule nodes p) [] (kept-there rule nodes p shape keeps below) in
+    let at = leaf-place rule pairs nodes.leaves first p stands in
+    there
+    ∙ ap (λ d. Some d) (sym (has first digest lt (ap (node_at rule nodes) (sym at) ∙ there)))
+kept-digest rule pairs node nodes list shape hashed has first (branch p l r) stands (inl past) =
     let hash = pinned_hash nodes.pinned node in
-    let list = leaves_left rule nodes 0 nodes.leaves in
     let children = kept rule pairs nodes.boundary nodes.leaves shape.within in
-    let left = kept-digest rule pairs node nodes shape hashed first l
+    let left = kept-digest rule pairs node nodes list shape hashed has first l
     (node-left first p l r (forest_of rule nodes.leaves) stands) (children.left first p l r stands past) in
-    let right = kept-digest rule pairs node nodes shape hashed (first + leaf_count l) r
+    let right = kept-digest rule pairs node nodes list shape hashed has (first + leaf_count l) r
     (node-right first p l r (forest_of rule nodes.leaves) stands) (children.right first p l r stands past) in
     hashed first p l r (tree_digest hash list first l) (tree_digest hash list (first + leaf_count l) r) stands past left
     right
     ∙ ap (λ d. Some d) (sym (hashes-alike rule pairs node nodes shape p (tree_digest hash list first l)
     (tree_digest hash list (first + leaf_count l) r) past))
-kept-digest rule pairs node nodes shape hashed first (branch p l r) stands (inr (tree, peak, at)) =
+kept-digest rule pairs node nodes list shape hashed has first (branch p l r) stands (inr (tree, peak, at)) =
     let hash = pinned_hash nodes.pinned node in
-    let list = leaves_left rule nodes 0 nodes.leaves in
     let start = node_count rule nodes.boundary in
     let below : p < start = omega (
       arith,
@@ -128,14 +132,25 @@ kept-digest rule pairs node nodes shape hashed first (branch p l r) stands (inr 
     ∙ there_is (digest_at nodes.pinned p) (node p (tree_digest hash list first l)
     (tree_digest hash list (first + leaf_count l) r)) some
 
+-- so the tree has the nodes of each such list
+pub nodes-of-list : (rule : Rule) → IsPairing rule → (node : NodeHash) (nodes : Nodes) (list : List (List ℕ))
+    → AreKeptNodes rule nodes → IsHashedFrom node rule nodes → HasLeavesOf rule nodes list → nodes.leaves ≡ length list
+    → AreNodesOf (pinned_hash nodes.pinned node) rule list nodes
+nodes-of-list rule pairs node nodes list shape hashed has counted = record {
+  counted = counted;
+  shape = shape;
+  digests = λ first tree stands keeps. kept-digest rule pairs node nodes list shape hashed has first tree
+      (subst (λ n. IsNodeAt first tree (forest_of rule n)) (sym counted) stands) keeps;
+}
+
 pub nodes-of-left : (rule : Rule) → IsPairing rule → (node : NodeHash) (nodes : Nodes) → AreKeptNodes rule nodes
     → IsHashedFrom node rule nodes
     → AreNodesOf (pinned_hash nodes.pinned node) rule (leaves_left rule nodes 0 nodes.leaves) nodes
 nodes-of-left rule pairs node nodes shape hashed =
-    let long = length-left rule nodes 0 nodes.leaves in
-    record {
-      counted = sym long;
-      shape = shape;
-      digests = λ first tree stands keeps. kept-digest rule pairs node nodes shape hashed first tree
-          (subst (λ n. IsNodeAt first tree (forest_of rule n)) long stands) keeps;
-    }
+    nodes-of-list rule pairs node nodes (leaves_left rule nodes 0 nodes.leaves) shape hashed
+    (λ k d lt there.
+    (let same : 0 + k ≡ k = omega arith in
+    left-at rule nodes 0 nodes.leaves k lt
+    ∙ ap (λ n. unwrap_or (node_at rule nodes (node_count rule n)) []) same
+    ∙ ap (λ o. unwrap_or o []) there))
+    (sym (length-left rule nodes 0 nodes.leaves))
