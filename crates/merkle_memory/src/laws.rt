@@ -1,6 +1,6 @@
 //! What is said of trees of lists is said of trees that are begun from pinned digests, too.
 //!
-//! Nobody may have the leaves before the boundary, and no list whose hashes the pinned digests are. But one is found for
+//! Nobody may have the leaves before the boundary, nor a list whose hashes the pinned digests are. But there is one for
 //! another hash, which gives each pinned node its digest and hashes every other as before: below, `*` is pinned, and a
 //! leaf that is gone stands as nothing.
 //!

@@ -30,7 +30,8 @@ pub setting-from : (rule : Rule) (node other : NodeHash) (list after : List (Lis
 setting-from rule node other list after known n boundary is alike right = record {
   known_is = λ f t stands. right f t (subst (λ k. IsNodeAt f t (forest_of rule k)) is stands);
   same = λ f p l r stands left right. ap₂ (node p) left right;
-  hashed = λ f p l r stands past. alike p (tree_digest node after f l) (tree_digest node after (f + leaf_count l) r) past;
+  hashed = λ f p l r stands past.
+      alike p (tree_digest node after f l) (tree_digest node after (f + leaf_count l) r) past;
 }
 
 -- all updates are from the first location on
@@ -64,7 +65,8 @@ none_there (Some x) lacks = absurd (lacks refl)
 no_peak_past : (rule : Rule) → IsPairing rule → (boundary p : ℕ) → node_count rule boundary ≤ p
     → (tree : Tree) × IsPeak tree (forest_of rule boundary) × (position tree ≡ p) → ⊥
 no_peak_past rule pairs boundary p past (tree, (first, stands), at) =
-    let below = (numbered rule pairs boundary).below first tree (peak-node first tree (forest_of rule boundary) stands) in
+    let below =
+    (numbered rule pairs boundary).below first tree (peak-node first tree (forest_of rule boundary) stands) in
     absurd (omega (arith, past, at, below))
 
 pub none-pinned : (rule : Rule) → IsPairing rule → (nodes : Nodes) (p : ℕ) → AreKeptNodes rule nodes
@@ -99,7 +101,8 @@ pub kept-digest : (rule : Rule) → IsPairing rule → (node : NodeHash) (nodes 
 kept-digest rule pairs node nodes list shape hashed has first (leaf p) stands keeps =
     let below = (numbered rule pairs nodes.leaves).below first (leaf p) stands in
     let lt : first < nodes.leaves =
-    omega (arith, node-fits first (leaf p) (forest_of rule nodes.leaves) stands, leaves-forest_of rule pairs nodes.leaves) in
+    let fits = node-fits first (leaf p) (forest_of rule nodes.leaves) stands in
+    omega (arith, fits, leaves-forest_of rule pairs nodes.leaves) in
     let digest = unwrap_or (node_at rule nodes p) [] in
     let there : node_at rule nodes p ≡ Some digest =
     there_is (node_at rule nodes p) [] (kept-there rule nodes p shape keeps below) in
