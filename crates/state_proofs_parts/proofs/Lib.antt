@@ -1,1 +1,2 @@
 pub mod ToldWidths
+mod Begun

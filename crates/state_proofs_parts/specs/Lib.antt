@@ -1,3 +1,4 @@
 pub mod Errors
 pub mod Snapshot
 pub mod VerifierCode
+pub mod Begun

@@ -16,7 +16,7 @@
 ghost use Rattle.std.specs.Prelude.{◌≡◌, ◌<◌, ◌≤◌, ◌+◌, ◌-◌, ◌*◌, ◌/◌};
 ghost use Rattle.std.specs.Prelude.{◌%◌, ◌^◌, ◌++◌, [], ◌∷◌, ◌↔◌, false, Bool, ℕ};
 ghost use Rattle.std.specs.Prelude.{List};
-ghost use Rattle.std.specs.Prelude.{length, take, slice_set, slice_index_or, option_map, map, Some, IsTrue, OnOk};
+ghost use Rattle.std.specs.Prelude.{length, replicate, take, slice_set, slice_index_or, option_map, map, Some, IsTrue, OnOk};
 ghost use Rattle.std.specs.Prelude.{OnErr, IfOk, IfErr};
 ghost use Rattle.merkle_forest.specs.Forest.{mmr_rule};
 ghost use Rattle.merkle_forest.specs.Made.{value};
@@ -28,6 +28,8 @@ ghost use Rattle.state_theory.specs.Maps.{LeafHash, IsMapOf, merkleized, changed
 ghost use Rattle.state_theory.specs.Maps.{bits_before};
 ghost use Rattle.state_theory.specs.MapsCode.{remembered};
 ghost use Rattle.state_theory.specs.Inclusion.{bit_root, honest_bit_digests};
+ghost use Rattle.merkle_memory.specs.Begun.{pinned_hash};
+ghost use Rattle.state_proofs_parts.specs.Begun.{AreHashedAlike, pinned_leaf};
 ghost use Rattle.state_proofs_parts.specs.Errors.{CanBePruned, IsRefusalOfBit, IsRefusalOfPruned};
 ghost use Rattle.state_theory.specs.Parts.{ArePinned, chunk_peaks, pruned_bits, pruned_tree};
 
@@ -280,13 +282,19 @@ impl<D: Digest, const N: usize> BitMap<D, N, Merkleized<D>> {
         ensures tree { IfOk result (λ made. made.tree ≡ pruned_tree chunks (map D.encoding digests.now)) }
         ensures root { IfOk result (λ made. made.stage
             ≡ merkleized (map_root H.hash_of (H.bagging_of hasher.now) N made.bits made.tree)) }
-        ensures of_list { (all : List Bool) → length all ≡ 8 * N * chunks
-            → map D.encoding digests.now ≡ chunk_peaks (H.leaf_of hasher.now) (H.node_of hasher.now) N all
-            → IfOk result (λ made. IsMapOf (H.leaf_of hasher.now) (H.node_of hasher.now) N all made) }
+        ensures of_list { (leaf_of : LeafHash) (node_of : NodeHash) (all : List Bool) → length all ≡ 8 * N * chunks
+            → map D.encoding digests.now ≡ chunk_peaks leaf_of node_of N all
+            → IfOk result (λ made. IsMapOf leaf_of node_of N all made) }
         ensures root_of_list { (all : List Bool) → length all ≡ 8 * N * chunks
             → map D.encoding digests.now ≡ chunk_peaks (H.leaf_of hasher.now) (H.node_of hasher.now) N all
             → IfOk result (λ made. made.stage ≡ merkleized (bitmap_root H.hash_of (H.leaf_of hasher.now)
             (H.node_of hasher.now) (H.bagging_of hasher.now) N all)) }
+        // Where nobody has the pruned bits it is a map of any, by hashes that are others before its chunks alone.
+        ensures begun { IfOk result (λ made. IsMapOf (pinned_leaf made.tree.pinned (H.leaf_of hasher.now))
+            (pinned_hash made.tree.pinned (H.node_of hasher.now)) N (replicate (8 * N * chunks) false) made) }
+        ensures alike { IfOk result (λ made. AreHashedAlike chunks
+            (pinned_leaf made.tree.pinned (H.leaf_of hasher.now))
+            (pinned_hash made.tree.pinned (H.node_of hasher.now)) (H.leaf_of hasher.now) (H.node_of hasher.now)) }
         ensures fits { OnOk result (CanBePruned N chunks) }
         ensures counted { OnOk result (length digests.now ≡ length (pinned_positions mmr_rule chunks)) }
         ensures refused { IfErr result (IsRefusalOfPruned N chunks (length digests.now)) }
@@ -364,10 +372,9 @@ impl<D: Digest, const N: usize> BitMap<D, N, Merkleized<D>> {
         ensures there { OnOk result (bit < bit_count N self.now.bits) }
         ensures leaves { IfOk result (λ it. it.0.leaves ≡ bit_count N self.now.bits) }
         ensures inactive { IfOk result (λ it. it.0.inactive_peaks ≡ 0) }
-        ensures digests { (all : List Bool)
-            → IsMapOf (H.leaf_of hasher.now) (H.node_of hasher.now) N all self.now
-            → IfOk result (λ it. map D.encoding it.0.digests.items ≡ honest_bit_digests H.hash_of
-            (H.leaf_of hasher.now) (H.node_of hasher.now) (H.bagging_of hasher.now) N all bit) }
+        ensures digests { (leaf_of : LeafHash) (node_of : NodeHash) (all : List Bool)
+            → IsMapOf leaf_of node_of N all self.now → IfOk result (λ it. map D.encoding it.0.digests.items
+            ≡ honest_bit_digests H.hash_of leaf_of node_of (H.bagging_of hasher.now) N all bit) }
         ensures chunk { IfOk result (λ it. it.1
             ≡ chunk_at N self.now.bits.kept (bit / (8 * N) - self.now.bits.pruned)) }
         ensures refused { IfErr result (IsRefusalOfBit (bit_count N self.now.bits) bit) }
@@ -518,6 +525,10 @@ impl<D: Digest, const N: usize> BitMap<D, N, Unmerkleized> {
         ensures bits { IfOk result (λ map. map.bits ≡ self.bits) }
         ensures root { IfOk result (λ map. map.stage
             ≡ merkleized (map_root H.hash_of (H.bagging_of hasher.now) N map.bits map.tree)) }
+        ensures of_begun { (leaf_of : LeafHash) (node_of : NodeHash) (all : List Bool)
+            → AreHashedAlike self.bits.pruned leaf_of node_of (H.leaf_of hasher.now) (H.node_of hasher.now)
+            → IsMapOf leaf_of node_of N all self → IfOk result (λ map. IsMapOf leaf_of node_of N all map
+            × (map.stage ≡ merkleized (bitmap_root H.hash_of leaf_of node_of (H.bagging_of hasher.now) N all))) }
         ensures of_list { (all : List Bool)
             → IsMapOf (H.leaf_of hasher.now) (H.node_of hasher.now) N all self
             → IfOk result (λ map. IsMapOf (H.leaf_of hasher.now) (H.node_of hasher.now) N all map) }

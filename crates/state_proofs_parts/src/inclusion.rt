@@ -6,7 +6,7 @@ ghost use Rattle.std.specs.Prelude.{Some};
 ghost use Rattle.std.specs.Prelude.{IfOk, IfErr, length, map, option_map, if◌then◌else◌};
 ghost use Rattle.merkle_forest.specs.Forest.{mmr_rule};
 ghost use Rattle.merkle_forest.specs.Made.{value};
-ghost use Rattle.merkle_core_parts.specs.Mem.{AreNodesOf, tree_digest, list_root};
+ghost use Rattle.merkle_core_parts.specs.Mem.{NodeHash, AreNodesOf, tree_digest, list_root};
 ghost use Rattle.merkle_theory.specs.MadeTrees.{Over};
 ghost use Rattle.merkle_theory.specs.Plans.{honest_digests};
 ghost use Rattle.merkle_theory.specs.Reads.{HashesAs, range_root};
@@ -35,10 +35,9 @@ fn chunk_digests<D: Digest, H: Hasher<Family, Digest = D>>(
 ) -> Result<Vec<D>, Error>
     requires kept { tree.now.boundary ≤ chunk }
     requires there { chunk < tree.now.leaves }
-    ensures of_list { (leaves : List (List ℕ)) → AreNodesOf (H.node_of hasher.now) mmr_rule leaves tree.now
-        → IfOk result (λ found. map D.encoding found.items ≡ honest_digests H.hash_of
-        (tree_digest (H.node_of hasher.now) leaves) (H.bagging_of hasher.now) mmr_rule (length leaves) 0 chunk (chunk
-        + 1)) }
+    ensures of_list { (node_of : NodeHash) (leaves : List (List ℕ)) → AreNodesOf node_of mmr_rule leaves tree.now
+        → IfOk result (λ found. map D.encoding found.items ≡ honest_digests H.hash_of (tree_digest node_of leaves)
+        (H.bagging_of hasher.now) mmr_rule (length leaves) 0 chunk (chunk + 1)) }
     ensures refused { IfErr result (λ e. e ≡ Error.Memory) }
 {
     // From its boundary on the tree misses no node, so none is missing for a chunk from there on.
@@ -61,9 +60,9 @@ pub(crate) fn bit_digests<D: Digest, const N: usize, H: Hasher<Family, Digest = 
     requires wide { IsChunkWidth N }
     requires kept { tree.now.boundary ≤ chunk }
     requires there { chunk ≤ tree.now.leaves }
-    ensures of_list { (leaves : List (List ℕ)) → AreNodesOf (H.node_of hasher.now) mmr_rule leaves tree.now
-        → IfOk result (λ found. map D.encoding found.items ≡ proof_digests H.hash_of (H.node_of hasher.now)
-        (H.bagging_of hasher.now) N leaves bits.now chunk) }
+    ensures of_list { (node_of : NodeHash) (leaves : List (List ℕ)) → AreNodesOf node_of mmr_rule leaves tree.now
+        → IfOk result (λ found. map D.encoding found.items ≡ proof_digests H.hash_of node_of (H.bagging_of hasher.now)
+        N leaves bits.now chunk) }
     ensures refused { IfErr result (λ e. e ≡ Error.Memory) }
 {
     if chunk == tree.leaves().as_u64() {

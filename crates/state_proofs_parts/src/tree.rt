@@ -4,11 +4,12 @@ ghost use Rattle.std.specs.Prelude.{◌≡◌, ◌<◌, ◌≤◌, ◌+◌, ◌-
 ghost use Rattle.std.specs.List.{AllByRecursion};
 ghost use Rattle.merkle_forest.specs.Forest.{mmr_rule};
 ghost use Rattle.merkle_forest.specs.Hashing.{root_of};
-ghost use Rattle.merkle_core_parts.specs.Mem.{peak_digests, AreNodesOf, list_root};
+ghost use Rattle.merkle_core_parts.specs.Mem.{NodeHash, peak_digests, AreNodesOf, list_root};
 ghost use Rattle.state_theory.specs.Bits.{IsChunkWidth, AreBitsOf, bit_count, last_chunk};
-ghost use Rattle.state_theory.specs.Maps.{Stage, changed, HasLeaves, AreLeavesOf, full_count, bitmap_string};
+ghost use Rattle.state_theory.specs.Maps.{LeafHash, Stage, changed, HasLeaves, AreLeavesOf, full_count, bitmap_string};
 ghost use Rattle.state_theory.specs.Maps.{sealed_root, map_root};
 ghost use Rattle.state_theory.specs.MapsCode.{leaves_from, leaves_at};
+ghost use Rattle.state_proofs_parts.specs.Begun.{AreHashedAlike};
 
 use crate::bitmap_error::{Error, out_of_memory};
 use crate::prunable::Prunable;
@@ -89,6 +90,10 @@ pub(crate) fn tree_over<D: Digest, const N: usize, H: Hasher<Family, Digest = D>
     requires leaves { HasLeaves N bits.now tree.leaves (changed chunks.now) }
     ensures boundary { IfOk result (λ after. after.boundary ≡ tree.boundary) }
     ensures leaves { IfOk result (λ after. after.leaves ≡ full_count N bits.now) }
+    ensures of_begun { (leaf_of : LeafHash) (node_of : NodeHash) (all : List Bool)
+        → AreHashedAlike bits.now.pruned leaf_of node_of (H.leaf_of hasher.now) (H.node_of hasher.now)
+        → AreBitsOf N all bits.now → AreLeavesOf leaf_of node_of N all tree chunks.now
+        → IfOk result (λ after. AreLeavesOf leaf_of node_of N all after []) }
     ensures of_list { (all : List Bool) → AreBitsOf N all bits.now
         → AreLeavesOf (H.leaf_of hasher.now) (H.node_of hasher.now) N all tree chunks.now
         → IfOk result (λ after. AreLeavesOf (H.leaf_of hasher.now) (H.node_of hasher.now) N all after []) }
@@ -121,8 +126,8 @@ pub(crate) fn tree_root<D: Digest, H: Hasher<Family, Digest = D>>(
 ) -> D
     ensures root { D.encoding result ≡ root_of H.hash_of (H.bagging_of hasher.now) tree.now.leaves 0
         (peak_digests mmr_rule tree.now) }
-    ensures of_list { (digests : List (List ℕ)) → AreNodesOf (H.node_of hasher.now) mmr_rule digests tree.now
-        → D.encoding result ≡ list_root H.hash_of (H.node_of hasher.now) (H.bagging_of hasher.now) mmr_rule digests 0 }
+    ensures of_list { (node_of : NodeHash) (digests : List (List ℕ)) → AreNodesOf node_of mmr_rule digests tree.now
+        → D.encoding result ≡ list_root H.hash_of node_of (H.bagging_of hasher.now) mmr_rule digests 0 }
 {
     match tree.root(hasher, 0) {
         Ok(root) => root,
@@ -167,9 +172,9 @@ pub(crate) fn root_over<D: Digest, const N: usize, H: Hasher<Family, Digest = D>
 ) -> D
     requires { IsChunkWidth N }
     ensures root { D.encoding result ≡ map_root H.hash_of (H.bagging_of hasher.now) N bits.now tree.now }
-    ensures of_list { (digests : List (List ℕ)) → AreNodesOf (H.node_of hasher.now) mmr_rule digests tree.now
-        → D.encoding result ≡ sealed_root H.hash_of N (list_root H.hash_of (H.node_of hasher.now)
-        (H.bagging_of hasher.now) mmr_rule digests 0) (bit_count N bits.now) (last_chunk N bits.now.kept).0 }
+    ensures of_list { (node_of : NodeHash) (digests : List (List ℕ)) → AreNodesOf node_of mmr_rule digests tree.now
+        → D.encoding result ≡ sealed_root H.hash_of N (list_root H.hash_of node_of (H.bagging_of hasher.now) mmr_rule
+        digests 0) (bit_count N bits.now) (last_chunk N bits.now.kept).0 }
 {
     seal(hasher, tree_root(hasher, tree), bits)
 }

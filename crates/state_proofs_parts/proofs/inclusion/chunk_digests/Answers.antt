@@ -18,8 +18,7 @@ out_of_memory-requires g c =
     c.in-Err.ensures.refused
 
 pub returns-clause-of_list : goal.returns-clause-of_list
-returns-clause-of_list g c list are =
-    let node_of = g.H.Hasher.node_of c.args.hasher.now in
+returns-clause-of_list g c node_of list are =
     c.in-Ok.ensures.of_list node_of list are.counted (lookup_of node_of mmr_rule list c.args.tree.now are)
     ∙ ap (λ (n : ℕ). honest_digests g.H.Hasher.hash_of (tree_digest node_of list) (g.H.Hasher.bagging_of c.args.hasher.now) mmr_rule (length list) 0
     n (n + 1)) c.new.ensures

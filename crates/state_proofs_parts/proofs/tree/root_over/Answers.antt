@@ -9,3 +9,9 @@ returns-clause-root g c =
     c.seal.ensures
     ∙ ap (λ root. sealed_root g.H.Hasher.hash_of g.row.N root (bit_count g.row.N c.args.bits.now) (last_chunk g.row.N c.args.bits.now.kept).0)
     c.tree_root.ensures.root
+
+pub returns-clause-of_list : goal.returns-clause-of_list
+returns-clause-of_list g c node_of digests are =
+    c.seal.ensures
+    ∙ ap (λ root. sealed_root g.H.Hasher.hash_of g.row.N root (bit_count g.row.N c.args.bits.now) (last_chunk g.row.N c.args.bits.now.kept).0)
+    (c.tree_root.ensures.of_list node_of digests are)

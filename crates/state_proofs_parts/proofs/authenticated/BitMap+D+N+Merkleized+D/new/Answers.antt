@@ -15,7 +15,7 @@ returns-clause-map g c =
     let bits_are = subst (AreBitsOf g.row.N []) (sym c.new-bits.ensures) (bits_none g.row.N) in
     let are = subst (λ (t : Nodes). AreLeavesOf leaf_of node_of g.row.N [] t []) (sym c.new-tree.ensures) (leaves_none leaf_of node_of g.row.N) in
     map_none c.new-bits.result c.new-tree.result (g.D.Write.encoding c.root_over-root.result) _ c.new-bits.ensures c.new-tree.ensures
-    (c.root_over-root.ensures.of_list are.digests are.nodes
+    (c.root_over-root.ensures.of_list node_of are.digests are.nodes
     ∙ root_is g.H.Hasher.hash_of leaf_of node_of (g.H.Hasher.bagging_of c.args.hasher.now) g.row.N [] c.new-bits.result c.new-tree.result some bits_are
     (ap (λ (t : Nodes). t.leaves) c.new-tree.ensures ∙ full_none g.row.N some ∙ sym (ap (full_count g.row.N) c.new-bits.ensures)) are)
 

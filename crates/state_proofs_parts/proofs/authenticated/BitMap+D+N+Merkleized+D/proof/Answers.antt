@@ -24,16 +24,14 @@ bit_digests-requires g c =
     (omega arith, (c.self.invariant.wide, (omega (arith, chunk, c.self.invariant.pruned, same), omega (arith, high, c.self.invariant.leaves, same))))
 
 pub returns-clause-digests : goal.returns-clause-digests
-returns-clause-digests g c all of =
+returns-clause-digests g c leaf_of node_of all of =
     let hash = g.H.Hasher.hash_of in
-    let leaf_of = g.H.Hasher.leaf_of c.args.hasher.now in
-    let node_of = g.H.Hasher.node_of c.args.hasher.now in
     let bagging = g.H.Hasher.bagging_of c.args.hasher.now in
     let some = wide-some g.row.N c.self.invariant.wide in
     let here = subst (IsMapOf leaf_of node_of g.row.N all) (sym c.self.view_is) of in
     let bits = c.self.inside.bits in
     let there : c.args.bit < length all = omega (arith, c.if-bit-length.false, c.len-length.ensures.length, count-kept g.row.N all bits here.bits) in
-    c.in_ok-digests.ensures.of_list here.leaves.digests here.leaves.nodes
+    c.in_ok-digests.ensures.of_list node_of here.leaves.digests here.leaves.nodes
     ∙ ap (λ list. proof_digests hash node_of bagging g.row.N list bits (c.args.bit / c.chunk_bits.result))
     (clean_digests leaf_of node_of g.row.N all bits c.self.inside.tree some here.bits c.self.invariant.leaves here.leaves)
     ∙ ap (λ n. proof_digests hash node_of bagging g.row.N (leaf_digests leaf_of 0 (full_chunks g.row.N all)) bits (c.args.bit / n)) c.chunk_bits.ensures.bits
