@@ -7,11 +7,11 @@ use Rattle.std.proofs.lemmas.Bool.{cond-true, lt-ltb}
 use Rattle.std.proofs.lemmas.List.{drop_all, length-replicate}
 use Rattle.std.proofs.lemmas.Nat.{div-mul-add}
 use Rattle.std.proofs.Math.Nat.{mul_comm}
-use Rattle.merkle_forest.specs.Forest.{Tree, mmr_rule}
+use Rattle.merkle_forest.specs.Forest.{mmr_rule}
 use Rattle.merkle_forest.specs.Laws.ForestGrowth.{size-lt, size-mono}
 use Rattle.merkle_forest.specs.Laws.NodeGrowth.{numbered}
 use Rattle.merkle_forest.specs.Laws.Rules.{mmr_merges_equals}
-use Rattle.merkle_core_parts.specs.Mem.{Nodes, NodeHash, Replacement, AreKeptNodes, node_at, node_count, digest_at}
+use Rattle.merkle_core_parts.specs.Mem.{Nodes, NodeHash, Replacement, AreKeptNodes, node_count, digest_at}
 use Rattle.merkle_core_parts.specs.Mem.{pinned_positions, placed}
 use Rattle.merkle_core_parts.specs.Laws.Placed.{shape-placed}
 use Rattle.merkle_memory.specs.Begun.{IsHashedFrom, pinned_hash}
@@ -52,7 +52,7 @@ kept_of_both pruned leaves (chunk ∷ chunks) all = (all.0.0, kept_of_both prune
 -- ---- the map of pinned digests
 module _ (leaf_of : LeafHash) (node_of : NodeHash) (width : ℕ) (some : 1 ≤ width) (count : ℕ) (digests : List (List ℕ))
     (same_count : length digests ≡ length (pinned_positions mmr_rule count)) where
-  pinned : List Replacement
+  abbrev pinned : List Replacement
   pinned = placed (pinned_positions mmr_rule count) digests
 
   shape : AreKeptNodes mmr_rule (pruned_tree count digests)
@@ -65,13 +65,13 @@ module _ (leaf_of : LeafHash) (node_of : NodeHash) (width : ℕ) (some : 1 ≤ w
     branches = hashes-alike mmr_rule mmr_merges_equals node_of (pruned_tree count digests) shape;
   }
 
-  all : List Bool
+  abbrev all : List Bool
   all = replicate (8 * width * count) false
 
-  chunks : List (List ℕ)
+  abbrev chunks : List (List ℕ)
   chunks = full_chunks width all
 
-  list : List (List ℕ)
+  abbrev list : List (List ℕ)
   list = leaf_digests (pinned_leaf pinned leaf_of) 0 chunks
 
   long : length all ≡ 8 * width * count

@@ -16,8 +16,8 @@
 ghost use Rattle.std.specs.Prelude.{◌≡◌, ◌<◌, ◌≤◌, ◌+◌, ◌-◌, ◌*◌, ◌/◌};
 ghost use Rattle.std.specs.Prelude.{◌%◌, ◌^◌, ◌++◌, [], ◌∷◌, ◌↔◌, false, Bool, ℕ};
 ghost use Rattle.std.specs.Prelude.{List};
-ghost use Rattle.std.specs.Prelude.{length, replicate, take, slice_set, slice_index_or, option_map, map, Some, IsTrue, OnOk};
-ghost use Rattle.std.specs.Prelude.{OnErr, IfOk, IfErr};
+ghost use Rattle.std.specs.Prelude.{length, replicate, take, slice_set, slice_index_or, option_map, map, Some, IsTrue};
+ghost use Rattle.std.specs.Prelude.{OnOk, OnErr, IfOk, IfErr};
 ghost use Rattle.merkle_forest.specs.Forest.{mmr_rule};
 ghost use Rattle.merkle_forest.specs.Made.{value};
 ghost use Rattle.merkle_core_parts.specs.Mem.{NodeHash, node_at, node_count, pinned_positions, pruned_before};
