@@ -1,9 +1,7 @@
 //! What appending and syncing cost beside the checksums and one copy alone, what a read of a kept page costs in a small
 //! and in a large list, and what lists cost that are replayed, lent and sealed.
 
-mod disk;
 mod lists;
-mod step;
 mod work;
 
 use measurement::{measure, report_ratio};

@@ -1,75 +1,65 @@
-//! Bytes that are appended to a log as a commit appends them: what a commit costs beside them is its own work.
+//! A log to which bytes are appended as a commit appends them: what a commit costs beside them is its own work.
 
-ghost use Rattle.std.specs.Prelude.{◌≡◌, None};
-ghost use Rattle.auth_store_machine.specs.Stores.{IsCache};
-ghost use Rattle.paged_blob_parts.specs.Writers.{IsWriter};
-ghost use Rattle.paged_format.specs.Footers.{content_size};
+ghost use Rattle.std.specs.Prelude.{◌≡◌, [], length, IsFalse};
+ghost use Rattle.paged_blob_parts.specs.Calls.{content, file_of};
 
-use crate::stores::Key;
-use auth_store_device::Device;
-use auth_store_log::{append_batch, recover};
+use auth_store_log::append_batch;
 use auth_store_session::Sizes;
-use fault_storage::{Checksum, Crc32};
-use merkle_forest::mmr;
+use fault_storage::Checksum;
 use paged_blob::{Blob, CacheRef, Error, Writer};
-use rand_pcg::Pcg32;
 use std::alloc::Global;
+use std::marker::Model;
 
-// Appends the bytes so many times, each time durably.
-fn append_often<B: Blob, C: Checksum>(
-    writer: Writer<C>,
-    blob: &mut B,
-    cache: &mut CacheRef,
-    bytes: &[u8],
-    count: u64,
-) -> Result<Writer<C>, Error>
-    requires writer { IsWriter C.checksum_of (B.calls blob.old) writer }
-    requires pages { cache.old.page_size ≡ content_size writer.page_size }
-{
-    let mut writer = writer;
-    for _ in 0..count {
-        writer = append_batch(writer, blob, cache, bytes)?;
-    }
-    Ok(writer)
+/// A log on a blob, which takes no more bytes once an append was refused. Contracts see nothing of it.
+#[derive(Drop)]
+pub struct Log<B: Blob, C: Checksum> {
+    writer: Option<Writer<C>>,
+    blob: B,
+    cache: CacheRef,
 }
 
-// Does so to the log of a closed device, and answers how many times it was done, 0 where that is refused.
-fn append_to(alloc: Global, device: Device<Pcg32>, cache: CacheRef, bytes: &[u8], count: u64) -> u64
-    requires closed { device.log ≡ None }
-    requires cache { IsCache cache }
-{
-    let mut device = device;
-    let mut cache = cache;
-    let Ok(size) = device.open() else {
-        return 0;
-    };
-    let Ok((writer, _)) = recover::<mmr::Family, Key, u64, Device<Pcg32>, Crc32>(
-        alloc,
-        &mut device,
-        &mut cache,
-        size,
-        Sizes::default().write_buffer,
-    ) else {
-        return 0;
-    };
-    match append_often(writer, &mut device, &mut cache, bytes, count) {
-        Ok(_) => count,
-        Err(_) => 0,
-    }
+impl<B: Blob, C: Checksum> Model for Log<B, C> {
+    ghost use Rattle.std.specs.Prelude.{◌≡◌, ⊤, IfSome};
+    ghost use Rattle.paged_blob_parts.specs.Writers.{IsWriter};
+    ghost use Rattle.paged_format.specs.Footers.{content_size};
+
+    ghost Value = { ⊤ };
+
+    ghost view = { λ _. tt };
+
+    ghost invariant = { λ l. IfSome l.writer (λ w. IsWriter C.checksum_of (B.calls l.blob) w
+        × (l.cache.page_size ≡ content_size w.page_size)) };
 }
 
-/// Appends so many zeros to the log of a device, which is taken and opened anew, so many times, each time durably.
-/// Answers how many times it was done, 0 where that is refused.
-pub fn appended(
-    alloc: Global,
-    device: &mut Option<Device<Pcg32>>,
-    bytes: &[u8],
-    count: u64,
-) -> u64 {
-    let Some(mut device) = device.take() else {
-        return 0;
-    };
-    device.close();
-    let cache = CacheRef::new(alloc, 4084, 1024);
-    append_to(alloc, device, cache, bytes, count)
+impl<B: Blob + Drop, C: Checksum> Log<B, C> {
+    /// Begins the log in an empty blob, with pages and a buffer as those of a store.
+    pub fn begin(alloc: Global, blob: B) -> Result<Log<B, C>, Error>
+        requires sound { IsFalse (file_of (B.calls blob)).failed }
+        requires settled { (file_of (B.calls blob)).changes ≡ [] }
+        requires empty { 0 ≡ length (content (B.calls blob)) }
+    {
+        let mut blob = blob;
+        let mut cache = CacheRef::new(alloc, 4084, 1024);
+        let buffer = Sizes::default().write_buffer;
+        let writer = Writer::new(alloc, &mut blob, &mut cache, 0, buffer)?;
+        Ok(Log {
+            writer: Some(writer),
+            blob,
+            cache,
+        })
+    }
+
+    /// Appends the bytes durably: 1, or 0 where that is refused.
+    pub fn append(&mut self, bytes: &[u8]) -> u64 {
+        let Some(writer) = self.writer.take() else {
+            return 0;
+        };
+        match append_batch(writer, &mut self.blob, &mut self.cache, bytes) {
+            Ok(writer) => {
+                self.writer = Some(writer);
+                1
+            }
+            Err(_) => 0,
+        }
+    }
 }

@@ -26,9 +26,14 @@ pub type Key = FixedBytes<8>;
 /// The stores that are measured.
 pub type Measured = Store<Pcg32, mmr::Family, PlainHash, Key, u64, 1>;
 
-// A key for each number.
-fn key_of(number: u64) -> Key {
-    FixedBytes::new(number.wrapping_mul(0x9e37_79b9_7f4a_7c15).to_be_bytes())
+/// Another number, that of the next is far from.
+pub fn spread(number: u64) -> u64 {
+    number.wrapping_mul(0x9e37_79b9_7f4a_7c15)
+}
+
+/// A key for each number.
+pub fn key_of(number: u64) -> Key {
+    FixedBytes::new(spread(number).to_be_bytes())
 }
 
 /// What a store is filled with: so many keys, in batches of so many, and all of them so many times, each time with
@@ -65,14 +70,6 @@ fn commit_keys(
     }
     store.commit(batch, None)?;
     Ok(())
-}
-
-/// Commits so many keys from a number on: 1, or 0 where that is refused.
-pub fn commit_new(alloc: Global, store: &mut Measured, from: u64, keys: u64) -> u64 {
-    match commit_keys(alloc, store, from, keys, 0) {
-        Ok(()) => 1,
-        Err(_) => 0,
-    }
 }
 
 // A device with a store that is filled so. The first time the value of a key is its number, and each time one more.
@@ -284,6 +281,32 @@ pub fn used(alloc: Global, device: &mut Option<Device<Pcg32>>, count: u64, used:
 pub fn made(alloc: Global, filling: Filling) -> Option<Measured> {
     let (device, cache) = filled(alloc, filling).ok()?;
     Store::open(alloc, device, cache, Sizes::default()).ok()
+}
+
+/// Opens the log of a device anew.
+pub fn open_log(device: &mut Option<Device<Pcg32>>) {
+    if let Some(device) = device {
+        device.close();
+        let _ = device.open();
+    }
+}
+
+/// The store of a device, which is taken, opened anew.
+pub fn reopened(alloc: Global, device: &mut Option<Device<Pcg32>>) -> Option<Measured> {
+    let Some(mut device) = device.take() else {
+        return None;
+    };
+    device.close();
+    let cache = CacheRef::new(alloc, 4084, 1024);
+    Store::open(alloc, device, cache, Sizes::default()).ok()
+}
+
+/// How many operations a store has, 0 where there is none.
+pub fn operations_in(store: &Option<Measured>) -> u64 {
+    match store {
+        Some(store) => store.len().unwrap_or(0),
+        None => 0,
+    }
 }
 
 /// The sum of so many values that are read, one key after the other.

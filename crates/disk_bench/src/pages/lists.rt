@@ -8,12 +8,12 @@ ghost use Rattle.paged_blob_parts.specs.Reads.{ServesPages};
 ghost use Rattle.paged_blob_parts.specs.Stands.{Stand, on_blob};
 ghost use Rattle.paged_blob_parts.specs.Writers.{IsWriter, written};
 
-use crate::pages::disk::UndoDisk;
 use crate::pages::work::{append_pieces, read_often};
 use fault_storage::{Checksum, Crc32};
 use paged_blob::{Blob, CacheRef, Error, Replay, Sealed, View, Writer};
 use paged_format::prefix_len;
 use std::alloc::Global;
+use undo_disk::UndoDisk;
 
 // How many bytes a replay reads at once.
 const BUFFER: usize = 1 << 20;

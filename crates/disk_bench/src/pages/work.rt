@@ -5,10 +5,10 @@ ghost use Rattle.paged_format.specs.Footers.{content_size};
 ghost use Rattle.paged_blob_parts.specs.CachedContent.{HoldsPagesOf};
 ghost use Rattle.paged_blob_parts.specs.Writers.{IsWriter, written};
 
-use crate::pages::disk::UndoDisk;
 use fault_storage::{Checksum, Crc32};
 use paged_blob::{Blob, CacheRef, Error, Writer};
 use std::alloc::Global;
+use undo_disk::UndoDisk;
 
 // How many bytes of content a page of 4096 bytes has.
 const ROOM: usize = 4084;

@@ -1,12 +1,12 @@
 -- A step that is undone leaves the file as it was before the call.
-use Rattle.std.proofs.Common.{◌≡◌, ℕ, ◌+◌, ◌-◌, ◌<◌, ◌≤◌, Bool, true, List, [], ◌∷◌, ◌++◌, length, take, drop, replicate}
+use Rattle.std.proofs.Common.{◌≡◌, ℕ, ◌+◌, ◌-◌, Bool, true, List, ◌∷◌, ◌++◌, length, take, drop, replicate}
 use Rattle.std.proofs.Common.{sym, ◌∙◌, ap, ⊎_elim, refl, arith}
 use Rattle.std.proofs.lemmas.Bool.{cases_lt}
 use Rattle.std.proofs.lemmas.List.{append-nil, take_at, take_all, drop_at, take-append-le, take-append-drop, drop-drop, length-append}
 use Rattle.paged_blob_parts.specs.Calls.{wrote, resized_to, resized, with_bytes}
 use Rattle.paged_blob_parts.proofs.Bytes.{length-resized}
-use Rattle.disk_bench.specs.Undone.{before_write, before_resize, calls_from}
-use Rattle.disk_bench.specs.declared.pages.step.Step.{Step}
+use Rattle.undo_disk.specs.Undone.{before_write, before_resize, calls_from}
+use Rattle.undo_disk.specs.declared.step.Step.{Step}
 
 -- what a resize leaves and what it cuts off
 pub cut_and_joined : (size : ℕ) (file : List ℕ) → take (length file) (resized size file ++ drop size file) ≡ file

@@ -1,8 +1,8 @@
 -- The calls that made a file, read off the file and what it takes to go back before each.
 use Rattle.std.specs.Prelude.{ℕ, ◌+◌, true, List, [], ◌∷◌, ◌++◌, take, drop}
 use Rattle.paged_blob_parts.specs.Calls.{Call, wrote, resized_to, synced}
-use Rattle.disk_bench.specs.declared.pages.step.Step.{Step}
-use Rattle.disk_bench.specs.declared.pages.step.Step.TheVariants.{Wrote, Resized, Synced}
+use Rattle.undo_disk.specs.declared.step.Step.{Step}
+use Rattle.undo_disk.specs.declared.step.Step.TheVariants.{Wrote, Resized, Synced}
 
 -- the file before a write at an offset of so many bytes, when it had so many and these stood there
 unfoldable pub before_write : ℕ → ℕ → ℕ → List ℕ → List ℕ → List ℕ

@@ -1,10 +1,10 @@
 use Rattle.std.proofs.Common.{rules, arith, ◌≡◌, ◌∷◌, true, length, drop, reverse, ap, sym, ◌∙◌}
 use Rattle.std.proofs.lemmas.Grind.{common_steps}
 use Rattle.paged_blob_parts.specs.Calls.{resized_to, content, resized}
-use Rattle.disk_bench.specs.Undone.{calls_from}
-use Rattle.disk_bench.specs.declared.pages.step.Step.TheVariants.{Resized}
-use Rattle.disk_bench.proofs.Undone.{resize_read}
-use Rattle.disk_bench.proofs.pages.disk.UndoDiskBlob.resize.Goals as goal
+use Rattle.undo_disk.specs.Undone.{calls_from}
+use Rattle.undo_disk.specs.declared.step.Step.TheVariants.{Resized}
+use Rattle.undo_disk.proofs.Undone.{resize_read}
+use Rattle.undo_disk.proofs.disk.UndoDiskBlob.resize.Goals as goal
 
 pub returns-clause-calls : goal.returns-clause-calls
 returns-clause-calls c =

@@ -2,10 +2,10 @@ use Rattle.std.proofs.Common.{rules, arith, ◌≡◌, ◌∷◌, true, length, 
 use Rattle.std.proofs.lemmas.Grind.{common_steps}
 use Rattle.paged_blob_parts.specs.Calls.{wrote, content, with_bytes}
 use Rattle.paged_blob_parts.specs.WriteModes.{is_sync}
-use Rattle.disk_bench.specs.Undone.{calls_from}
-use Rattle.disk_bench.specs.declared.pages.step.Step.TheVariants.{Wrote}
-use Rattle.disk_bench.proofs.Undone.{write_read}
-use Rattle.disk_bench.proofs.pages.disk.UndoDiskBlob.write_at.Goals as goal
+use Rattle.undo_disk.specs.Undone.{calls_from}
+use Rattle.undo_disk.specs.declared.step.Step.TheVariants.{Wrote}
+use Rattle.undo_disk.proofs.Undone.{write_read}
+use Rattle.undo_disk.proofs.disk.UndoDiskBlob.write_at.Goals as goal
 
 pub returns-clause-calls : goal.returns-clause-calls
 returns-clause-calls c =

@@ -8,12 +8,12 @@
 
 ghost use Rattle.std.specs.Prelude.{◌≡◌, [], true, false, None, take, drop, reverse, IfOk};
 ghost use Rattle.paged_blob_parts.specs.Calls.{content};
-ghost use Rattle.disk_bench.specs.Undone.{calls_from};
+ghost use Rattle.undo_disk.specs.Undone.{calls_from};
 
-use crate::pages::step::Step;
-use paged_blob::bench::{put_bytes, set_length};
-use paged_blob::blob::place_of;
-use paged_blob::{Blob, Error, WriteMode};
+use crate::step::Step;
+use paged_blob_parts::bench::{put_bytes, set_length};
+use paged_blob_parts::blob::place_of;
+use paged_blob_parts::{Blob, Error, WriteMode};
 use std::alloc::{AllocError, Global};
 
 /// A blob in memory that never fails, and records its calls by what it takes to undo them.

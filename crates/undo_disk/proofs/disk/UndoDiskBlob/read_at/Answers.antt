@@ -1,8 +1,8 @@
 use Rattle.std.proofs.Common.{rules, arith, ◌≡◌, ◌+◌, ◌≤◌, ◌<◌, length, take, drop, reverse, ap, ◌∙◌}
 use Rattle.paged_blob_parts.specs.Calls.{content, file_of}
 use Rattle.paged_blob_parts.proofs.Live.{whole_live}
-use Rattle.disk_bench.specs.Undone.{calls_from}
-use Rattle.disk_bench.proofs.pages.disk.UndoDiskBlob.read_at.Goals as goal
+use Rattle.undo_disk.specs.Undone.{calls_from}
+use Rattle.undo_disk.proofs.disk.UndoDiskBlob.read_at.Goals as goal
 
 pub returns-then-end-len-clause-cause : goal.returns-then-end-len-clause-cause
 returns-then-end-len-clause-cause c =

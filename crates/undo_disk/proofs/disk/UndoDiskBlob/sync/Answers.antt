@@ -1,11 +1,11 @@
-use Rattle.std.proofs.Common.{rules, arith, ◌≡◌, ◌∷◌, reverse, ap, subst, sym}
+use Rattle.std.proofs.Common.{arith, ◌≡◌, ◌∷◌, reverse, ap, subst, sym}
 use Rattle.std.proofs.lemmas.Grind.{common_steps}
 use Rattle.paged_blob_parts.specs.Calls.{file_of}
 use Rattle.paged_blob_parts.specs.Images.{IsImage}
 use Rattle.paged_blob_parts.proofs.Live.{whole_image}
-use Rattle.disk_bench.specs.Undone.{calls_from}
-use Rattle.disk_bench.specs.declared.pages.step.Step.TheVariants.{Synced}
-use Rattle.disk_bench.proofs.pages.disk.UndoDiskBlob.sync.Goals as goal
+use Rattle.undo_disk.specs.Undone.{calls_from}
+use Rattle.undo_disk.specs.declared.step.Step.TheVariants.{Synced}
+use Rattle.undo_disk.proofs.disk.UndoDiskBlob.sync.Goals as goal
 
 pub returns-clause-calls : goal.returns-clause-calls
 returns-clause-calls c =
