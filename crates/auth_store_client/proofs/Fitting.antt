@@ -37,7 +37,7 @@ module _ (terms : Terms) {D P : Type 0} (encoding : D → List ℕ) (is_digest :
   abbrev after_proof : List ℕ → Outcome
   after_proof = after_operation_proof digest after terms.format.width terms.format.most
 
-  pub exclusion_fits : {F C : Type 0} (chunk : C → List ℕ) (p : ExclusionProof F K V D C P) (rest new : List ℕ)
+  pub exclusion_fits : {F E C A B : Type 0} (chunk : C → List ℕ) (p : ExclusionProof F K E D C P A V B) (rest new : List ℕ)
       → IsExclusionValue (λ q. (q.loc < 2 ^ 64) × IsRangeValue is_digest is_held q.range_proof) is_key is_value p
       → IsExclusionWithin (λ q. length (chunk q.chunk) ≡ terms.format.width) p
       → after_exclusion after_proof after_key after_value

@@ -11,7 +11,7 @@ ghost use Rattle.auth_store_client.specs.Claims.{FitsExclusion, terms};
 use merkle_core::MAX_PROOF_DIGESTS_PER_ELEMENT;
 use merkle_forest::codec::{Cursor, Error, Read};
 use merkle_forest::{Digest, HashFunction, PendingOf};
-use state_ops::{FixedKey, FixedValue};
+use state_ops::{FixedEncoding, FixedKey, FixedValue};
 use state_proofs::exclusion::ExclusionProof;
 use state_proofs::operation::Proof;
 use std::alloc::{AllocError, Global};
@@ -68,7 +68,7 @@ pub(crate) fn read_exclusion<F, H, K, V>(
     alloc: Global,
     width: usize,
     bytes: &[u8],
-) -> Result<Option<ExclusionProof<F, K, V, H::Digest>>, AllocError>
+) -> Result<Option<ExclusionProof<F, K, FixedEncoding<V>, H::Digest>>, AllocError>
 where
     F: merkle_forest::Family + PendingOf<H::Digest>,
     H: HashFunction,
@@ -85,7 +85,11 @@ where
 {
     let limits = ((width, MAX_PROOF_DIGESTS_PER_ELEMENT), (), ());
     let mut cursor = Cursor::new(bytes);
-    match ExclusionProof::read_cfg(alloc, &mut cursor, &limits) {
+    match ExclusionProof::<F, K, FixedEncoding<V>, H::Digest>::read_cfg(
+        alloc,
+        &mut cursor,
+        &limits,
+    ) {
         Ok(proof) => {
             if cursor.is_empty() {
                 return Ok(Some(proof));

@@ -26,10 +26,10 @@ use Rattle.auth_store_client.specs.Laws.Absent.{latest_read, named_before, named
 use Rattle.auth_store_ledger.specs.Laws.Places.{active_behind}
 
 -- what is written of keys and values are fields
-pub names_fields : {F K V D C P : Type 0} (chunk : C → List ℕ) (key : K → List ℕ) (value : V → List ℕ) (digest : D → List ℕ)
+pub names_fields : {F K E D C P A V B : Type 0} (chunk : C → List ℕ) (key : K → List ℕ) (value : V → List ℕ) (digest : D → List ℕ)
     (held : P → Option (List ℕ)) (is_proof : Proof F D C P → Type 0) (is_key : K → Type 0) (is_value : V → Type 0)
     (IsKey IsValue : List ℕ → Type 0) → ((k : K) → is_key k → IsKey (key k)) → ((v : V) → is_value v → IsValue (value v))
-    → (proof : ExclusionProof F K V D C P) → IsExclusionValue is_proof is_key is_value proof
+    → (proof : ExclusionProof F K E D C P A V B) → IsExclusionValue is_proof is_key is_value proof
     → NamesFields IsKey IsValue (form_exclusion_of chunk key value digest held proof)
 names_fields chunk key value digest held is_proof is_key is_value IsKey IsValue key_field value_field (KeyValue proof u) is =
     (key_field u.key is.1.0, value_field u.value is.1.1.0, key_field u.next_key is.1.1.1)

@@ -29,7 +29,7 @@ use merkle_forest::codec::Write;
 use merkle_forest::{Digest, Family, Graftable, HashFunction, PendingOf};
 use state_current::Current;
 use state_ops::update::Ordered;
-use state_ops::{FixedKey, FixedValue, Operation, OrderedOperation};
+use state_ops::{FixedEncoding, FixedKey, FixedValue, Operation, OrderedOperation};
 use state_proofs::exclusion::ExclusionProof;
 use state_proofs::operation::Proof;
 use std::alloc::Global;
@@ -60,7 +60,7 @@ fn proof_by_commit<F, D, K: FixedKey, V: FixedValue, L: LoggedOperations<F, K, V
     log: &mut L,
     proof: Proof<F, D>,
     location: u64,
-) -> Result<ExclusionProof<F, K, V, D>, ReadError<L::Error>>
+) -> Result<ExclusionProof<F, K, FixedEncoding<V>, D>, ReadError<L::Error>>
 where
     F: Graftable + PendingOf<D>,
     D: Digest,
@@ -84,7 +84,7 @@ fn proof_by_update<F, D, K: FixedKey, V: FixedValue, L: LoggedOperations<F, K, V
     proof: Proof<F, D>,
     key: &K,
     location: u64,
-) -> Result<ExclusionProof<F, K, V, D>, ReadError<L::Error>>
+) -> Result<ExclusionProof<F, K, FixedEncoding<V>, D>, ReadError<L::Error>>
 where
     F: Graftable + PendingOf<D>,
     D: Digest,
@@ -120,7 +120,7 @@ fn exclusion_proof<F, H, K: FixedKey, V: FixedValue, L: LoggedOperations<F, K, V
     places: &Places<K>,
     current: &Current<F, H, N>,
     key: &K,
-) -> Result<ExclusionProof<F, K, V, H::Digest>, ReadError<L::Error>>
+) -> Result<ExclusionProof<F, K, FixedEncoding<V>, H::Digest>, ReadError<L::Error>>
 where
     F: Graftable + PendingOf<H::Digest>,
     H: HashFunction,

@@ -11,6 +11,7 @@ use crate::refusals::of_bytes;
 use case_lines::{Unanswered, digits};
 use merkle_forest::codec::{Decode, Encode, EncodeSize, FixedBytes};
 use merkle_forest::{ByteHash, Graftable, Location, PendingOf};
+use state_ops::FixedEncoding;
 use state_proofs::operation::Proof;
 use state_proofs::proof::verify_proof_and_extract_digests;
 use state_proofs::{ChunkForm, ExclusionProof, KeyValueProof, OpsRootWitness, RangeProof};
@@ -28,8 +29,8 @@ pub(crate) struct Shown<'a> {
     pub(crate) root: &'a Hash,
 }
 
-// What was read, written again: its size, and its bytes.
-fn written<T: Encode + EncodeSize>(alloc: Global, value: &T) -> Answer {
+/// What was read, written again: its size, and its bytes.
+pub(crate) fn written<T: Encode + EncodeSize>(alloc: Global, value: &T) -> Answer {
     let bytes = value.encode(alloc)?;
     let mut line = Line::new(alloc);
     line.number(value.encode_size() as u64);
@@ -158,11 +159,8 @@ pub(crate) fn absence<F: Graftable + PendingOf<Hash>, C: ChunkForm>(
     limits: &(C::Limits, (), ()),
     words: &[&str],
 ) -> Answer {
-    let read: Result<ExclusionProof<F, Key, u64, Hash, C>, _> = ExclusionProof::decode_cfg(
-        alloc,
-        shown.bytes,
-        limits,
-    );
+    let read: Result<ExclusionProof<F, Key, FixedEncoding<u64>, Hash, C>, _> =
+        ExclusionProof::decode_cfg(alloc, shown.bytes, limits);
     match read {
         Ok(proof) => absence_told(alloc, &proof, shown.root, words),
         Err(error) => refused(alloc, of_bytes(error)),
@@ -172,7 +170,7 @@ pub(crate) fn absence<F: Graftable + PendingOf<Hash>, C: ChunkForm>(
 // What a proof of absence tells.
 fn absence_told<F: Graftable + PendingOf<Hash>, C: ChunkForm>(
     alloc: Global,
-    proof: &ExclusionProof<F, Key, u64, Hash, C>,
+    proof: &ExclusionProof<F, Key, FixedEncoding<u64>, Hash, C>,
     root: &Hash,
     words: &[&str],
 ) -> Answer {

@@ -9,12 +9,12 @@ pub type OperationProof<F, D, const N: usize> = crate::operation::Proof<F, D, [u
 /// In the Rust: `qmdb::current::ordered::proof::constant::KeyValueProof`.
 pub type KeyValueProof<F, K, D, const N: usize> = crate::ordered::KeyValueProof<F, K, D, [u8; N]>;
 
-/// A proof that a key is not in a state.
+/// A proof that a key is not in a state, whose operations `E` encodes.
 /// In the Rust: `qmdb::current::ordered::proof::constant::ExclusionProof`.
-pub type ExclusionProof<F, K, V, D, const N: usize> = crate::exclusion::ExclusionProof<
+pub type ExclusionProof<F, K, E, D, const N: usize> = crate::exclusion::ExclusionProof<
     F,
     K,
-    V,
+    E,
     D,
     [u8; N],
 >;

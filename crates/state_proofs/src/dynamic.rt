@@ -13,6 +13,6 @@ pub type OperationProof<F, D> = crate::operation::Proof<F, D, Bytes>;
 /// In the Rust: `qmdb::current::ordered::proof::dynamic::KeyValueProof`.
 pub type KeyValueProof<F, K, D> = crate::ordered::KeyValueProof<F, K, D, Bytes>;
 
-/// A proof that a key is not in a state.
+/// A proof that a key is not in a state, whose operations `E` encodes.
 /// In the Rust: `qmdb::current::ordered::proof::dynamic::ExclusionProof`.
-pub type ExclusionProof<F, K, V, D> = crate::exclusion::ExclusionProof<F, K, V, D, Bytes>;
+pub type ExclusionProof<F, K, E, D> = crate::exclusion::ExclusionProof<F, K, E, D, Bytes>;

@@ -6,34 +6,39 @@ ghost use Rattle.state_proofs.specs.Exclusion.{Excludes};
 ghost use Rattle.state_proofs.specs.ExclusionCode.{form_exclusion_of};
 
 pub mod codec;
+pub mod laws;
+pub mod verifying;
 
 use crate::operation::Proof;
 use crate::ordered::encoded_update;
+use merkle_forest::codec::Faithful;
 use merkle_forest::{Digest, Family, Graftable, HashFunction, Location, PendingOf};
 use state_ops::ordered::encode;
 use state_ops::spans::leaves_out;
 use state_ops::update::Ordered;
-use state_ops::{FixedKey, FixedValue, Operation, OrderedOperation, OrderedUpdate};
+use state_ops::{
+    FixedEncoding, FixedKey, FixedValue, Key, Operation, OrderedOperation, ValueEncoding,
+};
 use state_proofs_parts::chunk_form::ChunkForm;
 use std::alloc::{AllocError, Global};
 use std::convert::AsSlice;
 
-/// A proof that a key is not in a state.
+/// A proof that a key is not in a state, whose operations `E` encodes.
 /// In the Rust: `qmdb::current::ordered::proof::ExclusionProof`.
 #[derive(Debug, PartialEq, Eq, Drop)]
-pub enum ExclusionProof<F: PendingOf<D>, K: FixedKey, V: FixedValue, D: Digest, C = Vec<u8>> {
+pub enum ExclusionProof<F: PendingOf<D>, K: Key, E: ValueEncoding, D: Digest, C = Vec<u8>> {
     /// An update whose cyclic span, from its key up to its next key, holds the key, which is not its own.
-    KeyValue(Proof<F, D, C>, OrderedUpdate<K, V>),
+    KeyValue(Proof<F, D, C>, Ordered<K, E>),
     /// The last commit of an empty map, with its metadata: its floor is its own place.
-    Commit(Proof<F, D, C>, Option<V>),
+    Commit(Proof<F, D, C>, Option<E::Value>),
 }
 
 // An update with the same encodings. It fails only when out of memory.
-fn copied_update<K: FixedKey, V: FixedValue>(
-    update: &OrderedUpdate<K, V>,
-) -> Result<OrderedUpdate<K, V>, AllocError>
+fn copied_update<K: Key, E: ValueEncoding>(
+    update: &Ordered<K, E>,
+) -> Result<Ordered<K, E>, AllocError>
     ensures key { IfOk result (λ copy. K.encoding copy.key ≡ K.encoding update.now.key) }
-    ensures value { IfOk result (λ copy. V.encoding copy.value ≡ V.encoding update.now.value) }
+    ensures value { IfOk result (λ copy. E.Value.encoding copy.value ≡ E.Value.encoding update.now.value) }
     ensures next { IfOk result (λ copy. K.encoding copy.next_key ≡ K.encoding update.now.next_key) }
 {
     let key = update.key.clone()?;
@@ -47,7 +52,7 @@ fn copied_update<K: FixedKey, V: FixedValue>(
 }
 
 // Metadata with the same encoding, or none. It fails only when out of memory.
-fn copied_metadata<V: FixedValue>(metadata: &Option<V>) -> Result<Option<V>, AllocError>
+fn copied_metadata<V: Faithful>(metadata: &Option<V>) -> Result<Option<V>, AllocError>
     ensures { IfOk result (λ copy. option_map V.encoding copy ≡ option_map V.encoding metadata.now) }
 {
     match metadata {
@@ -56,18 +61,18 @@ fn copied_metadata<V: FixedValue>(metadata: &Option<V>) -> Result<Option<V>, All
     }
 }
 
-impl<F, K, V, D, C> ExclusionProof<F, K, V, D, C>
+impl<F, K, E, D, C> ExclusionProof<F, K, E, D, C>
 where
     F: PendingOf<D>,
-    K: FixedKey,
-    V: FixedValue,
+    K: Key,
+    E: ValueEncoding,
     D: Digest,
     C: ChunkForm,
 {
     /// A proof that holds the same. It fails only when out of memory (own). In the Rust: `Clone::clone`.
-    pub fn try_copy(&self) -> Result<ExclusionProof<F, K, V, D, C>, AllocError>
-        ensures { IfOk result (λ copy. form_exclusion_of C.items K.encoding V.encoding D.encoding F.held copy
-            ≡ form_exclusion_of C.items K.encoding V.encoding D.encoding F.held self.now) }
+    pub fn try_copy(&self) -> Result<ExclusionProof<F, K, E, D, C>, AllocError>
+        ensures { IfOk result (λ copy. form_exclusion_of C.items K.encoding E.Value.encoding D.encoding F.held copy
+            ≡ form_exclusion_of C.items K.encoding E.Value.encoding D.encoding F.held self.now) }
     {
         match self {
             ExclusionProof::KeyValue(proof, update) => {
@@ -101,7 +106,7 @@ fn encoded_commit<F: Family, K: FixedKey, V: FixedValue>(
     encode(alloc, &commit)
 }
 
-impl<F, K, V, D, C> ExclusionProof<F, K, V, D, C>
+impl<F, K, V, D, C> ExclusionProof<F, K, FixedEncoding<V>, D, C>
 where
     F: Graftable + PendingOf<D>,
     K: FixedKey,

@@ -2,7 +2,7 @@ use Rattle.std.proofs.Common.{◌∙◌, ap}
 use Rattle.std.specs.Prelude.{IsTrue}
 use Rattle.state_proofs.specs.ExclusionCode.{form_exclusion_of}
 use Rattle.state_proofs.proofs.ExclusionLemmas.{excludes_exactly}
-use Rattle.state_proofs.proofs.exclusion.ExclusionProof.verify.Goals as goal
+use Rattle.state_proofs.proofs.exclusion.ExclusionProof+F+K+FixedEncoding+V+D+C.verify.Goals as goal
 
 pub returns-in_ok-operation-in-KeyValue : goal.returns-in_ok-operation-in-KeyValue
 returns-in_ok-operation-in-KeyValue g c =
