@@ -45,6 +45,12 @@ class Reader:
     def digest(self):
         return self.take(32)
 
+    def string(self, greatest):
+        count = self.varint()
+        if count > greatest:
+            raise Fault("C6")
+        return self.take(count)
+
     def option(self, read):
         return read() if self.flag() else None
 
@@ -74,6 +80,10 @@ def varint(value):
         groups.append(value % 128 + 128)
         value //= 128
     return bytes(groups + [value])
+
+
+def string(data):
+    return varint(len(data)) + data
 
 
 def option(digest):

@@ -4,7 +4,7 @@ proofs that are made and checked against it, and what builders of proofs refuse.
 import forest
 from forest import sha256
 from proof_bitmaps import chunk_of
-from proof_codec import Merkle, Operation, Range, option, varint
+from proof_codec import Merkle, Operation, Range, option, string, varint
 from proof_trees import Malformed, Rebuilt, peaks_of, plain_branch, plain_leaf, planned, range_digests
 
 MAX_LEAVES = forest.MAX_LEAVES
@@ -376,6 +376,15 @@ def update(key, value, next_key):
 def commit(value, floor):
     metadata = bytes(9) if value is None else b"\1" + value
     return b"\xd3" + metadata + forest.number(floor) + bytes(7)
+
+
+def string_update(key, value, next_key):
+    """An update, and a commit, as operations of keys and values of any size."""
+    return b"\xd2" + string(key) + string(value) + string(next_key)
+
+
+def string_commit(value, floor):
+    return b"\xd3" + option(None if value is None else string(value)) + varint(floor)
 
 
 def in_span(key, next_key, asked):

@@ -15,7 +15,7 @@ import proof_logs as logs
 import proof_states as states
 from lines import BadLine, need, number, play, unhex
 from proof_bitmaps import Bits, Map, chunk_of, led_root
-from proof_codec import Fault, Merkle, Reader, varint, option
+from proof_codec import Fault, Merkle, Reader, option, string, varint
 from proof_states import Refused, State
 from proof_trees import Malformed, range_digests, peaks_of
 
@@ -335,7 +335,7 @@ class Case:
             "state": self.made, "tree": self.of_tree, "log_proof": self.log_proof, "chunks": self.made_chunks,
             "both": self.of_both, "whole": self.whole, "prove": self.prove, "count": self.count, "hash": self.hashed,
             "witness": self.witness, "range": self.range, "log": self.log, "shows_value": self.shows_value,
-            "operation": self.operation, "value": self.value, "absence": self.absence,
+            "operation": self.operation, "value": self.value, "absence": self.absence, "strings": self.strings,
         }
         need(subject in calls)
         return calls[subject](*rest)
@@ -619,6 +619,52 @@ class Case:
         if asked == key or not states.in_span(key, next_key, asked):
             return "false"
         return truth(states.shows_operation(family, proof, states.update(key, value, next_key), self.root))
+
+    # Proofs whose keys and values are strings of at most so many bytes.
+
+    def strings(self, kind, width, most, greatest, word, *rest):
+        limits, greatest = self.form("vector", width, most), number(greatest)
+        need(kind in ("value", "absence"))
+        told = self.string_value if kind == "value" else self.string_absence
+        return told(limits, lambda reader: reader.string(greatest), word, *rest)
+
+    def string_value(self, limits, read, word, *rest):
+        family = self.state.family
+        proof, next_key = self.read(lambda reader: (self.of_operation(reader, limits), read(reader)))
+        if word == "written":
+            return self.written(proof.written(family) + string(next_key))
+        if word == "next_key":
+            need(not rest)
+            return hexed(next_key)
+        need(word == "shows")
+        key, value = map(unhex, rest)
+        return truth(states.shows_operation(family, proof, states.string_update(key, value, next_key), self.root))
+
+    def string_absence(self, limits, read, word, *rest):
+        family = self.state.family
+
+        def whole(reader):
+            (tag,) = reader.take(1)
+            if tag not in (1, 2):
+                raise Fault(f"C5 {tag}")
+            proof = self.of_operation(reader, limits)
+            if tag == 1:
+                return tag, proof, (read(reader), read(reader), read(reader))
+            return tag, proof, reader.option(lambda: read(reader))
+
+        tag, proof, what = self.read(whole)
+        if word == "written":
+            tail = b"".join(map(string, what)) if tag == 1 else option(None if what is None else string(what))
+            return self.written(bytes([tag]) + proof.written(family) + tail)
+        need(word == "shows")
+        (asked,) = map(unhex, rest)
+        if tag == 2:
+            operation = states.string_commit(what, proof.location)
+            return truth(states.shows_operation(family, proof, operation, self.root))
+        key, value, next_key = what
+        if asked == key or not states.in_span(key, next_key, asked):
+            return "false"
+        return truth(states.shows_operation(family, proof, states.string_update(key, value, next_key), self.root))
 
     def log(self, most, word, *rest):
         family, most = self.state.family, number(most)

@@ -17,6 +17,7 @@ mod reading;
 mod refusals;
 mod state;
 mod state_lines;
+mod strings;
 
 use arguments::{Answer, Hash, Line, digest, done};
 use bits::Bits;

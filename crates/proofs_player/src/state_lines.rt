@@ -3,7 +3,7 @@
 use crate::arguments::{Answer, Hash, array, truth_if};
 use crate::reading::Shown;
 use crate::state::State;
-use crate::{building, canonical, counts, grafted, log_proofs, reading};
+use crate::{building, canonical, counts, grafted, log_proofs, reading, strings};
 use bytes::Bytes;
 use case_lines::Unanswered;
 use merkle_forest::codec::FixedBytes;
@@ -114,6 +114,7 @@ fn of_proof<F: Graftable + PendingOf<Hash>>(
     match kind {
         "range" => reading::range::<F>(alloc, shown, first.parse()?, words),
         "log" => log_proofs::of_log::<F>(alloc, shown, first.parse()?, words),
+        "strings" => strings::told::<F>(alloc, shown, first, words),
         kind => of_form::<F>(alloc, shown, kind, first, words),
     }
 }
