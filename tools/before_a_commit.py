@@ -44,7 +44,9 @@ def libraries_not_listed(crate, crates):
     used = set()
     for file in files:
         text = re.sub(r"//[^\n]*|ghost use [^;]*;", "", file.read_text())
-        used |= set(re.findall(r"(?<![:\w])([a-z_0-9]+)::(?!<)", text)) - set(re.findall(r"use std::([a-z_0-9]+);", text))
+        imported = re.findall(r"use std::(?:([a-z_0-9]+)|\{([^}]*)\});", text)
+        short = {name.strip() for one, several in imported for name in (one or several).split(",")}
+        used |= set(re.findall(r"(?<![:\w])([a-z_0-9]+)::(?!<)", text)) - short
     return sorted((used & known) - own - listed.get(name, set()))
 
 
